@@ -1,0 +1,31 @@
+-- Whether two cubes share a variable, as a test.
+use Rattle.std.proofs.Common.{inl, inr, ◌≡◌, ◌⊎◌, ℕ, Bool, true, false, refl}
+use Rattle.std.specs.List.{list_any}
+use Rattle.std.proofs.lemmas.List.Folds.{Any-from_list_any, list_any-from_Any}
+use Rattle.pop_model.specs.Popping.{Cube, names}
+use Rattle.pop_model.specs.Extremal.{Share}
+use Rattle.pop_model.proofs.Diamond.{named, names_it}
+
+abbrev pub share : Cube → Cube → Bool
+share e f = list_any (λ p. names f p.0) e
+
+pub share_from : (e f : Cube) → share e f ≡ true → Share e f
+share_from e f test =
+    let some = Any-from_list_any (λ (p : ℕ × ℕ). names f p.0) e test in
+    let there = named f some.1.0 some.4 in
+    (some.1.0, some.1.1, there.0, (some.0, some.2, some.3), there.1)
+
+pub share_to : (e f : Cube) → Share e f → share e f ≡ true
+share_to e f (v, x, y, here, there) =
+    list_any-from_Any (λ (p : ℕ × ℕ). names f p.0) e (here.0, (v, x), here.1, here.2, names_it f (v, y) there)
+
+-- they share a variable or they don't
+pub cases_share : (e f : Cube) → Share e f ⊎ (Share e f → ⊥)
+cases_share e f =
+    (elim (share e f) as (λ b. share e f ≡ b → Share e f ⊎ (Share e f → ⊥)) [
+      | true ↦ λ test. inl (share_from e f test)
+      | false ↦ λ test. inr (λ h. let yes' = share_to e f h in absurd (cc))
+    ]) refl
+
+pub Share-sym : (e f : Cube) → Share e f → Share f e
+Share-sym e f (v, x, y, here, there) = (v, y, x, there, here)

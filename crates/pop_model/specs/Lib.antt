@@ -1,0 +1,12 @@
+pub mod Stacks
+pub mod Popping
+pub mod Cycles
+pub mod Families
+pub mod Instances
+pub mod Extremal
+pub mod Logs
+pub mod Runs
+pub mod Places
+pub mod Languages
+pub mod Text
+pub mod Faults

@@ -1,0 +1,69 @@
+-- The entries of the variables' stacks.
+use Rattle.std.specs.Prelude.{ℕ, suc, ◌+◌, ◌-◌, ◌*◌, ◌/◌, ◌<◌, ◌^◌, ltb, if◌then◌else◌, List, [], ◌∷◌, length, sum, slice_index, slice_index_or}
+use Rattle.rand_chacha.specs.ChaCha.{word_at}
+
+-- where the entries come from
+pub data Origin : Type 0 where
+  -- row v has the entries of variable v
+  Given : (rows : List (List ℕ)) → Origin
+  -- the eight words of a ChaCha20 key, and the height of each stack
+  Keyed : (key : List ℕ) (height : ℕ) → Origin
+
+-- the stacks of all variables: weights has for each variable the weights of its values, from 0 on
+pub record StackTable : Type 0 where
+  pub origin : Origin
+  pub weights : List (List ℕ)
+
+-- row v of a table of rows
+abbrev pub row_of : List (List ℕ) → ℕ → List ℕ
+row_of rows v = slice_index_or rows v []
+
+-- how many variables there are
+abbrev pub variables_of : StackTable → ℕ
+variables_of s = length s.weights
+
+-- how many values a variable has: they are 0 up to below this number
+abbrev pub domain_of : StackTable → ℕ → ℕ
+domain_of s v = length (row_of s.weights v)
+
+-- The words of an entry make a number below 2 ^ 64, the low word first: entry k of variable v has the places
+-- 2k and 2k + 1 of stream v of the ChaCha20 key stream (RFC 8439, 2.3, with a 64-bit counter and stream number).
+unfoldable pub number_at : List ℕ → ℕ → ℕ → ℕ
+number_at key v k = word_at 10 key v (2 * k) + 2 ^ 32 * word_at 10 key v (2 * k + 1)
+
+-- the number scaled to the sum of the weights: below it, as the number is below 2 ^ 64
+abbrev pub scaled : ℕ → ℕ → ℕ
+scaled number total = number * total / 2 ^ 64
+
+-- the least value such that the weights up to it together exceed m
+abbrev pub first_above : List ℕ → ℕ → ℕ
+first_above [] m = 0
+first_above (w ∷ weights) m = if ltb m w then 0 else suc (first_above weights (m - w))
+
+-- the value that a number gives under these weights (this project's choice)
+abbrev pub weighted : List ℕ → ℕ → ℕ
+weighted weights number = first_above weights (scaled number (sum weights))
+
+-- how many entries a stack has, by where they come from
+abbrev pub height_from : Origin → ℕ → ℕ
+height_from (Given rows) v = length (row_of rows v)
+height_from (Keyed key height) v = height
+
+-- the entry of a place, by where it comes from
+abbrev pub value_from : Origin → List (List ℕ) → ℕ → ℕ → ℕ
+value_from (Given rows) weights v k = slice_index (row_of rows v) k
+value_from (Keyed key height) weights v k = weighted (row_of weights v) (number_at key v k)
+
+-- how many entries the stack of a variable has
+abbrev pub height_of : StackTable → ℕ → ℕ
+height_of s v = height_from s.origin v
+
+-- entry k of variable v
+abbrev pub value_at : StackTable → ℕ → ℕ → ℕ
+value_at s v k = value_from s.origin s.weights v k
+
+-- what holds of every table of stacks: counts and heights are below 2 ^ 31, and each stack has an entry
+pub record IsTable (s : StackTable) : Type 0 where
+  pub count : variables_of s < 2 ^ 31
+  pub heights : (v : ℕ) → height_of s v < 2 ^ 31
+  pub entries : (v : ℕ) → v < variables_of s → 0 < height_of s v
