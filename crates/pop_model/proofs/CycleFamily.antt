@@ -63,7 +63,8 @@ stays_in heads e is v at =
     }
 
 -- the arrows lead from each variable of a cycle to each
-pub leads_round : (heads : Heads) (e : Cube) → IsCycle heads e → (v w : ℕ) → names e v ≡ true → names e w ≡ true → (k : ℕ) × (follow (arrow_in heads e) k v ≡ Some w)
+pub leads_round : (heads : Heads) (e : Cube) → IsCycle heads e → (v w : ℕ) → names e v ≡ true → names e w ≡ true
+    → (k : ℕ) × (follow (arrow_in heads e) k v ≡ Some w)
 leads_round heads e is v w at_v at_w =
     let step = arrow_in heads e in
     let a = first_of e in
@@ -71,20 +72,25 @@ leads_round heads e is v w at_v at_w =
     let j = is.meets w at_w in
     let back = length e - i.0 in
     let whole : i.0 + back ≡ length e = omega (arith, i.1) in
-    let home : follow step back v ≡ Some a = sym (follow_more step i.0 back a v i.2) ∙ ap (λ n. follow step n a) whole ∙ is.returns in
+    let home : follow step back v ≡ Some a = sym (follow_more step i.0 back a v i.2) ∙ ap (λ n. follow step n a) whole
+    ∙ is.returns in
     (back + j.0, follow_more step back j.0 v a home ∙ j.2)
 
 -- what each of the pairs that both cubes have demands is the same
 abbrev pub Agree : Cube → Cube → Type 0
 Agree e f = (v x y : ℕ) → demand e v ≡ Some x → demand f v ≡ Some y → x ≡ y
 
-first_or : (q : ℕ × ℕ) (e f : Cube) → ((p : ℕ × ℕ) → Contains e p → (y : ℕ) → demand f p.0 ≡ Some y → p.1 ≡ y) → ((z : ℕ) → demand f q.0 ≡ Some z → q.1 ≡ z)
+first_or : (q : ℕ × ℕ) (e f : Cube) → ((p : ℕ × ℕ) → Contains e p → (y : ℕ) → demand f p.0 ≡ Some y → p.1 ≡ y)
+    → ((z : ℕ) → demand f q.0 ≡ Some z → q.1 ≡ z)
     → (p : ℕ × ℕ) → Contains (q ∷ e) p → (y : ℕ) → demand f p.0 ≡ Some y → p.1 ≡ y
-first_or q e f rest here p (zero, below, is) y at = ap (λ (r : ℕ × ℕ). r.1) (sym is) ∙ here y (ap (λ (r : ℕ × ℕ). demand f r.0) is ∙ at)
+first_or q e f rest here p (zero, below, is) y at = ap (λ (r : ℕ × ℕ). r.1) (sym is)
+    ∙ here y (ap (λ (r : ℕ × ℕ). demand f r.0) is ∙ at)
 first_or q e f rest here p (suc k, below, is) y at = rest p (k, omega (arith, below), is) y at
 
 -- cubes exclude each other or agree
-agree_or_not : (e f : Cube) → ((p : ℕ × ℕ) × (y : ℕ) × Contains e p × (demand f p.0 ≡ Some y) × (p.1 ≢ y)) ⊎ ((p : ℕ × ℕ) → Contains e p → (y : ℕ) → demand f p.0 ≡ Some y → p.1 ≡ y)
+agree_or_not : (e f : Cube)
+    → ((p : ℕ × ℕ) × (y : ℕ) × Contains e p × (demand f p.0 ≡ Some y) × (p.1 ≢ y))
+    ⊎ ((p : ℕ × ℕ) → Contains e p → (y : ℕ) → demand f p.0 ≡ Some y → p.1 ≡ y)
 agree_or_not [] f = inr (λ p h. absurd (omega (arith, h.1)))
 agree_or_not (q ∷ e) f = elim (agree_or_not e f) [
   | inl (p, y, has, at, differ) ↦ inl (p, y, (suc has.0, omega (arith, has.1), has.2), at, differ)
@@ -111,20 +117,24 @@ pub record StaysInBoth (heads : Heads) (e f : Cube) (v : ℕ) : Type 0 where
   pub named_e : names e next ≡ true
   pub named_f : names f next ≡ true
 
-stays_in_both : (heads : Heads) (e f : Cube) → IsCycle heads e → IsCycle heads f → Agree e f → (v : ℕ) → names e v ≡ true → names f v ≡ true → StaysInBoth heads e f v
+stays_in_both : (heads : Heads) (e f : Cube) → IsCycle heads e → IsCycle heads f → Agree e f → (v : ℕ)
+    → names e v ≡ true → names f v ≡ true → StaysInBoth heads e f v
 stays_in_both heads e f is_e is_f agree v at_e at_f =
     let x = named_demand e v at_e in
     let y = named_demand f v at_f in
-    let same : arrow_in heads e v ≡ arrow_in heads f v = arrow_demands heads e v x.0 x.1 ∙ ap (head_of heads v) (agree v x.0 y.0 x.1 y.1) ∙ sym (arrow_demands heads f v y.0 y.1) in
+    let same : arrow_in heads e v ≡ arrow_in heads f v = arrow_demands heads e v x.0 x.1
+    ∙ ap (head_of heads v) (agree v x.0 y.0 x.1 y.1) ∙ sym (arrow_demands heads f v y.0 y.1) in
     let on = stays_in heads e is_e v at_e in
     let other = stays_in heads f is_f v at_f in
     let one : other.next ≡ on.next = same_Some other.next on.next (sym other.leads ∙ sym same ∙ on.leads) in
     record { next = on.next; leads_e = on.leads; leads_f = sym same ∙ on.leads; named_e = on.named; named_f = subst (λ w. names f w ≡ true) one other.named }
 
 -- from a shared variable one cycle leads through variables of the other
-leads_in_both : (heads : Heads) (e f : Cube) → IsCycle heads e → IsCycle heads f → Agree e f → (v : ℕ) → names e v ≡ true → names f v ≡ true
+leads_in_both : (heads : Heads) (e f : Cube) → IsCycle heads e → IsCycle heads f → Agree e f → (v : ℕ)
+    → names e v ≡ true → names f v ≡ true
     → (k w : ℕ) → follow (arrow_in heads e) k v ≡ Some w → (names e w ≡ true) × (names f w ≡ true)
-leads_in_both heads e f is_e is_f agree v at_e at_f zero w h = let same : v ≡ w = same_Some v w h in (subst (λ u. names e u ≡ true) same at_e, subst (λ u. names f u ≡ true) same at_f)
+leads_in_both heads e f is_e is_f agree v at_e at_f zero w h = let same : v ≡ w =
+    same_Some v w h in (subst (λ u. names e u ≡ true) same at_e, subst (λ u. names f u ≡ true) same at_f)
 leads_in_both heads e f is_e is_f agree v at_e at_f (suc k) w h =
     let last = follow_last (arrow_in heads e) k v w h in
     let both = leads_in_both heads e f is_e is_f agree v at_e at_f k last.0 last.1 in
@@ -133,7 +143,8 @@ leads_in_both heads e f is_e is_f agree v at_e at_f (suc k) w h =
     (subst (λ u. names e u ≡ true) same on.named_e, subst (λ u. names f u ≡ true) same on.named_f)
 
 -- what one demands, the other demands
-demanded : (heads : Heads) (e f : Cube) → IsCycle heads e → IsCycle heads f → Agree e f → (v : ℕ) → names e v ≡ true → names f v ≡ true
+demanded : (heads : Heads) (e f : Cube) → IsCycle heads e → IsCycle heads f → Agree e f → (v : ℕ) → names e v ≡ true
+    → names f v ≡ true
     → (w x : ℕ) → demand e w ≡ Some x → demand f w ≡ Some x
 demanded heads e f is_e is_f agree v at_e at_f w x h =
     let round = leads_round heads e is_e v w at_e (demand_named e w x h) in
@@ -147,7 +158,8 @@ same_option None (Some y) f g = g y refl
 same_option (Some x) b f g = sym (f x refl)
 
 -- cycles that share a variable and agree are equal
-pub same_cycle : (heads : Heads) (e f : Cube) → IsCycle heads e → IsCycle heads f → Agree e f → (v : ℕ) → names e v ≡ true → names f v ≡ true → e ≡ f
+pub same_cycle : (heads : Heads) (e f : Cube) → IsCycle heads e → IsCycle heads f → Agree e f → (v : ℕ)
+    → names e v ≡ true → names f v ≡ true → e ≡ f
 same_cycle heads e f is_e is_f agree v at_e at_f =
     same_demands e f is_e.cube.rising is_f.cube.rising (λ w. same_option (demand e w) (demand f w)
     (λ x h. demanded heads e f is_e is_f agree v at_e at_f w x h)
@@ -162,7 +174,8 @@ unfolding made
 cycles_extremal heads e f is_e is_f differ (v, x, y, in_e, in_f) = elim (exclude_or_agree e.cube f.cube) [
   | inl exclude ↦ exclude
   | inr agree ↦
-      let cubes : e.cube ≡ f.cube = same_cycle heads e.cube f.cube is_e.0 is_f.0 agree v (names_it e.cube (v, x) in_e) (names_it f.cube (v, y) in_f) in
+      let cubes : e.cube ≡ f.cube =
+      same_cycle heads e.cube f.cube is_e.0 is_f.0 agree v (names_it e.cube (v, x) in_e) (names_it f.cube (v, y) in_f) in
       let units : e.unit ≡ f.unit = is_e.1 ∙ ap first_of cubes ∙ sym is_f.1 in
       absurd (differ (ap₂ made units cubes))
 ]

@@ -44,20 +44,24 @@ occur_together s c e f he hf (v, x, y, in_e, in_f, differ) =
     differ (sym at_e ∙ at_f)
 
 -- different events that occur together are apart
-pub apart_if_extremal : (i : Instance) → IsExtremal i.family → (c : List ℕ) (e f : Event) → IsEvent i.family e → IsEvent i.family f → e ≢ f → Occurs i.stacks c e.cube → Occurs i.stacks c f.cube → Apart e.cube f.cube
+pub apart_if_extremal : (i : Instance) → IsExtremal i.family → (c : List ℕ) (e f : Event) → IsEvent i.family e
+    → IsEvent i.family f → e ≢ f → Occurs i.stacks c e.cube → Occurs i.stacks c f.cube → Apart e.cube f.cube
 apart_if_extremal i extremal c e f is_e is_f differ he hf =
     apart_unless_shared e.cube f.cube (λ shared. occur_together i.stacks c e.cube f.cube he hf (extremal e f is_e is_f differ shared))
 
 -- a pop of e leaves the cursors of a cube that is apart
-pub cursor_apart : (c : List ℕ) (e f : Cube) → Apart e f → (p : ℕ × ℕ) → Contains f p → cursor c p.0 ≡ cursor (pop c e) p.0
+pub cursor_apart : (c : List ℕ) (e f : Cube) → Apart e f → (p : ℕ × ℕ) → Contains f p
+    → cursor c p.0 ≡ cursor (pop c e) p.0
 unfolding Apart
 cursor_apart c e f apart p h = sym (cursor-pop_other c e p.0 (apart p.0 (names_it f p h)))
 
 -- what holds of each member, by what its members are
-all_by_members : (P : ℕ × ℕ → Type 0) (f : Cube) → ((p : ℕ × ℕ) → Contains f p → P p) → (k : ℕ) (d : ℕ × ℕ) → k < length f → P (get_or f k d)
+all_by_members : (P : ℕ × ℕ → Type 0) (f : Cube) → ((p : ℕ × ℕ) → Contains f p → P p) → (k : ℕ) (d : ℕ × ℕ)
+    → k < length f → P (get_or f k d)
 all_by_members P f each k d h = each (get_or f k d) (Contains-get_or f k d h)
 
-pub poppable_apart : (s : StackTable) (c : List ℕ) (e f : Cube) → Apart e f → IsPoppable s c f → IsPoppable s (pop c e) f
+pub poppable_apart : (s : StackTable) (c : List ℕ) (e f : Cube) → Apart e f → IsPoppable s c f
+    → IsPoppable s (pop c e) f
 poppable_apart s c e f apart h =
     let P : ℕ × ℕ → Type 0 = λ p. value_at s p.0 (cursor c p.0) ≡ p.1 in
     let Q : ℕ × ℕ → Type 0 = λ p. cursor c p.0 + 1 < height_of s p.0 in
@@ -69,7 +73,8 @@ poppable_apart s c e f apart h =
     }
 
 -- a record that is legal stays so after the pop of an event that is apart
-pub legal_apart : (i : Instance) (c : List ℕ) (e : Cube) (r : LogRecord) → Apart e r.event.cube → IsLegalAt i c r → IsLegalAt i (pop c e) r
+pub legal_apart : (i : Instance) (c : List ℕ) (e : Cube) (r : LogRecord) → Apart e r.event.cube → IsLegalAt i c r
+    → IsLegalAt i (pop c e) r
 legal_apart i c e r apart h =
     record {
       event = h.event;
@@ -82,7 +87,8 @@ unfolding Apart
 apart_from e f h = h
 
 -- what is poppable after the pop of an event that is apart was poppable before it
-pub poppable_before : (s : StackTable) (c : List ℕ) (e f : Cube) → Apart e f → IsPoppable s (pop c e) f → IsPoppable s c f
+pub poppable_before : (s : StackTable) (c : List ℕ) (e f : Cube) → Apart e f → IsPoppable s (pop c e) f
+    → IsPoppable s c f
 poppable_before s c e f apart h =
     let P : ℕ × ℕ → Type 0 = λ p. value_at s p.0 (cursor (pop c e) p.0) ≡ p.1 in
     let Q : ℕ × ℕ → Type 0 = λ p. cursor (pop c e) p.0 + 1 < height_of s p.0 in

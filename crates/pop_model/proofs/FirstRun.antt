@@ -30,13 +30,14 @@ all_or_not P each (p ∷ e) = elim (each p) [
 ]
 
 poppable_or_not : (s : StackTable) (c : List ℕ) (e : Cube) → IsPoppable s c e ⊎ (IsPoppable s c e → ⊥)
-poppable_or_not s c e = elim (all_or_not (λ p. value_at s p.0 (cursor c p.0) ≡ p.1) (λ p. cases_eq (value_at s p.0 (cursor c p.0)) p.1) e) [
-  | inr not ↦ inr (λ h. not h.occurs)
-  | inl occurs ↦ elim (all_or_not (λ p. cursor c p.0 + 1 < height_of s p.0) (λ p. less_or_not (cursor c p.0 + 1) (height_of s p.0)) e) [
-    | inr not ↦ inr (λ h. not h.next)
-    | inl next ↦ inl (record { occurs = occurs; next = next })
-  ]
-]
+poppable_or_not s c e =
+    elim (all_or_not (λ p. value_at s p.0 (cursor c p.0) ≡ p.1) (λ p. cases_eq (value_at s p.0 (cursor c p.0)) p.1) e) [
+      | inr not ↦ inr (λ h. not h.occurs)
+      | inl occurs ↦ elim (all_or_not (λ p. cursor c p.0 + 1 < height_of s p.0) (λ p. less_or_not (cursor c p.0 + 1) (height_of s p.0)) e) [
+        | inr not ↦ inr (λ h. not h.next)
+        | inl next ↦ inl (record { occurs = occurs; next = next })
+      ]
+    ]
 
 -- the record of a log that is poppable now and has the least unit of such
 record LeastIn (i : Instance) (c : List ℕ) (log : List LogRecord) : Type 0 where
@@ -45,14 +46,16 @@ record LeastIn (i : Instance) (c : List ℕ) (log : List LogRecord) : Type 0 whe
   poppable : IsPoppable i.stacks c one.event.cube
   least : (q : LogRecord) → Contains log q → IsPoppable i.stacks c q.event.cube → one.event.unit ≤ q.event.unit
 
-member : (r : LogRecord) (log : List LogRecord) (P : LogRecord → Type 0) → P r → ((q : LogRecord) → Contains log q → P q) → (q : LogRecord) → Contains (r ∷ log) q → P q
+member : (r : LogRecord) (log : List LogRecord) (P : LogRecord → Type 0) → P r
+    → ((q : LogRecord) → Contains log q → P q) → (q : LogRecord) → Contains (r ∷ log) q → P q
 member r log P here rest q (zero, below, is) = subst P is here
 member r log P here rest q (suc k, below, is) = rest q (k, omega (arith, below), is)
 
 further : (r q : LogRecord) (log : List LogRecord) → Contains log q → Contains (r ∷ log) q
 further r q log (k, below, is) = (suc k, omega (arith, below), is)
 
-least_in : (i : Instance) (c : List ℕ) (log : List LogRecord) → LeastIn i c log ⊎ ((q : LogRecord) → Contains log q → IsPoppable i.stacks c q.event.cube → ⊥)
+least_in : (i : Instance) (c : List ℕ) (log : List LogRecord)
+    → LeastIn i c log ⊎ ((q : LogRecord) → Contains log q → IsPoppable i.stacks c q.event.cube → ⊥)
 least_in i c [] = inr (λ q h. absurd (omega (arith, h.1)))
 least_in i c (r ∷ log) = elim (poppable_or_not i.stacks c r.event.cube) [
   | inr not ↦ elim (least_in i c log) [
@@ -89,9 +92,11 @@ least_in i c (r ∷ log) = elim (poppable_or_not i.stacks c r.event.cube) [
 ]
 
 -- the records of a legal log have events of the family
-legal_event : (i : Instance) (c : List ℕ) (log : List LogRecord) → IsLegal i c log → (q : LogRecord) → Contains log q → IsEvent i.family q.event
+legal_event : (i : Instance) (c : List ℕ) (log : List LogRecord) → IsLegal i c log → (q : LogRecord) → Contains log q
+    → IsEvent i.family q.event
 legal_event i c [] legal q h = absurd (omega (arith, h.1))
-legal_event i c (r ∷ log) legal q h = member r log (λ x. IsEvent i.family x.event) legal.0.event (legal_event i (pop c r.event.cube) log legal.1) q h
+legal_event i c (r ∷ log) legal q h =
+    member r log (λ x. IsEvent i.family x.event) legal.0.event (legal_event i (pop c r.event.cube) log legal.1) q h
 
 -- a one-thread run that ends alike
 pub record FirstRunOf (i : Instance) (c : List ℕ) (log : List LogRecord) : Type 0 where
@@ -100,7 +105,8 @@ pub record FirstRunOf (i : Instance) (c : List ℕ) (log : List LogRecord) : Typ
   pub end : replay c first ≡ replay c log
   pub size : length first ≡ length log
 
-by_length : (n : ℕ) (i : Instance) → IsExtremal i.family → (c : List ℕ) (log : List LogRecord) → length log ≡ n → IsLegal i c log → IsEnd i (replay c log) → FirstRunOf i c log
+by_length : (n : ℕ) (i : Instance) → IsExtremal i.family → (c : List ℕ) (log : List LogRecord) → length log ≡ n
+    → IsLegal i c log → IsEnd i (replay c log) → FirstRunOf i c log
 by_length n i extremal c [] same legal end = record { first = []; run = end; end = refl; size = refl }
 by_length zero i extremal c (r ∷ log) same legal end = absurd (omega arith)
 by_length (suc n) i extremal c (r ∷ log) same legal end = elim (least_in i c (r ∷ log)) [
@@ -127,5 +133,6 @@ by_length (suc n) i extremal c (r ∷ log) same legal end = elim (least_in i c (
 ]
 
 -- the one-thread run from these cursors
-pub first_run : (i : Instance) → IsExtremal i.family → (c : List ℕ) (log : List LogRecord) → IsLegal i c log → IsEnd i (replay c log) → FirstRunOf i c log
+pub first_run : (i : Instance) → IsExtremal i.family → (c : List ℕ) (log : List LogRecord) → IsLegal i c log
+    → IsEnd i (replay c log) → FirstRunOf i c log
 first_run i extremal c log legal end = by_length (length log) i extremal c log refl legal end

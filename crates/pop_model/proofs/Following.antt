@@ -15,20 +15,24 @@ cases_Option None = inl refl
 cases_Option (Some x) = inr (x, refl)
 
 -- more steps, from where the first ones led
-pub follow_more : (step : ℕ → Option ℕ) (k j v w : ℕ) → follow step k v ≡ Some w → follow step (k + j) v ≡ follow step j w
+pub follow_more : (step : ℕ → Option ℕ) (k j v w : ℕ) → follow step k v ≡ Some w
+    → follow step (k + j) v ≡ follow step j w
 follow_more step k zero v w h = ap (λ n. follow step n v) (add-zero k) ∙ h
-follow_more step k (suc j) v w h = ap (λ n. follow step n v) (add-suc k j) ∙ ap (option_and_then step) (follow_more step k j v w h)
+follow_more step k (suc j) v w h = ap (λ n. follow step n v) (add-suc k j)
+    ∙ ap (option_and_then step) (follow_more step k j v w h)
 
 pub follow_none : (step : ℕ → Option ℕ) (k j v : ℕ) → follow step k v ≡ None → follow step (k + j) v ≡ None
 follow_none step k zero v h = ap (λ n. follow step n v) (add-zero k) ∙ h
-follow_none step k (suc j) v h = ap (λ n. follow step n v) (add-suc k j) ∙ ap (option_and_then step) (follow_none step k j v h)
+follow_none step k (suc j) v h = ap (λ n. follow step n v) (add-suc k j)
+    ∙ ap (option_and_then step) (follow_none step k j v h)
 
 -- the step after some steps
 pub follow_next : (step : ℕ → Option ℕ) (k v w : ℕ) → follow step k v ≡ Some w → follow step (suc k) v ≡ step w
 follow_next step k v w h = ap (option_and_then step) h
 
 -- steps that lead on led somewhere before
-pub follow_before : (step : ℕ → Option ℕ) (k j v w : ℕ) → k ≤ j → follow step j v ≡ Some w → (u : ℕ) × (follow step k v ≡ Some u)
+pub follow_before : (step : ℕ → Option ℕ) (k j v w : ℕ) → k ≤ j → follow step j v ≡ Some w
+    → (u : ℕ) × (follow step k v ≡ Some u)
 follow_before step k j v w le h = elim (cases_Option (follow step k v)) [
   | inl none ↦
       let sum : k + (j - k) ≡ j = omega arith in
@@ -37,7 +41,8 @@ follow_before step k j v w le h = elim (cases_Option (follow step k v)) [
 ]
 
 -- a step that was made was there
-pub follow_last : (step : ℕ → Option ℕ) (k v w : ℕ) → follow step (suc k) v ≡ Some w → (u : ℕ) × (follow step k v ≡ Some u) × (step u ≡ Some w)
+pub follow_last : (step : ℕ → Option ℕ) (k v w : ℕ) → follow step (suc k) v ≡ Some w
+    → (u : ℕ) × (follow step k v ≡ Some u) × (step u ≡ Some w)
 follow_last step k v w h =
     let before = follow_before step k (suc k) v w (omega arith) h in
     (before.0, before.1, sym (follow_next step k v before.0 before.1) ∙ h)
@@ -89,8 +94,10 @@ rises_rest p e h k below =
 pub later : (p : ℕ × ℕ) (e : Cube) (v x : ℕ) → Rises (p ∷ e) → Contains e (v, x) → p.0 < v
 later p e v x h (k, below, is) =
     let size : length (variables e) ≡ length e = length-map e (λ (q : ℕ × ℕ). q.0) in
-    let less : get_or (variables (p ∷ e)) 0 0 < get_or (variables (p ∷ e)) (suc k) 0 = AllPairs-from_increasing (variables (p ∷ e)) h 0 (suc k) 0 (omega arith) (omega arith) in
-    let at : get_or (variables e) k 0 ≡ v = get_or-map (λ (q : ℕ × ℕ). q.0) e k (v, x) 0 below ∙ ap (λ (q : ℕ × ℕ). q.0) is in
+    let less : get_or (variables (p ∷ e)) 0 0 < get_or (variables (p ∷ e)) (suc k) 0 =
+    AllPairs-from_increasing (variables (p ∷ e)) h 0 (suc k) 0 (omega arith) (omega arith) in
+    let at : get_or (variables e) k 0 ≡ v = get_or-map (λ (q : ℕ × ℕ). q.0) e k (v, x) 0 below
+    ∙ ap (λ (q : ℕ × ℕ). q.0) is in
     omega (arith, less, at)
 
 pub later_demand : (p : ℕ × ℕ) (e : Cube) (v x : ℕ) → Rises (p ∷ e) → demand e v ≡ Some x → p.0 < v
@@ -105,7 +112,8 @@ demand_rest p e v other = ap (λ b. cond b (Some p.1) (demand e v)) (ne_eqb p.0 
 -- a rising cube demands each pair that stands in it
 pub rising_demand : (e : Cube) (v x : ℕ) → Rises e → Contains e (v, x) → demand e v ≡ Some x
 rising_demand [] v x h (k, below, is) = absurd (omega (arith, below))
-rising_demand (p ∷ e) v x h (zero, below, is) = subst (λ (q : ℕ × ℕ). demand (p ∷ e) q.0 ≡ Some q.1) is (demand_first p e)
+rising_demand (p ∷ e) v x h (zero, below, is) =
+    subst (λ (q : ℕ × ℕ). demand (p ∷ e) q.0 ≡ Some q.1) is (demand_first p e)
 rising_demand (p ∷ e) v x h (suc k, below, is) =
     let rest : Contains e (v, x) = (k, omega (arith, below), is) in
     let less : p.0 < v = later p e v x h rest in
@@ -133,7 +141,8 @@ same_demands (p ∷ e) (q ∷ f) re rf same = elim (cases_eq p.0 q.0) [
       ] in
       ap₂ (λ (x : ℕ × ℕ) (xs : Cube). x ∷ xs) pair (same_demands e f (rises_rest p e re) (rises_rest q f rf) rest)
   | inr differ ↦
-      let there : demand f p.0 ≡ Some p.1 = sym (demand_rest q f p.0 (λ h. differ (sym h))) ∙ sym (same p.0) ∙ demand_first p e in
+      let there : demand f p.0 ≡ Some p.1 = sym (demand_rest q f p.0 (λ h. differ (sym h))) ∙ sym (same p.0)
+      ∙ demand_first p e in
       let back : demand e q.0 ≡ Some q.1 = sym (demand_rest p e q.0 differ) ∙ same q.0 ∙ demand_first q f in
       let less : q.0 < p.0 = later_demand q f p.0 p.1 rf there in
       let more : p.0 < q.0 = later_demand p e q.0 q.1 re back in

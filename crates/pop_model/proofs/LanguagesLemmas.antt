@@ -15,7 +15,8 @@ first_bad In front x rest begins none =
     let seam : take (length front) (front ++ x ∷ rest) ≡ front = take-append_seam front (x ∷ rest) in
     let size : length (front ++ x ∷ []) ≡ suc (length front) = length-append front (x ∷ []) ∙ omega arith in
     let longer : take (suc (length front)) (front ++ x ∷ rest) ≡ front ++ x ∷ [] =
-    ap (λ n. take n (front ++ x ∷ rest)) (sym size) ∙ ap (take (length (front ++ x ∷ []))) (regroup front x rest) ∙ take-append_seam (front ++ x ∷ []) rest in
+    ap (λ n. take n (front ++ x ∷ rest)) (sym size) ∙ ap (take (length (front ++ x ∷ []))) (regroup front x rest)
+    ∙ take-append_seam (front ++ x ∷ []) rest in
     let whole : length (front ++ x ∷ rest) ≡ length front + length (x ∷ rest) = length-append front (x ∷ rest) in
     record {
       outside = none rest;
@@ -24,7 +25,8 @@ first_bad In front x rest begins none =
     }
 
 -- it begins a member and is none
-pub ends_early : {X : Type 0} → (In : List X → Type 0) (xs : List X) → Begins In xs → (In xs → ⊥) → IsFirstBad In xs (suc (length xs))
+pub ends_early : {X : Type 0} → (In : List X → Type 0) (xs : List X) → Begins In xs → (In xs → ⊥)
+    → IsFirstBad In xs (suc (length xs))
 ends_early In xs begins outside =
     record {
       outside = outside;

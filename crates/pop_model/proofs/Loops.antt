@@ -26,7 +26,8 @@ demand_put_same p (q ∷ e) h = elim (cases_Bool (ltb p.0 q.0)) [
   | inl is ↦ ap (λ b. demand (cond b (p ∷ q ∷ e) (q ∷ put_in p e)) p.0) is ∙ demand_first p (q ∷ e)
   | inr other ↦ elim (cases_eq q.0 p.0) [
     | inl same ↦ absurd (none-some q.1 (sym h ∙ ap (demand (q ∷ e)) (sym same) ∙ demand_first q e))
-    | inr differ ↦ ap (λ b. demand (cond b (p ∷ q ∷ e) (q ∷ put_in p e)) p.0) other ∙ demand_rest q (put_in p e) p.0 differ ∙ demand_put_same p e (sym (demand_rest q e p.0 differ) ∙ h)
+    | inr differ ↦ ap (λ b. demand (cond b (p ∷ q ∷ e) (q ∷ put_in p e)) p.0) other
+        ∙ demand_rest q (put_in p e) p.0 differ ∙ demand_put_same p e (sym (demand_rest q e p.0 differ) ∙ h)
   ]
 ]
 
@@ -34,7 +35,8 @@ demand_put_other : (p : ℕ × ℕ) (e : Cube) (v : ℕ) → (p.0 ≡ v → ⊥)
 demand_put_other p [] v h = demand_rest p [] v h
 demand_put_other p (q ∷ e) v h = elim (cases_Bool (ltb p.0 q.0)) [
   | inl is ↦ ap (λ b. demand (cond b (p ∷ q ∷ e) (q ∷ put_in p e)) v) is ∙ demand_rest p (q ∷ e) v h
-  | inr other ↦ ap (λ b. demand (cond b (p ∷ q ∷ e) (q ∷ put_in p e)) v) other ∙ ap (λ o. cond (q.0 == v) (Some q.1) o) (demand_put_other p e v h)
+  | inr other ↦ ap (λ b. demand (cond b (p ∷ q ∷ e) (q ∷ put_in p e)) v) other
+      ∙ ap (λ o. cond (q.0 == v) (Some q.1) o) (demand_put_other p e v h)
 ]
 
 -- each variable is below those behind it
@@ -70,13 +72,15 @@ ascends_rises (p ∷ q ∷ e) a (suc k) h =
     subst (λ n. get_or (variables (p ∷ q ∷ e)) (suc k) 0 < get_or (variables (p ∷ q ∷ e)) n 0) (sym next) rest
 
 -- variables from b to below n
-pub ascends_short : (e : Cube) (b n : ℕ) → Ascends e → ((v x : ℕ) → demand e v ≡ Some x → (b ≤ v) × (v < n)) → b ≤ n → length e + b ≤ n
+pub ascends_short : (e : Cube) (b n : ℕ) → Ascends e → ((v x : ℕ) → demand e v ≡ Some x → (b ≤ v) × (v < n)) → b ≤ n
+    → length e + b ≤ n
 ascends_short [] b n a within le = omega arith
 ascends_short (p ∷ e) b n a within le =
     let here = within p.0 p.1 (demand_first p e) in
     let rest = ascends_short e (suc b) n a.1 (λ v x d. let far : p.0 < v = a.0 v x d in
     let differ : p.0 ≢ v = λ h. absurd (omega arith) in
-    let there = within v x (demand_rest p e v differ ∙ d) in (omega (arith, here.0, far), there.1)) (omega (arith, here.0, here.1)) in
+    let there = within v x (demand_rest p e v differ ∙ d) in
+    (omega (arith, here.0, far), there.1)) (omega (arith, here.0, here.1)) in
     omega (arith, rest)
 
 -- the pairs of the variables that stand at places i on, n of them
@@ -93,7 +97,8 @@ distinct_rest at i n d a b le lt below = d a b (omega arith) lt (omega arith)
 
 pub length-loop : (slot at : ℕ → ℕ) (i n : ℕ) → length (loop_cube slot at i n) ≡ n
 length-loop slot at i zero = refl
-length-loop slot at i (suc n) = length-put_in (at i, slot (at i)) (loop_cube slot at (suc i) n) ∙ ap suc (length-loop slot at (suc i) n)
+length-loop slot at i (suc n) = length-put_in (at i, slot (at i)) (loop_cube slot at (suc i) n)
+    ∙ ap suc (length-loop slot at (suc i) n)
 
 -- a variable that the loop demands stands at one of the places
 pub record StandsIn (slot at : ℕ → ℕ) (i n v x : ℕ) : Type 0 where
@@ -103,10 +108,13 @@ pub record StandsIn (slot at : ℕ → ℕ) (i n v x : ℕ) : Type 0 where
   pub is : at place ≡ v
   pub value : x ≡ slot v
 
-mutual_none : (slot at : ℕ → ℕ) (i n v : ℕ) → ((x : ℕ) → demand (loop_cube slot at i n) v ≡ Some x → ⊥) → demand (loop_cube slot at i n) v ≡ None
-mutual_none slot at i n v h = elim (cases_Option (demand (loop_cube slot at i n) v)) [ inl none ↦ none | inr some ↦ absurd (h some.0 some.1) ]
+mutual_none : (slot at : ℕ → ℕ) (i n v : ℕ) → ((x : ℕ) → demand (loop_cube slot at i n) v ≡ Some x → ⊥)
+    → demand (loop_cube slot at i n) v ≡ None
+mutual_none slot at i n v h =
+    elim (cases_Option (demand (loop_cube slot at i n) v)) [ inl none ↦ none | inr some ↦ absurd (h some.0 some.1) ]
 
-pub loop_only : (slot at : ℕ → ℕ) (i n : ℕ) → Distinct at i n → (v x : ℕ) → demand (loop_cube slot at i n) v ≡ Some x → StandsIn slot at i n v x
+pub loop_only : (slot at : ℕ → ℕ) (i n : ℕ) → Distinct at i n → (v x : ℕ) → demand (loop_cube slot at i n) v ≡ Some x
+    → StandsIn slot at i n v x
 loop_only slot at i zero d v x h = absurd (none-some x h)
 loop_only slot at i (suc n) d v x h =
     let p : ℕ × ℕ = (at i, slot (at i)) in
@@ -116,7 +124,8 @@ loop_only slot at i (suc n) d v x h =
           let none : demand e (at i) ≡ None = mutual_none slot at (suc i) n (at i) (λ y g.
           let stands = loop_only slot at (suc i) n (distinct_rest at i n d) (at i) y g in
           d i stands.place (omega arith) (omega (arith, stands.from)) (omega (arith, stands.below)) (sym stands.is)) in
-          let value : slot (at i) ≡ x = same_Some (slot (at i)) x (sym (demand_put_same p e none) ∙ ap (demand (put_in p e)) same ∙ h) in
+          let value : slot (at i) ≡ x =
+          same_Some (slot (at i)) x (sym (demand_put_same p e none) ∙ ap (demand (put_in p e)) same ∙ h) in
           record { place = i; from = omega arith; below = omega arith; is = same; value = sym value ∙ ap slot same }
       | inr other ↦
           let rest = loop_only slot at (suc i) n (distinct_rest at i n d) v x (sym (demand_put_other p e v other) ∙ h) in
@@ -124,7 +133,8 @@ loop_only slot at i (suc n) d v x h =
     ]
 
 -- and each variable that stands there is demanded
-pub loop_has : (slot at : ℕ → ℕ) (i n : ℕ) → Distinct at i n → (k : ℕ) → i ≤ k → k < i + n → demand (loop_cube slot at i n) (at k) ≡ Some (slot (at k))
+pub loop_has : (slot at : ℕ → ℕ) (i n : ℕ) → Distinct at i n → (k : ℕ) → i ≤ k → k < i + n
+    → demand (loop_cube slot at i n) (at k) ≡ Some (slot (at k))
 loop_has slot at i zero d k from below = absurd (omega arith)
 loop_has slot at i (suc n) d k from below =
     let p : ℕ × ℕ = (at i, slot (at i)) in
@@ -136,7 +146,8 @@ loop_has slot at i (suc n) d k from below =
           d i stands.place (omega arith) (omega (arith, stands.from)) (omega (arith, stands.below)) (sym stands.is)) in
           subst (λ j. demand (put_in p e) (at j) ≡ Some (slot (at j))) same (demand_put_same p e none)
       | inr other ↦
-          demand_put_other p e (at k) (d i k (omega arith) (omega arith) (omega arith)) ∙ loop_has slot at (suc i) n (distinct_rest at i n d) k (omega arith) (omega arith)
+          demand_put_other p e (at k) (d i k (omega arith) (omega arith) (omega arith))
+          ∙ loop_has slot at (suc i) n (distinct_rest at i n d) k (omega arith) (omega arith)
     ]
 
 pub loop_ascends : (slot at : ℕ → ℕ) (i n : ℕ) → Distinct at i n → Ascends (loop_cube slot at i n)

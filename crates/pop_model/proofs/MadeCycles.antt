@@ -15,16 +15,22 @@ pub record Round (step : ℕ → Option ℕ) (n : ℕ) (at : ℕ → ℕ) : Type
   pub along : (j : ℕ) → j < n → follow step j (at 0) ≡ Some (at j)
   pub back : follow step n (at 0) ≡ Some (at 0)
 
-pub round_back : (step : ℕ → Option ℕ) (n : ℕ) (at : ℕ → ℕ) → Round step n at → (j : ℕ) → j < n → follow step n (at j) ≡ Some (at j)
+pub round_back : (step : ℕ → Option ℕ) (n : ℕ) (at : ℕ → ℕ) → Round step n at → (j : ℕ) → j < n
+    → follow step n (at j) ≡ Some (at j)
 round_back step n at r j below =
-    let home : follow step (n - j) (at j) ≡ Some (at 0) = let sum : j + (n - j) ≡ n = omega arith in sym (follow_more step j (n - j) (at 0) (at j) (r.along j below)) ∙ ap (λ k. follow step k (at 0)) sum ∙ r.back in
+    let home : follow step (n - j) (at j) ≡ Some (at 0) = let sum : j + (n - j) ≡ n =
+    omega arith in sym (follow_more step j (n - j) (at 0) (at j) (r.along j below))
+    ∙ ap (λ k. follow step k (at 0)) sum ∙ r.back in
     let whole : n ≡ (n - j) + j = omega arith in
     ap (λ k. follow step k (at j)) whole ∙ follow_more step (n - j) j (at j) (at 0) home ∙ r.along j below
 
-pub round_meets : (step : ℕ → Option ℕ) (n : ℕ) (at : ℕ → ℕ) → Round step n at → (j i : ℕ) → j < n → i < n → (k : ℕ) × (k < n) × (follow step k (at j) ≡ Some (at i))
+pub round_meets : (step : ℕ → Option ℕ) (n : ℕ) (at : ℕ → ℕ) → Round step n at → (j i : ℕ) → j < n → i < n
+    → (k : ℕ) × (k < n) × (follow step k (at j) ≡ Some (at i))
 round_meets step n at r j i below_j below_i = elim (cases_lt i j) [
   | inl less ↦
-      let home : follow step (n - j) (at j) ≡ Some (at 0) = let sum : j + (n - j) ≡ n = omega arith in sym (follow_more step j (n - j) (at 0) (at j) (r.along j below_j)) ∙ ap (λ k. follow step k (at 0)) sum ∙ r.back in
+      let home : follow step (n - j) (at j) ≡ Some (at 0) = let sum : j + (n - j) ≡ n =
+      omega arith in sym (follow_more step j (n - j) (at 0) (at j) (r.along j below_j))
+      ∙ ap (λ k. follow step k (at 0)) sum ∙ r.back in
       ((n - j) + i, omega arith, follow_more step (n - j) i (at j) (at 0) home ∙ r.along i below_i)
   | inr more ↦
       let sum : j + (i - j) ≡ i = omega arith in
@@ -37,34 +43,42 @@ pub record IsLoop (heads : Heads) (slot at : ℕ → ℕ) (i m : ℕ) : Type 0 w
   pub leads : (k : ℕ) → i ≤ k → k < i + m → head_of heads (at k) (slot (at k)) ≡ Some (at (suc k))
   pub closes : head_of heads (at (i + m)) (slot (at (i + m))) ≡ Some (at i)
 
-loop_step : (heads : Heads) (slot at : ℕ → ℕ) (i m : ℕ) → IsLoop heads slot at i m → (k : ℕ) → i ≤ k → k < i + suc m → arrow_in heads (loop_cube slot at i (suc m)) (at k) ≡ head_of heads (at k) (slot (at k))
-loop_step heads slot at i m is k from below = arrow_demands heads (loop_cube slot at i (suc m)) (at k) (slot (at k)) (loop_has slot at i (suc m) is.distinct k from below)
+loop_step : (heads : Heads) (slot at : ℕ → ℕ) (i m : ℕ) → IsLoop heads slot at i m → (k : ℕ) → i ≤ k → k < i + suc m
+    → arrow_in heads (loop_cube slot at i (suc m)) (at k) ≡ head_of heads (at k) (slot (at k))
+loop_step heads slot at i m is k from below =
+    arrow_demands heads (loop_cube slot at i (suc m)) (at k) (slot (at k)) (loop_has slot at i (suc m) is.distinct k from below)
 
-loop_along : (heads : Heads) (slot at : ℕ → ℕ) (i m : ℕ) → IsLoop heads slot at i m → (j : ℕ) → j < suc m → follow (arrow_in heads (loop_cube slot at i (suc m))) j (at (i + 0)) ≡ Some (at (i + j))
+loop_along : (heads : Heads) (slot at : ℕ → ℕ) (i m : ℕ) → IsLoop heads slot at i m → (j : ℕ) → j < suc m
+    → follow (arrow_in heads (loop_cube slot at i (suc m))) j (at (i + 0)) ≡ Some (at (i + j))
 loop_along heads slot at i m is zero below = refl
 loop_along heads slot at i m is (suc j) below =
     let step = arrow_in heads (loop_cube slot at i (suc m)) in
     let next : suc (i + j) ≡ i + suc j = omega arith in
     follow_next step j (at (i + 0)) (at (i + j)) (loop_along heads slot at i m is j (omega arith))
-    ∙ loop_step heads slot at i m is (i + j) (omega arith) (omega arith) ∙ is.leads (i + j) (omega arith) (omega arith) ∙ ap (λ n. Some (at n)) next
+    ∙ loop_step heads slot at i m is (i + j) (omega arith) (omega arith) ∙ is.leads (i + j) (omega arith) (omega arith)
+    ∙ ap (λ n. Some (at n)) next
 
-loop_round : (heads : Heads) (slot at : ℕ → ℕ) (i m : ℕ) → IsLoop heads slot at i m → Round (arrow_in heads (loop_cube slot at i (suc m))) (suc m) (λ j. at (i + j))
+loop_round : (heads : Heads) (slot at : ℕ → ℕ) (i m : ℕ) → IsLoop heads slot at i m
+    → Round (arrow_in heads (loop_cube slot at i (suc m))) (suc m) (λ j. at (i + j))
 loop_round heads slot at i m is =
     let step = arrow_in heads (loop_cube slot at i (suc m)) in
     let none : i ≡ i + 0 = omega arith in
     record {
       along = loop_along heads slot at i m is;
-      back = follow_next step m (at (i + 0)) (at (i + m)) (loop_along heads slot at i m is m (omega arith)) ∙ loop_step heads slot at i m is (i + m) (omega arith) (omega arith) ∙ is.closes ∙ ap (λ n. Some (at n)) none;
+      back = follow_next step m (at (i + 0)) (at (i + m)) (loop_along heads slot at i m is m (omega arith))
+          ∙ loop_step heads slot at i m is (i + m) (omega arith) (omega arith) ∙ is.closes ∙ ap (λ n. Some (at n)) none;
     }
 
 -- the pairs of a loop are a cycle
-pub loop_is_cycle : (heads : Heads) (slot at : ℕ → ℕ) (i m : ℕ) → IsLoop heads slot at i m → IsCycle heads (loop_cube slot at i (suc m))
+pub loop_is_cycle : (heads : Heads) (slot at : ℕ → ℕ) (i m : ℕ) → IsLoop heads slot at i m
+    → IsCycle heads (loop_cube slot at i (suc m))
 loop_is_cycle heads slot at i m is =
     let e = loop_cube slot at i (suc m) in
     let step = arrow_in heads e in
     let round = loop_round heads slot at i m is in
     let size : length e ≡ suc m = length-loop slot at i (suc m) in
-    let cube : IsCube e = record { some = omega (arith, size); rising = ascends_rises e (loop_ascends slot at i (suc m) is.distinct) } in
+    let cube : IsCube e =
+    record { some = omega (arith, size); rising = ascends_rises e (loop_ascends slot at i (suc m) is.distinct) } in
     let first = named_demand e (first_of e) (first_named e cube) in
     let stands = loop_only slot at i (suc m) is.distinct (first_of e) first.0 first.1 in
     let j = stands.place - i in
@@ -73,11 +87,13 @@ loop_is_cycle heads slot at i m is =
     let here : at (i + j) ≡ first_of e = ap at place ∙ stands.is in
     record {
       cube = cube;
-      returns = ap (λ n. follow step n (first_of e)) size ∙ subst (λ v. follow step (suc m) v ≡ Some v) here (round_back step (suc m) (λ j. at (i + j)) round j below);
+      returns = ap (λ n. follow step n (first_of e)) size
+          ∙ subst (λ v. follow step (suc m) v ≡ Some v) here (round_back step (suc m) (λ j. at (i + j)) round j below);
       meets = λ v at_v.
           let x = named_demand e v at_v in
           let other = loop_only slot at i (suc m) is.distinct v x.0 x.1 in
-          let there : at (i + (other.place - i)) ≡ v = let sum : i + (other.place - i) ≡ other.place = omega (arith, other.from) in ap at sum ∙ other.is in
+          let there : at (i + (other.place - i)) ≡ v = let sum : i + (other.place - i) ≡ other.place =
+          omega (arith, other.from) in ap at sum ∙ other.is in
           let met = round_meets step (suc m) (λ j. at (i + j)) round j (other.place - i) below (omega (arith, other.below)) in
           (met.0, omega (arith, met.1, size), ap (follow step met.0) (sym here) ∙ met.2 ∙ ap (λ w. Some w) there);
     }
@@ -86,9 +102,11 @@ loop_is_cycle heads slot at i m is =
 abbrev pub slot_at : StackTable → List ℕ → ℕ → ℕ
 slot_at s c v = value_at s v (cursor c v)
 
-pub loop_occurs : (s : StackTable) (c : List ℕ) (at : ℕ → ℕ) (i n : ℕ) → Distinct at i n → Occurs s c (loop_cube (slot_at s c) at i n)
+pub loop_occurs : (s : StackTable) (c : List ℕ) (at : ℕ → ℕ) (i n : ℕ) → Distinct at i n
+    → Occurs s c (loop_cube (slot_at s c) at i n)
 loop_occurs s c at i n d k p below =
     let e = loop_cube (slot_at s c) at i n in
     let pair : ℕ × ℕ = get_or e k p in
-    let demands : demand e pair.0 ≡ Some pair.1 = rising_demand e pair.0 pair.1 (ascends_rises e (loop_ascends (slot_at s c) at i n d)) (Contains-get_or e k p below) in
+    let demands : demand e pair.0 ≡ Some pair.1 =
+    rising_demand e pair.0 pair.1 (ascends_rises e (loop_ascends (slot_at s c) at i n d)) (Contains-get_or e k p below) in
     sym (loop_only (slot_at s c) at i n d pair.0 pair.1 demands).value

@@ -19,11 +19,14 @@ use Rattle.pop_model.proofs.Loops.{loop_cube, Distinct, path_short}
 use Rattle.pop_model.proofs.MadeCycles.{IsLoop, slot_at, loop_is_cycle, loop_occurs}
 
 -- what occurs demands the current values
-pub occurs_demand : (s : StackTable) (c : List ℕ) (e : Cube) (v x : ℕ) → Occurs s c e → demand e v ≡ Some x → value_at s v (cursor c v) ≡ x
-occurs_demand s c e v x occurs h = All-contains (λ (p : ℕ × ℕ). value_at s p.0 (cursor c p.0) ≡ p.1) e (v, x) occurs (demand_contains e v x h)
+pub occurs_demand : (s : StackTable) (c : List ℕ) (e : Cube) (v x : ℕ) → Occurs s c e → demand e v ≡ Some x
+    → value_at s v (cursor c v) ≡ x
+occurs_demand s c e v x occurs h =
+    All-contains (λ (p : ℕ × ℕ). value_at s p.0 (cursor c p.0) ≡ p.1) e (v, x) occurs (demand_contains e v x h)
 
 -- so its arrows are the current ones
-pub occurs_arrow : (heads : Heads) (s : StackTable) (c : List ℕ) (e : Cube) (v : ℕ) → Occurs s c e → names e v ≡ true → arrow_in heads e v ≡ arrow_at heads s c v
+pub occurs_arrow : (heads : Heads) (s : StackTable) (c : List ℕ) (e : Cube) (v : ℕ) → Occurs s c e → names e v ≡ true
+    → arrow_in heads e v ≡ arrow_at heads s c v
 occurs_arrow heads s c e v occurs at =
     let x = named_demand e v at in
     arrow_demands heads e v x.0 x.1 ∙ ap (head_of heads v) (sym (occurs_demand s c e v x.0 occurs x.1))
@@ -34,13 +37,15 @@ pub record StaysAt (heads : Heads) (s : StackTable) (c : List ℕ) (e : Cube) (v
   pub leads : arrow_at heads s c v ≡ Some next
   pub named : names e next ≡ true
 
-pub stays_at : (heads : Heads) (s : StackTable) (c : List ℕ) (e : Cube) (v : ℕ) → IsCycle heads e → Occurs s c e → names e v ≡ true → StaysAt heads s c e v
+pub stays_at : (heads : Heads) (s : StackTable) (c : List ℕ) (e : Cube) (v : ℕ) → IsCycle heads e → Occurs s c e
+    → names e v ≡ true → StaysAt heads s c e v
 stays_at heads s c e v is occurs at =
     let on = stays_in heads e is v at in
     record { next = on.next; leads = sym (occurs_arrow heads s c e v occurs at) ∙ on.leads; named = on.named }
 
 -- the current arrows stay in the cycle
-pub follows_in : (heads : Heads) (s : StackTable) (c : List ℕ) (e : Cube) (v k w : ℕ) → IsCycle heads e → Occurs s c e → names e v ≡ true → follow (arrow_at heads s c) k v ≡ Some w → names e w ≡ true
+pub follows_in : (heads : Heads) (s : StackTable) (c : List ℕ) (e : Cube) (v k w : ℕ) → IsCycle heads e → Occurs s c e
+    → names e v ≡ true → follow (arrow_at heads s c) k v ≡ Some w → names e w ≡ true
 follows_in heads s c e v zero w is occurs at h = subst (λ u. names e u ≡ true) (same_Some v w h) at
 follows_in heads s c e v (suc k) w is occurs at h =
     let last = follow_last (arrow_at heads s c) k v w h in
@@ -48,14 +53,16 @@ follows_in heads s c e v (suc k) w is occurs at h =
     subst (λ u. names e u ≡ true) (same_Some on.next w (sym on.leads ∙ last.2)) on.named
 
 -- and never come to the root
-pub never_root : (heads : Heads) (s : StackTable) (c : List ℕ) (e : Cube) (v k : ℕ) → IsCycle heads e → Occurs s c e → names e v ≡ true → (w : ℕ) × (follow (arrow_at heads s c) k v ≡ Some w)
+pub never_root : (heads : Heads) (s : StackTable) (c : List ℕ) (e : Cube) (v k : ℕ) → IsCycle heads e → Occurs s c e
+    → names e v ≡ true → (w : ℕ) × (follow (arrow_at heads s c) k v ≡ Some w)
 never_root heads s c e v zero is occurs at = (v, refl)
 never_root heads s c e v (suc k) is occurs at =
     let before = never_root heads s c e v k is occurs at in
     let on = stays_at heads s c e before.0 is occurs (follows_in heads s c e v k before.0 is occurs at before.1) in
     (on.next, follow_next (arrow_at heads s c) k v before.0 before.1 ∙ on.leads)
 
-in_as_at : (heads : Heads) (s : StackTable) (c : List ℕ) (e : Cube) (v k w : ℕ) → IsCycle heads e → Occurs s c e → names e v ≡ true → follow (arrow_in heads e) k v ≡ Some w → follow (arrow_at heads s c) k v ≡ Some w
+in_as_at : (heads : Heads) (s : StackTable) (c : List ℕ) (e : Cube) (v k w : ℕ) → IsCycle heads e → Occurs s c e
+    → names e v ≡ true → follow (arrow_in heads e) k v ≡ Some w → follow (arrow_at heads s c) k v ≡ Some w
 in_as_at heads s c e v zero w is occurs at h = h
 in_as_at heads s c e v (suc k) w is occurs at h =
     let last = follow_last (arrow_in heads e) k v w h in
@@ -64,8 +71,10 @@ in_as_at heads s c e v (suc k) w is occurs at h =
     follow_next (arrow_at heads s c) k v last.0 same ∙ sym (occurs_arrow heads s c e last.0 occurs named) ∙ last.2
 
 -- they lead from each of its variables to each
-pub round_at : (heads : Heads) (s : StackTable) (c : List ℕ) (e : Cube) (v w : ℕ) → IsCycle heads e → Occurs s c e → names e v ≡ true → names e w ≡ true → (k : ℕ) × (follow (arrow_at heads s c) k v ≡ Some w)
-round_at heads s c e v w is occurs at_v at_w = let round = leads_round heads e is v w at_v at_w in (round.0, in_as_at heads s c e v round.0 w is occurs at_v round.1)
+pub round_at : (heads : Heads) (s : StackTable) (c : List ℕ) (e : Cube) (v w : ℕ) → IsCycle heads e → Occurs s c e
+    → names e v ≡ true → names e w ≡ true → (k : ℕ) × (follow (arrow_at heads s c) k v ≡ Some w)
+round_at heads s c e v w is occurs at_v at_w = let round =
+    leads_round heads e is v w at_v at_w in (round.0, in_as_at heads s c e v round.0 w is occurs at_v round.1)
 
 pub head_within : (heads : Heads) (v x w : ℕ) → head_of heads v x ≡ Some w → v < length heads
 head_within heads v x w h = elim (cases_lt v (length heads)) [
@@ -117,20 +126,28 @@ event_of_cube : Cube → Event
 event_of_cube e = record { unit = first_of e; cube = e }
 
 -- a walk that goes on for as many steps as there are variables meets a cycle
-no_long_walk : (s : StackTable) (heads : Heads) → AreArrows heads → (c : List ℕ) → IsFinished (tree s heads) c → (v w : ℕ) → v < length heads → follow (arrow_at heads s c) (length heads) v ≡ Some w → ⊥
+no_long_walk : (s : StackTable) (heads : Heads) → AreArrows heads → (c : List ℕ) → IsFinished (tree s heads) c
+    → (v w : ℕ) → v < length heads → follow (arrow_at heads s c) (length heads) v ≡ Some w → ⊥
 unfolding event_of_cube
 no_long_walk s heads are c finished v w below h =
     let step = arrow_at heads s c in
     let n = length heads in
     let at = passed step v in
-    let along : (k : ℕ) → k ≤ n → follow step k v ≡ Some (at k) = λ k le. let there = follow_before step k n v w le h in passed_is step v k there.0 there.1 in
-    let leads : (k : ℕ) → suc k ≤ n → step (at k) ≡ Some (at (suc k)) = λ k le. sym (follow_next step k v (at k) (along k (omega arith))) ∙ along (suc k) le in
+    let along : (k : ℕ) → k ≤ n
+    → follow step k v ≡ Some (at k) = λ k le. let there =
+    follow_before step k n v w le h in passed_is step v k there.0 there.1 in
+    let leads : (k : ℕ) → suc k ≤ n
+    → step (at k) ≡ Some (at (suc k)) = λ k le. sym (follow_next step k v (at k) (along k (omega arith)))
+    ∙ along (suc k) le in
     let within : (k : ℕ) → k ≤ n → at k < n = λ k le. elim (cases_eq k 0) [
-      | inl none ↦ let start : at 0 ≡ v = same_Some (at 0) v (sym (along 0 (omega arith))) in subst (λ j. at j < n) (sym none) (omega (arith, start))
-      | inr some ↦ let back : suc (k - 1) ≡ k = omega arith in subst (λ j. at j < n) back (are.below (at (k - 1)) (value_at s (at (k - 1)) (cursor c (at (k - 1)))) (at (suc (k - 1))) (leads (k - 1) (omega arith)))
+      | inl none ↦ let start : at 0 ≡ v =
+          same_Some (at 0) v (sym (along 0 (omega arith))) in subst (λ j. at j < n) (sym none) (omega (arith, start))
+      | inr some ↦ let back : suc (k - 1) ≡ k =
+          omega arith in subst (λ j. at j < n) back (are.below (at (k - 1)) (value_at s (at (k - 1)) (cursor c (at (k - 1)))) (at (suc (k - 1))) (leads (k - 1) (omega arith)))
     ] in
     elim (repeats_or_not at (suc n)) [
-      | inr d ↦ let short = path_short at 0 (suc n) n d (λ k from lt. within k (omega arith)) in absurd (omega (arith, short))
+      | inr d ↦ let short =
+          path_short at 0 (suc n) n d (λ k from lt. within k (omega arith)) in absurd (omega (arith, short))
       | inl r ↦
           let i = r.first in
           let m = r.again - suc i in
@@ -138,13 +155,15 @@ no_long_walk s heads are c finished v w below h =
           let loop : IsLoop heads (slot_at s c) at i m = record {
             distinct = λ a b from lt low. r.before a b (omega arith) lt (omega arith);
             leads = λ k from lt. leads k (omega (arith, r.below));
-            closes = let last : suc (i + m) ≡ r.again = omega arith in leads (i + m) (omega (arith, r.below)) ∙ ap (λ j. Some (at j)) last ∙ ap (λ u. Some u) (sym r.same);
+            closes = let last : suc (i + m) ≡ r.again = omega arith in leads (i + m) (omega (arith, r.below))
+                ∙ ap (λ j. Some (at j)) last ∙ ap (λ u. Some u) (sym r.same);
           } in
           finished (event_of_cube (loop_cube (slot_at s c) at i (suc m))) (loop_is_cycle heads (slot_at s c) at i m loop, refl) (loop_occurs s c at i (suc m) loop.distinct)
     ]
 
 -- No cycle occurs exactly where from each variable the arrows reach the root.
-pub tree_end : (s : StackTable) (heads : Heads) → AreArrows heads → (c : List ℕ) → IsFinished (tree s heads) c ↔ ((v : ℕ) → v < length heads → ReachesRoot (arrow_at heads s c) v)
+pub tree_end : (s : StackTable) (heads : Heads) → AreArrows heads → (c : List ℕ)
+    → IsFinished (tree s heads) c ↔ ((v : ℕ) → v < length heads → ReachesRoot (arrow_at heads s c) v)
 tree_end s heads are c = (
   λ finished v below. elim (cases_Option (follow (arrow_at heads s c) (length heads) v)) [
     | inl none ↦ (length heads, none)

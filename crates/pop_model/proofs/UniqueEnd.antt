@@ -57,7 +57,8 @@ swapped : {X : Type 0} (a b : X) (xs : List X) → IsPermutation (a ∷ b ∷ xs
 swapped a b xs = IsPermutation-swap (a ∷ b ∷ xs) (b ∷ a ∷ xs) 0 1 (omega arith) (omega arith) refl
 
 -- the event is popped first already
-at_front : (i : Instance) (c : List ℕ) (e : Event) (r : LogRecord) (log : List LogRecord) → r.event ≡ e → IsLegal i c (r ∷ log) → PopsFirst i c e (r ∷ log)
+at_front : (i : Instance) (c : List ℕ) (e : Event) (r : LogRecord) (log : List LogRecord) → r.event ≡ e
+    → IsLegal i c (r ∷ log) → PopsFirst i c e (r ∷ log)
 at_front i c e r log same legal =
     let is : r ≡ record_of c e = ap₂ made refl legal.0.entries ∙ ap (record_of c) same in
     record {
@@ -69,12 +70,14 @@ at_front i c e r log same legal =
     }
 
 -- an event that is popped behind an apart one may be popped before it
-behind : (i : Instance) (c : List ℕ) (e : Event) (r : LogRecord) (log : List LogRecord) → IsLegal i c (r ∷ log) → Apart e.cube r.event.cube → Apart r.event.cube e.cube
+behind : (i : Instance) (c : List ℕ) (e : Event) (r : LogRecord) (log : List LogRecord) → IsLegal i c (r ∷ log)
+    → Apart e.cube r.event.cube → Apart r.event.cube e.cube
     → PopsFirst i (pop c r.event.cube) e log → PopsFirst i c e (r ∷ log)
 behind i c e r log legal apart apart' p =
     let later = pop c r.event.cube in
     let both = pop_comm c r.event.cube e.cube in
-    let same_record : record_of later e ≡ record_of c e = ap (made e) (sym (entries_agree c later e.cube (cursor_apart c r.event.cube e.cube apart'))) in
+    let same_record : record_of later e ≡ record_of c e =
+    ap (made e) (sym (entries_agree c later e.cube (cursor_apart c r.event.cube e.cube apart'))) in
     record {
       rest = r ∷ p.rest;
       legal = (legal_apart i c e.cube r apart legal.0, subst (λ d. IsLegal i d p.rest) both p.legal);
@@ -86,14 +89,17 @@ behind i c e r log legal apart apart' p =
     }
 
 -- A legal log to an end pops each event that is poppable at its start; that pop may as well come first.
-pub pops_first : (i : Instance) → IsExtremal i.family → (c : List ℕ) (e : Event) → IsEvent i.family e → IsPoppable i.stacks c e.cube
+pub pops_first : (i : Instance) → IsExtremal i.family → (c : List ℕ) (e : Event) → IsEvent i.family e
+    → IsPoppable i.stacks c e.cube
     → (log : List LogRecord) → IsLegal i c log → IsEnd i (replay c log) → PopsFirst i c e log
 pops_first i extremal c e is pop_e [] legal end = absurd (end e is pop_e)
 pops_first i extremal c e is pop_e (r ∷ log) legal end = elim (same_event r.event e) [
   | inl same ↦ at_front i c e r log same legal
   | inr differ ↦
-      let apart : Apart e.cube r.event.cube = apart_if_extremal i extremal c e r.event is legal.0.event (λ h. differ (sym h)) pop_e.occurs legal.0.poppable.occurs in
-      let apart' : Apart r.event.cube e.cube = apart_if_extremal i extremal c r.event e legal.0.event is differ legal.0.poppable.occurs pop_e.occurs in
+      let apart : Apart e.cube r.event.cube =
+      apart_if_extremal i extremal c e r.event is legal.0.event (λ h. differ (sym h)) pop_e.occurs legal.0.poppable.occurs in
+      let apart' : Apart r.event.cube e.cube =
+      apart_if_extremal i extremal c r.event e legal.0.event is differ legal.0.poppable.occurs pop_e.occurs in
       behind i c e r log legal apart apart'
       (pops_first i extremal (pop c r.event.cube) e is (poppable_apart i.stacks c r.event.cube e.cube apart' pop_e) log legal.1 end)
 ]
@@ -105,8 +111,10 @@ pub record SameRun (c : List ℕ) (log other : List LogRecord) : Type 0 where
   pub records : IsPermutation log other
 
 -- any two legal logs from one vector to ends
-pub unique_run : (i : Instance) → IsExtremal i.family → (c : List ℕ) (log other : List LogRecord) → IsLegal i c log → IsLegal i c other → IsEnd i (replay c log) → IsEnd i (replay c other) → SameRun c log other
-unique_run i extremal c [] [] legal legal' end end' = record { end = refl; size = refl; records = IsPermutation-refl [] }
+pub unique_run : (i : Instance) → IsExtremal i.family → (c : List ℕ) (log other : List LogRecord) → IsLegal i c log
+    → IsLegal i c other → IsEnd i (replay c log) → IsEnd i (replay c other) → SameRun c log other
+unique_run i extremal c [] [] legal legal' end end' =
+    record { end = refl; size = refl; records = IsPermutation-refl [] }
 unique_run i extremal c [] (r ∷ other) legal legal' end end' = absurd (end r.event legal'.0.event legal'.0.poppable)
 unique_run i extremal c (r ∷ log) other legal legal' end end' =
     let first = pops_first i extremal c r.event legal.0.event legal.0.poppable other legal' end' in

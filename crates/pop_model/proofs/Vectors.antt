@@ -4,6 +4,7 @@ use Rattle.rand_core.specs.Steps.{u32_at}
 use Rattle.rand_chacha.specs.Block.{quarter_round, column_round, diagonal_round, double_rounds, block_word}
 use Rattle.rand_chacha.specs.ChaCha.{key_of}
 use Rattle.pop_model.specs.Stacks.{number_at, weighted}
+use Rattle.pop_model.specs.Popping.{pop}
 
 unfoldable pub zero_key : List ℕ
 zero_key = key_of (replicate 32 0)
@@ -30,3 +31,7 @@ two_to_one = refl
 pub five_to_one : weighted (5 ∷ 1 ∷ []) (number_at zero_key 0 0) ≡ 0
 unfolding zero_key number_at u32_at quarter_round column_round diagonal_round double_rounds block_word
 five_to_one = refl
+
+-- a pop moves the variables of the event by one, and no other
+moves_on : pop (3 ∷ 0 ∷ 7 ∷ 1 ∷ []) ((0, 1) ∷ (2, 0) ∷ []) ≡ 4 ∷ 0 ∷ 8 ∷ 1 ∷ []
+moves_on = refl

@@ -29,7 +29,8 @@ pub record IsFirstPoppable (i : Instance) (c : List ℕ) (e : Event) : Type 0 wh
 -- From these cursors the log pops the first poppable event each time, until there is none.
 abbrev pub IsFirstRun : Instance → List ℕ → List LogRecord → Type 0
 IsFirstRun i c [] = IsEnd i c
-IsFirstRun i c (r ∷ log) = IsFirstPoppable i c r.event × IsLegalAt i c r × IsFirstRun i (pop c r.event.cube) log
+IsFirstRun i c (r ∷ log) = IsFirstPoppable i c r.event × IsLegalAt i c r
+    × IsFirstRun i (pop c r.event.cube) log
 
 -- the cursors before any pop
 abbrev pub start_of : Instance → List ℕ
@@ -37,5 +38,6 @@ start_of i = replicate (variables_of i.stacks) 0
 
 -- these are the end, the number of pops and the stuck list of the one-thread run
 pub record IsFirstEnd (i : Instance) (cursors : List ℕ) (pops : ℕ) (stuck : List Event) : Type 0 where
-  pub run : (log : List LogRecord) × IsFirstRun i (start_of i) log × (cursors ≡ replay (start_of i) log) × (pops ≡ length log)
+  pub run : (log : List LogRecord) × IsFirstRun i (start_of i) log
+      × (cursors ≡ replay (start_of i) log) × (pops ≡ length log)
   pub stuck_list : IsStuckList i cursors stuck

@@ -26,8 +26,9 @@ variables_of s = length s.weights
 abbrev pub domain_of : StackTable → ℕ → ℕ
 domain_of s v = length (row_of s.weights v)
 
--- The words of an entry make a number below 2 ^ 64, the low word first: entry k of variable v has the places
--- 2k and 2k + 1 of stream v of the ChaCha20 key stream (RFC 8439, 2.3, with a 64-bit counter and stream number).
+-- The two words of an entry make a number below 2 ^ 64, the low word first: entry k of variable v has
+-- the places 2k and 2k + 1 of stream v of the ChaCha20 key stream (RFC 8439, 2.3, with a counter and a
+-- stream number of 64 bits each).
 unfoldable pub number_at : List ℕ → ℕ → ℕ → ℕ
 number_at key v k = word_at 10 key v (2 * k) + 2 ^ 32 * word_at 10 key v (2 * k + 1)
 
@@ -62,7 +63,7 @@ height_of s v = height_from s.origin v
 abbrev pub value_at : StackTable → ℕ → ℕ → ℕ
 value_at s v k = value_from s.origin s.weights v k
 
--- what holds of every table of stacks: counts and heights are below 2 ^ 31, and each stack has an entry
+-- what holds of every table: counts and heights are below 2 ^ 31, and each stack has an entry
 pub record IsTable (s : StackTable) : Type 0 where
   pub count : variables_of s < 2 ^ 31
   pub heights : (v : ℕ) → height_of s v < 2 ^ 31
