@@ -12,3 +12,5 @@ pub mod Members
 pub mod Sharing
 pub mod LanguagesLemmas
 mod Vectors
+pub mod Rising
+pub mod OneRun
