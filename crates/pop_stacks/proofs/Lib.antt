@@ -1,0 +1,5 @@
+mod RowsLemmas
+mod DrawsLemmas
+mod SumsInPlace
+mod WeightsBySums
+mod ValueIsLeast

@@ -1,0 +1,9 @@
+pub mod Rows
+pub mod Weights
+pub mod Tables
+pub mod Faults
+pub mod Readers
+pub mod Draws
+pub mod Sums
+pub mod Words
+pub mod Laws

@@ -1,0 +1,13 @@
+-- Words of the key stream that are kept.
+use Rattle.std.specs.Prelude.{◌≡◌, ℕ, ◌+◌, ◌*◌, ◌<◌, List, true, slice_index}
+use Rattle.rand_chacha.specs.ChaCha.{word_at}
+use Rattle.pop_stacks.specs.declared.refill.Refill.{Refill}
+
+-- the 64 words of a group of 32 entries of a variable
+abbrev pub AreWordsOf : List ℕ → ℕ → ℕ → List ℕ → Type 0
+AreWordsOf key v group words =
+    (i : ℕ) → i < 64 → slice_index words i ≡ word_at 10 key v (64 * group + i)
+
+-- what a refill says it holds, it holds
+abbrev pub HoldsWords : List ℕ → Refill → Type 0
+HoldsWords key r = r.filled ≡ true → AreWordsOf key r.variable r.group r.words

@@ -1,0 +1,167 @@
+ghost use Rattle.std.specs.Prelude.{◌≡◌, ◌<◌, ◌^◌, ℕ, OnOk, IfOk, IfErr};
+ghost use Rattle.pop_model.specs.Stacks.{variables_of, domain_of, height_of, value_at, IsTable};
+
+use crate::key_stream::KeyStream;
+use crate::sums::Sums;
+use crate::{StackFault, StackSpec, Weights};
+use std::marker::Model;
+
+/// The stacks of all variables. Variables and entries count from 0.
+#[derive(Drop)]
+pub struct Stacks {
+    spec: StackSpec,
+    sums: Sums,
+    height: u32,
+}
+
+impl Model for Stacks {
+    ghost use Rattle.pop_model.specs.Stacks.{StackTable, IsTable};
+    ghost use Rattle.pop_stacks.specs.Tables.{origin_of, table_of};
+    ghost use Rattle.pop_stacks.specs.Faults.{HasSoundRows};
+
+    ghost Value = { StackTable };
+
+    ghost view = { λ a. table_of a.spec a.height a.sums };
+
+    ghost invariant = { λ a. IsTable (table_of a.spec a.height a.sums)
+        × HasSoundRows (origin_of a.spec a.height) a.sums };
+}
+
+impl Stacks {
+    ghost use Rattle.pop_stacks.specs.Tables.{origin_of, table_of};
+    ghost use Rattle.pop_stacks.specs.Faults.{IsSound, IsCause};
+    ghost use Rattle.pop_stacks.specs.Readers.{Belongs};
+
+    /// The stacks with entries of this origin, under these weights. With a key each variable has
+    /// this height; with given rows it is its row's length, and `height` has no effect.
+    pub fn new(spec: StackSpec, weights: Weights, height: u32) -> Result<Stacks, StackFault>
+        requires some { 0 < height }
+        requires short { height < 2 ^ 31 }
+        ensures made { IfOk result (λ stacks. stacks ≡ table_of spec height weights) }
+        ensures sound { OnOk result (IsSound (origin_of spec height) weights) }
+
+        // The first cause in the order of `StackFault`, at its least place.
+        ensures cause { IfErr result (IsCause (origin_of spec height) weights) }
+    {
+        spec.check(&weights, height)?;
+        match Sums::of(weights) {
+            Err(v) => Err(StackFault::WeightSum(v)),
+            Ok(sums) => Ok(Stacks { spec, sums, height }),
+        }
+    }
+
+    /// How many variables there are.
+    pub fn count(&self) -> u32
+        ensures count { result ≡ variables_of self.now }
+        ensures table { IsTable self.now }
+    {
+        self.sums.count()
+    }
+
+    /// How many entries variable v has.
+    pub fn height(&self, v: u32) -> u32
+        requires { v < variables_of self.now }
+        ensures { result ≡ height_of self.now v }
+    {
+        match &self.spec {
+            StackSpec::Key(_) => self.height,
+            StackSpec::Given(rows) => rows.row(v).len() as u32,
+        }
+    }
+
+    /// How many values variable v has.
+    pub fn domain(&self, v: u32) -> u32
+        requires { v < variables_of self.now }
+        ensures { result ≡ domain_of self.now v }
+    {
+        self.sums.slots(v)
+    }
+
+    // The key stream of keyed stacks; with given rows any, which is never read.
+    pub(crate) fn stream(&self) -> KeyStream
+        ensures { Belongs self.now result }
+    {
+        match &self.spec {
+            StackSpec::Key(key) => KeyStream::new(*key),
+            StackSpec::Given(_) => KeyStream::new([0; 32]),
+        }
+    }
+
+    // Entry k of variable v.
+    pub(crate) fn value(&self, stream: &mut KeyStream, v: u32, k: u32) -> u32
+        requires belongs { Belongs self.now stream.old }
+        requires variable { v < variables_of self.now }
+        requires place { k < height_of self.now v }
+        requires short { k < 2 ^ 31 }
+        ensures value { result ≡ value_at self.now v k }
+        ensures within { result < domain_of self.now v }
+        ensures same { stream.new ≡ stream.old }
+    {
+        match &self.spec {
+            StackSpec::Key(_) => {
+                let (low, high) = stream.words(v, k);
+                self.sums.draw(v, low, high)
+            }
+            StackSpec::Given(rows) => rows.row(v)[k as usize],
+        }
+    }
+}
+
+#[cfg(test)]
+mod tests {
+    use super::*;
+    use crate::Rows;
+    use std::test::Fail;
+
+    // The fault of given rows, or none.
+    fn fault(rows: Rows, weights: Weights) -> Option<StackFault> {
+        Stacks::new(StackSpec::Given(rows), weights, 1).err()
+    }
+
+    // Each list of rows has later faults too, and a fault at a later place.
+    #[test]
+    fn the_first_fault_is_named_at_its_least_place(rt: HostRuntime) -> Result<(), Fail> {
+        let alloc = rt.alloc();
+        let rows = Rows::of(vec![in alloc; vec![in alloc; 9]?]?);
+        let wrong = fault(rows, Weights::pairs(2));
+        assert_eq!(&rt; wrong, Some(StackFault::RowCount(1, 2)));
+
+        let rows = Rows::of(vec![in alloc; vec![in alloc; 9]?, Vec::new(alloc), Vec::new(alloc)]?);
+        let wrong = fault(rows, Weights::pairs(3));
+        assert_eq!(&rt; wrong, Some(StackFault::EmptyRow(1)));
+
+        let rows = Rows::of(vec![in alloc;
+            vec![in alloc; 0, 1]?,
+            vec![in alloc; 1, 2, 2]?,
+            vec![in alloc; 9]?,
+        ]?);
+        let wrong = fault(rows, Weights::pairs(3));
+        assert_eq!(&rt; wrong, Some(StackFault::ValueTooLarge(1, 1)));
+
+        let rows = Rows::of(vec![in alloc;
+            vec![in alloc; 0]?,
+            vec![in alloc; 1]?,
+            vec![in alloc; 1]?,
+        ]?);
+        let heavy = Rows::of(vec![in alloc;
+            vec![in alloc; u32::MAX]?,
+            vec![in alloc; u32::MAX, 1]?,
+            vec![in alloc; 2, u32::MAX]?,
+        ]?);
+        let wrong = fault(rows, Weights::of(heavy));
+        assert_eq!(&rt; wrong, Some(StackFault::WeightSum(1)));
+        Ok(())
+    }
+
+    #[test]
+    fn keyed_stacks_are_refused_for_their_weights_alone(rt: HostRuntime) -> Result<(), Fail> {
+        let alloc = rt.alloc();
+        let heavy = Rows::of(vec![in alloc;
+            vec![in alloc; 1, u32::MAX - 1]?,
+            vec![in alloc; u32::MAX, 1]?,
+        ]?);
+        let wrong = Stacks::new(StackSpec::Key([7; 32]), Weights::of(heavy), 1).err();
+        assert_eq!(&rt; wrong, Some(StackFault::WeightSum(1)));
+        Ok(())
+    }
+}
