@@ -1,0 +1,33 @@
+//! Bytes in and out: sources and sinks that count their faults, the lines of a text, and the words
+//! and numbers of a line. Contracts see the bytes that a source has left and a sink holds, where
+//! they are known.
+#![tactic(auto)]
+
+mod failed;
+mod lines;
+mod mem_sink;
+mod mem_source;
+mod next;
+mod numbers;
+mod refusal;
+mod sink;
+mod source;
+mod splitter;
+mod std_sink;
+mod std_source;
+#[cfg(test)]
+mod tests;
+mod words;
+
+pub use failed::Failed;
+pub use lines::Lines;
+pub use mem_sink::MemSink;
+pub use mem_source::MemSource;
+pub use next::Next;
+pub use numbers::number;
+pub use refusal::ReadRefusal;
+pub use sink::{Sink, put_all};
+pub use source::Source;
+pub use std_sink::StdSink;
+pub use std_source::StdSource;
+pub use words::next_word;
