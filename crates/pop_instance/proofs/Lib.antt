@@ -1,0 +1,2 @@
+mod Gather
+mod Raising

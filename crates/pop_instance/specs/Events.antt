@@ -1,0 +1,15 @@
+-- Numbered cubes by their places.
+use Rattle.std.specs.Prelude.{ℕ, List, [], slice_index_or, Contains}
+use Rattle.pop_model.specs.Popping.{Cube}
+
+-- the number of the event at a place
+abbrev pub event_number : List (ℕ × Cube) → ℕ → ℕ
+event_number rows place = (slice_index_or rows place (0, [])).0
+
+-- the cube of the event at a place
+abbrev pub cube_at : List (ℕ × Cube) → ℕ → Cube
+cube_at rows place = (slice_index_or rows place (0, [])).1
+
+-- the list has the cube, under some number
+abbrev pub HasCube : List (ℕ × Cube) → Cube → Type 0
+HasCube rows e = (number : ℕ) × Contains rows (number, e)

@@ -1,0 +1,73 @@
+ghost use Rattle.std.specs.Prelude.{◌≡◌, ◌↔◌, IsTrue, MatchOption};
+ghost use Rattle.pop_model.specs.Families.{units_of};
+ghost use Rattle.pop_model.specs.Instances.{IsInstance, FamilyFits};
+
+use crate::{Cube, Family};
+use pop_stacks::Stacks;
+use std::marker::Model;
+
+/// Stacks, and a family of events whose variables and values the stacks have.
+#[derive(Drop)]
+pub struct Instance {
+    stacks: Stacks,
+    family: Family,
+}
+
+impl Model for Instance {
+    ghost use Rattle.pop_model.specs.Instances.{Instance as ModelInstance, IsInstance};
+
+    ghost Value = { ModelInstance };
+
+    ghost use Rattle.pop_instance.specs.Family.{family_of};
+
+    ghost view = { λ a. record { stacks = a.stacks; family = family_of a.family } };
+
+    ghost invariant = { λ a. IsInstance (record { stacks = a.stacks; family = family_of a.family }) };
+}
+
+impl Instance {
+    ghost use Rattle.pop_instance.specs.Family.{family_of, HasEvent};
+
+    /// The instance of these parts. None exactly where an event names a variable that is not below the
+    /// stacks' count, or a value that is not below its variable's domain.
+    pub fn new(stacks: Stacks, family: Family) -> Option<Instance>
+        ensures { MatchOption result (FamilyFits stacks (family_of family) → ⊥)
+            (λ i. i ≡ record { stacks = stacks; family = family_of family }) }
+    {
+        let _count = stacks.count();
+        let _units = family.units();
+        if !family.fits(&stacks) {
+            return None;
+        }
+        Some(Instance { stacks, family })
+    }
+
+    /// The stacks of the variables.
+    pub fn stacks(&self) -> &Stacks
+        ensures { result.now ≡ self.now.stacks }
+    {
+        &self.stacks
+    }
+
+    /// The family of events.
+    pub fn family(&self) -> &Family
+        ensures { family_of result.now ≡ self.now.family }
+    {
+        &self.family
+    }
+
+    /// How many units there are: at most 2^31 - 1.
+    pub fn units(&self) -> u32
+        ensures units { result ≡ units_of self.now.family }
+        ensures instance { IsInstance self.now }
+    {
+        self.family.units()
+    }
+
+    /// Whether the cube is that of an event of the family. A listed family looks at each event.
+    pub fn is_event(&self, cube: &Cube) -> bool
+        ensures { IsTrue result ↔ HasEvent self.now.family cube.now }
+    {
+        self.family.is_event(cube)
+    }
+}

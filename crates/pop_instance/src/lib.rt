@@ -1,0 +1,17 @@
+//! Cubes, families of events, instances and cursors.
+//!
+//! Contracts see a cube as its pairs, events as numbered cubes, an instance as stacks with a family,
+//! an index as a list of places for each variable, and cursors as a list of numbers.
+#![tactic(auto)]
+
+mod cube;
+mod cursors;
+mod events;
+mod family;
+mod instance;
+
+pub use cube::Cube;
+pub use cursors::Cursors;
+pub use events::Events;
+pub use family::Family;
+pub use instance::Instance;
