@@ -1,2 +1,7 @@
 mod Gather
 mod Raising
+mod Parts
+mod Naming
+mod Tallies
+mod Puts
+mod Filled

@@ -25,7 +25,8 @@ unnamed_before e i x rising at =
     let var : (get_or (take i e) k d).0 ≡ slice_index (variables e) k = ap (λ (p : ℕ × ℕ). p.0) (is ∙ same) ∙ sym (variable_at e k within) in
     ne_eqb (get_or (take i e) k d).0 x.0 (λ equal. absurd (omega arith)))
 
-names_more : (e : Cube) (i v : ℕ) (x : ℕ × ℕ) → slice_get e i ≡ Some x → names (take (i + 1) e) v ≡ (names (take i e) v || (x.0 == v))
+-- one pair more names its variable
+pub names_more : (e : Cube) (i v : ℕ) (x : ℕ × ℕ) → slice_get e i ≡ Some x → names (take (i + 1) e) v ≡ (names (take i e) v || (x.0 == v))
 names_more e i v x at =
     list_any_more (λ (p : ℕ × ℕ). p.0 == v) e i x (slice_get_within e i x at)
     ∙ ap (λ (p : ℕ × ℕ). names (take i e) v || (p.0 == v)) (get_or_from_slice_get e i x x at)
@@ -34,7 +35,7 @@ names_more e i v x at =
 pub cursor_before : (c : List ℕ) (e : Cube) (i : ℕ) (x : ℕ × ℕ) → IsStrictlyIncreasing (variables e) → slice_get e i ≡ Some x → cursor (pop c (take i e)) x.0 ≡ cursor c x.0
 cursor_before c e i x rising at = cursor-pop_other c (take i e) x.0 (unnamed_before e i x rising at)
 
-or_false : (b : Bool) → (b || false) ≡ b
+pub or_false : (b : Bool) → (b || false) ≡ b
 or_false true = refl
 or_false false = refl
 

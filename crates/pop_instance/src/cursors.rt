@@ -141,7 +141,7 @@ fn has_next_at(entries: &[u32], stacks: &Stacks, cube: &Cube) -> bool
 }
 
 // Adds 1 at each variable of the cube.
-fn raise(entries: &mut [u32], cube: &Cube)
+pub(crate) fn raise(entries: &mut [u32], cube: &Cube)
     requires known { NamesBelow cube.now (length entries.old) }
     requires room { All (λ p. cursor entries.old p.0 < 2 ^ 31 - 1) cube.now }
     ensures { entries.new ≡ pop entries.old cube.now }

@@ -8,10 +8,12 @@ mod cube;
 mod cursors;
 mod events;
 mod family;
+mod index;
 mod instance;
 
 pub use cube::Cube;
 pub use cursors::Cursors;
 pub use events::Events;
 pub use family::Family;
+pub use index::Index;
 pub use instance::Instance;
