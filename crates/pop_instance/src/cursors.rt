@@ -1,7 +1,7 @@
 ghost use Rattle.std.specs.Prelude.{◌≡◌, ◌<◌, ◌+◌, ◌-◌, ◌^◌, ◌↔◌, length, replicate, IfOk, IsTrue, All};
 ghost use Rattle.pop_model.specs.Stacks.{variables_of, height_of, value_at};
 ghost use Rattle.pop_model.specs.Popping.{Occurs, HasNext, IsPoppable, cursor, pop, NamesBelow, AreWithin};
-ghost use Rattle.pop_stacks.specs.Spec.{Belongs};
+ghost use Rattle.pop_stacks.specs.Readers.{Belongs};
 
 use crate::Cube;
 use pop_stacks::{Reader, Stacks};
