@@ -2,7 +2,9 @@ mod Pieces
 mod Cutting
 mod ReadingOn
 pub mod LinesLemmas
+pub mod RefusalsLemmas
 pub mod GivenLines
+pub mod JudgedLines
 mod WordsLemmas
 mod NumbersLemmas
 mod Vectors

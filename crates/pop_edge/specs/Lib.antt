@@ -6,3 +6,4 @@ pub mod Numbers
 pub mod Refusals
 pub mod LineState
 pub mod Splitting
+pub mod Judging
