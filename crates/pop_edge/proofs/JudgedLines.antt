@@ -169,11 +169,11 @@ bad_line j Knows s t l m n line number e order i next same place takes end =
       })
     ]
 
--- a refused line is no fault of the source
-pub bad_line_is : (j : Judgement) (left : Option (List ℕ)) (e : ReadRefusal) → (e ≡ OutOfMemory) ⊎ IsRefused j left e
-    → e ≡ ReadFault → ⊥
-bad_line_is j left e (inl memory) fault = cc
-bad_line_is j left e (inr refused) fault = subst IsOfLine fault refused.kind
+-- a line is never refused as a fault of the source
+pub no_fault : (j : Judgement) (lines : List (ℕ × List (List ℕ))) (e : ReadRefusal) → IsInOrder j
+    → (e ≡ OutOfMemory) ⊎ (j.of_lines lines ≡ Some e) → e ≡ ReadFault → ⊥
+no_fault j lines e order (inl memory) fault = cc
+no_fault j lines e order (inr bad) fault = subst MayBeOfLine (bad ∙ ap (λ x. Some x) fault) (order.kinds lines)
 
 -- the refusal of a text that is too long, of whose judged lines none is refused
 too_long : (j : Judgement) (Knows : List (ℕ × List (List ℕ)) → Type 0) (s t : LineState) (l m n : Option (List ℕ))

@@ -1,0 +1,18 @@
+-- Formulas in conjunctive normal form.
+use Rattle.std.specs.Prelude.{ℕ, ◌+◌, ℤ, List, [], ◌∷◌, Option, None, Some}
+
+-- clauses are lists of literals as they are written: v for the variable v, from 1, and -v for its
+-- negation (DIMACS CNF)
+pub record Cnf : Type 0 where
+  pub variables : ℕ
+  pub clauses : List (List ℤ)
+
+-- the first clause without literals, where the first of all has the number n
+abbrev pub empty_in : ℕ → List (List ℤ) → Option ℕ
+empty_in n [] = None
+empty_in n ([] ∷ clauses) = Some n
+empty_in n ((l ∷ ls) ∷ clauses) = empty_in (n + 1) clauses
+
+-- the first clause without literals, from 0
+abbrev pub first_empty : Cnf → Option ℕ
+first_empty f = empty_in 0 f.clauses

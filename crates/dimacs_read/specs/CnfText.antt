@@ -1,0 +1,131 @@
+-- Texts in the DIMACS CNF format, and the first refusal of any other text. A bad place is named by a
+-- code: 1 and 4 for the header, 2 and 3 for a word behind it (this project's choice).
+use Rattle.std.specs.Prelude.{◌≡◌, ℕ, ◌+◌, ◌^◌, ℤ, nat_abs, Bool, true, false, not, ◌&&◌, ◌==◌, nat_lt, if◌then◌else◌, List, [], ◌∷◌, length, map, flat_map, count_by, take_while, Option, None, Some, option_map, option_and_then, bytes_eq, codes, Result, Ok, Err, ⊤}
+use Rattle.std.specs.List.{onto_first}
+use Rattle.std.specs.Option.{option_map_or}
+use Rattle.pop_edge.specs.declared.refusal.ReadRefusal.{ReadRefusal}
+use Rattle.pop_edge.specs.declared.refusal.ReadRefusal.TheVariants.{Malformed, Count, EmptyClause, ReadFault, OutOfMemory}
+use Rattle.pop_edge.specs.Lines.{lines_of, ended_lines}
+use Rattle.pop_edge.specs.Numbers.{number_of}
+use Rattle.pop_edge.specs.Refusals.{Fault, or_else, at_line, first_refusal}
+use Rattle.pop_edge.specs.Refusals.Fault.{Code, Passes}
+use Rattle.pop_edge.specs.Judging.{Judgement, told_lines, text_refusal}
+use Rattle.dimacs_read.specs.declared.token.Token.{Token}
+use Rattle.dimacs_read.specs.declared.token.Token.TheVariants.{Literal, End}
+use Rattle.dimacs_read.specs.Cnf.{Cnf, first_empty}
+use Rattle.dimacs_read.specs.Tokens.{token_of, is_literal, is_clause_end}
+
+-- the first byte of a line that isn't a blank is b, by the words of the line
+abbrev pub begins_with : ℕ → List (List ℕ) → Bool
+begins_with b [] = false
+begins_with b ([] ∷ words) = false
+begins_with b ((x ∷ xs) ∷ words) = x == b
+
+-- lines without words are passed over, and comments, which begin with `c`
+abbrev pub is_passed_over : List (List ℕ) → Bool
+is_passed_over [] = true
+is_passed_over (word ∷ words) = begins_with 99 (word ∷ words)
+
+-- what a header declares: how many variables, and how many clauses
+abbrev pub declared : List (List ℕ) → Option (ℕ × ℕ)
+declared (p ∷ cnf ∷ v ∷ c ∷ words) =
+    if bytes_eq p (codes "p") && bytes_eq cnf (codes "cnf")
+    then option_and_then (λ n. option_map (λ m. (n, m)) (number_of c)) (number_of v) else None
+declared _ = None
+
+abbrev pub variables_in : List (List ℕ) → ℕ
+variables_in header = option_map_or (λ d. d.0) (declared header) 0
+
+abbrev pub clauses_in : List (List ℕ) → ℕ
+clauses_in header = option_map_or (λ d. d.1) (declared header) 0
+
+-- what is wrong with a header of so many words that declares this, in this order
+abbrev pub declared_fault : ℕ → ℕ × ℕ → Option Fault
+declared_fault size d =
+    if nat_lt 4 size then Some (Code 4)
+    else if nat_lt (2 ^ 22) d.0 then Some (Passes 2)
+    else if nat_lt (2 ^ 22) d.1 then Some (Passes 3)
+    else None
+
+-- what is wrong with the first line that isn't passed over
+abbrev pub header_fault : List (List ℕ) → Option Fault
+header_fault words = option_map_or (declared_fault (length words)) (declared words) (Some (Code 1))
+
+-- each word of the lines behind the header, up to a line that begins with `%`, under the number of
+-- its line
+abbrev pub body : List (ℕ × List (List ℕ)) → List (ℕ × Option Token)
+body lines =
+    flat_map (λ line. map (λ word. (line.0, token_of word)) line.1)
+    (take_while (λ line. not (begins_with 37 line.1)) lines)
+
+-- what is wrong with a word behind these, in a text of so many variables; in this order
+abbrev pub token_fault : ℕ → List (Option Token) → Option Token → Option Fault
+token_fault variables before None = Some (Code 2)
+token_fault variables before (Some End) =
+    if nat_lt (count_by is_clause_end before) (2 ^ 22) then None else Some (Passes 3)
+token_fault variables before (Some (Literal l)) =
+    if nat_lt variables (nat_abs l) then Some (Code 3)
+    else if nat_lt (count_by is_clause_end before) (2 ^ 22)
+    then (if nat_lt (count_by is_literal before) (2 ^ 25) then None else Some (Passes 4))
+    else Some (Passes 3)
+
+-- the first refusal among lines: that of the header, or of the first bad word behind it
+abbrev pub line_refusal : List (ℕ × List (List ℕ)) → Option ReadRefusal
+line_refusal [] = None
+line_refusal (header ∷ lines) =
+    or_else (at_line header.0 (header_fault header.1))
+    (first_refusal (token_fault (variables_in header.1)) [] (body lines))
+
+-- each end closes a clause, and literals after the last end are a last clause
+abbrev pub clauses_of : List (Option Token) → List (List ℤ)
+clauses_of [] = []
+clauses_of (None ∷ tokens) = clauses_of tokens
+clauses_of (Some End ∷ tokens) = [] ∷ clauses_of tokens
+clauses_of (Some (Literal l) ∷ tokens) = onto_first l (clauses_of tokens)
+
+-- the formula that lines without a refusal spell
+abbrev pub formula_in : List (ℕ × List (List ℕ)) → Cnf
+formula_in [] = record { variables = 0; clauses = [] }
+formula_in (header ∷ lines) =
+    record {
+      variables = variables_in header.1;
+      clauses = clauses_of (map (λ word. word.1) (body lines));
+    }
+
+-- what stands against all lines of a text: there is no header, or the clauses aren't as many as
+-- declared
+abbrev pub whole_refusal : ℕ → List (ℕ × List (List ℕ)) → Option ReadRefusal
+whole_refusal line [] = Some (Malformed line 1)
+whole_refusal line (header ∷ lines) =
+    let found = length (formula_in (header ∷ lines)).clauses in
+    if clauses_in header.1 == found then None else Some (Count (clauses_in header.1) found)
+
+-- how the format judges a text
+abbrev pub cnf : Judgement
+cnf = record { passes_over = is_passed_over; of_lines = line_refusal; of_whole = whole_refusal }
+
+-- the lines that aren't passed over, by their words, each under its number; the first is the header
+abbrev pub cnf_lines : List (List ℕ) → List (ℕ × List (List ℕ))
+cnf_lines lines = told_lines cnf lines
+
+-- The first refusal of a text, in the order of the text. A text without one is that of a formula.
+abbrev pub cnf_refusal : List ℕ → Option ReadRefusal
+cnf_refusal text = text_refusal cnf text
+
+-- the formula of a text that has no refusal
+abbrev pub cnf_of : List ℕ → Cnf
+cnf_of text = formula_in (cnf_lines (lines_of text))
+
+-- what a reader answers to a text: its formula or its first refusal, and last the least number, from
+-- 1, of a clause without literals
+abbrev pub AnswersCnf : List ℕ → Result Cnf ReadRefusal → Type 0
+AnswersCnf text (Ok f) = (cnf_refusal text ≡ None) × (f ≡ cnf_of text) × (first_empty f ≡ None)
+AnswersCnf text (Err (EmptyClause n)) =
+    (cnf_refusal text ≡ None) × ((k : ℕ) × (n ≡ k + 1) × (first_empty (cnf_of text) ≡ Some k))
+AnswersCnf text (Err ReadFault) = ⊤
+AnswersCnf text (Err OutOfMemory) = ⊤
+AnswersCnf text (Err refusal) = cnf_refusal text ≡ Some refusal
+
+-- no line whose end was taken is refused
+abbrev pub HasNoBadLine : List ℕ → Type 0
+HasNoBadLine taken = line_refusal (cnf_lines (ended_lines taken)) ≡ None

@@ -1,0 +1,59 @@
+ghost use Rattle.std.specs.Prelude.{◌≡◌, ◌<◌, ◌^◌, length, map, IfOk, None};
+ghost use Rattle.dimacs_read.specs.Cnf.{first_empty};
+ghost use Rattle.dimacs_read.specs.Falsifying.{AreEventsOf, IsCubeOf, falsifier};
+
+use crate::Formula;
+use pop_instance::{Cube, Events};
+use std::alloc::{AllocError, Global};
+
+impl Formula {
+    /// The events of the formula, each under the number of its clause, from 1: clause k gives the cube
+    /// in which each of its variables has the value that falsifies its literal, 0 for a variable and 1
+    /// for a negated one. Variable x of the text is variable x - 1 of the cube. A repeated literal
+    /// counts once, a clause with a variable and its negation gives no event, and of equal cubes the
+    /// first is kept. No clause may be empty.
+    pub fn events(&self, alloc: Global) -> Result<Events, AllocError>
+        requires { first_empty self.now ≡ None }
+        ensures { IfOk result (λ events. AreEventsOf self.now.clauses events) }
+    {
+        let mut rows = Vec::new(alloc);
+        for i in 0..self.clauses() {
+            if let Some(cube) = cube_of(alloc, self.clause(i))? {
+                rows.push((i + 1, cube))?;
+            }
+        }
+        Events::gather(alloc, rows)
+    }
+}
+
+// The variable, from 0, and the value at which the literal is false.
+fn falsifier_of(literal: i32) -> (u32, u32)
+    ensures { result ≡ falsifier literal }
+{
+    let variable = literal.unsigned_abs().saturating_sub(1);
+    if literal < 0 {
+        return (variable, 1);
+    }
+    (variable, 0)
+}
+
+fn pairs_of(alloc: Global, literals: &[i32]) -> Result<Vec<(u32, u32)>, AllocError>
+    ensures { IfOk result (λ pairs. pairs.items ≡ map falsifier literals.now) }
+{
+    literals.iter().map(|l| falsifier_of(*l)).collect(alloc)
+}
+
+// The cube of a clause, where it has one. Once equal pairs are gone, the variables rise unless one of
+// them has both values.
+fn cube_of(alloc: Global, literals: &[i32]) -> Result<Option<Cube>, AllocError>
+    requires { length literals.now < 2 ^ 31 }
+    ensures { IfOk result (IsCubeOf literals.now) }
+{
+    let mut pairs = pairs_of(alloc, literals)?;
+    pairs.sort_unstable();
+    pairs.dedup();
+    match Cube::new(pairs) {
+        None => Ok(None),
+        Some(cube) => Ok(Some(cube)),
+    }
+}

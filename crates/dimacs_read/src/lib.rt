@@ -1,0 +1,17 @@
+//! Formulas from DIMACS CNF text, and the events of a formula: one for each clause, which occurs
+//! where the clause is false. Contracts see a formula as its number of variables and the literals of
+//! each clause.
+#![tactic(auto)]
+
+mod clauses;
+mod events;
+mod finish;
+mod formula;
+mod header;
+pub mod laws;
+mod read;
+mod reader;
+mod token;
+
+pub use formula::Formula;
+pub use read::read_formula;
