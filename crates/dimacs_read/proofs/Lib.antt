@@ -4,4 +4,6 @@ pub mod TakenWords
 pub mod TakenLines
 pub mod FinishedText
 pub mod AnsweredText
+pub mod CubesOfClauses
+pub mod EventsOfClauses
 mod Vectors

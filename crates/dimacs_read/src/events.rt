@@ -54,6 +54,10 @@ fn cube_of(alloc: Global, literals: &[i32]) -> Result<Option<Cube>, AllocError>
     pairs.dedup();
     match Cube::new(pairs) {
         None => Ok(None),
-        Some(cube) => Ok(Some(cube)),
+        Some(cube) => {
+            // Read for its contract, which says that the variables of a cube rise.
+            let _count = cube.len();
+            Ok(Some(cube))
+        }
     }
 }

@@ -11,6 +11,8 @@ mod header;
 pub mod laws;
 mod read;
 mod reader;
+#[cfg(test)]
+mod tests;
 mod token;
 
 pub use formula::Formula;

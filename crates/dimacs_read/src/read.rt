@@ -1,7 +1,8 @@
-ghost use Rattle.std.specs.Prelude.{◌≡◌, ◌≤◌, ℕ, List, Some, Err, OnOk};
+ghost use Rattle.std.specs.Prelude.{◌≡◌, ◌≤◌, ℕ, List, None, Some, Err, IfOk, OnOk};
 ghost use Rattle.std.specs.Io.KnownBytes.{Consumes, IsAtEnd};
 ghost use Rattle.pop_model.specs.Faults.{Rose};
 ghost use Rattle.pop_edge.specs.declared.refusal.ReadRefusal.TheVariants.{ReadFault};
+ghost use Rattle.dimacs_read.specs.Cnf.{first_empty};
 ghost use Rattle.dimacs_read.specs.CnfText.{AnswersCnf, HasNoBadLine};
 
 use crate::Formula;
@@ -25,6 +26,7 @@ use std::alloc::Global;
 pub fn read_formula<S: Source>(alloc: Global, source: &mut S) -> Result<Formula, ReadRefusal>
     ensures text { (text : List ℕ) → S.left source.old ≡ Some text → AnswersCnf text result }
     ensures whole { OnOk result (IsAtEnd (S.left source.new)) }
+    ensures no_empty { IfOk result (λ formula. first_empty formula ≡ None) }
 
     ensures later { S.faults source.old ≤ S.faults source.new }
     ensures fault { result ≡ Err ReadFault → Rose (S.faults source.old) (S.faults source.new) }
