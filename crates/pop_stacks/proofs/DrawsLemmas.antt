@@ -120,7 +120,8 @@ drawn sums number m place some rising is within above least =
 product_parts : (low high total q r : ℕ) → q * 2 ^ 32 + r ≡ low * total
     → (low + 2 ^ 32 * high) * total ≡ 2 ^ 32 * (high * total + q) + r
 product_parts low high total q r split =
-    let spread : (low + 2 ^ 32 * high) * total ≡ low * total + 2 ^ 32 * high * total = add-mul low (2 ^ 32 * high) total in
+    let spread : (low + 2 ^ 32 * high) * total ≡ low * total + 2 ^ 32 * high * total =
+    add-mul low (2 ^ 32 * high) total in
     let moved : 2 ^ 32 * high * total ≡ 2 ^ 32 * (high * total) = mul_assoc (2 ^ 32) high total in
     omega (arith, spread, moved, split)
 
@@ -131,7 +132,8 @@ scaled-halves low high total =
     let q = low * total / 2 ^ 32 in
     let r = low * total % 2 ^ 32 in
     let whole : q * 2 ^ 32 + r ≡ low * total = div-add-mod' (low * total) (2 ^ 32) in
-    let parts : (low + 2 ^ 32 * high) * total ≡ 2 ^ 32 * (high * total + q) + r = product_parts low high total q r whole in
+    let parts : (low + 2 ^ 32 * high) * total ≡ 2 ^ 32 * (high * total + q) + r =
+    product_parts low high total q r whole in
     let small : r < 2 ^ 32 = omega arith in
     let inner : (low + 2 ^ 32 * high) * total / 2 ^ 32 ≡ high * total + q = omega (arith, parts, small) in
     sym (shr-shr ((low + 2 ^ 32 * high) * total) 32 32) ∙ ap (λ n. n / 2 ^ 32) inner
@@ -139,7 +141,8 @@ scaled-halves low high total =
 -- a number below 2 ^ 64 is scaled below the total
 pub scaled_below : (number total : ℕ) → number < 2 ^ 64 → 0 < total → scaled number total < total
 scaled_below number total small some =
-    let most : number * total ≤ (2 ^ 64 - 1) * total = mul-le number total (2 ^ 64 - 1) total (omega arith) (omega arith) in
+    let most : number * total ≤ (2 ^ 64 - 1) * total =
+    mul-le number total (2 ^ 64 - 1) total (omega arith) (omega arith) in
     omega (arith, most)
 
 -- of two values of weight 1 the top bit of the number chooses

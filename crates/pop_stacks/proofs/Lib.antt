@@ -2,4 +2,5 @@ mod RowsLemmas
 mod DrawsLemmas
 mod SumsInPlace
 mod WeightsBySums
+mod KeyedEntries
 mod ValueIsLeast

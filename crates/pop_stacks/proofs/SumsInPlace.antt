@@ -115,7 +115,8 @@ pub rows_next : {A : Type 0} (now : List (Vec ℕ A)) (rows : List (List ℕ)) (
     → AreAccumulated rows v (lists_of now) → v < length rows → x.items ≡ running 0 (row_of rows v)
     → sum (row_of rows v) < 2 ^ 32 → AreAccumulated rows (v + 1) (lists_of (set now v x))
 rows_next now rows v x so_far within sums light = record {
-  written = map-set (λ v. v.items) now v x ∙ ap₂ (λ ys y. set ys v y) so_far.written sums ∙ rw add-one (rows_turn rows v within);
+  written = map-set (λ v. v.items) now v x ∙ ap₂ (λ ys y. set ys v y) so_far.written sums
+      ∙ rw add-one (rows_turn rows v within);
   light = below_more _ _ so_far.light light;
 }
 
@@ -131,5 +132,6 @@ pub heavy_is_least : (rows : List (List ℕ)) (v : ℕ) (now : List (List ℕ)) 
     → (sum (row_of rows v) < 2 ^ 32 → ⊥) → IsLeast (IsTooHeavy rows) v
 heavy_is_least rows v now so_far within heavy = record {
   holds = (within, elim (cases_lt (sum (row_of rows v)) (2 ^ 32)) [ inl light ↦ absurd (heavy light) | inr far ↦ far ]);
-  none_before = λ w less too_heavy. let light = so_far.light w less in let far = too_heavy.1 in omega (arith, light, far);
+  none_before = λ w less too_heavy. let light = so_far.light w less in let far =
+      too_heavy.1 in omega (arith, light, far);
 }

@@ -1,4 +1,7 @@
--- The value that weights give is the least j such that the weights 0 to j together exceed m.
+-- The value that weights give is the least j such that the weights 0 to j together exceed m, where
+-- m is below their sum: where the first weight exceeds m the value is 0, and else it is 1 more than
+-- the value that the others give for what is left of m. The scaled number of an entry is below the
+-- sum, since the number is below 2 ^ 64.
 use Rattle.std.proofs.Common.{inl, inr, ◌≡◌, ℕ, zero, suc, ◌+◌, ◌-◌, ◌*◌, ◌^◌, ◌<◌, ◌≤◌, cond, List, [], ◌∷◌, take, sum, sym, ap, subst, arith}
 use Rattle.std.proofs.lemmas.Bool.{cases_lt, lt-ltb, le-ltb}
 use Rattle.rand_chacha.specs.Block.{block_word}
@@ -8,7 +11,7 @@ use Rattle.pop_model.specs.Places.{IsLeast}
 use Rattle.pop_stacks.specs.Laws.{Exceed, ValueIsLeast}
 use Rattle.pop_stacks.proofs.DrawsLemmas.{sum-cons, scaled_below}
 
--- one weight more in front
+-- with one weight more in front the weights exceed as much more, one place later
 exceed_behind : (w : ℕ) (weights : List ℕ) (m j : ℕ) → w ≤ m → Exceed weights (m - w) j → Exceed (w ∷ weights) m (suc j)
 exceed_behind w weights m j le exceed =
     let split : sum (w ∷ take (suc j) weights) ≡ w + sum (take (suc j) weights) = sum-cons w (take (suc j) weights) in
@@ -26,12 +29,14 @@ first_exceeds w weights m exceed =
 
 none_before_behind : (w : ℕ) (weights : List ℕ) (m n : ℕ) → w ≤ m → ((j : ℕ) → j < n → Exceed weights (m - w) j → ⊥)
     → (j : ℕ) → j < suc n → Exceed (w ∷ weights) m j → ⊥
-none_before_behind w weights m n le none zero less exceed = let here = first_exceeds w weights m exceed in omega (arith, here, le)
+none_before_behind w weights m n le none zero less exceed =
+    let first : m < w = first_exceeds w weights m exceed in omega (arith, first, le)
 none_before_behind w weights m n le none (suc j) less exceed =
     none j (omega arith) (exceed_before w weights m j le exceed)
 
 -- below the sum of the weights the value is the least
-pub first_above_is_least : (weights : List ℕ) (m : ℕ) → m < sum weights → IsLeast (Exceed weights m) (first_above weights m)
+pub first_above_is_least : (weights : List ℕ) (m : ℕ) → m < sum weights
+    → IsLeast (Exceed weights m) (first_above weights m)
 first_above_is_least [] m below = absurd (omega arith)
 first_above_is_least (w ∷ weights) m below = elim (cases_lt m w) [
   | inl here ↦
@@ -68,5 +73,6 @@ number_fits key v k = omega (arith, word_fits key v (2 * k), word_fits key v (2 
 pub value_is_least : ValueIsLeast
 value_is_least key height weights v k some =
     let total = sum (row_of weights v) in
-    let below : scaled (number_at key v k) total < total = scaled_below (number_at key v k) total (number_fits key v k) some in
+    let below : scaled (number_at key v k) total < total =
+    scaled_below (number_at key v k) total (number_fits key v k) some in
     first_above_is_least (row_of weights v) (scaled (number_at key v k) total) below

@@ -1,12 +1,15 @@
 -- What kept running sums say of the weights. Each row of sums gives back its row of weights by its
 -- differences; it is as long, it isn't empty, and it rises. Of pairs of weights 1 the sums are 1
 -- and 2 for each variable.
-use Rattle.std.proofs.Common.{lit<, ◌≡◌, ℕ, zero, suc, ◌<◌, ◌^◌, List, [], ◌∷◌, length, get_or, map, replicate, refl, sym, ap, ◌∙◌, arith, All, Vec}
+use Rattle.std.proofs.Common.{◌≡◌, ℕ, zero, suc, ◌<◌, ◌^◌, List, [], ◌∷◌, length, get_or, map, replicate, refl, sym, ap, subst, ◌∙◌, arith, All, Vec}
 use Rattle.std.proofs.lemmas.List.{length-map, get_or-map, length-replicate, get_or-replicate}
 use Rattle.pop_model.specs.Stacks.{row_of}
 use Rattle.pop_stacks.specs.Rows.{lists_of, AreWeights}
 use Rattle.pop_stacks.specs.Draws.{running, differences, RisesFrom, AreRunning}
-use Rattle.pop_stacks.specs.Faults.{AreLight}
+use Rattle.pop_stacks.specs.Sums.{sums_of}
+use Rattle.pop_stacks.specs.declared.sums.KeptSums.{KeptSums}
+use Rattle.pop_stacks.specs.declared.sums.KeptSums.TheVariants.{Pairs, Rows}
+use Rattle.std.specs.declared.alloc.Global.{Global}
 use Rattle.pop_stacks.proofs.RowsLemmas.{length-lists_of, list_at, row_has}
 use Rattle.pop_stacks.proofs.DrawsLemmas.{length-running, length-differences, differences-running, rises-running}
 
@@ -44,14 +47,6 @@ pub pairs_again : (n : ℕ) → map (differences 0) (replicate n (1 ∷ 2 ∷ []
 pairs_again zero = refl
 pairs_again (suc n) = ap (λ ys. (1 ∷ 1 ∷ []) ∷ ys) (pairs_again n)
 
--- pairs of weights 1 are light
-pub light_pairs : (n : ℕ) → AreLight (replicate n (1 ∷ 1 ∷ []))
-light_pairs n v below =
-    let row : List ℕ = 1 ∷ 1 ∷ [] in
-    let size : length (replicate n row) ≡ n = length-replicate n row in
-    let is : row_of (replicate n row) v ≡ row = get_or-replicate n v row [] (omega arith) in
-    rw is (lit< tt)
-
 -- what a row of sums says of the weights of its variable
 pub record IsSumsAt (weights : List (List ℕ)) (v : ℕ) (sums : List ℕ) : Type 0 where
   pub row : row_of weights v ≡ differences 0 sums
@@ -61,32 +56,36 @@ pub record IsSumsAt (weights : List (List ℕ)) (v : ℕ) (sums : List ℕ) : Ty
   pub rising : RisesFrom 0 sums
 
 -- a row of sums that was read is the one of its variable
-pub sums_at : {A : Type 0} (weights : List (List ℕ)) (rows : List (Vec ℕ A)) (v : ℕ) (x : Vec ℕ A)
-    → map (differences 0) (lists_of rows) ≡ weights → AreRunning (lists_of rows) → v < length weights
-    → x ≡ get_or rows v x → IsSumsAt weights v x.items
-sums_at weights rows v x view are below read =
-    let mapped : length (map (differences 0) (lists_of rows)) ≡ length (lists_of rows) =
-    length-map (lists_of rows) (differences 0) in
-    let listed : length (lists_of rows) ≡ length rows = length-lists_of rows in
-    let within : v < length rows = omega (arith, ap length view, mapped, listed, below) in
-    let inside : v < length (lists_of rows) = omega arith in
+pub sums_at : (weights : List (List ℕ)) (kept : KeptSums) (rows : Vec (Vec ℕ Global) Global) (v : ℕ)
+    (x : Vec ℕ Global) → kept ≡ Rows rows → map (differences 0) (sums_of kept) ≡ weights
+    → AreRunning (sums_of kept) → v < length weights → x ≡ get_or rows.items v x → IsSumsAt weights v x.items
+sums_at weights kept rows v x is view running below read =
+    let shown : map (differences 0) (lists_of rows.items) ≡ weights =
+    ap (λ k. map (differences 0) (sums_of k)) (sym is) ∙ view in
+    let are : AreRunning (lists_of rows.items) = subst (λ k. AreRunning (sums_of k)) is running in
+    let mapped : length (map (differences 0) (lists_of rows.items)) ≡ length (lists_of rows.items) =
+    length-map (lists_of rows.items) (differences 0) in
+    let listed : length (lists_of rows.items) ≡ length rows.items = length-lists_of rows.items in
+    let within : v < length rows.items = omega (arith, ap length shown, mapped, listed, below) in
+    let inside : v < length (lists_of rows.items) = omega arith in
     let row : row_of weights v ≡ differences 0 x.items =
-    ap (λ ws. row_of ws v) (sym view) ∙ get_or-map (differences 0) (lists_of rows) v [] [] inside
-    ∙ ap (differences 0) (list_at rows v x [] within read) in
+    ap (λ ws. row_of ws v) (sym shown) ∙ get_or-map (differences 0) (lists_of rows.items) v [] [] inside
+    ∙ ap (differences 0) (list_at rows.items v x [] within read) in
     record {
       row = row;
       size = ap length row ∙ length-differences 0 x.items;
-      some = row_has (λ row. 0 < length row) rows v x within read are.some;
-      short = row_has (λ row. length row < 2 ^ 31) rows v x within read are.short.each;
-      rising = row_has (λ row. RisesFrom 0 row) rows v x within read are.rising;
+      some = row_has (λ row. 0 < length row) rows.items v x within read are.some;
+      short = row_has (λ row. length row < 2 ^ 31) rows.items v x within read are.short.each;
+      rising = row_has (λ row. RisesFrom 0 row) rows.items v x within read are.rising;
     }
 
 -- the weights of a variable by pairs of sums
-pub pair_at : (weights : List (List ℕ)) (n v : ℕ) → map (differences 0) (replicate n (1 ∷ 2 ∷ [])) ≡ weights
-    → v < length weights → row_of weights v ≡ 1 ∷ 1 ∷ []
-pair_at weights n v view below =
+pub pair_at : (weights : List (List ℕ)) (kept : KeptSums) (n v : ℕ) → kept ≡ Pairs n
+    → map (differences 0) (sums_of kept) ≡ weights → v < length weights → row_of weights v ≡ 1 ∷ 1 ∷ []
+pair_at weights kept n v kept_is view below =
     let row : List ℕ = 1 ∷ 1 ∷ [] in
-    let is : weights ≡ replicate n row = sym view ∙ pairs_again n in
+    let is : weights ≡ replicate n row =
+    sym view ∙ ap (λ k. map (differences 0) (sums_of k)) kept_is ∙ pairs_again n in
     let size : length (replicate n row) ≡ n = length-replicate n row in
     let within : v < n = omega (arith, ap length is, size, below) in
     ap (λ ws. row_of ws v) is ∙ get_or-replicate n v row [] within

@@ -57,6 +57,7 @@ IsCause (Given rows) weights (EmptyRow v) =
     (length rows ≡ length weights) × IsLeast (IsEmptyRow rows) v
 IsCause (Given rows) weights (ValueTooLarge v k) =
     (length rows ≡ length weights) × HaveEntries rows × IsLeastPair (IsTooLarge rows weights) v k
-IsCause origin weights (WeightSum v) = HasSoundRows origin weights × IsLeast (IsTooHeavy weights) v
+IsCause origin weights (WeightSum v) =
+    HasSoundRows origin weights × IsLeast (IsTooHeavy weights) v
 -- a key has no rows, and no memory is taken
 IsCause origin weights fault = ⊥

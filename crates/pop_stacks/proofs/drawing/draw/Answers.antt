@@ -9,5 +9,6 @@ scale-requires c =
 
 pub returns-clause-value : goal.returns-clause-value
 returns-clause-value c =
-    drawn c.args.sums.now (c.args.low + 2 ^ 32 * c.args.high) c.scale.result c.first_above.result c.requires.some c.requires.rising c.scale.ensures.scaled
+    drawn c.args.sums.now (c.args.low + 2 ^ 32 * c.args.high) c.scale.result c.first_above.result
+    c.requires.some c.requires.rising c.scale.ensures.scaled
     c.first_above.ensures.within c.first_above.ensures.above c.first_above.ensures.least

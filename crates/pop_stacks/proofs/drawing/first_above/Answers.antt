@@ -9,4 +9,10 @@ loop-low-preserved-then-sums-middle c =
     let sums = c.args.sums.now in
     let middle = low + (high - low) / 2 in
     let here : get_or sums middle 0 ≤ c.args.m = c.if-sums-middle.true in
-    (omega arith, c.loop-low.invariant.1, c.loop-low.invariant.2, λ k h. omega (arith, rises_between 0 sums k middle c.requires.rising (omega arith) (omega arith), here))
+    record {
+      ordered = omega arith;
+      within = c.loop-low.invariant.within;
+      above = c.loop-low.invariant.above;
+      below = λ k less.
+          omega (arith, rises_between 0 sums k middle c.requires.rising (omega arith) (omega arith), here);
+    }

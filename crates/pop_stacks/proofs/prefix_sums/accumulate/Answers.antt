@@ -5,8 +5,8 @@ use Rattle.pop_stacks.proofs.prefix_sums.accumulate.Goals as goal
 
 pub loop-x-preserved : goal.loop-x-preserved
 loop-x-preserved c =
-    summed_turn c.args.row.now c.loop-x.x-index c.loop-x.row c.loop-x.total c.in-Some.sum c.loop-x.invariant (omega arith)
-    c.in-Some.ensures.1 (omega (arith, c.in-Some.ensures.0))
+    summed_turn c.args.row.now c.loop-x.x-index c.loop-x.row c.loop-x.total c.in-Some.sum c.loop-x.invariant
+    (omega arith) c.in-Some.ensures.1 (omega (arith, c.in-Some.ensures.0))
 
 pub returns-in_default-clause-light : goal.returns-in_default-clause-light
 returns-in_default-clause-light c =
@@ -20,8 +20,10 @@ returns-in_default-clause-light c =
     (λ h. absurd (false≢true h), λ h. absurd (omega arith))
 
 pub returns-clause-sums : goal.returns-clause-sums
-returns-clause-sums c = (all_summed c.args.row.now c.loop-x.x-index c.loop-x.row c.loop-x.total c.loop-x.invariant (omega arith)).0
+returns-clause-sums c =
+    (all_summed c.args.row.now c.loop-x.x-index c.loop-x.row c.loop-x.total c.loop-x.invariant (omega arith)).0
 
 pub returns-clause-light : goal.returns-clause-light
 returns-clause-light c =
-    (λ h. (all_summed c.args.row.now c.loop-x.x-index c.loop-x.row c.loop-x.total c.loop-x.invariant (omega arith)).1, λ h. refl)
+    let all = all_summed c.args.row.now c.loop-x.x-index c.loop-x.row c.loop-x.total c.loop-x.invariant (omega arith) in
+    (λ h. all.1, λ h. refl)

@@ -14,18 +14,24 @@ returns-then-not-accumulate-clause-heavy c =
     let rows = lists_of c.args.rows.now.items in
     let within : c.loop-v.v < length rows = omega (arith, length-lists_of c.args.rows.now.items, c.len-v-end.ensures) in
     let row : c.deref_mut.result.now ≡ row_of rows c.loop-v.v =
-    c.deref_mut.ensures.value ∙ row_read c.loop-v.rows.items rows c.loop-v.v c.index_mut-row.result.now c.loop-v.invariant within c.index_mut-row.ensures.value in
+    c.deref_mut.ensures.value
+    ∙ row_read c.loop-v.rows.items rows c.loop-v.v c.index_mut-row.result.now c.loop-v.invariant within
+    c.index_mut-row.ensures.value in
     heavy_is_least rows c.loop-v.v (lists_of c.loop-v.rows.items) c.loop-v.invariant within
-    (λ light. false≢true (sym c.if-not-accumulate.true ∙ c.accumulate.ensures.light.1 (subst (λ ys. sum ys < 2 ^ 32) (sym row) light)))
+    (λ light. false≢true (sym c.if-not-accumulate.true
+    ∙ c.accumulate.ensures.light.1 (subst (λ ys. sum ys < 2 ^ 32) (sym row) light)))
 
 pub loop-v-preserved : goal.loop-v-preserved
 loop-v-preserved c =
     let rows = lists_of c.args.rows.now.items in
     let within : c.loop-v.v < length rows = omega (arith, length-lists_of c.args.rows.now.items, c.len-v-end.ensures) in
     let row : c.deref_mut.result.now ≡ row_of rows c.loop-v.v =
-    c.deref_mut.ensures.value ∙ row_read c.loop-v.rows.items rows c.loop-v.v c.index_mut-row.result.now c.loop-v.invariant within c.index_mut-row.ensures.value in
+    c.deref_mut.ensures.value
+    ∙ row_read c.loop-v.rows.items rows c.loop-v.v c.index_mut-row.result.now c.loop-v.invariant within
+    c.index_mut-row.ensures.value in
     let sums : (with_items c.index_mut-row.result.now c.accumulate.new.row).items ≡ running 0 (row_of rows c.loop-v.v) =
     with_items_is c.index_mut-row.result.now c.accumulate.new.row (c.accumulate.auto.row ∙ c.deref_mut.ensures.len)
     ∙ c.if-not-accumulate.ensures.sums ∙ ap (running 0) row in
-    rows_next c.loop-v.rows.items rows c.loop-v.v (with_items c.index_mut-row.result.now c.accumulate.new.row) c.loop-v.invariant within sums
+    rows_next c.loop-v.rows.items rows c.loop-v.v (with_items c.index_mut-row.result.now c.accumulate.new.row)
+    c.loop-v.invariant within sums
     (subst (λ ys. sum ys < 2 ^ 32) row (c.accumulate.ensures.light.0 c.if-not-accumulate.false))
