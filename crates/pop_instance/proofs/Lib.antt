@@ -1,3 +1,5 @@
+mod Order
+mod Seen
 mod Gather
 mod Raising
 mod Parts

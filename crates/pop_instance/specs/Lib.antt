@@ -1,3 +1,4 @@
+pub mod Cubes
 pub mod Events
 pub mod Gathering
 pub mod Family

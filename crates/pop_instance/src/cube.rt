@@ -1,14 +1,18 @@
-ghost use Rattle.std.specs.Prelude.{◌≡◌, ◌<◌, ◌^◌, ◌↔◌, length, slice_get, Some, IfOk, IsTrue, MatchOption, ◌==◌, ◌&&◌};
-ghost use Rattle.std.specs.Cmp.Lexicographic.{slice_cmp, pointwise};
+ghost use Rattle.std.specs.Prelude.{◌≡◌, ◌<◌, ◌^◌, ◌↔◌, length, slice_get, Some, IfOk, IsTrue, MatchOption, refl};
+ghost use Rattle.std.specs.Cmp.{partial_equiv_from_equiv, partial_order_from_agreeing_total};
+ghost use Rattle.std.specs.Ordering.{as_partial_cmp, eq_by_cmp};
+ghost use Rattle.std.proofs.lemmas.Cmp.{eq_by_cmp_equiv};
 ghost use Rattle.std.specs.List.Sorted.{IsStrictlyIncreasing};
 ghost use Rattle.pop_model.specs.Popping.{IsCube, variables, names};
 ghost use Rattle.pop_model.specs.Extremal.{Share};
+ghost use Rattle.pop_instance.specs.Cubes.{cube_cmp, cube_total};
 
 use std::alloc::{AllocError, Global};
+use std::cmp::Ordering;
 use std::marker::Model;
 
-/// What an event demands: pairs of a variable and the value that it is to have. There is at least one
-/// pair, and the variables rise. Variables and values count from 0.
+/// What an event demands: pairs of a variable and the value that it is to have. There is at least
+/// one pair, and the variables rise. Variables and values count from 0.
 #[derive(Drop)]
 pub struct Cube {
     pairs: Vec<(u32, u32)>,
@@ -26,8 +30,8 @@ impl Model for Cube {
 }
 
 impl Cube {
-    /// The cube of these pairs, at most 2^31 - 1. None exactly where there is no pair or the variables
-    /// don't rise strictly.
+    /// The cube of these pairs, at most 2^31 - 1. None exactly where there is no pair or the
+    /// variables don't rise strictly.
     pub fn new(pairs: Vec<(u32, u32)>) -> Option<Cube>
         requires short { length pairs.items < 2 ^ 31 }
         ensures { MatchOption result (IsCube pairs.items → ⊥) (λ cube. cube ≡ pairs.items) }
@@ -62,13 +66,6 @@ impl Cube {
         share(&self.pairs, &other.pairs)
     }
 
-    /// Whether two cubes have the same pairs.
-    pub fn equals(&self, other: &Cube) -> bool
-        ensures { IsTrue result ↔ (self.now ≡ other.now) }
-    {
-        self.pairs.as_slice() == other.pairs.as_slice()
-    }
-
     /// An equal cube.
     pub fn copy(&self, alloc: Global) -> Result<Cube, AllocError>
         ensures { IfOk result (λ cube. cube ≡ self.now) }
@@ -76,6 +73,48 @@ impl Cube {
         Ok(Cube {
             pairs: Vec::from_slice(alloc, &self.pairs)?,
         })
+    }
+}
+
+impl PartialEq for Cube {
+    ghost eq = { eq_by_cmp cube_cmp };
+
+    ghost laws = { partial_equiv_from_equiv (eq_by_cmp_equiv cube_total) };
+
+    fn eq(&self, other: &Cube) -> bool
+        ensures value { result ≡ eq_by_cmp cube_cmp self.now other.now }
+        ensures same { IsTrue result ↔ (self.now ≡ other.now) }
+    {
+        self.cmp(other).is_eq()
+    }
+}
+
+impl Eq for Cube {
+    ghost laws = { eq_by_cmp_equiv cube_total };
+}
+
+impl PartialOrd for Cube {
+    ghost partial_cmp = { as_partial_cmp cube_cmp };
+
+    ghost laws = { partial_order_from_agreeing_total cube_cmp cube_total (λ x y. refl) (λ x y. refl) };
+
+    fn partial_cmp(&self, other: &Cube) -> Option<Ordering> {
+        Some(self.cmp(other))
+    }
+}
+
+// Cubes are ordered as lists of pairs, and these by variable, then by value.
+impl Ord for Cube {
+    ghost cmp = { cube_cmp };
+
+    ghost total = { cube_total };
+
+    ghost matches_partial_cmp = { λ x y. refl };
+
+    ghost matches_eq = { λ x y. refl };
+
+    fn cmp(&self, other: &Cube) -> Ordering {
+        self.pairs.as_slice().cmp(other.pairs.as_slice())
     }
 }
 
@@ -108,4 +147,46 @@ fn share(pairs: &[(u32, u32)], others: &[(u32, u32)]) -> bool
         }
     }
     false
+}
+
+#[cfg(test)]
+mod tests {
+    use super::*;
+    use std::process::Abort;
+    use std::test::Fail;
+
+    // The cube of a few pairs, if there is one.
+    fn cube(rt: &impl Abort, alloc: Global, pairs: &[(u32, u32)]) -> Result<Option<Cube>, Fail> {
+        assert!(rt; pairs.len() < 9);
+        Ok(Cube::new(Vec::from_slice(alloc, pairs)?))
+    }
+
+    #[test]
+    fn a_cube_has_pairs_and_its_variables_rise_strictly(rt: HostRuntime) -> Result<(), Fail> {
+        let alloc = rt.alloc();
+        assert!(&rt; cube(&rt, alloc, &[])?.is_none(), "no pair");
+        assert!(&rt; cube(&rt, alloc, &[(7, 0)])?.is_some(), "one pair");
+        assert!(&rt;
+            cube(&rt, alloc, &[(0, 1), (3, 0), (4, 0)])?.is_some(),
+            "gaps"
+        );
+        assert!(&rt; cube(&rt, alloc, &[(3, 0), (1, 0)])?.is_none(), "falling");
+        assert!(&rt;
+            cube(&rt, alloc, &[(0, 0), (2, 0), (2, 1)])?.is_none(),
+            "a variable twice"
+        );
+        Ok(())
+    }
+
+    #[test]
+    fn cubes_are_ordered_as_lists_of_pairs(rt: HostRuntime) -> Result<(), Fail> {
+        let alloc = rt.alloc();
+        let low = cube(&rt, alloc, &[(0, 1)])?.expect(&rt, "a cube");
+        let longer = cube(&rt, alloc, &[(0, 1), (1, 0)])?.expect(&rt, "a cube");
+        let high = cube(&rt, alloc, &[(0, 2)])?.expect(&rt, "a cube");
+        assert!(&rt; low < longer && longer < high && high.copy(alloc)? == high);
+        assert!(&rt; low.shares(&high));
+        assert!(&rt; !high.shares(&cube(&rt, alloc, &[(1, 2)])?.expect(&rt, "a cube")));
+        Ok(())
+    }
 }

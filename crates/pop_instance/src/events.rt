@@ -2,14 +2,15 @@ ghost use Rattle.std.specs.Prelude.{◌≡◌, ◌<◌, ◌^◌, ◌↔◌, leng
 ghost use Rattle.std.specs.List.Sorted.{IsStrictlyIncreasing};
 ghost use Rattle.pop_model.specs.Families.{AreEvents};
 ghost use Rattle.pop_instance.specs.Events.{cube_at, event_number, HasCube};
-ghost use Rattle.pop_instance.specs.Gathering.{KeepsFirst, KeepsNew};
+ghost use Rattle.pop_instance.specs.Gathering.{AreSeen, KeepsFirst, KeepsNew};
 
 use crate::Cube;
 use std::alloc::{AllocError, Global};
+use std::collections::BTreeSet;
 use std::marker::Model;
 
-/// Cubes that differ from one another, under rising numbers. A number is what is printed of an event;
-/// its place, which counts from 0, is its unit.
+/// Cubes that differ from one another, under rising numbers. An event is printed by its number; its
+/// place, which counts from 0, is its unit.
 #[derive(Drop)]
 pub struct Events {
     rows: Vec<(u32, Cube)>,
@@ -27,15 +28,17 @@ impl Model for Events {
 }
 
 impl Events {
-    /// The events of these rows, at most 2^31 - 1: of equal cubes the first is kept, under its number.
+    /// The events of these rows, at most 2^31 - 1. Of equal cubes the first is kept, under its
+    /// number; they are found by order, in time n log n for n rows.
     pub fn gather(alloc: Global, rows: Vec<(u32, Cube)>) -> Result<Events, AllocError>
         requires rising { IsStrictlyIncreasing (map (λ r. r.0) rows.items) }
         requires short { length rows.items < 2 ^ 31 }
         ensures { IfOk result (KeepsFirst rows.items) }
     {
+        let mut seen = BTreeSet::new(alloc);
         let mut kept = Vec::new(alloc);
         for row in rows {
-            keep_new(&mut kept, row)?;
+            keep_new(alloc, &mut seen, &mut kept, row)?;
         }
         Ok(Events { rows: kept })
     }
@@ -78,7 +81,8 @@ fn has_cube(rows: &[(u32, Cube)], cube: &Cube) -> bool
     ensures { IsTrue result ↔ HasCube rows.now cube.now }
 {
     for (_, other) in rows {
-        if other.equals(cube) {
+        // The clause `same` is that of the method; `==` has only the trait's.
+        if other.eq(cube) {
             return true;
         }
     }
@@ -86,12 +90,58 @@ fn has_cube(rows: &[(u32, Cube)], cube: &Cube) -> bool
 }
 
 // Keeps the row where its cube is new.
-fn keep_new(kept: &mut Vec<(u32, Cube)>, row: (u32, Cube)) -> Result<(), AllocError>
+fn keep_new(
+    alloc: Global,
+    seen: &mut BTreeSet<Cube>,
+    kept: &mut Vec<(u32, Cube)>,
+    row: (u32, Cube),
+) -> Result<(), AllocError>
+    requires seen { AreSeen seen.old kept.old.items }
+    ensures seen { OnOk result (AreSeen seen.new kept.new.items) }
     ensures kept { OnOk result (KeepsNew row kept.old.items kept.new.items) }
 {
     let _len = row.1.len();
-    if !has_cube(kept, &row.1) {
+    if seen.insert(row.1.copy(alloc)?)? {
         kept.push(row)?;
     }
     Ok(())
+}
+
+#[cfg(test)]
+mod tests {
+    use super::*;
+    use std::process::Abort;
+    use std::test::Fail;
+
+    // A row whose cube has one pair.
+    fn row(rt: &impl Abort, alloc: Global, number: u32, v: u32) -> Result<(u32, Cube), Fail>
+        ensures { IfOk result (λ r. r.0 ≡ number) }
+    {
+        let cube = Cube::new(vec![in alloc; (v, 0)]?).expect(rt, "one pair");
+        Ok((number, cube))
+    }
+
+    // Cubes 3 and 5 repeat: 3 at the front and in the middle, 5 at the end.
+    #[test]
+    fn the_first_of_equal_cubes_is_kept_under_its_number(rt: HostRuntime) -> Result<(), Fail> {
+        let alloc = rt.alloc();
+        let rows = vec![in alloc;
+            row(&rt, alloc, 1, 3)?,
+            row(&rt, alloc, 2, 3)?,
+            row(&rt, alloc, 3, 4)?,
+            row(&rt, alloc, 5, 3)?,
+            row(&rt, alloc, 6, 5)?,
+            row(&rt, alloc, 9, 5)?,
+        ]?;
+        let events = Events::gather(alloc, rows)?;
+        assert_eq!(&rt; events.count(), 3);
+        for (place, (number, v)) in [(0, (1, 3)), (1, (3, 4)), (2, (6, 5))] {
+            assert!(&rt; place < events.count());
+            assert_eq!(&rt; events.number(place), number, "place {place}");
+            let cube = events.cube(place);
+            assert!(&rt; 0 < cube.len());
+            assert_eq!(&rt; cube.pair(0), (v, 0), "place {place}");
+        }
+        Ok(())
+    }
 }

@@ -27,8 +27,8 @@ impl Model for Index {
 }
 
 impl Index {
-    /// The index of the events over `count` variables. Time and memory are linear in the variables and
-    /// the pairs of all cubes.
+    /// The index of the events over `count` variables. Time and memory are linear in the variables
+    /// and the pairs of all cubes.
     pub fn build(alloc: Global, events: &Events, count: u32) -> Result<Index, AllocError>
         requires known { All (λ r. NamesBelow r.1 count) events.now }
         ensures index { IfOk result (IsIndex events.now) }
@@ -102,5 +102,40 @@ fn put(starts: &mut [usize], places: &mut [u32], cube: &Cube, place: u32)
         let slot = starts[v as usize] - 1;
         starts[v as usize] = slot;
         places[slot] = place;
+    }
+}
+
+#[cfg(test)]
+mod tests {
+    use super::*;
+    use crate::Family;
+    use pop_stacks::{StackSpec, Stacks, Weights};
+    use std::process::Abort;
+    use std::test::Fail;
+
+    // The cube that has these variables, each with value 0.
+    fn cube(rt: &impl Abort, alloc: Global, variables: &[u32]) -> Result<Cube, Fail> {
+        assert!(rt; variables.len() < 9);
+        let pairs = variables.iter().map(|v| (*v, 0)).collect(alloc)?;
+        Ok(Cube::new(pairs).expect(rt, "a cube"))
+    }
+
+    #[test]
+    fn each_variable_has_the_places_that_name_it(rt: HostRuntime) -> Result<(), Fail> {
+        let alloc = rt.alloc();
+        let rows = vec![in alloc;
+            (1, cube(&rt, alloc, &[0, 2])?),
+            (2, cube(&rt, alloc, &[2])?),
+            (4, cube(&rt, alloc, &[0, 1])?),
+        ]?;
+        let family = Family::Listed(Events::gather(alloc, rows)?);
+        let stacks = Stacks::new(StackSpec::Key([0; 32]), Weights::pairs(4), 1)?;
+        assert!(&rt; family.fits(&stacks) && stacks.count() == 4);
+        let index = Index::build(alloc, family.events(), 4)?;
+        assert_eq!(&rt; index.at(0), [0, 2].as_slice());
+        assert_eq!(&rt; index.at(1), [2].as_slice());
+        assert_eq!(&rt; index.at(2), [0, 1].as_slice());
+        assert_eq!(&rt; index.at(3), [].as_slice());
+        Ok(())
     }
 }

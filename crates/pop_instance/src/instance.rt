@@ -28,8 +28,8 @@ impl Model for Instance {
 impl Instance {
     ghost use Rattle.pop_instance.specs.Family.{family_of, HasEvent};
 
-    /// The instance of these parts. None exactly where an event names a variable that is not below the
-    /// stacks' count, or a value that is not below its variable's domain.
+    /// The instance of these parts. None exactly where an event names a variable that is not below
+    /// the stacks' count, or a value that is not below its variable's domain.
     pub fn new(stacks: Stacks, family: Family) -> Option<Instance>
         ensures { MatchOption result (FamilyFits stacks (family_of family) → ⊥)
             (λ i. i ≡ record { stacks = stacks; family = family_of family }) }
@@ -69,5 +69,53 @@ impl Instance {
         ensures { IsTrue result ↔ HasEvent self.now.family cube.now }
     {
         self.family.is_event(cube)
+    }
+}
+
+#[cfg(test)]
+mod tests {
+    use super::*;
+    use crate::Events;
+    use pop_stacks::{Rows, StackSpec, Weights};
+    use std::alloc::Global;
+    use std::process::Abort;
+    use std::test::Fail;
+
+    // The cube of two pairs.
+    fn cube(
+        rt: &impl Abort,
+        alloc: Global,
+        first: (u32, u32),
+        last: (u32, u32),
+    ) -> Result<Cube, Fail> {
+        Ok(Cube::new(vec![in alloc; first, last]?).expect(rt, "a cube"))
+    }
+
+    // The instance of two variables with two values each, and this cube as event 1, if there is one.
+    fn instance(
+        rt: &impl Abort,
+        alloc: Global,
+        last: (u32, u32),
+    ) -> Result<Option<Instance>, Fail> {
+        let rows = Rows::of(vec![in alloc; vec![in alloc; 0]?, vec![in alloc; 1]?]?);
+        let stacks = Stacks::new(StackSpec::Given(rows), Weights::pairs(2), 1)?;
+        let event = cube(rt, alloc, (0, 1), last)?;
+        let events = Events::gather(alloc, vec![in alloc; (1, event)]?)?;
+        Ok(Instance::new(stacks, Family::Listed(events)))
+    }
+
+    #[test]
+    fn events_name_variables_and_values_that_the_stacks_have(rt: HostRuntime) -> Result<(), Fail> {
+        let alloc = rt.alloc();
+        let made = instance(&rt, alloc, (1, 1))?.expect(&rt, "variables 0 and 1 with value 1");
+        assert_eq!(&rt; made.units(), 1);
+        assert!(&rt; made.is_event(&cube(&rt, alloc, (0, 1), (1, 1))?));
+        assert!(&rt; !made.is_event(&cube(&rt, alloc, (0, 1), (1, 0))?));
+        assert!(&rt;
+            instance(&rt, alloc, (1, 2))?.is_none(),
+            "value 2 of variable 1"
+        );
+        assert!(&rt; instance(&rt, alloc, (2, 1))?.is_none(), "variable 2");
+        Ok(())
     }
 }

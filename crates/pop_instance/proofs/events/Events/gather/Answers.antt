@@ -16,8 +16,11 @@ loop-row-preserved c =
     let taken : c.loop-row.yielded ≡ take (length c.loop-row.yielded) rows = sym (map-id c.loop-row.yielded) ∙ far in
     let here = YieldsList-turn gives c.loop-row.yielded c.loop-row.row-iterator c.loop-row.yielded_by c.next.result c.next.new.self row c.in-Some.is c.next.ensures.steps in
     let before : All (λ r. r.0 < row.0) (take (length c.loop-row.yielded) rows) = rows_before rows (length c.loop-row.yielded) row c.requires.rising here.0 here.1 in
-    gather_more c.loop-row.yielded c.loop-row.kept.items row c.loop-row.invariant (subst (All (λ r. r.0 < row.0)) (sym taken) before)
-    c.keep_new.new.kept.items c.in_ok-keep_new.ensures.kept
+    record {
+      seen = c.in_ok-keep_new.ensures.seen;
+      gathered = gather_more c.loop-row.yielded c.loop-row.kept.items row c.loop-row.invariant.gathered (subst (All (λ r. r.0 < row.0)) (sym taken) before)
+          c.keep_new.new.kept.items c.in_ok-keep_new.ensures.kept;
+    }
 
 pub returns : goal.returns
 returns c =
@@ -26,4 +29,4 @@ returns c =
     let gives = YieldsList-from_vec {s = c.into_iter-row-iterator.result} rows came.0 (came.1 ∙ c.args.rows.ok.0) in
     let all = YieldsList-end gives c.loop-row.yielded c.loop-row.row-iterator c.loop-row.yielded_by c.next.result c.next.new.self c.in-None.is c.next.ensures.steps in
     let whole : c.loop-row.yielded ≡ rows = sym (map-id c.loop-row.yielded) ∙ all.0 in
-    subst (λ xs. KeepsFirst xs c.loop-row.kept.items) whole c.loop-row.invariant.first
+    subst (λ xs. KeepsFirst xs c.loop-row.kept.items) whole c.loop-row.invariant.gathered.first
