@@ -44,7 +44,7 @@ word_is v before (Some (Literal l)) h k =
     let third = chosen_some _ _ _ second.1 in
     (ltb-false v (nat_abs l) first.0, omega (arith, count_more is_literal before (Some (Literal l)), ltb-true (count_by is_literal before) (2 ^ 25) third.0))
 
-words_are : (v : ℕ) (before : List (Option Token)) (xs : List (ℕ × Option Token)) → first_refusal (token_fault v) before xs ≡ None → count_by is_literal before ≤ 2 ^ 25
+pub words_are : (v : ℕ) (before : List (Option Token)) (xs : List (ℕ × Option Token)) → first_refusal (token_fault v) before xs ≡ None → count_by is_literal before ≤ 2 ^ 25
     → AreTokens v (items xs) × (count_by is_literal (before ++ items xs) ≤ 2 ^ 25)
 words_are v before [] h k = (tt, subst (λ ts. count_by is_literal ts ≤ 2 ^ 25) (sym (append-nil before)) k)
 words_are v before (x ∷ xs) h k =

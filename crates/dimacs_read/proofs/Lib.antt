@@ -7,3 +7,4 @@ pub mod AnsweredText
 pub mod CubesOfClauses
 pub mod EventsOfClauses
 mod Vectors
+mod LiteralsLemmas

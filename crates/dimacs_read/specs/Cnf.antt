@@ -1,11 +1,20 @@
 -- Formulas in conjunctive normal form.
-use Rattle.std.specs.Prelude.{ℕ, ◌+◌, ℤ, List, [], ◌∷◌, Option, None, Some}
+use Rattle.std.specs.Prelude.{ℕ, ◌+◌, ◌<◌, ◌≤◌, ℤ, nat_abs, List, [], ◌∷◌, Option, None, Some, All}
 
 -- clauses are lists of literals as they are written: v for the variable v, from 1, and -v for its
 -- negation (DIMACS CNF)
 pub record Cnf : Type 0 where
   pub variables : ℕ
   pub clauses : List (List ℤ)
+
+-- the literal is one of n variables, from 1, or its negation
+pub record IsLiteral (n : ℕ) (l : ℤ) : Type 0 where
+  pub some : 0 < nat_abs l
+  pub below : nat_abs l ≤ n
+
+-- the clauses are of literals of n variables
+abbrev pub AreLiterals : ℕ → List (List ℤ) → Type 0
+AreLiterals n clauses = All (λ clause. All (IsLiteral n) clause) clauses
 
 -- the first clause without literals, where the first of all has the number n
 abbrev pub empty_in : ℕ → List (List ℤ) → Option ℕ

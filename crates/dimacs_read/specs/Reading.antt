@@ -12,7 +12,7 @@ use Rattle.dimacs_read.specs.declared.header.Header.{Header}
 use Rattle.dimacs_read.specs.declared.reader.Reader.{Reader}
 use Rattle.dimacs_read.specs.declared.token.Token.{Token}
 use Rattle.dimacs_read.specs.declared.token.Token.TheVariants.{Literal, End}
-use Rattle.dimacs_read.specs.Cnf.{Cnf, first_empty}
+use Rattle.dimacs_read.specs.Cnf.{Cnf, AreLiterals, first_empty}
 use Rattle.dimacs_read.specs.Tokens.{token_of, is_literal, is_clause_end}
 use Rattle.dimacs_read.specs.CnfText.{declared, header_fault, begins_with, body, line_refusal, whole_refusal, formula_in, token_fault, clauses_of}
 use Rattle.dimacs_read.specs.Flat.{parts, Rises}
@@ -178,6 +178,9 @@ pub record HasBounds (header : Header) (c : Clauses) : Type 0 where
   pub few : length c.ends.items ≤ 2 ^ 22
   pub room : length c.literals.items ≤ 2 ^ 25
   pub rises : Rises 0 c.ends.items (length c.literals.items)
+  -- once the last clause has its end
+  pub literals : AreLiterals header.variables
+      (parts c.literals.items 0 (closed_ends (length c.literals.items) c.ends.items))
 
 -- a formula of so many variables and these clauses
 abbrev pub with_clauses : Header → List (List ℤ) → Cnf

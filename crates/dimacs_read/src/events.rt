@@ -1,6 +1,6 @@
 ghost use Rattle.std.specs.Prelude.{◌≡◌, ◌<◌, ◌^◌, length, map, IfOk, None};
 ghost use Rattle.dimacs_read.specs.Cnf.{first_empty};
-ghost use Rattle.dimacs_read.specs.Falsifying.{AreEventsOf, IsCubeOf, falsifier};
+ghost use Rattle.dimacs_read.specs.Falsifying.{AreEventsOf, FitVariables, IsCubeOf, falsifier};
 
 use crate::Formula;
 use pop_instance::{Cube, Events};
@@ -14,8 +14,11 @@ impl Formula {
     /// first is kept. No clause may be empty.
     pub fn events(&self, alloc: Global) -> Result<Events, AllocError>
         requires { first_empty self.now ≡ None }
-        ensures { IfOk result (λ events. AreEventsOf self.now.clauses events) }
+        ensures events { IfOk result (λ events. AreEventsOf self.now.clauses events) }
+        ensures fit { IfOk result (λ events. FitVariables self.now.variables events) }
     {
+        // Read for its contract, which says that the literals are those of so many variables.
+        let _variables = self.variables();
         let mut rows = Vec::new(alloc);
         for i in 0..self.clauses() {
             if let Some(cube) = cube_of(alloc, self.clause(i))? {

@@ -1,4 +1,5 @@
 ghost use Rattle.std.specs.Prelude.{◌≡◌, ◌<◌, ◌≤◌, ◌^◌, [], ◌∷◌, length, slice_index, slice_index_or};
+ghost use Rattle.dimacs_read.specs.Cnf.{AreLiterals};
 ghost use Rattle.dimacs_read.specs.Flat.{Rises, parts};
 
 use std::marker::Model;
@@ -17,7 +18,7 @@ pub struct Formula {
 
 impl Model for Formula {
     ghost use Rattle.std.specs.Prelude.{length, ◌^◌, ◌≤◌};
-    ghost use Rattle.dimacs_read.specs.Cnf.{Cnf};
+    ghost use Rattle.dimacs_read.specs.Cnf.{AreLiterals, Cnf};
     ghost use Rattle.dimacs_read.specs.Flat.{Rises, parts};
 
     ghost Value = { Cnf };
@@ -29,7 +30,8 @@ impl Model for Formula {
 
     ghost invariant = { λ f. (f.variables ≤ 2 ^ 22) × (length f.ends.items ≤ 2 ^ 22)
         × (length f.literals.items ≤ 2 ^ 25)
-        × Rises 0 f.ends.items (length f.literals.items) };
+        × Rises 0 f.ends.items (length f.literals.items)
+        × AreLiterals f.variables (parts f.literals.items 0 f.ends.items) };
 }
 
 impl Formula {
@@ -39,6 +41,7 @@ impl Formula {
         requires few { length ends.items ≤ 2 ^ 22 }
         requires room { length literals.items ≤ 2 ^ 25 }
         requires rises { Rises 0 ends.items (length literals.items) }
+        requires within { AreLiterals variables (parts literals.items 0 ends.items) }
         ensures { result ≡
             record { variables = variables; clauses = parts literals.items 0 ends.items } }
     {
@@ -49,9 +52,11 @@ impl Formula {
         }
     }
 
-    /// How many variables there are.
+    /// How many variables there are: at most 2^22. Each literal is one of them or its negation.
     pub fn variables(&self) -> u32
-        ensures { result ≡ self.now.variables }
+        ensures count { result ≡ self.now.variables }
+        ensures bound { result ≤ 2 ^ 22 }
+        ensures literals { AreLiterals self.now.variables self.now.clauses }
     {
         self.variables
     }

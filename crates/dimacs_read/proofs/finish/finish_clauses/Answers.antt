@@ -7,7 +7,7 @@ use Rattle.dimacs_read.specs.CnfText.{clauses_of}
 use Rattle.dimacs_read.specs.Cnf.{empty_in, first_empty}
 use Rattle.dimacs_read.specs.Reading.{FinishesClauses, empty_from}
 use Rattle.dimacs_read.proofs.FlatLemmas.{length-parts}
-use Rattle.dimacs_read.proofs.FinishedText.{clauses_by, rises_by, empty_same}
+use Rattle.dimacs_read.proofs.FinishedText.{clauses_by, rises_by, literals_by, empty_same}
 use Rattle.dimacs_read.proofs.finish.finish_clauses.Goals as goal
 
 pub returns-in_err-close : goal.returns-in_err-close
@@ -33,6 +33,9 @@ returns-in-Some c = λ tokens h.
 
 pub of-requires-clause-rises : goal.of-requires-clause-rises
 of-requires-clause-rises c = rises_by c.args.clauses c.close.new.ends.items c.len.result c.requires.rises (omega (arith, c.len.ensures)) c.in_ok-close.ensures
+
+pub of-requires-clause-within : goal.of-requires-clause-within
+of-requires-clause-within c = literals_by c.args.header.variables c.args.clauses c.close.new.ends.items c.len.result c.requires.literals (omega (arith, c.len.ensures)) c.in_ok-close.ensures
 
 pub returns-in-None : goal.returns-in-None
 returns-in-None c = λ tokens h.
