@@ -1,0 +1,78 @@
+-- The command lines: the lists of words that are in the grammar, and the job that each asks for.
+use Rattle.std.specs.Prelude.{◌≡◌, ◌≢◌, ℕ, true, false, List, [], ◌∷◌, ◌++◌, map, flat_map, Contains, IsSome, unwrap_or, ⊤}
+use Rattle.pop_model.specs.Languages.{IsFirstBad}
+use Rattle.pop_words.specs.declared.command.Command.{Command}
+use Rattle.pop_words.specs.declared.option.OptionName.{OptionName}
+use Rattle.pop_words.specs.declared.job.Job.{Job}
+use Rattle.pop_words.specs.declared.fault.WordFault.{WordFault}
+use Rattle.pop_words.specs.declared.fault.WordFault.TheVariants.{Usage, OutOfMemory}
+use Rattle.pop_words.specs.Options.{command_word, row, default_job}
+
+-- an option with the word of its value
+abbrev pub Choice : Type 0
+Choice = OptionName × List ℕ
+
+-- the options that were chosen
+abbrev pub names_of : List Choice → List OptionName
+names_of chosen = map (λ p. p.0) chosen
+
+-- their words: the name of each, and then its value
+abbrev pub words_of : List Choice → List (List ℕ)
+words_of chosen = flat_map (λ p. (row p.0).name ∷ p.1 ∷ []) chosen
+
+-- two options may stand in one command line
+pub record AreCompatible (a b : OptionName) : Type 0 where
+  pub different : a ≢ b
+  pub keeps : (row a).excludes b ≡ false
+  pub kept_by : (row b).excludes a ≡ false
+
+-- the option may stand behind these
+pub record MayFollow (command : Command) (before : List OptionName) (option : OptionName)
+    : Type 0 where
+  pub allowed : (row option).allowed command ≡ true
+  pub compatible : (other : OptionName) → Contains before other → AreCompatible other option
+
+-- behind these, each option may stand where it stands, and its word is a value of it
+abbrev pub AreOptions : Command → List OptionName → List Choice → Type 0
+AreOptions command before [] = ⊤
+AreOptions command before (p ∷ chosen) =
+    MayFollow command before p.0
+    × IsSome ((row p.0).value p.1)
+    × AreOptions command (before ++ p.0 ∷ []) chosen
+
+-- no needed option is missing
+abbrev pub AreComplete : Command → List OptionName → Type 0
+AreComplete command names = (option : OptionName) → (row option).allowed command ≡ true
+    → (row option).needed ≡ true → Contains names option
+
+-- the job with an option set
+abbrev pub set_option : Job → Choice → Job
+set_option job p = unwrap_or ((row p.0).value p.1) (λ j. j) job
+
+-- the job with options set, one after another
+abbrev pub job_from : Job → List Choice → Job
+job_from job [] = job
+job_from job (p ∷ chosen) = job_from (set_option job p) chosen
+
+-- the words are a command line, which asks for this job
+pub record Asks (words : List (List ℕ)) (job : Job) : Type 0 where
+  pub command : Command
+  pub chosen : List Choice
+  pub words_are : words ≡ command_word command ∷ words_of chosen
+  pub options : AreOptions command [] chosen
+  pub complete : AreComplete command (names_of chosen)
+  pub job_is : job ≡ job_from (default_job command) chosen
+
+-- the words are a command line
+abbrev pub AreWords : List (List ℕ) → Type 0
+AreWords words = (job : Job) × Asks words job
+
+-- The first bad word, from 1: the least number such that so many first words begin no command line.
+-- Where the words end too early, it is their number plus 1.
+abbrev pub IsBadPlace : List (List ℕ) → ℕ → Type 0
+IsBadPlace words place = IsFirstBad AreWords words place
+
+-- why words are refused: the place of the first bad word; want of memory may come at any place
+abbrev pub IsWordFault : List (List ℕ) → WordFault → Type 0
+IsWordFault words (Usage place) = IsBadPlace words place
+IsWordFault words OutOfMemory = ⊤

@@ -1,0 +1,21 @@
+-- The laws of the grammar: it leaves the reading of words no choice, and its jobs can be done.
+use Rattle.std.specs.Prelude.{◌≡◌, ◌⊎◌, ℕ, ◌^◌, ◌<◌, List}
+use Rattle.pop_words.specs.declared.job.Job.{Job}
+use Rattle.pop_words.specs.CommandLines.{Asks, AreWords, IsBadPlace}
+
+-- a list of words asks for at most one job
+abbrev pub OneJob : Type 0
+OneJob = (words : List (List ℕ)) (a b : Job) → Asks words a → Asks words b → a ≡ b
+
+-- it has at most one bad place
+abbrev pub OneBadPlace : Type 0
+OneBadPlace = (words : List (List ℕ)) (p q : ℕ) → IsBadPlace words p → IsBadPlace words q → p ≡ q
+
+-- it asks for a job or has a bad place
+abbrev pub JobOrBadPlace : Type 0
+JobOrBadPlace = (words : List (List ℕ)) → AreWords words ⊎ ((p : ℕ) × IsBadPlace words p)
+
+-- a height that is asked for is one that keyed stacks may have
+abbrev pub HeightInRange : Type 0
+HeightInRange = (words : List (List ℕ)) (job : Job) → Asks words job
+    → (0 < job.height) × (job.height < 2 ^ 31)

@@ -1,0 +1,5 @@
+pub mod Values
+pub mod Options
+pub mod CommandLines
+pub mod Reading
+pub mod Laws

@@ -1,0 +1,94 @@
+-- The commands, and the table of options: what a later option adds is a row here.
+use Rattle.std.specs.Prelude.{ℕ, ◌-◌, ◌^◌, Bool, true, false, List, [], ◌∷◌, replicate, Option, option_map, codes}
+use Rattle.pop_stacks.specs.declared.stack_spec.StackSpec.TheVariants.{Key as KeyedStacks, Given as GivenStacks}
+use Rattle.pop_words.specs.declared.command.Command.{Command}
+use Rattle.pop_words.specs.declared.command.Command.TheVariants.{Formula, Check}
+use Rattle.pop_words.specs.declared.option.OptionName.{OptionName}
+use Rattle.pop_words.specs.declared.option.OptionName.TheVariants.{Stacks, Key, Height}
+use Rattle.pop_words.specs.declared.job.Job.{Job}
+use Rattle.pop_words.specs.Values.{number_between, rows_in, key_in}
+
+-- every command
+abbrev pub commands : List Command
+commands = Formula ∷ Check ∷ []
+
+-- the word of a command
+abbrev pub command_word : Command → List ℕ
+command_word Formula = codes "formula"
+command_word Check = codes "check"
+
+-- The job of a command with no option: the defaults. The key is 32 bytes of 0.
+abbrev pub default_job : Command → Job
+default_job command =
+    record {
+      command = command;
+      stacks = KeyedStacks (replicate 32 0);
+      height = 1048576;
+    }
+
+-- the commands that sample
+abbrev pub samples : Command → Bool
+samples Formula = true
+samples Check = false
+
+-- the options that an option excludes: none, or those of keyed stacks
+abbrev pub nothing : OptionName → Bool
+nothing _ = false
+
+abbrev pub key_or_height : OptionName → Bool
+key_or_height Stacks = false
+key_or_height Key = true
+key_or_height Height = true
+
+-- what values set in a job
+abbrev pub set_rows : List (List ℕ) → Job → Job
+set_rows rows job = record job { stacks = GivenStacks rows }
+
+abbrev pub set_key : List ℕ → Job → Job
+set_key key job = record job { stacks = KeyedStacks key }
+
+abbrev pub set_height : ℕ → Job → Job
+set_height height job = record job { height = height }
+
+pub record OptionRow : Type 0 where
+  -- as it is written
+  pub name : List ℕ
+  -- what its value sets in the job; none where a word is no value of it
+  pub value : List ℕ → Option (Job → Job)
+  -- the commands that allow it
+  pub allowed : Command → Bool
+  -- the options that it excludes, and that exclude it
+  pub excludes : OptionName → Bool
+  -- it must stand with each command that allows it
+  pub needed : Bool
+
+-- the table of options
+abbrev pub row : OptionName → OptionRow
+row Stacks =
+    record {
+      name = codes "--stacks";
+      value = λ word. option_map set_rows (rows_in word);
+      allowed = samples;
+      excludes = key_or_height;
+      needed = false;
+    }
+row Key =
+    record {
+      name = codes "--key";
+      value = λ word. option_map set_key (key_in word);
+      allowed = samples;
+      excludes = nothing;
+      needed = false;
+    }
+row Height =
+    record {
+      name = codes "--height";
+      value = λ word. option_map set_height (number_between 1 (2 ^ 31 - 1) word);
+      allowed = samples;
+      excludes = nothing;
+      needed = false;
+    }
+
+-- every option
+abbrev pub options : List OptionName
+options = Stacks ∷ Key ∷ Height ∷ []

@@ -1,0 +1,54 @@
+-- How the value of an option is read from its word.
+use Rattle.std.specs.Prelude.{ℕ, ◌^◌, Bool, ◌&&◌, ◌==◌, nat_le, if◌then◌else◌, List, [], ◌∷◌, length, sum_by, Option, None, Some, option_and_then}
+use Rattle.std.specs.List.{slice_split}
+use Rattle.std.specs.Result.{result_ok}
+use Rattle.hex.specs.Hex.{decode_sized}
+use Rattle.pop_edge.specs.Numbers.{number_of}
+
+-- a value in front of the values that are read behind it
+abbrev pub cons_some : {Y : Type 0} → Option Y → Option (List Y) → Option (List Y)
+cons_some None ys = None
+cons_some (Some y) None = None
+cons_some (Some y) (Some ys) = Some (y ∷ ys)
+
+-- what is read of all parts, where each of them can be read
+abbrev pub all_some : {X Y : Type 0} → (X → Option Y) → List X → Option (List Y)
+all_some f [] = Some []
+all_some f (x ∷ xs) = cons_some (f x) (all_some f xs)
+
+-- what was read, where it passes a test
+abbrev pub only_if : {X : Type 0} → (X → Bool) → Option X → Option X
+only_if test read = option_and_then (λ x. if test x then Some x else None) read
+
+-- a number from low to high
+abbrev pub number_between : ℕ → ℕ → List ℕ → Option ℕ
+number_between low high word = only_if (λ n. nat_le low n && nat_le n high) (number_of word)
+
+-- the 32 bytes of 64 hexadecimal digits, of both cases; the first two digits are byte 0
+abbrev pub key_in : List ℕ → Option (List ℕ)
+key_in word = result_ok (decode_sized word 32)
+
+-- the parts of a word between its commas, and between its semicolons
+abbrev pub comma_parts : List ℕ → List (List ℕ)
+comma_parts word = slice_split (λ b. b == 44) word
+
+abbrev pub semicolon_parts : List ℕ → List (List ℕ)
+semicolon_parts word = slice_split (λ b. b == 59) word
+
+-- a row is empty, or numbers joined by `,`
+abbrev pub row_in : List ℕ → Option (List ℕ)
+row_in [] = Some []
+row_in (b ∷ bs) = all_some number_of (comma_parts (b ∷ bs))
+
+-- a row has at most so many numbers
+abbrev pub fits_in : ℕ → List ℕ → Bool
+fits_in room row = nat_le (length row) room
+
+-- at most 2 ^ 22 rows, with at most 2 ^ 20 numbers in all rows together
+abbrev pub are_within : List (List ℕ) → Bool
+are_within rows = nat_le (length rows) (2 ^ 22) && nat_le (sum_by length rows) (2 ^ 20)
+
+-- an empty word has no row; in every other word rows are joined by `;`
+abbrev pub rows_in : List ℕ → Option (List (List ℕ))
+rows_in [] = Some []
+rows_in (b ∷ bs) = only_if are_within (all_some row_in (semicolon_parts (b ∷ bs)))

@@ -1,0 +1,55 @@
+// A command line, read word by word.
+ghost use Rattle.std.specs.Prelude.{◌≡◌, ◌+◌, ◌<◌, ℕ, List, [], map, drop, length, string_bytes, IfOk, IfErr};
+ghost use Rattle.pop_words.specs.CommandLines.{Asks, IsWordFault};
+ghost use Rattle.pop_words.specs.Reading.{behind, IsRead};
+
+use crate::option::{are_complete, next_option};
+use crate::{Command, Job, WordFault};
+use std::alloc::Global;
+
+// Reads the options behind the command word.
+fn read_options(alloc: Global, command: Command, words: &[String]) -> Result<Job, WordFault>
+    requires { 0 < length words.now }
+    ensures { IsRead (behind command (map string_bytes words.now)) result }
+{
+    let mut job = Job::of(command);
+    let mut chosen = Vec::new(alloc);
+    let mut place = 1;
+    while place < words.len() {
+        let Some(option) = next_option(command, &chosen, words[place].as_str()) else {
+            return Err(WordFault::Usage(place as u32 + 1));
+        };
+        if place + 1 == words.len() {
+            return Err(WordFault::Usage(place as u32 + 2));
+        }
+        job = match option.set(alloc, job, words[place + 1].as_bytes())? {
+            Some(job) => job,
+            None => return Err(WordFault::Usage(place as u32 + 2)),
+        };
+        chosen.push(option)?;
+        place += 2;
+    }
+    if are_complete(command, &chosen) {
+        Ok(job)
+    } else {
+        Err(WordFault::Usage(place as u32 + 1))
+    }
+}
+
+/// Reads the words into the job that they ask for.
+///
+/// # Errors
+///
+/// `Usage` with the place of the first bad word exactly where the words ask for no job.
+pub fn read_words(alloc: Global, words: &[String]) -> Result<Job, WordFault>
+    ensures job { IfOk result (λ job. Asks (map string_bytes words.now) job) }
+    ensures fault { IfErr result (IsWordFault (map string_bytes words.now)) }
+{
+    if words.is_empty() {
+        return Err(WordFault::Usage(1));
+    }
+    match Command::named(words[0].as_str()) {
+        Some(command) => read_options(alloc, command, words),
+        None => Err(WordFault::Usage(1)),
+    }
+}

@@ -1,0 +1,32 @@
+// What the words ask for.
+ghost use Rattle.std.specs.Prelude.{◌≡◌};
+
+use crate::Command;
+use pop_stacks::StackSpec;
+
+/// What the words ask for. What no option says holds its default.
+#[derive(Drop)]
+pub struct Job {
+    pub command: Command,
+    /// Where the entries of the stacks come from: the rows of `--stacks`, or the key of `--key`,
+    /// which is 32 bytes of 0 by default.
+    pub stacks: StackSpec,
+    /// The number of entries of each keyed stack, from 1 to 2^31 - 1: that of `--height`, which is
+    /// 2^20 by default.
+    pub height: u32,
+}
+
+impl Job {
+    ghost use Rattle.pop_words.specs.Options.{default_job};
+
+    // The job of a command with no option.
+    pub(crate) fn of(command: Command) -> Job
+        ensures { result ≡ default_job command }
+    {
+        Job {
+            command,
+            stacks: StackSpec::Key([0; 32]),
+            height: 1 << 20,
+        }
+    }
+}

@@ -1,0 +1,23 @@
+//! The laws of the grammar: it leaves the reading of words no choice. Each function's contract is
+//! the law.
+ghost use Rattle.pop_words.specs.Laws.{OneJob, OneBadPlace, JobOrBadPlace, HeightInRange};
+
+/// A list of words asks for at most one job.
+pub fn one_job()
+    ensures { OneJob }
+{}
+
+/// It has at most one bad place; where it asks for a job it has none, by what a bad place is.
+pub fn one_bad_place()
+    ensures { OneBadPlace }
+{}
+
+/// It asks for a job or has a bad place.
+pub fn job_or_bad_place()
+    ensures { JobOrBadPlace }
+{}
+
+/// A height that is asked for is from 1 to 2^31 - 1.
+pub fn height_in_range()
+    ensures { HeightInRange }
+{}

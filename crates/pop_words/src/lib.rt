@@ -1,0 +1,18 @@
+//! Command words: the job that they ask for, or the place of the first bad word. Contracts see
+//! words as lists of bytes, and cite the grammar as a set of lists of words, each with its job.
+#![tactic(auto)]
+
+mod command;
+mod command_line;
+mod fault;
+mod job;
+pub mod laws;
+mod option;
+#[cfg(test)]
+mod tests;
+mod value;
+
+pub use command::Command;
+pub use command_line::read_words;
+pub use fault::WordFault;
+pub use job::Job;

@@ -1,0 +1,206 @@
+use crate::{Command, Job, WordFault, read_words};
+use pop_stacks::StackSpec;
+use std::alloc::{AllocError, Global};
+use std::test::Fail;
+
+// 64 zeros, which stand as `Z` in the tables.
+const ZEROS: &str = "0000000000000000000000000000000000000000000000000000000000000000";
+
+/// The job as text, or the place of the first bad word.
+fn shown(alloc: Global, read: Result<Job, WordFault>) -> Result<String, AllocError> {
+    let job = match read {
+        Ok(job) => job,
+        Err(WordFault::Usage(place)) => return format!(in alloc; "usage {place}"),
+        Err(WordFault::OutOfMemory) => return Err(AllocError),
+    };
+    let mut text = String::from_str(
+        alloc,
+        match job.command {
+            Command::Formula => "formula",
+            Command::Check => "check",
+        },
+    )?;
+    match &job.stacks {
+        StackSpec::Key(key) if *key == [0; 32] => text.push_str(" key Z")?,
+        StackSpec::Key(key) => {
+            text.push_str(" key ")?;
+            for byte in key {
+                write!(text, "{byte:02x}")?;
+            }
+        }
+        StackSpec::Given(rows) => {
+            text.push_str(" rows")?;
+            for v in 0..rows.count() {
+                write!(text, " {:?}", rows.row(v))?;
+            }
+        }
+    }
+    write!(text, " height {}", job.height)?;
+    Ok(text)
+}
+
+/// What is read of a line, whose words have one space between them: a space at the end makes an
+/// empty word.
+fn answer(alloc: Global, line: &str) -> Result<String, AllocError> {
+    let mut words = Vec::new(alloc);
+    for word in line.split(' ') {
+        words.push(String::from_str(alloc, if word == "Z" { ZEROS } else { word })?)?;
+    }
+    shown(alloc, read_words(alloc, &words))
+}
+
+/// So many copies of a text, and another behind them.
+fn repeated(alloc: Global, text: &str, count: u32, last: &str) -> Result<String, AllocError> {
+    let mut all = String::new(alloc);
+    for _ in 0..count {
+        all.push_str(text)?;
+    }
+    all.push_str(last)?;
+    Ok(all)
+}
+
+#[test]
+fn words_in_the_grammar_give_their_job(rt: HostRuntime) -> Result<(), Fail> {
+    // Worked by hand.
+    let lines = [
+        ("formula", "formula key Z height 1048576"),
+        ("check", "check key Z height 1048576"),
+        (
+            "formula --stacks 0,0,1",
+            "formula rows [0, 0, 1] height 1048576",
+        ),
+        ("formula --stacks ", "formula rows height 1048576"),
+        ("formula --stacks 0;", "formula rows [0] [] height 1048576"),
+        ("formula --stacks ;", "formula rows [] [] height 1048576"),
+        (
+            "formula --stacks ;;7",
+            "formula rows [] [] [7] height 1048576",
+        ),
+        (
+            "formula --stacks 0,1;2",
+            "formula rows [0, 1] [2] height 1048576",
+        ),
+        (
+            "formula --stacks 007,4294967295",
+            "formula rows [7, 4294967295] height 1048576",
+        ),
+        (
+            "formula --stacks 0000000001",
+            "formula rows [1] height 1048576",
+        ),
+        ("formula --key Z", "formula key Z height 1048576"),
+        (
+            "formula --key 010000000000000000000000000000000000000000000000000000000000Ff20",
+            "formula key 010000000000000000000000000000000000000000000000000000000000ff20 \
+             height 1048576",
+        ),
+        (
+            "formula --key A0B1C2D3E4F5061728394A5B6C7D8E9F00112233445566778899aAbBcCdDeEfF",
+            "formula key a0b1c2d3e4f5061728394a5b6c7d8e9f00112233445566778899aabbccddeeff \
+             height 1048576",
+        ),
+        ("formula --height 1", "formula key Z height 1"),
+        (
+            "formula --height 2147483647",
+            "formula key Z height 2147483647",
+        ),
+        ("formula --height 0000000005", "formula key Z height 5"),
+        ("formula --key Z --height 9", "formula key Z height 9"),
+        ("formula --height 9 --key Z", "formula key Z height 9"),
+    ];
+    for (line, job) in lines {
+        assert_eq!(rt; answer(rt.alloc(), line)?.as_str(), job, "{line}");
+    }
+    Ok(())
+}
+
+#[test]
+fn words_outside_the_grammar_give_their_first_bad_place(rt: HostRuntime) -> Result<(), Fail> {
+    // Worked by hand; 64 zeros are a key, 63 and 65 aren't.
+    let lines = [
+        ("", "usage 1"),
+        ("Formula", "usage 1"),
+        ("formulas", "usage 1"),
+        ("orient", "usage 1"),
+        ("--key Z", "usage 1"),
+        ("check --key Z", "usage 2"),
+        ("check --height", "usage 2"),
+        ("check check", "usage 2"),
+        ("formula ", "usage 2"),
+        ("formula --speed 3", "usage 2"),
+        ("formula --speed 3 --height 0", "usage 2"),
+        ("formula --workers 65", "usage 2"),
+        ("formula --height=5", "usage 2"),
+        ("formula --Key Z", "usage 2"),
+        ("formula --stacks", "usage 3"),
+        ("formula --key", "usage 3"),
+        ("formula --height", "usage 3"),
+        ("formula --height ", "usage 3"),
+        ("formula --height 0", "usage 3"),
+        ("formula --height 2147483648", "usage 3"),
+        ("formula --height 4294967297", "usage 3"),
+        ("formula --height 00000000001", "usage 3"),
+        ("formula --height +1", "usage 3"),
+        ("formula --height 1x --key Z", "usage 3"),
+        ("formula --key ", "usage 3"),
+        (
+            "formula --key 000000000000000000000000000000000000000000000000000000000000000",
+            "usage 3",
+        ),
+        (
+            "formula --key 00000000000000000000000000000000000000000000000000000000000000000",
+            "usage 3",
+        ),
+        (
+            "formula --key 000000000000000000000000000000000000000000000000000000000000000g",
+            "usage 3",
+        ),
+        ("formula --stacks ,", "usage 3"),
+        ("formula --stacks 0,,1", "usage 3"),
+        ("formula --stacks 0,;1", "usage 3"),
+        ("formula --stacks 0;1,", "usage 3"),
+        ("formula --stacks 4294967296", "usage 3"),
+        ("formula --stacks 00000000001", "usage 3"),
+        ("formula --stacks 0:1", "usage 3"),
+        ("formula --key Z --key Z", "usage 4"),
+        ("formula --height 5 --height 5", "usage 4"),
+        ("formula --stacks 0 --stacks 0", "usage 4"),
+        ("formula --stacks 0 --height 5", "usage 4"),
+        ("formula --stacks 0 --key Z", "usage 4"),
+        ("formula --height 5 --stacks 0", "usage 4"),
+        ("formula --key Z --stacks 0", "usage 4"),
+        ("formula --key Z 7", "usage 4"),
+        ("formula --key Z --height", "usage 5"),
+        ("formula --key Z --height 0", "usage 5"),
+        ("formula --key Z --height 5 --key Z", "usage 6"),
+        ("formula --key Z --height 5 ", "usage 6"),
+    ];
+    for (line, place) in lines {
+        assert_eq!(rt; answer(rt.alloc(), line)?.as_str(), place, "{line}");
+    }
+    assert_eq!(rt;
+        shown(rt.alloc(), read_words(rt.alloc(), &[]))?.as_str(),
+        "usage 1"
+    );
+    Ok(())
+}
+
+#[test]
+fn rows_end_at_their_limits(rt: HostRuntime) -> Result<(), Fail> {
+    // 2^22 rows, and 2^20 numbers in one row and in as many.
+    let cases = [
+        ("formula --stacks ", ";", 4194303, "", false),
+        ("formula --stacks ", ";", 4194304, "", true),
+        ("formula --stacks 0", ",0", 1048575, "", false),
+        ("formula --stacks 0", ",0", 1048576, "", true),
+        ("formula --stacks ", "1;", 1048576, "", false),
+        ("formula --stacks ", "1;", 1048576, "1", true),
+    ];
+    for (front, text, count, last, refused) in cases {
+        let mut line = String::from_str(rt.alloc(), front)?;
+        line.push_str(repeated(rt.alloc(), text, count, last)?.as_str())?;
+        let read = answer(rt.alloc(), line.as_str())?;
+        assert_eq!(rt; read.as_str() == "usage 3", refused, "{text} {count} times");
+    }
+    Ok(())
+}

@@ -1,0 +1,71 @@
+// Values of options, read from their words.
+ghost use Rattle.std.specs.Prelude.{◌≡◌, ◌∷◌, ◌&&◌, ℕ, List, IfOk, Option, option_map, vec_items};
+ghost use Rattle.pop_words.specs.Values.{number_between as number_between_of, key_in as key_of, row_in as row_of, rows_in as rows_of, only_if, fits_in};
+
+use hex::FromHex;
+use pop_edge::number;
+use pop_stacks::Rows;
+use std::alloc::{AllocError, Global};
+
+// How many rows there may be, and how many numbers in all of them together.
+const MAX_ROWS: usize = 1 << 22;
+
+const MAX_NUMBERS: usize = 1 << 20;
+
+/// A number from `low` to `high`.
+pub fn number_between(low: u32, high: u32, word: &[u8]) -> Option<u32>
+    ensures { result ≡ number_between_of low high word.now }
+{
+    number(word).filter(|n| low <= *n && *n <= high)
+}
+
+/// The 32 bytes of 64 hexadecimal digits.
+pub fn key_in(word: &[u8]) -> Option<[u8; 32]>
+    ensures { result ≡ key_of word.now }
+{
+    <[u8; 32] as FromHex>::from_hex(word).ok()
+}
+
+// A row of at most `room` numbers.
+fn row_in(alloc: Global, word: &[u8], room: usize) -> Result<Option<Vec<u32>>, AllocError>
+    ensures { IfOk result (λ row.
+        option_map vec_items row ≡ only_if (fits_in room) (row_of word.now)) }
+{
+    let mut row = Vec::new(alloc);
+    if word.is_empty() {
+        return Ok(Some(row));
+    }
+    for part in word.split(|b| *b == b',') {
+        let Some(n) = number(part) else {
+            return Ok(None);
+        };
+        if row.len() >= room {
+            return Ok(None);
+        }
+        row.push(n)?;
+    }
+    Ok(Some(row))
+}
+
+/// Rows joined by `;`; an empty word has no row. Nothing is read behind the first part that can't
+/// stand, or that is one too many.
+pub fn rows_in(alloc: Global, word: &[u8]) -> Result<Option<Rows>, AllocError>
+    ensures { IfOk result (λ rows. rows ≡ rows_of word.now) }
+{
+    let mut rows = Vec::new(alloc);
+    if word.is_empty() {
+        return Ok(Some(Rows::of(rows)));
+    }
+    let mut room = MAX_NUMBERS;
+    for part in word.split(|b| *b == b';') {
+        let Some(row) = row_in(alloc, part, room)? else {
+            return Ok(None);
+        };
+        if rows.len() >= MAX_ROWS {
+            return Ok(None);
+        }
+        room -= row.len();
+        rows.push(row)?;
+    }
+    Ok(Some(Rows::of(rows)))
+}
