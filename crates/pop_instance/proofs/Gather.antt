@@ -1,5 +1,5 @@
 -- Keeping the first of equal cubes, row by row.
-use Rattle.std.proofs.Common.{inl, inr, ◌≡◌, ◌≢◌, ℕ, ◌+◌, ◌<◌, ◌≤◌, ◌&&◌, ◌==◌, List, [], ◌∷◌, ◌++◌, length, take, map, get_or, sym, ap, ap₂, subst, ◌∙◌, arith, All, AllPairs, Contains, slice_index, Decides, eqb-true, eq-eqb, length-take, get_or-take}
+use Rattle.std.proofs.Common.{inl, inr, ◌≡◌, ◌≢◌, ℕ, ◌<◌, ◌≤◌, ◌&&◌, ◌==◌, List, [], ◌∷◌, ◌++◌, length, take, map, get_or, sym, ap, ap₂, subst, ◌∙◌, arith, All, AllPairs, Contains, slice_index, Decides, eqb-true, eq-eqb, length-take, get_or-take}
 use Rattle.std.proofs.lemmas.Bool.{and_parts, and_from, cases_lt}
 use Rattle.std.proofs.lemmas.List.{map_push, length_push, get_or_push, get_or_append_left, length-map, get_or-map, get_or_default}
 use Rattle.std.proofs.lemmas.List.Elements.{All-push, All-map, Contains-push, Contains-push_cases, Contains-append_left, Contains-get_or, All-contains}
@@ -8,6 +8,7 @@ use Rattle.std.proofs.lemmas.List.Kept.{AllPairs-from_increasing}
 use Rattle.pop_model.specs.Popping.{Cube, IsCube}
 use Rattle.pop_model.specs.Families.{AreEvents}
 use Rattle.pop_instance.specs.Events.{HasCube}
+use Rattle.pop_instance.proofs.Increasing.{increasing_push}
 use Rattle.pop_instance.specs.Gathering.{KeepsFirst, KeepsNew}
 
 pub pair_decides : (a b : ℕ × ℕ) → Decides ((a.0 == b.0) && (a.1 == b.1)) (a ≡ b)
@@ -15,20 +16,6 @@ pair_decides a b = (
   λ h. let p = and_parts (a.0 == b.0) (a.1 == b.1) h in ap₂ (λ (m n : ℕ). (m, n)) (eqb-true a.0 b.0 p.0) (eqb-true a.1 b.1 p.1),
   λ h. and_from (a.0 == b.0) (a.1 == b.1) (eq-eqb a.0 b.0 (ap (λ (r : ℕ × ℕ). r.0) h)) (eq-eqb a.1 b.1 (ap (λ (r : ℕ × ℕ). r.1) h)),
 )
-
--- a greater number at the end
-increasing_push : (xs : List ℕ) (n : ℕ) → IsStrictlyIncreasing xs → All (λ x. x < n) xs → IsStrictlyIncreasing (xs ++ n ∷ [])
-increasing_push xs n rising below k h = elim (cases_lt (k + 1) (length xs)) [
-  | inl inside ↦
-      let a : slice_index (xs ++ n ∷ []) k ≡ slice_index xs k = get_or_append_left xs (n ∷ []) 0 k (omega arith) in
-      let b : slice_index (xs ++ n ∷ []) (k + 1) ≡ slice_index xs (k + 1) = get_or_append_left xs (n ∷ []) 0 (k + 1) inside in
-      let old = rising k inside in omega arith
-  | inr last ↦
-      let size : k + 1 < length xs + 1 = omega (arith, length_push xs n) in
-      let a : slice_index (xs ++ n ∷ []) k ≡ slice_index xs k = get_or_append_left xs (n ∷ []) 0 k (omega arith) in
-      let b : slice_index (xs ++ n ∷ []) (k + 1) ≡ n = get_or_push xs n 0 (k + 1) (omega arith) in
-      let old : slice_index xs k < n = below k 0 (omega arith) in omega arith
-]
 
 -- what holds of each earlier element and the last
 pairs_push : (R : (ℕ × Cube) → (ℕ × Cube) → Type 0) (xs : List (ℕ × Cube)) (y : ℕ × Cube) → AllPairs R xs → All (λ x. R x y) xs → AllPairs R (xs ++ y ∷ [])

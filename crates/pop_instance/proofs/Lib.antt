@@ -1,3 +1,4 @@
+pub mod Increasing
 mod Order
 mod Seen
 mod Gather

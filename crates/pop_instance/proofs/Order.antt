@@ -1,7 +1,7 @@
 -- Cubes that the order doesn't tell apart are equal.
-use Rattle.std.proofs.Common.{◌≡◌, ℕ, ◌<◌, Bool, true, false, List, [], ◌∷◌, refl, sym, ap, ap₂, ◌∙◌, arith, Less, Equal, Greater}
+use Rattle.std.proofs.Common.{◌≡◌, ℕ, ◌<◌, true, [], ◌∷◌, refl, sym, ap, ap₂, ◌∙◌, Less, Equal, Greater}
 use Rattle.std.specs.declared.cmp.Ordering.{Ordering}
-use Rattle.std.specs.Ordering.{nat_cmp, is_eq, ordering_then, eq_by_cmp, MatchOrdering}
+use Rattle.std.specs.Ordering.{nat_cmp, is_eq, ordering_then, eq_by_cmp}
 use Rattle.std.proofs.lemmas.Cmp.{ranked, by_ranked, tied_itself}
 use Rattle.pop_model.specs.Popping.{Cube}
 use Rattle.pop_instance.specs.Cubes.{pair_cmp, cube_cmp, cube_total}

@@ -1,4 +1,4 @@
-use Rattle.std.proofs.Common.{sym, subst, ◌∙◌}
+use Rattle.std.proofs.Common.{sym, subst}
 use Rattle.pop_instance.specs.Gathering.{AreSeen}
 use Rattle.pop_instance.proofs.Seen.{seen_more}
 use Rattle.pop_instance.proofs.events.keep_new.Goals as goal
