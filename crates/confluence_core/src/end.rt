@@ -1,0 +1,13 @@
+use crate::Stuck;
+use pop_instance::Cursors;
+
+/// The end of a run.
+#[derive(Drop)]
+pub struct End {
+    /// The cursors that the run left.
+    pub cursors: Cursors,
+    /// How many events were popped.
+    pub pops: u64,
+    /// Every event that occurs at the cursors, by rising unit.
+    pub stuck: Stuck,
+}

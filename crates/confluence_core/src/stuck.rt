@@ -1,0 +1,58 @@
+ghost use Rattle.std.specs.Prelude.{◌≡◌, ◌<◌, ◌++◌, ◌∷◌, [], length, slice_get, Some, OnOk, OnErr};
+ghost use Rattle.confluence_core.specs.Stuck.{event_of};
+
+use pop_instance::Cube;
+use std::alloc::{AllocError, Global};
+use std::marker::Model;
+
+/// A list of events, each under its unit.
+#[derive(Drop)]
+pub struct Stuck {
+    events: Vec<(u32, Cube)>,
+}
+
+impl Model for Stuck {
+    ghost use Rattle.std.specs.Prelude.{List};
+    ghost use Rattle.pop_model.specs.Families.{Event};
+    ghost use Rattle.confluence_core.specs.Stuck.{events_of};
+
+    ghost Value = { List Event };
+
+    ghost view = { λ a. events_of a.events.items };
+}
+
+impl Stuck {
+    /// A list with no event. It takes no memory.
+    pub fn new(alloc: Global) -> Stuck
+        ensures { result ≡ [] }
+    {
+        Stuck {
+            events: Vec::new(alloc),
+        }
+    }
+
+    /// How many events there are.
+    pub fn len(&self) -> u64
+        ensures { result ≡ length self.now }
+    {
+        self.events.len() as u64
+    }
+
+    /// The unit and the cube of an event. Events count from 0.
+    pub fn at(&self, i: u64) -> (u32, &Cube)
+        requires { i < length self.now }
+        ensures { slice_get self.now i ≡ Some (event_of (result.0, result.1.now)) }
+    {
+        let (unit, cube) = &self.events[i as usize];
+        (*unit, cube)
+    }
+
+    /// Adds an event at the end.
+    pub fn push(&mut self, unit: u32, cube: Cube) -> Result<(), AllocError>
+        ensures pushed { OnOk result (self.new ≡ self.old ++ event_of (unit, cube) ∷ []) }
+        ensures kept { OnErr result (self.new ≡ self.old) }
+    {
+        self.events.push((unit, cube))?;
+        Ok(())
+    }
+}

@@ -1,0 +1,69 @@
+ghost use Rattle.std.specs.Prelude.{◌≡◌, ◌<◌, ◌++◌, ◌∷◌, [], length, slice_get, Some, OnOk, OnErr};
+
+use std::alloc::{AllocError, Global};
+use std::marker::Model;
+
+/// A list of units. Units count from 0.
+#[derive(Drop)]
+pub struct Units {
+    units: Vec<u32>,
+}
+
+impl Model for Units {
+    ghost use Rattle.std.specs.Prelude.{ℕ, List};
+
+    ghost Value = { List ℕ };
+
+    ghost view = { λ a. a.units.items };
+}
+
+impl Units {
+    /// A list with no unit. It takes no memory.
+    pub fn new(alloc: Global) -> Units
+        ensures { result ≡ [] }
+    {
+        Units {
+            units: Vec::new(alloc),
+        }
+    }
+
+    /// How many units there are.
+    pub fn len(&self) -> u64
+        ensures { result ≡ length self.now }
+    {
+        self.units.len() as u64
+    }
+
+    /// A unit by its place in the list, which counts from 0.
+    pub fn at(&self, i: u64) -> u32
+        requires { i < length self.now }
+        ensures { slice_get self.now i ≡ Some result }
+    {
+        self.units[i as usize]
+    }
+
+    /// Adds a unit at the end.
+    pub fn push(&mut self, unit: u32) -> Result<(), AllocError>
+        ensures pushed { OnOk result (self.new ≡ self.old ++ unit ∷ []) }
+        ensures kept { OnErr result (self.new ≡ self.old) }
+    {
+        self.units.push(unit)?;
+        Ok(())
+    }
+}
+
+#[cfg(test)]
+mod tests {
+    use super::*;
+    use std::test::Fail;
+
+    #[test]
+    fn units_stand_in_the_order_of_their_pushes(rt: HostRuntime) -> Result<(), Fail> {
+        let mut units = Units::new(rt.alloc());
+        units.push(4)?;
+        units.push(0)?;
+        assert_eq!(&rt; units.len(), 2);
+        assert_eq!(&rt; (units.at(0), units.at(1)), (4, 0));
+        Ok(())
+    }
+}
