@@ -31,8 +31,17 @@ moves_some old bytes n first =
     let here : get_or bytes n 0 ≡ 10 = eqb-true (get_or bytes n 0) 10 first.1 in
     let size : length (take n bytes) ≡ n = rw length-take (omega arith) in
     let front : list_any is_end (take n bytes) ≡ false =
-    no_end (take n bytes) (λ k l. let lt : k < n = omega arith in ap is_end (get_or-take n bytes k 0 lt) ∙ not_passed (is_end (get_or bytes k 0)) (before k (omega arith) lt)) in
-    (take n bytes, front, sym (take-append-drop n bytes) ∙ ap (λ xs. take n bytes ++ xs) (drop_more bytes n 0 within ∙ ap (λ x. x ∷ drop (n + 1) bytes) here), omega arith, omega (arith, size), refl)
+    no_end (take n bytes)
+    (λ k l. let lt : k < n = omega arith in
+    ap is_end (get_or-take n bytes k 0 lt) ∙ not_passed (is_end (get_or bytes k 0)) (before k (omega arith) lt)) in (
+      take n bytes,
+      front,
+      sym (take-append-drop n bytes)
+          ∙ ap (λ xs. take n bytes ++ xs) (drop_more bytes n 0 within ∙ ap (λ x. x ∷ drop (n + 1) bytes) here),
+      omega arith,
+      omega (arith, size),
+      refl,
+    )
 
 -- no line end stands anywhere
 pub moves_none : (old bytes : List ℕ) → IsFirstByte is_end bytes None → Moves old (old ++ bytes) bytes None

@@ -10,9 +10,19 @@ use Rattle.pop_edge.specs.declared.next.Next.TheVariants.{Line, End}
 use Rattle.pop_edge.specs.declared.refusal.ReadRefusal.TheVariants.{Limit, ReadFault}
 use Rattle.pop_edge.proofs.LinesLemmas.{take_front, lines_closed, ended_closed, closed-append, AreLines-append, ended_only, one_line}
 
+-- no byte was taken, and no line given
 pub follows_start : Follows opening [] []
 follows_start =
-    record { taken = refl; number = refl; stands = inl (record { lines_are = tt; front = sym (take_all text_limit (let none : List ℕ = [] in none) (omega arith)) }) }
+    record {
+      taken = refl;
+      number = refl;
+      stands =
+          inl (record {
+            lines_are = tt;
+            front =
+                sym (take_all text_limit (let none : List ℕ = [] in none) (omega arith));
+          });
+    }
 
 -- what is at hand behind the lines given
 hand : (s : LineState) (bytes more : List ℕ) (lines : List (List ℕ)) → s.taken ≡ length bytes
@@ -38,10 +48,15 @@ cut_line s t bytes more lines o g size taken =
     let here : closed lines ++ at_hand s more ≡ take text_limit (bytes ++ more) =
     hand s bytes more lines size o.front in
     elim g.front [
-      | inl e ↦ inl (record { lines_are = AreLines-append lines t.line o.lines_are g.whole; front = closed-append lines t.line t.rest ∙ ap (λ xs. closed lines ++ xs) (sym e) ∙ here })
+      | inl e ↦ inl (record {
+        lines_are = AreLines-append lines t.line o.lines_are g.whole;
+        front =
+            closed-append lines t.line t.rest ∙ ap (λ xs. closed lines ++ xs) (sym e) ∙ here;
+      })
       | inr e ↦ inr (record {
         all = ap (λ ls. lines ++ ls) (sym (one_line t.line g.whole e.2)) ∙ sym (lines_closed lines t.line o.lines_are)
-            ∙ ap lines_of (ap (λ xs. closed lines ++ xs) (sym e.0) ∙ here ∙ take_all text_limit (bytes ++ more) (omega (arith, taken, e.4)));
+            ∙ ap lines_of (ap (λ xs. closed lines ++ xs) (sym e.0) ∙ here
+            ∙ take_all text_limit (bytes ++ more) (omega (arith, taken, e.4)));
         short = omega (arith, taken, e.4);
         rest = e.1;
         ended = e.3;
@@ -53,10 +68,12 @@ done_line : (s t : LineState) (bytes more : List ℕ) (lines : List (List ℕ)) 
 done_line s t bytes more lines d g none =
     let empty : at_hand s more ≡ [] = nothing_left s bytes more lines d none in
     elim g.front [
-      | inl e ↦ (let size : length (t.line ++ 10 ∷ t.rest) ≡ 0 = ap length (sym e ∙ empty) in omega (arith, length-append t.line (10 ∷ t.rest)))
+      | inl e ↦ (let size : length (t.line ++ 10 ∷ t.rest) ≡ 0 = ap length (sym e ∙ empty) in
+          omega (arith, length-append t.line (10 ∷ t.rest)))
       | inr e ↦ (let size : length t.line ≡ 0 = ap length (sym e.0 ∙ empty) in omega (arith, e.2))
     ]
 
+-- a line more was given
 pub follows_line : (s t : LineState) (l m : Option (List ℕ)) (bytes : List ℕ) (lines : List (List ℕ))
     → Follows s bytes lines → (n : IsNext s t l m (Ok Line)) → Follows t (bytes ++ n.taken) (lines ++ t.line ∷ [])
 follows_line s t l m bytes lines f n =
@@ -77,6 +94,7 @@ pub record IsAll (bytes : List ℕ) (lines : List (List ℕ)) : Type 0 where
   pub all : lines ≡ lines_of bytes
   pub short : length bytes ≤ text_limit
 
+-- once the end is answered, every line was given
 pub all_given : (s t : LineState) (l m : Option (List ℕ)) (bytes : List ℕ) (lines : List (List ℕ))
     → Follows s bytes lines → (n : IsNext s t l m (Ok End)) → IsAll (bytes ++ n.taken) lines
 all_given s t l m bytes lines f n =
@@ -87,10 +105,15 @@ all_given s t l m bytes lines f n =
     elim f.stands [
       | inl o ↦ record {
         all = sym (append-nil lines) ∙ sym (lines_closed lines [] o.lines_are)
-            ∙ ap lines_of (ap (λ xs. closed lines ++ xs) (sym g.nothing) ∙ hand s bytes more lines f.taken o.front ∙ take_all text_limit (bytes ++ more) short);
+            ∙ ap lines_of (ap (λ xs. closed lines ++ xs) (sym g.nothing) ∙ hand s bytes more lines f.taken o.front
+            ∙ take_all text_limit (bytes ++ more) short);
         short = short;
       }
-      | inr d ↦ record { all = d.all ∙ ap lines_of (sym (ap (λ xs. bytes ++ xs) (n.takes.at_end d.ended) ∙ append-nil bytes)); short = short }
+      | inr d ↦ record {
+        all =
+            d.all ∙ ap lines_of (sym (ap (λ xs. bytes ++ xs) (n.takes.at_end d.ended) ∙ append-nil bytes));
+        short = short;
+      }
     ]
 
 -- with no whole line at hand, the lines given are those that have their end
@@ -106,6 +129,7 @@ pub record IsPast (bytes : List ℕ) (lines : List (List ℕ)) : Type 0 where
   pub long : text_limit < length bytes
   pub lines_are : lines ≡ ended_lines (take text_limit bytes)
 
+-- once the limit is answered, the judged lines were given, and the next line is named
 pub past_limit : (s t : LineState) (l m : Option (List ℕ)) (bytes : List ℕ) (lines : List (List ℕ)) (kind line : ℕ)
     → Follows s bytes lines → (n : IsNext s t l m (Err (Limit kind line)))
     → IsPast (bytes ++ n.taken) lines × (kind ≡ 1) × (line ≡ length lines + 1)
@@ -113,8 +137,17 @@ past_limit s t l m bytes lines kind line f n =
     let more : List ℕ = n.taken in
     let size = length-append bytes more in
     elim f.stands [
-      | inl o ↦ (record { long = omega (arith, n.answers.1, n.takes.taken, f.taken, size); lines_are = ended_given s t l m bytes more lines f o n.answers.0 }, n.answers.2, n.answers.3 ∙ ap (λ k. k + 1) f.number)
-      | inr d ↦ (let none : length more ≡ 0 = ap length (n.takes.at_end d.ended) in absurd (omega (arith, n.answers.1, n.takes.taken, f.taken, d.short)))
+      | inl o ↦ (
+        record {
+          long = omega (arith, n.answers.1, n.takes.taken, f.taken, size);
+          lines_are =
+              ended_given s t l m bytes more lines f o n.answers.0;
+        },
+        n.answers.2,
+        n.answers.3 ∙ ap (λ k. k + 1) f.number,
+      )
+      | inr d ↦ (let none : length more ≡ 0 = ap length (n.takes.at_end d.ended) in
+          absurd (omega (arith, n.answers.1, n.takes.taken, f.taken, d.short)))
     ]
 
 -- at a fault the lines given are those that have their end
@@ -125,7 +158,8 @@ at_fault s t l m bytes lines f n =
     let size = length-append bytes more in
     elim f.stands [
       | inl o ↦ ended_given s t l m bytes more lines f o n.answers.0
-          ∙ ap ended_lines (take_all text_limit (bytes ++ more) (omega (arith, n.answers.1, n.takes.taken, f.taken, size)))
+          ∙ ap ended_lines (take_all text_limit (bytes ++ more)
+          (omega (arith, n.answers.1, n.takes.taken, f.taken, size)))
       | inr d ↦ absurd (true_false (sym d.ended ∙ n.answers.2))
     ]
 
@@ -143,13 +177,19 @@ cut_front s bytes more lines o =
     sym (append_assoc (closed lines) s.rest (take (text_limit - length bytes) more))
     ∙ ap (λ xs. xs ++ take (text_limit - length bytes) more) o.front ∙ sym (take_front text_limit bytes more) in
     elim (cases_Bool (nat_lt text_limit (length text))) [
-      | inl long ↦ record { rest = ended_lines behind; whole = rw long (ap ended_lines (sym front) ∙ ended_closed lines behind o.lines_are) }
+      | inl long ↦ record {
+        rest = ended_lines behind;
+        whole =
+            rw long (ap ended_lines (sym front) ∙ ended_closed lines behind o.lines_are);
+      }
       | inr short ↦ record {
         rest = lines_of behind;
-        whole = rw short (ap lines_of (sym (take_all text_limit text (ltb-false _ _ short)) ∙ sym front) ∙ lines_closed lines behind o.lines_are);
+        whole = rw short (ap lines_of (sym (take_all text_limit text (ltb-false _ _ short)) ∙ sym front)
+            ∙ lines_closed lines behind o.lines_are);
       }
     ]
 
+-- whatever bytes are still to come, the lines given are a front of the judged lines
 pub judged_front : (s : LineState) (bytes more : List ℕ) (lines : List (List ℕ)) → Follows s bytes lines
     → (s.ended ≡ true → more ≡ []) → IsFront lines (judged_lines (bytes ++ more))
 judged_front s bytes more lines f end =

@@ -61,7 +61,8 @@ told_lines_more j xs line n e =
     ∙ ap (λ zs. told_lines j xs ++ zs) (ap (λ m. told_from j m (line ∷ [])) place ∙ told_one j n line)
 
 -- the lines so far are those of the bytes taken so far, and of those that aren't passed over something is known
-pub record IsReading (j : Judgement) (Knows : List (ℕ × List (List ℕ)) → Type 0) (left left' : Option (List ℕ)) (s : LineState)
+pub record IsReading (j : Judgement) (Knows : List (ℕ × List (List ℕ)) → Type 0) (left left' : Option (List ℕ))
+    (s : LineState)
     : Type 0 where
   pub bytes : List ℕ
   pub lines : List (List ℕ)
@@ -117,7 +118,8 @@ reading_line j Knows Knows' s t l m n line number i next kept same place takes =
 of_judged : (j : Judgement) (text : List ℕ) (e : ReadRefusal) → j.of_lines (told_lines j (judged_lines text)) ≡ Some e
     → text_refusal j text ≡ Some e
 of_judged j text e h =
-    ap (λ a. or_else a (or_else (length_refusal text) (j.of_whole (length (lines_of text) + 1) (told_lines j (lines_of text))))) h
+    ap (λ a. or_else a (or_else (length_refusal text)
+    (j.of_whole (length (lines_of text) + 1) (told_lines j (lines_of text))))) h
 
 -- a grammar judges in the order of the text, by codes and limits
 pub record IsInOrder (j : Judgement) : Type 0 where
@@ -184,7 +186,8 @@ too_long j Knows s t l m n kind line text clean i next is =
     let past = past_limit s (fresh t) m n i.bytes i.lines kind line i.follows next in
     let p : IsPast (i.bytes ++ next.taken) i.lines = past.0 in
     let all =
-    given l n (i.bytes ++ next.taken) text (Consumes-trans l m n i.bytes next.taken i.consumed next.takes.consumed) is in
+    given l n (i.bytes ++ next.taken) text
+    (Consumes-trans l m n i.bytes next.taken i.consumed next.takes.consumed) is in
     let size : length text ≡ length (i.bytes ++ next.taken) + length all.0 =
     ap length all.2 ∙ length-append (i.bytes ++ next.taken) all.0 in
     let long : nat_lt text_limit (length text) ≡ true =
@@ -230,13 +233,15 @@ pub record IsWhole (j : Judgement) (text : List ℕ) (lines : List (List ℕ)) (
   pub all : lines_of text ≡ lines
   pub refusal : text_refusal j text ≡ j.of_whole line (told_lines j lines)
 
+-- once the end is answered, the whole text decides
 pub whole_text : (j : Judgement) (Knows : List (ℕ × List (List ℕ)) → Type 0) (s t : LineState) (l m n : Option (List ℕ))
     (line : ℕ) (text : List ℕ) → ((lines : List (ℕ × List (List ℕ))) → Knows lines → j.of_lines lines ≡ None)
     → (i : IsReading j Knows l m s) → IsNext s (fresh t) m n (Ok End) → line ≡ t.number + 1 → IsAtEnd n → l ≡ Some text
     → IsWhole j text i.lines line
 whole_text j Knows s t l m n line text clean i next place end is =
     let g : IsAll (i.bytes ++ next.taken) i.lines = all_given s (fresh t) m n i.bytes i.lines i.follows next in
-    let all = given l n (i.bytes ++ next.taken) text (Consumes-trans l m n i.bytes next.taken i.consumed next.takes.consumed) is in
+    let all = given l n (i.bytes ++ next.taken) text
+    (Consumes-trans l m n i.bytes next.taken i.consumed next.takes.consumed) is in
     let whole : text ≡ i.bytes ++ next.taken =
     all.2 ∙ ap (λ xs. (i.bytes ++ next.taken) ++ xs) (subst IsAtEnd all.1 end) ∙ append-nil (i.bytes ++ next.taken) in
     let lines : lines_of text ≡ i.lines = ap lines_of whole ∙ sym g.all in
@@ -251,6 +256,7 @@ whole_text j Knows s t l m n line text clean i next place end is =
     record {
       all = lines;
       refusal =
-          ap₂ (λ a b. or_else a (or_else b (j.of_whole (length (lines_of text) + 1) (told_lines j (lines_of text))))) none size
+          ap₂ (λ a b. or_else a
+          (or_else b (j.of_whole (length (lines_of text) + 1) (told_lines j (lines_of text))))) none size
           ∙ ap₂ (λ k ls. j.of_whole k (told_lines j ls)) number lines;
     }

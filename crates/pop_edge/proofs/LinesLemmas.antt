@@ -1,4 +1,6 @@
 -- Lines behind one another, and the lines of bytes that were cut at line ends.
+-- A line with its end at the front of bytes is their first line, and counts one line end. So the lines of closed lines
+-- and a rest are these lines and those of the rest; where the rest has no line end, just these lines have theirs.
 use Rattle.std.proofs.Common.{◌≡◌, ℕ, suc, zero, ◌+◌, ◌-◌, ◌<◌, Bool, true, false, cond, List, [], ◌∷◌, ◌++◌, length, take, count_by, refl, sym, ap, ap₂, ◌∙◌, arith, append_assoc, append-nil, ◌||◌}
 use Rattle.std.specs.List.{list_any, onto_first}
 use Rattle.std.proofs.Math.Seq.{take-append-add}
@@ -32,6 +34,7 @@ lines_behind (b ∷ line) rest h =
     let head : is_end b ≡ false = p.0 in
     rw head (ap (onto_first b) (lines_behind line rest p.1))
 
+-- and counts one line end
 pub ends_behind : (line rest : List ℕ) → list_any is_end line ≡ false
     → count_by is_end (line ++ 10 ∷ rest) ≡ suc (count_by is_end rest)
 ends_behind [] rest h = sum_by-cons (λ x. cond (is_end x) 1 0) 10 rest ∙ omega arith
@@ -48,6 +51,7 @@ no_ends (b ∷ bytes) h =
     let head : is_end b ≡ false = p.0 in
     sum_by-cons (λ x. cond (is_end x) 1 0) b bytes ∙ rw head (omega (arith, no_ends bytes p.1))
 
+-- some bytes without a line end are one line
 pub one_line : (bytes : List ℕ) → list_any is_end bytes ≡ false → 0 < length bytes → lines_of bytes ≡ bytes ∷ []
 one_line [] h k = absurd (omega arith)
 one_line (b ∷ []) h k = let p = no_head b [] h in let head : is_end b ≡ false = p.0 in rw head refl
@@ -64,6 +68,7 @@ lines_closed (line ∷ lines) rest h =
     ap lines_of (append_assoc line (10 ∷ closed lines) rest) ∙ lines_behind line (closed lines ++ rest) h.0
     ∙ ap (λ ls. line ∷ ls) (lines_closed lines rest h.1)
 
+-- each closed line has one line end
 pub ends_closed : (lines : List (List ℕ)) (rest : List ℕ) → AreLines lines
     → count_by is_end (closed lines ++ rest) ≡ length lines + count_by is_end rest
 ends_closed [] rest h = omega arith
@@ -78,6 +83,7 @@ ended_closed lines rest h =
     ap₂ (λ n ls. take n ls) (ends_closed lines rest h) (lines_closed lines rest h)
     ∙ take-append-add lines (lines_of rest) (count_by is_end rest)
 
+-- closed lines, with one more
 pub closed-append : (lines : List (List ℕ)) (line rest : List ℕ)
     → closed (lines ++ line ∷ []) ++ rest ≡ closed lines ++ (line ++ 10 ∷ rest)
 closed-append [] line rest = append_assoc line (10 ∷ []) rest
@@ -85,6 +91,7 @@ closed-append (l ∷ lines) line rest =
     append_assoc l (10 ∷ closed (lines ++ line ∷ [])) rest ∙ ap (λ xs. l ++ 10 ∷ xs) (closed-append lines line rest)
     ∙ sym (append_assoc l (10 ∷ closed lines) (line ++ 10 ∷ rest))
 
+-- lines, with one more
 pub AreLines-append : (lines : List (List ℕ)) (line : List ℕ) → AreLines lines → list_any is_end line ≡ false
     → AreLines (lines ++ line ∷ [])
 AreLines-append [] line h k = (k, tt)

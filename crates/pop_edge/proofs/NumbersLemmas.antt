@@ -39,6 +39,7 @@ value_past word i value e h =
     le-ltb _ _ (omega (arith, digits_value-take-le 10 word i (omega arith), e)) in
     rw no refl
 
+-- the value of all digits, where it is below the bound
 pub value_whole : (word : List ℕ) (i value : ℕ) → length word ≤ i → value ≡ digits_value 10 (take i word)
     → value < 2 ^ 32
     → Some value ≡ (if nat_lt (digits_value 10 word) (2 ^ 32) then Some (digits_value 10 word) else None)

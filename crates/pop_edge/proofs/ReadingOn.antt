@@ -18,7 +18,8 @@ reads_nothing s left =
       reads = record {
         consumed = Consumes-nil left;
         taken = omega arith;
-        rest = sym (ap (λ xs. s.rest ++ xs) (take_all (text_limit - s.taken) (let none : List ℕ = [] in none) (omega arith)) ∙ append-nil s.rest);
+        rest = sym (ap (λ xs. s.rest ++ xs)
+            (take_all (text_limit - s.taken) (let none : List ℕ = [] in none) (omega arith)) ∙ append-nil s.rest);
         idle = λ _. refl;
         at_end = λ _. refl;
         stays = λ e. e;
@@ -55,14 +56,17 @@ reads_more s a b d l m n read going within cut same fill line number =
     let joined : take (text_limit - s.taken) (bytes ++ more) ≡ bytes ++ take (text_limit - a.taken) more =
     ap (λ k. take k (bytes ++ more)) room ∙ take-append-add bytes more (text_limit - a.taken) in
     let rest : rest_of d ≡ s.rest ++ take (text_limit - s.taken) (bytes ++ more) =
-    fill.rest ∙ ap₂ (λ xs k. xs ++ take (text_limit - k) more) (used_up a b cut ∙ r.rest ∙ ap (λ xs. s.rest ++ xs) all) same ∙ append_assoc s.rest bytes (take (text_limit - a.taken) more) ∙ ap (λ xs. s.rest ++ xs) (sym joined) in
+    fill.rest ∙ ap₂ (λ xs k. xs ++ take (text_limit - k) more)
+    (used_up a b cut ∙ r.rest ∙ ap (λ xs. s.rest ++ xs) all) same
+    ∙ append_assoc s.rest bytes (take (text_limit - a.taken) more) ∙ ap (λ xs. s.rest ++ xs) (sym joined) in
     record {
       bytes = bytes ++ more;
       reads = record {
         consumed = Consumes-trans l m n bytes more r.consumed fill.consumed;
         taken = omega (arith, r.taken, fill.taken, same, length-append bytes more);
         rest = rest;
-        idle = λ some. absurd (front_clear s.rest (take (text_limit - s.taken) bytes) (ap (list_any is_end) (sym r.rest) ∙ cut.0) some);
+        idle = λ some. absurd
+            (front_clear s.rest (take (text_limit - s.taken) bytes) (ap (list_any is_end) (sym r.rest) ∙ cut.0) some);
         at_end = λ e. let stays : a.ended ≡ true = r.stays e in absurd (false_true (sym going ∙ stays));
         stays = λ e. let stays : a.ended ≡ true = r.stays e in absurd (false_true (sym going ∙ stays));
         line = ap (λ v. v.items) line ∙ cut.3 ∙ r.line;

@@ -37,6 +37,7 @@ or_else_front None None c e h = absurd (cc)
 or_else_front None (Some b) c e h = h
 or_else_front (Some a) b c e h = h
 
+-- no refusal at a line comes of no fault
 pub at_line_none : (n : ℕ) (fault : Option Fault) → at_line n fault ≡ None → fault ≡ None
 at_line_none n None h = refl
 at_line_none n (Some fault) h = absurd (cc)
@@ -52,15 +53,18 @@ abbrev pub MayBeOfLine : Option ReadRefusal → Type 0
 MayBeOfLine None = Unit {0}
 MayBeOfLine (Some e) = IsOfLine e
 
+-- what one fault refuses is of a line
 pub at_line_is : (n : ℕ) (fault : Option Fault) → MayBeOfLine (at_line n fault)
 at_line_is n None = tt
 at_line_is n (Some (Code code)) = tt
 at_line_is n (Some (Passes kind)) = tt
 
+-- the first of two that are of lines is
 pub or_else_is : (a b : Option ReadRefusal) → MayBeOfLine a → MayBeOfLine b → MayBeOfLine (or_else a b)
 or_else_is None b first second = second
 or_else_is (Some e) b first second = first
 
+-- the first refusal of items is of a line
 pub first_refusal_is : {X : Type 0} (fault : List X → X → Option Fault) (before : List X) (xs : List (ℕ × X))
     → MayBeOfLine (first_refusal fault before xs)
 first_refusal_is fault before [] = tt

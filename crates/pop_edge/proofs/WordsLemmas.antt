@@ -1,4 +1,6 @@
 -- The words of a line, one after another.
+-- A blank at the front makes no word, so blanks may be skipped. Bytes that begin with no blank begin with a word, which
+-- goes up to the first blank, or to their end. The words behind it are those of the bytes behind that blank.
 use Rattle.std.proofs.Common.{◌≡◌, ℕ, suc, zero, ◌+◌, ◌-◌, ◌<◌, ◌≤◌, Bool, true, false, cond, not, ◌==◌, nat_eq, List, [], ◌∷◌, ◌++◌, length, take, drop, get_or, filter, Option, None, Some, position, All, refl, sym, ap, ◌∙◌, arith, take-append-drop, length-take, length-drop, slice_range, IsTrue}
 use Rattle.std.specs.List.{slice_split}
 use Rattle.std.proofs.lemmas.List.{drop_more, get_or-take, get_or-drop, get_or_default, take_rest}
@@ -17,6 +19,7 @@ none_from false n h = refl
 pub skip_blank : (b : ℕ) (bs : List ℕ) → is_blank b ≡ true → words_of (b ∷ bs) ≡ words_of bs
 skip_blank b bs e = rw e refl
 
+-- and so do blanks
 pub skip_blanks : (bs : List ℕ) (n : ℕ) → n ≤ length bs → ((k : ℕ) → k < n → not (is_blank (get_or bs k 0)) ≡ false)
     → words_of bs ≡ words_of (drop n bs)
 skip_blanks bs zero l h = refl
@@ -29,6 +32,7 @@ pub no_words : (bs : List ℕ) → ((k : ℕ) → k < length bs → not (is_blan
 no_words [] h = refl
 no_words (b ∷ bs) h = skip_blank b bs (not-false _ (h 0 (omega arith))) ∙ no_words bs (λ k j. h (suc k) (omega arith))
 
+-- where only blanks are found, there is no word
 pub no_words_none : (bs : List ℕ) → position (λ b. not (is_blank b)) bs ≡ None → words_of bs ≡ []
 no_words_none bs e =
     let past = ltb-false _ _ (none_from _ _ e) in
@@ -56,14 +60,21 @@ word_some bs n e more =
     let clear = clear_front bs n (omega arith) (λ k l. p.2 k l) in
     let cut : bs ≡ take n bs ++ get_or bs n 0 ∷ drop (n + 1) bs = sym (take-append-drop n bs)
     ∙ ap (λ xs. take n bs ++ xs) (drop_more bs n 0 within) in
-    let size : length (take n bs) ≡ n = rw length-take (omega arith) in
-    (ap words_of cut ∙ ap (filter (λ w. not (length w == 0))) (slice_split_at is_blank (take n bs) (get_or bs n 0) (drop (n + 1) bs) clear p.1) ∙ kept_word (take n bs) (slice_split is_blank (drop (n + 1) bs)) (omega (arith, size)), within)
+    let size : length (take n bs) ≡ n = rw length-take (omega arith) in (
+      ap words_of cut ∙ ap (filter (λ w. not (length w == 0)))
+          (slice_split_at is_blank (take n bs) (get_or bs n 0) (drop (n + 1) bs) clear p.1)
+          ∙ kept_word (take n bs) (slice_split is_blank (drop (n + 1) bs)) (omega (arith, size)),
+      within,
+    )
 
 -- or where there is none, at the end
 pub word_none : (bs : List ℕ) → position is_blank bs ≡ None → 0 < length bs → words_of bs ≡ bs ∷ []
 word_none bs e more =
     let past = ltb-false _ _ (none_from _ _ e) in
-    ap (filter (λ w. not (length w == 0))) (slice_split_none is_blank bs (λ k d l. ap is_blank (get_or_default bs k d 0 l) ∙ fails_before_first is_blank bs k 0 (omega (arith, past)))) ∙ kept_word bs [] more
+    ap (filter (λ w. not (length w == 0)))
+    (slice_split_none is_blank bs
+    (λ k d l. ap is_blank (get_or_default bs k d 0 l) ∙ fails_before_first is_blank bs k 0 (omega (arith, past))))
+    ∙ kept_word bs [] more
 
 -- what a front word leaves of the bytes
 pub front_some : (bs : List ℕ) (n : ℕ) → position is_blank bs ≡ Some n → IsTrue (not (is_blank (get_or bs 0 0)))
@@ -81,6 +92,7 @@ front_some bs n e first =
     positive zero h = absurd (clash _ first h)
     positive (suc m) h = omega arith
 
+-- or the bytes are one word
 pub front_none : (bs : List ℕ) → position is_blank bs ≡ None → 0 < length bs
     → words_of bs ≡ bs ∷ words_of (slice_range bs (length bs) (length bs))
 front_none bs e more =
@@ -95,5 +107,8 @@ skipped bs n at =
     let p = position-Some (λ b. not (is_blank b)) bs n 0 at in
     let rest : slice_range bs n (length bs) ≡ drop n bs = take_rest bs n in
     let first : get_or (slice_range bs n (length bs)) 0 0 ≡ get_or bs n 0 = ap (λ xs. get_or xs 0 0) rest
-    ∙ get_or-drop n bs 0 0 ∙ ap (λ k. get_or bs k 0) (let e : n + 0 ≡ n = omega arith in e) in
-    (skip_blanks bs n (omega (arith, p.0)) (λ k l. p.2 k l) ∙ ap words_of (sym rest), omega (arith, ap length rest, length-drop n bs, p.0), ap (λ b. not (is_blank b)) first ∙ p.1)
+    ∙ get_or-drop n bs 0 0 ∙ ap (λ k. get_or bs k 0) (let e : n + 0 ≡ n = omega arith in e) in (
+      skip_blanks bs n (omega (arith, p.0)) (λ k l. p.2 k l) ∙ ap words_of (sym rest),
+      omega (arith, ap length rest, length-drop n bs, p.0),
+      ap (λ b. not (is_blank b)) first ∙ p.1,
+    )

@@ -63,9 +63,9 @@ impl Lines {
     }
 
     /// Gives the next line, or says that there is none or why. It reads only where no whole line is
-    /// at hand. `Limit(1, line)` comes once a byte past the limit was read and every line before the
-    /// line of the first such byte was given, `ReadFault` where the source failed and no whole line
-    /// was at hand. After a refusal each call answers the same refusal and reads nothing.
+    /// at hand. `Limit(1, line)` comes once a byte past the limit was read and every line before
+    /// the line of the first such byte was given, `ReadFault` where the source failed and no whole
+    /// line was at hand. After a refusal each call answers the same refusal and reads nothing.
     pub fn next<S: Source>(&mut self, source: &mut S) -> Result<Next, ReadRefusal>
         ensures kept { IfSome self.old.kept (λ refusal.
             Repeats self.old self.new (S.left source.old) (S.left source.new) result refusal) }

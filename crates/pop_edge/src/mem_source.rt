@@ -38,8 +38,8 @@ impl Model for MemSource {
 }
 
 impl MemSource {
-    /// Gives the bytes, at most `piece` of them in one read. The reads whose numbers, from 1, are in
-    /// `failing` fail.
+    /// Gives the bytes, at most `piece` of them in one read. The reads whose numbers, from 1, are
+    /// in `failing` fail.
     pub fn new(bytes: Vec<u8>, piece: usize, failing: Vec<u64>) -> MemSource
         requires { 1 ≤ piece }
         ensures { result ≡ new_source bytes.items piece failing.items }
@@ -60,8 +60,8 @@ impl Source for MemSource {
 
     ghost faults = { λ s. s.faults };
 
-    /// Fails exactly where its number is listed, and else gives as many bytes as the piece, the room
-    /// and what is left allow.
+    /// Fails exactly where its number is listed, and else gives as many bytes as the piece, the
+    /// room and what is left allow.
     fn read(&mut self, room: &mut [u8]) -> Result<usize, Failed>
         requires { 0 < length room.old }
         ensures bound { ReadsAtMost result room.new }

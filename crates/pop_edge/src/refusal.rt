@@ -5,8 +5,8 @@ use crate::Failed;
 use std::alloc::{AllocError, AllocFailed};
 use thiserror::Error;
 
-/// Why a text was refused. Lines and clauses count from 1. The first refusal in the order of the text
-/// is named.
+/// Why a text was refused. Lines and clauses count from 1. The first refusal in the order of the
+/// text is named.
 #[derive(Clone, Copy, Debug, PartialEq, Eq, Error)]
 pub enum ReadRefusal {
     /// A line outside the grammar, and the code of what is wrong in it.

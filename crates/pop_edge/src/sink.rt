@@ -13,8 +13,8 @@ pub trait Sink {
     /// How often a write failed.
     ghost faults: { Self → ℕ };
 
-    /// Takes some bytes from the front of the piece, at least one, and says how many. `Failed` takes
-    /// none, and comes only where the count of faults rose.
+    /// Takes some bytes from the front of the piece, at least one, and says how many. `Failed`
+    /// takes none, and comes only where the count of faults rose.
     fn write(&mut self, piece: &[u8]) -> Result<usize, Failed>
         requires { 0 < length piece.now }
         ensures some { TakesSome result piece.now }

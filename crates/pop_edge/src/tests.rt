@@ -9,8 +9,8 @@ use std::io;
 use std::io::{Error, ErrorKind, Read, Write};
 use std::test::Fail;
 
-/// The lines of a text that comes in pieces, each line with a `/` behind it, and what came after them:
-/// the answers of two more calls.
+/// The lines of a text that comes in pieces, each line with a `/` behind it, and what came after
+/// them: the answers of two more calls.
 fn joined(
     alloc: Global,
     text: &[u8],

@@ -12,5 +12,13 @@ returns-in-None c = no_words_none c.args.line.now (sym c.in-None.ensures)
 pub returns-in-Some : goal.returns-in-Some
 returns-in-Some c =
     let s = skipped c.args.line.now c.in-Some.start (sym c.in-Some.ensures) in
-    let f = c.front_word.ensures in
-    (s.0 ∙ f.word, f.not_empty, omega (arith, f.shorter, length-take (length c.args.line.now - c.in-Some.start) (drop c.in-Some.start c.args.line.now), length-drop c.in-Some.start c.args.line.now))
+    let f = c.front_word.ensures in (
+      s.0 ∙ f.word,
+      f.not_empty,
+      omega (
+        arith,
+        f.shorter,
+        length-take (length c.args.line.now - c.in-Some.start) (drop c.in-Some.start c.args.line.now),
+        length-drop c.in-Some.start c.args.line.now,
+      ),
+    )

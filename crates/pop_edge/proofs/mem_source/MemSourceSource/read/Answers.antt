@@ -13,6 +13,7 @@ returns-clause-bytes c =
     let copy : copied ≡ take (at + n - at) (drop at bytes) = c.copy_from_slice.ensures.after
     ∙ ap (λ xs. take (at + n - at) (drop at xs)) c.deref-2.ensures.value in
     let count : n ≡ min c.self.inside.piece (min (length room) (length bytes - at)) = search rules in (
-      sym (ap (λ (s : Input). s.left) c.self.view_is) ∙ taken bytes copied room at n copy c.self.invariant.0 (omega (arith, count)),
+      sym (ap (λ (s : Input). s.left) c.self.view_is)
+          ∙ taken bytes copied room at n copy c.self.invariant.0 (omega (arith, count)),
       λ zero some. at_end bytes at n c.self.inside.piece (length room) count c.self.invariant.1 c.requires zero,
     )

@@ -12,7 +12,8 @@ loop-self-preserved g c =
     let f = c.in_ok-fill.ensures in
     record {
       splitter = f.splitter;
-      read = reads_more (state_of c.args.self.now) c.loop-self.self c.cut.new.self c.fill.new.self _ _ _ i.read c.loop-self-test.true c.if-self-le-LIMIT.true cut s.0 f.filled f.same.0 f.same.1;
+      read = reads_more (state_of c.args.self.now) c.loop-self.self c.cut.new.self c.fill.new.self _ _ _ i.read
+          c.loop-self-test.true c.if-self-le-LIMIT.true cut s.0 f.filled f.same.0 f.same.1;
       at_end = λ _ e. f.filled.at_end e;
       faults = omega (arith, i.faults, f.cause.later);
     }
