@@ -28,7 +28,11 @@ body_front : (xs ys : List (ℕ × List (List ℕ))) → IsFrontOf (body xs) (bo
 body_front [] ys = record { rest = body ys; whole = refl }
 body_front (x ∷ xs) ys =
     elim (cases_Bool (ends x)) [
-      | inl e ↦ record { rest = []; whole = body_no x (xs ++ ys) e ∙ sym (body_no x xs e) ∙ sym (append-nil (body (x ∷ xs))) }
+      | inl e ↦ record {
+        rest = [];
+        whole =
+            body_no x (xs ++ ys) e ∙ sym (body_no x xs e) ∙ sym (append-nil (body (x ∷ xs)));
+      }
       | inr e ↦ (let r = body_front xs ys in
           record {
             rest = r.rest;
@@ -98,7 +102,8 @@ answers_next left OutOfMemory text is (inl fault) = tt
 answers_next left e text is (inr other) = answers_line left e text is other
 
 -- at the end of the source the whole is answered
-pub answers_whole : (r : Reader) (s t : LineState) (l m n : Option (List ℕ)) (line : ℕ) (result : Result Cnf ReadRefusal)
+pub answers_whole : (r : Reader) (s t : LineState) (l m n : Option (List ℕ)) (line : ℕ)
+    (result : Result Cnf ReadRefusal)
     (text : List ℕ) → IsReading cnf (Knows r) l m s → IsNext s (fresh t) m n (Ok End) → line ≡ t.number + 1
     → ((lines : List (ℕ × List (List ℕ))) → Knows r lines → Finishes line lines result) → IsAtEnd n → l ≡ Some text
     → AnswersCnf text result

@@ -37,7 +37,8 @@ pair_equiv = and_equiv (on_equiv (λ (p : ℕ × ℕ). p.0) nat_eq_equiv) (on_eq
 
 pair_ties : (x y : ℕ × ℕ) → same_pair x y ≡ eq_by_cmp pair_cmp x y
 pair_ties x y =
-    both_tied (x.0 == y.0) (x.1 == y.1) (nat_cmp x.0 y.0) (nat_cmp x.1 y.1) (unsigned_ties x.0 y.0) (unsigned_ties x.1 y.1)
+    both_tied (x.0 == y.0) (x.1 == y.1) (nat_cmp x.0 y.0) (nat_cmp x.1 y.1) (unsigned_ties x.0 y.0)
+    (unsigned_ties x.1 y.1)
 
 same_is : (x y : ℕ × ℕ) → same_pair x y ≡ true → x ≡ y
 same_is x y h =
@@ -47,9 +48,11 @@ same_is x y h =
 -- a lesser pair has a lesser variable, or the same variable and a lesser value
 pair_less : (x y : ℕ × ℕ) → pair_cmp x y ≡ Less → (x.0 < y.0) ⊎ ((x.0 ≡ y.0) × (x.1 < y.1))
 pair_less x y less =
-    by (nat_cmp x.0 y.0) (nat_cmp x.1 y.1) (ranked x.0 y.0 (nat_cmp x.0 y.0) refl) (ranked x.1 y.1 (nat_cmp x.1 y.1) refl) less
+    by (nat_cmp x.0 y.0) (nat_cmp x.1 y.1) (ranked x.0 y.0 (nat_cmp x.0 y.0) refl)
+    (ranked x.1 y.1 (nat_cmp x.1 y.1) refl) less
   where
-    by : (o p : Ordering) → MatchOrdering o (x.0 < y.0) (x.0 ≡ y.0) (y.0 < x.0) → MatchOrdering p (x.1 < y.1) (x.1 ≡ y.1) (y.1 < x.1)
+    by : (o p : Ordering) → MatchOrdering o (x.0 < y.0) (x.0 ≡ y.0) (y.0 < x.0)
+        → MatchOrdering p (x.1 < y.1) (x.1 ≡ y.1) (y.1 < x.1)
         → ordering_then o p ≡ Less → (x.0 < y.0) ⊎ ((x.0 ≡ y.0) × (x.1 < y.1))
     by Less p here there h = inl here
     by Equal Less here there h = inr (here, there)
@@ -94,13 +97,15 @@ rising_cube pairs e sorted cube there back =
           let y : ℕ × ℕ = get_or pairs (k + 1) (0, 0) in
           let at_k : slice_index (variables pairs) k ≡ x.0 = variable_at pairs k (omega arith) in
           let at_next : slice_index (variables pairs) (k + 1) ≡ y.0 = variable_at pairs (k + 1) (omega arith) in
-          let less : pair_cmp x y ≡ Less = Less-from_sorted pair_cmp pairs k (k + 1) (0, 0) sorted (omega arith) (omega arith) in
+          let less : pair_cmp x y ≡ Less =
+          Less-from_sorted pair_cmp pairs k (k + 1) (0, 0) sorted (omega arith) (omega arith) in
           elim (pair_less x y less) [
             | inl up ↦ omega (arith, at_k, at_next, up)
             | inr clash ↦
                 let x_in : Contains e (x.0, x.1) = there x (Contains-get_or pairs k (0, 0) (omega arith)) in
                 let y_in : Contains e (x.0, y.1) =
-                subst (λ v. Contains e (v, y.1)) (sym clash.0) (there y (Contains-get_or pairs (k + 1) (0, 0) (omega arith))) in
+                subst (λ v. Contains e (v, y.1)) (sym clash.0)
+                (there y (Contains-get_or pairs (k + 1) (0, 0) (omega arith))) in
                 let one : x.1 ≡ y.1 = one_value e x.0 x.1 y.1 cube x_in y_in in
                 absurd (omega (arith, clash.1, one))
           ];
@@ -140,7 +145,8 @@ cube_found clause pairs sorted kept e are k is cube =
       cube = cube;
       same = λ p. (
         λ h. subst (λ xs. Contains xs p) are (kept_only pairs sorted kept k p (subst (λ xs. Contains xs p) is h)),
-        λ h. subst (λ xs. Contains xs p) (sym is) (kept_all pairs sorted kept k p (subst (λ xs. Contains xs p) (sym are) h)),
+        λ h. subst (λ xs. Contains xs p) (sym is)
+            (kept_all pairs sorted kept k p (subst (λ xs. Contains xs p) (sym are) h)),
       );
     }
 

@@ -49,7 +49,8 @@ rows_start clauses rows none =
     let size : length rows ≡ 0 = ap length none in
     record {
       rising = λ k within.
-          let numbers : length (map (λ (r : ℕ × Cube). r.0) rows) ≡ length rows = length-map rows (λ (r : ℕ × Cube). r.0) in
+          let numbers : length (map (λ (r : ℕ × Cube). r.0) rows) ≡ length rows =
+          length-map rows (λ (r : ℕ × Cube). r.0) in
           absurd (omega arith);
       few = omega arith;
       exact = λ n e. (λ h. absurd (omega (arith, size, h.1)), λ h. absurd (omega (arith, h.0.2, h.1)));
@@ -88,13 +89,15 @@ numbers_below clauses i rows r k within =
     let d : ℕ × Cube = (0, []) in
     let inside : k < length rows = omega arith in
     let row : ℕ × Cube = get_or rows k d in
-    let number : slice_index (map (λ (r : ℕ × Cube). r.0) rows) k ≡ row.0 = get_or-map (λ (r : ℕ × Cube). r.0) rows k d 0 inside in
+    let number : slice_index (map (λ (r : ℕ × Cube). r.0) rows) k ≡ row.0 =
+    get_or-map (λ (r : ℕ × Cube). r.0) rows k d 0 inside in
     let known = (r.exact row.0 row.1).0 (Contains-get_or rows k d inside) in
     omega (arith, number, known.1)
 
 -- a clause more with its cube
 pub rows_more : (clauses : List (List ℤ)) (i : ℕ) (clause : List ℤ) (rows rows' : List (ℕ × Cube)) (e : Cube)
-    → AreRowsOf clauses i rows → slice_get clauses i ≡ Some clause → Falsifies clause e → rows' ≡ rows ++ (i + 1, e) ∷ []
+    → AreRowsOf clauses i rows → slice_get clauses i ≡ Some clause → Falsifies clause e
+    → rows' ≡ rows ++ (i + 1, e) ∷ []
     → AreRowsOf clauses (i + 1) rows'
 rows_more clauses i clause rows rows' e r at f is = subst (AreRowsOf clauses (i + 1)) (sym is) (record {
   rising =

@@ -1,4 +1,7 @@
--- A text has no refusal exactly where it is in the grammar, and then its formula is the one of the grammar.
+-- A text has no refusal exactly where it is in the grammar, and then its formula is the one of the grammar. One way,
+-- each part of the refusal is none: so the header declares what the grammar asks, each word is one of the grammar, and
+-- the counts agree. The other way, each word of the grammar stands within the limits, since the clauses and literals
+-- before it are some of those that the whole text has; so none is at fault, and neither is the whole.
 use Rattle.std.proofs.Common.{◌≡◌, ℕ, ◌+◌, ◌<◌, ◌≤◌, ◌^◌, Bool, true, false, cond, List, [], ◌∷◌, ◌++◌, length, count_by, nat_lt, nat_eq, nat_abs, ℤ, Option, None, Some, refl, sym, ap, ap₂, ◌∙◌, subst, arith, append_assoc, append-nil}
 use Rattle.std.specs.List.{onto_first}
 use Rattle.std.specs.Option.{option_map_or}
@@ -21,30 +24,41 @@ chosen_none : (t : Bool) (f : Fault) → cond t (Some f) None ≡ None → t ≡
 chosen_none true f h = absurd (cc)
 chosen_none false f h = refl
 
+-- a choice of a fault or another that gives None took the other
 pub chosen_some : (t : Bool) (a : Option Fault) (f : Fault) → cond t a (Some f) ≡ None → (t ≡ true) × (a ≡ None)
 chosen_some true a f h = (refl, h)
 chosen_some false a f h = absurd (cc)
 
+-- the same the other way round
 pub chosen_else : (t : Bool) (f : Fault) (a : Option Fault) → cond t (Some f) a ≡ None → (t ≡ false) × (a ≡ None)
 chosen_else true f a h = absurd (cc)
 chosen_else false f a h = (refl, h)
 
 -- how many of them, with one more
-pub count_more : (p : Option Token → Bool) (before : List (Option Token)) (t : Option Token) → count_by p (before ++ t ∷ []) ≡ count_by p before + cond (p t) 1 0
+pub count_more : (p : Option Token → Bool) (before : List (Option Token)) (t : Option Token)
+    → count_by p (before ++ t ∷ []) ≡ count_by p before + cond (p t) 1 0
 count_more p before t = sum_by-append (λ x. cond (p x) 1 0) before (t ∷ []) ∙ omega arith
 
 -- what a word without a fault is
-word_is : (v : ℕ) (before : List (Option Token)) (t : Option Token) → token_fault v before t ≡ None → count_by is_literal before ≤ 2 ^ 25
+word_is : (v : ℕ) (before : List (Option Token)) (t : Option Token) → token_fault v before t ≡ None
+    → count_by is_literal before ≤ 2 ^ 25
     → IsToken v t × (count_by is_literal (before ++ t ∷ []) ≤ 2 ^ 25)
 word_is v before None h k = absurd (cc)
 word_is v before (Some End) h k = (tt, omega (arith, count_more is_literal before (Some End)))
 word_is v before (Some (Literal l)) h k =
     let first = chosen_else _ _ _ h in
     let second = chosen_some _ _ _ first.1 in
-    let third = chosen_some _ _ _ second.1 in
-    (ltb-false v (nat_abs l) first.0, omega (arith, count_more is_literal before (Some (Literal l)), ltb-true (count_by is_literal before) (2 ^ 25) third.0))
+    let third = chosen_some _ _ _ second.1 in (
+      ltb-false v (nat_abs l) first.0,
+      omega (
+        arith,
+        count_more is_literal before (Some (Literal l)),
+        ltb-true (count_by is_literal before) (2 ^ 25) third.0,
+      ),
+    )
 
-pub words_are : (v : ℕ) (before : List (Option Token)) (xs : List (ℕ × Option Token)) → first_refusal (token_fault v) before xs ≡ None → count_by is_literal before ≤ 2 ^ 25
+pub words_are : (v : ℕ) (before : List (Option Token)) (xs : List (ℕ × Option Token))
+    → first_refusal (token_fault v) before xs ≡ None → count_by is_literal before ≤ 2 ^ 25
     → AreTokens v (items xs) × (count_by is_literal (before ++ items xs) ≤ 2 ^ 25)
 words_are v before [] h k = (tt, subst (λ ts. count_by is_literal ts ≤ 2 ^ 25) (sym (append-nil before)) k)
 words_are v before (x ∷ xs) h k =
@@ -58,42 +72,57 @@ length-onto l [] = (omega arith, omega arith)
 length-onto l (c ∷ cs) = (omega arith, omega arith)
 
 -- each end closes a clause, and a word behind it is in another
-ends_close : (v : ℕ) (before more : List (Option Token)) (t : Option Token) → IsToken v t → count_by is_clause_end before < length (clauses_of (before ++ t ∷ more))
+ends_close : (v : ℕ) (before more : List (Option Token)) (t : Option Token) → IsToken v t
+    → count_by is_clause_end before < length (clauses_of (before ++ t ∷ more))
 ends_close v [] more None h = absurd h
 ends_close v [] more (Some End) h = omega arith
 ends_close v [] more (Some (Literal l)) h = omega (arith, (length-onto l (clauses_of more)).1)
-ends_close v (None ∷ before) more t h = omega (arith, ends_close v before more t h, sum_by-cons (λ x. cond (is_clause_end x) 1 0) None before)
-ends_close v (Some End ∷ before) more t h = omega (arith, ends_close v before more t h, sum_by-cons (λ x. cond (is_clause_end x) 1 0) (Some End) before)
+ends_close v (None ∷ before) more t h =
+    omega (arith, ends_close v before more t h, sum_by-cons (λ x. cond (is_clause_end x) 1 0) None before)
+ends_close v (Some End ∷ before) more t h =
+    omega (arith, ends_close v before more t h, sum_by-cons (λ x. cond (is_clause_end x) 1 0) (Some End) before)
 ends_close v (Some (Literal l) ∷ before) more t h =
-    omega (arith, ends_close v before more t h, (length-onto l (clauses_of (before ++ t ∷ more))).0, sum_by-cons (λ x. cond (is_clause_end x) 1 0) (Some (Literal l)) before)
+    omega (
+      arith,
+      ends_close v before more t h,
+      (length-onto l (clauses_of (before ++ t ∷ more))).0,
+      sum_by-cons (λ x. cond (is_clause_end x) 1 0) (Some (Literal l)) before,
+    )
 
-count_front : (p : Option Token → Bool) (before more : List (Option Token)) (t : Option Token) → p t ≡ true → count_by p before < count_by p (before ++ t ∷ more)
+count_front : (p : Option Token → Bool) (before more : List (Option Token)) (t : Option Token) → p t ≡ true
+    → count_by p before < count_by p (before ++ t ∷ more)
 count_front p before more t e =
     let weight : Bool → ℕ = λ b. cond b 1 0 in
     let one : weight (p t) ≡ 1 = ap weight e in
     omega (arith, sum_by-append (λ x. cond (p x) 1 0) before (t ∷ more), sum_by-cons (λ x. cond (p x) 1 0) t more, one)
 
 -- a word of the grammar has no fault
-no_fault : (v : ℕ) (before more : List (Option Token)) (t : Option Token) → IsToken v t → length (clauses_of (before ++ t ∷ more)) ≤ 2 ^ 22 → count_by is_literal (before ++ t ∷ more) ≤ 2 ^ 25
+no_fault : (v : ℕ) (before more : List (Option Token)) (t : Option Token) → IsToken v t
+    → length (clauses_of (before ++ t ∷ more)) ≤ 2 ^ 22 → count_by is_literal (before ++ t ∷ more) ≤ 2 ^ 25
     → token_fault v before t ≡ None
 no_fault v before more None h a b = absurd h
 no_fault v before more (Some End) h a b =
-    let few : nat_lt (count_by is_clause_end before) (2 ^ 22) ≡ true = lt-ltb _ _ (omega (arith, a, ends_close v before more (Some End) h)) in
+    let few : nat_lt (count_by is_clause_end before) (2 ^ 22) ≡ true =
+    lt-ltb _ _ (omega (arith, a, ends_close v before more (Some End) h)) in
     rw few refl
 no_fault v before more (Some (Literal l)) h a b =
     let small : nat_lt v (nat_abs l) ≡ false = le-ltb v (nat_abs l) h in
-    let few : nat_lt (count_by is_clause_end before) (2 ^ 22) ≡ true = lt-ltb _ _ (omega (arith, a, ends_close v before more (Some (Literal l)) h)) in
-    let room : nat_lt (count_by is_literal before) (2 ^ 25) ≡ true = lt-ltb _ _ (omega (arith, b, count_front is_literal before more (Some (Literal l)) refl)) in
+    let few : nat_lt (count_by is_clause_end before) (2 ^ 22) ≡ true =
+    lt-ltb _ _ (omega (arith, a, ends_close v before more (Some (Literal l)) h)) in
+    let room : nat_lt (count_by is_literal before) (2 ^ 25) ≡ true =
+    lt-ltb _ _ (omega (arith, b, count_front is_literal before more (Some (Literal l)) refl)) in
     rw (small, few, room) refl
 
-no_faults : (v : ℕ) (before : List (Option Token)) (xs : List (ℕ × Option Token)) → AreTokens v (items xs) → length (clauses_of (before ++ items xs)) ≤ 2 ^ 22 → count_by is_literal (before ++ items xs) ≤ 2 ^ 25
+no_faults : (v : ℕ) (before : List (Option Token)) (xs : List (ℕ × Option Token)) → AreTokens v (items xs)
+    → length (clauses_of (before ++ items xs)) ≤ 2 ^ 22 → count_by is_literal (before ++ items xs) ≤ 2 ^ 25
     → first_refusal (token_fault v) before xs ≡ None
 no_faults v before [] h a b = refl
 no_faults v before (x ∷ xs) h a b =
     let here : token_fault v before x.1 ≡ None = no_fault v before (items xs) x.1 h.0 a b in
     let same = sym (append_assoc before (x.1 ∷ []) (items xs)) in
     let rest : first_refusal (token_fault v) (before ++ x.1 ∷ []) xs ≡ None =
-    no_faults v (before ++ x.1 ∷ []) xs h.1 (subst (λ ts. length (clauses_of ts) ≤ 2 ^ 22) same a) (subst (λ ts. count_by is_literal ts ≤ 2 ^ 25) same b) in
+    no_faults v (before ++ x.1 ∷ []) xs h.1 (subst (λ ts. length (clauses_of ts) ≤ 2 ^ 22) same a)
+    (subst (λ ts. count_by is_literal ts ≤ 2 ^ 25) same b) in
     ap (λ f. or_else (at_line x.0 f) (first_refusal (token_fault v) (before ++ x.1 ∷ []) xs)) here ∙ rest
 
 -- what a header without a fault declares
@@ -103,11 +132,14 @@ pub record Declares (words : List (List ℕ)) : Type 0 where
   pub variables_fit : variables_in words ≤ 2 ^ 22
   pub clauses_fit : clauses_in words ≤ 2 ^ 22
 
+-- a header without a fault declares two numbers within the limits
 pub declares : (words : List (List ℕ)) → header_fault words ≡ None → Declares words
 declares words h = by (declared words) refl h
   where
     by : (d : Option (ℕ × ℕ)) → declared words ≡ d
-        → option_map_or (λ e. cond (nat_lt 4 (length words)) (Some (Fault.Code 4)) (cond (nat_lt (2 ^ 22) e.0) (Some (Fault.Passes 2)) (cond (nat_lt (2 ^ 22) e.1) (Some (Fault.Passes 3)) None))) d (Some (Fault.Code 1)) ≡ None
+        → option_map_or (λ e. cond (nat_lt 4 (length words)) (Some (Fault.Code 4))
+        (cond (nat_lt (2 ^ 22) e.0) (Some (Fault.Passes 2))
+        (cond (nat_lt (2 ^ 22) e.1) (Some (Fault.Passes 3)) None))) d (Some (Fault.Code 1)) ≡ None
         → Declares words
     by None e h = absurd (cc)
     by (Some d) e h =
@@ -132,7 +164,8 @@ same_count false r h = absurd (cc)
 
 -- within the limit every line is judged
 judged_all : (text : List ℕ) → length text ≤ text_limit → judged_lines text ≡ lines_of text
-judged_all text h = let short : nat_lt text_limit (length text) ≡ false = le-ltb text_limit (length text) h in rw short refl
+judged_all text h = let short : nat_lt text_limit (length text) ≡ false = le-ltb text_limit (length text) h in
+    rw short refl
 
 -- A text without a refusal is in the grammar.
 pub sound : (text : List ℕ) → cnf_refusal text ≡ None → IsCnfText text (cnf_of text)
@@ -140,9 +173,11 @@ sound text h =
     let first = or_else_none (line_refusal (cnf_lines (judged_lines text))) _ h in
     let second = or_else_none (length_refusal text) _ first.1 in
     let short : length text ≤ text_limit = ltb-false text_limit (length text) (no_length _ _ second.0) in
-    by short (cnf_lines (lines_of text)) refl (ap (λ ls. line_refusal (cnf_lines ls)) (sym (judged_all text short)) ∙ first.0) second.1
+    by short (cnf_lines (lines_of text)) refl
+    (ap (λ ls. line_refusal (cnf_lines ls)) (sym (judged_all text short)) ∙ first.0) second.1
   where
-    by : length text ≤ text_limit → (ls : List (ℕ × List (List ℕ))) → cnf_lines (lines_of text) ≡ ls → line_refusal ls ≡ None → whole_refusal (length (lines_of text) + 1) ls ≡ None → IsCnfText text (formula_in ls)
+    by : length text ≤ text_limit → (ls : List (ℕ × List (List ℕ))) → cnf_lines (lines_of text) ≡ ls
+        → line_refusal ls ≡ None → whole_refusal (length (lines_of text) + 1) ls ≡ None → IsCnfText text (formula_in ls)
     by short [] e a b = absurd (cc)
     by short (header ∷ others) e a b =
         let both = or_else_none (at_line header.0 (header_fault header.1)) _ a in
@@ -169,21 +204,28 @@ complete text f g =
     let v : variables_in g.header.1 ≡ f.variables = ap (λ o. option_map_or (λ x. x.0) o 0) g.declares in
     let c : clauses_in g.header.1 ≡ length f.clauses = ap (λ o. option_map_or (λ x. x.1) o 0) g.declares in
     let short : nat_lt text_limit (length text) ≡ false = le-ltb text_limit (length text) g.short in
-    let header : header_fault g.header.1 ≡ None = no_header_fault g.header.1 g.four_words (omega (arith, v, g.variables_fit)) (omega (arith, c, g.clauses_fit)) f.variables (length f.clauses) g.declares in
-    let few : length (clauses_of (items (body g.others))) ≤ 2 ^ 22 = omega (arith, ap length g.clauses, g.clauses_fit) in
+    let header : header_fault g.header.1 ≡ None =
+    no_header_fault g.header.1 g.four_words (omega (arith, v, g.variables_fit))
+    (omega (arith, c, g.clauses_fit)) f.variables (length f.clauses) g.declares in
+    let few : length (clauses_of (items (body g.others))) ≤ 2 ^ 22 =
+    omega (arith, ap length g.clauses, g.clauses_fit) in
     let words : first_refusal (token_fault (variables_in g.header.1)) [] (body g.others) ≡ None =
-    no_faults (variables_in g.header.1) [] (body g.others) (subst (λ n. AreTokens n (items (body g.others))) (sym v) g.words) few g.literals_fit in
-    let lines : line_refusal (g.header ∷ g.others) ≡ None = ap₂ (λ a b. or_else (at_line g.header.0 a) b) header words in
+    no_faults (variables_in g.header.1) [] (body g.others)
+    (subst (λ n. AreTokens n (items (body g.others))) (sym v) g.words) few g.literals_fit in
+    let lines : line_refusal (g.header ∷ g.others) ≡ None =
+    ap₂ (λ a b. or_else (at_line g.header.0 a) b) header words in
     let count : clauses_in g.header.1 ≡ length (clauses_of (items (body g.others))) = c ∙ ap length g.clauses in
     let same : nat_eq (clauses_in g.header.1) (length (clauses_of (items (body g.others)))) ≡ true = eq-eqb _ _ count in
     let whole : whole_refusal (length (lines_of text) + 1) (g.header ∷ g.others) ≡ None = rw same refl in
-    let judged : line_refusal (cnf_lines (judged_lines text)) ≡ None = ap (λ ls. line_refusal (cnf_lines ls)) (judged_all text g.short) ∙ ap line_refusal g.lines ∙ lines in
+    let judged : line_refusal (cnf_lines (judged_lines text)) ≡ None =
+    ap (λ ls. line_refusal (cnf_lines ls)) (judged_all text g.short) ∙ ap line_refusal g.lines ∙ lines in
     let length_ok : length_refusal text ≡ None = rw short refl in (
       ap₂ or_else judged (ap₂ or_else length_ok (ap (whole_refusal (length (lines_of text) + 1)) g.lines ∙ whole)),
       ap₂ (λ n cs. record { variables = n; clauses = cs }) (sym v) g.clauses ∙ ap formula_in (sym g.lines),
     )
   where
-    no_header_fault : (words : List (List ℕ)) → length words ≤ 4 → variables_in words ≤ 2 ^ 22 → clauses_in words ≤ 2 ^ 22 → (v c : ℕ) → declared words ≡ Some (v, c) → header_fault words ≡ None
+    no_header_fault : (words : List (List ℕ)) → length words ≤ 4 → variables_in words ≤ 2 ^ 22
+        → clauses_in words ≤ 2 ^ 22 → (v c : ℕ) → declared words ≡ Some (v, c) → header_fault words ≡ None
     no_header_fault words four a b v c e =
         let vs : variables_in words ≡ v = ap (λ o. option_map_or (λ x. x.0) o 0) e in
         let cs : clauses_in words ≡ c = ap (λ o. option_map_or (λ x. x.1) o 0) e in

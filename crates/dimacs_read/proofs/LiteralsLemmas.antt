@@ -35,7 +35,8 @@ plain_some n =
       | true ↦ λ is. tt
       | false ↦ λ isnt.
           let some : 0 < n = (let ne : n ≡ 0 → ⊥ = eqb-false n 0 isnt in omega arith) in
-          elim (nat_lt n (2 ^ 31)) as (λ b. IsSome (if b then Some (Literal (pos n)) else None)) [ true ↦ some | false ↦ tt ]
+          elim (nat_lt n (2 ^ 31)) as
+          (λ b. IsSome (if b then Some (Literal (pos n)) else None)) [ true ↦ some | false ↦ tt ]
     ]) refl
 
 negated_some : (n : ℕ) → IsSome (negated n)
@@ -78,7 +79,7 @@ lines_some (line ∷ lines) =
     let whole : map (λ (w : ℕ × Option Token). w.1) (flat_map words (line ∷ lines))
     ≡ map (λ (w : ℕ × Option Token). w.1) (words line) ++ map (λ (w : ℕ × Option Token). w.1) (flat_map words lines) =
     ap (map (λ (w : ℕ × Option Token). w.1)) (flat_map-cons words line lines)
-        ∙ map-append (λ (w : ℕ × Option Token). w.1) (words line) (flat_map words lines) in
+    ∙ map-append (λ (w : ℕ × Option Token). w.1) (words line) (flat_map words lines) in
     subst AreSome (sym whole) (some_append _ _ (words_some line.0 line.1) (lines_some lines))
 
 onto_literals : (n : ℕ) (l : ℤ) (cs : List (List ℤ)) → IsLiteral n l → AreLiterals n cs

@@ -25,20 +25,23 @@ text ls = flat_map line ls
 second_clause_empty : cnf_refusal (text (codes "p cnf 1 2" ∷ codes "1 0" ∷ codes "0" ∷ [])) ≡ None
 second_clause_empty = refl
 
-its_clauses : cnf_of (text (codes "p cnf 1 2" ∷ codes "1 0" ∷ codes "0" ∷ [])) ≡ record { variables = 1; clauses = (pos 1 ∷ []) ∷ [] ∷ [] }
+its_clauses : cnf_of (text (codes "p cnf 1 2" ∷ codes "1 0" ∷ codes "0" ∷ []))
+    ≡ record { variables = 1; clauses = (pos 1 ∷ []) ∷ [] ∷ [] }
 its_clauses = refl
 
 too_many_clauses : cnf_refusal (text (codes "p cnf 1 1" ∷ codes "1 0" ∷ codes "1 0" ∷ [])) ≡ Some (Count 1 2)
 too_many_clauses = refl
 
 by_hand : List ℕ
-by_hand = text (codes "c by hand" ∷ codes "p cnf 3 2" ∷ codes "1 -2" ∷ codes "c in the middle" ∷ codes "0" ∷ codes "2 3" ∷ codes "%" ∷ codes "0" ∷ [])
+by_hand = text (codes "c by hand" ∷ codes "p cnf 3 2" ∷ codes "1 -2" ∷ codes "c in the middle" ∷ codes "0"
+    ∷ codes "2 3" ∷ codes "%" ∷ codes "0" ∷ [])
 
 comment_in_a_clause : cnf_refusal by_hand ≡ None
 unfolding by_hand
 comment_in_a_clause = refl
 
-closed_by_percent : cnf_of by_hand ≡ record { variables = 3; clauses = (pos 1 ∷ negsuc 1 ∷ []) ∷ (pos 2 ∷ pos 3 ∷ []) ∷ [] }
+closed_by_percent : cnf_of by_hand
+    ≡ record { variables = 3; clauses = (pos 1 ∷ negsuc 1 ∷ []) ∷ (pos 2 ∷ pos 3 ∷ []) ∷ [] }
 unfolding by_hand
 closed_by_percent = refl
 
@@ -64,10 +67,12 @@ too_many_declared : cnf_refusal (text (codes "p cnf 1 4194305" ∷ [])) ≡ Some
 too_many_declared = refl
 
 -- the first bad word counts, and a bad word before a wrong count of clauses
-first_in_the_order : cnf_refusal (text (codes "p cnf 2 9" ∷ codes "1 0" ∷ codes "1 x 3 0" ∷ codes "y" ∷ [])) ≡ Some (Malformed 3 2)
+first_in_the_order : cnf_refusal (text (codes "p cnf 2 9" ∷ codes "1 0" ∷ codes "1 x 3 0" ∷ codes "y" ∷ []))
+    ≡ Some (Malformed 3 2)
 first_in_the_order = refl
 
-last_line_without_end : cnf_of (codes "p cnf 2 1" ++ 10 ∷ codes "1 -2") ≡ record { variables = 2; clauses = (pos 1 ∷ negsuc 1 ∷ []) ∷ [] }
+last_line_without_end : cnf_of (codes "p cnf 2 1" ++ 10 ∷ codes "1 -2")
+    ≡ record { variables = 2; clauses = (pos 1 ∷ negsuc 1 ∷ []) ∷ [] }
 last_line_without_end = refl
 
 after_percent : cnf_refusal (text (codes "p cnf 1 1" ∷ codes "1" ∷ codes " %" ∷ codes "x" ∷ [])) ≡ None
@@ -102,7 +107,8 @@ other_format : cnf_refusal (text (codes "p edge 1 1" ∷ [])) ≡ Some (Malforme
 other_format = refl
 
 -- a header may stand behind comments and empty lines, and a comment may begin behind blanks
-header_behind_comments : cnf_refusal (text (codes "c x" ∷ [] ∷ codes "  col" ∷ codes " p  cnf 1 1" ∷ codes "1" ∷ [])) ≡ None
+header_behind_comments : cnf_refusal (text (codes "c x" ∷ [] ∷ codes "  col" ∷ codes " p  cnf 1 1" ∷ codes "1" ∷ []))
+    ≡ None
 header_behind_comments = refl
 
 -- one clause may stand in many lines, and many in one

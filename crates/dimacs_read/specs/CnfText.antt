@@ -1,5 +1,5 @@
--- Texts in the DIMACS CNF format, and the first refusal of any other text. A bad place is named by a
--- code: 1 and 4 for the header, 2 and 3 for a word behind it (this project's choice).
+-- Texts in the DIMACS CNF format, and the first refusal of any other text. A bad place is named by
+-- a code: 1 and 4 for the header, 2 and 3 for a word behind it (this project's choice).
 use Rattle.std.specs.Prelude.{◌≡◌, ℕ, ◌+◌, ◌^◌, ℤ, nat_abs, Bool, true, false, not, ◌&&◌, ◌==◌, nat_lt, if◌then◌else◌, List, [], ◌∷◌, length, map, flat_map, count_by, take_while, Option, None, Some, option_map, option_and_then, bytes_eq, codes, Result, Ok, Err, ⊤}
 use Rattle.std.specs.List.{onto_first}
 use Rattle.std.specs.Option.{option_map_or}
@@ -116,8 +116,8 @@ cnf_refusal text = text_refusal cnf text
 abbrev pub cnf_of : List ℕ → Cnf
 cnf_of text = formula_in (cnf_lines (lines_of text))
 
--- what a reader answers to a text: its formula or its first refusal, and last the least number, from
--- 1, of a clause without literals
+-- what a reader answers to a text: its formula or its first refusal, and last the least number,
+-- from 1, of a clause without literals
 abbrev pub AnswersCnf : List ℕ → Result Cnf ReadRefusal → Type 0
 AnswersCnf text (Ok f) = (cnf_refusal text ≡ None) × (f ≡ cnf_of text) × (first_empty f ≡ None)
 AnswersCnf text (Err (EmptyClause n)) =

@@ -20,7 +20,8 @@ use Rattle.dimacs_read.specs.Flat.{parts, Rises}
 -- what is wrong with a word behind so many ends and literals
 abbrev pub word_fault : ℕ → ℕ → ℕ → Option Token → Option Fault
 word_fault variables ends literals None = Some (Code 2)
-word_fault variables ends literals (Some End) = if nat_lt ends (2 ^ 22) then None else Some (Passes 3)
+word_fault variables ends literals (Some End) =
+    if nat_lt ends (2 ^ 22) then None else Some (Passes 3)
 word_fault variables ends literals (Some (Literal l)) =
     if nat_lt variables (nat_abs l) then Some (Code 3)
     else if nat_lt ends (2 ^ 22)

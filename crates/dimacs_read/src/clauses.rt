@@ -12,8 +12,8 @@ const MAX_CLAUSES: usize = 4194304;
 
 const MAX_LITERALS: usize = 33554432;
 
-/// The literals of all clauses so far, one clause behind another, and where each clause ends. Literals
-/// behind the last end belong to a clause that is still open.
+/// The literals of all clauses so far, one clause behind another, and where each clause ends.
+/// Literals behind the last end belong to a clause that is still open.
 #[derive(Drop)]
 pub struct Clauses {
     pub literals: Vec<i32>,

@@ -7,11 +7,11 @@ use pop_instance::{Cube, Events};
 use std::alloc::{AllocError, Global};
 
 impl Formula {
-    /// The events of the formula, each under the number of its clause, from 1: clause k gives the cube
-    /// in which each of its variables has the value that falsifies its literal, 0 for a variable and 1
-    /// for a negated one. Variable x of the text is variable x - 1 of the cube. A repeated literal
-    /// counts once, a clause with a variable and its negation gives no event, and of equal cubes the
-    /// first is kept. No clause may be empty.
+    /// The events of the formula, each under the number of its clause, from 1: clause k gives the
+    /// cube in which each of its variables has the value that falsifies its literal, 0 for a
+    /// variable and 1 for a negated one. Variable x of the text is variable x - 1 of the cube. A
+    /// repeated literal counts once, a clause with a variable and its negation gives no event, and
+    /// of equal cubes the first is kept. No clause may be empty.
     pub fn events(&self, alloc: Global) -> Result<Events, AllocError>
         requires { first_empty self.now ≡ None }
         ensures events { IfOk result (λ events. AreEventsOf self.now.clauses events) }
@@ -46,8 +46,8 @@ fn pairs_of(alloc: Global, literals: &[i32]) -> Result<Vec<(u32, u32)>, AllocErr
     literals.iter().map(|l| falsifier_of(*l)).collect(alloc)
 }
 
-// The cube of a clause, where it has one. Once equal pairs are gone, the variables rise unless one of
-// them has both values.
+// The cube of a clause, where it has one. Once equal pairs are gone, the variables rise unless one
+// of them has both values.
 fn cube_of(alloc: Global, literals: &[i32]) -> Result<Option<Cube>, AllocError>
     requires { length literals.now < 2 ^ 31 }
     ensures { IfOk result (IsCubeOf literals.now) }

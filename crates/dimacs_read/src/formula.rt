@@ -4,8 +4,8 @@ ghost use Rattle.dimacs_read.specs.Flat.{Rises, parts};
 
 use std::marker::Model;
 
-/// A formula in conjunctive normal form: its number of variables, and the literals of each clause as
-/// they were written, v for the variable v, from 1, and -v for its negation. It has at most 2^22
+/// A formula in conjunctive normal form: its number of variables, and the literals of each clause
+/// as they were written, v for the variable v, from 1, and -v for its negation. It has at most 2^22
 /// variables, 2^22 clauses and 2^25 literals. Clauses count from 0 here.
 #[derive(Drop)]
 pub struct Formula {

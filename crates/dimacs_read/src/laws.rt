@@ -1,8 +1,8 @@
 //! Laws of the grammar. Each is a function of no argument whose contract is the law.
 ghost use Rattle.dimacs_read.specs.Laws.{AcceptsExactly, HasOneFormula};
 
-/// A text has no refusal exactly where it is in the grammar, and then its formula is the one that the
-/// grammar gives it.
+/// A text has no refusal exactly where it is in the grammar, and then its formula is the one that
+/// the grammar gives it.
 pub fn accepts_exactly()
     ensures { AcceptsExactly }
 {}

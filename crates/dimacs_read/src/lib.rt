@@ -1,6 +1,6 @@
 //! Formulas from DIMACS CNF text, and the events of a formula: one for each clause, which occurs
-//! where the clause is false. Contracts see a formula as its number of variables and the literals of
-//! each clause.
+//! where the clause is false. Contracts see a formula as its number of variables and the literals
+//! of each clause.
 #![tactic(auto)]
 
 mod clauses;

@@ -12,17 +12,18 @@ use std::alloc::Global;
 
 /// Reads a formula in the DIMACS CNF format, to the end of the source.
 ///
-/// Lines without words and comments, lines that begin with `c`, are passed over. The first other line
-/// is the header, `p cnf V C`. The words of the lines behind it are literals, from 1 to V or a `-` and
-/// such a number, and `0` at the end of each clause; the last clause may lack it. A line that begins
-/// with `%` ends the clauses, and what follows is read and ignored.
+/// Lines without words and comments, lines that begin with `c`, are passed over. The first other
+/// line is the header, `p cnf V C`. The words of the lines behind it are literals, from 1 to V or a
+/// `-` and such a number, and `0` at the end of each clause; the last clause may lack it. A line
+/// that begins with `%` ends the clauses, and what follows is read and ignored.
 ///
-/// The first refusal in the order of the text is answered, at its line: `Malformed` with code 1 for a
-/// header that isn't one or is missing, 4 for a header of more words, 2 for a word that is no literal
-/// and no end, 3 for a literal above V; `Limit` of kind 2 for V above 2^22, 3 for C or the clauses
-/// above 2^22, 4 for more than 2^25 literals, 1 for more than 2^28 bytes. Then comes `Count` where
-/// there aren't C clauses, and then `EmptyClause` with the least number, from 1, of a clause without
-/// literals. `ReadFault` comes only where the source failed and no line is refused whose end was read.
+/// The first refusal in the order of the text is answered, at its line: `Malformed` with code 1 for
+/// a header that isn't one or is missing, 4 for a header of more words, 2 for a word that is no
+/// literal and no end, 3 for a literal above V; `Limit` of kind 2 for V above 2^22, 3 for C or the
+/// clauses above 2^22, 4 for more than 2^25 literals, 1 for more than 2^28 bytes. Then comes
+/// `Count` where there aren't C clauses, and then `EmptyClause` with the least number, from 1, of a
+/// clause without literals. `ReadFault` comes only where the source failed and no line is refused
+/// whose end was read.
 pub fn read_formula<S: Source>(alloc: Global, source: &mut S) -> Result<Formula, ReadRefusal>
     ensures text { (text : List ℕ) → S.left source.old ≡ Some text → AnswersCnf text result }
     ensures whole { OnOk result (IsAtEnd (S.left source.new)) }

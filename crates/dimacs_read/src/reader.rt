@@ -41,8 +41,8 @@ impl Reader {
         }
     }
 
-    /// The formula of the lines, or what stands against the whole. A missing header is refused at the
-    /// line given.
+    /// The formula of the lines, or what stands against the whole. A missing header is refused at
+    /// the line given.
     pub fn finish(self, line: u64) -> Result<Formula, ReadRefusal>
         requires { IsReader self }
         ensures { (lines : List (ℕ × List (List ℕ))) → Knows self lines

@@ -18,31 +18,53 @@ returns-in_err-close c = λ tokens h.
 
 pub returns-then-found-header : goal.returns-then-found-header
 returns-then-found-header c = λ tokens h.
-    let is = clauses_by c.args.clauses c.close.new.ends.items c.len.result tokens h (omega (arith, c.len.ensures)) c.in_ok-close.ensures in
-    let size : length (clauses_of tokens) ≡ length c.close.new.ends.items = ap length is ∙ length-parts c.args.clauses.literals.items 0 c.close.new.ends.items in
-    (λ k. absurd (omega (arith, k, size, c.len-found.ensures, c.if-found-header.true)), refl, omega (arith, size, c.len-found.ensures))
+    let is = clauses_by c.args.clauses c.close.new.ends.items c.len.result tokens h
+    (omega (arith, c.len.ensures)) c.in_ok-close.ensures in
+    let size : length (clauses_of tokens) ≡ length c.close.new.ends.items =
+    ap length is ∙ length-parts c.args.clauses.literals.items 0 c.close.new.ends.items in (
+      λ k. absurd (omega (arith, k, size, c.len-found.ensures, c.if-found-header.true)),
+      refl,
+      omega (arith, size, c.len-found.ensures),
+    )
 
 pub returns-in-Some : goal.returns-in-Some
 returns-in-Some c = λ tokens h.
-    let is = clauses_by c.args.clauses c.close.new.ends.items c.len.result tokens h (omega (arith, c.len.ensures)) c.in_ok-close.ensures in
-    let size : length (clauses_of tokens) ≡ length c.close.new.ends.items = ap length is ∙ length-parts c.args.clauses.literals.items 0 c.close.new.ends.items in
-    let rises = rises_by c.args.clauses c.close.new.ends.items c.len.result c.requires.rises (omega (arith, c.len.ensures)) c.in_ok-close.ensures in (
+    let is = clauses_by c.args.clauses c.close.new.ends.items c.len.result tokens h
+    (omega (arith, c.len.ensures)) c.in_ok-close.ensures in
+    let size : length (clauses_of tokens) ≡ length c.close.new.ends.items =
+    ap length is ∙ length-parts c.args.clauses.literals.items 0 c.close.new.ends.items in
+    let rises = rises_by c.args.clauses c.close.new.ends.items c.len.result c.requires.rises
+    (omega (arith, c.len.ensures)) c.in_ok-close.ensures in (
       omega (arith, size, c.len-found.ensures, c.if-found-header.false),
-      (c.in-Some.empty, refl, ap (empty_in 0) is ∙ empty_same c.args.clauses.literals.items 0 0 c.close.new.ends.items rises ∙ ap (empty_from 0 0) (sym c.deref.ensures.value) ∙ sym c.in-Some.ensures.first),
+      (
+        c.in-Some.empty,
+        refl,
+        ap (empty_in 0) is ∙ empty_same c.args.clauses.literals.items 0 0 c.close.new.ends.items rises
+            ∙ ap (empty_from 0 0) (sym c.deref.ensures.value) ∙ sym c.in-Some.ensures.first,
+      ),
     )
 
 pub of-requires-clause-rises : goal.of-requires-clause-rises
-of-requires-clause-rises c = rises_by c.args.clauses c.close.new.ends.items c.len.result c.requires.rises (omega (arith, c.len.ensures)) c.in_ok-close.ensures
+of-requires-clause-rises c =
+    rises_by c.args.clauses c.close.new.ends.items c.len.result c.requires.rises
+    (omega (arith, c.len.ensures)) c.in_ok-close.ensures
 
 pub of-requires-clause-within : goal.of-requires-clause-within
-of-requires-clause-within c = literals_by c.args.header.variables c.args.clauses c.close.new.ends.items c.len.result c.requires.literals (omega (arith, c.len.ensures)) c.in_ok-close.ensures
+of-requires-clause-within c =
+    literals_by c.args.header.variables c.args.clauses c.close.new.ends.items c.len.result c.requires.literals
+    (omega (arith, c.len.ensures)) c.in_ok-close.ensures
 
 pub returns-in-None : goal.returns-in-None
 returns-in-None c = λ tokens h.
-    let is = clauses_by c.args.clauses c.close.new.ends.items c.len.result tokens h (omega (arith, c.len.ensures)) c.in_ok-close.ensures in
-    let size : length (clauses_of tokens) ≡ length c.close.new.ends.items = ap length is ∙ length-parts c.args.clauses.literals.items 0 c.close.new.ends.items in
-    let rises = rises_by c.args.clauses c.close.new.ends.items c.len.result c.requires.rises (omega (arith, c.len.ensures)) c.in_ok-close.ensures in (
+    let is = clauses_by c.args.clauses c.close.new.ends.items c.len.result tokens h
+    (omega (arith, c.len.ensures)) c.in_ok-close.ensures in
+    let size : length (clauses_of tokens) ≡ length c.close.new.ends.items =
+    ap length is ∙ length-parts c.args.clauses.literals.items 0 c.close.new.ends.items in
+    let rises = rises_by c.args.clauses c.close.new.ends.items c.len.result c.requires.rises
+    (omega (arith, c.len.ensures)) c.in_ok-close.ensures in (
       omega (arith, size, c.len-found.ensures, c.if-found-header.false),
-      c.of.ensures ∙ ap (λ cs. let g : Cnf = record { variables = c.args.header.variables; clauses = cs } in g) (sym is),
-      ap first_empty c.of.ensures ∙ empty_same c.args.clauses.literals.items 0 0 c.close.new.ends.items rises ∙ ap (empty_from 0 0) (sym c.deref.ensures.value) ∙ sym c.in-None.ensures.first,
+      c.of.ensures ∙ ap (λ cs. let g : Cnf = record { variables = c.args.header.variables; clauses = cs } in g)
+          (sym is),
+      ap first_empty c.of.ensures ∙ empty_same c.args.clauses.literals.items 0 0 c.close.new.ends.items rises
+          ∙ ap (empty_from 0 0) (sym c.deref.ensures.value) ∙ sym c.in-None.ensures.first,
     )

@@ -8,5 +8,8 @@ with_head (x ∷ xs) h = refl
 
 pub returns-in-Some : goal.returns-in-Some
 returns-in-Some c =
-    let e = c.in-Some.ensures in
-    (drop 1 c.in-Some.word.now, words_of c.in-Some._rest.now, e.0 ∙ ap (λ w. w ∷ words_of c.in-Some._rest.now) (with_head c.in-Some.word.now e.1))
+    let e = c.in-Some.ensures in (
+      drop 1 c.in-Some.word.now,
+      words_of c.in-Some._rest.now,
+      e.0 ∙ ap (λ w. w ∷ words_of c.in-Some._rest.now) (with_head c.in-Some.word.now e.1),
+    )

@@ -7,6 +7,7 @@ loop-word-preserved c =
     record {
       few = e.few;
       room = e.room;
-      goes = λ before holds. goes_on c.loop-word.self c.take_word.new.self c.args.variables c.args.line c.args.bytes.now c.loop-word.rest.now c.in-Some.word.now c.in-Some.behind.now before
+      goes = λ before holds. goes_on c.loop-word.self c.take_word.new.self c.args.variables c.args.line c.args.bytes.now
+          c.loop-word.rest.now c.in-Some.word.now c.in-Some.behind.now before
           (c.loop-word.invariant.goes before holds) c.in-Some.ensures.0 e.taken.0 e.taken.1;
     }

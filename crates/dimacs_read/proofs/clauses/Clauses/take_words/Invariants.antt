@@ -8,7 +8,8 @@ invariant-loop-word l =
     record {
       few : length l.self.ends.items ≤ 2 ^ 22;
       room : length l.self.literals.items ≤ 2 ^ 25;
-      goes : (before : List (Option Token)) → Holds l.fn.self before → Goes l.self l.variables l.line l.bytes l.rest before;
+      goes : (before : List (Option Token)) → Holds l.fn.self before
+          → Goes l.self l.variables l.line l.bytes l.rest before;
     }
 
 abbrev pub decreases-loop-word : goal.decreases-loop-word
