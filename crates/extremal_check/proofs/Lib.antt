@@ -1,0 +1,4 @@
+mod Lookups
+mod Exclusions
+mod Trying
+mod RightVerdict

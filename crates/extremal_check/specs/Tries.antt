@@ -1,0 +1,26 @@
+-- How far the search for an event that clashes with the event at place i has come. Each event has
+-- a stamp, which is i + 1 once it was tried with that event.
+use Rattle.std.specs.Prelude.{◌≡◌, ℕ, ◌+◌, ◌<◌, ◌≤◌, List, length, slice_index, Contains}
+use Rattle.pop_model.specs.Popping.{Cube}
+use Rattle.pop_model.specs.Extremal.{Share}
+use Rattle.pop_instance.specs.Events.{cube_at}
+use Rattle.extremal_check.specs.Clashes.{ClashAt}
+
+-- these are places of events that share a variable with the event at place i
+abbrev pub AreSharing : List (ℕ × Cube) → ℕ → List ℕ → Type 0
+AreSharing rows i places = (j : ℕ) → Contains places j
+    → (j < length rows) × Share (cube_at rows i) (cube_at rows j)
+
+-- each event has a stamp of at most this
+pub record AreStamped (rows : List (ℕ × Cube)) (most : ℕ) (stamps : List ℕ) : Type 0 where
+  pub count : length stamps ≡ length rows
+  pub stamp : (j : ℕ) → slice_index stamps j ≤ most
+
+-- of the events that were tried with the event at place i, the least that clashes with it stands
+-- at the place `least`, which is the number of events where none does
+pub record IsLeastTried (rows : List (ℕ × Cube)) (i : ℕ) (stamps : List ℕ) (least : ℕ)
+    : Type 0 where
+  pub stamped : AreStamped rows (i + 1) stamps
+  pub within : least ≤ length rows
+  pub clash : least < length rows → ClashAt rows i least
+  pub none_below : (j : ℕ) → slice_index stamps j ≡ i + 1 → ClashAt rows i j → least ≤ j

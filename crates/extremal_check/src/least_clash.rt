@@ -1,0 +1,110 @@
+ghost use Rattle.std.specs.Prelude.{◌≡◌, ◌<◌, ◌≤◌, ◌+◌, ◌↔◌, ℕ, length, Contains, IfOk, IfSome, IfNone};
+ghost use Rattle.pop_model.specs.Families.Family.{Listed};
+ghost use Rattle.pop_model.specs.Extremal.{IsExtremal, Share};
+ghost use Rattle.pop_model.specs.Places.{IsLeast, IsLeastPair};
+ghost use Rattle.pop_instance.specs.Events.{cube_at};
+ghost use Rattle.pop_instance.specs.Index.{IsIndex};
+ghost use Rattle.extremal_check.specs.Clashes.{ClashAt, HasNoClash};
+ghost use Rattle.extremal_check.specs.Tries.{AreSharing, AreStamped, IsLeastTried};
+ghost use Rattle.extremal_check.specs.Verdicts.{IsVerdict};
+
+use crate::Verdict;
+use crate::exclusion::exclude;
+use pop_instance::{Events, Index};
+use std::alloc::{AllocError, Global};
+
+/// Whether the events are extremal; else the numbers of the least pair that clashes. Of the pairs
+/// of events it looks at those that share a variable, at each once. It takes memory for one number
+/// for each event.
+pub fn check(alloc: Global, events: &Events, index: &Index) -> Result<Verdict, AllocError>
+    requires { IsIndex events.now index.now }
+    ensures verdict { IfOk result (IsVerdict events.now) }
+    ensures extremal { IfOk result
+        (λ verdict. (verdict ≡ Verdict.Extremal) ↔ IsExtremal (Listed events.now)) }
+{
+    let mut stamps = vec![in alloc; 0; events.count() as usize]?;
+    match first_clash(events, index, &mut stamps) {
+        None => Ok(Verdict::Extremal),
+        Some((i, j)) => Ok(Verdict::Clash(events.number(i), events.number(j))),
+    }
+}
+
+// The least pair of places of events that clash.
+fn first_clash(events: &Events, index: &Index, stamps: &mut [u32]) -> Option<(u32, u32)>
+    requires index { IsIndex events.now index.now }
+    requires stamped { AreStamped events.now 0 stamps.old }
+    ensures none { IfNone result ((i : ℕ) → HasNoClash events.now i) }
+    ensures found { IfSome result
+        (λ places. IsLeastPair (ClashAt events.now) places.0 places.1) }
+{
+    for i in 0..events.count() {
+        if let Some(j) = first_with(events, index, stamps, i) {
+            return Some((i, j));
+        }
+    }
+    None
+}
+
+// The least place of an event that clashes with the earlier event i.
+fn first_with(events: &Events, index: &Index, stamps: &mut [u32], i: u32) -> Option<u32>
+    requires index { IsIndex events.now index.now }
+    requires within { i < length events.now }
+    requires stamped { AreStamped events.now i stamps.old }
+    ensures stamped { AreStamped events.now (i + 1) stamps.new }
+    ensures none { IfNone result (HasNoClash events.now i) }
+    ensures found { IfSome result (IsLeast (ClashAt events.now i)) }
+{
+    let cube = events.cube(i);
+    let count = events.count();
+    let mut least = count;
+    for k in 0..cube.len() {
+        let (v, _) = cube.pair(k);
+        least = least_in_row(events, index.at(v), stamps, i, least);
+    }
+    if least < count { Some(least) } else { None }
+}
+
+// Tries the events of a row with event i, which shares a variable with each of them.
+fn least_in_row(events: &Events, row: &[u32], stamps: &mut [u32], i: u32, least: u32) -> u32
+    requires within { i < length events.now }
+    requires sharing { AreSharing events.now i row.now }
+    requires tried { IsLeastTried events.now i stamps.old least }
+    ensures tried { IsLeastTried events.now i stamps.new result }
+    ensures falls { result ≤ least }
+    ensures none_below { (j : ℕ) → Contains row.now j → ClashAt events.now i j → result ≤ j }
+{
+    let mut lowest = least;
+    for j in row {
+        lowest = try_with(events, stamps, i, *j, lowest);
+    }
+    lowest
+}
+
+// Tries event j with event i, unless it was tried or is no candidate for the least that clashes.
+fn try_with(events: &Events, stamps: &mut [u32], i: u32, j: u32, least: u32) -> u32
+    requires first { i < length events.now }
+    requires second { j < length events.now }
+    requires share { Share (cube_at events.now i) (cube_at events.now j) }
+    requires tried { IsLeastTried events.now i stamps.old least }
+    ensures tried { IsLeastTried events.now i stamps.new result }
+    ensures falls { result ≤ least }
+    ensures not_above { ClashAt events.now i j → result ≤ j }
+{
+    if j <= i {
+        return least;
+    }
+    if j >= least {
+        return least;
+    }
+    if stamps[j as usize] == i + 1 {
+        return least;
+    }
+    stamps[j as usize] = i + 1;
+    if exclude(events.cube(i), events.cube(j)) {
+        return least;
+    }
+    j
+}
+
+#[cfg(test)]
+mod tests;
