@@ -1,0 +1,92 @@
+-- The lines of an end, one member after another: where those before a place are printed, and the member there is
+-- printed behind them, those up to it are.
+use Rattle.std.proofs.Common.{◌≡◌, ℕ, ◌+◌, ◌<◌, ◌≤◌, List, [], ◌∷◌, ◌++◌, length, take, get_or, slice_get, Some, codes, decimal, sym, ap, ◌∙◌, arith, append_assoc, zero-add}
+use Rattle.std.specs.List.{enumerate_from, flat_map}
+use Rattle.std.proofs.lemmas.Grind.{flat_map-append}
+use Rattle.std.proofs.lemmas.List.{append-nil, take_more, take_all, get_or-map, length-map}
+use Rattle.std.proofs.lemmas.List.FromFn.{get_or-enumerate_from, length-enumerate_from}
+use Rattle.std.proofs.lemmas.Option.{get_or_from_slice_get}
+use Rattle.pop_model.specs.Stacks.{StackTable, value_at}
+use Rattle.pop_model.specs.Popping.{Cube, cursor}
+use Rattle.pop_model.specs.Families.{Event}
+use Rattle.pop_model.specs.Families.Family.{Listed}
+use Rattle.pop_model.specs.Instances.{Instance}
+use Rattle.pop_model.specs.Text.{line, spaced}
+use Rattle.pop_instance.specs.Events.{event_number}
+use Rattle.pop_print.specs.Output.{number_of_unit, literal_of, literals_of, sample_line, stuck_lines, findings}
+
+-- what is printed of one member more
+flat_map-take : {X : Type 0} (f : X → List ℕ) (xs : List X) (i : ℕ) (x : X) → i < length xs → get_or xs i x ≡ x
+    → flat_map f (take (i + 1) xs) ≡ flat_map f (take i xs) ++ f x
+flat_map-take f xs i x within is =
+    ap (flat_map f) (take_more xs i x within ∙ ap (λ y. take i xs ++ y ∷ []) is)
+    ∙ flat_map-append f (take i xs) (x ∷ []) ∙ ap (λ l. flat_map f (take i xs) ++ l) (append-nil (f x))
+
+pub length-literals_of : (s : StackTable) (c : List ℕ) → length (literals_of s c) ≡ length c
+length-literals_of s c =
+    length-map (enumerate_from 0 c) (λ p. literal_of p.0 (value_at s p.0 p.1)) ∙ length-enumerate_from 0 c
+
+-- the literal of a variable
+literal_at : (s : StackTable) (c : List ℕ) (v : ℕ) (d : List ℕ) → v < length c
+    → get_or (literals_of s c) v d ≡ literal_of v (value_at s v (cursor c v))
+literal_at s c v d below =
+    let literal : ℕ × ℕ → List ℕ = λ p. literal_of p.0 (value_at s p.0 p.1) in
+    let pair : ℕ → ℕ → ℕ × ℕ = λ n k. (n, k) in
+    let inside : v < length (enumerate_from 0 c) = omega (arith, length-enumerate_from 0 c) in
+    let at : get_or (enumerate_from 0 c) v (pair 0 0) ≡ pair v (cursor c v) =
+    get_or-enumerate_from 0 c v (pair 0 0) below ∙ ap (λ n. pair n (cursor c v)) (zero-add v) in
+    get_or-map literal (enumerate_from 0 c) v (pair 0 0) d inside ∙ ap literal at
+
+-- one variable more of the sample
+pub literal_more : (s : StackTable) (c : List ℕ) (v x : ℕ) (before out new : List ℕ) → v < length c
+    → x ≡ value_at s v (cursor c v)
+    → out ≡ before ++ (codes "v" ++ spaced (take v (literals_of s c))) → new ≡ out ++ 32 ∷ literal_of v x
+    → new ≡ before ++ (codes "v" ++ spaced (take (v + 1) (literals_of s c)))
+literal_more s c v x before out new below value printed pushed =
+    let inside : v < length (literals_of s c) = omega (arith, length-literals_of s c) in
+    let is : get_or (literals_of s c) v (literal_of v x) ≡ literal_of v x = literal_at s c v (literal_of v x) below
+    ∙ ap (literal_of v) (sym value) in
+    let more : spaced (take (v + 1) (literals_of s c)) ≡ spaced (take v (literals_of s c)) ++ 32 ∷ literal_of v x =
+    flat_map-take (λ word. 32 ∷ word) (literals_of s c) v (literal_of v x) inside is in
+    pushed ∙ ap (λ l. l ++ 32 ∷ literal_of v x) printed
+    ∙ append_assoc before (codes "v" ++ spaced (take v (literals_of s c))) (32 ∷ literal_of v x)
+    ∙ ap (λ l. before ++ l) (append_assoc (codes "v") (spaced (take v (literals_of s c))) (32 ∷ literal_of v x)
+    ∙ ap (λ l. codes "v" ++ l) (sym more))
+
+-- the whole line of the sample
+pub sample_whole : (s : StackTable) (c : List ℕ) (n : ℕ) (before out new : List ℕ) → length c ≤ n
+    → out ≡ before ++ (codes "v" ++ spaced (take n (literals_of s c))) → new ≡ out ++ codes " 0\n"
+    → new ≡ before ++ sample_line s c
+sample_whole s c n before out new all printed pushed =
+    let whole : take n (literals_of s c) ≡ literals_of s c =
+    take_all n (literals_of s c) (omega (arith, length-literals_of s c)) in
+    let text = codes "v" ++ spaced (literals_of s c) in
+    pushed ∙ ap (λ l. l ++ codes " 0\n") (printed ∙ ap (λ l. before ++ (codes "v" ++ spaced l)) whole)
+    ∙ append_assoc before text (codes " 0\n") ∙ ap (λ l. before ++ l)
+    (sym (append_assoc text (codes " 0") (codes "\n")))
+
+-- one event more
+pub stuck_more : (rows : List (ℕ × Cube)) (stuck : List Event) (i number : ℕ) (e : Event) (before out new : List ℕ)
+    → i < length stuck
+    → slice_get stuck i ≡ Some e → number ≡ event_number rows e.unit
+    → out ≡ before ++ stuck_lines (Listed rows) (take i stuck)
+    → new ≡ out ++ line (codes "stuck " ++ decimal number)
+    → new ≡ before ++ stuck_lines (Listed rows) (take (i + 1) stuck)
+stuck_more rows stuck i number e before out new within at numbered printed pushed =
+    let text : Event → List ℕ = λ f. line (codes "stuck " ++ decimal (number_of_unit (Listed rows) f.unit)) in
+    let is : get_or stuck i e ≡ e = get_or_from_slice_get stuck i e e at in
+    pushed ∙ ap (λ l. l ++ line (codes "stuck " ++ decimal number)) printed
+    ∙ append_assoc before (stuck_lines (Listed rows) (take i stuck)) (line (codes "stuck " ++ decimal number))
+    ∙ ap (λ n. before ++ (stuck_lines (Listed rows) (take i stuck) ++ line (codes "stuck " ++ decimal n))) numbered
+    ∙ ap (λ l. before ++ l) (sym (flat_map-take text stuck i e within is))
+
+-- what is found where some event occurs
+pub findings_some : (i : Instance) (c : List ℕ) (rows : List (ℕ × Cube)) (stuck : List Event)
+    (before out new : List ℕ) → i.family ≡ Listed rows
+    → 0 < length stuck → out ≡ before ++ codes "s EXHAUSTED\n" → new ≡ out ++ stuck_lines (Listed rows) stuck
+    → new ≡ before ++ findings i c stuck
+findings_some i c rows [] before out new listed some first pushed = absurd (omega arith)
+findings_some i c rows (e ∷ stuck) before out new listed some first pushed =
+    pushed ∙ ap (λ l. l ++ stuck_lines (Listed rows) (e ∷ stuck)) first
+    ∙ append_assoc before (codes "s EXHAUSTED\n") (stuck_lines (Listed rows) (e ∷ stuck))
+    ∙ ap (λ f. before ++ (codes "s EXHAUSTED\n" ++ stuck_lines f (e ∷ stuck))) (sym listed)

@@ -1,0 +1,53 @@
+ghost use Rattle.std.specs.Prelude.{◌≡◌, ◌++◌, [], decimal, IfOk, OnOk};
+
+use itoa::Buffer;
+use std::alloc::{AllocError, Global};
+use std::marker::Model;
+
+/// The bytes of a text so far. Contracts see them as a list.
+#[derive(Drop)]
+pub struct Output {
+    bytes: Vec<u8>,
+}
+
+impl Model for Output {
+    ghost use Rattle.std.specs.Prelude.{ℕ, List};
+
+    ghost Value = { List ℕ };
+
+    ghost view = { λ a. a.bytes.items };
+}
+
+impl Output {
+    /// An empty text, with room for so many bytes.
+    pub fn with_room(alloc: Global, room: usize) -> Result<Output, AllocError>
+        ensures { IfOk result (λ out. out ≡ []) }
+    {
+        Ok(Output {
+            bytes: Vec::with_capacity(alloc, room)?,
+        })
+    }
+
+    /// Adds bytes at the end.
+    pub fn push(&mut self, bytes: &[u8]) -> Result<(), AllocError>
+        ensures { OnOk result (self.new ≡ self.old ++ bytes.now) }
+    {
+        self.bytes.extend_from_slice(bytes)
+    }
+
+    /// Adds a number in decimal digits.
+    pub fn push_number(&mut self, n: u64) -> Result<(), AllocError>
+        ensures { OnOk result (self.new ≡ self.old ++ decimal n) }
+    {
+        let mut buffer = Buffer::new();
+        self.push(buffer.format(n).as_bytes())
+    }
+
+    /// The whole text.
+    pub fn into_bytes(self) -> Vec<u8>
+        ensures { result.items ≡ self }
+    {
+        let Output { bytes } = self;
+        bytes
+    }
+}
