@@ -1,0 +1,7 @@
+mod Carrying
+mod Leasts
+mod Lifting
+mod OneClash
+mod OneFault
+mod OneOutcome
+mod Statuses

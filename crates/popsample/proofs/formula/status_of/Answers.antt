@@ -1,0 +1,18 @@
+use Rattle.std.proofs.Common.{◌≡◌, ℕ, ◌<◌, List, [], ◌∷◌, length, refl, arith}
+use Rattle.pop_model.specs.Families.{Event}
+use Rattle.popsample.specs.Answers.{end_status}
+use Rattle.popsample.proofs.formula.status_of.Goals as goal
+
+none : (stuck : List Event) → length stuck ≡ 0 → 0 ≡ end_status stuck
+none [] h = refl
+none (e ∷ stuck) h = absurd (omega arith)
+
+some : (stuck : List Event) → 0 < length stuck → 1 ≡ end_status stuck
+some [] h = absurd (omega arith)
+some (e ∷ stuck) h = refl
+
+pub returns-then-len-eq0 : goal.returns-then-len-eq0
+returns-then-len-eq0 c = none c.args.end.now.stuck (omega (arith, c.len.ensures))
+
+pub returns-else-len-eq0 : goal.returns-else-len-eq0
+returns-else-len-eq0 c = some c.args.end.now.stuck (omega (arith, c.len.ensures))

@@ -1,0 +1,5 @@
+pub mod Refusals
+pub mod Answers
+pub mod Runs
+pub mod TopCall
+pub mod Laws

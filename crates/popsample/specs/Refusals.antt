@@ -1,0 +1,58 @@
+-- The lines and statuses of refusals.
+use Rattle.std.specs.Prelude.{ℕ, ◌+◌, List, [], ◌∷◌, ◌++◌, map, decimal, codes}
+use Rattle.pop_model.specs.Text.{line, spaced}
+use Rattle.pop_edge.specs.declared.refusal.ReadRefusal.{ReadRefusal}
+use Rattle.pop_edge.specs.declared.refusal.ReadRefusal.TheVariants.{Malformed, Count, EmptyClause, Limit, ReadFault, OutOfMemory}
+use Rattle.pop_stacks.specs.declared.stack_fault.StackFault.{StackFault}
+use Rattle.pop_stacks.specs.declared.stack_fault.StackFault.TheVariants.{RowCount, EmptyRow, ValueTooLarge, WeightSum, OutOfMemory as NoMemory}
+
+-- a line that begins with `s`, with a word and numbers behind it
+abbrev pub refusal_line : List ℕ → List ℕ → List ℕ
+refusal_line word numbers = line (codes "s " ++ word ++ spaced (map decimal numbers))
+
+-- the line of words that are no command line: the place of the first bad word, from 1
+abbrev pub usage_line : ℕ → List ℕ
+usage_line place = refusal_line (codes "USAGE") (place ∷ [])
+
+-- the line of two events that clash, by their numbers
+abbrev pub clash_line : ℕ → ℕ → List ℕ
+clash_line number other = refusal_line (codes "CLASH") (number ∷ other ∷ [])
+
+-- the line of an extremal formula, with the number of its events
+abbrev pub extremal_line : ℕ → List ℕ
+extremal_line events = refusal_line (codes "EXTREMAL") (events ∷ [])
+
+-- the line of a text that can't be read: line and code, the numbers of clauses, the clause, or kind
+-- and line
+abbrev pub reading_line : ReadRefusal → List ℕ
+reading_line (Malformed l code) = refusal_line (codes "MALFORMED") (l ∷ code ∷ [])
+reading_line (Count declared found) = refusal_line (codes "COUNT") (declared ∷ found ∷ [])
+reading_line (EmptyClause number) = refusal_line (codes "EMPTY") (number ∷ [])
+reading_line (Limit kind l) = refusal_line (codes "LIMIT") (kind ∷ l ∷ [])
+reading_line ReadFault = refusal_line (codes "READFAULT") []
+reading_line OutOfMemory = refusal_line (codes "MEMORY") []
+
+-- its status
+abbrev pub reading_status : ReadRefusal → ℕ
+reading_status (Malformed l code) = 3
+reading_status (Count declared found) = 3
+reading_status (EmptyClause number) = 6
+reading_status (Limit kind l) = 4
+reading_status ReadFault = 7
+reading_status OutOfMemory = 9
+
+-- the line of stacks with a fault; variables are named from 1, entries count from 0
+abbrev pub stacks_line : StackFault → List ℕ
+stacks_line (RowCount given wanted) = refusal_line (codes "ROWS") (given ∷ wanted ∷ [])
+stacks_line (EmptyRow v) = refusal_line (codes "EMPTYROW") ((v + 1) ∷ [])
+stacks_line (ValueTooLarge v k) = refusal_line (codes "VALUE") ((v + 1) ∷ k ∷ [])
+stacks_line (WeightSum v) = refusal_line (codes "LIMIT") (6 ∷ (v + 1) ∷ [])
+stacks_line NoMemory = refusal_line (codes "MEMORY") []
+
+-- its status
+abbrev pub stacks_status : StackFault → ℕ
+stacks_status (RowCount given wanted) = 3
+stacks_status (EmptyRow v) = 3
+stacks_status (ValueTooLarge v k) = 3
+stacks_status (WeightSum v) = 4
+stacks_status NoMemory = 9

@@ -1,0 +1,82 @@
+//! The answer to command words and a source.
+ghost use Rattle.std.specs.Prelude.{◌≡◌, ◌≢◌, ◌<◌, ◌≤◌, ◌^◌, ℕ, List, Some, map, string_bytes, IfOk, MatchResult, IsErrOf};
+ghost use Rattle.std.specs.Io.KnownBytes.{IsAtEnd, Consumes};
+ghost use Rattle.pop_model.specs.Faults.{Rose};
+ghost use Rattle.dimacs_read.specs.CnfText.{HasNoBadLine};
+ghost use Rattle.pop_words.specs.CommandLines.{AreWords, IsBadPlace};
+ghost use Rattle.popsample.specs.TopCall.{HasReadFault};
+ghost use Rattle.popsample.specs.Answers.{IsAnswer, AnswersBy, ComesOf, IsOfText, IsTextStatus, Tells};
+ghost use Rattle.popsample.specs.Answers.Outcome.{Unread};
+ghost use Rattle.pop_edge.specs.declared.refusal.ReadRefusal.TheVariants.{ReadFault as ReadingFailed};
+ghost use Rattle.popsample.specs.Refusals.{usage_line};
+ghost use Rattle.popsample.specs.declared.stop.Stop.TheVariants.{ReadFault, OutOfMemory};
+
+use crate::formula::answer_formula;
+use crate::refusals::{refuse_reading, refuse_words};
+use crate::stop::Stop;
+use dimacs_read::read_formula;
+use pop_edge::{ReadRefusal, Source};
+use pop_words::{Job, WordFault, read_words};
+use std::alloc::Global;
+
+/// A status, and the whole text that goes with it.
+#[derive(Drop)]
+pub struct Answer {
+    pub status: u8,
+    pub text: Vec<u8>,
+}
+
+// The answer to a text that is refused; a fault of the source and want of memory are none.
+fn answer_refusal(alloc: Global, refusal: ReadRefusal) -> Result<Answer, Stop>
+    ensures answer { IfOk result (λ a. IsOfText refusal × Tells (Unread refusal) a.status a.text.items) }
+    ensures read_fault { IsErrOf result ReadFault → refusal ≡ ReadingFailed }
+{
+    match refusal {
+        ReadRefusal::ReadFault => Err(Stop::ReadFault),
+        ReadRefusal::OutOfMemory => Err(Stop::OutOfMemory),
+        _ => Ok(refuse_reading(alloc, refusal)?),
+    }
+}
+
+// The answer to a job, once its text is read.
+fn answer_job<S: Source>(alloc: Global, job: Job, source: &mut S) -> Result<Answer, Stop>
+    requires some { 0 < job.height }
+    requires short { job.height < 2 ^ 31 }
+    ensures answer { (text : List ℕ) → S.left source.old ≡ Some text
+        → IfOk result (λ a. AnswersBy (ComesOf job text) a.status a.text.items) }
+    ensures status { IfOk result (λ a. IsTextStatus a.status) }
+    ensures whole { IfOk result (λ a. a.status ≤ 1 → IsAtEnd (S.left source.new)) }
+    ensures read_fault { IsErrOf result ReadFault
+        → Rose (S.faults source.old) (S.faults source.new) }
+    ensures no_bad_line { IsErrOf result ReadFault → (taken : List ℕ)
+        × Consumes (S.left source.old) (S.left source.new) taken × HasNoBadLine taken }
+{
+    match read_formula(alloc, source) {
+        Ok(formula) => Ok(answer_formula(alloc, job, &formula)?),
+        Err(refusal) => answer_refusal(alloc, refusal),
+    }
+}
+
+/// The answer to command words and the text of a source, or why there is none.
+pub fn answer_to<S: Source>(alloc: Global, words: &[String], source: &mut S) -> Result<Answer, Stop>
+    ensures answer { (text : List ℕ) → S.left source.old ≡ Some text
+        → IfOk result (λ a. IsAnswer (map string_bytes words.now) text a.status a.text.items) }
+    ensures status { IfOk result (λ a. a.status ≤ 6) }
+
+    // Words outside the grammar are told of whatever the source is.
+    ensures usage { IfOk result (λ a. a.status ≡ 2 → (place : ℕ)
+        × IsBadPlace (map string_bytes words.now) place × (a.text.items ≡ usage_line place)) }
+    ensures only_usage { (AreWords (map string_bytes words.now) → ⊥)
+        → MatchResult result (λ a. a.status ≡ 2) (λ stop. stop ≡ OutOfMemory) }
+
+    ensures whole { IfOk result (λ a. a.status ≤ 1 → IsAtEnd (S.left source.new)) }
+    ensures read_fault { IsErrOf result ReadFault
+        → HasReadFault (map string_bytes words.now) (S.left source.old) (S.left source.new)
+        (S.faults source.old) (S.faults source.new) }
+{
+    match read_words(alloc, words) {
+        Err(WordFault::Usage(place)) => Ok(refuse_words(alloc, place)?),
+        Err(WordFault::OutOfMemory) => Err(Stop::OutOfMemory),
+        Ok(job) => answer_job(alloc, job, source),
+    }
+}

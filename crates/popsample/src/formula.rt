@@ -1,0 +1,138 @@
+//! The commands on a formula: `formula` samples it, and `check` says whether its events are
+//! extremal.
+ghost use Rattle.std.specs.Prelude.{◌≡◌, ◌<◌, ◌^◌, ℕ, List, length, None, IfOk, All};
+ghost use Rattle.pop_model.specs.Families.Family.{Listed};
+ghost use Rattle.pop_model.specs.Extremal.{IsExtremal};
+ghost use Rattle.pop_stacks.specs.Tables.{origin_of};
+ghost use Rattle.dimacs_read.specs.Cnf.{first_empty};
+ghost use Rattle.extremal_check.specs.Verdicts.{IsVerdict};
+ghost use Rattle.popsample.specs.Answers.{AnswersBy, end_status, pair_weights, instance_of, ComesOfRunning, ComesOfSampling, ComesOfChecking, ComesOfCommand};
+ghost use Rattle.dimacs_read.specs.Falsifying.{FitVariables};
+ghost use Rattle.popsample.specs.Runs.{IsListed, IsEndOf};
+
+use crate::answer::Answer;
+use crate::refusals::{refuse_clash, refuse_stacks, tell_extremal};
+use confluence_core::{End, run_first};
+use dimacs_read::Formula;
+use extremal_check::{Verdict, check};
+use pop_instance::{Events, Family, Index, Instance};
+use pop_print::{Facts, text};
+use pop_stacks::{StackSpec, Stacks, Weights};
+use pop_words::{Command, Job};
+use std::alloc::{AllocError, Global};
+
+// The verdict on events over so many variables.
+fn judge(alloc: Global, variables: u32, events: &Events) -> Result<Verdict, AllocError>
+    requires { FitVariables variables events.now }
+    ensures { IfOk result (IsVerdict events.now) }
+{
+    let index = Index::build(alloc, events, variables)?;
+    check(alloc, events, &index)
+}
+
+// The status of an end: 1 where an event still occurs.
+fn status_of(end: &End) -> u8
+    ensures { result ≡ end_status end.now.stuck }
+{
+    if end.stuck.len() == 0 { 0 } else { 1 }
+}
+
+// The run of an instance of events over so many variables.
+fn run_instance(alloc: Global, variables: u32, instance: &Instance) -> Result<Answer, AllocError>
+    requires weights { instance.now.stacks.weights ≡ pair_weights variables }
+    requires listed { IsListed instance.now.family }
+    ensures { IfOk result (λ a. AnswersBy (IsEndOf instance.now) a.status a.text.items) }
+{
+    let _units = instance.units();
+    let end = run_first(alloc, instance)?;
+    let text = text(alloc, &Facts::Formula(variables), instance, &end)?;
+    Ok(Answer {
+        status: status_of(&end),
+        text,
+    })
+}
+
+// The run of events over so many variables.
+fn run_events(
+    alloc: Global,
+    variables: u32,
+    stacks: Stacks,
+    events: Events,
+) -> Result<Answer, AllocError>
+    requires weights { stacks.weights ≡ pair_weights variables }
+    requires fit { FitVariables variables events }
+    ensures { IfOk result (λ a.
+        AnswersBy (IsEndOf (instance_of stacks.origin variables events)) a.status a.text.items) }
+{
+    let _count = stacks.count();
+    match Instance::new(stacks, Family::Listed(events)) {
+        Some(instance) => run_instance(alloc, variables, &instance),
+        None => unreachable!(),
+    }
+}
+
+// Samples the formula with sound stacks.
+fn sample_with(alloc: Global, stacks: Stacks, formula: &Formula) -> Result<Answer, AllocError>
+    requires filled { first_empty formula.now ≡ None }
+    requires weights { stacks.weights ≡ pair_weights formula.now.variables }
+    ensures { IfOk result (λ a.
+        AnswersBy (ComesOfRunning stacks.origin formula.now) a.status a.text.items) }
+{
+    let variables = formula.variables();
+    let events = formula.events(alloc)?;
+    match judge(alloc, variables, &events)? {
+        Verdict::Clash(number, other) => refuse_clash(alloc, number, other),
+        Verdict::Extremal => run_events(alloc, variables, stacks, events),
+    }
+}
+
+// Samples the formula.
+fn sample(
+    alloc: Global,
+    spec: StackSpec,
+    height: u32,
+    formula: &Formula,
+) -> Result<Answer, AllocError>
+    requires filled { first_empty formula.now ≡ None }
+    requires some { 0 < height }
+    requires short { height < 2 ^ 31 }
+    ensures { IfOk result (λ a.
+        AnswersBy (ComesOfSampling (origin_of spec height) formula.now) a.status a.text.items) }
+{
+    match Stacks::new(spec, Weights::pairs(formula.variables()), height) {
+        Err(fault) => refuse_stacks(alloc, fault),
+        Ok(stacks) => sample_with(alloc, stacks, formula),
+    }
+}
+
+// Says whether the formula's events are extremal.
+fn check_formula(alloc: Global, formula: &Formula) -> Result<Answer, AllocError>
+    requires filled { first_empty formula.now ≡ None }
+    ensures { IfOk result (λ a. AnswersBy (ComesOfChecking formula.now) a.status a.text.items) }
+{
+    let events = formula.events(alloc)?;
+    match judge(alloc, formula.variables(), &events)? {
+        Verdict::Clash(number, other) => refuse_clash(alloc, number, other),
+        Verdict::Extremal => tell_extremal(alloc, events.count()),
+    }
+}
+
+/// The answer to a job whose text spells this formula.
+pub fn answer_formula(alloc: Global, job: Job, formula: &Formula) -> Result<Answer, AllocError>
+    requires filled { first_empty formula.now ≡ None }
+    requires some { 0 < job.height }
+    requires short { job.height < 2 ^ 31 }
+    ensures { IfOk result (λ a.
+        AnswersBy (ComesOfCommand job.command (origin_of job.stacks job.height) formula.now)
+        a.status a.text.items) }
+{
+    let Job {
+        command,
+        stacks,
+        height,
+    } = job;
+    match command {
+        Command::Formula => sample(alloc, stacks, height, formula),
+        Command::Check => check_formula(alloc, formula),
+    }
+}

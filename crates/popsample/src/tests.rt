@@ -1,0 +1,42 @@
+//! Answers of `run`, over sources and sinks in memory.
+use crate::run;
+use pop_edge::{MemSink, MemSource};
+use std::alloc::Global;
+use std::test::Fail;
+use std::thread::Threads;
+
+mod faults;
+mod formulas;
+mod refusals;
+
+// A key of 64 zeros.
+const ZERO_KEY: &str = "0000000000000000000000000000000000000000000000000000000000000000";
+
+// The status and the output of a run, with a source and a sink that don't fail.
+fn answer<R: Threads + Sync>(
+    rt: &R,
+    alloc: Global,
+    words: &[&str],
+    input: &str,
+) -> Result<(u8, Vec<u8>), Fail> {
+    answer_in_pieces(rt, alloc, words, input, 4096)
+}
+
+// The same, where the source gives so many bytes at a call.
+fn answer_in_pieces<R: Threads + Sync>(
+    rt: &R,
+    alloc: Global,
+    words: &[&str],
+    input: &str,
+    piece: usize,
+) -> Result<(u8, Vec<u8>), Fail> {
+    let mut all = Vec::new(alloc);
+    for word in words {
+        all.push(String::from_str(alloc, word)?)?;
+    }
+    let bytes = Vec::from_slice(alloc, input.as_bytes())?;
+    let mut source = MemSource::new(bytes, piece.max(1), Vec::new(alloc));
+    let mut sink = MemSink::new(alloc, 65536, 65536, Vec::new(alloc))?;
+    let status = run(rt, alloc, &all, &mut source, &mut sink);
+    Ok((status, Vec::from_slice(alloc, sink.bytes())?))
+}

@@ -1,0 +1,81 @@
+//! The top call: command words and bytes in, bytes and a status out.
+ghost use Rattle.std.specs.Prelude.{◌≡◌, ◌≢◌, ◌⊎◌, ◌≤◌, ℕ, List, Some, map, string_bytes};
+ghost use Rattle.std.specs.Io.KnownBytes.{Appends, IsAtEnd};
+ghost use Rattle.pop_model.specs.Faults.{Rose};
+ghost use Rattle.pop_edge.specs.Devices.{AppendsFront};
+ghost use Rattle.pop_edge.specs.declared.refusal.ReadRefusal.TheVariants.{ReadFault, OutOfMemory};
+ghost use Rattle.pop_words.specs.CommandLines.{AreWords};
+ghost use Rattle.popsample.specs.Refusals.{reading_line};
+ghost use Rattle.popsample.specs.TopCall.{IsBreak, Answered, AnsweredUsage, HasReadFault, IsCutShort};
+
+use crate::answer::answer_to;
+use crate::stop::Stop;
+use pop_edge::{Sink, Source, put_all};
+use std::alloc::Global;
+use std::thread::Threads;
+
+// Writes the text, and answers the status, or 8 where the sink failed.
+fn deliver<K: Sink>(sink: &mut K, text: &[u8], status: u8) -> u8
+    requires { status ≢ 8 }
+    ensures status { (result ≡ status) ⊎ (result ≡ 8) }
+    ensures held { result ≢ 8 → Appends (K.holds sink.old) (K.holds sink.new) text.now }
+    ensures cut { result ≡ 8 → AppendsFront (K.holds sink.old) (K.holds sink.new) text.now }
+    ensures fault { result ≡ 8 → Rose (K.faults sink.old) (K.faults sink.new) }
+{
+    match put_all(sink, text) {
+        Ok(()) => status,
+        Err(_) => 8,
+    }
+}
+
+/// Runs the command of the words on the text of the source, and writes what there is to say to the
+/// sink.
+///
+/// The status is 0 for a sample or extremal events, 1 where the run ends with an event still
+/// occurring, 2 for words that are no command line, 3 for a malformed text, a wrong number of clauses
+/// or rows that don't fit, 4 where a limit is passed, 5 where two events clash, 6 for an empty clause,
+/// 7 where reading failed, 8 where writing failed and 9 where memory ran out. The whole text is made
+/// before its first byte is written.
+pub fn run<S: Source, K: Sink, R: Threads + Sync>(
+    rt: &R,
+    alloc: Global,
+    words: &[String],
+    source: &mut S,
+    sink: &mut K,
+) -> u8
+    // An answer is that of the words and the text: of an extremal formula, the end of the run on one
+    // thread that always pops the first poppable event.
+    ensures answer { (text : List ℕ) → S.left source.old ≡ Some text → (IsBreak result → ⊥)
+        → Answered (map string_bytes words.now) text (K.holds sink.old) (K.holds sink.new) result }
+    ensures statuses { result ≤ 9 }
+
+    // Words outside the grammar are told of whatever the source is, and nothing else is then.
+    ensures usage { result ≡ 2
+        → AnsweredUsage (map string_bytes words.now) (K.holds sink.old) (K.holds sink.new) }
+    ensures only_usage { (AreWords (map string_bytes words.now) → ⊥)
+        → (result ≡ 2) ⊎ ((result ≡ 8) ⊎ (result ≡ 9)) }
+
+    ensures read_fault { result ≡ 7
+        → HasReadFault (map string_bytes words.now) (S.left source.old) (S.left source.new)
+        (S.faults source.old) (S.faults source.new) }
+    ensures told_read_fault { result ≡ 7
+        → Appends (K.holds sink.old) (K.holds sink.new) (reading_line ReadFault) }
+    ensures write_fault { result ≡ 8 → Rose (K.faults sink.old) (K.faults sink.new) }
+    ensures cut { (text : List ℕ) → S.left source.old ≡ Some text → result ≡ 8
+        → IsCutShort (map string_bytes words.now) text
+        (HasReadFault (map string_bytes words.now) (S.left source.old) (S.left source.new)
+        (S.faults source.old) (S.faults source.new))
+        (K.holds sink.old) (K.holds sink.new) }
+    ensures memory { result ≡ 9
+        → Appends (K.holds sink.old) (K.holds sink.new) (reading_line OutOfMemory) }
+
+    // With a sample, a verdict or an exhausted end the source was read to its end.
+    ensures whole { result ≤ 1 → IsAtEnd (S.left source.new) }
+{
+    let _ = rt;
+    match answer_to(alloc, words, source) {
+        Ok(answer) => deliver(sink, &answer.text, answer.status),
+        Err(Stop::ReadFault) => deliver(sink, b"s READFAULT\n", 7),
+        Err(Stop::OutOfMemory) => deliver(sink, b"s MEMORY\n", 9),
+    }
+}
