@@ -1,5 +1,5 @@
 -- What a search over listed events has found so far.
-use Rattle.std.specs.Prelude.{◌≡◌, ℕ, ◌<◌, ◌↔◌, List, map, length, Contains, All}
+use Rattle.std.specs.Prelude.{◌≡◌, ℕ, ◌<◌, ◌↔◌, List, [], ◌∷◌, ◌++◌, map, length, Contains, All}
 use Rattle.std.specs.List.Sorted.{IsStrictlyIncreasing}
 use Rattle.pop_model.specs.Stacks.{StackTable}
 use Rattle.pop_model.specs.Popping.{Cube, IsPoppable, Occurs}
@@ -33,3 +33,15 @@ pub record IsStuckBelow (s : StackTable) (c : List ℕ) (rows : List (ℕ × Cub
   pub rising : IsStrictlyIncreasing (map (λ e. e.unit) stuck)
   pub below : All (λ e. e.unit < n) stuck
   pub exact : (e : Event) → Contains stuck e ↔ OccursBelow s c rows n e
+
+-- the list has the place of each poppable event
+abbrev pub Covers : StackTable → List ℕ → List (ℕ × Cube) → List ℕ → Type 0
+Covers s c rows list = (place : ℕ) → place < length rows → IsPoppableAt s c rows place
+    → Contains list place
+
+-- the place of a poppable event, beside a list that has the places of all others
+pub record IsNextPlace (s : StackTable) (c : List ℕ) (rows : List (ℕ × Cube)) (list : List ℕ)
+    (place : ℕ) : Type 0 where
+  pub within : place < length rows
+  pub poppable : IsPoppableAt s c rows place
+  pub others : Covers s c rows (list ++ place ∷ [])

@@ -1,15 +1,26 @@
-//! Runs on one thread, what they leave, and the laws of popping.
+//! Runs on one thread, the logs that they leave, and the laws of popping.
 //!
-//! Contracts see units as a list of numbers, and stuck events as a list of events.
+//! Contracts see units as a list of numbers, stuck events as a list of events, and a record and a log
+//! as in the definitions.
 #![tactic(auto)]
 
 mod end;
+mod keep;
 pub mod laws;
+mod log;
+mod log_record;
 mod one_thread;
+mod run;
+mod search;
 mod stuck;
 mod units;
+mod work_list;
 
 pub use end::End;
-pub use one_thread::run_first;
+pub use keep::Keep;
+pub use log::Log;
+pub use log_record::Record;
+pub use one_thread::{run_first, run_from};
+pub use run::Run;
 pub use stuck::Stuck;
 pub use units::Units;

@@ -1,14 +1,20 @@
-ghost use Rattle.std.specs.Prelude.{◌≡◌, length, All, IfOk, MatchOption};
+ghost use Rattle.std.specs.Prelude.{◌≡◌, ◌<◌, ◌++◌, ◌∷◌, [], length, All, IfOk, OnOk, if◌then◌else◌};
 ghost use Rattle.pop_model.specs.Stacks.{variables_of};
-ghost use Rattle.pop_model.specs.Popping.{AreWithin};
+ghost use Rattle.pop_model.specs.Popping.{AreWithin, NamesBelow};
 ghost use Rattle.pop_model.specs.Families.Family.{Listed as ListedEvents};
+ghost use Rattle.pop_model.specs.Families.{units_of};
 ghost use Rattle.pop_model.specs.Instances.{FitsStacks};
-ghost use Rattle.pop_model.specs.Runs.{IsFirstEnd};
-ghost use Rattle.pop_stacks.specs.Readers.{Belongs};
-ghost use Rattle.confluence_core.specs.Search.{NoneBefore, IsFirstPlace, IsStuckBelow};
+ghost use Rattle.pop_model.specs.Extremal.{IsExtremal};
+ghost use Rattle.pop_model.specs.Runs.{IsFirstEnd, start_of};
+ghost use Rattle.confluence_core.specs.Kept.{keeps_log};
+ghost use Rattle.confluence_core.specs.Records.{record_at};
+ghost use Rattle.confluence_core.specs.Runs.{IsRun, MissesNone};
+ghost use Rattle.confluence_core.specs.Search.{Covers};
 
-use crate::{End, Stuck};
-use pop_instance::{Cursors, Events, Instance};
+use crate::search::{first_poppable, next_poppable, stuck_at};
+use crate::work_list::WorkList;
+use crate::{End, Keep, Log, Record, Run, Units};
+use pop_instance::{Cube, Cursors, Events, Index, Instance};
 use pop_stacks::{Reader, Stacks};
 use std::alloc::{AllocError, Global};
 
@@ -20,6 +26,41 @@ pub fn run_first(alloc: Global, instance: &Instance) -> Result<End, AllocError>
 {
     let _units = instance.units();
     run_listed(alloc, instance.stacks(), instance.family().events())
+}
+
+/// A run from any cursors that are below the heights. It looks at the suspects, which are units of the
+/// instance and miss no poppable event, and after each pop at the events that share a variable with
+/// the popped one, until none is left. So its time is linear in the suspects, the pops and the events
+/// that share a variable with a popped one, and in the instance once.
+pub fn run_from(
+    alloc: Global,
+    instance: &Instance,
+    cursors: Cursors,
+    suspects: Units,
+    keep: Keep,
+) -> Result<Run, AllocError>
+    requires count { variables_of instance.now.stacks ≡ length cursors }
+    requires within { AreWithin instance.now.stacks cursors }
+    requires units { All (λ u. u < units_of instance.now.family) suspects }
+    requires suspects { MissesNone instance.now cursors suspects }
+    ensures run { IfOk result (λ run. IsRun instance.now cursors (keeps_log keep)
+        run.end.cursors run.end.pops run.end.stuck run.log) }
+    ensures first { IfOk result (λ run. IsExtremal instance.now.family
+        → cursors ≡ start_of instance.now
+        → IsFirstEnd instance.now run.end.cursors run.end.pops run.end.stuck) }
+    ensures count { IfOk result (λ run. variables_of instance.now.stacks ≡ length run.end.cursors) }
+    ensures within { IfOk result (λ run. AreWithin instance.now.stacks run.end.cursors) }
+{
+    let _units = instance.units();
+    let stacks = instance.stacks();
+    run_listed_from(
+        alloc,
+        stacks,
+        instance.family().events(),
+        cursors,
+        suspects,
+        keep,
+    )
 }
 
 // The one-thread run of listed events.
@@ -48,139 +89,69 @@ fn run_listed(alloc: Global, stacks: &Stacks, events: &Events) -> Result<End, Al
     })
 }
 
-// The place of the first poppable event.
-fn first_poppable(
-    stacks: &Stacks,
-    events: &Events,
-    reader: &mut Reader,
-    cursors: &Cursors,
-) -> Option<u32>
-    requires fits { All (λ r. FitsStacks stacks.now r.1) events.now }
-    requires count { variables_of stacks.now ≡ length cursors.now }
-    requires within { AreWithin stacks.now cursors.now }
-    requires belongs { Belongs stacks.now reader.old }
-    ensures first { MatchOption result
-        (NoneBefore stacks.now cursors.now events.now (length events.now))
-        (IsFirstPlace stacks.now cursors.now events.now) }
-    ensures reader { reader.new ≡ reader.old }
-{
-    for place in 0..events.count() {
-        if cursors.poppable(stacks, reader, events.cube(place)) {
-            return Some(place);
-        }
-    }
-    None
-}
-
-// The events that occur, by rising unit.
-fn stuck_at(
+// A run of listed events from any cursors.
+fn run_listed_from(
     alloc: Global,
     stacks: &Stacks,
     events: &Events,
-    reader: &mut Reader,
-    cursors: &Cursors,
-) -> Result<Stuck, AllocError>
+    mut cursors: Cursors,
+    suspects: Units,
+    keep: Keep,
+) -> Result<Run, AllocError>
     requires fits { All (λ r. FitsStacks stacks.now r.1) events.now }
-    requires count { variables_of stacks.now ≡ length cursors.now }
-    requires within { AreWithin stacks.now cursors.now }
-    requires belongs { Belongs stacks.now reader.old }
-    ensures { IfOk result (IsStuckBelow stacks.now cursors.now events.now (length events.now)) }
+    requires count { variables_of stacks.now ≡ length cursors }
+    requires within { AreWithin stacks.now cursors }
+    requires units { All (λ u. u < length events.now) suspects }
+    requires suspects { Covers stacks.now cursors events.now suspects }
+    ensures run { IfOk result (λ run. IsRun
+        (record { stacks = stacks.now; family = ListedEvents events.now }) cursors (keeps_log keep)
+        run.end.cursors run.end.pops run.end.stuck run.log) }
+    ensures count { IfOk result (λ run. variables_of stacks.now ≡ length run.end.cursors) }
+    ensures within { IfOk result (λ run. AreWithin stacks.now run.end.cursors) }
 {
-    let mut stuck = Stuck::new(alloc);
-    for place in 0..events.count() {
+    let index = Index::build(alloc, events, stacks.count())?;
+    let mut work = WorkList::new(alloc, events.count())?;
+    work.add_all(suspects.as_slice())?;
+    let mut reader = Reader::new(stacks);
+    let mut pops: u64 = 0;
+    let mut log = Log::new(alloc);
+    while let Some(place) = next_poppable(stacks, events, &mut reader, &cursors, &mut work) {
         let cube = events.cube(place);
-        if cursors.occurs(stacks, reader, cube) {
-            stuck.push(place, cube.copy(alloc)?)?;
-        }
+        keep_record(alloc, &mut log, keep, place, cube, &cursors)?;
+        cursors.pop(cube);
+        pops += 1;
+        work.add_sharing(&index, cube)?;
     }
-    Ok(stuck)
+    let stuck = stuck_at(alloc, stacks, events, &mut reader, &cursors)?;
+    let end = End {
+        cursors,
+        pops,
+        stuck,
+    };
+    Ok(Run {
+        end,
+        log: keep.keeps_log().then_some(log),
+    })
+}
+
+// Adds the record of an event that is popped at these cursors, where the log is kept.
+fn keep_record(
+    alloc: Global,
+    log: &mut Log,
+    keep: Keep,
+    unit: u32,
+    cube: &Cube,
+    cursors: &Cursors,
+) -> Result<(), AllocError>
+    requires known { NamesBelow cube.now (length cursors.now) }
+    ensures { OnOk result (log.new ≡ (if keeps_log keep
+        then log.old ++ record_at unit cube.now cursors.now ∷ [] else log.old)) }
+{
+    if keep.keeps_log() {
+        log.push(Record::at(alloc, unit, cube, cursors)?)?;
+    }
+    Ok(())
 }
 
 #[cfg(test)]
-mod tests {
-    use super::*;
-    use pop_instance::{Cube, Family};
-    use pop_stacks::{Rows, StackSpec, Weights};
-    use std::process::Abort;
-    use std::test::Fail;
-
-    // The event of this number and these pairs.
-    fn event(
-        rt: &impl Abort,
-        alloc: Global,
-        number: u32,
-        pairs: &[(u32, u32)],
-    ) -> Result<(u32, Cube), Fail>
-        ensures { IfOk result (λ r. r.0 ≡ number) }
-    {
-        assert!(rt; pairs.len() < 9);
-        let cube = Cube::new(Vec::from_slice(alloc, pairs)?).expect(rt, "a cube");
-        Ok((number, cube))
-    }
-
-    // The instance of variables with two values each, the rows of their stacks and these events.
-    fn instance(rt: &impl Abort, rows: Rows, events: Events) -> Result<Instance, Fail> {
-        let weights = Weights::pairs(rows.count());
-        let stacks = Stacks::new(StackSpec::Given(rows), weights, 1)?;
-        Ok(Instance::new(stacks, Family::Listed(events)).expect(rt, "an instance"))
-    }
-
-    // Runs the instance, and compares the cursors, the pops and the units of the stuck events.
-    fn ends_with(
-        rt: &impl Abort,
-        alloc: Global,
-        instance: &Instance,
-        (cursors, pops, stuck): (&[u32], u64, &[u32]),
-    ) -> Result<(), Fail> {
-        let count = instance.stacks().count();
-        let end = run_first(alloc, instance)?;
-        assert_eq!(rt; cursors.len(), count as usize);
-        for v in 0..count {
-            assert_eq!(rt; end.cursors.get(v), cursors[v as usize], "variable {v}");
-        }
-        assert_eq!(rt; end.pops, pops);
-        assert_eq!(rt; end.stuck.len(), stuck.len() as u64);
-        for (i, unit) in stuck.iter().enumerate() {
-            assert_eq!(rt; end.stuck.at(i as u64).0, *unit, "stuck event {i}");
-        }
-        Ok(())
-    }
-
-    // Worked by hand.
-    #[test]
-    fn popping_goes_on_past_a_stuck_event(rt: HostRuntime) -> Result<(), Fail> {
-        let alloc = rt.alloc();
-        let one = || -> Result<Events, Fail> {
-            Ok(Events::gather(alloc, vec![in alloc; event(&rt, alloc, 1, &[(0, 0)])?]?)?)
-        };
-        let rows = Rows::of(vec![in alloc; vec![in alloc; 0, 0, 1]?]?);
-        ends_with(&rt, alloc, &instance(&rt, rows, one()?)?, (&[2], 2, &[]))?;
-        let rows = Rows::of(vec![in alloc; vec![in alloc; 0, 0]?]?);
-        ends_with(&rt, alloc, &instance(&rt, rows, one()?)?, (&[1], 1, &[0]))?;
-
-        let rows = Rows::of(vec![in alloc; vec![in alloc; 0]?, vec![in alloc; 0, 0, 1]?]?);
-        let events = Events::gather(
-            alloc,
-            vec![in alloc;
-                event(&rt, alloc, 1, &[(0, 0)])?,
-                event(&rt, alloc, 2, &[(1, 0)])?,
-            ]?,
-        )?;
-        ends_with(
-            &rt,
-            alloc,
-            &instance(&rt, rows, events)?,
-            (&[0, 2], 2, &[0]),
-        )?;
-
-        let rows = Rows::of(vec![in alloc; vec![in alloc; 0, 1]?, vec![in alloc; 0, 1]?]?);
-        let events = Events::gather(
-            alloc,
-            vec![in alloc;
-                event(&rt, alloc, 1, &[(0, 0), (1, 0)])?,
-                event(&rt, alloc, 2, &[(0, 1), (1, 0)])?,
-            ]?,
-        )?;
-        ends_with(&rt, alloc, &instance(&rt, rows, events)?, (&[1, 1], 1, &[]))
-    }
-}
+mod tests;

@@ -40,7 +40,7 @@ impl Stuck {
 
     /// The unit and the cube of an event. Events count from 0.
     pub fn at(&self, i: u64) -> (u32, &Cube)
-        requires { i < length self.now }
+        requires known { i < length self.now }
         ensures { slice_get self.now i ≡ Some (event_of (result.0, result.1.now)) }
     {
         let (unit, cube) = &self.events[i as usize];

@@ -36,10 +36,17 @@ impl Units {
 
     /// A unit by its place in the list, which counts from 0.
     pub fn at(&self, i: u64) -> u32
-        requires { i < length self.now }
+        requires known { i < length self.now }
         ensures { slice_get self.now i ≡ Some result }
     {
         self.units[i as usize]
+    }
+
+    // The units as a slice.
+    pub(crate) fn as_slice(&self) -> &[u32]
+        ensures { result.now ≡ self.now }
+    {
+        &self.units
     }
 
     /// Adds a unit at the end.

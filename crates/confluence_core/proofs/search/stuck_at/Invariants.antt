@@ -1,6 +1,6 @@
 use Rattle.std.proofs.Common.{◌≡◌}
 use Rattle.confluence_core.specs.Search.{IsStuckBelow}
-use Rattle.confluence_core.proofs.one_thread.stuck_at.Given as goal
+use Rattle.confluence_core.proofs.search.stuck_at.Given as goal
 
 -- the events up to here that occur, and the reader is as it came
 abbrev pub invariant-loop-place : goal.invariant-loop-place

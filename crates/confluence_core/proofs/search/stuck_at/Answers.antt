@@ -6,8 +6,8 @@ use Rattle.confluence_core.specs.Stuck.{event_of}
 use Rattle.confluence_core.specs.Search.{IsStuckBelow}
 use Rattle.confluence_core.proofs.Places.{event_at}
 use Rattle.confluence_core.proofs.StuckLists.{stuck_more, stuck_same}
-use Rattle.confluence_core.proofs.one_thread.stuck_at.Goals as goal
-use Rattle.confluence_core.proofs.one_thread.stuck_at.Goals.{then-occurs+in_ok-copy+in_ok-push, else-occurs}
+use Rattle.confluence_core.proofs.search.stuck_at.Goals as goal
+use Rattle.confluence_core.proofs.search.stuck_at.Goals.{then-occurs+in_ok-copy+in_ok-push, else-occurs}
 
 pub loop-place-preserved : goal.loop-place-preserved
 loop-place-preserved c =

@@ -2,7 +2,7 @@ use Rattle.std.proofs.Common.{arith, subst, sym, below_more, ◌∙◌}
 use Rattle.std.proofs.lemmas.Bool.{false≢true}
 use Rattle.pop_model.specs.Popping.{IsPoppable}
 use Rattle.confluence_core.specs.Search.{IsPoppableAt}
-use Rattle.confluence_core.proofs.one_thread.first_poppable.Goals as goal
+use Rattle.confluence_core.proofs.search.first_poppable.Goals as goal
 
 pub loop-place-preserved : goal.loop-place-preserved
 loop-place-preserved c =

@@ -1,6 +1,6 @@
 use Rattle.std.proofs.Common.{◌≡◌}
 use Rattle.confluence_core.specs.Search.{NoneBefore}
-use Rattle.confluence_core.proofs.one_thread.first_poppable.Given as goal
+use Rattle.confluence_core.proofs.search.first_poppable.Given as goal
 
 -- no event up to here is poppable, and the reader is as it came
 abbrev pub invariant-loop-place : goal.invariant-loop-place

@@ -1,0 +1,153 @@
+ghost use Rattle.std.specs.Prelude.{◌≡◌, length, IfOk};
+ghost use Rattle.pop_model.specs.Stacks.{variables_of};
+
+use super::*;
+use pop_instance::{Cube, Family};
+use pop_stacks::{Rows, StackSpec, Weights};
+use std::process::Abort;
+use std::test::Fail;
+
+// The event of this number and these pairs.
+fn event(
+    rt: &impl Abort,
+    alloc: Global,
+    number: u32,
+    pairs: &[(u32, u32)],
+) -> Result<(u32, Cube), Fail>
+    ensures { IfOk result (λ r. r.0 ≡ number) }
+{
+    assert!(rt; pairs.len() < 9);
+    let cube = Cube::new(Vec::from_slice(alloc, pairs)?).expect(rt, "a cube");
+    Ok((number, cube))
+}
+
+// The instance of variables with two values each, the rows of their stacks and these events.
+fn instance(rt: &impl Abort, rows: Rows, events: Events) -> Result<Instance, Fail> {
+    let weights = Weights::pairs(rows.count());
+    let stacks = Stacks::new(StackSpec::Given(rows), weights, 1)?;
+    Ok(Instance::new(stacks, Family::Listed(events)).expect(rt, "an instance"))
+}
+
+// A run from zeros, with all units as suspects.
+fn from_zeros(alloc: Global, instance: &Instance, keep: Keep) -> Result<Run, AllocError>
+    ensures count { IfOk result (λ run. variables_of instance.now.stacks ≡ length run.end.cursors) }
+{
+    let mut suspects = Units::new(alloc);
+    for unit in 0..instance.family().events().count() {
+        suspects.push(unit)?;
+    }
+    let cursors = Cursors::zeros(alloc, instance.stacks().count())?;
+    run_from(alloc, instance, cursors, suspects, keep)
+}
+
+// What an end is to be: its cursors, its pops and the units of its stuck events.
+#[derive(Drop)]
+struct Want<'a> {
+    cursors: &'a [u32],
+    pops: u64,
+    stuck: &'a [u32],
+}
+
+// Compares an end over so many variables.
+fn is_end(rt: &impl Abort, end: &End, count: u32, want: &Want)
+    requires { count ≡ length end.now.cursors }
+{
+    assert_eq!(rt; want.cursors.len(), count as usize);
+    for v in 0..count {
+        assert_eq!(rt;
+            end.cursors.get(v),
+            want.cursors[v as usize],
+            "variable {v}"
+        );
+    }
+    assert_eq!(rt; end.pops, want.pops);
+    assert_eq!(rt; end.stuck.len(), want.stuck.len() as u64);
+    for (i, unit) in want.stuck.iter().enumerate() {
+        assert_eq!(rt; end.stuck.at(i as u64).0, *unit, "stuck event {i}");
+    }
+}
+
+// Runs the instance by both calls, and compares their ends.
+fn ends_with(rt: &impl Abort, alloc: Global, instance: &Instance, want: &Want) -> Result<(), Fail> {
+    let count = instance.stacks().count();
+    is_end(rt, &run_first(alloc, instance)?, count, want);
+    let run = from_zeros(alloc, instance, Keep::Nothing)?;
+    is_end(rt, &run.end, count, want);
+    Ok(())
+}
+
+// Worked by hand.
+#[test]
+fn popping_goes_on_past_a_stuck_event(rt: HostRuntime) -> Result<(), Fail> {
+    let alloc = rt.alloc();
+    let rows = Rows::of(vec![in alloc; vec![in alloc; 0]?, vec![in alloc; 0, 0, 1]?]?);
+    let first = event(&rt, alloc, 1, &[(0, 0)])?;
+    let events = Events::gather(
+        alloc,
+        vec![in alloc; first, event(&rt, alloc, 2, &[(1, 0)])?]?,
+    )?;
+    let want = Want {
+        cursors: &[0, 2],
+        pops: 2,
+        stuck: &[0],
+    };
+    ends_with(&rt, alloc, &instance(&rt, rows, events)?, &want)
+}
+
+// Worked by hand.
+#[test]
+fn an_event_is_stuck_at_the_last_entry(rt: HostRuntime) -> Result<(), Fail> {
+    let alloc = rt.alloc();
+    let rows = Rows::of(vec![in alloc; vec![in alloc; 0, 0]?]?);
+    let events = Events::gather(alloc, vec![in alloc; event(&rt, alloc, 1, &[(0, 0)])?]?)?;
+    let want = Want {
+        cursors: &[1],
+        pops: 1,
+        stuck: &[0],
+    };
+    ends_with(&rt, alloc, &instance(&rt, rows, events)?, &want)
+}
+
+// Worked by hand.
+#[test]
+fn a_pop_moves_every_variable_of_the_event(rt: HostRuntime) -> Result<(), Fail> {
+    let alloc = rt.alloc();
+    let rows = Rows::of(vec![in alloc; vec![in alloc; 0, 1]?, vec![in alloc; 0, 1]?]?);
+    let first = event(&rt, alloc, 1, &[(0, 0), (1, 0)])?;
+    let last = event(&rt, alloc, 2, &[(0, 1), (1, 0)])?;
+    let events = Events::gather(alloc, vec![in alloc; first, last]?)?;
+    let want = Want {
+        cursors: &[1, 1],
+        pops: 1,
+        stuck: &[],
+    };
+    ends_with(&rt, alloc, &instance(&rt, rows, events)?, &want)
+}
+
+// Worked by hand: variable 0 has the entries 0, 0, 1, and the event has the value 0.
+#[test]
+fn the_log_has_each_pop_with_its_entries(rt: HostRuntime) -> Result<(), Fail> {
+    let alloc = rt.alloc();
+    let rows = Rows::of(vec![in alloc; vec![in alloc; 0, 0, 1]?]?);
+    let events = Events::gather(alloc, vec![in alloc; event(&rt, alloc, 1, &[(0, 0)])?]?)?;
+    let instance = instance(&rt, rows, events)?;
+    let want = Want {
+        cursors: &[2],
+        pops: 2,
+        stuck: &[],
+    };
+    ends_with(&rt, alloc, &instance, &want)?;
+    assert!(&rt; from_zeros(alloc, &instance, Keep::Nothing)?.log.is_none());
+    let log = from_zeros(alloc, &instance, Keep::Log)?
+        .log
+        .expect(&rt, "a log");
+    assert_eq!(&rt; log.len(), 2);
+    for i in 0..2 {
+        assert!(&rt; i < log.len());
+        let popped = log.at(i);
+        assert_eq!(&rt; popped.unit(), 0);
+        assert!(&rt; popped.cube().len() == 1);
+        assert_eq!(&rt; popped.entry(0) as u64, i);
+    }
+    Ok(())
+}

@@ -1,0 +1,88 @@
+ghost use Rattle.std.specs.Prelude.{◌≡◌, ◌<◌, length, All, IfOk, MatchOption};
+ghost use Rattle.pop_model.specs.Stacks.{variables_of};
+ghost use Rattle.pop_model.specs.Popping.{AreWithin};
+ghost use Rattle.pop_model.specs.Instances.{FitsStacks};
+ghost use Rattle.pop_stacks.specs.Readers.{Belongs};
+ghost use Rattle.confluence_core.specs.Search.{NoneBefore, IsFirstPlace, IsStuckBelow, Covers, IsNextPlace};
+
+use crate::Stuck;
+use crate::work_list::WorkList;
+use pop_instance::{Cursors, Events};
+use pop_stacks::{Reader, Stacks};
+use std::alloc::{AllocError, Global};
+
+// The place of the first poppable event.
+pub(crate) fn first_poppable(
+    stacks: &Stacks,
+    events: &Events,
+    reader: &mut Reader,
+    cursors: &Cursors,
+) -> Option<u32>
+    requires fits { All (λ r. FitsStacks stacks.now r.1) events.now }
+    requires count { variables_of stacks.now ≡ length cursors.now }
+    requires within { AreWithin stacks.now cursors.now }
+    requires belongs { Belongs stacks.now reader.old }
+    ensures first { MatchOption result
+        (NoneBefore stacks.now cursors.now events.now (length events.now))
+        (IsFirstPlace stacks.now cursors.now events.now) }
+    ensures reader { reader.new ≡ reader.old }
+{
+    for place in 0..events.count() {
+        if cursors.poppable(stacks, reader, events.cube(place)) {
+            return Some(place);
+        }
+    }
+    None
+}
+
+// The place of a poppable event, taken out of the work list with those before it that are none.
+pub(crate) fn next_poppable(
+    stacks: &Stacks,
+    events: &Events,
+    reader: &mut Reader,
+    cursors: &Cursors,
+    work: &mut WorkList,
+) -> Option<u32>
+    requires fits { All (λ r. FitsStacks stacks.now r.1) events.now }
+    requires count { variables_of stacks.now ≡ length cursors.now }
+    requires within { AreWithin stacks.now cursors.now }
+    requires belongs { Belongs stacks.now reader.old }
+    requires units { work.old.units ≡ length events.now }
+    requires covers { Covers stacks.now cursors.now events.now work.old.list }
+    ensures next { MatchOption result
+        (NoneBefore stacks.now cursors.now events.now (length events.now))
+        (IsNextPlace stacks.now cursors.now events.now work.new.list) }
+    ensures units { work.new.units ≡ work.old.units }
+    ensures reader { reader.new ≡ reader.old }
+{
+    while let Some(place) = work.take() {
+        if cursors.poppable(stacks, reader, events.cube(place)) {
+            return Some(place);
+        }
+    }
+    None
+}
+
+// The events that occur, by rising unit.
+pub(crate) fn stuck_at(
+    alloc: Global,
+    stacks: &Stacks,
+    events: &Events,
+    reader: &mut Reader,
+    cursors: &Cursors,
+) -> Result<Stuck, AllocError>
+    requires fits { All (λ r. FitsStacks stacks.now r.1) events.now }
+    requires count { variables_of stacks.now ≡ length cursors.now }
+    requires within { AreWithin stacks.now cursors.now }
+    requires belongs { Belongs stacks.now reader.old }
+    ensures { IfOk result (IsStuckBelow stacks.now cursors.now events.now (length events.now)) }
+{
+    let mut stuck = Stuck::new(alloc);
+    for place in 0..events.count() {
+        let cube = events.cube(place);
+        if cursors.occurs(stacks, reader, cube) {
+            stuck.push(place, cube.copy(alloc)?)?;
+        }
+    }
+    Ok(stuck)
+}
