@@ -57,6 +57,7 @@ pub record Behind (command : Command) (chosen : List Choice) (tail : List (List 
   pub options : AreOptions command (names_of chosen) more
   pub complete : AreComplete command (names_of (chosen ++ more))
 
+-- what stands behind options that were chosen first
 pub behind : (command : Command) (chosen : List Choice) (tail : List (List ℕ))
     → AreWords ((command_word command ∷ words_of chosen) ++ tail) → Behind command chosen tail
 behind command chosen tail (job, asks) =

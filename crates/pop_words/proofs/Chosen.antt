@@ -9,18 +9,22 @@ use Rattle.pop_words.specs.Options.{row}
 use Rattle.pop_words.specs.CommandLines.{Choice, names_of, words_of, AreOptions, MayFollow, set_option, job_from}
 use Rattle.pop_words.proofs.OptionFacts.{same_option}
 
+-- the words of options, one list behind another
 pub words-append : (xs ys : List Choice) → words_of (xs ++ ys) ≡ words_of xs ++ words_of ys
 words-append [] ys = refl
 words-append (x ∷ xs) ys = ap (λ l. (row x.0).name ∷ x.1 ∷ l) (words-append xs ys)
 
+-- the names of options, one list behind another
 pub names-append : (xs ys : List Choice) → names_of (xs ++ ys) ≡ names_of xs ++ names_of ys
 names-append [] ys = refl
 names-append (x ∷ xs) ys = ap (λ l. x.0 ∷ l) (names-append xs ys)
 
+-- the job with options set, one list after another
 pub job-append : (job : Job) (xs ys : List Choice) → job_from job (xs ++ ys) ≡ job_from (job_from job xs) ys
 job-append job [] ys = refl
 job-append job (x ∷ xs) ys = job-append (set_option job x) xs ys
 
+-- each option has two words
 pub length-words_of : (xs : List Choice) → length (words_of xs) ≡ 2 * length xs
 length-words_of [] = refl
 length-words_of (x ∷ xs) = omega (arith, length-words_of xs)
@@ -53,6 +57,7 @@ pub record Splits (xs zs : List Choice) (tail : List (List ℕ)) : Type 0 where
   pub whole : zs ≡ xs ++ more
   pub rest : tail ≡ words_of more
 
+-- words that begin with those of some options are those of more options
 pub words_split : (xs zs : List Choice) (tail : List (List ℕ)) → words_of xs ++ tail ≡ words_of zs
     → Splits xs zs tail
 words_split [] zs tail same = record { more = zs; whole = refl; rest = same }

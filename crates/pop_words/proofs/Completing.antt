@@ -37,6 +37,7 @@ all_at test (y ∷ xs) all x among = elim (Contains-append_cases (y ∷ []) xs x
     right true b both = both
     right false b both = absurd (cc)
 
+-- where each member passes, all do
 pub all_from : {X : Type 0} (test : X → Bool) (xs : List X) → ((x : X) → Contains xs x → test x ≡ true)
     → list_all test xs ≡ true
 all_from test [] each = refl
@@ -93,6 +94,7 @@ stands_or_missing : (command : Command) (names : List OptionName) (o : OptionNam
     ⊎ ((stands_if_needed command names o ≡ false) × IsMissing command names o)
 stands_or_missing command names o = by_tests command names o _ _ _ refl refl refl
 
+-- where the test says so, no needed option is missing
 pub complete_from : (command : Command) (names : List OptionName) → is_complete command names ≡ true
     → AreComplete command names
 complete_from command names test o allowed needed = elim (stands_or_missing command names o) [
@@ -101,6 +103,7 @@ complete_from command names test o allowed needed = elim (stands_or_missing comm
       (cc)
 ]
 
+-- where no needed option is missing, the test says so
 pub complete_to : (command : Command) (names : List OptionName) → AreComplete command names
     → is_complete command names ≡ true
 complete_to command names complete = all_from (stands_if_needed command names) options
@@ -174,6 +177,7 @@ pub record Completes (command : Command) (chosen : List Choice) : Type 0 where
   pub options : AreOptions command [] (chosen ++ more)
   pub complete : AreComplete command (names_of (chosen ++ more))
 
+-- options that were chosen can be completed
 pub completes : (command : Command) (chosen : List Choice) → AreOptions command [] chosen → Completes command chosen
 completes command chosen chosen_are =
     let all = fill command chosen options chosen_are in

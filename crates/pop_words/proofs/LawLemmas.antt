@@ -116,6 +116,7 @@ jobs_height job command before (p ∷ chosen) options is =
     by_value None none = is
     by_value (Some set) some = keeps_height p.0 p.1 job set some is
 
+-- a job that is asked for has a height that keyed stacks may have
 pub asked_height : (words : List (List ℕ)) (job : Job) → Asks words job → (0 < job.height) × (job.height < 2 ^ 31)
 asked_height words job asks =
     let is : IsHeight job = subst IsHeight (sym asks.job_is)

@@ -39,6 +39,7 @@ example Stacks = []
 example Key = codes "0000000000000000000000000000000000000000000000000000000000000000"
 example Height = codes "1"
 
+-- it is a value of it
 pub example_is_value : (o : OptionName) → IsSome ((row o).value (example o))
 unfolding hex_on_literals
 example_is_value Stacks = refl
@@ -53,9 +54,11 @@ needed_is_compatible Height other needed differ = absurd (cc)
 
 -- ---- names and words tell apart
 
+-- options of one name are the same
 pub same_option : (a b : OptionName) → (row a).name ≡ (row b).name → a ≡ b
 same_option a b same = let is : Some a ≡ Some b = sym (named_again a) ∙ ap option_named same ∙ named_again b in cc
 
+-- commands of one word are the same
 pub same_command : (a b : Command) → command_word a ≡ command_word b → a ≡ b
 same_command a b same = let is : Some a ≡ Some b = sym (commanded_again a) ∙ ap command_named same
     ∙ commanded_again b in cc
@@ -79,9 +82,11 @@ pub commanded : (word : List ℕ) (c : Command) → command_named word ≡ Some 
 commanded word c found = (bytes_eq-Decides (command_word c) word).0
     (found_passes (λ p. bytes_eq (command_word p) word) commands c found)
 
+-- the test of names tells options apart
 pub same_name_is : (a b : OptionName) → same_name a b ≡ true → a ≡ b
 same_name_is a b test = same_option a b ((bytes_eq-Decides (row a).name (row b).name).0 test)
 
+-- an option has its own name
 pub is_same_name : (a b : OptionName) → a ≡ b → same_name a b ≡ true
 is_same_name a b is = (bytes_eq-Decides (row a).name (row b).name).1 (ap (λ o. (row o).name) is)
 

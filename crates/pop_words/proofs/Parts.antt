@@ -13,6 +13,7 @@ in_front front read = option_map (λ ys. front ++ ys) read
 pub record HasRead {X Y : Type 0} (f : X → Option Y) (parts : List X) (n : ℕ) (front : List Y) : Type 0 where
   pub whole : all_some f parts ≡ in_front front (all_some f (drop n parts))
 
+-- before the first part nothing is read
 pub none_read : {X Y : Type 0} (f : X → Option Y) (parts : List X) → HasRead f parts 0 []
 none_read f parts = record { whole = same (all_some f parts) }
   where

@@ -39,6 +39,7 @@ names_differ : (a b : OptionName) (t : Bool) → same_name a b ≡ t → a ≢ b
 names_differ a b true test other = absurd (other (same_name_is a b test))
 names_differ a b false test other = refl
 
+-- what the test of two options says
 pub compatible_from : (a b : OptionName) → compatible a b ≡ true → AreCompatible a b
 compatible_from a b test =
     let outer = both (not (same_name a b) && not ((row a).excludes b)) (not ((row b).excludes a)) test in
@@ -54,6 +55,7 @@ compatible_to a b are =
     and_true (and_true (not_false _ (names_differ a b _ refl are.different)) (not_false _ are.keeps))
     (not_false _ are.kept_by)
 
+-- what the test of the next option says
 pub follow_from : (command : Command) (before : List OptionName) (o : OptionName)
     → may_follow command before o ≡ true → MayFollow command before o
 follow_from command before o test =

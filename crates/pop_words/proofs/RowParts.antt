@@ -16,6 +16,7 @@ pub row_by_parts : (word : List ℕ) → nat_eq (length word) 0 ≡ false
 row_by_parts [] some = absurd (cc)
 row_by_parts (b ∷ bs) some = refl
 
+-- a word that isn't empty has the rows of its parts, where they are within the limits
 pub rows_by_parts : (word : List ℕ) → nat_eq (length word) 0 ≡ false
     → rows_in word ≡ only_if are_within (all_some row_in (semicolon_parts word))
 rows_by_parts [] some = absurd (cc)
@@ -72,6 +73,7 @@ no_more_rows word n rows room part row some has within is read full = rows_by_pa
 pub has_room : (room : ℕ) (part row : List ℕ) → only_if (fits_in room) (row_in part) ≡ Some row → length row ≤ room
 has_room room part row read = leb-true _ _ (passed (fits_in room) (row_in part) row read).1
 
+-- one row more is read
 pub row_more : (word : List ℕ) (n : ℕ) (rows : List (List ℕ)) (room : ℕ) (part row : List ℕ)
     → HasRows word n rows room
     → n < length (semicolon_parts word) → part ≡ get_or (semicolon_parts word) n part

@@ -22,6 +22,7 @@ pub record IsUnderway (command : Command) (words : List (List ℕ)) (before : Li
   pub different : IsDistinct same_name before
   pub few : place ≤ 1 + 2 * length options
 
+-- behind the command word, before any option
 pub underway_at_first : (command : Command) (words : List (List ℕ))
     → IsUnderway command words [] (default_job command) 1
 unfolding IsDistinct
@@ -45,6 +46,7 @@ at_word words i word within is =
 
 -- ---- what is read where a name and a value stand next
 
+-- a name of no option that may stand next is the first bad word
 pub name_refused : (command : Command) (words : List (List ℕ)) (before : List OptionName) (job : Job) (place : ℕ)
     (name : List ℕ) (rest : List (List ℕ))
     → IsUnderway command words before job place → drop place words ≡ name ∷ rest
@@ -72,6 +74,7 @@ behind_name command words before job place name word rest o underway next found 
     ∙ ap (λ f. read_on (place + 1) f (λ p. read_on (place + 2) ((row p).value word)
     (λ set. read_from command (before ++ p ∷ []) (set job) (place + 2) rest))) found
 
+-- a word that is no value of its option is the first bad word
 pub value_refused : (command : Command) (words : List (List ℕ)) (before : List OptionName) (job : Job) (place : ℕ)
     (name word : List ℕ) (rest : List (List ℕ))
     (o : OptionName) → IsUnderway command words before job place → drop place words ≡ name ∷ word ∷ rest
@@ -90,6 +93,7 @@ is_other before o other = by_test (list_any (same_name o) before) refl
     by_test true found = absurd (other o (Contains-from_any same_name_is o before found) refl)
     by_test false found = refl
 
+-- a name and its value are read: so many words more, with this option set
 pub value_set : (command : Command) (words : List (List ℕ)) (before : List OptionName) (job : Job) (place : ℕ)
     (name word : List ℕ) (rest : List (List ℕ))
     (o : OptionName) (set : Job → Job) → IsUnderway command words before job place
@@ -112,6 +116,7 @@ value_set command words before job place name word rest o set underway next late
 
 -- ---- what the calls answer, said of the words
 
+-- the option that was found is that of the word
 pub next_option_is : (command : Command) (before slice : List OptionName) (name word : List ℕ)
     (found : Option OptionName) → slice ≡ before → name ≡ word
     → found ≡ option_next command slice name → option_next command before word ≡ found
@@ -134,6 +139,7 @@ pub record Sets (o : OptionName) (word : List ℕ) (job new : Job) : Type 0 wher
   pub value : (row o).value word ≡ Some set
   pub sets : set job ≡ new
 
+-- where something was set, the word is a value, and it set that
 pub has_value : (o : OptionName) (job new : Job) (bytes word : List ℕ) (found : Option Job) → bytes ≡ word
     → found ≡ option_map (λ f. f job) ((row o).value bytes) → found ≡ Some new → Sets o word job new
 has_value o job new bytes word found same is some = sets ((row o).value bytes) (ap (row o).value (sym same))

@@ -31,25 +31,29 @@ abbrev pub samples : Command → Bool
 samples Formula = true
 samples Check = false
 
--- the options that an option excludes: none, or those of keyed stacks
+-- an option that excludes none
 abbrev pub nothing : OptionName → Bool
 nothing _ = false
 
+-- the options of keyed stacks
 abbrev pub key_or_height : OptionName → Bool
 key_or_height Stacks = false
 key_or_height Key = true
 key_or_height Height = true
 
--- what values set in a job
+-- the job with given rows
 abbrev pub set_rows : List (List ℕ) → Job → Job
 set_rows rows job = record job { stacks = GivenStacks rows }
 
+-- the job with keyed stacks
 abbrev pub set_key : List ℕ → Job → Job
 set_key key job = record job { stacks = KeyedStacks key }
 
+-- the job with a height
 abbrev pub set_height : ℕ → Job → Job
 set_height height job = record job { height = height }
 
+-- what there is to say of an option
 pub record OptionRow : Type 0 where
   -- as it is written
   pub name : List ℕ

@@ -11,10 +11,11 @@ use Rattle.pop_words.specs.declared.fault.WordFault.TheVariants.{Usage, OutOfMem
 use Rattle.pop_words.specs.Values.{only_if}
 use Rattle.pop_words.specs.Options.{commands, command_word, options, row, default_job}
 
--- the command and the option of a word
+-- the command of a word
 abbrev pub command_named : List ℕ → Option Command
 command_named word = find (λ command. bytes_eq (command_word command) word) commands
 
+-- the option of a word
 abbrev pub option_named : List ℕ → Option OptionName
 option_named word = find (λ option. bytes_eq (row option).name word) options
 

@@ -28,10 +28,11 @@ number_between low high word = only_if (λ n. nat_le low n && nat_le n high) (nu
 abbrev pub key_in : List ℕ → Option (List ℕ)
 key_in word = result_ok (decode_sized word 32)
 
--- the parts of a word between its commas, and between its semicolons
+-- the parts of a word between its commas
 abbrev pub comma_parts : List ℕ → List (List ℕ)
 comma_parts word = slice_split (λ b. b == 44) word
 
+-- the parts of a word between its semicolons
 abbrev pub semicolon_parts : List ℕ → List (List ℕ)
 semicolon_parts word = slice_split (λ b. b == 59) word
 
