@@ -22,6 +22,7 @@ flat_map-take f xs i x within is =
     ap (flat_map f) (take_more xs i x within ∙ ap (λ y. take i xs ++ y ∷ []) is)
     ∙ flat_map-append f (take i xs) (x ∷ []) ∙ ap (λ l. flat_map f (take i xs) ++ l) (append-nil (f x))
 
+-- one literal for each variable
 pub length-literals_of : (s : StackTable) (c : List ℕ) → length (literals_of s c) ≡ length c
 length-literals_of s c =
     length-map (enumerate_from 0 c) (λ p. literal_of p.0 (value_at s p.0 p.1)) ∙ length-enumerate_from 0 c

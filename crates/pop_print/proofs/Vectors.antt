@@ -1,5 +1,5 @@
 -- Worked texts, so that a wrong word, sign, number or order doesn't check.
-use Rattle.std.proofs.Common.{◌≡◌, [], ◌∷◌, refl, codes}
+use Rattle.std.proofs.Common.{◌≡◌, ℕ, List, [], ◌∷◌, refl, codes}
 use Rattle.std.specs.Fmt.{digits}
 use Rattle.pop_model.specs.Stacks.Origin.{Given}
 use Rattle.pop_model.specs.Families.{Event}
@@ -7,11 +7,14 @@ use Rattle.pop_model.specs.Families.Family.{Listed}
 use Rattle.pop_model.specs.Instances.{Instance}
 use Rattle.pop_print.specs.Output.{end_text}
 
+abbrev entries : List (List ℕ)
+entries = (0 ∷ 0 ∷ 1 ∷ []) ∷ (1 ∷ 0 ∷ []) ∷ []
+
 -- two variables of two values; event 7 demands the value 0 of the second
 abbrev two : Instance
 two =
     record {
-      stacks = record { origin = Given ((0 ∷ 0 ∷ 1 ∷ []) ∷ (1 ∷ 0 ∷ []) ∷ []); weights = (1 ∷ 1 ∷ []) ∷ (1 ∷ 1 ∷ []) ∷ [] };
+      stacks = record { origin = Given entries; weights = (1 ∷ 1 ∷ []) ∷ (1 ∷ 1 ∷ []) ∷ [] };
       family = Listed ((3, (0, 1) ∷ []) ∷ (7, (1, 0) ∷ []) ∷ []);
     }
 
