@@ -4,4 +4,5 @@ mod Lifting
 mod OneClash
 mod OneFault
 mod OneOutcome
+mod Starting
 mod Statuses

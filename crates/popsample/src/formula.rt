@@ -6,17 +6,16 @@ ghost use Rattle.pop_model.specs.Extremal.{IsExtremal};
 ghost use Rattle.pop_stacks.specs.Tables.{origin_of};
 ghost use Rattle.dimacs_read.specs.Cnf.{first_empty};
 ghost use Rattle.extremal_check.specs.Verdicts.{IsVerdict};
-ghost use Rattle.popsample.specs.Answers.{AnswersBy, end_status, pair_weights, instance_of, ComesOfRunning, ComesOfSampling, ComesOfChecking, ComesOfCommand};
+ghost use Rattle.popsample.specs.Answers.{AnswersBy, pair_weights, instance_of, ComesOfRunning, ComesOfSampling, ComesOfChecking, ComesOfCommand};
 ghost use Rattle.dimacs_read.specs.Falsifying.{FitVariables};
-ghost use Rattle.popsample.specs.Runs.{IsListed, IsEndOf};
+ghost use Rattle.popsample.specs.Runs.{IsEndOf};
 
 use crate::answer::Answer;
 use crate::refusals::{refuse_clash, refuse_stacks, tell_extremal};
-use confluence_core::{End, run_first};
+use crate::running::run_instance;
 use dimacs_read::Formula;
 use extremal_check::{Verdict, check};
 use pop_instance::{Events, Family, Index, Instance};
-use pop_print::{Facts, text};
 use pop_stacks::{StackSpec, Stacks, Weights};
 use pop_words::{Command, Job};
 use std::alloc::{AllocError, Global};
@@ -30,28 +29,6 @@ fn judge(alloc: Global, variables: u32, events: &Events) -> Result<Verdict, Allo
     check(alloc, events, &index)
 }
 
-// The status of an end: 1 where an event still occurs.
-fn status_of(end: &End) -> u8
-    ensures { result ≡ end_status end.now.stuck }
-{
-    if end.stuck.len() == 0 { 0 } else { 1 }
-}
-
-// The run of an instance of events over so many variables.
-fn run_instance(alloc: Global, variables: u32, instance: &Instance) -> Result<Answer, AllocError>
-    requires weights { instance.now.stacks.weights ≡ pair_weights variables }
-    requires listed { IsListed instance.now.family }
-    ensures { IfOk result (λ a. AnswersBy (IsEndOf instance.now) a.status a.text.items) }
-{
-    let _units = instance.units();
-    let end = run_first(alloc, instance)?;
-    let text = text(alloc, &Facts::Formula(variables), instance, &end)?;
-    Ok(Answer {
-        status: status_of(&end),
-        text,
-    })
-}
-
 // The run of events over so many variables.
 fn run_events(
     alloc: Global,
@@ -61,6 +38,7 @@ fn run_events(
 ) -> Result<Answer, AllocError>
     requires weights { stacks.weights ≡ pair_weights variables }
     requires fit { FitVariables variables events }
+    requires extremal { IsExtremal (Listed events) }
     ensures { IfOk result (λ a.
         AnswersBy (IsEndOf (instance_of stacks.origin variables events)) a.status a.text.items) }
 {

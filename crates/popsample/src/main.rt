@@ -7,6 +7,7 @@ mod answer;
 mod formula;
 pub mod laws;
 mod refusals;
+mod running;
 mod stop;
 #[cfg(test)]
 mod tests;

@@ -8,6 +8,7 @@ use std::thread::Threads;
 mod faults;
 mod formulas;
 mod refusals;
+mod texts;
 
 // A key of 64 zeros.
 const ZERO_KEY: &str = "0000000000000000000000000000000000000000000000000000000000000000";
