@@ -18,12 +18,15 @@ use Rattle.confluence_core.specs.WorkList.{Waiting, Gains, GainsSharing}
 use Rattle.confluence_core.proofs.Places.{listed, event_at, event_from}
 
 -- suspects that miss no poppable event cover them
-pub covers_from : (s : StackTable) (c : List ℕ) (rows : List (ℕ × Cube)) (suspects : List ℕ) → MissesNone (listed s rows) c suspects
+pub covers_from : (s : StackTable) (c : List ℕ) (rows : List (ℕ × Cube)) (suspects : List ℕ)
+    → MissesNone (listed s rows) c suspects
     → Covers s c rows suspects
-covers_from s c rows suspects none place within pop = none (event_at rows place) (event_from rows (event_at rows place) within refl) pop
+covers_from s c rows suspects none place within pop =
+    none (event_at rows place) (event_from rows (event_at rows place) within refl) pop
 
 -- what has gained a list that covers the poppable events covers them too
-pub covers_gained : (s : StackTable) (c : List ℕ) (rows : List (ℕ × Cube)) (list : List ℕ) (old new : Waiting) → Covers s c rows list
+pub covers_gained : (s : StackTable) (c : List ℕ) (rows : List (ℕ × Cube)) (list : List ℕ) (old new : Waiting)
+    → Covers s c rows list
     → Gains old new list → Covers s c rows new.list
 covers_gained s c rows list old new covers gains place within pop =
     All-contains (Contains new.list) list place gains.gained (covers place within pop)
@@ -35,22 +38,26 @@ index_units rows index is v below k d h =
     ((is.exact v (get_or (get_or index v []) k d) below).0 (Contains-get_or (get_or index v []) k d h)).0
 
 -- a place that is not poppable may go
-pub covers_rest : (s : StackTable) (c : List ℕ) (rows : List (ℕ × Cube)) (list : List ℕ) (place : ℕ) → Covers s c rows (list ++ place ∷ [])
+pub covers_rest : (s : StackTable) (c : List ℕ) (rows : List (ℕ × Cube)) (list : List ℕ) (place : ℕ)
+    → Covers s c rows (list ++ place ∷ [])
     → (IsPoppableAt s c rows place → ⊥) → Covers s c rows list
-covers_rest s c rows list place covers not q within pop = elim (Contains-push_cases list place q (covers q within pop)) [
-  | inl before ↦ before
-  | inr is ↦ absurd (not (subst (IsPoppableAt s c rows) (sym is) pop))
-]
+covers_rest s c rows list place covers not q within pop =
+    elim (Contains-push_cases list place q (covers q within pop)) [
+      | inl before ↦ before
+      | inr is ↦ absurd (not (subst (IsPoppableAt s c rows) (sym is) pop))
+    ]
 
 -- an empty list covers nothing
-pub covers_none : (s : StackTable) (c : List ℕ) (rows : List (ℕ × Cube)) → Covers s c rows [] → NoneBefore s c rows (length rows)
+pub covers_none : (s : StackTable) (c : List ℕ) (rows : List (ℕ × Cube)) → Covers s c rows []
+    → NoneBefore s c rows (length rows)
 covers_none s c rows covers place within pop = let none = covers place within pop in omega (arith, none.1)
 
 module _ (s : StackTable) (c : List ℕ) (rows : List (ℕ × Cube)) (index : List (List ℕ)) (place : ℕ) (old new : Waiting)
     (are : AreEvents rows) (indexed : IsIndex rows index) (next : IsNextPlace s c rows old.list place)
     (gains : GainsSharing old new index (cube_at rows place)) where
   -- an event that shares a variable is put into the list
-  covers_sharing : (q : ℕ) → q < length rows → list_any (λ p. names (cube_at rows place) p.0) (cube_at rows q) ≡ true → Contains new.list q
+  covers_sharing : (q : ℕ) → q < length rows → list_any (λ p. names (cube_at rows place) p.0) (cube_at rows q) ≡ true
+      → Contains new.list q
   covers_sharing q within shares =
       let e : Cube = cube_at rows place in
       let f : Cube = cube_at rows q in
@@ -58,7 +65,8 @@ module _ (s : StackTable) (c : List ℕ) (rows : List (ℕ × Cube)) (index : Li
       let p : ℕ × ℕ = found.1 in
       let in_f : Contains f p = (found.0, found.2, found.3) in
       let x = named e p.0 found.4 in
-      let below : p.0 < length index = All-contains (λ (r : ℕ × ℕ). r.0 < length index) f p (indexed.below q (0, []) within) in_f in
+      let below : p.0 < length index = All-contains (λ (r : ℕ × ℕ). r.0 < length index) f p
+      (indexed.below q (0, []) within) in_f in
       let there : Contains (get_or index p.0 []) q = (indexed.exact p.0 q below).1 (within, names_it f p in_f) in
       let all : All (Contains new.list) (get_or index p.0 []) =
       All-contains (λ (r : ℕ × ℕ). All (Contains new.list) (get_or index r.0 [])) e (p.0, x.0) gains.gained x.1 in
@@ -68,7 +76,8 @@ module _ (s : StackTable) (c : List ℕ) (rows : List (ℕ × Cube)) (index : Li
   unnamed : (f : Cube) → list_any (λ p. names (cube_at rows place) p.0) f ≡ false → (p : ℕ × ℕ) → Contains f p
       → names (cube_at rows place) p.0 ≡ false
   unnamed f none p has = elim (cases_Bool (names (cube_at rows place) p.0)) [
-    | inl is ↦ absurd (false≢true (sym none ∙ list_any-from_Any (λ (r : ℕ × ℕ). names (cube_at rows place) r.0) f (has.0, p, has.1, has.2, is)))
+    | inl is ↦ absurd (false≢true (sym none ∙ list_any-from_Any (λ (r : ℕ × ℕ). names (cube_at rows place) r.0) f
+        (has.0, p, has.1, has.2, is)))
     | inr is ↦ is
   ]
 

@@ -18,16 +18,28 @@ pub record Completes (i : Instance) (c : List ℕ) (pops : ℕ) (log : List LogR
 abbrev pub CanComplete : Instance → List ℕ → ℕ → Type 0
 CanComplete i c pops = (log : List LogRecord) → IsFirstRun i c log → Completes i c pops log
 
+-- at the start each run is whole
 pub complete_none : (i : Instance) (c : List ℕ) → c ≡ start_of i → CanComplete i c 0
-complete_none i c e log run = record { whole = log; run = subst (λ d. IsFirstRun i d log) e run; end = ap (λ d. replay d log) (sym e); size = omega arith }
+complete_none i c e log run = record {
+  whole = log;
+  run = subst (λ d. IsFirstRun i d log) e run;
+  end =
+      ap (λ d. replay d log) (sym e);
+  size = omega arith;
+}
 
-pub complete_more : (i : Instance) (c : List ℕ) (pops : ℕ) (e : Event) → IsFirstPoppable i c e → CanComplete i c pops → CanComplete i (pop c e.cube) (pops + 1)
+-- and so after one pop more of the first poppable event
+pub complete_more : (i : Instance) (c : List ℕ) (pops : ℕ) (e : Event) → IsFirstPoppable i c e → CanComplete i c pops
+    → CanComplete i (pop c e.cube) (pops + 1)
 complete_more i c pops e first old log run =
-    let legal : IsLegalAt i c (record_of c e) = record { event = first.event; poppable = first.poppable; entries = refl } in
+    let legal : IsLegalAt i c (record_of c e) =
+    record { event = first.event; poppable = first.poppable; entries = refl } in
     let all = old (record_of c e ∷ log) (first, legal, run) in
     record { whole = all.whole; run = all.run; end = all.end; size = omega (arith, all.size) }
 
-pub complete_end : (i : Instance) (c : List ℕ) (pops : ℕ) (stuck : List Event) → CanComplete i c pops → IsEnd i c → IsStuckList i c stuck → IsFirstEnd i c pops stuck
+-- at an end the pops are those of the one-thread run
+pub complete_end : (i : Instance) (c : List ℕ) (pops : ℕ) (stuck : List Event) → CanComplete i c pops → IsEnd i c
+    → IsStuckList i c stuck → IsFirstEnd i c pops stuck
 complete_end i c pops stuck old end list =
     let all = old [] end in
     record { run = (all.whole, all.run, sym all.end, omega (arith, all.size)); stuck_list = list }

@@ -25,7 +25,8 @@ marked_more list marks unit within old = record {
       (All-push (λ u. u < length marks) list unit old.known within);
   waits = λ u is. elim (cases_eq u unit) [
     | inl here ↦ subst (Contains (list ++ unit ∷ [])) (sym here) (Contains-push list unit)
-    | inr other ↦ Contains-append_left list (unit ∷ []) u (old.waits u (sym (slice_get-set_other marks unit u true other) ∙ is))
+    | inr other ↦ Contains-append_left list (unit ∷ []) u
+        (old.waits u (sym (slice_get-set_other marks unit u true other) ∙ is))
   ];
 }
 
@@ -34,7 +35,8 @@ pub gains_none : (old : Waiting) → Gains old old []
 gains_none old = record { units = refl; kept = λ u has. has; gained = λ k d h. absurd (omega arith) }
 
 -- one unit more is gained
-pub gains_more : (a b c : Waiting) (xs : List ℕ) (i : ℕ) (x d : ℕ) → i < length xs → get_or xs i d ≡ x → Gains a b (take i xs) → Gains b c (x ∷ [])
+pub gains_more : (a b c : Waiting) (xs : List ℕ) (i : ℕ) (x d : ℕ) → i < length xs → get_or xs i d ≡ x
+    → Gains a b (take i xs) → Gains b c (x ∷ [])
     → Gains a c (take (i + 1) xs)
 gains_more a b c xs i x d within is old new = record {
   units = new.units ∙ old.units;
@@ -50,13 +52,16 @@ pub gains_sharing_none : (old : Waiting) (index : List (List ℕ)) → GainsShar
 gains_sharing_none old index = record { units = refl; kept = λ u has. has; gained = λ k d h. absurd (omega arith) }
 
 -- the units of one pair more are gained
-pub gains_sharing_more : (a b c : Waiting) (index : List (List ℕ)) (e : Cube) (i : ℕ) (p : ℕ × ℕ) → slice_get e i ≡ Some p
+pub gains_sharing_more : (a b c : Waiting) (index : List (List ℕ)) (e : Cube) (i : ℕ) (p : ℕ × ℕ)
+    → slice_get e i ≡ Some p
     → GainsSharing a b index (take i e) → Gains b c (get_or index p.0 []) → GainsSharing a c index (take (i + 1) e)
 gains_sharing_more a b c index e i p at old new = record {
   units = new.units ∙ old.units;
   kept = λ u has. new.kept u (old.kept u has);
   gained = all_more (λ (q : ℕ × ℕ). All (Contains c.list) (get_or index q.0 [])) e i p at
-      (All-weaker (λ (q : ℕ × ℕ). All (Contains b.list) (get_or index q.0 [])) (λ (q : ℕ × ℕ). All (Contains c.list) (get_or index q.0 []))
-      (λ q all. All-weaker (Contains b.list) (Contains c.list) new.kept (get_or index q.0 []) all) (take i e) old.gained)
+      (All-weaker (λ (q : ℕ × ℕ). All (Contains b.list) (get_or index q.0 []))
+      (λ (q : ℕ × ℕ). All (Contains c.list) (get_or index q.0 []))
+      (λ q all. All-weaker (Contains b.list) (Contains c.list) new.kept (get_or index q.0 []) all)
+      (take i e) old.gained)
       new.gained;
 }

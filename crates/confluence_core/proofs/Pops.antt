@@ -22,7 +22,8 @@ pub pop_falls : (s : StackTable) (c : List ℕ) (rows : List (ℕ × Cube)) (pla
     → HasNext s c (cube_at rows place) → AreEvents rows → All (λ r. FitsStacks s r.1) rows → variables_of s ≡ length c
     → left_from s 0 (pop c (cube_at rows place)) < left_from s 0 c
 pop_falls s c rows place within next are fits count =
-    room_falls s c (cube_at rows place) (are.cubes place (0, []) within) (names_below s c rows place within fits count) next
+    room_falls s c (cube_at rows place) (are.cubes place (0, []) within)
+    (names_below s c rows place within fits count) next
 
 -- there is room for fewer than 2 ^ 62 pops
 pub pops_fit : (s : StackTable) (c : List ℕ) → IsTable s → variables_of s ≡ length c → left_from s 0 c < 2 ^ 62

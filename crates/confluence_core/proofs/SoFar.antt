@@ -12,18 +12,21 @@ use Rattle.pop_model.proofs.FirstRun.{first_run}
 use Rattle.confluence_core.specs.Runs.{IsRun}
 
 -- the cursors after one record more
-replay_push : (c : List ℕ) (log : List LogRecord) (r : LogRecord) → replay c (log ++ r ∷ []) ≡ pop (replay c log) r.event.cube
+replay_push : (c : List ℕ) (log : List LogRecord) (r : LogRecord)
+    → replay c (log ++ r ∷ []) ≡ pop (replay c log) r.event.cube
 replay_push c [] r = refl
 replay_push c (q ∷ log) r = replay_push (pop c q.event.cube) log r
 
 -- a record that is legal at the end of a log may stand there
-legal_push : (i : Instance) (c : List ℕ) (log : List LogRecord) (r : LogRecord) → IsLegal i c log → IsLegalAt i (replay c log) r
+legal_push : (i : Instance) (c : List ℕ) (log : List LogRecord) (r : LogRecord) → IsLegal i c log
+    → IsLegalAt i (replay c log) r
     → IsLegal i c (log ++ r ∷ [])
 legal_push i c [] r legal at = (at, tt)
 legal_push i c (q ∷ log) r legal at = (legal.0, legal_push i (pop c q.event.cube) log r legal.1 at)
 
 -- a legal log has led from the start to these cursors; kept is the log where it is kept, and else empty
-pub record IsSoFar (i : Instance) (start : List ℕ) (keeps : Bool) (cursors : List ℕ) (pops : ℕ) (kept : List LogRecord) : Type 0 where
+pub record IsSoFar (i : Instance) (start : List ℕ) (keeps : Bool) (cursors : List ℕ) (pops : ℕ)
+    (kept : List LogRecord) : Type 0 where
   pub log : List LogRecord
   pub legal : IsLegal i start log
   pub cursors_are : cursors ≡ replay start log
@@ -39,7 +42,8 @@ so_far_none i start keeps = record { log = []; legal = tt; cursors_are = refl; p
     either false = refl
 
 -- a pop more
-pub so_far_more : (i : Instance) (start : List ℕ) (keeps : Bool) (cursors : List ℕ) (pops : ℕ) (kept new : List LogRecord) (r : LogRecord)
+pub so_far_more : (i : Instance) (start : List ℕ) (keeps : Bool) (cursors : List ℕ) (pops : ℕ)
+    (kept new : List LogRecord) (r : LogRecord)
     → IsLegalAt i cursors r → new ≡ cond keeps (kept ++ r ∷ []) kept → IsSoFar i start keeps cursors pops kept
     → IsSoFar i start keeps (pop cursors r.event.cube) (pops + 1) new
 so_far_more i start keeps cursors pops kept new r legal is old = record {
@@ -55,7 +59,8 @@ so_far_more i start keeps cursors pops kept new r legal is old = record {
     either false same = same
 
 -- the run comes to its end
-pub so_far_end : (i : Instance) (start : List ℕ) (keeps : Bool) (cursors : List ℕ) (pops : ℕ) (kept : List LogRecord) (stuck : List Event)
+pub so_far_end : (i : Instance) (start : List ℕ) (keeps : Bool) (cursors : List ℕ) (pops : ℕ) (kept : List LogRecord)
+    (stuck : List Event)
     (log : Option (List LogRecord)) → log ≡ then_some keeps kept → IsEnd i cursors → IsStuckList i cursors stuck
     → IsSoFar i start keeps cursors pops kept → IsRun i start keeps cursors pops stuck log
 so_far_end i start keeps cursors pops kept stuck log is end list old = record {
@@ -73,8 +78,10 @@ so_far_end i start keeps cursors pops kept stuck log is end list old = record {
     either false same = refl
 
 -- from zeros on an extremal instance it is the end of the one-thread run
-pub first_end_from : (i : Instance) (start : List ℕ) (keeps : Bool) (cursors : List ℕ) (pops : ℕ) (stuck : List Event) (log : Option (List LogRecord))
-    → IsRun i start keeps cursors pops stuck log → IsExtremal i.family → start ≡ start_of i → IsFirstEnd i cursors pops stuck
+pub first_end_from : (i : Instance) (start : List ℕ) (keeps : Bool) (cursors : List ℕ) (pops : ℕ) (stuck : List Event)
+    (log : Option (List LogRecord))
+    → IsRun i start keeps cursors pops stuck log → IsExtremal i.family → start ≡ start_of i
+    → IsFirstEnd i cursors pops stuck
 first_end_from i start keeps cursors pops stuck log run extremal zeros =
     let first = first_run i extremal start run.log run.legal (subst (IsEnd i) run.cursors_are run.end) in
     record {

@@ -24,13 +24,15 @@ stuck_none s c rows = record {
   exact = λ e. (λ h. absurd (omega (arith, h.1)), λ h. let none = h.before in absurd (omega (arith, none)));
 }
 
-module _ (s : StackTable) (c : List ℕ) (rows : List (ℕ × Cube)) (n : ℕ) (stuck : List Event) (old : IsStuckBelow s c rows n stuck) where
+module _ (s : StackTable) (c : List ℕ) (rows : List (ℕ × Cube)) (n : ℕ) (stuck : List Event)
+    (old : IsStuckBelow s c rows n stuck) where
   later : (e : Event) → OccursBelow s c rows n e → OccursBelow s c rows (n + 1) e
   later e h = let before = h.before in
       record { before = omega (arith, before); within = h.within; cube = h.cube; occurs = h.occurs }
 
   below_more : All (λ e. e.unit < n + 1) stuck
-  below_more = All-weaker (λ (e : Event). e.unit < n) (λ (e : Event). e.unit < n + 1) (λ e h. omega arith) stuck old.below
+  below_more = All-weaker (λ (e : Event). e.unit < n) (λ (e : Event). e.unit < n + 1)
+      (λ e h. omega arith) stuck old.below
 
   -- an event below the next unit is below this one, or has it
   earlier : (e : Event) → OccursBelow s c rows (n + 1) e → e.unit ≢ n → OccursBelow s c rows n e
@@ -38,7 +40,8 @@ module _ (s : StackTable) (c : List ℕ) (rows : List (ℕ × Cube)) (n : ℕ) (
       record { before = omega (arith, before, other); within = h.within; cube = h.cube; occurs = h.occurs }
 
   -- the event at the next place occurs
-  pub stuck_more : n < length rows → Occurs s c (cube_at rows n) → IsStuckBelow s c rows (n + 1) (stuck ++ event_at rows n ∷ [])
+  pub stuck_more : n < length rows → Occurs s c (cube_at rows n)
+      → IsStuckBelow s c rows (n + 1) (stuck ++ event_at rows n ∷ [])
   unfolding event_with
   stuck_more within occurs = record {
     rising = subst IsStrictlyIncreasing (sym (map_push (λ (e : Event). e.unit) stuck (event_at rows n)))

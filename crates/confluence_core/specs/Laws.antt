@@ -7,8 +7,8 @@ use Rattle.pop_model.specs.Extremal.{IsExtremal, Share}
 use Rattle.pop_model.specs.Logs.{LogRecord, IsLegal, replay}
 use Rattle.pop_model.specs.Runs.{IsEnd, IsFinished, IsStuckList}
 
--- two events share no variable, each stays poppable after the other's pop, and both orders leave the
--- same cursors
+-- two events share no variable, each stays poppable after the other's pop, and both orders leave
+-- the same cursors
 pub record Commute (i : Instance) (c : List ℕ) (e f : Event) : Type 0 where
   pub apart : Share e.cube f.cube → ⊥
   pub first_stays : IsPoppable i.stacks (pop c f.cube) e.cube

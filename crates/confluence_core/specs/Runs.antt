@@ -11,10 +11,11 @@ abbrev pub MissesNone : Instance → List ℕ → List ℕ → Type 0
 MissesNone i c suspects = (e : Event) → IsEvent i.family e → IsPoppable i.stacks c e.cube
     → Contains suspects e.unit
 
--- from these cursors a legal log leads to this end, with this many pops and this stuck list; the log
--- is there exactly where it is kept
+-- from these cursors a legal log leads to this end, with this many pops and this stuck list; the
+-- log is there exactly where it is kept
 pub record IsRun (i : Instance) (start : List ℕ) (keeps : Bool)
-    (cursors : List ℕ) (pops : ℕ) (stuck : List Event) (kept : Option (List LogRecord)) : Type 0 where
+    (cursors : List ℕ) (pops : ℕ) (stuck : List Event)
+    (kept : Option (List LogRecord)) : Type 0 where
   pub log : List LogRecord
   pub legal : IsLegal i start log
   pub cursors_are : cursors ≡ replay start log

@@ -16,12 +16,14 @@ abbrev pub NoneBefore : StackTable → List ℕ → List (ℕ × Cube) → ℕ �
 NoneBefore s c rows n = (place : ℕ) → place < n → IsPoppableAt s c rows place → ⊥
 
 -- the least place of a poppable event
-pub record IsFirstPlace (s : StackTable) (c : List ℕ) (rows : List (ℕ × Cube)) (place : ℕ) : Type 0 where
+pub record IsFirstPlace (s : StackTable) (c : List ℕ) (rows : List (ℕ × Cube))
+    (place : ℕ) : Type 0 where
   pub within : place < length rows
   pub least : IsLeast (IsPoppableAt s c rows) place
 
 -- an event of the rows below a unit, that occurs
-pub record OccursBelow (s : StackTable) (c : List ℕ) (rows : List (ℕ × Cube)) (n : ℕ) (e : Event) : Type 0 where
+pub record OccursBelow (s : StackTable) (c : List ℕ) (rows : List (ℕ × Cube)) (n : ℕ)
+    (e : Event) : Type 0 where
   pub before : e.unit < n
   pub within : e.unit < length rows
   pub cube : cube_at rows e.unit ≡ e.cube

@@ -1,6 +1,6 @@
 //! Runs on one thread, the logs that they leave, and the laws of popping.
 //!
-//! Contracts see units as a list of numbers, stuck events as a list of events, and a record and a log
+//! Contracts see units as a list of numbers, stuck events as a list of events, and records and logs
 //! as in the definitions.
 #![tactic(auto)]
 

@@ -21,7 +21,10 @@ impl Model for Record {
 
     ghost Value = { LogRecord };
 
-    ghost view = { λ a. record { event = record { unit = a.unit; cube = a.cube }; entries = a.entries.items } };
+    ghost view = { λ a. record {
+      event = record { unit = a.unit; cube = a.cube };
+      entries = a.entries.items;
+    } };
 
     ghost invariant = { λ a. length a.entries.items ≡ length a.cube };
 }
@@ -30,7 +33,10 @@ impl Record {
     /// The record of an event and its entries, one for each pair of the cube in its order.
     pub fn new(unit: u32, cube: Cube, entries: Vec<u32>) -> Record
         requires each { length entries.items ≡ length cube }
-        ensures { result ≡ record { event = record { unit = unit; cube = cube }; entries = entries.items } }
+        ensures { result ≡ record {
+          event = record { unit = unit; cube = cube };
+          entries = entries.items;
+        } }
     {
         Record {
             unit,

@@ -28,10 +28,10 @@ pub fn run_first(alloc: Global, instance: &Instance) -> Result<End, AllocError>
     run_listed(alloc, instance.stacks(), instance.family().events())
 }
 
-/// A run from any cursors that are below the heights. It looks at the suspects, which are units of the
-/// instance and miss no poppable event, and after each pop at the events that share a variable with
-/// the popped one, until none is left. So its time is linear in the suspects, the pops and the events
-/// that share a variable with a popped one, and in the instance once.
+/// A run from any cursors that are below the heights. It looks at the suspects, which are units of
+/// the instance and miss no poppable event, and after each pop at the events that share a variable
+/// with the popped one, until none is left to look at. So its time is linear in the instance, the
+/// suspects, and the pairs of the events that share a variable with a popped one, pop by pop.
 pub fn run_from(
     alloc: Global,
     instance: &Instance,

@@ -55,9 +55,9 @@ pub(crate) fn next_poppable(
     ensures units { work.new.units ≡ work.old.units }
     ensures reader { reader.new ≡ reader.old }
 {
-    while let Some(place) = work.take() {
-        if cursors.poppable(stacks, reader, events.cube(place)) {
-            return Some(place);
+    while let Some(unit) = work.take() {
+        if cursors.poppable(stacks, reader, events.cube(unit)) {
+            return Some(unit);
         }
     }
     None
@@ -78,10 +78,10 @@ pub(crate) fn stuck_at(
     ensures { IfOk result (IsStuckBelow stacks.now cursors.now events.now (length events.now)) }
 {
     let mut stuck = Stuck::new(alloc);
-    for place in 0..events.count() {
-        let cube = events.cube(place);
+    for unit in 0..events.count() {
+        let cube = events.cube(unit);
         if cursors.occurs(stacks, reader, cube) {
-            stuck.push(place, cube.copy(alloc)?)?;
+            stuck.push(unit, cube.copy(alloc)?)?;
         }
     }
     Ok(stuck)

@@ -34,7 +34,8 @@ length-places_from n (r ∷ rows) v =
     elim (cases_Bool (names r.1 v)) [
       | inl yes' ↦
           let left : length (places_from n (r ∷ rows) v) ≡ length (places_from (n + 1) rows v) + 1 =
-          ap (λ b. length (cond b (n ∷ places_from (n + 1) rows v) (places_from (n + 1) rows v))) yes' ∙ sym (add-one _) in
+          ap (λ b. length (cond b (n ∷ places_from (n + 1) rows v) (places_from (n + 1) rows v))) yes'
+          ∙ sym (add-one _) in
           let one : ◌≡◌ {A = ℕ} (cond (names r.1 v) 1 0) 1 = ap (λ b. cond b 1 0) yes' in
           omega (arith, rest, split, left, one)
       | inr no' ↦
@@ -49,22 +50,28 @@ places_from_n : (n : ℕ) (rows : List (ℕ × Cube)) (v : ℕ) → All (λ p. n
 places_from_n n [] v = λ k d h. absurd (omega arith)
 places_from_n n (r ∷ rows) v =
     let later_ones : All (λ p. n ≤ p) (places_from (n + 1) rows v) =
-    All-weaker (λ p. n + 1 ≤ p) (λ p. n ≤ p) (λ p h. omega arith) (places_from (n + 1) rows v) (places_from_n (n + 1) rows v) in
-    elim (names r.1 v) as (λ b. All (λ p. n ≤ p) (cond b (n ∷ places_from (n + 1) rows v) (places_from (n + 1) rows v))) [
+    All-weaker (λ p. n + 1 ≤ p) (λ p. n ≤ p) (λ p h. omega arith) (places_from (n + 1) rows v)
+    (places_from_n (n + 1) rows v) in
+    elim (names r.1 v) as (λ b. All (λ p. n ≤ p)
+    (cond b (n ∷ places_from (n + 1) rows v) (places_from (n + 1) rows v))) [
       | true ↦ All-cons (λ p. n ≤ p) n (places_from (n + 1) rows v) (omega arith) later_ones
       | false ↦ later_ones
     ]
 
-increasing-cons : (n : ℕ) (xs : List ℕ) → All (λ p. n + 1 ≤ p) xs → IsStrictlyIncreasing xs → IsStrictlyIncreasing (n ∷ xs)
+increasing-cons : (n : ℕ) (xs : List ℕ) → All (λ p. n + 1 ≤ p) xs → IsStrictlyIncreasing xs
+    → IsStrictlyIncreasing (n ∷ xs)
 increasing-cons n xs above rising zero h = let first = above 0 0 (omega arith) in omega (arith, first)
-increasing-cons n xs above rising (suc k) h = rw (add-one) (subst (λ j. get_or xs k 0 < get_or xs j 0) (add-one k) (rising k (omega arith)))
+increasing-cons n xs above rising (suc k) h = rw (add-one)
+    (subst (λ j. get_or xs k 0 < get_or xs j 0) (add-one k) (rising k (omega arith)))
 
 -- the places rise
 pub rising-places_from : (n : ℕ) (rows : List (ℕ × Cube)) (v : ℕ) → IsStrictlyIncreasing (places_from n rows v)
 rising-places_from n [] v = λ k h. absurd (omega arith)
 rising-places_from n (r ∷ rows) v =
-    elim (names r.1 v) as (λ b. IsStrictlyIncreasing (cond b (n ∷ places_from (n + 1) rows v) (places_from (n + 1) rows v))) [
-      | true ↦ increasing-cons n (places_from (n + 1) rows v) (places_from_n (n + 1) rows v) (rising-places_from (n + 1) rows v)
+    elim (names r.1 v) as (λ b. IsStrictlyIncreasing
+    (cond b (n ∷ places_from (n + 1) rows v) (places_from (n + 1) rows v))) [
+      | true ↦ increasing-cons n (places_from (n + 1) rows v) (places_from_n (n + 1) rows v)
+          (rising-places_from (n + 1) rows v)
       | false ↦ rising-places_from (n + 1) rows v
     ]
 
@@ -75,11 +82,13 @@ record Names (n : ℕ) (rows : List (ℕ × Cube)) (v place : ℕ) : Type 0 wher
   pub within : k < length rows
   pub names_it : names (cube_at rows k) v ≡ true
 
-names_later : (n : ℕ) (r : ℕ × Cube) (rows : List (ℕ × Cube)) (v place : ℕ) → Names (n + 1) rows v place → Names n (r ∷ rows) v place
+names_later : (n : ℕ) (r : ℕ × Cube) (rows : List (ℕ × Cube)) (v place : ℕ) → Names (n + 1) rows v place
+    → Names n (r ∷ rows) v place
 names_later n r rows v place h = let here = h.here in let within = h.within in
     record { k = suc h.k; here = omega (arith, here); within = omega (arith, within); names_it = h.names_it }
 
-places_name : (n : ℕ) (rows : List (ℕ × Cube)) (v place : ℕ) → Contains (places_from n rows v) place → Names n rows v place
+places_name : (n : ℕ) (rows : List (ℕ × Cube)) (v place : ℕ) → Contains (places_from n rows v) place
+    → Names n rows v place
 places_name n [] v place h = absurd (omega (arith, h.1))
 places_name n (r ∷ rows) v place h =
     let rest = places_name (n + 1) rows v place in
@@ -97,7 +106,8 @@ places_name n (r ∷ rows) v place h =
           names_later n r rows v place (rest has)
     ]
 
-names_placed : (n : ℕ) (rows : List (ℕ × Cube)) (v k : ℕ) → k < length rows → names (cube_at rows k) v ≡ true → Contains (places_from n rows v) (n + k)
+names_placed : (n : ℕ) (rows : List (ℕ × Cube)) (v k : ℕ) → k < length rows → names (cube_at rows k) v ≡ true
+    → Contains (places_from n rows v) (n + k)
 names_placed n [] v k within is = absurd (omega arith)
 names_placed n (r ∷ rows) v zero within is =
     let here : n ≡ n + zero = omega arith in
@@ -105,8 +115,10 @@ names_placed n (r ∷ rows) v zero within is =
     (subst (Contains (n ∷ places_from (n + 1) rows v)) here (head_member n (places_from (n + 1) rows v)))
 names_placed n (r ∷ rows) v (suc k) within is =
     let there : n + 1 + k ≡ n + suc k = omega arith in
-    let rest : Contains (places_from (n + 1) rows v) (n + suc k) = subst (Contains (places_from (n + 1) rows v)) there (names_placed (n + 1) rows v k (omega arith) is) in
-    elim (names r.1 v) as (λ b. Contains (cond b (n ∷ places_from (n + 1) rows v) (places_from (n + 1) rows v)) (n + suc k)) [
+    let rest : Contains (places_from (n + 1) rows v) (n + suc k) =
+    subst (Contains (places_from (n + 1) rows v)) there (names_placed (n + 1) rows v k (omega arith) is) in
+    elim (names r.1 v) as (λ b. Contains (cond b (n ∷ places_from (n + 1) rows v) (places_from (n + 1) rows v))
+    (n + suc k)) [
       | true ↦ tail_member n (places_from (n + 1) rows v) (n + suc k) rest
       | false ↦ rest
     ]
@@ -126,13 +138,15 @@ exact-places rows v place = (
 )
 
 -- no event names a variable that is not below the count of variables
-pub none_named : (count v n : ℕ) (rows : List (ℕ × Cube)) → count ≤ v → All (λ r. NamesBelow r.1 count) rows → places_from n rows v ≡ []
+pub none_named : (count v n : ℕ) (rows : List (ℕ × Cube)) → count ≤ v → All (λ r. NamesBelow r.1 count) rows
+    → places_from n rows v ≡ []
 none_named count v n [] far known = refl
 none_named count v n (r ∷ rows) far known =
     elim (cases_Bool (names r.1 v)) [
       | inl yes' ↦
           let at = named r.1 v yes' in
-          let below : v < count = All-contains (λ (p : ℕ × ℕ). p.0 < count) r.1 (v, at.0) (All-head (λ r. NamesBelow r.1 count) r rows known) at.1 in
+          let below : v < count = All-contains (λ (p : ℕ × ℕ). p.0 < count) r.1 (v, at.0)
+          (All-head (λ r. NamesBelow r.1 count) r rows known) at.1 in
           absurd (omega (arith, far, below))
       | inr no' ↦
           ap (λ b. cond b (n ∷ places_from (n + 1) rows v) (places_from (n + 1) rows v)) no'

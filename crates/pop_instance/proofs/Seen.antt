@@ -22,7 +22,8 @@ seen_more seen new kept row key key_is updates old = record { exact = λ e. (to 
           let same : row.1 ≡ e = sym key_is ∙ (cube_eq key e).0 here in
           (row.0, subst (λ (f : Cube). Contains (kept ++ row ∷ []) (row.0, f)) same (Contains-push kept row))
       | inr other ↦
-          let before = (old.exact e).0 (sym (updates e ∙ ap (λ b. cond b true (contains cube_cmp seen e)) other) ∙ has) in
+          let before = (old.exact e).0 (sym (updates e ∙ ap (λ b. cond b true (contains cube_cmp seen e)) other)
+          ∙ has) in
           (before.0, Contains-append_left kept (row ∷ []) (before.0, e) before.1)
     ]
 

@@ -13,13 +13,15 @@ pub record AreSoFar (rows : List (ℕ × Cube)) (n count : ℕ) (tallies : List 
   pub each : (v : ℕ) → v < count → get_or tallies v 0 ≡ tally_of (take n rows) v
 
 -- a tally is at most the number of events
-pub tally_fits : (rows : List (ℕ × Cube)) (n count : ℕ) (tallies : List ℕ) → AreSoFar rows n count tallies → (v : ℕ) → v < count → get_or tallies v 0 ≤ n
+pub tally_fits : (rows : List (ℕ × Cube)) (n count : ℕ) (tallies : List ℕ) → AreSoFar rows n count tallies → (v : ℕ)
+    → v < count → get_or tallies v 0 ≤ n
 tally_fits rows n count tallies far v below =
     let is = far.each v below in
     omega (arith, is, count_by-le-length (λ (r : ℕ × Cube). names r.1 v) (take n rows), length-take n rows)
 
 -- the event at the next place is counted
-pub tally_more : (rows : List (ℕ × Cube)) (n count : ℕ) (tallies : List ℕ) → n < length rows → AreSoFar rows n count tallies
+pub tally_more : (rows : List (ℕ × Cube)) (n count : ℕ) (tallies : List ℕ) → n < length rows
+    → AreSoFar rows n count tallies
     → AreSoFar rows (n + 1) count (pop tallies (cube_at rows n))
 tally_more rows n count tallies within far = record {
   size = length-pop tallies (cube_at rows n) ∙ far.size;

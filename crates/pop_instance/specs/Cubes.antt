@@ -17,7 +17,8 @@ cube_cmp e f = slice_cmp pair_cmp e f
 
 -- the order of pairs is total
 pub pair_total : IsTotalOrder pair_cmp
-pair_total = then_total (on_total (λ (r : ℕ × ℕ). r.0) nat_cmp_total) (on_total (λ (r : ℕ × ℕ). r.1) nat_cmp_total)
+pair_total = then_total (on_total (λ (r : ℕ × ℕ). r.0) nat_cmp_total)
+    (on_total (λ (r : ℕ × ℕ). r.1) nat_cmp_total)
 
 -- the order of cubes is total
 pub cube_total : IsTotalOrder cube_cmp

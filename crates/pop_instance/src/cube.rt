@@ -96,7 +96,8 @@ impl Eq for Cube {
 impl PartialOrd for Cube {
     ghost partial_cmp = { as_partial_cmp cube_cmp };
 
-    ghost laws = { partial_order_from_agreeing_total cube_cmp cube_total (λ x y. refl) (λ x y. refl) };
+    ghost laws = { partial_order_from_agreeing_total cube_cmp cube_total
+        (λ x y. refl) (λ x y. refl) };
 
     fn partial_cmp(&self, other: &Cube) -> Option<Ordering> {
         Some(self.cmp(other))

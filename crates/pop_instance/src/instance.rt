@@ -22,7 +22,8 @@ impl Model for Instance {
 
     ghost view = { λ a. record { stacks = a.stacks; family = family_of a.family } };
 
-    ghost invariant = { λ a. IsInstance (record { stacks = a.stacks; family = family_of a.family }) };
+    ghost invariant = { λ a. IsInstance
+        (record { stacks = a.stacks; family = family_of a.family }) };
 }
 
 impl Instance {
@@ -91,7 +92,7 @@ mod tests {
         Ok(Cube::new(vec![in alloc; first, last]?).expect(rt, "a cube"))
     }
 
-    // The instance of two variables with two values each, and this cube as event 1, if there is one.
+    // The instance of two variables with two values each, and this cube as event 1.
     fn instance(
         rt: &impl Abort,
         alloc: Global,

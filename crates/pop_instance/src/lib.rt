@@ -1,7 +1,7 @@
 //! Cubes, families of events, instances and cursors.
 //!
-//! Contracts see a cube as its pairs, events as numbered cubes, an instance as stacks with a family,
-//! an index as the places of each variable, and cursors as a list of numbers.
+//! Contracts see a cube as its pairs, events as numbered cubes, an instance as stacks with a
+//! family, an index as the places of each variable, and cursors as a list of numbers.
 #![tactic(auto)]
 
 mod cube;

@@ -7,6 +7,8 @@ use pop_stacks::{Rows, StackSpec, Weights};
 use std::process::Abort;
 use std::test::Fail;
 
+mod chains;
+
 // The event of this number and these pairs.
 fn event(
     rt: &impl Abort,

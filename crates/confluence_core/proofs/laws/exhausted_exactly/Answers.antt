@@ -21,6 +21,7 @@ returns c i extremal at log stuck run list = (
         log,
         run.legal,
         λ e is occurs.
-            let has : Contains [] e = subst (λ xs. Contains xs e) none ((list.exact e).1 (is, occurs)) in absurd (omega (arith, has.1)),
+            let has : Contains [] e = subst (λ xs. Contains xs e) none ((list.exact e).1 (is, occurs)) in
+            absurd (omega (arith, has.1)),
       ),
 )

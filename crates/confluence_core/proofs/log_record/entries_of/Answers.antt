@@ -11,6 +11,7 @@ loop-i-preserved c =
     let i = c.loop-i.i in
     let pair = c.pair-v.result in
     let entry : ℕ × ℕ → ℕ = λ p. cursor at p.0 in
-    let here : c.get.result ≡ entry (get_or e i pair) = c.get.ensures ∙ ap entry (sym (get_or_from_slice_get e i pair pair c.pair-v.ensures)) in
+    let here : c.get.result ≡ entry (get_or e i pair) = c.get.ensures
+    ∙ ap entry (sym (get_or_from_slice_get e i pair pair c.pair-v.ensures)) in
     c.in_ok-push.ensures.items ∙ ap₂ (λ (xs : List ℕ) (x : ℕ). xs ++ x ∷ []) c.loop-i.invariant here
     ∙ sym (map_more entry e i pair (slice_get_within e i pair c.pair-v.ensures))

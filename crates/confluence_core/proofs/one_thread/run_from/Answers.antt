@@ -19,8 +19,10 @@ unfolding instance_of
 run_listed_from-requires-clause-suspects c =
     let s = c.stacks-stacks.result.now in
     let rows = c.events.result.now in
-    let same : listed s rows ≡ c.args.instance.now = ap₂ instance_of c.stacks-stacks.ensures (sym c.events.ensures ∙ c.family.ensures) in
-    covers_from s c.args.cursors rows c.args.suspects (subst (λ i. MissesNone i c.args.cursors c.args.suspects) (sym same) c.requires.suspects)
+    let same : listed s rows ≡ c.args.instance.now =
+    ap₂ instance_of c.stacks-stacks.ensures (sym c.events.ensures ∙ c.family.ensures) in
+    covers_from s c.args.cursors rows c.args.suspects
+    (subst (λ i. MissesNone i c.args.cursors c.args.suspects) (sym same) c.requires.suspects)
 
 pub returns-clause-first : goal.returns-clause-first
 unfolding instance_of
@@ -28,8 +30,11 @@ returns-clause-first c =
     let start = c.args.cursors in
     let keep = keeps_log c.args.keep in
     let result = c.run_listed_from.result in
-    let same : listed c.stacks-stacks.result.now c.events.result.now ≡ c.args.instance.now = ap₂ instance_of c.stacks-stacks.ensures (sym c.events.ensures ∙ c.family.ensures) in
-    let ran : IfOk result (λ (run : Run). IsRun c.args.instance.now start keep run.end.cursors run.end.pops run.end.stuck run.log) =
-    subst (λ i. IfOk result (λ (run : Run). IsRun i start keep run.end.cursors run.end.pops run.end.stuck run.log)) same c.run_listed_from.ensures.run in
+    let same : listed c.stacks-stacks.result.now c.events.result.now ≡ c.args.instance.now =
+    ap₂ instance_of c.stacks-stacks.ensures (sym c.events.ensures ∙ c.family.ensures) in
+    let Ran : Instance → Run → Type 0 = λ i run. IsRun i start keep run.end.cursors run.end.pops run.end.stuck run.log in
+    let ran : IfOk result (Ran c.args.instance.now) =
+    subst (λ i. IfOk result (Ran i)) same c.run_listed_from.ensures.run in
     IfOk-weaker result _ _
-    (λ (run : Run) is extremal zeros. first_end_from c.args.instance.now start keep run.end.cursors run.end.pops run.end.stuck run.log is extremal zeros) ran
+    (λ (run : Run) is extremal zeros. first_end_from c.args.instance.now start keep
+    run.end.cursors run.end.pops run.end.stuck run.log is extremal zeros) ran

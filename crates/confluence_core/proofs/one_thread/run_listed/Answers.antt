@@ -17,9 +17,16 @@ overflow_add-pops c =
     let s = c.args.stacks.now in
     let old = c.loop-place.invariant in
     let first = c.in-Some.ensures.first in
-    let falls = pop_falls s c.loop-place.cursors c.args.events.now c.in-Some.place first.within first.least.holds.next c.count-count.ensures.events c.requires.fits old.count in
+    let falls = pop_falls s c.loop-place.cursors c.args.events.now c.in-Some.place first.within first.least.holds.next
+    c.count-count.ensures.events c.requires.fits old.count in
     let zeros : List ℕ = replicate (variables_of s) 0 in
-    omega (arith, falls, old.room, pops_fit s zeros c.count-count-2.ensures.table (sym (length-replicate (variables_of s) 0)))
+    omega (
+      arith,
+      falls,
+      old.room,
+      pops_fit s zeros c.count-count-2.ensures.table
+          (sym (length-replicate (variables_of s) 0)),
+    )
 
 pub loop-place-smaller : goal.loop-place-smaller
 loop-place-smaller c =
@@ -28,7 +35,8 @@ loop-place-smaller c =
     let rows = c.args.events.now in
     let next : c.pop.new.self ≡ pop at (cube_at rows c.in-Some.place) = c.pop.ensures ∙ ap (pop at) c.cube.ensures in
     let first = c.in-Some.ensures.first in
-    rw next (pop_falls s at rows c.in-Some.place first.within first.least.holds.next c.count-count.ensures.events c.requires.fits c.loop-place.invariant.count)
+    rw next (pop_falls s at rows c.in-Some.place first.within first.least.holds.next
+    c.count-count.ensures.events c.requires.fits c.loop-place.invariant.count)
 
 pub loop-place-preserved : goal.loop-place-preserved
 loop-place-preserved c =
@@ -40,9 +48,11 @@ loop-place-preserved c =
     let first = c.in-Some.ensures.first in
     let old = c.loop-place.invariant in
     let next : c.pop.new.self ≡ pop at cube = c.pop.ensures ∙ ap (pop at) c.cube.ensures in
-    let falls = pop_falls s at rows place first.within first.least.holds.next c.count-count.ensures.events c.requires.fits old.count in
+    let falls = pop_falls s at rows place first.within first.least.holds.next
+    c.count-count.ensures.events c.requires.fits old.count in
     let run : CanComplete (listed s rows) (pop at cube) (c.loop-place.pops + 1) =
-    complete_more (listed s rows) at c.loop-place.pops (event_at rows place) (first_from s at rows place first) old.run in
+    complete_more (listed s rows) at c.loop-place.pops (event_at rows place)
+    (first_from s at rows place first) old.run in
     rw next (record {
       count = old.count ∙ sym (length-pop at cube);
       within = within_pop s at cube old.count first.least.holds.next old.within;

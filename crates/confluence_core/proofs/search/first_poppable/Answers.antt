@@ -9,7 +9,8 @@ loop-place-preserved c =
     let s = c.args.stacks.now in
     let at = c.args.cursors.now in
     record {
-      none = below_more (λ place. IsPoppableAt s at c.args.events.now place → ⊥) c.loop-place.place c.loop-place.invariant.none
+      none = below_more (λ place. IsPoppableAt s at c.args.events.now place
+          → ⊥) c.loop-place.place c.loop-place.invariant.none
           (λ h. false≢true (c.if-poppable.ensures.poppable.1 (subst (IsPoppable s at) (sym c.cube.ensures) h)));
       reader = c.if-poppable.ensures.reader ∙ c.loop-place.invariant.reader;
     }

@@ -11,24 +11,27 @@ returns-then-poppable-clause-next c =
     let at = c.args.cursors.now in
     let rows = c.args.events.now in
     record {
-      within = omega (arith, c.in-Some.ensures.known, c.loop-place.invariant.units, c.requires.units);
+      within = omega (arith, c.in-Some.ensures.known, c.loop-unit.invariant.units, c.requires.units);
       poppable = subst (IsPoppable s at) c.cube.ensures (c.if-poppable.ensures.poppable.0 refl);
-      others = subst (Covers s at rows) c.in-Some.ensures.list c.loop-place.invariant.covers;
+      others = subst (Covers s at rows) c.in-Some.ensures.list c.loop-unit.invariant.covers;
     }
 
-pub loop-place-preserved : goal.loop-place-preserved
-loop-place-preserved c =
+pub loop-unit-preserved : goal.loop-unit-preserved
+loop-unit-preserved c =
     let s = c.args.stacks.now in
     let at = c.args.cursors.now in
     let rows = c.args.events.now in
-    let place = c.in-Some.place in
+    let place = c.in-Some.unit in
     record {
-      units = c.in-Some.ensures.units ∙ c.loop-place.invariant.units;
-      covers = covers_rest s at rows c.take.new.self.list place (subst (Covers s at rows) c.in-Some.ensures.list c.loop-place.invariant.covers)
+      units = c.in-Some.ensures.units ∙ c.loop-unit.invariant.units;
+      covers = covers_rest s at rows c.take.new.self.list place
+          (subst (Covers s at rows) c.in-Some.ensures.list c.loop-unit.invariant.covers)
           (λ h. false≢true (c.if-poppable.ensures.poppable.1 (subst (IsPoppable s at) (sym c.cube.ensures) h)));
-      reader = c.if-poppable.ensures.reader ∙ c.loop-place.invariant.reader;
+      reader = c.if-poppable.ensures.reader ∙ c.loop-unit.invariant.reader;
     }
 
 pub returns-clause-next : goal.returns-clause-next
 returns-clause-next c =
-    covers_none c.args.stacks.now c.args.cursors.now c.args.events.now (subst (Covers c.args.stacks.now c.args.cursors.now c.args.events.now) c.in_default.ensures.0 c.loop-place.invariant.covers)
+    covers_none c.args.stacks.now c.args.cursors.now c.args.events.now
+    (subst (Covers c.args.stacks.now c.args.cursors.now c.args.events.now) c.in_default.ensures.0
+    c.loop-unit.invariant.covers)

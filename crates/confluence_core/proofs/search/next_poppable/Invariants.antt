@@ -3,12 +3,12 @@ use Rattle.confluence_core.specs.Search.{Covers}
 use Rattle.confluence_core.proofs.search.next_poppable.Given as goal
 
 -- the list covers the poppable events, and the reader is as it came
-abbrev pub invariant-loop-place : goal.invariant-loop-place
-invariant-loop-place l = record {
+abbrev pub invariant-loop-unit : goal.invariant-loop-unit
+invariant-loop-unit l = record {
   units : l.work.units ≡ l.fn.work.units;
   covers : Covers l.stacks l.cursors l.events l.work.list;
   reader : l.reader ≡ l.fn.reader;
 }
 
-abbrev pub decreases-loop-place : goal.decreases-loop-place
-decreases-loop-place l = length l.work.list
+abbrev pub decreases-loop-unit : goal.decreases-loop-unit
+decreases-loop-unit l = length l.work.list

@@ -14,9 +14,17 @@ returns-then-pairs-i c =
     let size = length-map pairs (λ (p : ℕ × ℕ). p.0) in (
       λ none. absurd (search rules),
       λ rising.
-          let less : slice_index (variables pairs) j < slice_index (variables pairs) (j + 1) = rising j (omega (arith, c.loop-i-test.true)) in
+          let less : slice_index (variables pairs) j < slice_index (variables pairs) (j + 1) =
+          rising j (omega (arith, c.loop-i-test.true)) in
           let at = ap (λ k. slice_index (variables pairs) k) next in
-          absurd (omega (arith, at, c.if-pairs-i.true, variable_at pairs j (omega arith), variable_at pairs i c.loop-i-test.true)),
+          absurd (omega (
+            arith,
+            at,
+            c.if-pairs-i.true,
+            variable_at pairs j
+                (omega arith),
+            variable_at pairs i c.loop-i-test.true,
+          )),
     )
 
 pub loop-i-preserved : goal.loop-i-preserved
@@ -30,5 +38,13 @@ loop-i-preserved c k h =
           let next : k + 1 ≡ i = omega (arith, c.loop-i.auto.i) in
           let at = ap (λ k. slice_index (variables pairs) k) next in
           let before = ap (λ k. (get_or pairs k (0, 0)).0) is in
-          omega (arith, at, before, c.if-pairs-i.false, variable_at pairs k (omega (arith, c.loop-i-test.true)), variable_at pairs i c.loop-i-test.true)
+          omega (
+            arith,
+            at,
+            before,
+            c.if-pairs-i.false,
+            variable_at pairs k
+                (omega (arith, c.loop-i-test.true)),
+            variable_at pairs i c.loop-i-test.true,
+          )
     ]

@@ -16,7 +16,8 @@ returns-then-has c =
 pub returns : goal.returns
 returns c =
     let P : ℕ × ℕ → Type 0 = λ p. names c.args.others.now p.0 ≡ false in
-    let none : All P c.args.pairs.now = all_whole P c.args.pairs.now c.loop-v.v-index (omega arith) c.loop-v.invariant in (
+    let none : All P c.args.pairs.now = all_whole P c.args.pairs.now c.loop-v.v-index
+    (omega arith) c.loop-v.invariant in (
       λ yes'. absurd (search rules),
       λ (v, x, y, here, there).
           let yes : names c.args.others.now v ≡ true = names_it c.args.others.now (v, y) there in

@@ -7,7 +7,8 @@ use Rattle.pop_instance.proofs.cursors.has_next_at.Goals as goal
 pub loop-i-preserved : goal.loop-i-preserved
 loop-i-preserved c =
     let P : ℕ × ℕ → Type 0 = λ p. cursor c.args.entries.now p.0 + 1 < height_of c.args.stacks.now p.0 in
-    all_more P c.args.cube.now c.loop-i.i c.pair-v.result c.pair-v.ensures c.loop-i.invariant (c.if-not-has_entry_behind.ensures.0 refl)
+    all_more P c.args.cube.now c.loop-i.i c.pair-v.result c.pair-v.ensures c.loop-i.invariant
+    (c.if-not-has_entry_behind.ensures.0 refl)
 
 pub returns : goal.returns
 returns c =

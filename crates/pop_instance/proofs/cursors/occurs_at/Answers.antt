@@ -8,7 +8,8 @@ pub loop-i-preserved : goal.loop-i-preserved
 loop-i-preserved c =
     let Agrees : ℕ × ℕ → Type 0 = λ p. value_at c.args.stacks.now p.0 (cursor c.args.entries.now p.0) ≡ p.1 in
     record {
-      occurs = all_more Agrees c.args.cube.now c.loop-i.i c.pair-v.result c.pair-v.ensures c.loop-i.invariant.occurs (c.if-not-agrees.ensures.agrees.0 refl);
+      occurs = all_more Agrees c.args.cube.now c.loop-i.i c.pair-v.result c.pair-v.ensures c.loop-i.invariant.occurs
+          (c.if-not-agrees.ensures.agrees.0 refl);
       reader = c.if-not-agrees.ensures.reader ∙ c.loop-i.invariant.reader;
     }
 

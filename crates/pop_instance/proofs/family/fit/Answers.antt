@@ -8,7 +8,8 @@ pub loop-place-preserved : goal.loop-place-preserved
 loop-place-preserved c =
     let P : ℕ × List (ℕ × ℕ) → Type 0 = λ r. FitsStacks c.args.stacks.now r.1 in
     let here : FitsStacks c.args.stacks.now c.cube.result.now = c.if-not-fits_cube.ensures.0 refl in
-    All-more P c.args.events.now c.loop-place.place (0, []) (omega arith) c.loop-place.invariant (subst (FitsStacks c.args.stacks.now) c.cube.ensures here)
+    All-more P c.args.events.now c.loop-place.place (0, []) (omega arith) c.loop-place.invariant
+    (subst (FitsStacks c.args.stacks.now) c.cube.ensures here)
 
 pub returns : goal.returns
 returns c =

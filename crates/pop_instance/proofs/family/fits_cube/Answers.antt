@@ -6,7 +6,8 @@ use Rattle.pop_instance.proofs.family.fits_cube.Goals as goal
 pub loop-i-preserved : goal.loop-i-preserved
 loop-i-preserved c =
     let P : ℕ × ℕ → Type 0 = λ p. (p.0 < variables_of c.args.stacks.now) × (p.1 < domain_of c.args.stacks.now p.0) in
-    all_more P c.args.cube.now c.loop-i.i c.pair-v.result c.pair-v.ensures c.loop-i.invariant (c.if-not-fits_pair.ensures.0 refl)
+    all_more P c.args.cube.now c.loop-i.i c.pair-v.result c.pair-v.ensures c.loop-i.invariant
+    (c.if-not-fits_pair.ensures.0 refl)
 
 pub returns : goal.returns
 returns c =

@@ -13,7 +13,8 @@ record AllBelow (n : ℕ) (units : List ℕ) : Type 0 where
 
 below_push : (n : ℕ) (units : List ℕ) → AllBelow n units → AllBelow (n + 1) (units ++ n ∷ [])
 below_push n units old = record {
-  known = All-push (λ u. u < n + 1) units n (All-weaker (λ u. u < n) (λ u. u < n + 1) (λ u h. omega arith) units old.known) (omega arith);
+  known = All-push (λ u. u < n + 1) units n (All-weaker (λ u. u < n) (λ u. u < n + 1)
+      (λ u h. omega arith) units old.known) (omega arith);
   all = λ u h. elim (cases_lt u n) [
     | inl before ↦ Contains-append_left units (n ∷ []) u (old.all u before)
     | inr last ↦ let is : n ≡ u = omega arith in subst (Contains (units ++ n ∷ [])) is (Contains-push units n)
@@ -24,7 +25,8 @@ pub loop-unit-preserved : goal.loop-unit-preserved
 loop-unit-preserved c =
     let old = c.loop-unit.invariant in
     let more = below_push c.loop-unit.unit c.loop-unit.suspects (record { known = old.known; all = old.all }) in
-    let new : AllBelow (c.loop-unit.unit + 1) c.push.new.self = subst (AllBelow (c.loop-unit.unit + 1)) (sym c.in_ok-push.ensures.pushed) more in
+    let new : AllBelow (c.loop-unit.unit + 1) c.push.new.self =
+    subst (AllBelow (c.loop-unit.unit + 1)) (sym c.in_ok-push.ensures.pushed) more in
     record { known = new.known; all = new.all }
 
 pub run_from-requires-clause-suspects : goal.run_from-requires-clause-suspects

@@ -10,5 +10,6 @@ part-requires-clause-known c =
 
 pub returns : goal.returns
 returns c =
-    let same : parts c.deref.result.now c.deref-2.result.now ≡ c.args.self.now = ap₂ parts c.deref.ensures.value c.deref-2.ensures.value ∙ c.self.view_is in
+    let same : parts c.deref.result.now c.deref-2.result.now ≡ c.args.self.now =
+    ap₂ parts c.deref.ensures.value c.deref-2.ensures.value ∙ c.self.view_is in
     c.part.ensures ∙ ap (λ (xs : List (List ℕ)). get_or xs c.args.v []) same

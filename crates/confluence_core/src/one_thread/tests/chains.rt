@@ -1,0 +1,108 @@
+//! Chains of events: each shares a variable with the next, and excludes it there.
+ghost use Rattle.std.specs.Prelude.{◌≡◌, map};
+ghost use Rattle.std.specs.Bool.{OnTrue};
+ghost use Rattle.std.specs.List.Sorted.{IsStrictlyIncreasing};
+
+use super::{event, from_zeros};
+use crate::{Keep, run_first};
+use pop_instance::{Cube, Events, Family, Instance};
+use pop_stacks::{StackSpec, Stacks, Weights};
+use std::alloc::Global;
+use std::process::Abort;
+use std::test::Fail;
+
+// Whether the numbers rise.
+fn are_rising(rows: &[(u32, Cube)]) -> bool
+    ensures { OnTrue result (IsStrictlyIncreasing (map (λ r. r.0) rows.now)) }
+{
+    for i in 1..rows.len() {
+        if rows[i - 1].0 >= rows[i].0 {
+            return false;
+        }
+    }
+    true
+}
+
+// The chain of so many links, each the event that variables 2i and 2i + 1 have the value 0 and
+// variable 2i + 2 has the value 1, with stacks of this height under a key of 32 such bytes.
+fn chain(
+    rt: &impl Abort,
+    alloc: Global,
+    links: u32,
+    key: u8,
+    height: u32,
+) -> Result<Instance, Fail> {
+    assert!(rt; links < 1000);
+    assert!(rt; 0 < height);
+    assert!(rt; height < 1000);
+    let mut rows = Vec::new(alloc);
+    for i in 0..links {
+        let pairs = [(2 * i, 0), (2 * i + 1, 0), (2 * i + 2, 1)];
+        rows.push(event(rt, alloc, i + 1, &pairs)?)?;
+    }
+    assert!(rt; rows.len() < 1000);
+    let rising = are_rising(&rows);
+    assert!(rt; rising);
+    let events = Events::gather(alloc, rows)?;
+    let weights = Weights::pairs(2 * links + 1);
+    let stacks = Stacks::new(StackSpec::Key([key; 32]), weights, height)?;
+    Ok(Instance::new(stacks, Family::Listed(events)).expect(rt, "an instance"))
+}
+
+// Runs a chain by both calls, and compares their ends. Returns the pops and how many events are stuck.
+fn pops_and_stuck(rt: &impl Abort, alloc: Global, instance: &Instance) -> Result<(u64, u64), Fail> {
+    let first = run_first(alloc, instance)?;
+    let run = from_zeros(alloc, instance, Keep::Nothing)?;
+    for v in 0..instance.stacks().count() {
+        assert_eq!(rt;
+            run.end.cursors.get(v),
+            first.cursors.get(v),
+            "variable {v}"
+        );
+    }
+    assert_eq!(rt; run.end.pops, first.pops);
+    let stuck = first.stuck.len();
+    assert!(rt; run.end.stuck.len() == stuck);
+    for i in 0..stuck {
+        assert_eq!(rt;
+            run.end.stuck.at(i).0,
+            first.stuck.at(i).0,
+            "stuck event {i}"
+        );
+    }
+    Ok((first.pops, stuck))
+}
+
+#[test]
+fn both_runs_end_alike_under_high_stacks(rt: HostRuntime) -> Result<(), Fail> {
+    let alloc = rt.alloc();
+    let mut pops = 0;
+    for links in [1, 2, 3, 7, 20, 99, 400] {
+        for key in [0, 1, 77, 255] {
+            let chain = chain(&rt, alloc, links, key, 900)?;
+            let (more, stuck) = pops_and_stuck(&rt, alloc, &chain)?;
+            assert_eq!(&rt; stuck, 0, "{links} links under key {key}");
+            pops = pops.max(more);
+        }
+    }
+    assert!(&rt; pops > 50);
+    Ok(())
+}
+
+#[test]
+fn both_runs_end_alike_under_tight_heights(rt: HostRuntime) -> Result<(), Fail> {
+    let alloc = rt.alloc();
+    let mut most = 0;
+    for links in [1, 5, 30, 99] {
+        for key in [0, 3, 200] {
+            for height in 1..5 {
+                let chain = chain(&rt, alloc, links, key, height)?;
+                let (pops, stuck) = pops_and_stuck(&rt, alloc, &chain)?;
+                assert!(&rt; height > 1 || pops == 0, "a stack of one entry has no next");
+                most = most.max(stuck);
+            }
+        }
+    }
+    assert!(&rt; most > 0);
+    Ok(())
+}
