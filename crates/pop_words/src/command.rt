@@ -1,6 +1,6 @@
 // The commands.
 ghost use Rattle.std.specs.Prelude.{◌≡◌};
-ghost use Rattle.pop_words.specs.Options.{command_word};
+ghost use Rattle.pop_words.specs.Options.{command_word, samples};
 ghost use Rattle.pop_words.specs.Reading.{command_named};
 
 /// What is to be done with the formula on the input.
@@ -22,6 +22,16 @@ impl Command {
         match self {
             Command::Formula => "formula",
             Command::Check => "check",
+        }
+    }
+
+    // Whether it samples.
+    pub(crate) fn samples(self) -> bool
+        ensures { result ≡ samples self }
+    {
+        match self {
+            Command::Formula => true,
+            Command::Check => false,
         }
     }
 

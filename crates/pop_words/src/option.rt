@@ -65,8 +65,7 @@ impl OptionName {
         ensures { result ≡ (row self).allowed command }
     {
         match self {
-            OptionName::Stacks | OptionName::Key | OptionName::Height => command
-                == Command::Formula,
+            OptionName::Stacks | OptionName::Key | OptionName::Height => command.samples(),
         }
     }
 
