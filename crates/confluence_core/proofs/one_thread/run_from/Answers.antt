@@ -33,9 +33,9 @@ returns-clause-first c =
     let same : listed c.stacks-stacks.result.now c.events.result.now ≡ c.args.instance.now =
     ap₂ instance_of c.stacks-stacks.ensures (sym c.events.ensures ∙ c.family.ensures) in
     let Ran : Instance → Run → Type 0 =
-        λ i run. IsRun i start keep run.end.cursors run.end.pops run.end.stuck run.log in
+    λ i run. IsRun i start keep run.end.cursors run.end.pops run.end.stuck run.log in
     let ran : IfOk result (Ran c.args.instance.now) =
     subst (λ i. IfOk result (Ran i)) same c.run_listed_from.ensures.run in
     IfOk-weaker result _ _
     (λ (run : Run) is extremal zeros. first_end_from c.args.instance.now start keep
-        run.end.cursors run.end.pops run.end.stuck run.log is extremal zeros) ran
+    run.end.cursors run.end.pops run.end.stuck run.log is extremal zeros) ran

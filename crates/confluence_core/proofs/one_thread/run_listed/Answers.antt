@@ -18,7 +18,7 @@ overflow_add-pops c =
     let old = c.loop-place.invariant in
     let first = c.in-Some.ensures.first in
     let falls = pop_falls s c.loop-place.cursors c.args.events.now c.in-Some.place first.within first.least.holds.next
-      c.count-count.ensures.events c.requires.fits old.count in
+    c.count-count.ensures.events c.requires.fits old.count in
     let zeros : List ℕ = replicate (variables_of s) 0 in
     omega (
       arith,
@@ -36,7 +36,7 @@ loop-place-smaller c =
     let next : c.pop.new.self ≡ pop at (cube_at rows c.in-Some.place) = c.pop.ensures ∙ ap (pop at) c.cube.ensures in
     let first = c.in-Some.ensures.first in
     rw next (pop_falls s at rows c.in-Some.place first.within first.least.holds.next
-      c.count-count.ensures.events c.requires.fits c.loop-place.invariant.count)
+    c.count-count.ensures.events c.requires.fits c.loop-place.invariant.count)
 
 pub loop-place-preserved : goal.loop-place-preserved
 loop-place-preserved c =
@@ -49,7 +49,7 @@ loop-place-preserved c =
     let old = c.loop-place.invariant in
     let next : c.pop.new.self ≡ pop at cube = c.pop.ensures ∙ ap (pop at) c.cube.ensures in
     let falls = pop_falls s at rows place first.within first.least.holds.next
-      c.count-count.ensures.events c.requires.fits old.count in
+    c.count-count.ensures.events c.requires.fits old.count in
     let run : CanComplete (listed s rows) (pop at cube) (c.loop-place.pops + 1) =
     complete_more (listed s rows) at c.loop-place.pops (event_at rows place)
     (first_from s at rows place first) old.run in

@@ -40,7 +40,7 @@ overflow_add-pops c =
     let old = c.loop-place.invariant in
     let next = c.in-Some.ensures.next in
     let falls = pop_falls s c.loop-place.cursors c.args.events.now c.in-Some.place next.within next.poppable.next
-      c.count-2.ensures.events c.requires.fits old.count in
+    c.count-2.ensures.events c.requires.fits old.count in
     omega (arith, falls, old.room, pops_fit s c.args.cursors c.count.ensures.table c.requires.count)
 
 pub add_sharing-requires-clause-units : goal.add_sharing-requires-clause-units
@@ -58,7 +58,7 @@ loop-place-smaller c =
     let next = c.in-Some.ensures.next in
     let popped : c.pop.new.self ≡ pop at (cube_at rows place) = c.pop.ensures ∙ ap (pop at) c.cube-cube.ensures in
     rw popped (pop_falls s at rows place next.within next.poppable.next
-      c.count-2.ensures.events c.requires.fits c.loop-place.invariant.count)
+    c.count-2.ensures.events c.requires.fits c.loop-place.invariant.count)
 
 pub loop-place-preserved : goal.loop-place-preserved
 loop-place-preserved c =
@@ -73,7 +73,7 @@ loop-place-preserved c =
     let old = c.loop-place.invariant in
     let popped : c.pop.new.self ≡ pop at cube = c.pop.ensures ∙ ap (pop at) c.cube-cube.ensures in
     let falls = pop_falls s at rows place next.within next.poppable.next
-      c.count-2.ensures.events c.requires.fits old.count in
+    c.count-2.ensures.events c.requires.fits old.count in
     let kept : c.keep_record.new.log ≡ cond keep (c.loop-place.log ++ record_at place cube at ∷ []) c.loop-place.log =
     c.in_ok-keep_record.ensures ∙ ap (λ (e : Cube). cond keep
     (c.loop-place.log ++ record_at place e at ∷ []) c.loop-place.log) c.cube-cube.ensures in
@@ -101,7 +101,7 @@ returns-clause-run c =
     let at = c.loop-place.cursors in
     let rows = c.args.events.now in
     so_far_end (listed s rows) c.args.cursors (keeps_log c.args.keep) at c.loop-place.pops c.loop-place.log
-      c.in_ok-stuck.stuck c.then_some.result
+    c.in_ok-stuck.stuck c.then_some.result
     (c.then_some.ensures ∙ ap (λ b. then_some b c.loop-place.log) c.keeps_log.ensures)
     (end_from s at rows c.in_default.ensures.next) (stuck_list s at rows c.in_ok-stuck.stuck c.in_ok-stuck.ensures)
     c.loop-place.invariant.so_far

@@ -34,4 +34,4 @@ pub returns-clause-next : goal.returns-clause-next
 returns-clause-next c =
     covers_none c.args.stacks.now c.args.cursors.now c.args.events.now
     (subst (Covers c.args.stacks.now c.args.cursors.now c.args.events.now) c.in_default.ensures.0
-      c.loop-unit.invariant.covers)
+    c.loop-unit.invariant.covers)
