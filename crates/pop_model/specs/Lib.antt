@@ -9,4 +9,5 @@ pub mod Runs
 pub mod Places
 pub mod Languages
 pub mod Text
+pub mod Names
 pub mod Faults

@@ -1,0 +1,3 @@
+pub mod Puts
+mod EmptyRows
+mod PushedRows

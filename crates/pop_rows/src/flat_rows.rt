@@ -1,0 +1,130 @@
+ghost use Rattle.std.specs.Prelude.{◌≡◌, ◌<◌, ◌≤◌, ◌^◌, [], length, replicate, slice_range, IfOk};
+ghost use Rattle.pop_rows.specs.FlatRows.{row_at, push_at, HasRoom, AreRoomy};
+ghost use Rattle.pop_rows.specs.Layout.{AreStarts};
+
+use std::alloc::{AllocError, Global};
+use std::marker::Model;
+
+/// Rows of numbers in one array, each with room for so many. Rows count from 0; there are at most
+/// 2^32 - 1.
+#[derive(Drop)]
+pub struct FlatRows {
+    // Row v has its numbers in `items` from starts[v] up to below ends[v], and room up to below
+    // starts[v + 1].
+    starts: Vec<u32>,
+    ends: Vec<u32>,
+    items: Vec<u32>,
+}
+
+impl Model for FlatRows {
+    ghost use Rattle.pop_rows.specs.FlatRows.{RoomyRows};
+    ghost use Rattle.pop_rows.specs.Layout.{roomy_rows, AreLaidOut};
+
+    ghost Value = { RoomyRows };
+
+    ghost view = { λ a. roomy_rows a.starts.items a.ends.items a.items.items };
+
+    ghost invariant = { λ a. AreLaidOut a.starts.items a.ends.items a.items.items };
+}
+
+impl FlatRows {
+    /// Empty rows with these rooms. Rooms that sum to 2^32 or more find no memory.
+    pub fn with_rooms(alloc: Global, rooms: Vec<u32>) -> Result<FlatRows, AllocError>
+        requires { length rooms.items < 2 ^ 32 }
+        ensures rooms { IfOk result (λ f. f.rooms ≡ rooms.items) }
+        ensures empty { IfOk result (λ f. f.rows ≡ replicate (length rooms.items) []) }
+    {
+        let count = rooms.len();
+        let starts = starts_of(alloc, &rooms)?;
+        let items = vec![in alloc; 0; starts[count] as usize]?;
+        // The array of the rooms is used again: the end of an empty row is its start.
+        let mut ends = rooms;
+        ends.copy_from_slice(&starts[..count]);
+        Ok(FlatRows {
+            starts,
+            ends,
+            items,
+        })
+    }
+
+    /// How many rows there are.
+    pub fn count(&self) -> u32
+        ensures count { result ≡ length self.now.rows }
+        ensures roomy { AreRoomy self.now }
+    {
+        self.ends.len() as u32
+    }
+
+    /// Puts a number at the end of a row. It takes no memory.
+    pub fn push(&mut self, row: u32, x: u32)
+        requires { HasRoom self.old row }
+        ensures rows { self.new.rows ≡ push_at self.old.rows row x }
+        ensures rooms { self.new.rooms ≡ self.old.rooms }
+    {
+        let end = self.ends[row as usize];
+        self.items[end as usize] = x;
+        self.ends[row as usize] = end + 1;
+    }
+
+    /// The numbers of a row, in the order in which they were pushed.
+    pub fn row(&self, row: u32) -> &[u32]
+        requires { row < length self.now.rows }
+        ensures { result.now ≡ row_at self.now.rows row }
+    {
+        let v = row as usize;
+        part(&self.items, self.starts[v], self.ends[v])
+    }
+}
+
+// The items from a place up to below another.
+fn part(items: &[u32], start: u32, end: u32) -> &[u32]
+    requires begun { start ≤ end }
+    requires within { end ≤ length items.now }
+    ensures { result.now ≡ slice_range items.now start end }
+{
+    &items[start as usize..end as usize]
+}
+
+// The sums of the first rooms: of none, of one, and so on up to that of all.
+fn starts_of(alloc: Global, rooms: &[u32]) -> Result<Vec<u32>, AllocError>
+    requires { length rooms.now < 2 ^ 32 }
+    ensures { IfOk result (λ starts. AreStarts rooms.now starts.items) }
+{
+    let mut starts = Vec::with_capacity(alloc, rooms.len() + 1)?;
+    let mut total: u32 = 0;
+    for room in rooms {
+        starts.push(total)?;
+        total = total.checked_add(*room).ok_or(AllocError)?;
+    }
+    starts.push(total)?;
+    Ok(starts)
+}
+
+#[cfg(test)]
+mod tests {
+    use super::*;
+    use std::test::Fail;
+
+    #[test]
+    fn rows_have_what_was_pushed_to_them_in_order(rt: HostRuntime) -> Result<(), Fail> {
+        let alloc = rt.alloc();
+        let mut rows = FlatRows::with_rooms(alloc, vec![in alloc; 2, 0, 1, 2]?)?;
+        rows.push(2, 7);
+        rows.push(0, 5);
+        rows.push(3, 9);
+        rows.push(0, 6);
+        assert_eq!(&rt; rows.count(), 4);
+        assert_eq!(&rt; rows.row(0), [5, 6].as_slice());
+        assert_eq!(&rt; rows.row(1), [].as_slice());
+        assert_eq!(&rt; rows.row(2), [7].as_slice());
+        assert_eq!(&rt; rows.row(3), [9].as_slice(), "room is left");
+        Ok(())
+    }
+
+    #[test]
+    fn rooms_past_32_bits_find_no_memory(rt: HostRuntime) -> Result<(), Fail> {
+        let alloc = rt.alloc();
+        assert!(&rt; FlatRows::with_rooms(alloc, vec![in alloc; 1 << 31, 1 << 31]?).is_err());
+        Ok(())
+    }
+}
