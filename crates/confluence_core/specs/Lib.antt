@@ -5,3 +5,8 @@ pub mod WorkList
 pub mod Records
 pub mod Kept
 pub mod Runs
+pub mod CycleTables
+pub mod Loops
+pub mod Walks
+pub mod Steps
+pub mod Rounds

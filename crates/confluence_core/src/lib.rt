@@ -4,16 +4,24 @@
 //! as in the definitions.
 #![tactic(auto)]
 
+mod current_arrows;
+mod cycle_runs;
+mod cycle_search;
 mod end;
 mod keep;
 pub mod laws;
+mod listed_runs;
 mod log;
 mod log_record;
+mod loops;
 mod one_thread;
 mod run;
 mod search;
+mod steps;
 mod stuck;
 mod units;
+mod walk;
+mod walked;
 mod work_list;
 
 pub use end::End;

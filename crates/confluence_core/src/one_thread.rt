@@ -1,21 +1,16 @@
-ghost use Rattle.std.specs.Prelude.{◌≡◌, ◌<◌, ◌++◌, ◌∷◌, [], length, All, IfOk, OnOk, if◌then◌else◌};
+ghost use Rattle.std.specs.Prelude.{◌≡◌, ◌<◌, length, All, IfOk};
 ghost use Rattle.pop_model.specs.Stacks.{variables_of};
-ghost use Rattle.pop_model.specs.Popping.{AreWithin, NamesBelow};
-ghost use Rattle.pop_model.specs.Families.Family.{Listed as ListedEvents};
+ghost use Rattle.pop_model.specs.Popping.{AreWithin};
 ghost use Rattle.pop_model.specs.Families.{units_of};
-ghost use Rattle.pop_model.specs.Instances.{FitsStacks};
 ghost use Rattle.pop_model.specs.Extremal.{IsExtremal};
 ghost use Rattle.pop_model.specs.Runs.{IsFirstEnd, start_of};
 ghost use Rattle.confluence_core.specs.Kept.{keeps_log};
-ghost use Rattle.confluence_core.specs.Records.{record_at};
 ghost use Rattle.confluence_core.specs.Runs.{IsRun, MissesNone};
-ghost use Rattle.confluence_core.specs.Search.{Covers};
 
-use crate::search::{first_poppable, next_poppable, stuck_at};
-use crate::work_list::WorkList;
-use crate::{End, Keep, Log, Record, Run, Units};
-use pop_instance::{Cube, Cursors, Events, Index, Instance};
-use pop_stacks::{Reader, Stacks};
+use crate::cycle_runs::{run_cycles, run_cycles_from};
+use crate::listed_runs::{run_listed, run_listed_from};
+use crate::{End, Keep, Run, Units};
+use pop_instance::{Cursors, Family, Instance};
 use std::alloc::{AllocError, Global};
 
 /// The one-thread run: from zeros it pops the poppable event of least unit until there is none.
@@ -25,13 +20,19 @@ pub fn run_first(alloc: Global, instance: &Instance) -> Result<End, AllocError>
     ensures within { IfOk result (λ end. AreWithin instance.now.stacks end.cursors) }
 {
     let _units = instance.units();
-    run_listed(alloc, instance.stacks(), instance.family().events())
+    match instance.family() {
+        Family::Listed(events) => run_listed(alloc, instance.stacks(), events),
+        Family::Cycles(arrows) => run_cycles(alloc, instance.stacks(), arrows),
+    }
 }
 
-/// A run from any cursors that are below the heights. It looks at the suspects, which are units of
-/// the instance and miss no poppable event, and after each pop at the events that share a variable
-/// with the popped one, until none is left to look at. So its time is linear in the instance, the
-/// suspects, and the pairs of the events that share a variable with a popped one, pop by pop.
+/// A run from any cursors that are below the heights. The suspects are units of the instance, and
+/// miss no poppable event: of a listed one the unit is among them, of a cycle some variable.
+///
+/// Listed events are looked at where they are suspects or share a variable with a popped one, until
+/// none is left to look at; so the time is linear in the instance, the suspects, and the pairs of
+/// the events that share a variable with a popped one, pop by pop. Cycles are popped by the
+/// loop-erased walk (Wilson 1996; Propp and Wilson 1998) from each variable, and need no suspects.
 pub fn run_from(
     alloc: Global,
     instance: &Instance,
@@ -53,104 +54,12 @@ pub fn run_from(
 {
     let _units = instance.units();
     let stacks = instance.stacks();
-    run_listed_from(
-        alloc,
-        stacks,
-        instance.family().events(),
-        cursors,
-        suspects,
-        keep,
-    )
-}
-
-// The one-thread run of listed events.
-fn run_listed(alloc: Global, stacks: &Stacks, events: &Events) -> Result<End, AllocError>
-    requires fits { All (λ r. FitsStacks stacks.now r.1) events.now }
-    ensures end { IfOk result (λ end. IsFirstEnd
-        (record { stacks = stacks.now; family = ListedEvents events.now })
-        end.cursors end.pops end.stuck) }
-    ensures count { IfOk result (λ end. variables_of stacks.now ≡ length end.cursors) }
-    ensures within { IfOk result (λ end. AreWithin stacks.now end.cursors) }
-{
-    let _count = events.count();
-    let count = stacks.count();
-    let mut reader = Reader::new(stacks);
-    let mut cursors = Cursors::zeros(alloc, count)?;
-    let mut pops: u64 = 0;
-    while let Some(place) = first_poppable(stacks, events, &mut reader, &cursors) {
-        cursors.pop(events.cube(place));
-        pops += 1;
+    match instance.family() {
+        Family::Listed(events) => {
+            run_listed_from(alloc, stacks, events, cursors, suspects, keep)
+        }
+        Family::Cycles(arrows) => run_cycles_from(alloc, stacks, arrows, cursors, keep),
     }
-    let stuck = stuck_at(alloc, stacks, events, &mut reader, &cursors)?;
-    Ok(End {
-        cursors,
-        pops,
-        stuck,
-    })
-}
-
-// A run of listed events from any cursors.
-fn run_listed_from(
-    alloc: Global,
-    stacks: &Stacks,
-    events: &Events,
-    mut cursors: Cursors,
-    suspects: Units,
-    keep: Keep,
-) -> Result<Run, AllocError>
-    requires fits { All (λ r. FitsStacks stacks.now r.1) events.now }
-    requires count { variables_of stacks.now ≡ length cursors }
-    requires within { AreWithin stacks.now cursors }
-    requires units { All (λ u. u < length events.now) suspects }
-    requires suspects { Covers stacks.now cursors events.now suspects }
-    ensures run { IfOk result (λ run. IsRun
-        (record { stacks = stacks.now; family = ListedEvents events.now }) cursors (keeps_log keep)
-        run.end.cursors run.end.pops run.end.stuck run.log) }
-    ensures count { IfOk result (λ run. variables_of stacks.now ≡ length run.end.cursors) }
-    ensures within { IfOk result (λ run. AreWithin stacks.now run.end.cursors) }
-{
-    let index = Index::build(alloc, events, stacks.count())?;
-    let mut work = WorkList::new(alloc, events.count())?;
-    work.add_all(suspects.as_slice())?;
-    let mut reader = Reader::new(stacks);
-    let mut pops: u64 = 0;
-    let mut log = Log::new(alloc);
-    while let Some(place) = next_poppable(stacks, events, &mut reader, &cursors, &mut work) {
-        let cube = events.cube(place);
-        keep_record(alloc, &mut log, keep, place, cube, &cursors)?;
-        cursors.pop(cube);
-        pops += 1;
-        work.add_sharing(&index, cube)?;
-    }
-    let stuck = stuck_at(alloc, stacks, events, &mut reader, &cursors)?;
-    let end = End {
-        cursors,
-        pops,
-        stuck,
-    };
-    Ok(Run {
-        end,
-        log: keep.keeps_log().then_some(log),
-    })
-}
-
-// Adds the record of an event that is popped at these cursors, where the log is kept.
-fn keep_record(
-    alloc: Global,
-    log: &mut Log,
-    keep: Keep,
-    unit: u32,
-    cube: &Cube,
-    cursors: &Cursors,
-) -> Result<(), AllocError>
-    requires known { NamesBelow cube.now (length cursors.now) }
-    ensures { OnOk result (log.new ≡ (if keeps_log keep
-        then log.old ++ record_at unit cube.now cursors.now ∷ [] else log.old)) }
-{
-    if keep.keeps_log() {
-        log.push(Record::at(alloc, unit, cube, cursors)?)?;
-    }
-    Ok(())
 }
 
 #[cfg(test)]

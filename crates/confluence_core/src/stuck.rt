@@ -1,4 +1,5 @@
 ghost use Rattle.std.specs.Prelude.{◌≡◌, ◌<◌, ◌++◌, ◌∷◌, [], length, slice_get, Some, OnOk, OnErr};
+ghost use Rattle.std.specs.List.Sorted.{IsPermutation, IsNonDecreasingBy};
 ghost use Rattle.confluence_core.specs.Stuck.{event_of};
 
 use pop_instance::Cube;
@@ -54,5 +55,13 @@ impl Stuck {
     {
         self.events.push((unit, cube))?;
         Ok(())
+    }
+
+    // Puts the events in the order of their units.
+    pub(crate) fn sort(&mut self)
+        ensures permutation { IsPermutation self.old self.new }
+        ensures sorted { IsNonDecreasingBy (λ e. e.unit) self.new }
+    {
+        self.events.sort_unstable_by_key(|event| event.0);
     }
 }

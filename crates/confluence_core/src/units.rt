@@ -1,4 +1,5 @@
-ghost use Rattle.std.specs.Prelude.{◌≡◌, ◌<◌, ◌++◌, ◌∷◌, [], length, slice_get, Some, OnOk, OnErr};
+ghost use Rattle.std.specs.Prelude.{◌≡◌, ◌<◌, ◌++◌, ◌∷◌, [], length, slice_get, Some, IfOk, OnOk, OnErr};
+ghost use Rattle.std.specs.List.{range_with_len};
 
 use std::alloc::{AllocError, Global};
 use std::marker::Model;
@@ -25,6 +26,17 @@ impl Units {
         Units {
             units: Vec::new(alloc),
         }
+    }
+
+    /// All units below a count, rising.
+    pub fn all(alloc: Global, count: u32) -> Result<Units, AllocError>
+        ensures { IfOk result (λ units. units ≡ range_with_len 0 count) }
+    {
+        let mut units = Units::new(alloc);
+        for unit in 0..count {
+            units.push(unit)?;
+        }
+        Ok(units)
     }
 
     /// How many units there are.

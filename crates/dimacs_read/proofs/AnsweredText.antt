@@ -1,7 +1,7 @@
 -- What the lines of a text say of the whole is what the reader answers.
 -- The format judges in the order of the text, so what pop_edge proves of every such grammar holds of it: the refusal of
 -- a line given is the text's, and at the end the whole decides. Here that is brought into the words of the answer.
-use Rattle.std.proofs.Common.{◌≡◌, ◌⊎◌, inl, inr, ℕ, ◌+◌, List, [], ◌∷◌, ◌++◌, Option, None, Some, Result, Ok, Err, refl, sym, ap, ◌∙◌, append_assoc, append-nil}
+use Rattle.std.proofs.Common.{◌≡◌, inl, inr, ℕ, ◌+◌, List, [], ◌∷◌, ◌++◌, Option, None, Some, Result, Ok, Err, refl, sym, ap, ◌∙◌, append_assoc, append-nil}
 use Rattle.std.proofs.lemmas.Bool.{cases_Bool}
 use Rattle.std.specs.Io.KnownBytes.{IsAtEnd}
 use Rattle.pop_edge.specs.declared.refusal.ReadRefusal.{ReadRefusal}
@@ -10,12 +10,13 @@ use Rattle.pop_edge.specs.declared.next.Next.TheVariants.{End}
 use Rattle.pop_edge.specs.LineState.{LineState, IsNext, fresh}
 use Rattle.pop_edge.specs.Refusals.{or_else, at_line, first_refusal}
 use Rattle.pop_edge.specs.Judging.{told_lines}
-use Rattle.pop_edge.proofs.RefusalsLemmas.{MayBeOfLine, first_refusal-append, or_else_front, or_else_is, at_line_is, first_refusal_is}
-use Rattle.pop_edge.proofs.JudgedLines.{IsInOrder, IsReading, IsRefused, IsWhole, whole_text}
+use Rattle.pop_edge.proofs.RefusalsLemmas.{IsOfLine, MayBeOfLine, first_refusal-append, or_else_front, or_else_is, at_line_is, first_refusal_is}
+use Rattle.pop_edge.proofs.JudgedLines.{IsInOrder, IsReading, IsWhole, whole_text}
+use Rattle.pop_edge.proofs.AnsweredLines.{Allows}
 use Rattle.dimacs_read.specs.declared.reader.Reader.{Reader}
 use Rattle.dimacs_read.specs.declared.token.Token.{Token}
 use Rattle.dimacs_read.specs.Cnf.{Cnf, first_empty}
-use Rattle.dimacs_read.specs.CnfText.{AnswersCnf, body, cnf, cnf_of, formula_in, header_fault, line_refusal, token_fault, variables_in}
+use Rattle.dimacs_read.specs.CnfText.{AnswersCnf, body, cnf, cnf_of, cnf_refusal, formula_in, header_fault, line_refusal, token_fault, variables_in}
 use Rattle.dimacs_read.specs.Reading.{Finishes, Knows}
 use Rattle.dimacs_read.proofs.TakenLines.{body_no, body_yes, ends, words_at}
 
@@ -69,37 +70,18 @@ pub knows_clean : (r : Reader) (lines : List (ℕ × List (List ℕ))) → Knows
 knows_clean r [] k = refl
 knows_clean r (x ∷ xs) k = k.clean
 
--- a refusal of the text by a code or a limit is what the reader is to answer
-answers_refused : (left : Option (List ℕ)) (e : ReadRefusal) (text : List ℕ) → left ≡ Some text → IsRefused cnf left e
-    → AnswersCnf text (Err e)
-answers_refused left (Malformed line code) text is refused = refused.text text is
-answers_refused left (Limit kind line) text is refused = refused.text text is
-answers_refused left (Count d f) text is refused = absurd refused.kind
-answers_refused left (EmptyClause n) text is refused = absurd refused.kind
-answers_refused left ReadFault text is refused = tt
-answers_refused left OutOfMemory text is refused = tt
+-- the refusal of a line of the text is what the reader is to answer
+of_line : (text : List ℕ) (e : ReadRefusal) → IsOfLine e → cnf_refusal text ≡ Some e → AnswersCnf text (Err e)
+of_line text (Malformed line code) kind h = h
+of_line text (Limit limit line) kind h = h
+of_line text (Count d f) kind h = absurd kind
+of_line text (EmptyClause n) kind h = absurd kind
+of_line text ReadFault kind h = tt
+of_line text OutOfMemory kind h = tt
 
--- so is want of memory
-pub answers_line : (left : Option (List ℕ)) (e : ReadRefusal) (text : List ℕ) → left ≡ Some text
-    → (e ≡ OutOfMemory) ⊎ IsRefused cnf left e → AnswersCnf text (Err e)
-answers_line left (Malformed line code) text is (inl memory) = absurd (cc)
-answers_line left (Limit kind line) text is (inl memory) = absurd (cc)
-answers_line left (Count d f) text is (inl memory) = absurd (cc)
-answers_line left (EmptyClause n) text is (inl memory) = absurd (cc)
-answers_line left ReadFault text is (inl memory) = tt
-answers_line left OutOfMemory text is (inl memory) = tt
-answers_line left e text is (inr refused) = answers_refused left e text is refused
-
--- and so is a fault of the source
-pub answers_next : (left : Option (List ℕ)) (e : ReadRefusal) (text : List ℕ) → left ≡ Some text
-    → (e ≡ ReadFault) ⊎ ((e ≡ OutOfMemory) ⊎ IsRefused cnf left e) → AnswersCnf text (Err e)
-answers_next left (Malformed line code) text is (inl fault) = absurd (cc)
-answers_next left (Limit kind line) text is (inl fault) = absurd (cc)
-answers_next left (Count d f) text is (inl fault) = absurd (cc)
-answers_next left (EmptyClause n) text is (inl fault) = absurd (cc)
-answers_next left ReadFault text is (inl fault) = tt
-answers_next left OutOfMemory text is (inl fault) = tt
-answers_next left e text is (inr other) = answers_line left e text is other
+-- and so are a fault of the source and want of memory
+pub cnf_allows : (text : List ℕ) → Allows cnf text (λ e. AnswersCnf text (Err e))
+cnf_allows text = record { refusal = of_line text; fault = tt; memory = tt }
 
 -- at the end of the source the whole is answered
 pub answers_whole : (r : Reader) (s t : LineState) (l m n : Option (List ℕ)) (line : ℕ)

@@ -8,31 +8,17 @@ use Rattle.std.specs.Option.{option_map_or}
 use Rattle.std.proofs.lemmas.List.Sums.{sum_by-append, sum_by-cons}
 use Rattle.std.proofs.lemmas.Bool.{ltb-true, ltb-false, le-ltb, lt-ltb, eq-eqb, eqb-true}
 use Rattle.pop_edge.specs.declared.refusal.ReadRefusal.{ReadRefusal}
-use Rattle.pop_edge.specs.Refusals.{Fault, or_else, at_line, first_refusal, length_refusal}
-use Rattle.pop_edge.specs.Lines.{text_limit, lines_of, judged_lines}
+use Rattle.pop_edge.specs.Refusals.{Fault, or_else, at_line, first_refusal}
+use Rattle.pop_edge.specs.Lines.{text_limit, lines_of}
 use Rattle.dimacs_read.specs.Cnf.{Cnf}
-use Rattle.dimacs_read.specs.CnfText.{token_fault, clauses_of, cnf_lines, declared, variables_in, clauses_in, header_fault, body, line_refusal, formula_in, whole_refusal, cnf_refusal, cnf_of}
+use Rattle.dimacs_read.specs.CnfText.{cnf, token_fault, clauses_of, cnf_lines, declared, variables_in, clauses_in, header_fault, body, line_refusal, formula_in, whole_refusal, cnf_refusal, cnf_of}
 use Rattle.dimacs_read.specs.Tokens.{is_literal, is_clause_end}
 use Rattle.dimacs_read.specs.Laws.{AcceptsExactly, HasOneFormula}
 use Rattle.dimacs_read.specs.declared.token.Token.{Token}
 use Rattle.dimacs_read.specs.declared.token.Token.TheVariants.{Literal, End}
 use Rattle.dimacs_read.specs.Grammar.{IsToken, AreTokens, IsCnfText}
-use Rattle.pop_edge.proofs.RefusalsLemmas.{items, or_else_none, at_line_none}
-
--- a choice that gives None took the one way
-chosen_none : (t : Bool) (f : Fault) → cond t (Some f) None ≡ None → t ≡ false
-chosen_none true f h = absurd (cc)
-chosen_none false f h = refl
-
--- a choice of a fault or another that gives None took the other
-pub chosen_some : (t : Bool) (a : Option Fault) (f : Fault) → cond t a (Some f) ≡ None → (t ≡ true) × (a ≡ None)
-chosen_some true a f h = (refl, h)
-chosen_some false a f h = absurd (cc)
-
--- the same the other way round
-pub chosen_else : (t : Bool) (f : Fault) (a : Option Fault) → cond t (Some f) a ≡ None → (t ≡ false) × (a ≡ None)
-chosen_else true f a h = absurd (cc)
-chosen_else false f a h = (refl, h)
+use Rattle.pop_edge.proofs.RefusalsLemmas.{items, or_else_none, at_line_none, chosen_none, chosen_some, chosen_else}
+use Rattle.pop_edge.proofs.AcceptedTexts.{accepted, not_refused}
 
 -- how many of them, with one more
 pub count_more : (p : Option Token → Bool) (before : List (Option Token)) (t : Option Token)
@@ -154,27 +140,14 @@ declares words h = by (declared words) refl h
           clauses_fit = omega (arith, c, ltb-false (2 ^ 22) d.1 (chosen_none _ _ two.1));
         }
 
-no_length : (t : Bool) (r : ReadRefusal) → cond t (Some r) None ≡ None → t ≡ false
-no_length true r h = absurd (cc)
-no_length false r h = refl
-
 same_count : (t : Bool) (r : ReadRefusal) → cond t None (Some r) ≡ None → t ≡ true
 same_count true r h = refl
 same_count false r h = absurd (cc)
 
--- within the limit every line is judged
-judged_all : (text : List ℕ) → length text ≤ text_limit → judged_lines text ≡ lines_of text
-judged_all text h = let short : nat_lt text_limit (length text) ≡ false = le-ltb text_limit (length text) h in
-    rw short refl
-
 -- A text without a refusal is in the grammar.
 pub sound : (text : List ℕ) → cnf_refusal text ≡ None → IsCnfText text (cnf_of text)
 sound text h =
-    let first = or_else_none (line_refusal (cnf_lines (judged_lines text))) _ h in
-    let second = or_else_none (length_refusal text) _ first.1 in
-    let short : length text ≤ text_limit = ltb-false text_limit (length text) (no_length _ _ second.0) in
-    by short (cnf_lines (lines_of text)) refl
-    (ap (λ ls. line_refusal (cnf_lines ls)) (sym (judged_all text short)) ∙ first.0) second.1
+    let a = accepted cnf text h in by a.short (cnf_lines (lines_of text)) refl a.lines a.whole
   where
     by : length text ≤ text_limit → (ls : List (ℕ × List (List ℕ))) → cnf_lines (lines_of text) ≡ ls
         → line_refusal ls ≡ None → whole_refusal (length (lines_of text) + 1) ls ≡ None → IsCnfText text (formula_in ls)
@@ -203,7 +176,6 @@ pub complete : (text : List ℕ) (f : Cnf) → IsCnfText text f → (cnf_refusal
 complete text f g =
     let v : variables_in g.header.1 ≡ f.variables = ap (λ o. option_map_or (λ x. x.0) o 0) g.declares in
     let c : clauses_in g.header.1 ≡ length f.clauses = ap (λ o. option_map_or (λ x. x.1) o 0) g.declares in
-    let short : nat_lt text_limit (length text) ≡ false = le-ltb text_limit (length text) g.short in
     let header : header_fault g.header.1 ≡ None =
     no_header_fault g.header.1 g.four_words (omega (arith, v, g.variables_fit))
     (omega (arith, c, g.clauses_fit)) f.variables (length f.clauses) g.declares in
@@ -216,11 +188,12 @@ complete text f g =
     ap₂ (λ a b. or_else (at_line g.header.0 a) b) header words in
     let count : clauses_in g.header.1 ≡ length (clauses_of (items (body g.others))) = c ∙ ap length g.clauses in
     let same : nat_eq (clauses_in g.header.1) (length (clauses_of (items (body g.others)))) ≡ true = eq-eqb _ _ count in
-    let whole : whole_refusal (length (lines_of text) + 1) (g.header ∷ g.others) ≡ None = rw same refl in
-    let judged : line_refusal (cnf_lines (judged_lines text)) ≡ None =
-    ap (λ ls. line_refusal (cnf_lines ls)) (judged_all text g.short) ∙ ap line_refusal g.lines ∙ lines in
-    let length_ok : length_refusal text ≡ None = rw short refl in (
-      ap₂ or_else judged (ap₂ or_else length_ok (ap (whole_refusal (length (lines_of text) + 1)) g.lines ∙ whole)),
+    let whole : whole_refusal (length (lines_of text) + 1) (g.header ∷ g.others) ≡ None = rw same refl in (
+      not_refused cnf text (record {
+        short = g.short;
+        lines = ap line_refusal g.lines ∙ lines;
+        whole = ap (whole_refusal (length (lines_of text) + 1)) g.lines ∙ whole;
+      }),
       ap₂ (λ n cs. record { variables = n; clauses = cs }) (sym v) g.clauses ∙ ap formula_in (sym g.lines),
     )
   where

@@ -15,8 +15,10 @@ use Rattle.dimacs_read.specs.declared.token.Token.{Token}
 use Rattle.dimacs_read.specs.declared.token.Token.TheVariants.{Literal, End}
 use Rattle.dimacs_read.specs.Cnf.{AreLiterals, IsLiteral}
 use Rattle.dimacs_read.specs.Tokens.{negated, plain, token_of}
-use Rattle.dimacs_read.specs.CnfText.{begins_with, body, clauses_of}
-use Rattle.dimacs_read.specs.Falsifying.{AreEventsOf, FitVariables, falsifier}
+use Rattle.pop_edge.specs.Words.{begins_with}
+use Rattle.pop_instance.specs.Events.{FitVariables}
+use Rattle.dimacs_read.specs.CnfText.{body, clauses_of}
+use Rattle.dimacs_read.specs.Falsifying.{AreEventsOf, falsifier}
 use Rattle.dimacs_read.specs.Grammar.{AreTokens}
 
 -- no literal 0

@@ -9,12 +9,12 @@ use Rattle.std.proofs.lemmas.List.Folds.{list_any-append}
 use Rattle.std.proofs.lemmas.Bool.{cases_Bool, ne_eqb, eq-eqb}
 use Rattle.pop_edge.specs.declared.refusal.ReadRefusal.{ReadRefusal}
 use Rattle.pop_edge.specs.Refusals.{or_else, at_line, first_refusal}
-use Rattle.pop_edge.specs.Words.{words_of}
+use Rattle.pop_edge.specs.Words.{begins_with, words_of}
 use Rattle.dimacs_read.specs.declared.reader.Reader.{Reader}
 use Rattle.dimacs_read.specs.declared.header.Header.{Header}
 use Rattle.dimacs_read.specs.declared.token.Token.{Token}
 use Rattle.dimacs_read.specs.Tokens.{token_of}
-use Rattle.dimacs_read.specs.CnfText.{cnf, token_fault, body, begins_with, is_passed_over, variables_in, header_fault, line_refusal}
+use Rattle.dimacs_read.specs.CnfText.{cnf, token_fault, body, is_passed_over, variables_in, header_fault, line_refusal}
 use Rattle.dimacs_read.specs.Reading.{placed, Holds, TakesWords, TakesMore, TakesLine, Knows, HasHeader}
 use Rattle.pop_edge.specs.Judging.{told}
 use Rattle.pop_edge.proofs.RefusalsLemmas.{items, first_refusal-append, or_else_none}

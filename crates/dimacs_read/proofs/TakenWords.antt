@@ -16,7 +16,8 @@ use Rattle.dimacs_read.specs.Tokens.{token_of, is_literal, is_clause_end}
 use Rattle.dimacs_read.specs.CnfText.{token_fault, clauses_of}
 use Rattle.dimacs_read.specs.Flat.{parts, Rises}
 use Rattle.dimacs_read.specs.Reading.{word_fault, Adds, fault_in, last_end, with_begun, Holds, placed, Goes}
-use Rattle.dimacs_read.proofs.GrammarLaw.{count_more, chosen_else, chosen_some}
+use Rattle.pop_edge.proofs.RefusalsLemmas.{chosen_else, chosen_some}
+use Rattle.dimacs_read.proofs.GrammarLaw.{count_more}
 
 -- the end that was added is the last
 pub last_push : (at end : ℕ) (ends : List ℕ) → last_end at (ends ++ end ∷ []) ≡ end

@@ -1,12 +1,13 @@
 -- Texts in the DIMACS CNF format, and the first refusal of any other text. A bad place is named by
 -- a code: 1 and 4 for the header, 2 and 3 for a word behind it (this project's choice).
-use Rattle.std.specs.Prelude.{◌≡◌, ℕ, ◌+◌, ◌^◌, ℤ, nat_abs, Bool, true, false, not, ◌&&◌, ◌==◌, nat_lt, if◌then◌else◌, List, [], ◌∷◌, length, map, flat_map, count_by, take_while, Option, None, Some, option_map, option_and_then, bytes_eq, codes, Result, Ok, Err, ⊤}
+use Rattle.std.specs.Prelude.{◌≡◌, ℕ, ◌+◌, ◌^◌, ℤ, nat_abs, Bool, true, not, ◌==◌, nat_lt, if◌then◌else◌, List, [], ◌∷◌, length, map, flat_map, count_by, take_while, Option, None, Some, option_and_then, bytes_eq, codes, Result, Ok, Err, ⊤}
 use Rattle.std.specs.List.{onto_first}
 use Rattle.std.specs.Option.{option_map_or}
 use Rattle.pop_edge.specs.declared.refusal.ReadRefusal.{ReadRefusal}
 use Rattle.pop_edge.specs.declared.refusal.ReadRefusal.TheVariants.{Malformed, Count, EmptyClause, ReadFault, OutOfMemory}
 use Rattle.pop_edge.specs.Lines.{lines_of, ended_lines}
-use Rattle.pop_edge.specs.Numbers.{number_of}
+use Rattle.pop_edge.specs.Words.{begins_with}
+use Rattle.pop_edge.specs.Headers.{header_of}
 use Rattle.pop_edge.specs.Refusals.{Fault, or_else, at_line, first_refusal}
 use Rattle.pop_edge.specs.Refusals.Fault.{Code, Passes}
 use Rattle.pop_edge.specs.Judging.{Judgement, told_lines, text_refusal}
@@ -15,12 +16,6 @@ use Rattle.dimacs_read.specs.declared.token.Token.TheVariants.{Literal, End}
 use Rattle.dimacs_read.specs.Cnf.{Cnf, first_empty}
 use Rattle.dimacs_read.specs.Tokens.{token_of, is_literal, is_clause_end}
 
--- the first byte of a line that isn't a blank is b, by the words of the line
-abbrev pub begins_with : ℕ → List (List ℕ) → Bool
-begins_with b [] = false
-begins_with b ([] ∷ words) = false
-begins_with b ((x ∷ xs) ∷ words) = x == b
-
 -- lines without words are passed over, and comments, which begin with `c`
 abbrev pub is_passed_over : List (List ℕ) → Bool
 is_passed_over [] = true
@@ -28,10 +23,9 @@ is_passed_over (word ∷ words) = begins_with 99 (word ∷ words)
 
 -- what a header declares: how many variables, and how many clauses
 abbrev pub declared : List (List ℕ) → Option (ℕ × ℕ)
-declared (p ∷ cnf ∷ v ∷ c ∷ words) =
-    if bytes_eq p (codes "p") && bytes_eq cnf (codes "cnf")
-    then option_and_then (λ n. option_map (λ m. (n, m)) (number_of c)) (number_of v) else None
-declared _ = None
+declared words =
+    option_and_then (λ h. if bytes_eq h.0 (codes "cnf") then Some (h.1, h.2) else None)
+    (header_of words)
 
 abbrev pub variables_in : List (List ℕ) → ℕ
 variables_in header = option_map_or (λ d. d.0) (declared header) 0

@@ -30,7 +30,3 @@ pub record AreEventsOf (clauses : List (List ℤ)) (rows : List (ℕ × Cube)) :
 abbrev pub IsCubeOf : List ℤ → Option Cube → Type 0
 IsCubeOf clause None = (e : Cube) → Falsifies clause e → ⊥
 IsCubeOf clause (Some e) = Falsifies clause e
-
--- each cube demands 0 or 1 of some of n variables
-abbrev pub FitVariables : ℕ → List (ℕ × Cube) → Type 0
-FitVariables n rows = All (λ r. All (λ p. (p.0 < n) × (p.1 < 2)) r.1) rows

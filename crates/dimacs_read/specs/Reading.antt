@@ -4,7 +4,7 @@ use Rattle.std.specs.List.{onto_first, list_any}
 use denote.Ref.{Bor}
 use Rattle.pop_edge.specs.declared.refusal.ReadRefusal.{ReadRefusal}
 use Rattle.pop_edge.specs.declared.refusal.ReadRefusal.TheVariants.{OutOfMemory, EmptyClause, ReadFault, Count}
-use Rattle.pop_edge.specs.Words.{words_of}
+use Rattle.pop_edge.specs.Words.{begins_with, words_of}
 use Rattle.pop_edge.specs.Refusals.{Fault, at_line, first_refusal}
 use Rattle.pop_edge.specs.Refusals.Fault.{Code, Passes}
 use Rattle.dimacs_read.specs.declared.clauses.Clauses.{Clauses}
@@ -14,7 +14,7 @@ use Rattle.dimacs_read.specs.declared.token.Token.{Token}
 use Rattle.dimacs_read.specs.declared.token.Token.TheVariants.{Literal, End}
 use Rattle.dimacs_read.specs.Cnf.{Cnf, AreLiterals, first_empty}
 use Rattle.dimacs_read.specs.Tokens.{token_of, is_literal, is_clause_end}
-use Rattle.dimacs_read.specs.CnfText.{declared, header_fault, begins_with, body, line_refusal, whole_refusal, formula_in, token_fault, clauses_of}
+use Rattle.dimacs_read.specs.CnfText.{declared, header_fault, body, line_refusal, whole_refusal, formula_in, token_fault, clauses_of}
 use Rattle.dimacs_read.specs.Flat.{parts, Rises}
 
 -- what is wrong with a word behind so many ends and literals

@@ -1,6 +1,7 @@
 ghost use Rattle.std.specs.Prelude.{◌≡◌, ◌<◌, ◌^◌, length, map, IfOk, None};
 ghost use Rattle.dimacs_read.specs.Cnf.{first_empty};
-ghost use Rattle.dimacs_read.specs.Falsifying.{AreEventsOf, FitVariables, IsCubeOf, falsifier};
+ghost use Rattle.pop_instance.specs.Events.{FitVariables};
+ghost use Rattle.dimacs_read.specs.Falsifying.{AreEventsOf, IsCubeOf, falsifier};
 
 use crate::Formula;
 use pop_instance::{Cube, Events};
@@ -19,7 +20,7 @@ impl Formula {
     {
         // Read for its contract, which says that the literals are those of so many variables.
         let _variables = self.variables();
-        let mut rows = Vec::new(alloc);
+        let mut rows = Vec::with_capacity(alloc, self.clauses() as usize)?;
         for i in 0..self.clauses() {
             if let Some(cube) = cube_of(alloc, self.clause(i))? {
                 rows.push((i + 1, cube))?;
@@ -40,10 +41,15 @@ fn falsifier_of(literal: i32) -> (u32, u32)
     (variable, 0)
 }
 
+// The falsifiers of the literals, in just the room that they take.
 fn pairs_of(alloc: Global, literals: &[i32]) -> Result<Vec<(u32, u32)>, AllocError>
     ensures { IfOk result (λ pairs. pairs.items ≡ map falsifier literals.now) }
 {
-    literals.iter().map(|l| falsifier_of(*l)).collect(alloc)
+    let mut pairs = Vec::with_capacity(alloc, literals.len())?;
+    for literal in literals {
+        pairs.push(falsifier_of(*literal))?;
+    }
+    Ok(pairs)
 }
 
 // The cube of a clause, where it has one. Once equal pairs are gone, the variables rise unless one

@@ -1,11 +1,9 @@
 ghost use Rattle.pop_edge.specs.Words.{words_of};
 ghost use Rattle.dimacs_read.specs.Reading.{IsCounts, IsFirstByte, IsHeader};
 
-use pop_edge::{ReadRefusal, next_word, number};
+use pop_edge::{MAX_VARIABLES, ReadRefusal, next_header, next_word};
 
-// The most variables, and the most clauses, that may be declared.
-const MAX_VARIABLES: u32 = 4194304;
-
+// The most clauses that may be declared.
 const MAX_CLAUSES: u32 = 4194304;
 
 /// What a header declares.
@@ -29,15 +27,10 @@ pub fn first_byte(line: &[u8]) -> Option<u8>
 fn counts(line: &[u8]) -> Option<(u32, u32, &[u8])>
     ensures { IsCounts (words_of line.now) result }
 {
-    let (p, rest) = next_word(line)?;
-    let (cnf, rest) = next_word(rest)?;
-    let (v, rest) = next_word(rest)?;
-    let (c, rest) = next_word(rest)?;
-    if p != b"p".as_slice() || cnf != b"cnf".as_slice() {
+    let (kind, variables, clauses, rest) = next_header(line)?;
+    if kind != b"cnf".as_slice() {
         return None;
     }
-    let variables = number(v)?;
-    let clauses = number(c)?;
     Some((variables, clauses, rest))
 }
 

@@ -1,4 +1,4 @@
-mod Lookups
+mod OtherDemands
 mod Exclusions
 mod Trying
 mod RightVerdict

@@ -11,11 +11,16 @@ use Rattle.pop_model.specs.Popping.{Cube, NamesBelow, variables}
 use Rattle.pop_model.specs.Extremal.{Exclude}
 use Rattle.pop_model.specs.Places.{IsLeast}
 use Rattle.pop_model.proofs.Diamond.{named, names_it}
+use Rattle.pop_model.proofs.Members.{variable_at}
 use Rattle.pop_instance.specs.Events.{cube_at}
 use Rattle.pop_instance.specs.Index.{IsIndex}
 use Rattle.extremal_check.specs.Clashes.{ClashAt, HasNoClash}
 use Rattle.extremal_check.specs.Tries.{AreSharing, AreStamped, IsLeastTried}
-use Rattle.extremal_check.proofs.Lookups.{variable_is}
+
+-- the variable of a pair that was read
+variable_is : (e : Cube) (k : ℕ) (p : ℕ × ℕ) → slice_get e k ≡ Some p → slice_index (variables e) k ≡ p.0
+variable_is e k p read =
+    variable_at e k (slice_get_within e k p read) ∙ ap (λ (q : ℕ × ℕ). q.0) (get_or_from_slice_get e k p (0, 0) read)
 
 -- before event i is tried with any, none that was tried clashes
 pub none_tried : (rows : List (ℕ × Cube)) (i : ℕ) (stamps : List ℕ) → AreStamped rows i stamps

@@ -1,46 +1,19 @@
-ghost use Rattle.std.specs.Prelude.{◌≡◌, ◌≢◌, ◌≤◌, ◌<◌, ◌↔◌, ℕ, length, slice_index, IsTrue, Contains};
-ghost use Rattle.pop_model.specs.Popping.{variables};
+ghost use Rattle.std.specs.Prelude.{◌↔◌, IsTrue};
 ghost use Rattle.pop_model.specs.Extremal.{Exclude};
 ghost use Rattle.extremal_check.specs.Clashes.{DemandsOther};
 
 use pop_instance::Cube;
 
-// The place of the first pair whose variable isn't below v.
-fn place_of(cube: &Cube, v: u32) -> u32
-    ensures within { result ≤ length cube.now }
-    ensures before { (k : ℕ) → k < result → slice_index (variables cube.now) k < v }
-    ensures from { (k : ℕ) → result ≤ k → k < length cube.now
-        → v ≤ slice_index (variables cube.now) k }
-{
-    let mut low = 0;
-    let mut high = cube.len();
-    while low < high {
-        let middle = low + (high - low) / 2;
-        if cube.pair(middle).0 < v {
-            low = middle + 1;
-        } else {
-            high = middle;
-        }
-    }
-    low
-}
-
-// Whether the pair is of variable v and of another value.
-fn is_other(pair: (u32, u32), v: u32, value: u32) -> bool
-    ensures { IsTrue result ↔ ((pair.0 ≡ v) × (value ≢ pair.1)) }
-{
-    pair.0 == v && value != pair.1
-}
-
 // Whether the cube demands another value of variable v.
 fn demands_other(cube: &Cube, v: u32, value: u32) -> bool
     ensures { IsTrue result ↔ DemandsOther cube.now (v, value) }
 {
-    let place = place_of(cube, v);
-    if place == cube.len() {
-        return false;
+    // Read for its contract, which says that the variables rise.
+    let _len = cube.len();
+    match cube.demand(v) {
+        Some(demanded) => value != demanded,
+        None => false,
     }
-    is_other(cube.pair(place), v, value)
 }
 
 // Whether the second cube demands another value of some variable of the first.

@@ -21,7 +21,8 @@ use Rattle.pop_edge.specs.Judging.{Judgement, told, told_lines, text_refusal}
 use Rattle.pop_edge.proofs.RefusalsLemmas.{IsOfLine, MayBeOfLine}
 use Rattle.pop_edge.proofs.GivenLines.{follows_start, follows_line, all_given, past_limit, at_fault, judged_front, IsFront, IsAll, IsPast}
 
-enumerate-append : {X : Type 0} (n : ℕ) (xs ys : List X)
+-- places, of a list behind another
+pub enumerate-append : {X : Type 0} (n : ℕ) (xs ys : List X)
     → enumerate_from n (xs ++ ys) ≡ enumerate_from n xs ++ enumerate_from (n + length xs) ys
 enumerate-append n [] ys = ap (λ k. enumerate_from k ys) (let e : n ≡ n + 0 = omega arith in e)
 enumerate-append n (x ∷ xs) ys =

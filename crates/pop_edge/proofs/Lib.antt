@@ -5,6 +5,8 @@ pub mod LinesLemmas
 pub mod RefusalsLemmas
 pub mod GivenLines
 pub mod JudgedLines
-mod WordsLemmas
+pub mod AcceptedTexts
+pub mod AnsweredLines
+pub mod WordsLemmas
 mod NumbersLemmas
 mod Vectors

@@ -1,5 +1,5 @@
 -- The first refusal of items that stand behind one another, and which refusals it can be.
-use Rattle.std.proofs.Common.{◌≡◌, ℕ, List, [], ◌∷◌, ◌++◌, map, Option, None, Some, refl, sym, ap, ◌∙◌, append_assoc, append-nil}
+use Rattle.std.proofs.Common.{◌≡◌, ℕ, Bool, true, false, cond, List, [], ◌∷◌, ◌++◌, map, Option, None, Some, refl, sym, ap, ◌∙◌, append_assoc, append-nil}
 use Rattle.pop_edge.specs.declared.refusal.ReadRefusal.{ReadRefusal}
 use Rattle.pop_edge.specs.declared.refusal.ReadRefusal.TheVariants.{Malformed, Limit}
 use Rattle.pop_edge.specs.Refusals.{Fault, or_else, at_line, first_refusal}
@@ -12,6 +12,11 @@ items xs = map (λ x. x.1) xs
 or_else_assoc : (a b c : Option ReadRefusal) → or_else a (or_else b c) ≡ or_else (or_else a b) c
 or_else_assoc None b c = refl
 or_else_assoc (Some a) b c = refl
+
+-- a refusal before nothing
+pub or_else-nothing : (a : Option ReadRefusal) → or_else a None ≡ a
+or_else-nothing None = refl
+or_else-nothing (Some a) = refl
 
 -- the first refusal of two lists: that of the first, or else that of the second behind it
 pub first_refusal-append : {X : Type 0} (fault : List X → X → Option Fault) (before : List X) (xs ys : List (ℕ × X))
@@ -41,6 +46,21 @@ or_else_front (Some a) b c e h = h
 pub at_line_none : (n : ℕ) (fault : Option Fault) → at_line n fault ≡ None → fault ≡ None
 at_line_none n None h = refl
 at_line_none n (Some fault) h = absurd (cc)
+
+-- a fault that a test chooses against none is none where the test fails
+pub chosen_none : (t : Bool) (f : Fault) → cond t (Some f) None ≡ None → t ≡ false
+chosen_none true f h = absurd (cc)
+chosen_none false f h = refl
+
+-- a fault chosen against another test's is none where the first test passes and the other is none
+pub chosen_some : (t : Bool) (a : Option Fault) (f : Fault) → cond t a (Some f) ≡ None → (t ≡ true) × (a ≡ None)
+chosen_some true a f h = (refl, h)
+chosen_some false a f h = absurd (cc)
+
+-- the same the other way round
+pub chosen_else : (t : Bool) (f : Fault) (a : Option Fault) → cond t (Some f) a ≡ None → (t ≡ false) × (a ≡ None)
+chosen_else true f a h = absurd (cc)
+chosen_else false f a h = (refl, h)
 
 -- the refusal of a line: a code or a limit
 abbrev pub IsOfLine : ReadRefusal → Type 0

@@ -8,10 +8,10 @@ use Rattle.std.proofs.lemmas.List.Quantifiers.{position-Some}
 use Rattle.std.proofs.lemmas.List.Sums.{fails_before_first}
 use Rattle.std.proofs.lemmas.List.Splits.{slice_split_at, slice_split_none}
 use Rattle.std.proofs.lemmas.Bool.{ltb-false, not-false, ne_eqb}
-use Rattle.pop_edge.specs.Words.{is_blank, words_of}
+use Rattle.pop_edge.specs.Words.{begins_with, is_blank, words_of}
 
--- a position that there is none of
-none_from : (b : Bool) (n : ℕ) → ◌≡◌ {A = Option ℕ} (cond b (Some n) None) None → b ≡ false
+-- a place that there is none of
+pub none_from : (b : Bool) (n : ℕ) → ◌≡◌ {A = Option ℕ} (cond b (Some n) None) None → b ≡ false
 none_from true n h = absurd (cc)
 none_from false n h = refl
 
@@ -112,3 +112,14 @@ skipped bs n at =
       omega (arith, ap length rest, length-drop n bs, p.0),
       ap (λ b. not (is_blank b)) first ∙ p.1,
     )
+
+-- a word has a first byte
+pub with_head : (word : List ℕ) → 0 < length word → word ≡ get_or word 0 0 ∷ drop 1 word
+with_head [] h = absurd (omega arith)
+with_head (b ∷ bs) h = refl
+
+-- the first byte of a line that isn't a blank is that of its first word
+pub begins_with-word : (b : ℕ) (word : List ℕ) (words : List (List ℕ)) → 0 < length word
+    → begins_with b (word ∷ words) ≡ nat_eq (get_or word 0 0) b
+begins_with-word b [] words h = absurd (omega arith)
+begins_with-word b (x ∷ xs) words h = refl

@@ -3,6 +3,7 @@ pub mod Memory
 pub mod Lines
 pub mod Words
 pub mod Numbers
+pub mod Headers
 pub mod Refusals
 pub mod LineState
 pub mod Splitting

@@ -1,5 +1,5 @@
 -- The words of a line.
-use Rattle.std.specs.Prelude.{◌≡◌, ℕ, ◌<◌, Bool, ◌||◌, not, ◌==◌, List, [], ◌∷◌, length, map, filter, Option, None, Some}
+use Rattle.std.specs.Prelude.{◌≡◌, ℕ, ◌<◌, Bool, false, ◌||◌, not, ◌==◌, List, [], ◌∷◌, length, map, filter, Option, None, Some}
 use Rattle.std.specs.List.{slice_split, enumerate_from}
 use denote.Ref.{Bor}
 
@@ -10,6 +10,12 @@ is_blank b = (b == 32) || (b == 9) || (b == 13)
 -- the longest runs of bytes that aren't blanks
 abbrev pub words_of : List ℕ → List (List ℕ)
 words_of line = filter (λ word. not (length word == 0)) (slice_split is_blank line)
+
+-- the first byte of a line that isn't a blank is b, by the words of the line
+abbrev pub begins_with : ℕ → List (List ℕ) → Bool
+begins_with b [] = false
+begins_with b ([] ∷ words) = false
+begins_with b ((x ∷ xs) ∷ words) = x == b
 
 -- the lines by their words, each under its number, from 1
 abbrev pub numbered_words : List (List ℕ) → List (ℕ × List (List ℕ))

@@ -1,9 +1,10 @@
-//! Bytes in and out: sources and sinks that count their faults, the lines of a text, and the words
-//! and numbers of a line. Contracts see the bytes that a source has left and a sink holds, where
+//! Bytes in and out: sources and sinks that count their faults, the lines of a text, and the words,
+//! numbers and header of a line. Contracts see the bytes that a source has left and a sink holds, where
 //! they are known.
 #![tactic(auto)]
 
 mod failed;
+mod headers;
 mod lines;
 mod mem_sink;
 mod mem_source;
@@ -20,6 +21,7 @@ mod tests;
 mod words;
 
 pub use failed::Failed;
+pub use headers::{MAX_VARIABLES, next_header};
 pub use lines::Lines;
 pub use mem_sink::MemSink;
 pub use mem_source::MemSource;

@@ -1,10 +1,13 @@
+pub mod HeadRows
+mod Rounds
+mod Demands
 pub mod Increasing
 mod Order
-mod Seen
-mod Gather
+mod PermutedPairs
+mod FirstOfEach
+mod Gathered
 mod Raising
-mod Parts
+mod PutRows
 mod Naming
 mod Tallies
-mod Puts
-mod Filled
+mod FilledRows

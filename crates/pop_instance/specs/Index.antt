@@ -1,7 +1,9 @@
--- For each variable the places of the events that name it, kept in one list.
-use Rattle.std.specs.Prelude.{◌≡◌, ◌≢◌, ◌↔◌, ℕ, ◌+◌, ◌<◌, ◌≤◌, true, if◌then◌else◌, List, [], ◌∷◌, length, take, sum, count_by, slice_index, slice_index_or, slice_range, All, Contains}
+-- For each variable the places of the events that name it.
+use Rattle.std.specs.Prelude.{◌≡◌, ◌↔◌, ℕ, ◌<◌, true, if◌then◌else◌, List, [], ◌∷◌, ◌++◌, length, filter, slice_index, slice_index_or, All, Contains}
+use Rattle.std.specs.List.{range_with_len}
 use Rattle.std.specs.List.Sorted.{IsStrictlyIncreasing}
 use Rattle.pop_model.specs.Popping.{Cube, NamesBelow, names}
+use Rattle.pop_rows.specs.FlatRows.{row_at}
 use Rattle.pop_instance.specs.Events.{cube_at}
 
 -- for each variable the places of the events that name it, rising
@@ -12,47 +14,17 @@ pub record IsIndex (rows : List (ℕ × Cube)) (index : List (List ℕ)) : Type 
       → Contains (slice_index_or index v []) place
       ↔ ((place < length rows) × (names (cube_at rows place) v ≡ true))
 
--- the parts of a list between a start and each next bound
-abbrev pub parts_from : ℕ → List ℕ → List ℕ → List (List ℕ)
-parts_from start [] xs = []
-parts_from start (end ∷ ends) xs = slice_range xs start end ∷ parts_from end ends xs
+-- the places below n of the events that name a variable, rising
+abbrev pub places_below : List (ℕ × Cube) → ℕ → ℕ → List ℕ
+places_below rows n v = filter (λ place. names (cube_at rows place) v) (range_with_len 0 n)
 
--- the parts of a list between one bound and the next
-abbrev pub parts : List ℕ → List ℕ → List (List ℕ)
-parts [] xs = []
-parts (start ∷ ends) xs = parts_from start ends xs
-
--- there is a bound, no bound is below the one before it, and none is above n
-pub record AreBounds (bounds : List ℕ) (n : ℕ) : Type 0 where
-  pub some : 0 < length bounds
-  pub rising : (v : ℕ) → v + 1 < length bounds → slice_index bounds v ≤ slice_index bounds (v + 1)
-  pub within : (v : ℕ) → v < length bounds → slice_index bounds v ≤ n
-
--- how many of the events name a variable
-abbrev pub tally_of : List (ℕ × Cube) → ℕ → ℕ
-tally_of rows v = count_by (λ r. names r.1 v) rows
-
--- for each of so many variables how many of the events name it
-pub record AreTallies (rows : List (ℕ × Cube)) (count : ℕ) (tallies : List ℕ) : Type 0 where
+-- for each of so many variables how many of the events below place n name it
+pub record AreTallies (rows : List (ℕ × Cube)) (n count : ℕ) (tallies : List ℕ) : Type 0 where
   pub count_is : length tallies ≡ count
-  pub each : (v : ℕ) → v < count → slice_index tallies v ≡ tally_of rows v
+  pub each : (v : ℕ) → v < count → slice_index tallies v ≡ length (places_below rows n v)
 
--- for each place the numbers up to it together, and all together behind them
-pub record AreEnds (tallies ends : List ℕ) : Type 0 where
-  pub count_is : length ends ≡ length tallies + 1
-  pub each : (v : ℕ) → v < length ends → slice_index ends v ≡ sum (take (v + 1) tallies)
-
--- any two variables of the cube have different slots
-abbrev pub SlotsDiffer : List ℕ → Cube → Type 0
-SlotsDiffer slots e = (v w : ℕ) → names e v ≡ true → names e w ≡ true → v ≢ w
-    → slice_index slots v ≢ slice_index slots w
-
--- the slot of each variable of the cube moves down by 1 and gets the place
-pub record IsPut (e : Cube) (place : ℕ) (slots xs new_slots new_xs : List ℕ) : Type 0 where
-  pub slots_are : length new_slots ≡ length slots
-  pub moved : (v : ℕ) → v < length slots
-      → slice_index new_slots v + (if names e v then 1 else 0) ≡ slice_index slots v
-  pub placed : (v : ℕ) → names e v ≡ true → slice_index new_xs (slice_index new_slots v) ≡ place
-  -- a slot that no variable of the cube has keeps what it holds
-  pub kept : (k : ℕ) → ((v : ℕ) → names e v ≡ true → slice_index new_slots v ≢ k)
-      → slice_index new_xs k ≡ slice_index xs k
+-- the row of each variable of the cube gets the place at its end, and no other row changes
+pub record IsPut (e : Cube) (place : ℕ) (rows new_rows : List (List ℕ)) : Type 0 where
+  pub count_is : length new_rows ≡ length rows
+  pub each : (v : ℕ) → v < length rows
+      → row_at new_rows v ≡ (if names e v then row_at rows v ++ place ∷ [] else row_at rows v)

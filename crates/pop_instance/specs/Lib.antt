@@ -1,5 +1,6 @@
 pub mod Cubes
 pub mod Events
 pub mod Gathering
+pub mod Arrows
 pub mod Family
 pub mod Index

@@ -4,6 +4,7 @@ ghost use Rattle.std.specs.Ordering.{as_partial_cmp, eq_by_cmp};
 ghost use Rattle.std.proofs.lemmas.Cmp.{eq_by_cmp_equiv};
 ghost use Rattle.std.specs.List.Sorted.{IsStrictlyIncreasing};
 ghost use Rattle.pop_model.specs.Popping.{IsCube, variables, names};
+ghost use Rattle.pop_model.specs.Cycles.{demand};
 ghost use Rattle.pop_model.specs.Extremal.{Share};
 ghost use Rattle.pop_instance.specs.Cubes.{cube_cmp, cube_total};
 
@@ -30,8 +31,8 @@ impl Model for Cube {
 }
 
 impl Cube {
-    /// The cube of these pairs, at most 2^31 - 1. None exactly where there is no pair or the
-    /// variables don't rise strictly.
+    /// The cube of these pairs, at most 2^31 - 1, which keeps no room to spare. None exactly where
+    /// there is no pair or the variables don't rise strictly.
     pub fn new(pairs: Vec<(u32, u32)>) -> Option<Cube>
         requires short { length pairs.items < 2 ^ 31 }
         ensures { MatchOption result (IsCube pairs.items → ⊥) (λ cube. cube ≡ pairs.items) }
@@ -39,6 +40,8 @@ impl Cube {
         if pairs.is_empty() || !rises(&pairs) {
             return None;
         }
+        let mut pairs = pairs;
+        pairs.shrink_to_fit();
         Some(Cube { pairs })
     }
 
@@ -57,6 +60,16 @@ impl Cube {
         ensures { slice_get self.now i ≡ Some result }
     {
         self.pairs[i as usize]
+    }
+
+    /// The value that the cube demands of a variable, where it names it. It is found by halving.
+    pub fn demand(&self, v: u32) -> Option<u32>
+        ensures { result ≡ demand self.now v }
+    {
+        match self.pairs.binary_search_by_key(&v, |pair| pair.0) {
+            Ok(place) => Some(self.pairs[place].1),
+            Err(_) => None,
+        }
     }
 
     /// Whether two cubes have a variable in common.

@@ -1,4 +1,4 @@
-ghost use Rattle.std.specs.Prelude.{◌≡◌, ◌<◌, ◌+◌, ◌-◌, ◌^◌, ◌↔◌, length, replicate, IfOk, IsTrue, All};
+ghost use Rattle.std.specs.Prelude.{◌≡◌, ◌<◌, ◌+◌, ◌-◌, ◌^◌, ◌↔◌, length, replicate, slice_set, IfOk, IsTrue, All};
 ghost use Rattle.pop_model.specs.Stacks.{variables_of, height_of, value_at};
 ghost use Rattle.pop_model.specs.Popping.{Occurs, HasNext, IsPoppable, cursor, pop, NamesBelow, AreWithin};
 ghost use Rattle.pop_stacks.specs.Readers.{Belongs};
@@ -47,6 +47,15 @@ impl Cursors {
         ensures { result ≡ cursor self.now v }
     {
         self.entries[v as usize]
+    }
+
+    /// Moves the cursor of a variable on by 1.
+    pub fn move_on(&mut self, v: u32)
+        requires known { v < length self.old }
+        requires room { cursor self.old v < 2 ^ 31 - 1 }
+        ensures { self.new ≡ slice_set self.old v (cursor self.old v + 1) }
+    {
+        self.entries[v as usize] += 1;
     }
 
     /// Whether each variable of the cube has the cube's value at its cursor.

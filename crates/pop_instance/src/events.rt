@@ -1,12 +1,11 @@
-ghost use Rattle.std.specs.Prelude.{◌≡◌, ◌<◌, ◌^◌, ◌↔◌, length, map, slice_index_or, [], drop, IsTrue, IfOk, OnOk};
+ghost use Rattle.std.specs.Prelude.{◌≡◌, ◌<◌, ◌≤◌, ◌^◌, ◌↔◌, length, map, IsTrue, IfOk, vec_len};
 ghost use Rattle.std.specs.List.Sorted.{IsStrictlyIncreasing};
 ghost use Rattle.pop_model.specs.Families.{AreEvents};
 ghost use Rattle.pop_instance.specs.Events.{cube_at, event_number, HasCube};
-ghost use Rattle.pop_instance.specs.Gathering.{AreSeen, KeepsFirst, KeepsNew};
+ghost use Rattle.pop_instance.specs.Gathering.{KeepsFirst};
 
 use crate::Cube;
 use std::alloc::{AllocError, Global};
-use std::collections::BTreeSet;
 use std::marker::Model;
 
 /// Cubes that differ from one another, under rising numbers. An event is printed by its number; its
@@ -29,18 +28,29 @@ impl Model for Events {
 
 impl Events {
     /// The events of these rows, at most 2^31 - 1. Of equal cubes the first is kept, under its
-    /// number; they are found by order, in time n log n for n rows.
-    pub fn gather(alloc: Global, rows: Vec<(u32, Cube)>) -> Result<Events, AllocError>
+    /// number. The rows are sorted where they stand, in time n log n for n rows, and no memory is
+    /// taken beside them.
+    pub fn gather(_alloc: Global, rows: Vec<(u32, Cube)>) -> Result<Events, AllocError>
         requires rising { IsStrictlyIncreasing (map (λ r. r.0) rows.items) }
         requires short { length rows.items < 2 ^ 31 }
         ensures { IfOk result (KeepsFirst rows.items) }
     {
-        let mut seen = BTreeSet::new(alloc);
-        let mut kept = Vec::new(alloc);
-        for row in rows {
-            keep_new(alloc, &mut seen, &mut kept, row)?;
+        let mut rows = rows;
+        keep_first(&mut rows);
+        // Each length is read for its contract, which says that the row has a cube.
+        for (_, cube) in &rows {
+            let _len = cube.len();
         }
-        Ok(Events { rows: kept })
+        Ok(Events { rows })
+    }
+
+    /// These rows, at most 2^31 - 1, which are events already. It takes no memory.
+    pub fn of(rows: Vec<(u32, Cube)>) -> Events
+        requires events { AreEvents rows.items }
+        requires short { length rows.items < 2 ^ 31 }
+        ensures { result ≡ rows.items }
+    {
+        Events { rows }
     }
 
     /// How many events there are: at most 2^31 - 1.
@@ -89,22 +99,16 @@ fn has_cube(rows: &[(u32, Cube)], cube: &Cube) -> bool
     false
 }
 
-// Keeps the row where its cube is new.
-fn keep_new(
-    alloc: Global,
-    seen: &mut BTreeSet<Cube>,
-    kept: &mut Vec<(u32, Cube)>,
-    row: (u32, Cube),
-) -> Result<(), AllocError>
-    requires seen { AreSeen seen.old kept.old.items }
-    ensures seen { OnOk result (AreSeen seen.new kept.new.items) }
-    ensures kept { OnOk result (KeepsNew row kept.old.items kept.new.items) }
+// Keeps the first of the rows with one cube. Sorted by cube and then by number, they stand together
+// with the first in front.
+fn keep_first(rows: &mut Vec<(u32, Cube)>)
+    requires { IsStrictlyIncreasing (map (λ r. r.0) rows.old.items) }
+    ensures kept { KeepsFirst rows.old.items rows.new.items }
+    ensures fewer { vec_len rows.new ≤ vec_len rows.old }
 {
-    let _len = row.1.len();
-    if seen.insert(row.1.copy(alloc)?)? {
-        kept.push(row)?;
-    }
-    Ok(())
+    rows.sort_unstable_by(|row, other| row.1.cmp(&other.1).then(row.0.cmp(&other.0)));
+    rows.dedup_by(|row, kept| row.1 == kept.1);
+    rows.sort_unstable_by_key(|row| row.0);
 }
 
 #[cfg(test)]

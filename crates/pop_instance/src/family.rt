@@ -1,10 +1,11 @@
-ghost use Rattle.std.specs.Prelude.{◌≡◌, ◌<◌, ◌^◌, ◌↔◌, IsTrue, All};
+ghost use Rattle.std.specs.Prelude.{◌≡◌, ◌<◌, ◌^◌, ◌↔◌, IsTrue};
 ghost use Rattle.pop_model.specs.Stacks.{variables_of, domain_of};
-ghost use Rattle.pop_model.specs.Families.Family.{Listed as ListedEvents};
+ghost use Rattle.pop_model.specs.Families.Family.{Listed as ListedEvents, Cycles as CyclesOfHeads};
 ghost use Rattle.pop_model.specs.Families.{IsFamily, units_of};
 ghost use Rattle.pop_model.specs.Instances.{FamilyFits, FitsStacks};
 
-use crate::{Cube, Events};
+use crate::cycle::is_cycle;
+use crate::{Arrows, Cube, Events};
 use pop_stacks::Stacks;
 
 /// A family of events. Each has a unit, by which it is found again.
@@ -12,41 +13,45 @@ use pop_stacks::Stacks;
 pub enum Family {
     /// Events one by one; the unit of an event is its place.
     Listed(Events),
+    /// The cycles of arrows; the unit of a cycle is its least variable.
+    Cycles(Arrows),
 }
 
 impl Family {
     ghost use Rattle.pop_instance.specs.Family.{family_of, HasEvent};
 
-    /// The events of a listed family.
-    pub fn events(&self) -> &Events
-        ensures { family_of self.now ≡ ListedEvents result.now }
-    {
-        match self {
-            Family::Listed(events) => events,
-        }
-    }
-
-    /// How many units there are.
+    /// How many units there are: all places, or all variables. At most 2^31 - 1.
     pub fn units(&self) -> u32
         ensures units { result ≡ units_of (family_of self.now) }
         ensures family { IsFamily (family_of self.now) }
         ensures short { result < 2 ^ 31 }
     {
-        self.events().count()
+        match self {
+            Family::Listed(events) => events.count(),
+            Family::Cycles(arrows) => arrows.count(),
+        }
     }
 
-    /// Whether each event names variables and values that the stacks have.
+    /// Whether each event names variables and values that the stacks have, or each variable of the
+    /// stacks has one slot for each of its values.
     pub fn fits(&self, stacks: &Stacks) -> bool
         ensures { IsTrue result ↔ FamilyFits stacks.now (family_of self.now) }
     {
-        fit(stacks, self.events())
+        match self {
+            Family::Listed(events) => fit(stacks, events),
+            Family::Cycles(arrows) => fit_slots(stacks, arrows),
+        }
     }
 
-    /// Whether the cube is that of an event. A listed family looks at each event.
+    /// Whether the cube is that of an event. A listed family looks at each event; in a cycle family
+    /// the arrows are followed once round.
     pub fn is_event(&self, cube: &Cube) -> bool
         ensures { IsTrue result ↔ HasEvent (family_of self.now) cube.now }
     {
-        self.events().has(cube)
+        match self {
+            Family::Listed(events) => events.has(cube),
+            Family::Cycles(arrows) => is_cycle(arrows, cube),
+        }
     }
 }
 
@@ -72,10 +77,26 @@ fn fits_cube(stacks: &Stacks, cube: &Cube) -> bool
 
 // Whether each cube names variables and values that the stacks have.
 fn fit(stacks: &Stacks, events: &Events) -> bool
-    ensures { IsTrue result ↔ All (λ r. FitsStacks stacks.now r.1) events.now }
+    ensures { IsTrue result ↔ FamilyFits stacks.now (ListedEvents events.now) }
 {
     for place in 0..events.count() {
         if !fits_cube(stacks, events.cube(place)) {
+            return false;
+        }
+    }
+    true
+}
+
+// Whether there are as many variables as the stacks have, each with a slot for each of its values.
+fn fit_slots(stacks: &Stacks, arrows: &Arrows) -> bool
+    ensures { IsTrue result ↔ FamilyFits stacks.now (CyclesOfHeads arrows.now) }
+{
+    let count = arrows.count();
+    if count != stacks.count() {
+        return false;
+    }
+    for v in 0..count {
+        if arrows.slots(v) != stacks.domain(v) {
             return false;
         }
     }

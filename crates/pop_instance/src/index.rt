@@ -1,29 +1,26 @@
-ghost use Rattle.std.specs.Prelude.{◌≡◌, ◌≢◌, ◌<◌, ◌≤◌, ◌+◌, ◌^◌, ℕ, length, slice_index, slice_index_or, [], take, sum, IfOk, All, if◌then◌else◌};
-ghost use Rattle.pop_model.specs.Popping.{NamesBelow, names};
-ghost use Rattle.pop_instance.specs.Index.{IsIndex, AreTallies, AreEnds, SlotsDiffer, IsPut, AreBounds, parts};
+ghost use Rattle.std.specs.Prelude.{◌≡◌, ◌<◌, length, slice_index_or, [], IfOk, All};
+ghost use Rattle.pop_model.specs.Popping.{NamesBelow};
+ghost use Rattle.pop_rows.specs.FlatRows.{HasRoom};
+ghost use Rattle.pop_instance.specs.Index.{IsIndex, AreTallies, IsPut};
 
 use crate::cursors::raise;
 use crate::{Cube, Events};
+use pop_rows::FlatRows;
 use std::alloc::{AllocError, Global};
 use std::marker::Model;
 
 /// For each variable the places of the events that name it.
 #[derive(Drop)]
 pub struct Index {
-    // Variable v has those in `places` from starts[v] up to below starts[v + 1].
-    starts: Vec<usize>,
-    places: Vec<u32>,
+    rows: FlatRows,
 }
 
 impl Model for Index {
-    ghost use Rattle.std.specs.Prelude.{ℕ, List, length};
-    ghost use Rattle.pop_instance.specs.Index.{parts, AreBounds};
+    ghost use Rattle.std.specs.Prelude.{ℕ, List};
 
     ghost Value = { List (List ℕ) };
 
-    ghost view = { λ a. parts a.starts.items a.places.items };
-
-    ghost invariant = { λ a. AreBounds a.starts.items (length a.places.items) };
+    ghost view = { λ a. a.rows.rows };
 }
 
 impl Index {
@@ -34,14 +31,11 @@ impl Index {
         ensures index { IfOk result (IsIndex events.now) }
         ensures count { IfOk result (λ index. length index ≡ count) }
     {
-        let tallies = tally(alloc, events, count)?;
-        let mut starts = ends_of(alloc, &tallies)?;
-        let mut places = vec![in alloc; 0; starts[count as usize]]?;
-        // From the last event on, each variable's end goes down to its start.
-        for place in (0..events.count()).rev() {
-            put(&mut starts, &mut places, events.cube(place), place);
+        let mut rows = FlatRows::with_rooms(alloc, tally(alloc, events, count)?)?;
+        for place in 0..events.count() {
+            push_at_each(&mut rows, events.cube(place), place);
         }
-        Ok(Index { starts, places })
+        Ok(Index { rows })
     }
 
     /// The places of the events that name a variable, rising.
@@ -49,23 +43,15 @@ impl Index {
         requires known { v < length self.now }
         ensures { result.now ≡ slice_index_or self.now v [] }
     {
-        part(&self.starts, &self.places, v as usize)
+        self.rows.row(v)
     }
-}
-
-// The part of a list between a bound and the next.
-fn part<'a>(bounds: &[usize], list: &'a [u32], v: usize) -> &'a [u32]
-    requires bounds { AreBounds bounds.now (length list.now) }
-    requires known { v + 1 < length bounds.now }
-    ensures { result.now ≡ slice_index_or (parts bounds.now list.now) v [] }
-{
-    &list[bounds[v]..bounds[v + 1]]
 }
 
 // For each variable how many events name it.
 fn tally(alloc: Global, events: &Events, count: u32) -> Result<Vec<u32>, AllocError>
     requires known { All (λ r. NamesBelow r.1 count) events.now }
-    ensures { IfOk result (λ tallies. AreTallies events.now count tallies.items) }
+    ensures { IfOk result (λ tallies.
+        AreTallies events.now (length events.now) count tallies.items) }
 {
     let mut tallies = vec![in alloc; 0; count as usize]?;
     for place in 0..events.count() {
@@ -74,34 +60,16 @@ fn tally(alloc: Global, events: &Events, count: u32) -> Result<Vec<u32>, AllocEr
     Ok(tallies)
 }
 
-// For each variable the tallies up to its own together, and all together behind them.
-fn ends_of(alloc: Global, tallies: &[u32]) -> Result<Vec<usize>, AllocError>
-    requires { length tallies.now < 2 ^ 32 }
-    ensures { IfOk result (λ ends. AreEnds tallies.now ends.items) }
-{
-    let mut ends = Vec::new(alloc);
-    let mut total = 0;
-    for tally in tallies {
-        total += *tally as usize;
-        ends.push(total)?;
-    }
-    ends.push(total)?;
-    Ok(ends)
-}
-
-// Puts the place before what each of the cube's variables has so far.
-fn put(starts: &mut [usize], places: &mut [u32], cube: &Cube, place: u32)
-    requires known { NamesBelow cube.now (length starts.old) }
-    requires room { All (λ p. (0 < slice_index starts.old p.0)
-        × (slice_index starts.old p.0 ≤ length places.old)) cube.now }
-    requires apart { SlotsDiffer starts.old cube.now }
-    ensures { IsPut cube.now place starts.old places.old starts.new places.new }
+// Puts the place at the end of the row of each of the cube's variables.
+fn push_at_each(rows: &mut FlatRows, cube: &Cube, place: u32)
+    requires known { NamesBelow cube.now (length rows.old.rows) }
+    requires room { All (λ p. HasRoom rows.old p.0) cube.now }
+    ensures rows { IsPut cube.now place rows.old.rows rows.new.rows }
+    ensures rooms { rows.new.rooms ≡ rows.old.rooms }
 {
     for i in 0..cube.len() {
         let (v, _) = cube.pair(i);
-        let slot = starts[v as usize] - 1;
-        starts[v as usize] = slot;
-        places[slot] = place;
+        rows.push(v, place);
     }
 }
 
@@ -131,7 +99,10 @@ mod tests {
         let family = Family::Listed(Events::gather(alloc, rows)?);
         let stacks = Stacks::new(StackSpec::Key([0; 32]), Weights::pairs(4), 1)?;
         assert!(&rt; family.fits(&stacks) && stacks.count() == 4);
-        let index = Index::build(alloc, family.events(), 4)?;
+        let Family::Listed(events) = &family else {
+            panic!(&rt; "a listed family");
+        };
+        let index = Index::build(alloc, events, 4)?;
         assert_eq!(&rt; index.at(0), [0, 2].as_slice());
         assert_eq!(&rt; index.at(1), [2].as_slice());
         assert_eq!(&rt; index.at(2), [0, 1].as_slice());

@@ -29,8 +29,10 @@ impl Model for Instance {
 impl Instance {
     ghost use Rattle.pop_instance.specs.Family.{family_of, HasEvent};
 
-    /// The instance of these parts. None exactly where an event names a variable that is not below
-    /// the stacks' count, or a value that is not below its variable's domain.
+    /// The instance of these parts. None exactly where an event of a listed family names a variable
+    /// that is not below the stacks' count, or a value that is not below its variable's domain, or
+    /// where there are not as many arrows' variables as the stacks have or not as many slots of some
+    /// variable as it has values.
     pub fn new(stacks: Stacks, family: Family) -> Option<Instance>
         ensures { MatchOption result (FamilyFits stacks (family_of family) → ⊥)
             (λ i. i ≡ record { stacks = stacks; family = family_of family }) }
@@ -65,7 +67,8 @@ impl Instance {
         self.family.units()
     }
 
-    /// Whether the cube is that of an event of the family. A listed family looks at each event.
+    /// Whether the cube is that of an event of the family. A listed family looks at each event; in a
+    /// cycle family the arrows are followed once round.
     pub fn is_event(&self, cube: &Cube) -> bool
         ensures { IsTrue result ↔ HasEvent self.now.family cube.now }
     {

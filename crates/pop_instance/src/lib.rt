@@ -1,16 +1,20 @@
 //! Cubes, families of events, instances and cursors.
 //!
-//! Contracts see a cube as its pairs, events as numbered cubes, an instance as stacks with a
-//! family, an index as the places of each variable, and cursors as a list of numbers.
+//! Contracts see a cube as its pairs, events as numbered cubes, arrows as the heads of each
+//! variable's slots, an instance as stacks with a family, an index as the places of each variable,
+//! and cursors as a list of numbers.
 #![tactic(auto)]
 
+mod arrows;
 mod cube;
 mod cursors;
+mod cycle;
 mod events;
 mod family;
 mod index;
 mod instance;
 
+pub use arrows::Arrows;
 pub use cube::Cube;
 pub use cursors::Cursors;
 pub use events::Events;

@@ -1,3 +1,5 @@
 pub mod OutputLemmas
 pub mod EndLemmas
+mod NamedCubes
+mod SlotLines
 mod Vectors

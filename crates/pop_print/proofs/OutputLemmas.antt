@@ -1,19 +1,17 @@
 -- The lines of an end, one member after another: where those before a place are printed, and the member there is
 -- printed behind them, those up to it are.
-use Rattle.std.proofs.Common.{◌≡◌, ℕ, ◌+◌, ◌<◌, ◌≤◌, List, [], ◌∷◌, ◌++◌, length, take, get_or, slice_get, Some, codes, decimal, sym, ap, ◌∙◌, arith, append_assoc, zero-add}
+use Rattle.std.proofs.Common.{◌≡◌, ℕ, ◌+◌, ◌<◌, ◌≤◌, List, [], ◌∷◌, ◌++◌, length, take, get_or, codes, sym, ap, ◌∙◌, arith, append_assoc, zero-add}
 use Rattle.std.specs.List.{enumerate_from, flat_map}
 use Rattle.std.proofs.lemmas.Grind.{flat_map-append}
 use Rattle.std.proofs.lemmas.List.{append-nil, take_more, take_all, get_or-map, length-map}
 use Rattle.std.proofs.lemmas.List.FromFn.{get_or-enumerate_from, length-enumerate_from}
-use Rattle.std.proofs.lemmas.Option.{get_or_from_slice_get}
 use Rattle.pop_model.specs.Stacks.{StackTable, value_at}
-use Rattle.pop_model.specs.Popping.{Cube, cursor}
+use Rattle.pop_model.specs.Popping.{cursor}
 use Rattle.pop_model.specs.Families.{Event}
-use Rattle.pop_model.specs.Families.Family.{Listed}
 use Rattle.pop_model.specs.Instances.{Instance}
-use Rattle.pop_model.specs.Text.{line, spaced}
-use Rattle.pop_instance.specs.Events.{event_number}
-use Rattle.pop_print.specs.Output.{number_of_unit, literal_of, literals_of, sample_line, stuck_lines, findings}
+use Rattle.pop_model.specs.Text.{spaced}
+use Rattle.pop_print.specs.declared.facts.Facts.{Facts}
+use Rattle.pop_print.specs.Output.{literal_of, literals_of, assignment_line, stuck_lines, findings}
 
 -- what is printed of one member more
 flat_map-take : {X : Type 0} (f : X → List ℕ) (xs : List X) (i : ℕ) (x : X) → i < length xs → get_or xs i x ≡ x
@@ -21,6 +19,26 @@ flat_map-take : {X : Type 0} (f : X → List ℕ) (xs : List X) (i : ℕ) (x : X
 flat_map-take f xs i x within is =
     ap (flat_map f) (take_more xs i x within ∙ ap (λ y. take i xs ++ y ∷ []) is)
     ∙ flat_map-append f (take i xs) (x ∷ []) ∙ ap (λ l. flat_map f (take i xs) ++ l) (append-nil (f x))
+
+-- one member more, of members that are printed one behind another
+pub member_more : {X : Type 0} (f : X → List ℕ) (xs : List X) (i : ℕ) (x : X) (before out new : List ℕ)
+    → i < length xs → get_or xs i x ≡ x → out ≡ before ++ flat_map f (take i xs) → new ≡ out ++ f x
+    → new ≡ before ++ flat_map f (take (i + 1) xs)
+member_more f xs i x before out new within is printed pushed =
+    pushed ∙ ap (λ l. l ++ f x) printed ∙ append_assoc before (flat_map f (take i xs)) (f x)
+    ∙ ap (λ l. before ++ l) (sym (flat_map-take f xs i x within is))
+
+-- all members
+pub all_members : {X : Type 0} (f : X → List ℕ) (xs : List X) (n : ℕ) (before out : List ℕ) → length xs ≤ n
+    → out ≡ before ++ flat_map f (take n xs) → out ≡ before ++ flat_map f xs
+all_members f xs n before out all printed = printed ∙ ap (λ ys. before ++ flat_map f ys) (take_all n xs all)
+
+-- a member under its number
+pub numbered_at : {X : Type 0} (xs : List X) (i : ℕ) (x : X) → i < length xs → x ≡ get_or xs i x
+    → get_or (enumerate_from 0 xs) i (i, x) ≡ (i, x)
+numbered_at {X} xs i x below is =
+    let pair : ℕ → X → ℕ × X = λ n y. (n, y) in
+    get_or-enumerate_from 0 xs i (pair i x) below ∙ ap (λ n. pair n (get_or xs i x)) (zero-add i) ∙ ap (pair i) (sym is)
 
 -- one literal for each variable
 pub length-literals_of : (s : StackTable) (c : List ℕ) → length (literals_of s c) ≡ length c
@@ -38,7 +56,7 @@ literal_at s c v d below =
     get_or-enumerate_from 0 c v (pair 0 0) below ∙ ap (λ n. pair n (cursor c v)) (zero-add v) in
     get_or-map literal (enumerate_from 0 c) v (pair 0 0) d inside ∙ ap literal at
 
--- one variable more of the sample
+-- one variable more of an assignment
 pub literal_more : (s : StackTable) (c : List ℕ) (v x : ℕ) (before out new : List ℕ) → v < length c
     → x ≡ value_at s v (cursor c v)
     → out ≡ before ++ (codes "v" ++ spaced (take v (literals_of s c))) → new ≡ out ++ 32 ∷ literal_of v x
@@ -54,11 +72,11 @@ literal_more s c v x before out new below value printed pushed =
     ∙ ap (λ l. before ++ l) (append_assoc (codes "v") (spaced (take v (literals_of s c))) (32 ∷ literal_of v x)
     ∙ ap (λ l. codes "v" ++ l) (sym more))
 
--- the whole line of the sample
-pub sample_whole : (s : StackTable) (c : List ℕ) (n : ℕ) (before out new : List ℕ) → length c ≤ n
+-- the whole line of an assignment
+pub assignment_whole : (s : StackTable) (c : List ℕ) (n : ℕ) (before out new : List ℕ) → length c ≤ n
     → out ≡ before ++ (codes "v" ++ spaced (take n (literals_of s c))) → new ≡ out ++ codes " 0\n"
-    → new ≡ before ++ sample_line s c
-sample_whole s c n before out new all printed pushed =
+    → new ≡ before ++ assignment_line s c
+assignment_whole s c n before out new all printed pushed =
     let whole : take n (literals_of s c) ≡ literals_of s c =
     take_all n (literals_of s c) (omega (arith, length-literals_of s c)) in
     let text = codes "v" ++ spaced (literals_of s c) in
@@ -66,28 +84,11 @@ sample_whole s c n before out new all printed pushed =
     ∙ append_assoc before text (codes " 0\n") ∙ ap (λ l. before ++ l)
     (sym (append_assoc text (codes " 0") (codes "\n")))
 
--- one event more
-pub stuck_more : (rows : List (ℕ × Cube)) (stuck : List Event) (i number : ℕ) (e : Event) (before out new : List ℕ)
-    → i < length stuck
-    → slice_get stuck i ≡ Some e → number ≡ event_number rows e.unit
-    → out ≡ before ++ stuck_lines (Listed rows) (take i stuck)
-    → new ≡ out ++ line (codes "stuck " ++ decimal number)
-    → new ≡ before ++ stuck_lines (Listed rows) (take (i + 1) stuck)
-stuck_more rows stuck i number e before out new within at numbered printed pushed =
-    let text : Event → List ℕ = λ f. line (codes "stuck " ++ decimal (number_of_unit (Listed rows) f.unit)) in
-    let is : get_or stuck i e ≡ e = get_or_from_slice_get stuck i e e at in
-    pushed ∙ ap (λ l. l ++ line (codes "stuck " ++ decimal number)) printed
-    ∙ append_assoc before (stuck_lines (Listed rows) (take i stuck)) (line (codes "stuck " ++ decimal number))
-    ∙ ap (λ n. before ++ (stuck_lines (Listed rows) (take i stuck) ++ line (codes "stuck " ++ decimal n))) numbered
-    ∙ ap (λ l. before ++ l) (sym (flat_map-take text stuck i e within is))
-
 -- what is found where some event occurs
-pub findings_some : (i : Instance) (c : List ℕ) (rows : List (ℕ × Cube)) (stuck : List Event)
-    (before out new : List ℕ) → i.family ≡ Listed rows
-    → 0 < length stuck → out ≡ before ++ codes "s EXHAUSTED\n" → new ≡ out ++ stuck_lines (Listed rows) stuck
-    → new ≡ before ++ findings i c stuck
-findings_some i c rows [] before out new listed some first pushed = absurd (omega arith)
-findings_some i c rows (e ∷ stuck) before out new listed some first pushed =
-    pushed ∙ ap (λ l. l ++ stuck_lines (Listed rows) (e ∷ stuck)) first
-    ∙ append_assoc before (codes "s EXHAUSTED\n") (stuck_lines (Listed rows) (e ∷ stuck))
-    ∙ ap (λ f. before ++ (codes "s EXHAUSTED\n" ++ stuck_lines f (e ∷ stuck))) (sym listed)
+pub findings_some : (facts : Facts) (i : Instance) (c : List ℕ) (stuck : List Event) (before out new : List ℕ)
+    → 0 < length stuck → out ≡ before ++ codes "s EXHAUSTED\n" → new ≡ out ++ stuck_lines facts i.family stuck
+    → new ≡ before ++ findings facts i c stuck
+findings_some facts i c [] before out new some first pushed = absurd (omega arith)
+findings_some facts i c (e ∷ stuck) before out new some first pushed =
+    pushed ∙ ap (λ l. l ++ stuck_lines facts i.family (e ∷ stuck)) first
+    ∙ append_assoc before (codes "s EXHAUSTED\n") (stuck_lines facts i.family (e ∷ stuck))

@@ -1,10 +1,12 @@
 -- Worked texts, so that a wrong word, sign, number or order doesn't check.
-use Rattle.std.proofs.Common.{◌≡◌, ℕ, List, [], ◌∷◌, refl, codes}
+use Rattle.std.proofs.Common.{◌≡◌, ℕ, zero, suc, List, [], ◌∷◌, Option, None, Some, refl, codes}
 use Rattle.std.specs.Fmt.{digits}
 use Rattle.pop_model.specs.Stacks.Origin.{Given}
 use Rattle.pop_model.specs.Families.{Event}
-use Rattle.pop_model.specs.Families.Family.{Listed}
+use Rattle.pop_model.specs.Families.Family.{Listed, Cycles}
 use Rattle.pop_model.specs.Instances.{Instance}
+use Rattle.graph_read.specs.Graphs.{GraphOf}
+use Rattle.pop_print.specs.declared.facts.Facts.TheVariants.{Formula, Orient, Tree}
 use Rattle.pop_print.specs.Output.{end_text}
 
 abbrev entries : List (List ℕ)
@@ -21,16 +23,90 @@ two =
 abbrev second : Event
 second = record { unit = 1; cube = (1, 0) ∷ [] }
 
-a_sample : end_text two (2 ∷ 1 ∷ []) 3 [] ≡ codes "s SAMPLE\nv 1 -2 0\nused 2 1\npops 3\n"
+a_sample : end_text (Formula 2) two (2 ∷ 1 ∷ []) 3 [] ≡ codes "s SAMPLE\nv 1 -2 0\nused 2 1\npops 3\n"
 unfolding digits
 a_sample = refl
 
-an_event_that_occurs : end_text two (2 ∷ 1 ∷ []) 3 (second ∷ []) ≡ codes "s EXHAUSTED\nstuck 7\nused 2 1\npops 3\n"
+an_event_that_occurs : end_text (Formula 2) two (2 ∷ 1 ∷ []) 3 (second ∷ []) ≡ codes "s EXHAUSTED\nstuck 7\nused 2 1\npops 3\n"
 unfolding digits
 an_event_that_occurs = refl
 
 -- no variable: `v 0`, and `used` alone
-nothing : end_text (record { stacks = record { origin = Given []; weights = [] }; family = Listed [] }) [] 0 []
+nothing : end_text (Formula 0) (record { stacks = record { origin = Given []; weights = [] }; family = Listed [] }) [] 0 []
     ≡ codes "s SAMPLE\nv 0\nused\npops 0\n"
 unfolding digits
 nothing = refl
+
+-- a triangle: the edges 1 2, 2 3 and 1 3
+abbrev triangle : GraphOf
+triangle =
+    record {
+      vertices = 3;
+      edges = record { u = 1; v = 2; weight = 1 } ∷ record { u = 2; v = 3; weight = 1 }
+          ∷ record { u = 1; v = 3; weight = 1 } ∷ [];
+    }
+
+-- the cycles of these arrows, with given rows
+abbrev given : List (List ℕ) → List (List ℕ) → List (List (Option ℕ)) → Instance
+given rows weights heads =
+    record { stacks = record { origin = Given rows; weights = weights }; family = Cycles heads }
+
+abbrev two_each : ℕ → List (List ℕ)
+two_each zero = []
+two_each (suc n) = (1 ∷ 1 ∷ []) ∷ two_each n
+
+-- the arrows of the triangle towards vertex 1: of vertex 2 along the edges 1 and 2, of vertex 3 along 2 and 3
+abbrev to_one : List (List (Option ℕ))
+to_one = (None ∷ Some 1 ∷ []) ∷ (Some 0 ∷ None ∷ []) ∷ []
+
+a_tree : end_text (Tree triangle 1) (given ((1 ∷ 0 ∷ []) ∷ (0 ∷ 0 ∷ []) ∷ []) (two_each 2) to_one) (1 ∷ 1 ∷ []) 1 []
+    ≡ codes "s SAMPLE\na 2 1 1\na 3 2 2\nused 1 1\npops 1\n"
+unfolding digits
+a_tree = refl
+
+-- the cycle of the vertices 2 and 3
+abbrev round : Event
+round = record { unit = 0; cube = (0, 1) ∷ (1, 0) ∷ [] }
+
+a_cycle_that_occurs : end_text (Tree triangle 1) (given ((1 ∷ []) ∷ (0 ∷ []) ∷ []) (two_each 2) to_one) (0 ∷ 0 ∷ []) 0
+    (round ∷ [])
+    ≡ codes "s EXHAUSTED\nstuck 2 3\nused 0 0\npops 0\n"
+unfolding digits
+a_cycle_that_occurs = refl
+
+-- towards vertex 2 the variables are the vertices 1 and 3; loops and parallel edges: the edges 2 2, 1 2 and 1 2
+abbrev with_loop : GraphOf
+with_loop =
+    record {
+      vertices = 2;
+      edges = record { u = 2; v = 2; weight = 1 } ∷ record { u = 1; v = 2; weight = 5 }
+          ∷ record { u = 1; v = 2; weight = 1 } ∷ [];
+    }
+
+a_parallel_edge : end_text (Tree with_loop 2) (given ((1 ∷ []) ∷ []) ((5 ∷ 1 ∷ []) ∷ []) ((None ∷ None ∷ []) ∷ []))
+    (0 ∷ []) 0 []
+    ≡ codes "s SAMPLE\na 1 2 3\nused 0\npops 0\n"
+unfolding digits
+a_parallel_edge = refl
+
+-- the edges of the triangle by their directions: 1 back along the first and the third
+an_orientation : end_text (Orient triangle)
+    (record {
+      stacks = record { origin = Given ((0 ∷ 1 ∷ []) ∷ (0 ∷ []) ∷ (1 ∷ []) ∷ []); weights = two_each 3 };
+      family = Listed [];
+    })
+    (1 ∷ 0 ∷ 0 ∷ []) 1 []
+    ≡ codes "s SAMPLE\na 2 1 1\na 2 3 2\na 3 1 3\nused 1 0 0\npops 1\n"
+unfolding digits
+an_orientation = refl
+
+-- a vertex that is a sink is told by its number
+a_sink_that_occurs : end_text (Orient triangle)
+    (record {
+      stacks = record { origin = Given ((0 ∷ []) ∷ (1 ∷ []) ∷ (0 ∷ []) ∷ []); weights = two_each 3 };
+      family = Listed ((1, (0, 1) ∷ (2, 1) ∷ []) ∷ (2, (0, 0) ∷ (1, 1) ∷ []) ∷ []);
+    })
+    (0 ∷ 0 ∷ 0 ∷ []) 0 (record { unit = 1; cube = (0, 0) ∷ (1, 1) ∷ [] } ∷ [])
+    ≡ codes "s EXHAUSTED\nstuck 2\nused 0 0 0\npops 0\n"
+unfolding digits
+a_sink_that_occurs = refl

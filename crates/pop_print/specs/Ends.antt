@@ -1,23 +1,37 @@
 -- The ends that can be printed.
-use Rattle.std.specs.Prelude.{◌≡◌, ℕ, ◌<◌, List, length}
+use Rattle.std.specs.Prelude.{◌≡◌, ℕ, ◌+◌, ◌<◌, List, Option, length}
 use Rattle.pop_model.specs.Stacks.{variables_of, domain_of}
 use Rattle.pop_model.specs.Popping.{Cube, AreWithin}
 use Rattle.pop_model.specs.Families.{Event}
-use Rattle.pop_model.specs.Families.Family.{Listed}
+use Rattle.pop_model.specs.Families.Family.{Listed, Cycles}
 use Rattle.pop_model.specs.Instances.{Instance}
+use Rattle.pop_model.specs.Names.{vertex_of}
 use Rattle.pop_model.specs.Runs.{IsStuckList}
+use Rattle.graph_read.specs.Graphs.{GraphOf, IsVertex}
+use Rattle.graph_read.specs.Incidence.{edges_at}
 use Rattle.pop_print.specs.declared.facts.Facts.{Facts}
-use Rattle.pop_print.specs.declared.facts.Facts.TheVariants.{Formula}
+use Rattle.pop_print.specs.declared.facts.Facts.TheVariants.{Formula, Orient, Tree}
 
--- the instance is that of a formula: a listed family over so many variables of two values
-pub record IsOfFormula (n : ℕ) (i : Instance) : Type 0 where
+-- the instance has a listed family over so many variables of two values
+pub record IsOfPairs (n : ℕ) (i : Instance) : Type 0 where
   pub listed : (rows : List (ℕ × Cube)) × (i.family ≡ Listed rows)
   pub count : variables_of i.stacks ≡ n
   pub values : (v : ℕ) → v < n → domain_of i.stacks v ≡ 2
 
+-- the instance has a cycle family over the vertices but the root, each with a slot for each of its
+-- edges that aren't loops
+pub record IsOfTree (g : GraphOf) (root : ℕ) (i : Instance) : Type 0 where
+  pub root_is : IsVertex g.vertices root
+  pub cycles : (heads : List (List (Option ℕ))) × (i.family ≡ Cycles heads)
+  pub count : variables_of i.stacks + 1 ≡ g.vertices
+  pub slots : (v : ℕ) → v < variables_of i.stacks
+      → domain_of i.stacks v ≡ length (edges_at g (vertex_of root v))
+
 -- the instance is that of the facts
 abbrev pub AreFactsOf : Facts → Instance → Type 0
-AreFactsOf (Formula n) i = IsOfFormula n i
+AreFactsOf (Formula n) i = IsOfPairs n i
+AreFactsOf (Orient g) i = IsOfPairs (length g.edges) i
+AreFactsOf (Tree g root) i = IsOfTree g root i
 
 -- one cursor for each variable, below its height, and the events that occur there
 pub record IsAtEnd (i : Instance) (cursors : List ℕ) (stuck : List Event) : Type 0 where

@@ -1,2 +1,4 @@
+pub mod Names
 pub mod Output
 pub mod Ends
+pub mod Stuck

@@ -1,17 +1,18 @@
 -- The text of a run's end.
-use Rattle.std.specs.Prelude.{ℕ, ◌+◌, ◌==◌, if◌then◌else◌, List, [], ◌∷◌, ◌++◌, map, flat_map, decimal, codes}
+use Rattle.std.specs.Prelude.{ℕ, ◌+◌, ◌==◌, if◌then◌else◌, List, [], ◌∷◌, ◌++◌, map, flat_map, decimal, codes, slice_index}
 use Rattle.std.specs.List.{enumerate_from}
 use Rattle.pop_model.specs.Stacks.{StackTable, value_at}
+use Rattle.pop_model.specs.Popping.{cursor}
 use Rattle.pop_model.specs.Families.{Event, Family}
-use Rattle.pop_model.specs.Families.Family.{Listed, Cycles}
 use Rattle.pop_model.specs.Instances.{Instance}
+use Rattle.pop_model.specs.Names.{vertex_of}
 use Rattle.pop_model.specs.Text.{line, spaced}
-use Rattle.pop_instance.specs.Events.{event_number}
-
--- the number under which an event is printed: a listed one's own, a cycle's unit
-abbrev pub number_of_unit : Family → ℕ → ℕ
-number_of_unit (Listed rows) unit = event_number rows unit
-number_of_unit (Cycles heads) unit = unit
+use Rattle.graph_read.specs.declared.edge.Edge.{Edge}
+use Rattle.graph_read.specs.Graphs.{GraphOf, edge_at}
+use Rattle.graph_read.specs.Incidence.{edges_at, other_end}
+use Rattle.pop_print.specs.declared.facts.Facts.{Facts}
+use Rattle.pop_print.specs.declared.facts.Facts.TheVariants.{Formula, Orient, Tree}
+use Rattle.pop_print.specs.Names.{event_names}
 
 -- the printed name of a variable, which counts from 1, with `-` before it where its value is 0
 abbrev pub literal_of : ℕ → ℕ → List ℕ
@@ -22,19 +23,65 @@ abbrev pub literals_of : StackTable → List ℕ → List (List ℕ)
 literals_of stacks cursors =
     map (λ p. literal_of p.0 (value_at stacks p.0 p.1)) (enumerate_from 0 cursors)
 
--- the line of the sample: `v`, each variable, and 0
-abbrev pub sample_line : StackTable → List ℕ → List ℕ
-sample_line stacks cursors = line (codes "v" ++ spaced (literals_of stacks cursors) ++ codes " 0")
+-- the line of an assignment: `v`, each variable, and 0
+abbrev pub assignment_line : StackTable → List ℕ → List ℕ
+assignment_line stacks cursors =
+    line (codes "v" ++ spaced (literals_of stacks cursors) ++ codes " 0")
+
+-- the line of an arrow along an edge: its tail, its head, and the number of the edge, from 1
+abbrev pub arrow_line : ℕ → ℕ → ℕ → List ℕ
+arrow_line tail head number = line (codes "a" ++ spaced (map decimal (tail ∷ head ∷ number ∷ [])))
+
+-- an edge by its value: 0 points from its first vertex to its second, and 1 back
+abbrev pub oriented_line : Edge → ℕ → ℕ → List ℕ
+oriented_line e number x =
+    if x == 0 then arrow_line e.u e.v number else arrow_line e.v e.u number
+
+-- an edge under its number, from 0, by its value at its cursor
+abbrev pub edge_line : StackTable → List ℕ → ℕ × Edge → List ℕ
+edge_line stacks cursors p =
+    oriented_line p.1 (p.0 + 1) (value_at stacks p.0 (cursor cursors p.0))
+
+-- each edge of a graph
+abbrev pub orientation_lines : GraphOf → StackTable → List ℕ → List ℕ
+orientation_lines g stacks cursors =
+    flat_map (edge_line stacks cursors) (enumerate_from 0 g.edges)
+
+-- a vertex by the slot of its arrow, which stands for one of its edges
+abbrev pub slot_line : GraphOf → ℕ → ℕ → List ℕ
+slot_line g w x =
+    let i = slice_index (edges_at g w) x in
+    arrow_line w (other_end (edge_at g i) w) (i + 1)
+
+-- the vertex of a variable by its value at this cursor
+abbrev pub vertex_line : GraphOf → ℕ → StackTable → ℕ × ℕ → List ℕ
+vertex_line g root stacks p = slot_line g (vertex_of root p.0) (value_at stacks p.0 p.1)
+
+-- each vertex but the root
+abbrev pub tree_lines : GraphOf → ℕ → StackTable → List ℕ → List ℕ
+tree_lines g root stacks cursors =
+    flat_map (vertex_line g root stacks) (enumerate_from 0 cursors)
+
+-- the lines of the sample
+abbrev pub sample_lines : Facts → StackTable → List ℕ → List ℕ
+sample_lines (Formula n) stacks cursors = assignment_line stacks cursors
+sample_lines (Orient g) stacks cursors = orientation_lines g stacks cursors
+sample_lines (Tree g root) stacks cursors = tree_lines g root stacks cursors
+
+-- the line of an event that occurs
+abbrev pub stuck_line : Facts → Family → Event → List ℕ
+stuck_line facts family e =
+    line (codes "stuck" ++ spaced (map decimal (event_names facts family e)))
 
 -- a line for each event that occurs
-abbrev pub stuck_lines : Family → List Event → List ℕ
-stuck_lines family stuck =
-    flat_map (λ e. line (codes "stuck " ++ decimal (number_of_unit family e.unit))) stuck
+abbrev pub stuck_lines : Facts → Family → List Event → List ℕ
+stuck_lines facts family stuck = flat_map (stuck_line facts family) stuck
 
 -- what was found: the sample, or the events that occur
-abbrev pub findings : Instance → List ℕ → List Event → List ℕ
-findings i cursors [] = line (codes "s SAMPLE") ++ sample_line i.stacks cursors
-findings i cursors (e ∷ stuck) = line (codes "s EXHAUSTED") ++ stuck_lines i.family (e ∷ stuck)
+abbrev pub findings : Facts → Instance → List ℕ → List Event → List ℕ
+findings facts i cursors [] = line (codes "s SAMPLE") ++ sample_lines facts i.stacks cursors
+findings facts i cursors (e ∷ stuck) =
+    line (codes "s EXHAUSTED") ++ stuck_lines facts i.family (e ∷ stuck)
 
 -- the line of the cursors, which say how many entries of each variable were passed
 abbrev pub used_line : List ℕ → List ℕ
@@ -45,5 +92,6 @@ abbrev pub pops_line : ℕ → List ℕ
 pops_line pops = line (codes "pops " ++ decimal pops)
 
 -- the text of an end: what was found, the cursors, the number of pops
-abbrev pub end_text : Instance → List ℕ → ℕ → List Event → List ℕ
-end_text i cursors pops stuck = findings i cursors stuck ++ used_line cursors ++ pops_line pops
+abbrev pub end_text : Facts → Instance → List ℕ → ℕ → List Event → List ℕ
+end_text facts i cursors pops stuck =
+    findings facts i cursors stuck ++ used_line cursors ++ pops_line pops

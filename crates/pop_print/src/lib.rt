@@ -1,12 +1,17 @@
-//! The end of a run as text. Contracts see the text as a function of the instance, the cursors, the
-//! number of pops and the events that occur.
+//! The end of a run as text. Contracts see the text as a function of the facts about the source, the
+//! instance, the cursors, the number of pops and the events that occur.
 #![tactic(auto)]
 
+mod assignment;
 mod facts;
+mod orientation;
 mod output;
 mod printing;
+mod sample;
+mod stuck;
 #[cfg(test)]
 mod tests;
+mod tree;
 
 pub use facts::Facts;
 pub use printing::text;

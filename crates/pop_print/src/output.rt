@@ -1,4 +1,5 @@
-ghost use Rattle.std.specs.Prelude.{◌≡◌, ◌++◌, [], decimal, IfOk, OnOk};
+ghost use Rattle.std.specs.Prelude.{◌≡◌, ◌++◌, ◌∷◌, [], decimal, IfOk, OnOk};
+ghost use Rattle.pop_print.specs.Output.{arrow_line};
 
 use itoa::Buffer;
 use std::alloc::{AllocError, Global};
@@ -41,6 +42,25 @@ impl Output {
     {
         let mut buffer = Buffer::new();
         self.push(buffer.format(n).as_bytes())
+    }
+
+    /// Adds a space and a number.
+    pub fn push_spaced(&mut self, n: u64) -> Result<(), AllocError>
+        ensures { OnOk result (self.new ≡ self.old ++ 32 ∷ decimal n) }
+    {
+        self.push(b" ")?;
+        self.push_number(n)
+    }
+
+    /// Adds the line of an arrow along an edge.
+    pub fn push_arrow(&mut self, tail: u32, head: u32, number: u32) -> Result<(), AllocError>
+        ensures { OnOk result (self.new ≡ self.old ++ arrow_line tail head number) }
+    {
+        self.push(b"a")?;
+        self.push_spaced(u64::from(tail))?;
+        self.push_spaced(u64::from(head))?;
+        self.push_spaced(u64::from(number))?;
+        self.push(b"\n")
     }
 
     /// The whole text.

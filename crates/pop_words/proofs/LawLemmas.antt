@@ -8,9 +8,9 @@ use Rattle.pop_words.specs.declared.command.Command.{Command}
 use Rattle.pop_words.specs.declared.job.Job.{Job}
 use Rattle.pop_edge.specs.Numbers.{number_of}
 use Rattle.pop_words.specs.declared.option.OptionName.{OptionName}
-use Rattle.pop_words.specs.declared.option.OptionName.TheVariants.{Stacks, Key, Height}
+use Rattle.pop_words.specs.declared.option.OptionName.TheVariants.{Stacks, Key, Height, Root}
 use Rattle.pop_words.specs.Values.{number_between, rows_in, key_in}
-use Rattle.pop_words.specs.Options.{command_word, default_job, row, set_rows, set_key, set_height}
+use Rattle.pop_words.specs.Options.{command_word, default_job, row, set_rows, set_key, set_height, set_root}
 use Rattle.pop_words.proofs.ValuesLemmas.{passed}
 use Rattle.pop_words.proofs.ReadingLemmas.{both}
 use Rattle.std.proofs.lemmas.Bool.{leb-true}
@@ -69,12 +69,14 @@ same_first_bad In xs p q first other = elim (cases_lt p q) [
   ]
 ]
 
--- ---- the height
+-- ---- heights and roots
 
--- it may be that of keyed stacks
-pub record IsHeight (job : Job) : Type 0 where
+-- the height may be that of keyed stacks, and the root that of a tree
+pub record IsInRange (job : Job) : Type 0 where
   pub some : 0 < job.height
   pub short : job.height < 2 ^ 31
+  pub root : 0 < job.root
+  pub fits : job.root < 2 ^ 32
 
 -- a number between bounds is between them
 between : (low high n : ℕ) (word : List ℕ) → number_between low high word ≡ Some n → (low ≤ n) × (n ≤ high)
@@ -83,43 +85,51 @@ between low high n word read =
     let tests = both (nat_le low n) (nat_le n high) test in
     (leb-true low n tests.0, leb-true n high tests.1)
 
--- an option leaves the height in range
-keeps_height : (o : OptionName) (word : List ℕ) (job : Job) (set : Job → Job) → (row o).value word ≡ Some set
-    → IsHeight job → IsHeight (set job)
-keeps_height o word job set value is = by_option o value
+-- an option leaves height and root in range
+keeps_range : (o : OptionName) (word : List ℕ) (job : Job) (set : Job → Job) → (row o).value word ≡ Some set
+    → IsInRange job → IsInRange (set job)
+keeps_range o word job set value is = by_option o value
   where
-    of_map : {X : Type 0} (put : X → Job → Job) (read : Option X) → ((x : X) → read ≡ Some x → IsHeight (put x job))
-        → option_map put read ≡ Some set → IsHeight (set job)
+    of_map : {X : Type 0} (put : X → Job → Job) (read : Option X) → ((x : X) → read ≡ Some x → IsInRange (put x job))
+        → option_map put read ≡ Some set → IsInRange (set job)
     of_map put None each some = absurd (cc)
-    of_map put (Some x) each some = let same : put x ≡ set = cc in subst (λ f. IsHeight (f job)) same (each x refl)
+    of_map put (Some x) each some = let same : put x ≡ set = cc in subst (λ f. IsInRange (f job)) same (each x refl)
 
-    by_option : (p : OptionName) → (row p).value word ≡ Some set → IsHeight (set job)
+    by_option : (p : OptionName) → (row p).value word ≡ Some set → IsInRange (set job)
     by_option Stacks some = of_map set_rows (rows_in word)
-        (λ rows read. record { some = is.some; short = is.short }) some
-    by_option Key some = of_map set_key (key_in word) (λ key read. record { some = is.some; short = is.short }) some
+        (λ rows read. record { some = is.some; short = is.short; root = is.root; fits = is.fits }) some
+    by_option Key some = of_map set_key (key_in word)
+        (λ key read. record { some = is.some; short = is.short; root = is.root; fits = is.fits }) some
     by_option Height some = of_map set_height (number_between 1 (2 ^ 31 - 1) word)
-        (λ n read. let bounds = between 1 (2 ^ 31 - 1) n word read in record {
-          some = omega arith;
-          short =
-              omega arith;
-        }) some
+        (λ n read. let bounds = between 1 (2 ^ 31 - 1) n word read in
+        record { some = omega arith; short = omega arith; root = is.root; fits = is.fits }) some
+    by_option Root some = of_map set_root (number_between 1 (2 ^ 32 - 1) word)
+        (λ n read. let bounds = between 1 (2 ^ 32 - 1) n word read in
+        record { some = is.some; short = is.short; root = omega arith; fits = omega arith }) some
 
-jobs_height : (job : Job) (command : Command) (before : List OptionName) (chosen : List Choice)
-    → AreOptions command before chosen → IsHeight job
-    → IsHeight (job_from job chosen)
-jobs_height job command before [] options is = is
-jobs_height job command before (p ∷ chosen) options is =
-    jobs_height (set_option job p) command (before ++ p.0 ∷ []) chosen options.2
+-- so do options one after another
+jobs_range : (job : Job) (command : Command) (before : List OptionName) (chosen : List Choice)
+    → AreOptions command before chosen → IsInRange job
+    → IsInRange (job_from job chosen)
+jobs_range job command before [] options is = is
+jobs_range job command before (p ∷ chosen) options is =
+    jobs_range (set_option job p) command (before ++ p.0 ∷ []) chosen options.2
     (by_value ((row p.0).value p.1) refl)
   where
-    by_value : (value : Option (Job → Job)) → (row p.0).value p.1 ≡ value → IsHeight (unwrap_or value (λ j. j) job)
+    by_value : (value : Option (Job → Job)) → (row p.0).value p.1 ≡ value → IsInRange (unwrap_or value (λ j. j) job)
     by_value None none = is
-    by_value (Some set) some = keeps_height p.0 p.1 job set some is
+    by_value (Some set) some = keeps_range p.0 p.1 job set some is
 
--- a job that is asked for has a height that keyed stacks may have
+-- a job that is asked for has both in range
+asked_range : (words : List (List ℕ)) (job : Job) → Asks words job → IsInRange job
+asked_range words job asks = subst IsInRange (sym asks.job_is)
+    (jobs_range (default_job asks.command) asks.command [] asks.chosen asks.options
+    (record { some = lit< tt; short = lit< tt; root = lit< tt; fits = lit< tt }))
+
+-- it has a height that keyed stacks may have
 pub asked_height : (words : List (List ℕ)) (job : Job) → Asks words job → (0 < job.height) × (job.height < 2 ^ 31)
-asked_height words job asks =
-    let is : IsHeight job = subst IsHeight (sym asks.job_is)
-    (jobs_height (default_job asks.command) asks.command [] asks.chosen asks.options
-    (record { some = lit< tt; short = lit< tt })) in
-    (is.some, is.short)
+asked_height words job asks = let is = asked_range words job asks in (is.some, is.short)
+
+-- and a root from 1 on
+pub asked_root : (words : List (List ℕ)) (job : Job) → Asks words job → (0 < job.root) × (job.root < 2 ^ 32)
+asked_root words job asks = let is = asked_range words job asks in (is.root, is.fits)

@@ -2,7 +2,7 @@
 use Rattle.std.proofs.Common.{◌≡◌, ℕ, List, [], ◌∷◌, ◌++◌, None, Some, refl, codes, replicate}
 use Rattle.hex.proofs.OnLiterals.{hex_on_literals}
 use Rattle.pop_stacks.specs.declared.stack_spec.StackSpec.TheVariants.{Given, Key}
-use Rattle.pop_words.specs.declared.command.Command.TheVariants.{Formula, Check}
+use Rattle.pop_words.specs.declared.command.Command.TheVariants.{Formula, Orient, Tree, Check}
 use Rattle.pop_words.specs.Values.{number_between, rows_in, key_in}
 use Rattle.pop_words.specs.CommandLines.{Asks, IsBadPlace}
 use Rattle.pop_words.proofs.ReadingLemmas.{reading_is}
@@ -40,6 +40,18 @@ a_digit_too_few : key_in (codes "00000000000000000000000000000000000000000000000
 unfolding hex_on_literals
 a_digit_too_few = refl
 
+least_root : number_between 1 4294967295 (codes "0000000001") ≡ Some 1
+least_root = refl
+
+greatest_root : number_between 1 4294967295 (codes "4294967295") ≡ Some 4294967295
+greatest_root = refl
+
+no_root : number_between 1 4294967295 (codes "00") ≡ None
+no_root = refl
+
+past_the_greatest_root : number_between 1 4294967295 (codes "4294967296") ≡ None
+past_the_greatest_root = refl
+
 -- ---- jobs
 
 abbrev zeros : List ℕ
@@ -50,6 +62,7 @@ formula_alone : Asks (codes "formula" ∷ []) (record {
   stacks =
       Key (replicate 32 0);
   height = 1048576;
+  root = 1;
 })
 formula_alone = reading_is (codes "formula" ∷ [])
 
@@ -58,15 +71,28 @@ check_alone : Asks (codes "check" ∷ []) (record {
   stacks =
       Key (replicate 32 0);
   height = 1048576;
+  root = 1;
 })
 check_alone = reading_is (codes "check" ∷ [])
 
+orient_alone : Asks (codes "orient" ∷ [])
+    (record { command = Orient; stacks = Key (replicate 32 0); height = 1048576; root = 1 })
+orient_alone = reading_is (codes "orient" ∷ [])
+
+tree_alone : Asks (codes "tree" ∷ [])
+    (record { command = Tree; stacks = Key (replicate 32 0); height = 1048576; root = 1 })
+tree_alone = reading_is (codes "tree" ∷ [])
+
+height_behind_root : Asks (codes "tree" ∷ codes "--root" ∷ codes "03" ∷ codes "--height" ∷ codes "9" ∷ [])
+    (record { command = Tree; stacks = Key (replicate 32 0); height = 9; root = 3 })
+height_behind_root = reading_is (codes "tree" ∷ codes "--root" ∷ codes "03" ∷ codes "--height" ∷ codes "9" ∷ [])
+
 rows_for_a_formula : Asks (codes "formula" ∷ codes "--stacks" ∷ codes "0,0,1" ∷ [])
-    (record { command = Formula; stacks = Given ((0 ∷ 0 ∷ 1 ∷ []) ∷ []); height = 1048576 })
+    (record { command = Formula; stacks = Given ((0 ∷ 0 ∷ 1 ∷ []) ∷ []); height = 1048576; root = 1 })
 rows_for_a_formula = reading_is (codes "formula" ∷ codes "--stacks" ∷ codes "0,0,1" ∷ [])
 
 key_behind_height : Asks (codes "formula" ∷ codes "--height" ∷ codes "9" ∷ codes "--key" ∷ zeros ∷ [])
-    (record { command = Formula; stacks = Key (replicate 32 0); height = 9 })
+    (record { command = Formula; stacks = Key (replicate 32 0); height = 9; root = 1 })
 unfolding hex_on_literals
 key_behind_height = reading_is (codes "formula" ∷ codes "--height" ∷ codes "9" ∷ codes "--key" ∷ zeros ∷ [])
 
@@ -103,3 +129,17 @@ stacks_behind_height : IsBadPlace (codes "formula" ∷ codes "--height" ∷ code
     codes "0" ∷ []) 4
 stacks_behind_height = reading_is (codes "formula" ∷ codes "--height" ∷ codes "5" ∷ codes "--stacks" ∷
     codes "0" ∷ [])
+
+root_zero : IsBadPlace (codes "tree" ∷ codes "--root" ∷ codes "0" ∷ []) 3
+root_zero = reading_is (codes "tree" ∷ codes "--root" ∷ codes "0" ∷ [])
+
+a_root_of_orient : IsBadPlace (codes "orient" ∷ codes "--root" ∷ codes "1" ∷ []) 2
+a_root_of_orient = reading_is (codes "orient" ∷ codes "--root" ∷ codes "1" ∷ [])
+
+root_twice : IsBadPlace (codes "tree" ∷ codes "--root" ∷ codes "1" ∷ codes "--root" ∷ codes "1" ∷ []) 4
+root_twice = reading_is (codes "tree" ∷ codes "--root" ∷ codes "1" ∷ codes "--root" ∷ codes "1" ∷ [])
+
+height_behind_the_stacks_of_a_tree : IsBadPlace (codes "tree" ∷ codes "--stacks" ∷ codes "0" ∷ codes "--height" ∷
+    codes "5" ∷ []) 4
+height_behind_the_stacks_of_a_tree = reading_is (codes "tree" ∷ codes "--stacks" ∷ codes "0" ∷ codes "--height" ∷
+    codes "5" ∷ [])

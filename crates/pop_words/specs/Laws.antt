@@ -19,3 +19,8 @@ JobOrBadPlace = (words : List (List ℕ)) → AreWords words ⊎ ((p : ℕ) × I
 abbrev pub HeightInRange : Type 0
 HeightInRange = (words : List (List ℕ)) (job : Job) → Asks words job
     → (0 < job.height) × (job.height < 2 ^ 31)
+
+-- a root that is asked for is from 1 on, and fits 32 bits
+abbrev pub RootInRange : Type 0
+RootInRange = (words : List (List ℕ)) (job : Job) → Asks words job
+    → (0 < job.root) × (job.root < 2 ^ 32)

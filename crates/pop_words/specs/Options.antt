@@ -2,19 +2,21 @@
 use Rattle.std.specs.Prelude.{ℕ, ◌-◌, ◌^◌, Bool, true, false, List, [], ◌∷◌, replicate, Option, option_map, codes}
 use Rattle.pop_stacks.specs.declared.stack_spec.StackSpec.TheVariants.{Key as KeyedStacks, Given as GivenStacks}
 use Rattle.pop_words.specs.declared.command.Command.{Command}
-use Rattle.pop_words.specs.declared.command.Command.TheVariants.{Formula, Check}
+use Rattle.pop_words.specs.declared.command.Command.TheVariants.{Formula, Orient, Tree, Check}
 use Rattle.pop_words.specs.declared.option.OptionName.{OptionName}
-use Rattle.pop_words.specs.declared.option.OptionName.TheVariants.{Stacks, Key, Height}
+use Rattle.pop_words.specs.declared.option.OptionName.TheVariants.{Stacks, Key, Height, Root}
 use Rattle.pop_words.specs.declared.job.Job.{Job}
 use Rattle.pop_words.specs.Values.{number_between, rows_in, key_in}
 
 -- every command
 abbrev pub commands : List Command
-commands = Formula ∷ Check ∷ []
+commands = Formula ∷ Orient ∷ Tree ∷ Check ∷ []
 
 -- the word of a command
 abbrev pub command_word : Command → List ℕ
 command_word Formula = codes "formula"
+command_word Orient = codes "orient"
+command_word Tree = codes "tree"
 command_word Check = codes "check"
 
 -- The job of a command with no option: the defaults. The key is 32 bytes of 0.
@@ -24,12 +26,22 @@ default_job command =
       command = command;
       stacks = KeyedStacks (replicate 32 0);
       height = 1048576;
+      root = 1;
     }
 
 -- the commands that sample
 abbrev pub samples : Command → Bool
 samples Formula = true
+samples Orient = true
+samples Tree = true
 samples Check = false
+
+-- the command whose samples have a root
+abbrev pub has_root : Command → Bool
+has_root Formula = false
+has_root Orient = false
+has_root Tree = true
+has_root Check = false
 
 -- an option that excludes none
 abbrev pub nothing : OptionName → Bool
@@ -40,6 +52,7 @@ abbrev pub key_or_height : OptionName → Bool
 key_or_height Stacks = false
 key_or_height Key = true
 key_or_height Height = true
+key_or_height Root = false
 
 -- the job with given rows
 abbrev pub set_rows : List (List ℕ) → Job → Job
@@ -52,6 +65,10 @@ set_key key job = record job { stacks = KeyedStacks key }
 -- the job with a height
 abbrev pub set_height : ℕ → Job → Job
 set_height height job = record job { height = height }
+
+-- the job with a root
+abbrev pub set_root : ℕ → Job → Job
+set_root root job = record job { root = root }
 
 -- what there is to say of an option
 pub record OptionRow : Type 0 where
@@ -92,7 +109,15 @@ row Height =
       excludes = nothing;
       needed = false;
     }
+row Root =
+    record {
+      name = codes "--root";
+      value = λ word. option_map set_root (number_between 1 (2 ^ 32 - 1) word);
+      allowed = has_root;
+      excludes = nothing;
+      needed = false;
+    }
 
 -- every option
 abbrev pub options : List OptionName
-options = Stacks ∷ Key ∷ Height ∷ []
+options = Stacks ∷ Key ∷ Height ∷ Root ∷ []

@@ -1,19 +1,28 @@
 // The commands.
 ghost use Rattle.std.specs.Prelude.{◌≡◌};
-ghost use Rattle.pop_words.specs.Options.{command_word, samples};
+ghost use Rattle.pop_words.specs.Options.{command_word, has_root, samples};
 ghost use Rattle.pop_words.specs.Reading.{command_named};
 
-/// What is to be done with the formula on the input.
+/// What is to be done with the formula or the graph on the input.
 #[derive(Clone, Copy, Debug, PartialEq, Eq)]
 pub enum Command {
-    /// `formula`: sample a valuation that satisfies it.
+    /// `formula`: sample a valuation that satisfies the formula.
     Formula,
-    /// `check`: say whether its clauses are extremal.
+    /// `orient`: sample an orientation of the graph that has no sink.
+    Orient,
+    /// `tree`: sample a spanning tree of the graph, with its arrows to a root.
+    Tree,
+    /// `check`: say whether the clauses of the formula are extremal.
     Check,
 }
 
 impl Command {
-    const ALL: [Command; 2] = [Command::Formula, Command::Check];
+    const ALL: [Command; 4] = [
+        Command::Formula,
+        Command::Orient,
+        Command::Tree,
+        Command::Check,
+    ];
 
     // The word that stands for the command.
     fn word(self) -> &'static str
@@ -21,6 +30,8 @@ impl Command {
     {
         match self {
             Command::Formula => "formula",
+            Command::Orient => "orient",
+            Command::Tree => "tree",
             Command::Check => "check",
         }
     }
@@ -30,8 +41,18 @@ impl Command {
         ensures { result ≡ samples self }
     {
         match self {
-            Command::Formula => true,
+            Command::Formula | Command::Orient | Command::Tree => true,
             Command::Check => false,
+        }
+    }
+
+    // Whether its samples have a root.
+    pub(crate) fn has_root(self) -> bool
+        ensures { result ≡ has_root self }
+    {
+        match self {
+            Command::Tree => true,
+            Command::Formula | Command::Orient | Command::Check => false,
         }
     }
 

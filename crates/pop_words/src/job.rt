@@ -14,6 +14,9 @@ pub struct Job {
     /// The number of entries of each keyed stack, from 1 to 2^31 - 1: that of `--height`, which is
     /// 2^20 by default.
     pub height: u32,
+    /// The vertex to which the arrows of a tree lead, from 1 to 2^32 - 1: that of `--root`, which
+    /// is 1 by default.
+    pub root: u32,
 }
 
 impl Job {
@@ -27,6 +30,7 @@ impl Job {
             command,
             stacks: StackSpec::Key([0; 32]),
             height: 1 << 20,
+            root: 1,
         }
     }
 }

@@ -1,6 +1,6 @@
 //! The laws of the grammar: it leaves the reading of words no choice. Each function's contract is
 //! the law.
-ghost use Rattle.pop_words.specs.Laws.{OneJob, OneBadPlace, JobOrBadPlace, HeightInRange};
+ghost use Rattle.pop_words.specs.Laws.{OneJob, OneBadPlace, JobOrBadPlace, HeightInRange, RootInRange};
 
 /// A list of words asks for at most one job.
 pub fn one_job()
@@ -20,4 +20,9 @@ pub fn job_or_bad_place()
 /// A height that is asked for is from 1 to 2^31 - 1.
 pub fn height_in_range()
     ensures { HeightInRange }
+{}
+
+/// A root that is asked for is from 1 to 2^32 - 1.
+pub fn root_in_range()
+    ensures { RootInRange }
 {}

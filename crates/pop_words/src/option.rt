@@ -18,10 +18,16 @@ pub enum OptionName {
     Stacks,
     Key,
     Height,
+    Root,
 }
 
 impl OptionName {
-    const ALL: [OptionName; 3] = [OptionName::Stacks, OptionName::Key, OptionName::Height];
+    const ALL: [OptionName; 4] = [
+        OptionName::Stacks,
+        OptionName::Key,
+        OptionName::Height,
+        OptionName::Root,
+    ];
 
     // As it is written.
     fn word(self) -> &'static str
@@ -31,6 +37,7 @@ impl OptionName {
             OptionName::Stacks => "--stacks",
             OptionName::Key => "--key",
             OptionName::Height => "--height",
+            OptionName::Root => "--root",
         }
     }
 
@@ -57,6 +64,10 @@ impl OptionName {
                 Some(height) => Ok(Some(Job { height, ..job })),
                 None => Ok(None),
             },
+            OptionName::Root => match number_between(1, u32::MAX, word) {
+                Some(root) => Ok(Some(Job { root, ..job })),
+                None => Ok(None),
+            },
         }
     }
 
@@ -66,6 +77,7 @@ impl OptionName {
     {
         match self {
             OptionName::Stacks | OptionName::Key | OptionName::Height => command.samples(),
+            OptionName::Root => command.has_root(),
         }
     }
 
@@ -75,7 +87,7 @@ impl OptionName {
     {
         match self {
             OptionName::Stacks => matches!(other, OptionName::Key | OptionName::Height),
-            OptionName::Key | OptionName::Height => false,
+            OptionName::Key | OptionName::Height | OptionName::Root => false,
         }
     }
 
@@ -84,7 +96,7 @@ impl OptionName {
         ensures { result ≡ (row self).needed }
     {
         match self {
-            OptionName::Stacks | OptionName::Key | OptionName::Height => false,
+            OptionName::Stacks | OptionName::Key | OptionName::Height | OptionName::Root => false,
         }
     }
 

@@ -17,6 +17,8 @@ fn shown(alloc: Global, read: Result<Job, WordFault>) -> Result<String, AllocErr
         alloc,
         match job.command {
             Command::Formula => "formula",
+            Command::Orient => "orient",
+            Command::Tree => "tree",
             Command::Check => "check",
         },
     )?;
@@ -35,7 +37,7 @@ fn shown(alloc: Global, read: Result<Job, WordFault>) -> Result<String, AllocErr
             }
         }
     }
-    write!(text, " height {}", job.height)?;
+    write!(text, " height {} root {}", job.height, job.root)?;
     Ok(text)
 }
 
@@ -63,50 +65,91 @@ fn repeated(alloc: Global, text: &str, count: u32, last: &str) -> Result<String,
 fn words_in_the_grammar_give_their_job(rt: HostRuntime) -> Result<(), Fail> {
     // Worked by hand.
     let lines = [
-        ("formula", "formula key Z height 1048576"),
-        ("check", "check key Z height 1048576"),
+        ("formula", "formula key Z height 1048576 root 1"),
+        ("check", "check key Z height 1048576 root 1"),
         (
             "formula --stacks 0,0,1",
-            "formula rows [0, 0, 1] height 1048576",
+            "formula rows [0, 0, 1] height 1048576 root 1",
         ),
-        ("formula --stacks ", "formula rows height 1048576"),
-        ("formula --stacks 0;", "formula rows [0] [] height 1048576"),
-        ("formula --stacks ;", "formula rows [] [] height 1048576"),
+        ("formula --stacks ", "formula rows height 1048576 root 1"),
+        (
+            "formula --stacks 0;",
+            "formula rows [0] [] height 1048576 root 1",
+        ),
+        (
+            "formula --stacks ;",
+            "formula rows [] [] height 1048576 root 1",
+        ),
         (
             "formula --stacks ;;7",
-            "formula rows [] [] [7] height 1048576",
+            "formula rows [] [] [7] height 1048576 root 1",
         ),
         (
             "formula --stacks 0,1;2",
-            "formula rows [0, 1] [2] height 1048576",
+            "formula rows [0, 1] [2] height 1048576 root 1",
         ),
         (
             "formula --stacks 007,4294967295",
-            "formula rows [7, 4294967295] height 1048576",
+            "formula rows [7, 4294967295] height 1048576 root 1",
         ),
         (
             "formula --stacks 0000000001",
-            "formula rows [1] height 1048576",
+            "formula rows [1] height 1048576 root 1",
         ),
-        ("formula --key Z", "formula key Z height 1048576"),
+        ("formula --key Z", "formula key Z height 1048576 root 1"),
         (
             "formula --key 010000000000000000000000000000000000000000000000000000000000Ff20",
             "formula key 010000000000000000000000000000000000000000000000000000000000ff20 \
-             height 1048576",
+             height 1048576 root 1",
         ),
         (
             "formula --key A0B1C2D3E4F5061728394A5B6C7D8E9F00112233445566778899aAbBcCdDeEfF",
             "formula key a0b1c2d3e4f5061728394a5b6c7d8e9f00112233445566778899aabbccddeeff \
-             height 1048576",
+             height 1048576 root 1",
         ),
-        ("formula --height 1", "formula key Z height 1"),
+        ("formula --height 1", "formula key Z height 1 root 1"),
         (
             "formula --height 2147483647",
-            "formula key Z height 2147483647",
+            "formula key Z height 2147483647 root 1",
         ),
-        ("formula --height 0000000005", "formula key Z height 5"),
-        ("formula --key Z --height 9", "formula key Z height 9"),
-        ("formula --height 9 --key Z", "formula key Z height 9"),
+        (
+            "formula --height 0000000005",
+            "formula key Z height 5 root 1",
+        ),
+        (
+            "formula --key Z --height 9",
+            "formula key Z height 9 root 1",
+        ),
+        (
+            "formula --height 9 --key Z",
+            "formula key Z height 9 root 1",
+        ),
+        ("orient", "orient key Z height 1048576 root 1"),
+        (
+            "orient --stacks 0,0;1,0;0",
+            "orient rows [0, 0] [1, 0] [0] height 1048576 root 1",
+        ),
+        ("orient --key Z --height 2", "orient key Z height 2 root 1"),
+        ("tree", "tree key Z height 1048576 root 1"),
+        (
+            "tree --stacks 1,0;0,0",
+            "tree rows [1, 0] [0, 0] height 1048576 root 1",
+        ),
+        ("tree --root 4", "tree key Z height 1048576 root 4"),
+        ("tree --root 007", "tree key Z height 1048576 root 7"),
+        ("tree --root 0000000001", "tree key Z height 1048576 root 1"),
+        (
+            "tree --root 4294967295",
+            "tree key Z height 1048576 root 4294967295",
+        ),
+        (
+            "tree --root 2 --stacks 0;0",
+            "tree rows [0] [0] height 1048576 root 2",
+        ),
+        (
+            "tree --height 9 --root 2 --key Z",
+            "tree key Z height 9 root 2",
+        ),
     ];
     for (line, job) in lines {
         assert_eq!(rt; answer(rt.alloc(), line)?.as_str(), job, "{line}");
@@ -121,7 +164,8 @@ fn words_outside_the_grammar_give_their_first_bad_place(rt: HostRuntime) -> Resu
         ("", "usage 1"),
         ("Formula", "usage 1"),
         ("formulas", "usage 1"),
-        ("orient", "usage 1"),
+        ("Tree", "usage 1"),
+        ("orients", "usage 1"),
         ("--key Z", "usage 1"),
         ("check --key Z", "usage 2"),
         ("check --height", "usage 2"),
@@ -132,7 +176,20 @@ fn words_outside_the_grammar_give_their_first_bad_place(rt: HostRuntime) -> Resu
         ("formula --workers 65", "usage 2"),
         ("formula --height=5", "usage 2"),
         ("formula --Key Z", "usage 2"),
+        ("formula --root 1", "usage 2"),
+        ("check --root 1", "usage 2"),
+        ("orient --root 1", "usage 2"),
+        ("tree --roots 1", "usage 2"),
         ("formula --stacks", "usage 3"),
+        ("tree --root", "usage 3"),
+        ("tree --root ", "usage 3"),
+        ("tree --root 0", "usage 3"),
+        ("tree --root 0000000000", "usage 3"),
+        ("tree --root 4294967296", "usage 3"),
+        ("tree --root 9999999999", "usage 3"),
+        ("tree --root 00000000001", "usage 3"),
+        ("tree --root 1,2", "usage 3"),
+        ("orient --height 0", "usage 3"),
         ("formula --key", "usage 3"),
         ("formula --height", "usage 3"),
         ("formula --height ", "usage 3"),
@@ -169,6 +226,13 @@ fn words_outside_the_grammar_give_their_first_bad_place(rt: HostRuntime) -> Resu
         ("formula --stacks 0 --key Z", "usage 4"),
         ("formula --height 5 --stacks 0", "usage 4"),
         ("formula --key Z --stacks 0", "usage 4"),
+        ("orient --stacks 0 --key Z", "usage 4"),
+        ("orient --height 5 --root 1", "usage 4"),
+        ("tree --stacks 0 --height 5", "usage 4"),
+        ("tree --root 1 --root 1", "usage 4"),
+        ("tree --root 1 --root", "usage 4"),
+        ("tree --root 1 --stacks 0 --key Z", "usage 6"),
+        ("tree --stacks 0 --root 0", "usage 5"),
         ("formula --key Z 7", "usage 4"),
         ("formula --key Z --height", "usage 5"),
         ("formula --key Z --height 0", "usage 5"),

@@ -1,7 +1,7 @@
 -- An answer to a part of the question is the answer to the whole.
-use Rattle.std.proofs.Common.{◌≡◌, ℕ, List, Result, Ok, Err, IfOk}
+use Rattle.std.proofs.Common.{Result, Ok, Err, IfOk}
 use Rattle.popsample.specs.declared.answer.Answer.{Answer}
-use Rattle.popsample.specs.Answers.{Outcome, Tells, AnswersBy}
+use Rattle.popsample.specs.Outcomes.{Outcome, Tells, AnswersBy}
 
 -- an answer that tells an outcome which comes so
 pub told : {E : Type 0} (Comes : Outcome → Type 0) (o : Outcome) (r : Result Answer E) → Comes o

@@ -1,7 +1,7 @@
 -- The least number of which something holds is one number, and the least pair is one pair.
-use Rattle.std.proofs.Common.{inl, inr, ◌≡◌, ◌⊎◌, ℕ, ◌<◌, refl, sym, arith}
+use Rattle.std.proofs.Common.{inl, inr, ◌≡◌, ℕ, ◌<◌, sym, arith}
 use Rattle.std.proofs.lemmas.Bool.{cases_eq, cases_lt}
-use Rattle.pop_model.specs.Places.{IsLeast, IsLeastPair, StandsBefore}
+use Rattle.pop_model.specs.Places.{IsLeast, IsLeastPair}
 
 -- the least number is one
 pub one_least : (P : ℕ → Type 0) (m n : ℕ) → IsLeast P m → IsLeast P n → m ≡ n

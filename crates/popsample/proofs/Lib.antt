@@ -1,8 +1,15 @@
 mod Carrying
+mod GoodForms
 mod Leasts
 mod Lifting
+mod MadeInstances
 mod OneClash
 mod OneFault
+mod OneFormula
+mod OneOrientation
 mod OneOutcome
-mod Starting
+mod OneReading
+mod OneSampling
+mod OneTree
 mod Statuses
+mod Telling

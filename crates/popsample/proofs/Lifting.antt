@@ -1,55 +1,128 @@
--- From what comes of a formula to what comes of its text, and from there to what comes of the words.
-use Rattle.std.proofs.Common.{ℕ, List, Ok, Err}
+-- From what comes of a formula or a graph to what comes of its text, and from there to what comes of the words.
+use Rattle.std.proofs.Common.{◌≡◌, ℕ, List, Ok, Err, sym, subst}
 use Rattle.pop_model.specs.Stacks.{Origin}
 use Rattle.pop_edge.specs.declared.refusal.ReadRefusal.{ReadRefusal}
-use Rattle.pop_edge.specs.declared.refusal.ReadRefusal.TheVariants.{Malformed, Count, EmptyClause, Limit, ReadFault, OutOfMemory}
 use Rattle.pop_stacks.specs.Tables.{origin_of}
 use Rattle.dimacs_read.specs.Cnf.{Cnf}
 use Rattle.dimacs_read.specs.CnfText.{AnswersCnf}
+use Rattle.graph_read.specs.Graphs.{GraphOf}
+use Rattle.graph_read.specs.GraphText.{AnswersGraph}
 use Rattle.pop_words.specs.declared.command.Command.{Command}
-use Rattle.pop_words.specs.declared.command.Command.TheVariants.{Formula, Check}
+use Rattle.pop_words.specs.declared.command.Command.TheVariants.{Formula, Orient, Tree, Check}
 use Rattle.pop_words.specs.declared.job.Job.{Job}
 use Rattle.pop_words.specs.CommandLines.{Asks}
-use Rattle.popsample.specs.Answers.{Outcome, ComesOfCommand, ComesOf, IsOutcome, IsOfText}
-use Rattle.popsample.specs.Answers.Outcome.{Usage, Unread, Unsound, Clashes, Extremal, Ended}
+use Rattle.popsample.specs.Outcomes.{Outcome, AnswersBy}
+use Rattle.popsample.specs.Outcomes.Outcome.{Usage, Unread, Isolated, NoRoot, CutOff, Unsound, Clashes, Extremal, Ended}
+use Rattle.popsample.specs.Formulas.{ComesOfFormula, ComesOfChecking}
+use Rattle.popsample.specs.Orientations.{ComesOfOrienting}
+use Rattle.popsample.specs.Trees.{ComesOfTree}
+use Rattle.popsample.specs.Answers.{ComesOfCnf, ComesOfGraph, ComesOfCommand, Refuses, ComesOf, IsOutcome, ReadsCnf, ReadsGraph}
 
--- neither command finds fault with the words or the text
-only_cnf : (command : Command) (origin : Origin) (f : Cnf) (p : ℕ) → ComesOfCommand command origin f (Usage p) → ⊥
-only_cnf Formula origin f p comes = comes.1
-only_cnf Check origin f p comes = comes
+-- no command finds fault with the words
+no_usage : (command : Command) (origin : Origin) (root : ℕ) (text : List ℕ) (place : ℕ)
+    → ComesOfCommand command origin root text (Usage place) → ⊥
+no_usage Formula origin root text place h = h.comes.1.end
+no_usage Orient origin root text place h = h.comes.1.1.end
+no_usage Tree origin root text place h = h.comes.2.1
+no_usage Check origin root text place h = h.comes
 
-no_refusal : (command : Command) (origin : Origin) (f : Cnf) (refusal : ReadRefusal)
-    → ComesOfCommand command origin f (Unread refusal) → ⊥
-no_refusal Formula origin f refusal comes = comes.1
-no_refusal Check origin f refusal comes = comes
+-- nor, once the text is read, with the text
+no_refusal : (command : Command) (origin : Origin) (root : ℕ) (text : List ℕ) (refusal : ReadRefusal)
+    → ComesOfCommand command origin root text (Unread refusal) → ⊥
+no_refusal Formula origin root text refusal h = h.comes.1.end
+no_refusal Orient origin root text refusal h = h.comes.1.1.end
+no_refusal Tree origin root text refusal h = h.comes.2.1
+no_refusal Check origin root text refusal h = h.comes
 
--- what comes of the formula that a text spells comes of the text
-pub of_text : (job : Job) (text : List ℕ) (f : Cnf) → AnswersCnf text (Ok f) → (o : Outcome)
-    → ComesOfCommand job.command (origin_of job.stacks job.height) f o → ComesOf job text o
-of_text job text f spelled (Usage p) comes = only_cnf job.command (origin_of job.stacks job.height) f p comes
-of_text job text f spelled (Unread refusal) comes =
-    absurd (no_refusal job.command (origin_of job.stacks job.height) f refusal comes)
-of_text job text f spelled (Unsound fault) comes = record { formula = f; spelled = spelled; comes = comes }
-of_text job text f spelled (Clashes i j) comes = record { formula = f; spelled = spelled; comes = comes }
-of_text job text f spelled (Extremal n) comes = record { formula = f; spelled = spelled; comes = comes }
-of_text job text f spelled (Ended i c n s) comes = record { formula = f; spelled = spelled; comes = comes }
+-- what a job's command makes of a text comes of the job and the text
+pub of_command : (job : Job) (text : List ℕ) (o : Outcome)
+    → ComesOfCommand job.command (origin_of job.stacks job.height) job.root text o → ComesOf job text o
+of_command job text (Usage p) h =
+    absurd (no_usage job.command (origin_of job.stacks job.height) job.root text p h)
+of_command job text (Unread r) h =
+    absurd (no_refusal job.command (origin_of job.stacks job.height) job.root text r h)
+of_command job text (Isolated w) h = h
+of_command job text (NoRoot r) h = h
+of_command job text (CutOff w) h = h
+of_command job text (Unsound t f) h = h
+of_command job text (Clashes i j) h = h
+of_command job text (Extremal n) h = h
+of_command job text (Ended t i c n s) h = h
 
 -- what comes of a job comes of the words that ask for it
 pub of_words : (words : List (List ℕ)) (job : Job) (text : List ℕ) → Asks words job → (o : Outcome)
     → ComesOf job text o → IsOutcome words text o
 of_words words job text asks (Usage p) comes = absurd comes
 of_words words job text asks (Unread refusal) comes = record { job = job; asks = asks; comes = comes }
-of_words words job text asks (Unsound fault) comes = record { job = job; asks = asks; comes = comes }
+of_words words job text asks (Isolated w) comes = record { job = job; asks = asks; comes = comes }
+of_words words job text asks (NoRoot r) comes = record { job = job; asks = asks; comes = comes }
+of_words words job text asks (CutOff w) comes = record { job = job; asks = asks; comes = comes }
+of_words words job text asks (Unsound t f) comes = record { job = job; asks = asks; comes = comes }
 of_words words job text asks (Clashes i j) comes = record { job = job; asks = asks; comes = comes }
 of_words words job text asks (Extremal n) comes = record { job = job; asks = asks; comes = comes }
-of_words words job text asks (Ended i c n s) comes = record { job = job; asks = asks; comes = comes }
+of_words words job text asks (Ended t i c n s) comes = record { job = job; asks = asks; comes = comes }
 
--- what a text that is refused comes to
-pub of_refusal : (job : Job) (text : List ℕ) (refusal : ReadRefusal) → IsOfText refusal → AnswersCnf text (Err refusal)
-    → ComesOf job text (Unread refusal)
-of_refusal job text (Malformed l c) of_text refused = refused
-of_refusal job text (Count d f) of_text refused = refused
-of_refusal job text (EmptyClause n) of_text refused = refused
-of_refusal job text (Limit k l) of_text refused = refused
-of_refusal job text ReadFault of_text refused = of_text
-of_refusal job text OutOfMemory of_text refused = of_text
+-- a refusal of a formula text is one of the command that reads it
+pub refused_cnf : (command : Command) (text : List ℕ) (r : ReadRefusal) → ReadsCnf command → AnswersCnf text (Err r)
+    → Refuses command text r
+refused_cnf Formula text r reads h = h
+refused_cnf Orient text r reads h = absurd reads
+refused_cnf Tree text r reads h = absurd reads
+refused_cnf Check text r reads h = h
+
+-- a refusal of a graph text is one of the command that reads it
+pub refused_graph : (command : Command) (text : List ℕ) (r : ReadRefusal) → ReadsGraph command
+    → AnswersGraph text (Err r) → Refuses command text r
+refused_graph Formula text r reads h = absurd reads
+refused_graph Orient text r reads h = h
+refused_graph Tree text r reads h = h
+refused_graph Check text r reads h = absurd reads
+
+-- the answer to the formula that a text spells answers the text
+formula_answer : (job : Job) (text : List ℕ) (f : Cnf) (Comes : Cnf → Outcome → Type 0) (status : ℕ) (out : List ℕ)
+    → ((o : Outcome) → ComesOfCnf Comes text o
+    → ComesOfCommand job.command (origin_of job.stacks job.height) job.root text o)
+    → AnswersCnf text (Ok f) → AnswersBy (Comes f) status out → AnswersBy (ComesOf job text) status out
+formula_answer job text f Comes status out lifts spelled (o, comes, tells) =
+    (o, of_command job text o (lifts o (record { formula = f; spelled = spelled; comes = comes })), tells)
+
+-- the answer to the graph that a text spells answers the text
+graph_answer : (job : Job) (text : List ℕ) (g : GraphOf) (Comes : GraphOf → Outcome → Type 0) (status : ℕ) (out : List ℕ)
+    → ((o : Outcome) → ComesOfGraph Comes text o
+    → ComesOfCommand job.command (origin_of job.stacks job.height) job.root text o)
+    → AnswersGraph text (Ok g) → AnswersBy (Comes g) status out → AnswersBy (ComesOf job text) status out
+graph_answer job text g Comes status out lifts spelled (o, comes, tells) =
+    (o, of_command job text o (lifts o (record { graph = g; spelled = spelled; comes = comes })), tells)
+
+-- what a command makes of a text is what the job's command makes
+by_command : (job : Job) (text : List ℕ) (command : Command) (o : Outcome) → job.command ≡ command
+    → ComesOfCommand command (origin_of job.stacks job.height) job.root text o
+    → ComesOfCommand job.command (origin_of job.stacks job.height) job.root text o
+by_command job text command o is h =
+    subst (λ k. ComesOfCommand k (origin_of job.stacks job.height) job.root text o) (sym is) h
+
+pub lifted_formula : (job : Job) (text : List ℕ) (f : Cnf) (status : ℕ) (out : List ℕ) → job.command ≡ Formula
+    → AnswersCnf text (Ok f) → AnswersBy (ComesOfFormula (origin_of job.stacks job.height) f) status out
+    → AnswersBy (ComesOf job text) status out
+lifted_formula job text f status out is spelled answers =
+    formula_answer job text f (ComesOfFormula (origin_of job.stacks job.height)) status out
+    (λ o h. by_command job text Formula o is h) spelled answers
+
+pub lifted_check : (job : Job) (text : List ℕ) (f : Cnf) (status : ℕ) (out : List ℕ) → job.command ≡ Check
+    → AnswersCnf text (Ok f) → AnswersBy (ComesOfChecking f) status out → AnswersBy (ComesOf job text) status out
+lifted_check job text f status out is spelled answers =
+    formula_answer job text f ComesOfChecking status out (λ o h. by_command job text Check o is h) spelled answers
+
+pub lifted_orient : (job : Job) (text : List ℕ) (g : GraphOf) (status : ℕ) (out : List ℕ) → job.command ≡ Orient
+    → AnswersGraph text (Ok g) → AnswersBy (ComesOfOrienting (origin_of job.stacks job.height) g) status out
+    → AnswersBy (ComesOf job text) status out
+lifted_orient job text g status out is spelled answers =
+    graph_answer job text g (ComesOfOrienting (origin_of job.stacks job.height)) status out
+    (λ o h. by_command job text Orient o is h) spelled answers
+
+pub lifted_tree : (job : Job) (text : List ℕ) (g : GraphOf) (status : ℕ) (out : List ℕ) → job.command ≡ Tree
+    → AnswersGraph text (Ok g) → AnswersBy (ComesOfTree (origin_of job.stacks job.height) job.root g) status out
+    → AnswersBy (ComesOf job text) status out
+lifted_tree job text g status out is spelled answers =
+    graph_answer job text g (ComesOfTree (origin_of job.stacks job.height) job.root) status out
+    (λ o h. by_command job text Tree o is h) spelled answers

@@ -1,11 +1,10 @@
 -- Extremal events don't clash.
-use Rattle.std.proofs.Common.{◌≡◌, ◌≢◌, ℕ, ◌<◌, List, Option, Some, slice_get, ap, sym, ◌∙◌, subst, arith, Contains}
+use Rattle.std.proofs.Common.{◌≡◌, ◌≢◌, ℕ, List, Option, Some, slice_get, ap, sym, ◌∙◌, arith, Contains}
 use Rattle.std.proofs.lemmas.Option.{slice_get-get_or}
 use Rattle.pop_model.specs.Popping.{Cube}
-use Rattle.pop_model.specs.Families.{Event, IsEvent}
+use Rattle.pop_model.specs.Families.{Event}
 use Rattle.pop_model.specs.Families.Family.{Listed}
 use Rattle.pop_model.specs.Extremal.{IsExtremal}
-use Rattle.pop_model.specs.Places.{IsLeastPair}
 use Rattle.extremal_check.specs.Clashes.{AreClashing}
 
 event_at : ℕ → Cube → Event

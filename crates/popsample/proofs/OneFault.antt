@@ -1,12 +1,12 @@
 -- Stacks have one first fault or are sound: the causes contradict one another in the order in which they are judged,
 -- and each stands at its least place.
-use Rattle.std.proofs.Common.{◌≡◌, ◌≢◌, ℕ, ◌<◌, ◌≤◌, List, length, slice_index, sym, ap, ap₂, ◌∙◌, arith}
-use Rattle.pop_model.specs.Stacks.{Origin, row_of}
+use Rattle.std.proofs.Common.{◌≡◌, ◌≢◌, ℕ, List, length, sym, ap, ap₂, ◌∙◌, arith}
+use Rattle.pop_model.specs.Stacks.{Origin}
 use Rattle.pop_model.specs.Stacks.Origin.{Given, Keyed}
 use Rattle.pop_model.specs.Places.{IsLeast, IsLeastPair}
 use Rattle.pop_stacks.specs.declared.stack_fault.StackFault.{StackFault}
 use Rattle.pop_stacks.specs.declared.stack_fault.StackFault.TheVariants.{RowCount, EmptyRow, ValueTooLarge, WeightSum, OutOfMemory}
-use Rattle.pop_stacks.specs.Faults.{IsCause, IsSound, IsEmptyRow, IsTooLarge, IsTooHeavy, HaveEntries, HaveValues, AreLight, AreSoundRows}
+use Rattle.pop_stacks.specs.Faults.{IsCause, IsSound, IsEmptyRow, IsTooLarge, IsTooHeavy, HaveEntries, HaveValues, AreLight}
 use Rattle.popsample.proofs.Leasts.{one_least, one_least_pair}
 
 -- no row is empty where each has an entry

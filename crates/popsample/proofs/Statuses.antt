@@ -1,5 +1,5 @@
--- Which statuses a text is answered by.
-use Rattle.std.proofs.Common.{◌≡◌, ◌≢◌, ◌≤◌, ℕ, List, [], ◌∷◌, Result, Ok, Err, IfOk, sym, subst, arith}
+-- Which statuses a text is answered by: each up to 6 but that of bad words.
+use Rattle.std.proofs.Common.{◌≤◌, ◌<◌, ℕ, List, [], ◌∷◌, length, sym, subst, arith}
 use Rattle.pop_model.specs.Stacks.{Origin}
 use Rattle.pop_model.specs.Stacks.Origin.{Given, Keyed}
 use Rattle.pop_model.specs.Families.{Event}
@@ -8,17 +8,18 @@ use Rattle.pop_edge.specs.declared.refusal.ReadRefusal.TheVariants.{Malformed, C
 use Rattle.pop_stacks.specs.declared.stack_fault.StackFault.{StackFault}
 use Rattle.pop_stacks.specs.declared.stack_fault.StackFault.TheVariants.{RowCount, EmptyRow, ValueTooLarge, WeightSum, OutOfMemory as NoMemory}
 use Rattle.pop_stacks.specs.Faults.{IsCause}
+use Rattle.pop_print.specs.declared.facts.Facts.{Facts}
 use Rattle.dimacs_read.specs.Cnf.{Cnf}
-use Rattle.pop_words.specs.declared.command.Command.{Command}
-use Rattle.pop_words.specs.declared.command.Command.TheVariants.{Formula, Check}
-use Rattle.popsample.specs.declared.answer.Answer.{Answer}
+use Rattle.graph_read.specs.Graphs.{GraphOf}
+use Rattle.cycle_popping.specs.Trees.{weights_of_tree}
 use Rattle.popsample.specs.Refusals.{reading_status, stacks_status}
-use Rattle.popsample.specs.Answers.{Outcome, ComesOfCommand, IsOfText, IsTextStatus, status_of, end_status, Tells, AnswersBy}
-use Rattle.popsample.specs.Answers.Outcome.{Usage, Unread, Unsound, Clashes, Extremal, Ended}
-
--- each status but 2 up to 6
-text_status : (n : ℕ) → n ≤ 6 → (n ≡ 2 → ⊥) → IsTextStatus n
-text_status n low other = record { low = low; no_usage = other }
+use Rattle.popsample.specs.Outcomes.{Outcome, IsTextStatus, status_of, end_status, AnswersBy}
+use Rattle.popsample.specs.Outcomes.Outcome.{Usage, Unread, Isolated, NoRoot, CutOff, Unsound, Clashes, Extremal, Ended}
+use Rattle.popsample.specs.Sampling.{pair_weights}
+use Rattle.popsample.specs.Formulas.{ComesOfFormula, ComesOfChecking}
+use Rattle.popsample.specs.Orientations.{ComesOfOrienting}
+use Rattle.popsample.specs.Trees.{ComesOfTree}
+use Rattle.popsample.specs.Answers.{IsOfText}
 
 end_status_is : (stuck : List Event) → IsTextStatus (end_status stuck)
 end_status_is [] = record { low = omega arith; no_usage = λ h. absurd (omega arith) }
@@ -43,32 +44,74 @@ fault_status origin weights (WeightSum v) h = record { low = omega arith; no_usa
 fault_status (Given rows) weights NoMemory h = absurd h
 fault_status (Keyed key height) weights NoMemory h = absurd h
 
-sampling_status : (origin : Origin) (f : Cnf) (o : Outcome) → ComesOfCommand Formula origin f o
-    → IsTextStatus (status_of o)
-sampling_status origin f (Usage p) h = absurd h.1
-sampling_status origin f (Unread refusal) h = absurd h.1
-sampling_status origin f (Unsound fault) h = fault_status origin _ fault h
-sampling_status origin f (Clashes i j) h = record { low = omega arith; no_usage = λ h'. absurd (omega arith) }
-sampling_status origin f (Extremal n) h = absurd h.1
-sampling_status origin f (Ended i c n stuck) h = end_status_is stuck
+-- a status above 2
+known_status : (n : ℕ) → 2 < n → n ≤ 6 → IsTextStatus n
+known_status n high low = record { low = low; no_usage = λ h. absurd (omega arith) }
 
-checking_status : (origin : Origin) (f : Cnf) (o : Outcome) → ComesOfCommand Check origin f o
-    → IsTextStatus (status_of o)
-checking_status origin f (Usage p) h = absurd h
-checking_status origin f (Unread refusal) h = absurd h
-checking_status origin f (Unsound fault) h = absurd h
-checking_status origin f (Clashes i j) h = record { low = omega arith; no_usage = λ h'. absurd (omega arith) }
-checking_status origin f (Extremal n) h = record { low = omega arith; no_usage = λ h'. absurd (omega arith) }
-checking_status origin f (Ended i c n stuck) h = absurd h
+-- what comes so says nothing of words or the text, and its fault of stacks is one
+record AreTold (Comes : Outcome → Type 0) : Type 0 where
+  no_usage : (place : ℕ) → Comes (Usage place) → ⊥
+  no_refusal : (refusal : ReadRefusal) → Comes (Unread refusal) → ⊥
+  fault : (facts : Facts) (fault : StackFault) → Comes (Unsound facts fault) → IsTextStatus (stacks_status fault)
 
--- the status of what comes of a formula
-cnf_status : (command : Command) (origin : Origin) (f : Cnf) (o : Outcome) → ComesOfCommand command origin f o
-    → IsTextStatus (status_of o)
-cnf_status Formula origin f o h = sampling_status origin f o h
-cnf_status Check origin f o h = checking_status origin f o h
+-- the status of what comes so
+told_status : (Comes : Outcome → Type 0) → AreTold Comes → (o : Outcome) → Comes o → IsTextStatus (status_of o)
+told_status Comes told (Usage p) h = absurd (told.no_usage p h)
+told_status Comes told (Unread r) h = absurd (told.no_refusal r h)
+told_status Comes told (Isolated w) h = known_status 6 (omega arith) (omega arith)
+told_status Comes told (NoRoot r) h = known_status 6 (omega arith) (omega arith)
+told_status Comes told (CutOff w) h = known_status 6 (omega arith) (omega arith)
+told_status Comes told (Unsound t f) h = told.fault t f h
+told_status Comes told (Clashes i j) h = known_status 5 (omega arith) (omega arith)
+told_status Comes told (Extremal n) h = record { low = omega arith; no_usage = λ h'. absurd (omega arith) }
+told_status Comes told (Ended t i c n s) h = end_status_is s
 
--- the status of an answer to a formula
-pub answer_status : (command : Command) (origin : Origin) (f : Cnf) (status : ℕ) (out : List ℕ)
-    → AnswersBy (ComesOfCommand command origin f) status out → IsTextStatus status
-answer_status command origin f status out (o, comes, tells) =
-    subst IsTextStatus (sym tells.status_is) (cnf_status command origin f o comes)
+-- the status of an answer that tells what comes so
+answer_status : (Comes : Outcome → Type 0) → AreTold Comes → (status : ℕ) (out : List ℕ) → AnswersBy Comes status out
+    → IsTextStatus status
+answer_status Comes told status out (o, comes, tells) =
+    subst IsTextStatus (sym tells.status_is) (told_status Comes told o comes)
+
+-- the status of an answer to a formula that is sampled
+pub formula_status : (origin : Origin) (f : Cnf) (status : ℕ) (out : List ℕ)
+    → AnswersBy (ComesOfFormula origin f) status out → IsTextStatus status
+formula_status origin f status out answers =
+    answer_status (ComesOfFormula origin f)
+    (record {
+      no_usage = λ place h. h.1.end;
+      no_refusal = λ refusal h. h.1.end;
+      fault = λ facts fault h. fault_status origin (pair_weights f.variables) fault h.1;
+    })
+    status out answers
+
+-- the status of an answer to a formula that is checked
+pub checking_status : (f : Cnf) (status : ℕ) (out : List ℕ) → AnswersBy (ComesOfChecking f) status out
+    → IsTextStatus status
+checking_status f status out answers =
+    answer_status (ComesOfChecking f)
+    (record { no_usage = λ place h. h; no_refusal = λ refusal h. h; fault = λ facts fault h. absurd h })
+    status out answers
+
+-- the status of an answer to a graph that is oriented
+pub orienting_status : (origin : Origin) (g : GraphOf) (status : ℕ) (out : List ℕ)
+    → AnswersBy (ComesOfOrienting origin g) status out → IsTextStatus status
+orienting_status origin g status out answers =
+    answer_status (ComesOfOrienting origin g)
+    (record {
+      no_usage = λ place h. h.1.1.end;
+      no_refusal = λ refusal h. h.1.1.end;
+      fault = λ facts fault h. fault_status origin (pair_weights (length g.edges)) fault h.1.1;
+    })
+    status out answers
+
+-- the status of an answer to a graph of which a tree is asked
+pub tree_status : (origin : Origin) (root : ℕ) (g : GraphOf) (status : ℕ) (out : List ℕ)
+    → AnswersBy (ComesOfTree origin root g) status out → IsTextStatus status
+tree_status origin root g status out answers =
+    answer_status (ComesOfTree origin root g)
+    (record {
+      no_usage = λ place h. h.2.1;
+      no_refusal = λ refusal h. h.2.1;
+      fault = λ facts fault h. fault_status origin (weights_of_tree g root) fault h.2.1;
+    })
+    status out answers

@@ -1,5 +1,10 @@
 pub mod Refusals
+pub mod Stacks
+pub mod Outcomes
+pub mod Sampling
+pub mod Formulas
+pub mod Orientations
+pub mod Trees
 pub mod Answers
-pub mod Runs
 pub mod TopCall
 pub mod Laws

@@ -1,5 +1,5 @@
 -- The lines and statuses of refusals.
-use Rattle.std.specs.Prelude.{ℕ, ◌+◌, List, [], ◌∷◌, ◌++◌, map, decimal, codes}
+use Rattle.std.specs.Prelude.{ℕ, List, [], ◌∷◌, ◌++◌, map, decimal, codes}
 use Rattle.pop_model.specs.Text.{line, spaced}
 use Rattle.pop_edge.specs.declared.refusal.ReadRefusal.{ReadRefusal}
 use Rattle.pop_edge.specs.declared.refusal.ReadRefusal.TheVariants.{Malformed, Count, EmptyClause, Limit, ReadFault, OutOfMemory}
@@ -13,6 +13,18 @@ refusal_line word numbers = line (codes "s " ++ word ++ spaced (map decimal numb
 -- the line of words that are no command line: the place of the first bad word, from 1
 abbrev pub usage_line : ℕ → List ℕ
 usage_line place = refusal_line (codes "USAGE") (place ∷ [])
+
+-- the line of a vertex that no edge touches
+abbrev pub isolated_line : ℕ → List ℕ
+isolated_line vertex = refusal_line (codes "ISOLATED") (vertex ∷ [])
+
+-- the line of a root that is no vertex
+abbrev pub root_line : ℕ → List ℕ
+root_line root = refusal_line (codes "ROOT") (root ∷ [])
+
+-- the line of a vertex that no path joins to the root
+abbrev pub cut_off_line : ℕ → List ℕ
+cut_off_line vertex = refusal_line (codes "CUTOFF") (vertex ∷ [])
 
 -- the line of two events that clash, by their numbers
 abbrev pub clash_line : ℕ → ℕ → List ℕ
@@ -41,13 +53,13 @@ reading_status (Limit kind l) = 4
 reading_status ReadFault = 7
 reading_status OutOfMemory = 9
 
--- the line of stacks with a fault; variables are named from 1, entries count from 0
-abbrev pub stacks_line : StackFault → List ℕ
-stacks_line (RowCount given wanted) = refusal_line (codes "ROWS") (given ∷ wanted ∷ [])
-stacks_line (EmptyRow v) = refusal_line (codes "EMPTYROW") ((v + 1) ∷ [])
-stacks_line (ValueTooLarge v k) = refusal_line (codes "VALUE") ((v + 1) ∷ k ∷ [])
-stacks_line (WeightSum v) = refusal_line (codes "LIMIT") (6 ∷ (v + 1) ∷ [])
-stacks_line NoMemory = refusal_line (codes "MEMORY") []
+-- the line of stacks with a fault, whose variables have these names; entries count from 0
+abbrev pub stacks_line : (ℕ → ℕ) → StackFault → List ℕ
+stacks_line name (RowCount given wanted) = refusal_line (codes "ROWS") (given ∷ wanted ∷ [])
+stacks_line name (EmptyRow v) = refusal_line (codes "EMPTYROW") (name v ∷ [])
+stacks_line name (ValueTooLarge v k) = refusal_line (codes "VALUE") (name v ∷ k ∷ [])
+stacks_line name (WeightSum v) = refusal_line (codes "LIMIT") (6 ∷ name v ∷ [])
+stacks_line name NoMemory = refusal_line (codes "MEMORY") []
 
 -- its status
 abbrev pub stacks_status : StackFault → ℕ

@@ -1,13 +1,13 @@
 -- What the top call leaves at its source and its sink.
-use Rattle.std.specs.Prelude.{◌≡◌, ◌⊎◌, ℕ, List, Option, Some}
+use Rattle.std.specs.Prelude.{◌≡◌, ◌⊎◌, ℕ, List, Option}
 use Rattle.std.specs.Io.KnownBytes.{Appends, Consumes}
 use Rattle.pop_model.specs.Faults.{Rose}
 use Rattle.pop_edge.specs.Devices.{AppendsFront}
 use Rattle.pop_edge.specs.declared.refusal.ReadRefusal.TheVariants.{ReadFault, OutOfMemory}
-use Rattle.dimacs_read.specs.CnfText.{HasNoBadLine}
-use Rattle.pop_words.specs.CommandLines.{AreWords, IsBadPlace}
+use Rattle.pop_words.specs.declared.job.Job.{Job}
+use Rattle.pop_words.specs.CommandLines.{Asks, IsBadPlace}
 use Rattle.popsample.specs.Refusals.{usage_line, reading_line}
-use Rattle.popsample.specs.Answers.{IsAnswer}
+use Rattle.popsample.specs.Answers.{IsAnswer, HasNoBadLine}
 
 -- a fault of a device or want of memory, and no answer to words and a text
 abbrev pub IsBreak : ℕ → Type 0
@@ -29,10 +29,11 @@ pub record AnsweredUsage (words : List (List ℕ)) (old new : Option (List ℕ))
 -- taken is refused.
 pub record HasReadFault (words : List (List ℕ)) (left left' : Option (List ℕ)) (faults faults' : ℕ) : Type 0 where
   pub rose : Rose faults faults'
-  pub asks : AreWords words
+  pub job : Job
+  pub asks : Asks words job
   pub taken : List ℕ
   pub consumed : Consumes left left' taken
-  pub no_bad_line : HasNoBadLine taken
+  pub no_bad_line : HasNoBadLine job.command taken
 
 -- a text that a call may write: that of an answer, of a fault of the source, or of want of memory
 abbrev pub MayWrite : List (List ℕ) → List ℕ → Type 0 → List ℕ → Type 0

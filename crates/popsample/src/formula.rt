@@ -4,20 +4,22 @@ ghost use Rattle.std.specs.Prelude.{◌≡◌, ◌<◌, ◌^◌, ℕ, List, leng
 ghost use Rattle.pop_model.specs.Families.Family.{Listed};
 ghost use Rattle.pop_model.specs.Extremal.{IsExtremal};
 ghost use Rattle.pop_stacks.specs.Tables.{origin_of};
+ghost use Rattle.pop_instance.specs.Events.{FitVariables};
 ghost use Rattle.dimacs_read.specs.Cnf.{first_empty};
 ghost use Rattle.extremal_check.specs.Verdicts.{IsVerdict};
-ghost use Rattle.popsample.specs.Answers.{AnswersBy, pair_weights, instance_of, ComesOfRunning, ComesOfSampling, ComesOfChecking, ComesOfCommand};
-ghost use Rattle.dimacs_read.specs.Falsifying.{FitVariables};
-ghost use Rattle.popsample.specs.Runs.{IsEndOf};
+ghost use Rattle.pop_print.specs.declared.facts.Facts.TheVariants.{Formula as FormulaFacts};
+ghost use Rattle.popsample.specs.Outcomes.{AnswersBy};
+ghost use Rattle.popsample.specs.Sampling.{pair_weights, instance_of, IsEndOf};
+ghost use Rattle.popsample.specs.Formulas.{ComesOfRunning, ComesOfFormula, ComesOfChecking};
 
 use crate::answer::Answer;
 use crate::refusals::{refuse_clash, refuse_stacks, tell_extremal};
-use crate::running::run_instance;
+use crate::running::run_listed;
 use dimacs_read::Formula;
 use extremal_check::{Verdict, check};
 use pop_instance::{Events, Family, Index, Instance};
+use pop_print::Facts;
 use pop_stacks::{StackSpec, Stacks, Weights};
-use pop_words::{Command, Job};
 use std::alloc::{AllocError, Global};
 
 // The verdict on events over so many variables.
@@ -39,12 +41,13 @@ fn run_events(
     requires weights { stacks.weights ≡ pair_weights variables }
     requires fit { FitVariables variables events }
     requires extremal { IsExtremal (Listed events) }
-    ensures { IfOk result (λ a.
-        AnswersBy (IsEndOf (instance_of stacks.origin variables events)) a.status a.text.items) }
+    ensures { IfOk result (λ a. AnswersBy
+        (IsEndOf (FormulaFacts variables) (instance_of stacks.origin variables events))
+        a.status a.text.items) }
 {
     let _count = stacks.count();
     match Instance::new(stacks, Family::Listed(events)) {
-        Some(instance) => run_instance(alloc, variables, &instance),
+        Some(instance) => run_listed(alloc, &Facts::Formula(variables), &instance),
         None => unreachable!(),
     }
 }
@@ -64,8 +67,8 @@ fn sample_with(alloc: Global, stacks: Stacks, formula: &Formula) -> Result<Answe
     }
 }
 
-// Samples the formula.
-fn sample(
+/// Samples the formula: the answer of `formula`.
+pub fn sample_formula(
     alloc: Global,
     spec: StackSpec,
     height: u32,
@@ -75,16 +78,17 @@ fn sample(
     requires some { 0 < height }
     requires short { height < 2 ^ 31 }
     ensures { IfOk result (λ a.
-        AnswersBy (ComesOfSampling (origin_of spec height) formula.now) a.status a.text.items) }
+        AnswersBy (ComesOfFormula (origin_of spec height) formula.now) a.status a.text.items) }
 {
-    match Stacks::new(spec, Weights::pairs(formula.variables()), height) {
-        Err(fault) => refuse_stacks(alloc, fault),
+    let variables = formula.variables();
+    match Stacks::new(spec, Weights::pairs(variables), height) {
+        Err(fault) => refuse_stacks(alloc, &Facts::Formula(variables), fault),
         Ok(stacks) => sample_with(alloc, stacks, formula),
     }
 }
 
-// Says whether the formula's events are extremal.
-fn check_formula(alloc: Global, formula: &Formula) -> Result<Answer, AllocError>
+/// Says whether the formula's events are extremal: the answer of `check`.
+pub fn check_formula(alloc: Global, formula: &Formula) -> Result<Answer, AllocError>
     requires filled { first_empty formula.now ≡ None }
     ensures { IfOk result (λ a. AnswersBy (ComesOfChecking formula.now) a.status a.text.items) }
 {
@@ -92,25 +96,5 @@ fn check_formula(alloc: Global, formula: &Formula) -> Result<Answer, AllocError>
     match judge(alloc, formula.variables(), &events)? {
         Verdict::Clash(number, other) => refuse_clash(alloc, number, other),
         Verdict::Extremal => tell_extremal(alloc, events.count()),
-    }
-}
-
-/// The answer to a job whose text spells this formula.
-pub fn answer_formula(alloc: Global, job: Job, formula: &Formula) -> Result<Answer, AllocError>
-    requires filled { first_empty formula.now ≡ None }
-    requires some { 0 < job.height }
-    requires short { job.height < 2 ^ 31 }
-    ensures { IfOk result (λ a.
-        AnswersBy (ComesOfCommand job.command (origin_of job.stacks job.height) formula.now)
-        a.status a.text.items) }
-{
-    let Job {
-        command,
-        stacks,
-        height,
-    } = job;
-    match command {
-        Command::Formula => sample(alloc, stacks, height, formula),
-        Command::Check => check_formula(alloc, formula),
     }
 }

@@ -6,12 +6,14 @@
 mod answer;
 mod formula;
 pub mod laws;
+mod orientation;
 mod refusals;
 mod running;
 mod stop;
 #[cfg(test)]
 mod tests;
 mod top;
+mod tree;
 
 use pop_edge::{StdSink, StdSource};
 use std::env;

@@ -1,11 +1,13 @@
 //! Refusals, and the verdict of `check`, as answers: a status and one line.
 ghost use Rattle.std.specs.Prelude.{◌≡◌, IfOk};
 ghost use Rattle.popsample.specs.Refusals.{refusal_line};
-ghost use Rattle.popsample.specs.Answers.{Tells};
-ghost use Rattle.popsample.specs.Answers.Outcome.{Usage, Unread, Unsound, Clashes, Extremal};
+ghost use Rattle.popsample.specs.Outcomes.{Tells};
+ghost use Rattle.popsample.specs.Outcomes.Outcome.{Usage, Unread, Isolated, NoRoot, CutOff, Unsound, Clashes, Extremal};
+ghost use Rattle.popsample.specs.Stacks.{HasName};
 
 use crate::answer::Answer;
 use pop_edge::ReadRefusal;
+use pop_print::Facts;
 use pop_stacks::StackFault;
 use std::alloc::{AllocError, Global};
 
@@ -48,17 +50,41 @@ pub fn refuse_reading(alloc: Global, cause: ReadRefusal) -> Result<Answer, Alloc
     }
 }
 
-/// Stacks with a fault. Variables are named from 1.
-pub fn refuse_stacks(alloc: Global, fault: StackFault) -> Result<Answer, AllocError>
-    ensures { IfOk result (λ a. Tells (Unsound fault) a.status a.text.items) }
+/// A vertex that no edge touches.
+pub fn refuse_isolated(alloc: Global, vertex: u32) -> Result<Answer, AllocError>
+    ensures { IfOk result (λ a. Tells (Isolated vertex) a.status a.text.items) }
+{
+    refusal(alloc, 6, "ISOLATED", &[vertex as u64])
+}
+
+/// A root that is no vertex.
+pub fn refuse_root(alloc: Global, root: u32) -> Result<Answer, AllocError>
+    ensures { IfOk result (λ a. Tells (NoRoot root) a.status a.text.items) }
+{
+    refusal(alloc, 6, "ROOT", &[root as u64])
+}
+
+/// A vertex that no path joins to the root.
+pub fn refuse_cut_off(alloc: Global, vertex: u32) -> Result<Answer, AllocError>
+    ensures { IfOk result (λ a. Tells (CutOff vertex) a.status a.text.items) }
+{
+    refusal(alloc, 6, "CUTOFF", &[vertex as u64])
+}
+
+/// Stacks with a fault, whose variables the facts name.
+pub fn refuse_stacks(alloc: Global, facts: &Facts, fault: StackFault) -> Result<Answer, AllocError>
+    requires { HasName fault }
+    ensures { IfOk result (λ a. Tells (Unsound facts.now fault) a.status a.text.items) }
 {
     match fault {
         StackFault::RowCount(given, wanted) => {
             refusal(alloc, 3, "ROWS", &[given as u64, wanted as u64])
         }
-        StackFault::EmptyRow(v) => refusal(alloc, 3, "EMPTYROW", &[v as u64 + 1]),
-        StackFault::ValueTooLarge(v, k) => refusal(alloc, 3, "VALUE", &[v as u64 + 1, k as u64]),
-        StackFault::WeightSum(v) => refusal(alloc, 4, "LIMIT", &[6, v as u64 + 1]),
+        StackFault::EmptyRow(v) => refusal(alloc, 3, "EMPTYROW", &[facts.name(v) as u64]),
+        StackFault::ValueTooLarge(v, k) => {
+            refusal(alloc, 3, "VALUE", &[facts.name(v) as u64, k as u64])
+        }
+        StackFault::WeightSum(v) => refusal(alloc, 4, "LIMIT", &[6, facts.name(v) as u64]),
         StackFault::OutOfMemory => refusal(alloc, 9, "MEMORY", &[]),
     }
 }

@@ -1,26 +1,18 @@
-//! The run of an extremal instance of a formula, as an answer.
-ghost use Rattle.std.specs.Prelude.{◌≡◌, ◌<◌, ℕ, All, Contains, IfOk};
+//! The run of an extremal instance, as an answer.
+ghost use Rattle.std.specs.Prelude.{◌≡◌, ◌<◌, ℕ, List, All, Contains, IfOk};
 ghost use Rattle.pop_model.specs.Extremal.{IsExtremal};
-ghost use Rattle.popsample.specs.Answers.{AnswersBy, end_status, pair_weights};
-ghost use Rattle.popsample.specs.Runs.{IsEndOf, IsListed};
+ghost use Rattle.pop_model.specs.Runs.{IsFirstEnd};
+ghost use Rattle.cycle_popping.specs.Walks.{AreCycles};
+ghost use Rattle.pop_print.specs.Ends.{AreFactsOf, IsAtEnd};
+ghost use Rattle.popsample.specs.Outcomes.{AnswersBy, end_status};
+ghost use Rattle.popsample.specs.Sampling.{IsEndOf, IsListed};
 
 use crate::answer::Answer;
 use confluence_core::{End, Keep, Units, run_from};
+use cycle_popping::run_walks;
 use pop_instance::{Cursors, Instance};
 use pop_print::{Facts, text};
 use std::alloc::{AllocError, Global};
-
-// All units below a count.
-fn all_units(alloc: Global, count: u32) -> Result<Units, AllocError>
-    ensures known { IfOk result (All (λ u. u < count)) }
-    ensures all { IfOk result (λ units. (u : ℕ) → u < count → Contains units u) }
-{
-    let mut units = Units::new(alloc);
-    for unit in 0..count {
-        units.push(unit)?;
-    }
-    Ok(units)
-}
 
 // The status of an end: 1 where an event still occurs.
 fn status_of(end: &End) -> u8
@@ -29,25 +21,48 @@ fn status_of(end: &End) -> u8
     if end.stuck.len() == 0 { 0 } else { 1 }
 }
 
-/// The end of the one-thread run of an extremal instance, over so many variables of two values. It
-/// pops in an order of its own, since all orders end alike.
-pub fn run_instance(
+// The answer that tells the end of the one-thread run.
+fn tell_end(
     alloc: Global,
-    variables: u32,
+    facts: &Facts,
     instance: &Instance,
+    end: &End,
 ) -> Result<Answer, AllocError>
-    requires weights { instance.now.stacks.weights ≡ pair_weights variables }
-    requires listed { IsListed instance.now.family }
-    requires extremal { IsExtremal instance.now.family }
-    ensures { IfOk result (λ a. AnswersBy (IsEndOf instance.now) a.status a.text.items) }
+    requires facts { AreFactsOf facts.now instance.now }
+    requires at_end { IsAtEnd instance.now end.now.cursors end.now.stuck }
+    requires first { IsFirstEnd instance.now end.now.cursors end.now.pops end.now.stuck }
+    ensures { IfOk result (λ a.
+        AnswersBy (IsEndOf facts.now instance.now) a.status a.text.items) }
 {
-    let _count = instance.stacks().count();
-    let cursors = Cursors::zeros(alloc, variables)?;
-    let units = all_units(alloc, instance.units())?;
-    let outcome = run_from(alloc, instance, cursors, units, Keep::Nothing)?;
-    let text = text(alloc, &Facts::Formula(variables), instance, &outcome.end)?;
+    let text = text(alloc, facts, instance, end)?;
     Ok(Answer {
-        status: status_of(&outcome.end),
+        status: status_of(end),
         text,
     })
+}
+
+/// The end of the one-thread run of listed events that are extremal. It pops in an order of its own,
+/// since all orders end alike.
+pub fn run_listed(alloc: Global, facts: &Facts, instance: &Instance) -> Result<Answer, AllocError>
+    requires facts { AreFactsOf facts.now instance.now }
+    requires listed { IsListed instance.now.family }
+    requires extremal { IsExtremal instance.now.family }
+    ensures { IfOk result (λ a.
+        AnswersBy (IsEndOf facts.now instance.now) a.status a.text.items) }
+{
+    let cursors = Cursors::zeros(alloc, instance.stacks().count())?;
+    let units = Units::all(alloc, instance.units())?;
+    let outcome = run_from(alloc, instance, cursors, units, Keep::Nothing)?;
+    tell_end(alloc, facts, instance, &outcome.end)
+}
+
+/// The end of the one-thread run of cycles, by walks.
+pub fn run_cycles(alloc: Global, facts: &Facts, instance: &Instance) -> Result<Answer, AllocError>
+    requires facts { AreFactsOf facts.now instance.now }
+    requires cycles { AreCycles instance.now.family }
+    ensures { IfOk result (λ a.
+        AnswersBy (IsEndOf facts.now instance.now) a.status a.text.items) }
+{
+    let end = run_walks(alloc, instance)?;
+    tell_end(alloc, facts, instance, &end)
 }

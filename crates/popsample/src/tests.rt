@@ -7,8 +7,10 @@ use std::thread::Threads;
 
 mod faults;
 mod formulas;
+mod orientations;
 mod refusals;
 mod texts;
+mod trees;
 
 // A key of 64 zeros.
 const ZERO_KEY: &str = "0000000000000000000000000000000000000000000000000000000000000000";

@@ -34,8 +34,9 @@ fn deliver<K: Sink>(sink: &mut K, text: &[u8], status: u8) -> u8
 /// The status is 0 for a sample or extremal events, 1 where the run ends with an event still
 /// occurring, 2 for words that are no command line, 3 for a malformed text, a wrong number of clauses
 /// or rows that don't fit, 4 where a limit is passed, 5 where two events clash, 6 for an empty clause,
-/// 7 where reading failed, 8 where writing failed and 9 where memory ran out. The whole text is made
-/// before its first byte is written.
+/// an isolated vertex, a root that is none or a vertex that is cut off from it, 7 where reading
+/// failed, 8 where writing failed and 9 where memory ran out. The whole text is made before its first
+/// byte is written.
 pub fn run<S: Source, K: Sink, R: Threads + Sync>(
     rt: &R,
     alloc: Global,
@@ -43,17 +44,20 @@ pub fn run<S: Source, K: Sink, R: Threads + Sync>(
     source: &mut S,
     sink: &mut K,
 ) -> u8
-    // An answer is that of the words and the text: of an extremal formula, the end of the run on one
-    // thread that always pops the first poppable event.
+    // An answer is that of the words and the text: of an extremal formula, an orientation or a tree,
+    // the end of the run on one thread that always pops the first poppable event.
     ensures answer { (text : List ℕ) → S.left source.old ≡ Some text → (IsBreak result → ⊥)
         → Answered (map string_bytes words.now) text (K.holds sink.old) (K.holds sink.new) result }
     ensures statuses { result ≤ 9 }
 
-    // Words outside the grammar are told of whatever the source is, and nothing else is then.
+    // Words outside the grammar are told of whatever the source is, nothing else is then, and the
+    // source is left as it was.
     ensures usage { result ≡ 2
         → AnsweredUsage (map string_bytes words.now) (K.holds sink.old) (K.holds sink.new) }
     ensures only_usage { (AreWords (map string_bytes words.now) → ⊥)
         → (result ≡ 2) ⊎ ((result ≡ 8) ⊎ (result ≡ 9)) }
+
+    ensures unread { (AreWords (map string_bytes words.now) → ⊥) → source.new ≡ source.old }
 
     ensures read_fault { result ≡ 7
         → HasReadFault (map string_bytes words.now) (S.left source.old) (S.left source.new)

@@ -2,12 +2,13 @@ ghost use Rattle.std.specs.Prelude.{◌≡◌, length, IfOk};
 ghost use Rattle.pop_model.specs.Stacks.{variables_of};
 
 use super::*;
-use pop_instance::{Cube, Family};
-use pop_stacks::{Rows, StackSpec, Weights};
+use pop_instance::{Cube, Events, Family};
+use pop_stacks::{Rows, StackSpec, Stacks, Weights};
 use std::process::Abort;
 use std::test::Fail;
 
 mod chains;
+mod rings;
 
 // The event of this number and these pairs.
 fn event(
@@ -34,10 +35,7 @@ fn instance(rt: &impl Abort, rows: Rows, events: Events) -> Result<Instance, Fai
 fn from_zeros(alloc: Global, instance: &Instance, keep: Keep) -> Result<Run, AllocError>
     ensures count { IfOk result (λ run. variables_of instance.now.stacks ≡ length run.end.cursors) }
 {
-    let mut suspects = Units::new(alloc);
-    for unit in 0..instance.family().events().count() {
-        suspects.push(unit)?;
-    }
+    let suspects = Units::all(alloc, instance.units())?;
     let cursors = Cursors::zeros(alloc, instance.stacks().count())?;
     run_from(alloc, instance, cursors, suspects, keep)
 }
@@ -76,6 +74,31 @@ fn ends_with(rt: &impl Abort, alloc: Global, instance: &Instance, want: &Want) -
     let run = from_zeros(alloc, instance, Keep::Nothing)?;
     is_end(rt, &run.end, count, want);
     Ok(())
+}
+
+// Runs an instance by both calls, and compares their ends. Returns the pops and how many events are
+// stuck.
+fn pops_and_stuck(rt: &impl Abort, alloc: Global, instance: &Instance) -> Result<(u64, u64), Fail> {
+    let first = run_first(alloc, instance)?;
+    let run = from_zeros(alloc, instance, Keep::Nothing)?;
+    for v in 0..instance.stacks().count() {
+        assert_eq!(rt;
+            run.end.cursors.get(v),
+            first.cursors.get(v),
+            "variable {v}"
+        );
+    }
+    assert_eq!(rt; run.end.pops, first.pops);
+    let stuck = first.stuck.len();
+    assert!(rt; run.end.stuck.len() == stuck);
+    for i in 0..stuck {
+        assert_eq!(rt;
+            run.end.stuck.at(i).0,
+            first.stuck.at(i).0,
+            "stuck event {i}"
+        );
+    }
+    Ok((first.pops, stuck))
 }
 
 // Worked by hand.

@@ -6,7 +6,7 @@ use std::test::Fail;
 #[test]
 fn the_first_fault_is_named(rt: HostRuntime) -> Result<(), Fail> {
     let ten = "p cnf 10 1\n1 0\n";
-    let rows: [(&[&str], &str, u8, &str); 26] = [
+    let rows: [(&[&str], &str, u8, &str); 40] = [
         (&[], ten, 2, "s USAGE 1\n"),
         (&["sample"], ten, 2, "s USAGE 1\n"),
         (&["formula", "--speed", "3"], ten, 2, "s USAGE 2\n"),
@@ -66,6 +66,32 @@ fn the_first_fault_is_named(rt: HostRuntime) -> Result<(), Fail> {
         ),
         (&["check"], "p cnf 3 2\n1 2 0\n1 3 0\n", 5, "s CLASH 1 2\n"),
         (&["check"], "p cnf 2 2\n1 0\n1 2 0\n", 5, "s CLASH 1 2\n"),
+        // graphs: a header, a number, a vertex, a weight and a form that aren't one
+        (&["orient"], "p edges 2 1\n", 3, "s MALFORMED 1 11\n"),
+        (&["orient"], "p edge 2 1\ne 1 x\n", 3, "s MALFORMED 2 12\n"),
+        (&["orient"], "p edge 2 1\ne 1 3\n", 3, "s MALFORMED 2 13\n"),
+        (&["tree"], "p edge 2 1\ne 1 3\n", 3, "s MALFORMED 2 13\n"),
+        (
+            &["orient"],
+            "p edge 2 1\ne 1 2 0\n",
+            3,
+            "s MALFORMED 2 14\n",
+        ),
+        (&["orient"], "p edge 2 1\ne 1\n", 3, "s MALFORMED 2 15\n"),
+        (&["tree"], "c\n\n", 3, "s MALFORMED 3 11\n"),
+        (&["tree"], "p edge 4194305 0\n", 4, "s LIMIT 2 1\n"),
+        (&["orient", "--root", "1"], ten, 2, "s USAGE 2\n"),
+        (&["tree", "--root", "0"], ten, 2, "s USAGE 3\n"),
+        (&["tree", "--root", "4294967296"], ten, 2, "s USAGE 3\n"),
+        (
+            &["tree", "--stacks", "0", "--height", "5"],
+            ten,
+            2,
+            "s USAGE 4\n",
+        ),
+        // a command reads its own grammar
+        (&["tree"], ten, 3, "s MALFORMED 1 11\n"),
+        (&["formula"], "p edge 2 1\ne 1 2\n", 3, "s MALFORMED 1 1\n"),
         // what is looked at first is told first
         (
             &["formula", "--stacks", "0"],

@@ -3,8 +3,7 @@ ghost use Rattle.std.specs.Prelude.{◌≡◌, map};
 ghost use Rattle.std.specs.Bool.{OnTrue};
 ghost use Rattle.std.specs.List.Sorted.{IsStrictlyIncreasing};
 
-use super::{event, from_zeros};
-use crate::{Keep, run_first};
+use super::{event, pops_and_stuck};
 use pop_instance::{Cube, Events, Family, Instance};
 use pop_stacks::{StackSpec, Stacks, Weights};
 use std::alloc::Global;
@@ -47,30 +46,6 @@ fn chain(
     let weights = Weights::pairs(2 * links + 1);
     let stacks = Stacks::new(StackSpec::Key([key; 32]), weights, height)?;
     Ok(Instance::new(stacks, Family::Listed(events)).expect(rt, "an instance"))
-}
-
-// Runs a chain by both calls, and compares their ends. Returns the pops and how many events are stuck.
-fn pops_and_stuck(rt: &impl Abort, alloc: Global, instance: &Instance) -> Result<(u64, u64), Fail> {
-    let first = run_first(alloc, instance)?;
-    let run = from_zeros(alloc, instance, Keep::Nothing)?;
-    for v in 0..instance.stacks().count() {
-        assert_eq!(rt;
-            run.end.cursors.get(v),
-            first.cursors.get(v),
-            "variable {v}"
-        );
-    }
-    assert_eq!(rt; run.end.pops, first.pops);
-    let stuck = first.stuck.len();
-    assert!(rt; run.end.stuck.len() == stuck);
-    for i in 0..stuck {
-        assert_eq!(rt;
-            run.end.stuck.at(i).0,
-            first.stuck.at(i).0,
-            "stuck event {i}"
-        );
-    }
-    Ok((first.pops, stuck))
 }
 
 #[test]

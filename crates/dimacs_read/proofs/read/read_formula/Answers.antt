@@ -1,72 +1,36 @@
-use Rattle.std.proofs.Common.{◌≡◌, ◌+◌, ◌++◌, Option, Result, IfNone, Some, None, Ok, Err, refl, sym, ap, ◌∙◌, subst, arith}
-use Rattle.std.proofs.lemmas.Result.{err_from_is_err_and}
-use Rattle.pop_edge.specs.declared.next.Next.{Next}
-use Rattle.pop_edge.specs.declared.next.Next.TheVariants.{Line, End}
-use Rattle.pop_edge.specs.declared.refusal.ReadRefusal.{ReadRefusal}
-use Rattle.pop_edge.specs.declared.refusal.ReadRefusal.TheVariants.{ReadFault}
-use Rattle.pop_edge.specs.LineState.{IsNext, fresh}
-use Rattle.pop_edge.specs.Words.{words_of}
-use Rattle.pop_edge.specs.Judging.{told, told_lines}
-use Rattle.pop_edge.proofs.JudgedLines.{bad_line, bad_next, fault_next, no_fault, reading_line}
-use Rattle.dimacs_read.specs.Cnf.{Cnf}
+use Rattle.std.proofs.Common.{◌+◌, Err, sym, ap, subst, arith}
+use Rattle.pop_edge.proofs.AnsweredLines.{end_of, line_allowed, line_known, line_no_fault, next_allowed, next_at_fault, passed_on}
 use Rattle.dimacs_read.specs.CnfText.{AnswersCnf, cnf}
 use Rattle.dimacs_read.specs.Reading.{Knows}
-use Rattle.dimacs_read.proofs.AnsweredText.{answers_line, answers_next, answers_whole, cnf_in_order, knows_clean}
+use Rattle.dimacs_read.proofs.AnsweredText.{answers_whole, cnf_allows, cnf_in_order, knows_clean}
 use Rattle.dimacs_read.proofs.read.read_formula.Goals as goal
-
-if_none : {X : Type 0} (o : Option X) (P : Type 0) → o ≡ None → IfNone o P → P
-if_none None P e h = h
-if_none (Some x) P e h = absurd (cc)
-
-is_end : (x : Next) → (x ≡ Line → ⊥) → x ≡ End
-is_end Line h = absurd (h refl)
-is_end End h = refl
 
 pub returns-in_err-next-clause-text : goal.returns-in_err-next-clause-text
 returns-in_err-next-clause-text g c = λ text is.
     let i = c.loop-reader.invariant in
-    let next = if_none c.loop-reader.lines.kept
-    (IsNext c.loop-reader.lines (fresh c.next.new.self) (g.S.Source.left c.loop-reader.source)
-    (g.S.Source.left c.next.new.source) (Err c.in_err-next.field-0.0)) i.kept c.in_err-next.ensures.next in
-    let p = err_from_is_err_and c.from_residual-in_err-next.result c.from_residual-in_err-next.ensures.1 in
-    let from : ◌≡◌ {A = Result Cnf ReadRefusal} c.from_residual-in_err-next.result (Err c.in_err-next.field-0.0) =
-    p.1 ∙ ap (λ x. Err x) p.2 in
+    let from = passed_on c.from_residual-in_err-next.result _ c.from_residual-in_err-next.ensures.1 in
     subst (AnswersCnf text) (sym from)
-    (answers_next _ c.in_err-next.field-0.0 text is
-    (bad_next cnf (Knows c.loop-reader.reader) c.loop-reader.lines c.next.new.self _ _ _ c.in_err-next.field-0.0
-    (knows_clean c.loop-reader.reader) i.reading next))
+    (next_allowed cnf (Knows c.loop-reader.reader) c.loop-reader.lines c.next.new.self _ _
+    (g.S.Source.left c.next.new.source) text (λ x. AnswersCnf text (Err x)) c.in_err-next.field-0.0
+    (cnf_allows text) (knows_clean c.loop-reader.reader) i.reading i.kept c.in_err-next.ensures.next is)
 
 pub returns-in_err-next-clause-no_bad_line : goal.returns-in_err-next-clause-no_bad_line
-returns-in_err-next-clause-no_bad_line g c = λ e.
+returns-in_err-next-clause-no_bad_line g c = λ fault.
     let i = c.loop-reader.invariant in
-    let next = if_none c.loop-reader.lines.kept
-    (IsNext c.loop-reader.lines (fresh c.next.new.self) (g.S.Source.left c.loop-reader.source)
-    (g.S.Source.left c.next.new.source) (Err c.in_err-next.field-0.0)) i.kept c.in_err-next.ensures.next in
-    let p = err_from_is_err_and c.from_residual-in_err-next.result c.from_residual-in_err-next.ensures.1 in
-    let from : ◌≡◌ {A = Result Cnf ReadRefusal} c.from_residual-in_err-next.result (Err c.in_err-next.field-0.0) =
-    p.1 ∙ ap (λ x. Err x) p.2 in
-    let same : ◌≡◌ {A = Result Cnf ReadRefusal} (Err c.in_err-next.field-0.0) (Err ReadFault) = sym from ∙ e in
-    let fault : c.in_err-next.field-0.0 ≡ ReadFault = cc in
-    fault_next cnf (Knows c.loop-reader.reader) c.loop-reader.lines c.next.new.self _ _ _
-    (knows_clean c.loop-reader.reader) i.reading
-    (subst (λ x. IsNext c.loop-reader.lines (fresh c.next.new.self) (g.S.Source.left c.loop-reader.source)
-    (g.S.Source.left c.next.new.source) (Err x)) fault next)
+    next_at_fault cnf (Knows c.loop-reader.reader) c.loop-reader.lines c.next.new.self _ _
+    (g.S.Source.left c.next.new.source) c.in_err-next.field-0.0 c.from_residual-in_err-next.result
+    (knows_clean c.loop-reader.reader) i.reading i.kept c.in_err-next.ensures.next
+    (passed_on c.from_residual-in_err-next.result _ c.from_residual-in_err-next.ensures.1) fault
 
 pub loop-reader-preserved : goal.loop-reader-preserved
 loop-reader-preserved g c =
     let i = c.loop-reader.invariant in
     let e = c.in_ok-next.ensures in
-    let next = if_none c.loop-reader.lines.kept
-    (IsNext c.loop-reader.lines (fresh c.next.new.self) (g.S.Source.left c.loop-reader.source)
-    (g.S.Source.left c.next.new.source) (Ok c.in_ok-next.field-0)) i.kept e.next in
     record {
       within = c.in_ok-take_line.ensures.within;
-      reading = reading_line cnf (Knows c.loop-reader.reader)
-          (Knows c.take_line.new.self) c.loop-reader.lines c.next.new.self _ _ _ c.line.result.now c.number.result
-          i.reading
-          (subst (λ x. IsNext c.loop-reader.lines (fresh c.next.new.self) (g.S.Source.left c.loop-reader.source)
-          (g.S.Source.left c.next.new.source) (Ok x)) c.in-Line.is next)
-          e.goes_on c.line.ensures c.number.ensures c.in_ok-take_line.ensures.line;
+      reading = line_known cnf (Knows c.loop-reader.reader) (Knows c.take_line.new.self) c.loop-reader.lines
+          c.next.new.self _ _ (g.S.Source.left c.next.new.source) c.line.result.now c.number.result c.in_ok-next.field-0
+          i.reading i.kept e.next c.in-Line.is e.goes_on c.line.ensures c.number.ensures c.in_ok-take_line.ensures.line;
       kept = e.goes_on;
       at_end = e.at_end i.at_end;
       faults = omega (arith, i.faults, e.later);
@@ -77,57 +41,32 @@ pub returns-in_err-take_line-clause-text : goal.returns-in_err-take_line-clause-
 returns-in_err-take_line-clause-text g c = λ text is.
     let i = c.loop-reader.invariant in
     let e = c.in_ok-next.ensures in
-    let next = if_none c.loop-reader.lines.kept
-    (IsNext c.loop-reader.lines (fresh c.next.new.self) (g.S.Source.left c.loop-reader.source)
-    (g.S.Source.left c.next.new.source) (Ok c.in_ok-next.field-0)) i.kept e.next in
-    let p = err_from_is_err_and c.from_residual-in_err-take_line.result c.from_residual-in_err-take_line.ensures.1 in
-    let from : ◌≡◌ {A = Result Cnf ReadRefusal} c.from_residual-in_err-take_line.result
-    (Err c.in_err-take_line.field-0.0) = p.1 ∙ ap (λ x. Err x) p.2 in
+    let from = passed_on c.from_residual-in_err-take_line.result _ c.from_residual-in_err-take_line.ensures.1 in
     subst (AnswersCnf text) (sym from)
-    (answers_line _ c.in_err-take_line.field-0.0 text is
-    (bad_line cnf (Knows c.loop-reader.reader) c.loop-reader.lines c.next.new.self _ _ _ c.line.result.now
-    c.number.result
-    c.in_err-take_line.field-0.0 cnf_in_order i.reading
-    (subst (λ x. IsNext c.loop-reader.lines (fresh c.next.new.self) (g.S.Source.left c.loop-reader.source)
-    (g.S.Source.left c.next.new.source) (Ok x)) c.in-Line.is next)
-    c.line.ensures c.number.ensures c.in_err-take_line.ensures.line (e.at_end i.at_end)))
+    (line_allowed cnf (Knows c.loop-reader.reader) c.loop-reader.lines c.next.new.self _ _
+    (g.S.Source.left c.next.new.source) c.line.result.now c.number.result c.in_ok-next.field-0 text
+    (λ x. AnswersCnf text (Err x)) c.in_err-take_line.field-0.0 (cnf_allows text) cnf_in_order i.reading i.kept
+    e.next c.in-Line.is c.line.ensures c.number.ensures c.in_err-take_line.ensures.line (e.at_end i.at_end) is)
 
 pub returns-in_err-take_line-clause-fault : goal.returns-in_err-take_line-clause-fault
-returns-in_err-take_line-clause-fault g c = λ h.
-    let p = err_from_is_err_and c.from_residual-in_err-take_line.result c.from_residual-in_err-take_line.ensures.1 in
-    let from : ◌≡◌ {A = Result Cnf ReadRefusal} c.from_residual-in_err-take_line.result
-    (Err c.in_err-take_line.field-0.0) = p.1 ∙ ap (λ x. Err x) p.2 in
-    let same : ◌≡◌ {A = Result Cnf ReadRefusal} (Err c.in_err-take_line.field-0.0) (Err ReadFault) = sym from ∙ h in
-    let fault : c.in_err-take_line.field-0.0 ≡ ReadFault = cc in
-    let reading = c.loop-reader.invariant.reading in
-    let refused = c.in_err-take_line.ensures.line (told_lines cnf reading.lines) reading.knows in
-    absurd (no_fault cnf (told_lines cnf reading.lines ++ told cnf c.number.result (words_of c.line.result.now))
-    c.in_err-take_line.field-0.0 cnf_in_order refused fault)
+returns-in_err-take_line-clause-fault g c = λ fault.
+    absurd (line_no_fault cnf (Knows c.loop-reader.reader) c.loop-reader.lines _ _ c.line.result.now c.number.result
+    c.in_err-take_line.field-0.0 c.from_residual-in_err-take_line.result cnf_in_order c.loop-reader.invariant.reading
+    c.in_err-take_line.ensures.line
+    (passed_on c.from_residual-in_err-take_line.result _ c.from_residual-in_err-take_line.ensures.1) fault)
 
 pub returns-in_err-take_line-clause-no_bad_line : goal.returns-in_err-take_line-clause-no_bad_line
-returns-in_err-take_line-clause-no_bad_line g c = λ h.
-    let p = err_from_is_err_and c.from_residual-in_err-take_line.result c.from_residual-in_err-take_line.ensures.1 in
-    let from : ◌≡◌ {A = Result Cnf ReadRefusal} c.from_residual-in_err-take_line.result
-    (Err c.in_err-take_line.field-0.0) = p.1 ∙ ap (λ x. Err x) p.2 in
-    let same : ◌≡◌ {A = Result Cnf ReadRefusal} (Err c.in_err-take_line.field-0.0) (Err ReadFault) = sym from ∙ h in
-    let fault : c.in_err-take_line.field-0.0 ≡ ReadFault = cc in
-    let reading = c.loop-reader.invariant.reading in
-    let refused = c.in_err-take_line.ensures.line (told_lines cnf reading.lines) reading.knows in
-    absurd (no_fault cnf (told_lines cnf reading.lines ++ told cnf c.number.result (words_of c.line.result.now))
-    c.in_err-take_line.field-0.0 cnf_in_order refused fault)
+returns-in_err-take_line-clause-no_bad_line g c = λ fault.
+    absurd (line_no_fault cnf (Knows c.loop-reader.reader) c.loop-reader.lines _ _ c.line.result.now c.number.result
+    c.in_err-take_line.field-0.0 c.from_residual-in_err-take_line.result cnf_in_order c.loop-reader.invariant.reading
+    c.in_err-take_line.ensures.line
+    (passed_on c.from_residual-in_err-take_line.result _ c.from_residual-in_err-take_line.ensures.1) fault)
 
 pub returns-clause-text : goal.returns-clause-text
 returns-clause-text g c = λ text is.
     let i = c.loop-reader.invariant in
     let e = c.in_ok-next.ensures in
-    let end : c.in_ok-next.field-0 ≡ End = is_end c.in_ok-next.field-0 c.in_default.not-Line in
-    let raw = if_none c.loop-reader.lines.kept
-    (IsNext c.loop-reader.lines (fresh c.next.new.self) (g.S.Source.left c.loop-reader.source)
-    (g.S.Source.left c.next.new.source) (Ok c.in_ok-next.field-0)) i.kept e.next in
-    let next : IsNext c.loop-reader.lines (fresh c.next.new.self) (g.S.Source.left c.loop-reader.source)
-    (g.S.Source.left c.next.new.source) (Ok End) =
-    subst (λ x. IsNext c.loop-reader.lines (fresh c.next.new.self) (g.S.Source.left c.loop-reader.source)
-    (g.S.Source.left c.next.new.source) (Ok x)) end raw in
-    answers_whole c.loop-reader.reader c.loop-reader.lines c.next.new.self _ _ _
-    (c.number-2.result + 1) c.finish.result text i.reading next
-    (ap (λ n. n + 1) c.number-2.ensures) c.finish.ensures (e.at_end i.at_end next.answers.ended) is
+    let next = end_of c.loop-reader.lines c.next.new.self (g.S.Source.left c.loop-reader.source)
+    (g.S.Source.left c.next.new.source) c.in_ok-next.field-0 i.kept e.next c.in_default.not-Line in
+    answers_whole c.loop-reader.reader c.loop-reader.lines c.next.new.self _ _ _ (c.number-2.result + 1) c.finish.result
+    text i.reading next (ap (λ n. n + 1) c.number-2.ensures) c.finish.ensures (e.at_end i.at_end next.answers.ended) is

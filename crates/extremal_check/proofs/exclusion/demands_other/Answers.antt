@@ -1,17 +1,21 @@
-use Rattle.std.proofs.Common.{arith}
+use Rattle.std.proofs.Common.{sym, ◌∙◌}
 use Rattle.std.proofs.lemmas.Bool.{false≢true}
-use Rattle.extremal_check.proofs.Lookups.{none_demanded, demanded}
+use Rattle.extremal_check.proofs.OtherDemands.{differ_test, demands_other_value, demands_that_value, demands_none}
 use Rattle.extremal_check.proofs.exclusion.demands_other.Goals as goal
 
-pub returns-then-place-len : goal.returns-then-place-len
-returns-then-place-len c = (
-  λ h. absurd (false≢true h),
-  λ other. absurd (none_demanded c.args.cube.now c.args.v c.args.value c.place_of-place.result
-      c.place_of-place.ensures.before (omega (arith, c.len.ensures.len)) other),
-)
+pub returns-in-Some : goal.returns-in-Some
+returns-in-Some c =
+    let e = c.args.cube.now in
+    let v = c.args.v in
+    let value = c.args.value in
+    let is = sym c.demand.ensures ∙ c.in-Some.is in
+    let test = differ_test value c.in-Some.demanded in (
+      λ differs. demands_other_value e v value c.in-Some.demanded is (test.0 differs),
+      λ other. test.1 (demands_that_value e v value c.in-Some.demanded c.len-len.ensures.cube.rising is other),
+    )
 
-pub returns : goal.returns
-returns c =
-    demanded c.args.cube.now c.args.v c.args.value c.place_of-place.result c.pair.result c.is_other.result
-    c.len.ensures.cube.rising c.pair.ensures c.place_of-place.ensures.before c.place_of-place.ensures.from
-    c.is_other.ensures
+pub returns-in-None : goal.returns-in-None
+returns-in-None c = (
+  λ no'. absurd (false≢true no'),
+  λ other. absurd (demands_none c.args.cube.now c.args.v c.args.value (sym c.demand.ensures ∙ c.in-None.is) other),
+)

@@ -1,6 +1,6 @@
 use Rattle.std.proofs.Common.{map, string_bytes}
 use Rattle.popsample.specs.Answers.{ComesOf, IsOutcome}
-use Rattle.pop_words.proofs.LawLemmas.{asked_height}
+use Rattle.pop_words.proofs.LawLemmas.{asked_height, asked_root}
 use Rattle.popsample.proofs.Carrying.{carried}
 use Rattle.popsample.proofs.Lifting.{of_words}
 use Rattle.popsample.proofs.answer.answer_to.Goals as goal
@@ -19,7 +19,8 @@ returns-in-Ok-clause-read_fault g c failed =
     let front = c.answer_job.ensures.no_bad_line failed in
     record {
       rose = c.answer_job.ensures.read_fault failed;
-      asks = (c.in-Ok.job, c.in-Ok.ensures.job);
+      job = c.in-Ok.job;
+      asks = c.in-Ok.ensures.job;
       taken = front.0;
       consumed = front.1;
       no_bad_line = front.2;
@@ -28,4 +29,5 @@ returns-in-Ok-clause-read_fault g c failed =
 pub answer_job-requires : goal.answer_job-requires
 answer_job-requires g c =
     let asked = asked_height (map string_bytes c.args.words.now) c.in-Ok.job c.in-Ok.ensures.job in
-    record { some = asked.0; short = asked.1 }
+    let root = asked_root (map string_bytes c.args.words.now) c.in-Ok.job c.in-Ok.ensures.job in
+    record { some = asked.0; short = asked.1; root = root.0 }

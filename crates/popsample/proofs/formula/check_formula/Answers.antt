@@ -1,6 +1,5 @@
-use Rattle.std.proofs.Common.{refl}
-use Rattle.popsample.specs.Answers.{ComesOfChecking}
-use Rattle.popsample.specs.Answers.Outcome.{Clashes, Extremal}
+use Rattle.popsample.specs.Formulas.{ComesOfChecking}
+use Rattle.popsample.specs.Outcomes.Outcome.{Clashes, Extremal}
 use Rattle.popsample.proofs.Carrying.{told}
 use Rattle.popsample.proofs.formula.check_formula.Goals as goal
 

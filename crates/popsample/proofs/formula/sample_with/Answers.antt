@@ -1,6 +1,5 @@
-use Rattle.std.proofs.Common.{◌≡◌, ◌∙◌, ℕ, List, ap, subst}
-use Rattle.popsample.specs.Answers.{ComesOfRunning}
-use Rattle.popsample.specs.Answers.Outcome.{Clashes}
+use Rattle.popsample.specs.Formulas.{ComesOfRunning}
+use Rattle.popsample.specs.Outcomes.Outcome.{Clashes}
 use Rattle.popsample.proofs.Carrying.{told}
 use Rattle.popsample.proofs.formula.sample_with.Goals as goal
 

@@ -1,5 +1,5 @@
-use Rattle.std.proofs.Common.{◌≡◌, ℕ, List, sym, ap, ◌∙◌}
-use Rattle.popsample.specs.Answers.{status_of, text_of}
+use Rattle.std.proofs.Common.{sym, ap, ◌∙◌}
+use Rattle.popsample.specs.Outcomes.{status_of, text_of}
 use Rattle.popsample.proofs.OneOutcome.{one_outcome}
 use Rattle.popsample.proofs.laws.one_answer.Goals as goal
 

@@ -1,6 +1,6 @@
-use Rattle.std.proofs.Common.{◌≡◌, ℕ, ◌<◌, List, [], ◌∷◌, length, refl, arith}
+use Rattle.std.proofs.Common.{◌≡◌, ◌<◌, List, [], ◌∷◌, length, refl, arith}
 use Rattle.pop_model.specs.Families.{Event}
-use Rattle.popsample.specs.Answers.{end_status}
+use Rattle.popsample.specs.Outcomes.{end_status}
 use Rattle.popsample.proofs.running.status_of.Goals as goal
 
 none : (stuck : List Event) → length stuck ≡ 0 → 0 ≡ end_status stuck

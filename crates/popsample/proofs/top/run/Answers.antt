@@ -1,4 +1,4 @@
-use Rattle.std.proofs.Common.{inl, List, ℕ, Err, ap, subst}
+use Rattle.std.proofs.Common.{inl, Err, ap, subst}
 use Rattle.pop_edge.specs.Devices.{AppendsFront}
 use Rattle.popsample.proofs.top.run.Goals as goal
 

@@ -2,7 +2,8 @@ use Rattle.std.proofs.Common.{◌≡◌, ◌≤◌, ◌+◌, ℕ, List, ℤ, [],
 use Rattle.std.proofs.lemmas.Option.{slice_get-get_or}
 use Rattle.std.proofs.lemmas.Result.{IfOk-weaker}
 use Rattle.pop_instance.specs.Gathering.{KeepsFirst}
-use Rattle.dimacs_read.specs.Falsifying.{AreEventsOf, FitVariables, IsCubeOf}
+use Rattle.pop_instance.specs.Events.{FitVariables}
+use Rattle.dimacs_read.specs.Falsifying.{AreEventsOf, IsCubeOf}
 use Rattle.dimacs_read.proofs.LiteralsLemmas.{events_fit}
 use Rattle.dimacs_read.proofs.EventsOfClauses.{AreRowsOf, events_of, rows_more, rows_same}
 use Rattle.dimacs_read.proofs.formula.Formula.events.Goals as goal
@@ -15,9 +16,9 @@ loop-i-preserved c =
     let at : slice_get clauses c.loop-i.i ≡ Some clause =
     slice_get-get_or clauses c.loop-i.i [] (omega (arith, c.loop-i-test.true, c.clauses-i-end.ensures.count))
     ∙ ap (λ x. Some x) (sym c.clause.ensures.literals) in
-    elim c.match-branch-2.branch [
+    elim c.match-branch-3.branch [
       | in-Some+in_ok-push w ↦
-          rows_more clauses c.loop-i.i clause c.loop-i.rows.items c.match-branch-2.rows.items w.in-Some.cube
+          rows_more clauses c.loop-i.i clause c.loop-i.rows.items c.match-branch-3.rows.items w.in-Some.cube
           c.loop-i.invariant at (subst (IsCubeOf clause) w.in-Some.is c.in_ok-cube.ensures)
           (ap (λ v. v.items) w.rows-is ∙ w.in_ok-push.ensures.items)
       | in_default w ↦

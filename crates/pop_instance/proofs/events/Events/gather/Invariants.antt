@@ -1,10 +1,7 @@
-use Rattle.pop_instance.specs.Gathering.{AreSeen}
-use Rattle.pop_instance.proofs.Gather.{IsGathered}
+use Rattle.std.proofs.Common.{All, take}
+use Rattle.pop_model.specs.Popping.{IsCube}
 use Rattle.pop_instance.proofs.events.Events.gather.Given as goal
 
--- the rows so far are gathered, and the set has their cubes
-abbrev pub invariant-loop-row : goal.invariant-loop-row
-invariant-loop-row l = record {
-  gathered : IsGathered l.yielded l.kept.items;
-  seen : AreSeen l.seen l.kept.items;
-}
+-- the rows up to here have cubes
+abbrev pub invariant-loop-cube : goal.invariant-loop-cube
+invariant-loop-cube l = All (λ r. IsCube r.1) (take l.cube-index l.cube-items)

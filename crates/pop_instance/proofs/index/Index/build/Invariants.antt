@@ -1,6 +1,6 @@
-use Rattle.pop_instance.proofs.Filled.{IsFilled}
+use Rattle.pop_instance.proofs.FilledRows.{IsFilled}
 use Rattle.pop_instance.proofs.index.Index.build.Given as goal
 
--- the events from here on are placed
+-- the events before here are in the rows
 abbrev pub invariant-loop-place : goal.invariant-loop-place
-invariant-loop-place l = IsFilled l.events l.count l.tallies.items l.place l.starts.items l.places.items
+invariant-loop-place l = IsFilled l.events l.place l.count l.rows

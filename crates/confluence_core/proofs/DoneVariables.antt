@@ -1,0 +1,189 @@
+-- Variables that are done. The arrows lead from them to such or to the root, and the cycles through them that occur are
+-- noted and stuck. A pop leaves that as it is, since it moves no variable that is done: a cycle that it makes occur and
+-- that has such a variable would have them alone. When a walk is over, what it met is done too: its last arrow leads to
+-- what is done, or closes a cycle that can't be popped and is noted.
+use Rattle.std.proofs.Common.{inl, inr, ◌≡◌, ◌≢◌, ℕ, zero, suc, ◌+◌, ◌<◌, true, false, List, [], ◌∷◌, ◌++◌, get_or, Some, refl, sym, ap, subst, ◌∙◌, arith, Contains}
+use Rattle.std.proofs.lemmas.Bool.{cases_eq}
+use Rattle.std.proofs.lemmas.Option.{same_Some}
+use Rattle.std.proofs.lemmas.List.Elements.{Contains-get_or, Contains-push, Contains-push_cases, Contains-append_left}
+use Rattle.std.proofs.lemmas.List.Quantifiers.{all_pairs_push}
+use Rattle.pop_model.specs.Stacks.{value_at, height_of}
+use Rattle.pop_model.specs.Popping.{Cube, Occurs, HasNext, names, cursor, pop}
+use Rattle.pop_model.specs.Families.{Event}
+use Rattle.pop_model.specs.Cycles.{IsCycle, head_of, follow, first_of}
+use Rattle.pop_model.proofs.PopLemmas.{cursor-pop_other}
+use Rattle.pop_model.proofs.Diamond.{names_it}
+use Rattle.pop_model.proofs.Following.{follow_last}
+use Rattle.pop_model.proofs.CycleFamily.{first_named, same_cycle, Agree}
+use Rattle.pop_model.proofs.TreeEnd.{stays_at, round_at, occurs_demand}
+use Rattle.confluence_core.specs.CycleTables.{CycleTable, current_head}
+use Rattle.confluence_core.specs.Walks.{settled, IsSettled, IsMet, AreDone, IsStuckCycle, IsPath, Closes, cycle_event}
+use Rattle.confluence_core.proofs.LoopCubes.{cube_occurs}
+use Rattle.confluence_core.proofs.PathsLemmas.{on_later, settled_off}
+use Rattle.confluence_core.proofs.ClosedLoops.{IsClosed}
+
+-- what occurs, and what has next entries, goes by the cursors of a cube's variables alone
+pub occurs_by : (t : CycleTable) (c d : List ℕ) (e : Cube)
+    → ((v : ℕ) → names e v ≡ true → cursor d v ≡ cursor c v) → Occurs t.stacks c e → Occurs t.stacks d e
+occurs_by t c d e same occurs k p below =
+    let pair : ℕ × ℕ = get_or e k p in
+    let at = same pair.0 (names_it e pair (Contains-get_or e k p below)) in
+    ap (value_at t.stacks pair.0) at ∙ occurs k p below
+
+next_by : (t : CycleTable) (c d : List ℕ) (e : Cube)
+    → ((v : ℕ) → names e v ≡ true → cursor d v ≡ cursor c v) → HasNext t.stacks d e → HasNext t.stacks c e
+next_by t c d e same next k p below =
+    let pair : ℕ × ℕ = get_or e k p in
+    let at = same pair.0 (names_it e pair (Contains-get_or e k p below)) in
+    subst (λ n. n + 1 < height_of t.stacks pair.0) at (next k p below)
+
+-- the arrows from what is done stay there
+pub done_follow : (t : CycleTable) (c : List ℕ) (Done : ℕ → Type 0)
+    → ((v w : ℕ) → Done v → current_head t c v ≡ Some w → Done w)
+    → (k v w : ℕ) → Done v → follow (current_head t c) k v ≡ Some w → Done w
+done_follow t c Done closed zero v w at leads = subst Done (same_Some v w leads) at
+done_follow t c Done closed (suc k) v w at leads =
+    let last = follow_last (current_head t c) k v w leads in
+    closed last.0 w (done_follow t c Done closed k v last.0 at last.1) last.2
+
+-- so a cycle that occurs and has one such variable has them alone
+pub done_round : (t : CycleTable) (c : List ℕ) (Done : ℕ → Type 0)
+    → ((v w : ℕ) → Done v → current_head t c v ≡ Some w → Done w)
+    → (e : Cube) (v w : ℕ) → IsCycle t.heads e → Occurs t.stacks c e → Done v → names e v ≡ true → names e w ≡ true
+    → Done w
+done_round t c Done closed e v w cycle occurs at v_in w_in =
+    let round = round_at t.heads t.stacks c e v w cycle occurs v_in w_in in
+    done_follow t c Done closed round.0 v w at round.1
+
+-- the same variables under another name
+pub done_same : (t : CycleTable) (c : List ℕ) (Done Other : ℕ → Type 0) (stuck : List Event)
+    → ((v : ℕ) → Done v → Other v) → ((v : ℕ) → Other v → Done v) → AreDone t c Done stuck → AreDone t c Other stuck
+done_same t c Done Other stuck to from old = record {
+  closed = λ v w at leads. to w (old.closed v w (from v at) leads);
+  found = λ v e at cycle named occurs. old.found v e (from v at) cycle named occurs;
+  are_stuck = λ e has. let is = old.are_stuck e has in
+      record { event = is.event; occurs = is.occurs; last = is.last; done = λ v named. to v (is.done v named) };
+  differ = old.differ;
+}
+
+-- a variable that a pop leaves keeps its arrow
+pub arrow_kept : (t : CycleTable) (c : List ℕ) (e : Cube) (v : ℕ) → names e v ≡ false
+    → current_head t (pop c e) v ≡ current_head t c v
+arrow_kept t c e v other = ap (λ k. head_of t.heads v (value_at t.stacks v k)) (cursor-pop_other c e v other)
+
+-- a pop of a cube that has none of them leaves the done variables so
+pub done_popped : (t : CycleTable) (c : List ℕ) (Done : ℕ → Type 0) (stuck : List Event) (e : Cube)
+    → ((v : ℕ) → Done v → names e v ≡ false) → AreDone t c Done stuck → AreDone t (pop c e) Done stuck
+done_popped t c Done stuck e off old =
+    let closed : (v w : ℕ) → Done v → current_head t (pop c e) v ≡ Some w → Done w =
+    λ v w at leads. old.closed v w at (sym (arrow_kept t c e v (off v at)) ∙ leads) in
+    record {
+      closed = closed;
+      found = λ v f at cycle named occurs.
+          old.found v f at cycle named (occurs_by t (pop c e) c f
+          (λ w w_in. sym (cursor-pop_other c e w (off w
+          (done_round t (pop c e) Done closed f v w cycle occurs at named w_in)))) occurs);
+      are_stuck = λ f has.
+          let is = old.are_stuck f has in
+          let kept : (v : ℕ) → names f.cube v ≡ true → cursor (pop c e) v ≡ cursor c v =
+          λ v named. cursor-pop_other c e v (off v (is.done v named)) in
+          record {
+            event = is.event;
+            occurs = occurs_by t c (pop c e) f.cube kept is.occurs;
+            last = λ next. is.last (next_by t c (pop c e) f.cube kept next);
+            done = is.done;
+          };
+      differ = old.differ;
+    }
+
+-- a path whose last arrow leads to a settled variable or to the root
+pub done_rests : (t : CycleTable) (c marks path : List ℕ) (depth : ℕ) (stuck : List Event)
+    → IsPath t c marks path (suc depth)
+    → ((v : ℕ) → current_head t c (get_or path depth 0) ≡ Some v → IsSettled marks v)
+    → AreDone t c (IsSettled marks) stuck → AreDone t c (IsMet marks path (suc depth)) stuck
+done_rests t c marks path depth stuck is rests old = record {
+  closed = λ v w met leads. elim met [
+    | inl at ↦ inl (old.closed v w at leads)
+    | inr (k, less, at) ↦
+        let here : current_head t c (get_or path k 0) ≡ Some w = ap (current_head t c) at ∙ leads in
+        elim (cases_eq k depth) [
+          | inl last ↦ inl (rests w (ap (λ n. current_head t c (get_or path n 0)) (sym last) ∙ here))
+          | inr more ↦
+              inr (suc k, omega arith, same_Some (get_or path (suc k) 0) w (sym (is.leads k (omega arith)) ∙ here))
+        ]
+  ];
+  found = λ v e met cycle named occurs. elim met [
+    | inl at ↦ old.found v e at cycle named occurs
+    | inr (k, less, at) ↦
+        let last = on_later t c marks path (suc depth) is e cycle occurs k depth (omega arith) (omega arith)
+        (ap (names e) at ∙ named) in
+        let on = stays_at t.heads t.stacks c e (get_or path depth 0) cycle occurs last in
+        old.found on.next e (rests on.next on.leads) cycle on.named occurs
+  ];
+  are_stuck = λ e has. let s = old.are_stuck e has in
+      record { event = s.event; occurs = s.occurs; last = s.last; done = λ v named. inl (s.done v named) };
+  differ = old.differ;
+}
+
+-- a path that closes a cycle which can't be popped: this one is noted
+pub done_stuck : (t : CycleTable) (c marks path : List ℕ) (depth place : ℕ) (stuck : List Event) (e : Cube)
+    → suc depth < settled → Closes t c marks path depth place → IsClosed t c path depth place e
+    → (HasNext t.stacks c e → ⊥) → AreDone t c (IsSettled marks) stuck
+    → AreDone t c (IsMet marks path (suc depth)) (stuck ++ cycle_event e ∷ [])
+done_stuck t c marks path depth place stuck e few is loop last old = record {
+  closed = λ v w met leads. elim met [
+    | inl at ↦ inl (old.closed v w at leads)
+    | inr (k, less, at) ↦
+        let here : current_head t c (get_or path k 0) ≡ Some w = ap (current_head t c) at ∙ leads in
+        elim (cases_eq k depth) [
+          | inl end ↦
+              let order = is.order in
+              inr (
+                place,
+                omega arith,
+                same_Some (get_or path place 0) w
+                    (sym is.back ∙ ap (λ n. current_head t c (get_or path n 0)) (sym end) ∙ here),
+              )
+          | inr more ↦ inr (
+            suc k,
+            omega arith,
+            same_Some (get_or path (suc k) 0) w (sym (is.trail.leads k (omega arith)) ∙ here),
+          )
+        ]
+  ];
+  found = λ v f met cycle named occurs. elim met [
+    | inl at ↦ Contains-append_left stuck (cycle_event e ∷ []) (cycle_event f) (old.found v f at cycle named occurs)
+    | inr (k, less, at) ↦
+        let order = is.order in
+        let end = on_later t c marks path (suc depth) is.trail f cycle occurs k depth (omega arith) (omega arith)
+        (ap (names f) at ∙ named) in
+        let agree : Agree e f = λ u x y a b.
+        sym (occurs_demand t.stacks c e u x (cube_occurs t c _ e loop.cube) a)
+        ∙ occurs_demand t.stacks c f u y occurs b in
+        let same : e ≡ f = same_cycle t.heads e f loop.cycle cycle agree (get_or path depth 0)
+        (loop.on depth order (omega arith)) end in
+        subst (λ g. Contains (stuck ++ cycle_event e ∷ []) (cycle_event g)) same (Contains-push stuck (cycle_event e))
+  ];
+  are_stuck = λ f has. elim (Contains-push_cases stuck (cycle_event e) f has) [
+    | inl before ↦ let s = old.are_stuck f before in
+        record { event = s.event; occurs = s.occurs; last = s.last; done = λ v named. inl (s.done v named) }
+    | inr this ↦ subst (IsStuckCycle t c (IsMet marks path (suc depth))) this (record {
+      event = (loop.cycle, refl);
+      occurs = cube_occurs t c _ e loop.cube;
+      last = last;
+      done = λ v named.
+          let there = loop.on_only v named in
+          let below = there.2 in
+          inr (there.0, omega arith, there.3);
+    })
+  ];
+  differ = all_pairs_push (λ (f g : Event). f.unit ≢ g.unit) stuck (cycle_event e) old.differ (λ k d less same.
+      let f : Event = get_or stuck k d in
+      let s = old.are_stuck f (Contains-get_or stuck k d less) in
+      let first : names f.cube (first_of f.cube) ≡ true = first_named f.cube s.event.0.cube in
+      let at = s.done (first_of f.cube) first in
+      let there = loop.on_only (first_of e) (first_named e loop.cycle.cube) in
+      let below = there.2 in
+      settled_off t c marks path (suc depth) (first_of f.cube) few is.trail at there.0 (omega arith)
+      (there.3 ∙ sym same ∙ s.event.1));
+}

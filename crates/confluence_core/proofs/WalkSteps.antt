@@ -1,0 +1,190 @@
+-- The steps of a walk keep what holds in it, and take from the work that is left: the walk goes on to a variable that it
+-- hasn't met, a cycle that closes is popped, or the walk is over, and what it met is settled.
+use Rattle.std.proofs.Common.{inl, inr, ◌≡◌, ◌≢◌, ℕ, suc, ◌+◌, ◌-◌, ◌*◌, ◌<◌, ◌≤◌, true, false, List, length, take, get_or, Some, sym, ap, subst, ◌∙◌, arith}
+use Rattle.std.specs.List.{slice_range}
+use Rattle.std.proofs.lemmas.Bool.{cases_lt, cases_Bool, false≢true}
+use Rattle.std.proofs.lemmas.Nat.{mul-le}
+use Rattle.std.proofs.Math.Nat.{add-mul}
+use Rattle.std.proofs.lemmas.List.{length-take-le, get_or-take}
+use Rattle.pop_model.specs.Popping.{Cube, HasNext, NamesBelow, names, pop}
+use Rattle.pop_model.specs.Families.{Event}
+use Rattle.pop_model.proofs.PopLemmas.{length-pop}
+use Rattle.pop_model.proofs.Room.{left_from, room_falls, within_pop}
+use Rattle.confluence_core.specs.CycleTables.{CycleTable}
+use Rattle.confluence_core.specs.Loops.{Marks}
+use Rattle.confluence_core.specs.Walks.{settled, IsSettled, AreDone, AreSized, GoesOn, Closes, StaySettled, work}
+use Rattle.confluence_core.proofs.LoopCubes.{cube_all}
+use Rattle.confluence_core.proofs.PathsLemmas.{at_place, path_distinct, settled_off}
+use Rattle.confluence_core.proofs.ClosedLoops.{IsClosed, range_length, range_at}
+use Rattle.confluence_core.proofs.DoneVariables.{done_same, done_popped, arrow_kept}
+
+-- marks at the places of a loop
+pub record MarksPlaces (path : List ℕ) (from end mark : ℕ) (marks new : List ℕ) : Type 0 where
+  pub marked : (k : ℕ) → from ≤ k → k < end → get_or new (get_or path k 0) 0 ≡ mark
+  pub kept : (v : ℕ) → ((k : ℕ) → from ≤ k → k < end → get_or path k 0 ≢ v) → get_or new v 0 ≡ get_or marks v 0
+
+pub marks_places : (path : List ℕ) (from end mark : ℕ) (marks new : List ℕ) → from ≤ end → end ≤ length path
+    → Marks (slice_range path from end) (length (slice_range path from end)) mark marks new
+    → MarksPlaces path from end mark marks new
+marks_places path from end mark marks new order within are =
+    let size : length (slice_range path from end) ≡ end - from = range_length path from end within in
+    record {
+      marked = λ k low high.
+          let sum : from + (k - from) ≡ k = omega arith in
+          let at : get_or (slice_range path from end) (k - from) 0 ≡ get_or path k 0 =
+          range_at path from end (k - from) (omega arith) ∙ ap (at_place path) sum in
+          subst (λ v. get_or new v 0 ≡ mark) at (are.marked (k - from) (omega (arith, size)));
+      kept = λ v none. are.kept v (λ k less same.
+          none (from + k) (omega arith) (omega (arith, size)) (sym (range_at path from end k (omega (arith, size)))
+          ∙ same));
+    }
+
+-- and at the first places of a path
+pub marks_front : (path : List ℕ) (end mark : ℕ) (marks new : List ℕ) → end ≤ length path
+    → Marks (take end path) (length (take end path)) mark marks new → MarksPlaces path 0 end mark marks new
+marks_front path end mark marks new within are =
+    let size : length (take end path) ≡ end = length-take-le end path within in
+    record {
+      marked = λ k low high.
+          subst (λ v. get_or new v 0 ≡ mark) (get_or-take end path k 0 high) (are.marked k (omega (arith, size)));
+      kept = λ v none. are.kept v (λ k less same.
+          none k (omega arith) (omega (arith, size)) (sym (get_or-take end path k 0 (omega (arith, size))) ∙ same));
+    }
+
+-- a pop leaves the sizes as they are
+pub sized_popped : (t : CycleTable) (c marks path new_marks : List ℕ) (e : Cube) → HasNext t.stacks c e
+    → length new_marks ≡ length marks
+    → AreSized t c marks path → AreSized t (pop c e) new_marks path
+sized_popped t c marks path new_marks e next same old = record {
+  instance = old.instance;
+  cursors = record {
+    count = length-pop c e ∙ old.cursors.count;
+    within = within_pop t.stacks c e (sym old.instance.fits.0 ∙ sym old.cursors.count) next old.cursors.within;
+  };
+  marks_are = same ∙ old.marks_are;
+  places_are = old.places_are;
+}
+
+-- and so does a new path
+pub sized_same : (t : CycleTable) (c marks path new_marks new_path : List ℕ) → length new_marks ≡ length marks
+    → length new_path ≡ length path
+    → AreSized t c marks path → AreSized t c new_marks new_path
+sized_same t c marks path new_marks new_path same_marks same_places old = record {
+  instance = old.instance;
+  cursors = old.cursors;
+  marks_are = same_marks ∙ old.marks_are;
+  places_are = same_places ∙ old.places_are;
+}
+
+-- the variables of a loop have cursors
+loop_below : (t : CycleTable) (c path : List ℕ) (depth place : ℕ) (e : Cube) → length c ≡ length t.heads
+    → IsClosed t c path depth place e → NamesBelow e (length c)
+loop_below t c path depth place e count loop =
+    cube_all t c _ e loop.cube (λ v. v < length c)
+    (λ k d less. let known = loop.members.known k d less in omega (arith, known, count))
+
+-- a pop takes from the room
+pub pop_falls : (t : CycleTable) (c path : List ℕ) (depth place : ℕ) (e : Cube) → length c ≡ length t.heads
+    → IsClosed t c path depth place e → HasNext t.stacks c e
+    → left_from t.stacks 0 (pop c e) < left_from t.stacks 0 c
+pop_falls t c path depth place e count loop next =
+    room_falls t.stacks c e loop.cycle.cube (loop_below t c path depth place e count loop) next
+
+-- so it makes the work less, wherever the walk goes on
+pub work_falls : (t : CycleTable) (c new : List ℕ) (depth place : ℕ) → left_from t.stacks 0 new < left_from t.stacks 0 c
+    → work t new place < work t c depth
+work_falls t c new depth place falls =
+    let n = length t.heads + 1 in
+    let before = left_from t.stacks 0 c in
+    let after = left_from t.stacks 0 new in
+    let most : (after + 1) * n ≤ before * n = mul-le (after + 1) n before n (omega arith) (omega arith) in
+    let spread : (after + 1) * n ≡ after * n + 1 * n = add-mul after 1 n in
+    omega (arith, most, spread)
+
+module _ (t : CycleTable) (c marks path new_marks : List ℕ) (depth place : ℕ) (e : Cube) (few : suc depth < settled)
+    (is : Closes t c marks path depth place) (loop : IsClosed t c path depth place e)
+    (un : MarksPlaces path place (depth + 1) 0 marks new_marks) where
+  -- a variable that isn't on the loop keeps its mark
+  off_kept : (v : ℕ) → names e v ≡ false → get_or new_marks v 0 ≡ get_or marks v 0
+  off_kept v other = un.kept v (λ k low high same.
+      false≢true (sym other ∙ ap (names e) (sym same) ∙ loop.on k low (omega arith)))
+
+  -- one that is on it has none
+  on_cleared : (v : ℕ) → names e v ≡ true → get_or new_marks v 0 ≡ 0
+  on_cleared v there =
+      let at = loop.on_only v there in
+      let below = at.2 in
+      subst (λ u. get_or new_marks u 0 ≡ 0) at.3 (un.marked at.0 at.1 (omega arith))
+
+  -- no settled variable is on the loop
+  pub popped_off : (v : ℕ) → IsSettled marks v → names e v ≡ false
+  popped_off v at = elim (cases_Bool (names e v)) [
+    | inl there ↦
+        let stands = loop.on_only v there in
+        let below = stands.2 in
+        absurd (settled_off t c marks path (suc depth) v few is.trail at stands.0 (omega arith) stands.3)
+    | inr other ↦ other
+  ]
+
+  -- settled variables stay so
+  pub popped_stay : StaySettled marks new_marks
+  popped_stay v at = off_kept v (popped_off v at) ∙ at
+
+  -- and no others are settled
+  pub popped_before : StaySettled new_marks marks
+  popped_before v at = elim (cases_Bool (names e v)) [
+    | inl there ↦ let none : settled ≡ 0 = sym at ∙ on_cleared v there in absurd (omega arith)
+    | inr other ↦ sym (off_kept v other) ∙ at
+  ]
+
+  -- a variable in front of the loop isn't on it
+  front_off : (k : ℕ) → k < place → names e (get_or path k 0) ≡ false
+  front_off k less = elim (cases_Bool (names e (get_or path k 0))) [
+    | inl there ↦
+        let at = loop.on_only (get_or path k 0) there in
+        let low = at.1 in
+        let below = at.2 in
+        absurd (path_distinct t c marks path (suc depth) is.trail k at.0 (omega arith) (omega arith) (omega arith)
+        (sym at.3))
+    | inr other ↦ other
+  ]
+
+  -- the walk goes on from where the cycle closed
+  pub popped_goes_on : GoesOn t (pop c e) new_marks path place (get_or path place 0)
+  popped_goes_on =
+      let order = is.order in
+      record {
+        trail = record {
+          leads = λ k less. arrow_kept t c e (get_or path k 0) (front_off k (omega arith))
+              ∙ is.trail.leads k (omega arith);
+          below = λ k less. is.trail.below k (omega arith);
+          marked = λ k less. off_kept (get_or path k 0) (front_off k less) ∙ is.trail.marked k (omega arith);
+          others = λ v below. elim (cases_Bool (names e v)) [
+            | inl there ↦ inl (on_cleared v there)
+            | inr other ↦ elim (is.trail.others v below) [
+              | inl none ↦ inl (off_kept v other ∙ none)
+              | inr met ↦ elim met [
+                | inl at ↦ inr (inl (off_kept v other ∙ at))
+                | inr (k, less, at) ↦ elim (cases_lt k place) [
+                  | inl early ↦ inr (inr (k, early, at))
+                  | inr late ↦
+                      absurd (false≢true (sym other ∙ ap (names e) (sym at) ∙ loop.on k late (omega arith)))
+                ]
+              ]
+            ]
+          ];
+        };
+        fresh = un.marked place (omega arith) (omega arith);
+        below = is.trail.below place (omega arith);
+        last = λ d same.
+            let next : suc d ≡ place = sym same in
+            arrow_kept t c e (get_or path d 0) (front_off d (omega arith)) ∙ is.trail.leads d (omega arith)
+            ∙ ap (λ j. Some (get_or path j 0)) next;
+      }
+
+  -- the done variables stay so
+  pub popped_done : (stuck : List Event) → AreDone t c (IsSettled marks) stuck
+      → AreDone t (pop c e) (IsSettled new_marks) stuck
+  popped_done stuck old =
+      done_same t (pop c e) (IsSettled marks) (IsSettled new_marks) stuck popped_stay popped_before
+      (done_popped t c (IsSettled marks) stuck e popped_off old)

@@ -1,0 +1,117 @@
+-- Walks along the current arrows (Wilson 1996; Propp and Wilson 1998): what holds at cursors c,
+-- under a mark for each variable, along the variables at the first places of a path.
+use Rattle.std.specs.Prelude.{◌≡◌, ◌≢◌, ◌⊎◌, ℕ, suc, ◌+◌, ◌-◌, ◌*◌, ◌^◌, ◌<◌, ◌≤◌, true, ◌==◌, if◌then◌else◌, List, length, slice_index, AllPairs, Contains, Some}
+use Rattle.pop_model.specs.Popping.{Cube, Occurs, HasNext, names}
+use Rattle.pop_model.specs.Cycles.{IsCycle, first_of}
+use Rattle.pop_model.specs.Families.{Event, IsEvent}
+use Rattle.pop_model.specs.Instances.{IsInstance}
+use Rattle.pop_model.proofs.Room.{left_from}
+use Rattle.confluence_core.specs.CycleTables.{CycleTable, cycles, current_head, AreCursors}
+use Rattle.confluence_core.specs.declared.walked.Walked.{Walked}
+
+-- the mark of a settled variable; one on the path has its place plus 1, and each other one 0
+abbrev pub settled : ℕ
+settled = 2 ^ 32 - 1
+
+-- the variable is settled
+abbrev pub IsSettled : List ℕ → ℕ → Type 0
+IsSettled marks v = slice_index marks v ≡ settled
+
+-- the variable stands at one of the first places of the path
+abbrev pub IsOn : List ℕ → ℕ → ℕ → Type 0
+IsOn path depth v = (k : ℕ) × (k < depth) × (slice_index path k ≡ v)
+
+-- settled, or on the path
+abbrev pub IsMet : List ℕ → List ℕ → ℕ → ℕ → Type 0
+IsMet marks path depth v = IsSettled marks v ⊎ IsOn path depth v
+
+-- a settled variable stays so
+abbrev pub StaySettled : List ℕ → List ℕ → Type 0
+StaySettled marks new = (v : ℕ) → IsSettled marks v → IsSettled new v
+
+-- the event of a cycle
+abbrev pub cycle_event : Cube → Event
+cycle_event e = record { unit = first_of e; cube = e }
+
+-- a cycle that occurs and can't be popped, each of whose variables is done
+pub record IsStuckCycle (t : CycleTable) (c : List ℕ) (Done : ℕ → Type 0)
+    (e : Event) : Type 0 where
+  pub event : IsEvent (cycles t).family e
+  pub occurs : Occurs t.stacks c e.cube
+  pub last : HasNext t.stacks c e.cube → ⊥
+  pub done : (v : ℕ) → names e.cube v ≡ true → Done v
+
+-- From variables that are done the arrows lead to such or to the root, and the list has just the
+-- cycles through them that occur: none of these can be popped.
+pub record AreDone (t : CycleTable) (c : List ℕ) (Done : ℕ → Type 0)
+    (stuck : List Event) : Type 0 where
+  pub closed : (v w : ℕ) → Done v → current_head t c v ≡ Some w → Done w
+  pub found : (v : ℕ) (e : Cube) → Done v → IsCycle t.heads e → names e v ≡ true
+      → Occurs t.stacks c e → Contains stuck (cycle_event e)
+  pub are_stuck : (e : Event) → Contains stuck e → IsStuckCycle t c Done e
+  pub differ : AllPairs (λ e f. e.unit ≢ f.unit) stuck
+
+-- the sizes of what a walk works on
+pub record AreSized (t : CycleTable) (c marks path : List ℕ) : Type 0 where
+  pub instance : IsInstance (cycles t)
+  pub cursors : AreCursors t c
+  pub marks_are : length marks ≡ length t.heads
+  pub places_are : length path ≡ length t.heads
+
+-- the arrows lead along the path, which passes no variable twice
+pub record IsPath (t : CycleTable) (c marks path : List ℕ) (depth : ℕ) : Type 0 where
+  pub leads : (k : ℕ) → suc k < depth
+      → current_head t c (slice_index path k) ≡ Some (slice_index path (suc k))
+  pub below : (k : ℕ) → k < depth → slice_index path k < length t.heads
+  pub marked : (k : ℕ) → k < depth → slice_index marks (slice_index path k) ≡ suc k
+  pub others : (v : ℕ) → v < length t.heads → (slice_index marks v ≡ 0) ⊎ IsMet marks path depth v
+
+-- a walk may go on from v, which it hasn't met: the last arrow of the path leads there
+pub record GoesOn (t : CycleTable) (c marks path : List ℕ) (depth v : ℕ) : Type 0 where
+  pub trail : IsPath t c marks path depth
+  pub fresh : slice_index marks v ≡ 0
+  pub below : v < length t.heads
+  pub last : (d : ℕ) → depth ≡ suc d → current_head t c (slice_index path d) ≡ Some v
+
+-- the last arrow of the path leads back to a place of it: from there on it is a loop
+pub record Closes (t : CycleTable) (c marks path : List ℕ) (depth place : ℕ) : Type 0 where
+  pub trail : IsPath t c marks path (suc depth)
+  pub order : place ≤ depth
+  pub back : current_head t c (slice_index path depth) ≡ Some (slice_index path place)
+
+-- each variable is settled or unmarked
+abbrev pub AreClear : CycleTable → List ℕ → Type 0
+AreClear t marks = (v : ℕ) → v < length t.heads → (slice_index marks v ≡ 0) ⊎ IsSettled marks v
+
+-- the pops made and those to come fit a count
+abbrev pub HasRoom : CycleTable → Walked → Type 0
+HasRoom t w = w.pops + left_from t.stacks 0 w.cursors < 2 ^ 63
+
+-- what holds between two walks
+pub record Stands (t : CycleTable) (w : Walked) (marks path : List ℕ) : Type 0 where
+  pub sized : AreSized t w.cursors marks path
+  pub clear : AreClear t marks
+  pub done : AreDone t w.cursors (IsSettled marks) w.stuck
+  pub room : HasRoom t w
+
+-- what holds in a walk
+pub record Walks (t : CycleTable) (w : Walked) (marks path : List ℕ) (depth v : ℕ) : Type 0 where
+  pub sized : AreSized t w.cursors marks path
+  pub goes_on : GoesOn t w.cursors marks path depth v
+  pub done : AreDone t w.cursors (IsSettled marks) w.stuck
+  pub room : HasRoom t w
+
+-- the walk is over: what it met is done
+pub record IsOver (t : CycleTable) (w : Walked) (marks path : List ℕ) (depth : ℕ) : Type 0 where
+  pub sized : AreSized t w.cursors marks path
+  pub trail : IsPath t w.cursors marks path depth
+  pub done : AreDone t w.cursors (IsMet marks path depth) w.stuck
+  pub room : HasRoom t w
+
+-- the variable from which the walk began
+abbrev pub begun_at : List ℕ → ℕ → ℕ → ℕ
+begun_at path depth v = if depth == 0 then v else slice_index path 0
+
+-- what a walk has left to do: it falls at each step
+abbrev pub work : CycleTable → List ℕ → ℕ → ℕ
+work t c depth = left_from t.stacks 0 c * (length t.heads + 1) + (length t.heads - depth)

@@ -1,0 +1,69 @@
+//! The variables of a loop of current arrows, one after another.
+ghost use Rattle.std.specs.Prelude.{◌≡◌, ◌≢◌, ◌<◌, ◌-◌, ◌^◌, ◌↔◌, length, All, AllPairs, IfOk, IsTrue};
+ghost use Rattle.pop_model.specs.Popping.{cursor};
+ghost use Rattle.confluence_core.specs.CycleTables.{AreCursors};
+ghost use Rattle.confluence_core.specs.Loops.{AreMembers, HaveNext, IsCubeOf, Raises, Marks};
+
+use crate::current_arrows::CurrentArrows;
+use pop_instance::{Cube, Cursors};
+use std::alloc::{AllocError, Global};
+
+// Whether each of these variables has an entry behind its cursor.
+pub(crate) fn have_next(current: &CurrentArrows, cursors: &Cursors, members: &[u32]) -> bool
+    requires known { All (λ v. v < length current.now.heads) members.now }
+    requires cursors { AreCursors current.now cursors.now }
+    ensures { IsTrue result ↔ HaveNext current.now cursors.now members.now }
+{
+    for v in members {
+        if !current.has_next(cursors, *v) {
+            return false;
+        }
+    }
+    true
+}
+
+// The cube of these variables, each with its current slot.
+pub(crate) fn cube_of(
+    alloc: Global,
+    current: &mut CurrentArrows,
+    cursors: &Cursors,
+    members: &[u32],
+) -> Result<Cube, AllocError>
+    requires members { AreMembers current.old members.now }
+    requires cursors { AreCursors current.old cursors.now }
+    requires short { length members.now < 2 ^ 31 }
+    ensures cube { IfOk result (IsCubeOf current.old cursors.now members.now) }
+    ensures same { current.new ≡ current.old }
+{
+    let mut pairs = Vec::with_capacity(alloc, members.len())?;
+    for v in members {
+        pairs.push((*v, current.slot(cursors, *v)))?;
+    }
+    pairs.sort_unstable_by_key(|pair| pair.0);
+    let Some(cube) = Cube::new(pairs) else {
+        unreachable!()
+    };
+    Ok(cube)
+}
+
+// Moves the cursors of these variables on by 1.
+pub(crate) fn raise(cursors: &mut Cursors, members: &[u32])
+    requires known { All (λ v. v < length cursors.old) members.now }
+    requires differ { AllPairs (λ v w. v ≢ w) members.now }
+    requires room { All (λ v. cursor cursors.old v < 2 ^ 31 - 1) members.now }
+    ensures { Raises members.now (length members.now) cursors.old cursors.new }
+{
+    for v in members {
+        cursors.move_on(*v);
+    }
+}
+
+// Gives these variables a mark.
+pub(crate) fn mark_all(marks: &mut [u32], members: &[u32], mark: u32)
+    requires known { All (λ v. v < length marks.old) members.now }
+    ensures { Marks members.now (length members.now) mark marks.old marks.new }
+{
+    for v in members {
+        marks[*v as usize] = mark;
+    }
+}

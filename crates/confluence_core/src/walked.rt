@@ -1,0 +1,119 @@
+ghost use Rattle.std.specs.Prelude.{◌≡◌, ◌<◌, ◌+◌, ◌-◌, ◌^◌, ◌++◌, ◌∷◌, [], ℕ, List, length, OnOk, if◌then◌else◌, Some, None};
+ghost use Rattle.confluence_core.specs.Kept.{keeps_log};
+ghost use Rattle.confluence_core.specs.CycleTables.{AreCursors};
+ghost use Rattle.confluence_core.specs.Loops.{AreMembers, HaveNext, IsCubeOf};
+ghost use Rattle.confluence_core.specs.Steps.{with_record, with_pop, with_stuck};
+
+use crate::current_arrows::CurrentArrows;
+use crate::loops::{cube_of, raise};
+use crate::{End, Keep, Log, Record, Run, Stuck};
+use pop_instance::Cursors;
+use std::alloc::{AllocError, Global};
+
+/// What walks have left so far.
+#[derive(Drop)]
+pub(crate) struct Walked {
+    pub cursors: Cursors,
+    pub pops: u64,
+    pub keep: Keep,
+    /// The log of the pops where it is kept, and else empty.
+    pub log: Log,
+    /// The cycles that were found stuck.
+    pub stuck: Stuck,
+}
+
+impl Walked {
+    // Keeps the record of the pop of these variables' cycle, where the log is kept.
+    fn keep_record(
+        &mut self,
+        alloc: Global,
+        current: &mut CurrentArrows,
+        members: &[u32],
+    ) -> Result<(), AllocError>
+        requires members { AreMembers current.old members.now }
+        requires cursors { AreCursors current.old self.old.cursors }
+        requires short { length members.now < 2 ^ 31 }
+        ensures kept { OnOk result ((e : List (ℕ × ℕ))
+            → IsCubeOf current.old self.old.cursors members.now e
+            → self.new ≡ with_record self.old e) }
+        ensures others { self.new ≡ record self.old { log = self.new.log } }
+        ensures same { current.new ≡ current.old }
+    {
+        if self.keep.keeps_log() {
+            let cube = cube_of(alloc, current, &self.cursors, members)?;
+            let (unit, _) = cube.pair(0);
+            let popped = Record::at(alloc, unit, &cube, &self.cursors)?;
+            self.log.push(popped)?;
+        }
+        Ok(())
+    }
+
+    /// Pops the cycle of these variables.
+    pub fn pop(
+        &mut self,
+        alloc: Global,
+        current: &mut CurrentArrows,
+        members: &[u32],
+    ) -> Result<(), AllocError>
+        requires members { AreMembers current.old members.now }
+        requires cursors { AreCursors current.old self.old.cursors }
+        requires next { HaveNext current.old self.old.cursors members.now }
+        requires short { length members.now < 2 ^ 31 }
+        requires room { self.old.pops < 2 ^ 64 - 1 }
+        ensures popped { OnOk result ((e : List (ℕ × ℕ))
+            → IsCubeOf current.old self.old.cursors members.now e
+            → self.new ≡ with_pop self.old e) }
+        ensures same { current.new ≡ current.old }
+    {
+        let _count = current.count();
+        self.keep_record(alloc, current, members)?;
+        raise(&mut self.cursors, members);
+        self.pops += 1;
+        Ok(())
+    }
+
+    /// Notes the cycle of these variables as stuck.
+    pub fn note(
+        &mut self,
+        alloc: Global,
+        current: &mut CurrentArrows,
+        members: &[u32],
+    ) -> Result<(), AllocError>
+        requires members { AreMembers current.old members.now }
+        requires cursors { AreCursors current.old self.old.cursors }
+        requires short { length members.now < 2 ^ 31 }
+        ensures noted { OnOk result ((e : List (ℕ × ℕ))
+            → IsCubeOf current.old self.old.cursors members.now e
+            → self.new ≡ with_stuck self.old e) }
+        ensures same { current.new ≡ current.old }
+    {
+        let cube = cube_of(alloc, current, &self.cursors, members)?;
+        let (unit, _) = cube.pair(0);
+        self.stuck.push(unit, cube)?;
+        Ok(())
+    }
+
+    /// What the walks leave in the end.
+    pub fn into_run(self) -> Run
+        ensures cursors { result.end.cursors ≡ self.cursors }
+        ensures pops { result.end.pops ≡ self.pops }
+        ensures stuck { result.end.stuck ≡ self.stuck }
+        ensures log { result.log ≡ (if keeps_log self.keep then Some self.log else None) }
+    {
+        let Walked {
+            cursors,
+            pops,
+            keep,
+            log,
+            stuck,
+        } = self;
+        Run {
+            end: End {
+                cursors,
+                pops,
+                stuck,
+            },
+            log: keep.keeps_log().then_some(log),
+        }
+    }
+}

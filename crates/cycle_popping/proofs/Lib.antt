@@ -1,0 +1,3 @@
+mod JoinedVertices
+mod TreeRows
+mod Vectors

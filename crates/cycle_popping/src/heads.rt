@@ -1,0 +1,52 @@
+ghost use Rattle.std.specs.Prelude.{◌≡◌, ◌<◌, length, All, IfOk};
+ghost use Rattle.graph_read.specs.Graphs.{IsVertex};
+ghost use Rattle.cycle_popping.specs.Trees.{heads_along as heads_in, heads_of_tree};
+ghost use Rattle.graph_read.specs.Paths.{IsConnected};
+
+use crate::names::variable_of;
+use graph_read::{Graph, Incidence, vertex_of};
+use pop_instance::Arrows;
+use std::alloc::{AllocError, Global};
+
+/// The arrows of the spanning trees that lead to a root: the variables are the vertices but the root,
+/// rising; the slots of a variable are the edges at its vertex that aren't loops, in the order of the
+/// graph, and lead to their other ends. Each vertex is joined to the root by a path. Time and memory
+/// are linear in the vertices and edges.
+pub fn arrows(alloc: Global, graph: &Graph, root: u32) -> Result<Arrows, AllocError>
+    requires root { IsVertex graph.now.vertices root }
+    requires joined { IsConnected graph.now root }
+    ensures { IfOk result (λ arrows. arrows ≡ heads_of_tree graph.now root) }
+{
+    let incidence = Incidence::of(alloc, graph)?;
+    let count = graph.vertices() - 1;
+    let mut rows = Vec::with_capacity(alloc, count as usize)?;
+    for v in 0..count {
+        let vertex = vertex_of(root, v);
+        rows.push(heads_along(alloc, graph, root, vertex, incidence.at(vertex))?)?;
+    }
+    let Some(arrows) = Arrows::new(rows) else {
+        unreachable!()
+    };
+    Ok(arrows)
+}
+
+// Where edges lead from a vertex, at which they stand.
+fn heads_along(
+    alloc: Global,
+    graph: &Graph,
+    root: u32,
+    vertex: u32,
+    edges: &[u32],
+) -> Result<Vec<Option<u32>>, AllocError>
+    requires root { IsVertex graph.now.vertices root }
+    requires vertex { IsVertex graph.now.vertices vertex }
+    requires known { All (λ i. i < length graph.now.edges) edges.now }
+    ensures { IfOk result (λ heads. heads.items ≡ heads_in graph.now root vertex edges.now) }
+{
+    let mut heads = Vec::with_capacity(alloc, edges.len())?;
+    for i in edges {
+        let other = graph.edge(*i).other_end(vertex);
+        heads.push(variable_of(root, other))?;
+    }
+    Ok(heads)
+}

@@ -1,0 +1,16 @@
+//! Rooted spanning trees of a graph by cycle popping (Propp and Wilson 1998): their arrows, the
+//! weights of these, and the loop-erased walk. Contracts see graphs, arrows and weights as in the
+//! definitions.
+#![tactic(auto)]
+
+mod heads;
+pub mod laws;
+mod names;
+#[cfg(test)]
+mod tests;
+mod walks;
+mod weights;
+
+pub use heads::arrows;
+pub use walks::run_walks;
+pub use weights::arrow_weights;

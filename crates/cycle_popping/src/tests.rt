@@ -1,0 +1,147 @@
+ghost use Rattle.std.specs.Prelude.{◌≡◌, ◌≤◌, length, IfOk};
+ghost use Rattle.pop_model.specs.Stacks.{variables_of};
+ghost use Rattle.cycle_popping.specs.Walks.{AreCycles};
+
+use crate::{arrow_weights, arrows, run_walks};
+use confluence_core::{End, run_first};
+use graph_read::{Graph, first_cut_off, read_graph};
+use pop_edge::MemSource;
+use pop_instance::{Family, Instance};
+use pop_stacks::{Reader, Rows, StackSpec, Stacks};
+use std::alloc::Global;
+use std::process::Abort;
+use std::test::Fail;
+
+// The graph of a text.
+fn graph(alloc: Global, text: &[u8]) -> Result<Graph, Fail> {
+    let mut source = MemSource::new(Vec::from_slice(alloc, text)?, 4096, Vec::new(alloc));
+    Ok(read_graph(alloc, &mut source)?)
+}
+
+// The trees of a graph to a root, over these stacks.
+fn trees(
+    rt: &impl Abort,
+    alloc: Global,
+    text: &[u8],
+    root: u32,
+    spec: StackSpec,
+) -> Result<Instance, Fail>
+    ensures { IfOk result (λ instance. AreCycles instance.family) }
+{
+    let graph = graph(alloc, text)?;
+    assert!(rt; 1 <= root);
+    assert!(rt; root <= graph.vertices());
+    let cut_off = first_cut_off(alloc, &graph, root)?;
+    assert!(rt; cut_off.is_none());
+    let arrows = arrows(alloc, &graph, root)?;
+    let weights = arrow_weights(alloc, &graph, root)?;
+    let stacks = Stacks::new(spec, weights, 9)?;
+    Ok(Instance::new(stacks, Family::Cycles(arrows)).expect(rt, "an instance"))
+}
+
+// What an end is to be: its cursors, its pops and the units of its stuck cycles.
+#[derive(Drop)]
+struct Want<'a> {
+    cursors: &'a [u32],
+    pops: u64,
+    stuck: &'a [u32],
+}
+
+// Compares an end over so many variables.
+fn is_end(rt: &impl Abort, end: &End, count: u32, want: &Want)
+    requires { count ≡ length end.now.cursors }
+{
+    assert_eq!(rt; want.cursors.len(), count as usize);
+    for v in 0..count {
+        assert_eq!(rt;
+            end.cursors.get(v),
+            want.cursors[v as usize],
+            "variable {v}"
+        );
+    }
+    assert_eq!(rt; end.pops, want.pops);
+    assert_eq!(rt; end.stuck.len(), want.stuck.len() as u64);
+    for (i, unit) in want.stuck.iter().enumerate() {
+        assert_eq!(rt; end.stuck.at(i as u64).0, *unit, "stuck cycle {i}");
+    }
+}
+
+// Compares the ends of the walks and of the one-thread run.
+fn ends_with(rt: &impl Abort, alloc: Global, instance: &Instance, want: &Want) -> Result<(), Fail>
+    requires { AreCycles instance.now.family }
+{
+    let count = instance.stacks().count();
+    is_end(rt, &run_walks(alloc, instance)?, count, want);
+    is_end(rt, &run_first(alloc, instance)?, count, want);
+    Ok(())
+}
+
+const TRIANGLE: &[u8] = b"p edge 3 3\ne 1 2\ne 2 3\ne 1 3\n";
+
+// Worked by hand: vertex 2 has the edges to 1 and 3, and vertex 3 those to 2 and 1.
+#[test]
+fn the_cycle_of_two_vertices_is_popped(rt: HostRuntime) -> Result<(), Fail> {
+    let alloc = rt.alloc();
+    let rows = Rows::of(vec![in alloc; vec![in alloc; 1, 0]?, vec![in alloc; 0, 0]?]?);
+    let instance = trees(&rt, alloc, TRIANGLE, 1, StackSpec::Given(rows))?;
+    let want = Want {
+        cursors: &[1, 1],
+        pops: 1,
+        stuck: &[],
+    };
+    ends_with(&rt, alloc, &instance, &want)
+}
+
+// Worked by hand: the cycle of vertices 2 and 3 occurs at their last entries.
+#[test]
+fn a_cycle_is_stuck_at_the_last_entry(rt: HostRuntime) -> Result<(), Fail> {
+    let alloc = rt.alloc();
+    let rows = Rows::of(vec![in alloc; vec![in alloc; 1]?, vec![in alloc; 0]?]?);
+    let instance = trees(&rt, alloc, TRIANGLE, 1, StackSpec::Given(rows))?;
+    let want = Want {
+        cursors: &[0, 0],
+        pops: 0,
+        stuck: &[0],
+    };
+    ends_with(&rt, alloc, &instance, &want)
+}
+
+// Worked by hand: the path 2, 3, 4, 1, whose vertices 3 and 4 lead to each other first.
+#[test]
+fn a_vertex_in_front_of_a_cycle_keeps_its_arrow(rt: HostRuntime) -> Result<(), Fail> {
+    let alloc = rt.alloc();
+    let rows = Rows::of(vec![in alloc;
+        vec![in alloc; 0, 0]?,
+        vec![in alloc; 1, 1]?,
+        vec![in alloc; 0, 1]?,
+    ]?);
+    let text = b"p edge 4 3\ne 2 3\ne 3 4\ne 4 1\n";
+    let instance = trees(&rt, alloc, text, 1, StackSpec::Given(rows))?;
+    let want = Want {
+        cursors: &[0, 1, 1],
+        pops: 1,
+        stuck: &[],
+    };
+    ends_with(&rt, alloc, &instance, &want)
+}
+
+// Worked by hand from the key stream: vertex 2 has a loop, which is no slot, and two parallel edges to
+// the root of weights 5 and 1, of which the first entry takes the first.
+#[test]
+fn parallel_edges_are_slots_and_loops_are_none(rt: HostRuntime) -> Result<(), Fail> {
+    let alloc = rt.alloc();
+    let text = b"p edge 2 3\ne 2 2\ne 1 2 5\ne 1 2\n";
+    let instance = trees(&rt, alloc, text, 1, StackSpec::Key([0; 32]))?;
+    let want = Want {
+        cursors: &[0],
+        pops: 0,
+        stuck: &[],
+    };
+    ends_with(&rt, alloc, &instance, &want)?;
+    let stacks = instance.stacks();
+    assert!(&rt; stacks.count() == 1);
+    assert_eq!(&rt; stacks.domain(0), 2);
+    assert!(&rt; stacks.height(0) == 9);
+    assert_eq!(&rt; Reader::new(stacks).entry(stacks, 0, 0), 0);
+    Ok(())
+}

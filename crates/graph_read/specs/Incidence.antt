@@ -1,0 +1,37 @@
+-- Which edges stand at a vertex.
+use Rattle.std.specs.Prelude.{ℕ, ◌-◌, Bool, ◌&&◌, ◌||◌, not, ◌==◌, if◌then◌else◌, List, [], length, map, filter, slice_index_or}
+use Rattle.std.specs.List.{enumerate_from, range_with_len}
+use Rattle.graph_read.specs.declared.edge.Edge.{Edge}
+use Rattle.graph_read.specs.Graphs.{GraphOf}
+
+-- both ends of the edge are one vertex
+abbrev pub is_loop : Edge → Bool
+is_loop e = e.u == e.v
+
+-- the vertex is an end of the edge
+abbrev pub touches : Edge → ℕ → Bool
+touches e w = (e.u == w) || (e.v == w)
+
+-- the end of an edge that isn't this vertex; of a loop it is the vertex itself
+abbrev pub other_end : Edge → ℕ → ℕ
+other_end e w = if e.u == w then e.v else e.u
+
+-- the edges at a vertex that aren't loops, in the order of the graph, each under its number, from 0
+abbrev pub listed_edges : GraphOf → ℕ → List (ℕ × Edge)
+listed_edges g w = filter (λ p. touches p.1 w && not (is_loop p.1)) (enumerate_from 0 g.edges)
+
+-- the numbers of these edges
+abbrev pub edges_at : GraphOf → ℕ → List ℕ
+edges_at g w = map (λ p. p.0) (listed_edges g w)
+
+-- the edges at each vertex, from vertex 1 on
+abbrev pub incidence_of : GraphOf → List (List ℕ)
+incidence_of g = map (edges_at g) (range_with_len 1 g.vertices)
+
+-- how many edges stand at each vertex, loops aside
+abbrev pub degrees_of : GraphOf → List ℕ
+degrees_of g = map (λ w. length (edges_at g w)) (range_with_len 1 g.vertices)
+
+-- what stands there at a vertex
+abbrev pub at_vertex : List (List ℕ) → ℕ → List ℕ
+at_vertex incidence w = slice_index_or incidence (w - 1) []

@@ -1,0 +1,20 @@
+-- What the grammar and the refusals have to do with one another, and what paths join.
+use Rattle.std.specs.Prelude.{◌≡◌, ◌↔◌, ℕ, List, None}
+use Rattle.graph_read.specs.Graphs.{GraphOf}
+use Rattle.graph_read.specs.GraphText.{graph_refusal, graph_of}
+use Rattle.graph_read.specs.Grammar.{IsGraphText}
+use Rattle.graph_read.specs.Paths.{IsJoined}
+
+-- a text is that of a graph exactly where it has no refusal, and the graph is the one it spells
+abbrev pub AcceptsExactly : Type 0
+AcceptsExactly =
+    (text : List ℕ) (g : GraphOf)
+    → IsGraphText text g ↔ ((graph_refusal text ≡ None) × (g ≡ graph_of text))
+
+-- a text is that of one graph at most
+abbrev pub HasOneGraph : Type 0
+HasOneGraph = (text : List ℕ) (g h : GraphOf) → IsGraphText text g → IsGraphText text h → g ≡ h
+
+-- paths lead both ways
+abbrev pub JoinedBothWays : Type 0
+JoinedBothWays = (g : GraphOf) (a b : ℕ) → IsJoined g a b → IsJoined g b a

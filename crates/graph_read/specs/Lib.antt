@@ -1,0 +1,9 @@
+pub mod Graphs
+pub mod Grids
+pub mod Incidence
+pub mod Paths
+pub mod GraphText
+pub mod Grammar
+pub mod Laws
+pub mod Reading
+pub mod Search

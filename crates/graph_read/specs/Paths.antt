@@ -1,0 +1,25 @@
+-- Which vertices of a graph paths join.
+use Rattle.std.specs.Prelude.{◌≡◌, ℕ, true, List, [], ◌∷◌, Contains}
+use Rattle.graph_read.specs.declared.edge.Edge.{Edge}
+use Rattle.graph_read.specs.Graphs.{GraphOf, IsVertex}
+use Rattle.graph_read.specs.Incidence.{other_end, touches}
+
+-- edges of the graph lead from one vertex to another, one behind another, each from either of its
+-- ends; a vertex may stand there again
+abbrev pub IsPath : GraphOf → ℕ → List Edge → ℕ → Type 0
+IsPath g a [] b = a ≡ b
+IsPath g a (e ∷ path) b =
+    Contains g.edges e × (touches e a ≡ true) × IsPath g (other_end e a) path b
+
+-- some path joins the vertices
+abbrev pub IsJoined : GraphOf → ℕ → ℕ → Type 0
+IsJoined g a b = (path : List Edge) × IsPath g a path b
+
+-- the vertex is cut off from the root: no path joins them
+pub record IsCutOff (g : GraphOf) (root w : ℕ) : Type 0 where
+  pub vertex : IsVertex g.vertices w
+  pub apart : IsJoined g root w → ⊥
+
+-- a path joins each vertex to the root
+abbrev pub IsConnected : GraphOf → ℕ → Type 0
+IsConnected g root = (w : ℕ) → IsVertex g.vertices w → IsJoined g root w

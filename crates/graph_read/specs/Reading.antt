@@ -1,0 +1,64 @@
+-- How a reader comes to know the lines of a text, one by one.
+use Rattle.std.specs.Prelude.{◌≡◌, ◌⊎◌, true, ℕ, ◌^◌, nat_lt, List, [], ◌∷◌, ◌++◌, length, Option, None, Some, Result, Ok, Err}
+use Rattle.std.specs.Option.{option_copied}
+use denote.Ref.{Bor}
+use Rattle.pop_edge.specs.declared.refusal.ReadRefusal.{ReadRefusal}
+use Rattle.pop_edge.specs.declared.refusal.ReadRefusal.TheVariants.{OutOfMemory, ReadFault}
+use Rattle.pop_edge.specs.Refusals.{Fault, at_line, refusal_at}
+use Rattle.graph_read.specs.declared.edge.Edge.{Edge}
+use Rattle.graph_read.specs.declared.reader.Reader.{Reader}
+use Rattle.graph_read.specs.Graphs.{GraphOf}
+use Rattle.graph_read.specs.GraphText.{declared, header_fault, edge_words, edge_in, fault_of, line_refusal, whole_refusal, graph_in}
+
+-- the header was read, or it is refused
+abbrev pub IsHeader : ℕ → List (List ℕ) → Result ℕ ReadRefusal → Type 0
+IsHeader line words (Ok n) = (header_fault words ≡ None) × (declared words ≡ Some n)
+IsHeader line words (Err refusal) = at_line line (header_fault words) ≡ Some refusal
+
+-- the words behind the `e` of an edge's line
+abbrev pub AreEdgeWords : List (List ℕ)
+    → Option (Bor (List ℕ) × Bor (List ℕ) × Option (Bor (List ℕ))) → Type 0
+AreEdgeWords words None = edge_words words ≡ None
+AreEdgeWords words (Some (u, v, w)) = edge_words words ≡ Some (u.now, v.now, option_copied w)
+
+-- what was read in a line, or its refusal
+abbrev pub in_line : {A : Type 0} → ℕ → Result A Fault → Result A ReadRefusal
+in_line line (Ok x) = Ok x
+in_line line (Err fault) = Err (refusal_at line fault)
+
+-- the graph has the edge of the line more
+pub record HasAdded (old new : GraphOf) (words : List (List ℕ)) : Type 0 where
+  pub edge : Edge
+  pub spelled : edge_in old.vertices words ≡ Ok edge
+  pub room : nat_lt (length old.edges) (2 ^ 23) ≡ true
+  pub added : new ≡ record old { edges = old.edges ++ edge ∷ [] }
+
+-- the edge of a line was added, or the line is refused
+abbrev pub AddsLine : GraphOf → GraphOf → ℕ → List (List ℕ) → Result (Unit {0}) ReadRefusal
+    → Type 0
+AddsLine old new line words (Ok _) = HasAdded old new words
+AddsLine old new line words (Err refusal) =
+    (refusal ≡ OutOfMemory)
+    ⊎ (at_line line (fault_of (edge_in old.vertices words) (length old.edges)) ≡ Some refusal)
+
+-- the graph that lines spell so far, once there is a header
+abbrev pub graph_so_far : List (ℕ × List (List ℕ)) → Option GraphOf
+graph_so_far [] = None
+graph_so_far (header ∷ lines) = Some (graph_in (header ∷ lines))
+
+-- the reader knows these lines, and none of them is refused
+pub record Knows (r : Reader) (lines : List (ℕ × List (List ℕ))) : Type 0 where
+  pub graph : r.graph ≡ graph_so_far lines
+  pub clean : line_refusal lines ≡ None
+
+-- a line more is known, or it is refused
+abbrev pub TakesLine : Reader → List (ℕ × List (List ℕ)) → Result (Unit {0}) ReadRefusal → Type 0
+TakesLine new lines (Ok _) = Knows new lines
+TakesLine new lines (Err refusal) =
+    (refusal ≡ OutOfMemory) ⊎ (line_refusal lines ≡ Some refusal)
+
+-- the graph of lines without a refusal, or what stands against the whole
+abbrev pub Finishes : ℕ → List (ℕ × List (List ℕ)) → Result GraphOf ReadRefusal → Type 0
+Finishes line lines (Ok g) = (whole_refusal line lines ≡ None) × (g ≡ graph_in lines)
+Finishes line lines (Err ReadFault) = ⊥
+Finishes line lines (Err refusal) = whole_refusal line lines ≡ Some refusal

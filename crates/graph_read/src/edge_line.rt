@@ -1,0 +1,82 @@
+ghost use Rattle.std.specs.Prelude.{◌≡◌, ◌≤◌, IfOk, Option};
+ghost use Rattle.std.specs.Option.{option_copied};
+ghost use Rattle.pop_edge.specs.Words.{words_of};
+ghost use Rattle.graph_read.specs.Graphs.{IsEdge, IsVertex};
+ghost use Rattle.graph_read.specs.GraphText.{edge_in, end_in, number_in, weight_in};
+ghost use Rattle.graph_read.specs.Reading.{AreEdgeWords, in_line};
+
+use crate::Edge;
+use pop_edge::{ReadRefusal, next_word, number};
+
+// The words behind the `e` of an edge's line: its two ends, and the weight where one is written.
+fn edge_words(line: &[u8]) -> Option<(&[u8], &[u8], Option<&[u8]>)>
+    ensures { AreEdgeWords (words_of line.now) result }
+{
+    let (e, rest) = next_word(line)?;
+    let (u, rest) = next_word(rest)?;
+    let (v, rest) = next_word(rest)?;
+    if e != b"e".as_slice() {
+        return None;
+    }
+    match next_word(rest) {
+        None => Some((u, v, None)),
+        Some((weight, rest)) => {
+            if next_word(rest).is_some() {
+                return None;
+            }
+            Some((u, v, Some(weight)))
+        }
+    }
+}
+
+fn read_number(line: u64, word: &[u8]) -> Result<u32, ReadRefusal>
+    ensures { result ≡ in_line line (number_in word.now) }
+{
+    number(word).ok_or(ReadRefusal::Malformed(line, 12))
+}
+
+// The end of an edge, one of so many vertices.
+fn read_end(vertices: u32, line: u64, word: &[u8]) -> Result<u32, ReadRefusal>
+    ensures end { result ≡ in_line line (end_in vertices word.now) }
+    ensures vertex { IfOk result (IsVertex vertices) }
+{
+    let end = read_number(line, word)?;
+    if end < 1 || end > vertices {
+        return Err(ReadRefusal::Malformed(line, 13));
+    }
+    Ok(end)
+}
+
+// The weight of an edge, from 1 on, which is 1 where none is written.
+fn read_weight(line: u64, word: Option<&[u8]>) -> Result<u32, ReadRefusal>
+    ensures weight { result ≡ in_line line (weight_in (option_copied word.entry)) }
+    ensures some { IfOk result (λ weight. 1 ≤ weight) }
+{
+    match word {
+        None => Ok(1),
+        Some(word) => {
+            let weight = read_number(line, word)?;
+            if weight == 0 {
+                return Err(ReadRefusal::Malformed(line, 14));
+            }
+            Ok(weight)
+        }
+    }
+}
+
+/// The edge that a line spells, in a graph of so many vertices, or what is wrong with the line:
+/// code 15 first, and then its words from left to right.
+pub fn read_edge(vertices: u32, number: u64, line: &[u8]) -> Result<Edge, ReadRefusal>
+    ensures edge { result ≡ in_line number (edge_in vertices (words_of line.now)) }
+    ensures joins { IfOk result (IsEdge vertices) }
+{
+    match edge_words(line) {
+        None => Err(ReadRefusal::Malformed(number, 15)),
+        Some((u, v, weight)) => {
+            let u = read_end(vertices, number, u)?;
+            let v = read_end(vertices, number, v)?;
+            let weight = read_weight(number, weight)?;
+            Ok(Edge { u, v, weight })
+        }
+    }
+}

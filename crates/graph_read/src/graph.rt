@@ -1,0 +1,75 @@
+ghost use Rattle.std.specs.Prelude.{◌≡◌, ◌<◌, ◌≤◌, ◌^◌, [], ◌∷◌, ◌++◌, length, slice_index_or, OnOk, OnErr};
+
+use crate::Edge;
+use std::alloc::{AllocError, Global};
+use std::marker::Model;
+
+/// A graph of at most 2^22 vertices, which count from 1, and at most 2^23 edges, which count from
+/// 0 here. Loops and parallel edges may stand in it.
+#[derive(Drop)]
+pub struct Graph {
+    vertices: u32,
+    edges: Vec<Edge>,
+}
+
+impl Model for Graph {
+    ghost use Rattle.graph_read.specs.Graphs.{GraphOf, IsGraph};
+
+    ghost Value = { GraphOf };
+
+    ghost view = { λ g. record { vertices = g.vertices; edges = g.edges.items } };
+
+    ghost invariant = { λ g. IsGraph (record { vertices = g.vertices; edges = g.edges.items }) };
+}
+
+impl Graph {
+    ghost use Rattle.graph_read.specs.Graphs.{IsEdge, IsGraph};
+
+    // The graph of so many vertices that has no edge.
+    pub(crate) fn without_edges(alloc: Global, vertices: u32) -> Graph
+        requires { vertices ≤ 2 ^ 22 }
+        ensures { result ≡ record { vertices = vertices; edges = [] } }
+    {
+        Graph {
+            vertices,
+            edges: Vec::new(alloc),
+        }
+    }
+
+    // Adds an edge behind the others.
+    pub(crate) fn push(&mut self, edge: Edge) -> Result<(), AllocError>
+        requires edge { IsEdge self.old.vertices edge }
+        requires room { length self.old.edges < 2 ^ 23 }
+        ensures pushed { OnOk result (self.new ≡
+            record self.old { edges = self.old.edges ++ edge ∷ [] }) }
+        ensures kept { OnErr result (self.new ≡ self.old) }
+    {
+        self.edges.push(edge)?;
+        Ok(())
+    }
+
+    /// How many vertices there are: at most 2^22.
+    pub fn vertices(&self) -> u32
+        ensures count { result ≡ self.now.vertices }
+        ensures graph { IsGraph self.now }
+    {
+        self.vertices
+    }
+
+    /// How many edges there are: at most 2^23.
+    pub fn edges(&self) -> u32
+        ensures count { result ≡ length self.now.edges }
+        ensures graph { IsGraph self.now }
+    {
+        self.edges.len() as u32
+    }
+
+    /// Edge i, from 0.
+    pub fn edge(&self, i: u32) -> Edge
+        requires { i < length self.now.edges }
+        ensures edge { result ≡ slice_index_or self.now.edges i result }
+        ensures joins { IsEdge self.now.vertices result }
+    {
+        self.edges[i as usize]
+    }
+}

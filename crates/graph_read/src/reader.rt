@@ -1,0 +1,89 @@
+ghost use Rattle.std.specs.Prelude.{◌≡◌, ◌++◌, ℕ, List, []};
+ghost use Rattle.pop_edge.specs.Words.{words_of};
+ghost use Rattle.pop_edge.specs.Judging.{told};
+ghost use Rattle.graph_read.specs.GraphText.{graph, is_passed_over};
+ghost use Rattle.graph_read.specs.Reading.{AddsLine};
+
+use crate::Graph;
+use crate::edge_line::read_edge;
+use crate::header::read_header;
+use pop_edge::{ReadRefusal, next_word};
+use std::alloc::Global;
+
+const COMMENT: u8 = b'c';
+
+// The most edges of a graph.
+const MAX_EDGES: u32 = 8388608;
+
+/// What the lines so far say.
+#[derive(Drop)]
+pub struct Reader {
+    pub alloc: Global,
+    /// The graph so far, once the header came.
+    pub graph: Option<Graph>,
+}
+
+impl Reader {
+    ghost use Rattle.graph_read.specs.Reading.{Finishes, Knows, TakesLine};
+
+    /// No line yet.
+    pub fn new(alloc: Global) -> Reader
+        ensures { Knows result [] }
+    {
+        Reader { alloc, graph: None }
+    }
+
+    /// Takes a line, or refuses it.
+    pub fn take_line(&mut self, number: u64, line: &[u8]) -> Result<(), ReadRefusal>
+        ensures { (lines : List (ℕ × List (List ℕ))) → Knows self.old lines
+            → TakesLine self.new (lines ++ told graph number (words_of line.now)) result }
+    {
+        if passes_over(line) {
+            return Ok(());
+        }
+        match &mut self.graph {
+            None => {
+                let vertices = read_header(number, line)?;
+                self.graph = Some(Graph::without_edges(self.alloc, vertices));
+                Ok(())
+            }
+            Some(graph) => add_line(graph, number, line),
+        }
+    }
+
+    /// The graph of the lines. A missing header is refused at the line given.
+    pub fn finish(self, line: u64) -> Result<Graph, ReadRefusal>
+        ensures { (lines : List (ℕ × List (List ℕ))) → Knows self lines
+            → Finishes line lines result }
+    {
+        self.graph.ok_or(ReadRefusal::Malformed(line, 11))
+    }
+}
+
+// Whether a line says nothing: it has no words, or it is a comment, or a descriptor.
+fn passes_over(line: &[u8]) -> bool
+    ensures { result ≡ is_passed_over (words_of line.now) }
+{
+    match next_word(line) {
+        None => true,
+        Some((word, _rest)) => {
+            word[0] == COMMENT
+                || word == b"n".as_slice()
+                || word == b"d".as_slice()
+                || word == b"v".as_slice()
+                || word == b"x".as_slice()
+        }
+    }
+}
+
+// Adds the edge of a line behind the header, or refuses the line: its codes come before the limit.
+fn add_line(graph: &mut Graph, number: u64, line: &[u8]) -> Result<(), ReadRefusal>
+    ensures { AddsLine graph.old graph.new number (words_of line.now) result }
+{
+    let edge = read_edge(graph.vertices(), number, line)?;
+    if graph.edges() >= MAX_EDGES {
+        return Err(ReadRefusal::Limit(5, number));
+    }
+    graph.push(edge)?;
+    Ok(())
+}

@@ -1,0 +1,115 @@
+ghost use Rattle.std.specs.Prelude.{◌≡◌, ◌≤◌, ℕ, not, length, position, OnOk, IfOk, IfSome, IfNone};
+ghost use Rattle.pop_model.specs.Places.{IsLeast};
+ghost use Rattle.graph_read.specs.Graphs.{IsVertex};
+ghost use Rattle.graph_read.specs.Incidence.{incidence_of};
+ghost use Rattle.graph_read.specs.Paths.{IsConnected, IsCutOff, IsJoined};
+ghost use Rattle.graph_read.specs.Search.{AreJoined, Goes, HasVisited, IsMet, IsSearch};
+
+use crate::{Graph, Incidence};
+use std::alloc::{AllocError, Global};
+
+/// The vertices that a search has come to.
+#[derive(Drop)]
+pub struct Search {
+    /// For each vertex, from vertex 1 on, whether the search has come to it.
+    pub met: Vec<bool>,
+    /// The vertices that were met, in the order in which they were.
+    pub found: Vec<u32>,
+}
+
+impl Search {
+    ghost use Rattle.graph_read.specs.Graphs.{GraphOf, IsVertex};
+    ghost use Rattle.graph_read.specs.Paths.{IsJoined};
+    ghost use Rattle.graph_read.specs.Search.{Goes, HasVisited, IsMet, IsSearch};
+
+    // No vertex was met yet.
+    fn new(alloc: Global, vertices: u32) -> Result<Search, AllocError>
+        ensures { IfOk result (λ search. (g : GraphOf) → g.vertices ≡ vertices
+            → (root : ℕ) → IsSearch g root search) }
+    {
+        Ok(Search {
+            met: vec![in alloc; false; vertices as usize]?,
+            found: Vec::new(alloc),
+        })
+    }
+
+    // Comes to a vertex.
+    fn meet(&mut self, vertex: u32) -> Result<(), AllocError>
+        requires first { 1 ≤ vertex }
+        requires last { vertex ≤ length self.old.met.items }
+        ensures here { OnOk result (IsMet self.new.met.items vertex) }
+        ensures goes { OnOk result (Goes self.old self.new) }
+        ensures search { OnOk result ((g : GraphOf) (root : ℕ) → IsSearch g root self.old
+            → IsJoined g root vertex → IsSearch g root self.new) }
+    {
+        let place = vertex as usize - 1;
+        if !self.met[place] {
+            self.found.push(vertex)?;
+            self.met[place] = true;
+        }
+        Ok(())
+    }
+}
+
+// Comes to the other ends of the edges at a vertex.
+fn visit(
+    search: &mut Search,
+    graph: &Graph,
+    incidence: &Incidence,
+    vertex: u32,
+) -> Result<(), AllocError>
+    requires incidence { incidence.now ≡ incidence_of graph.now }
+    requires vertex { IsVertex graph.now.vertices vertex }
+    requires size { length search.old.met.items ≡ graph.now.vertices }
+    requires met { IsMet search.old.met.items vertex }
+    ensures goes { OnOk result (Goes search.old search.new) }
+    ensures visited { OnOk result (HasVisited graph.now search.new vertex) }
+    ensures search { OnOk result ((root : ℕ) → IsSearch graph.now root search.old
+        → IsSearch graph.now root search.new) }
+{
+    for i in incidence.at(vertex) {
+        search.meet(graph.edge(*i).other_end(vertex))?;
+    }
+    Ok(())
+}
+
+// The vertices that paths join to the root: for each vertex, from vertex 1 on, whether some path
+// does.
+fn reach(alloc: Global, graph: &Graph, root: u32) -> Result<Vec<bool>, AllocError>
+    requires { IsVertex graph.now.vertices root }
+    ensures { IfOk result (λ met. AreJoined graph.now root met.items) }
+{
+    let incidence = Incidence::of(alloc, graph)?;
+    let mut search = Search::new(alloc, graph.vertices())?;
+    search.meet(root)?;
+    let mut at = 0;
+    while at < search.found.len() {
+        let vertex = search.found[at];
+        visit(&mut search, graph, &incidence, vertex)?;
+        at += 1;
+    }
+    let Search { met, found: _ } = search;
+    Ok(met)
+}
+
+fn first_unmet(met: &[bool]) -> Option<usize>
+    ensures { result ≡ position not met.now }
+{
+    met.iter().position(|met| !*met)
+}
+
+/// The least vertex that no path joins to the root, or None where a path joins each. The root is a
+/// vertex. Time and memory are linear in the vertices and edges.
+pub fn first_cut_off(alloc: Global, graph: &Graph, root: u32) -> Result<Option<u32>, AllocError>
+    requires { IsVertex graph.now.vertices root }
+    ensures least { IfOk result (λ vertex. IfSome vertex (IsLeast (IsCutOff graph.now root))) }
+    ensures none { IfOk result (λ vertex. IfNone vertex (IsConnected graph.now root)) }
+{
+    // Read for its contract, which says that there are at most 2^22 vertices.
+    let _vertices = graph.vertices();
+    let met = reach(alloc, graph, root)?;
+    match first_unmet(&met) {
+        None => Ok(None),
+        Some(place) => Ok(Some(place as u32 + 1)),
+    }
+}

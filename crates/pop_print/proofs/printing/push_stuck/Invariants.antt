@@ -1,8 +1,0 @@
-use Rattle.std.proofs.Common.{◌≡◌, ◌++◌, take}
-use Rattle.pop_model.specs.Families.Family.{Listed}
-use Rattle.pop_print.specs.Output.{stuck_lines}
-use Rattle.pop_print.proofs.printing.push_stuck.Given as goal
-
--- the events up to here are printed
-abbrev pub invariant-loop-i : goal.invariant-loop-i
-invariant-loop-i l = l.out ≡ l.fn.out ++ stuck_lines (Listed l.events) (take l.i l.stuck)

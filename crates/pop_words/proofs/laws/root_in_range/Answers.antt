@@ -1,0 +1,5 @@
+use Rattle.pop_words.proofs.LawLemmas.{asked_root}
+use Rattle.pop_words.proofs.laws.root_in_range.Goals as goal
+
+pub returns : goal.returns
+returns c = asked_root

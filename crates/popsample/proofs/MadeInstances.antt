@@ -1,0 +1,67 @@
+-- The instances that the program makes are those of the definitions, and can be told.
+use Rattle.std.proofs.Common.{◌≡◌, ℕ, ◌-◌, ◌<◌, List, [], length, get_or, refl, sym, ap, ◌∙◌, arith, zero-add}
+use Rattle.std.proofs.lemmas.List.{length-map}
+use Rattle.std.proofs.lemmas.List.FromFn.{length-map-range_with_len, get_or-map-range_with_len}
+use Rattle.pop_model.specs.Stacks.{StackTable, Origin}
+use Rattle.pop_model.specs.Families.{Family}
+use Rattle.pop_model.specs.Families.Family.{Cycles}
+use Rattle.pop_model.specs.Instances.{Instance, FamilyFits}
+use Rattle.pop_model.specs.Names.{vertex_of}
+use Rattle.graph_read.specs.Graphs.{GraphOf, IsVertex, edge_at}
+use Rattle.graph_read.specs.Incidence.{edges_at, other_end}
+use Rattle.cycle_popping.specs.Trees.{variable_of, heads_at, weights_at, heads_of_tree, weights_of_tree}
+use Rattle.pop_print.specs.Ends.{IsOfTree}
+use Rattle.popsample.specs.Trees.{tree_instance}
+
+-- an instance over stacks of these weights
+pub same_instance : (s : StackTable) (weights : List (List ℕ)) (f : Family) (i : Instance)
+    → i ≡ record { stacks = s; family = f } → s.weights ≡ weights
+    → i ≡ record { stacks = record { origin = s.origin; weights = weights }; family = f }
+same_instance s weights f i is same =
+    let over : List (List ℕ) → Instance = λ w. record { stacks = record { origin = s.origin; weights = w }; family = f } in
+    is ∙ ap over same
+
+-- there are as many rows of weights as vertices but the root
+pub count_of_weights : (g : GraphOf) (root : ℕ) → length (weights_of_tree g root) ≡ g.vertices - 1
+count_of_weights g root = length-map-range_with_len (weights_at g root) 0 (g.vertices - 1)
+
+-- a variable has a weight for each edge at its vertex
+slots_of_weights : (g : GraphOf) (root v : ℕ) → v < g.vertices - 1
+    → length (get_or (weights_of_tree g root) v []) ≡ length (edges_at g (vertex_of root v))
+slots_of_weights g root v below =
+    ap length (get_or-map-range_with_len (weights_at g root) 0 (g.vertices - 1) v v [] below (zero-add v))
+    ∙ length-map (edges_at g (vertex_of root v)) (λ i. (edge_at g i).weight)
+
+-- and a slot
+slots_of_heads : (g : GraphOf) (root v : ℕ) → v < g.vertices - 1
+    → length (get_or (heads_of_tree g root) v []) ≡ length (edges_at g (vertex_of root v))
+slots_of_heads g root v below =
+    ap length (get_or-map-range_with_len (heads_at g root) 0 (g.vertices - 1) v v [] below (zero-add v))
+    ∙ length-map (edges_at g (vertex_of root v)) (λ i. variable_of root (other_end (edge_at g i) (vertex_of root v)))
+
+-- the instance of a graph's cycles is one of a tree
+pub tree_told : (origin : Origin) (g : GraphOf) (root : ℕ) → IsVertex g.vertices root
+    → IsOfTree g root (tree_instance origin g root)
+tree_told origin g root root_is =
+    let count = count_of_weights g root in
+    let first = root_is.first in
+    let last = root_is.last in
+    record {
+      root_is = root_is;
+      cycles = (heads_of_tree g root, refl);
+      count = omega (arith, count);
+      slots = λ v below. slots_of_weights g root v (omega (arith, count, below));
+    }
+
+-- each variable has a slot for each of its weights
+pub tree_fits : (s : StackTable) (g : GraphOf) (root : ℕ) → s.weights ≡ weights_of_tree g root
+    → FamilyFits s (Cycles (heads_of_tree g root))
+tree_fits s g root same =
+    let heads = length-map-range_with_len (heads_at g root) 0 (g.vertices - 1) in
+    let weights = ap length same ∙ count_of_weights g root in (
+      heads ∙ sym weights,
+      λ v below.
+          let less : v < g.vertices - 1 = omega (arith, heads, below) in
+          slots_of_heads g root v less ∙ sym (slots_of_weights g root v less)
+          ∙ ap (λ w. length (get_or w v [])) (sym same),
+    )

@@ -1,0 +1,59 @@
+-- A graph of which a tree is asked has one outcome: its root is no vertex, or it has a least vertex that is cut off, or
+-- one run.
+use Rattle.std.proofs.Common.{◌≡◌, ℕ, ◌<◌, ◌≤◌, refl, sym, ap, ◌∙◌, arith}
+use Rattle.pop_model.specs.Stacks.{Origin}
+use Rattle.pop_model.specs.Places.{IsLeast}
+use Rattle.pop_model.proofs.CycleFamily.{cycles_extremal}
+use Rattle.graph_read.specs.Graphs.{GraphOf}
+use Rattle.graph_read.specs.Paths.{IsConnected, IsCutOff}
+use Rattle.cycle_popping.specs.Trees.{heads_of_tree, weights_of_tree}
+use Rattle.pop_print.specs.declared.facts.Facts.TheVariants.{Tree as TreeFacts}
+use Rattle.popsample.specs.Outcomes.{Outcome}
+use Rattle.popsample.specs.Outcomes.Outcome.{Usage, Unread, Isolated, NoRoot, CutOff, Unsound, Clashes, Extremal, Ended}
+use Rattle.popsample.specs.Sampling.{IsEndOf, ComesOfSampling}
+use Rattle.popsample.specs.Trees.{tree_instance, ComesOfTree}
+use Rattle.popsample.proofs.Leasts.{one_least}
+use Rattle.popsample.proofs.OneSampling.{IsOne, one_end, one_sampling}
+
+-- the root is a vertex, no vertex is cut off, and of sampling this comes
+abbrev Sampled : Origin → ℕ → GraphOf → Outcome → Type 0
+Sampled origin root g o =
+    (root ≤ g.vertices) × IsConnected g root
+    × ComesOfSampling (TreeFacts g root) origin (weights_of_tree g root)
+    (IsEndOf (TreeFacts g root) (tree_instance origin g root)) o
+
+-- how a graph of which a tree is asked comes to an outcome
+data Ways (origin : Origin) (root : ℕ) (g : GraphOf) (o : Outcome) : Type 0 where
+  no_root : o ≡ NoRoot root → g.vertices < root → Ways origin root g o
+  cut_off : (w : ℕ) → o ≡ CutOff w → root ≤ g.vertices → IsLeast (IsCutOff g root) w → Ways origin root g o
+  sampled : Sampled origin root g o → Ways origin root g o
+
+ways : (origin : Origin) (root : ℕ) (g : GraphOf) (o : Outcome) → ComesOfTree origin root g o → Ways origin root g o
+ways origin root g (Usage p) h = sampled h
+ways origin root g (Unread r) h = sampled h
+ways origin root g (Isolated w) h = sampled h
+ways origin root g (NoRoot r) h = no_root (ap NoRoot h.0) h.1
+ways origin root g (CutOff w) h = cut_off w refl h.0 h.1
+ways origin root g (Unsound t r) h = sampled h
+ways origin root g (Clashes i j) h = sampled h
+ways origin root g (Extremal n) h = sampled h
+ways origin root g (Ended t i c n s) h = sampled h
+
+one_way : (origin : Origin) (root : ℕ) (g : GraphOf) (o p : Outcome) → Ways origin root g o → Ways origin root g p → o ≡ p
+one_way origin root g o p (no_root o_is above) (no_root p_is above') = o_is ∙ sym p_is
+one_way origin root g o p (no_root o_is above) (cut_off w p_is below' least') = absurd (omega arith)
+one_way origin root g o p (no_root o_is above) (sampled h') = let below' = h'.0 in absurd (omega arith)
+one_way origin root g o p (cut_off w o_is below least) (no_root p_is above') = absurd (omega arith)
+one_way origin root g o p (cut_off w o_is below least) (cut_off w' p_is below' least') =
+    o_is ∙ ap CutOff (one_least (IsCutOff g root) w w' least least') ∙ sym p_is
+one_way origin root g o p (cut_off w o_is below least) (sampled h') = absurd (least.holds.apart (h'.1 w least.holds.vertex))
+one_way origin root g o p (sampled h) (no_root p_is above') = let below = h.0 in absurd (omega arith)
+one_way origin root g o p (sampled h) (cut_off w' p_is below' least') = absurd (least'.holds.apart (h.1 w' least'.holds.vertex))
+one_way origin root g o p (sampled h) (sampled h') =
+    one_sampling (TreeFacts g root) origin (weights_of_tree g root)
+    (IsEndOf (TreeFacts g root) (tree_instance origin g root))
+    (one_end (TreeFacts g root) (tree_instance origin g root) (cycles_extremal (heads_of_tree g root))) o p h.2 h'.2
+
+-- a graph of which a tree is asked has one outcome
+pub one_tree : (origin : Origin) (root : ℕ) (g : GraphOf) → IsOne (ComesOfTree origin root g)
+one_tree origin root g o p h h' = one_way origin root g o p (ways origin root g o h) (ways origin root g p h')

@@ -1,0 +1,73 @@
+-- What can come of command words and a text, and how each is told.
+use Rattle.std.specs.Prelude.{◌≡◌, ◌≢◌, ◌≤◌, ℕ, List, [], ◌∷◌}
+use Rattle.pop_model.specs.Families.{Event}
+use Rattle.pop_model.specs.Instances.{Instance}
+use Rattle.pop_edge.specs.declared.refusal.ReadRefusal.{ReadRefusal}
+use Rattle.pop_stacks.specs.declared.stack_fault.StackFault.{StackFault}
+use Rattle.pop_print.specs.declared.facts.Facts.{Facts}
+use Rattle.pop_print.specs.Names.{name_of}
+use Rattle.pop_print.specs.Output.{end_text}
+use Rattle.popsample.specs.Refusals.{usage_line, isolated_line, root_line, cut_off_line, clash_line, extremal_line, reading_line, reading_status, stacks_line, stacks_status}
+
+-- what comes of command words and a text
+pub data Outcome : Type 0 where
+  -- the words are no command line: the place of the first bad word, from 1
+  Usage : (place : ℕ) → Outcome
+  -- the text is refused
+  Unread : (refusal : ReadRefusal) → Outcome
+  -- no edge touches this vertex
+  Isolated : (vertex : ℕ) → Outcome
+  -- the root that is asked for is no vertex
+  NoRoot : (root : ℕ) → Outcome
+  -- no path joins this vertex to the root
+  CutOff : (vertex : ℕ) → Outcome
+  -- the stacks have a fault
+  Unsound : (facts : Facts) (fault : StackFault) → Outcome
+  -- two events clash; these are the numbers of the least pair
+  Clashes : (number other : ℕ) → Outcome
+  -- no two of so many events clash
+  Extremal : (events : ℕ) → Outcome
+  -- the run came to an end
+  Ended : (facts : Facts) (instance : Instance) (cursors : List ℕ) (pops : ℕ) (stuck : List Event)
+      → Outcome
+
+-- a run's status tells whether an event still occurs
+abbrev pub end_status : List Event → ℕ
+end_status [] = 0
+end_status (e ∷ stuck) = 1
+
+abbrev pub status_of : Outcome → ℕ
+status_of (Usage place) = 2
+status_of (Unread refusal) = reading_status refusal
+status_of (Isolated vertex) = 6
+status_of (NoRoot root) = 6
+status_of (CutOff vertex) = 6
+status_of (Unsound facts fault) = stacks_status fault
+status_of (Clashes i j) = 5
+status_of (Extremal count) = 0
+status_of (Ended facts i cursors pops stuck) = end_status stuck
+
+abbrev pub text_of : Outcome → List ℕ
+text_of (Usage place) = usage_line place
+text_of (Unread refusal) = reading_line refusal
+text_of (Isolated vertex) = isolated_line vertex
+text_of (NoRoot root) = root_line root
+text_of (CutOff vertex) = cut_off_line vertex
+text_of (Unsound facts fault) = stacks_line (name_of facts) fault
+text_of (Clashes i j) = clash_line i j
+text_of (Extremal count) = extremal_line count
+text_of (Ended facts i cursors pops stuck) = end_text facts i cursors pops stuck
+
+-- a status that a text is answered by: none of the words, of a device or of memory
+pub record IsTextStatus (status : ℕ) : Type 0 where
+  pub low : status ≤ 6
+  pub no_usage : status ≢ 2
+
+-- the status and the output are those of an outcome
+pub record Tells (outcome : Outcome) (status : ℕ) (out : List ℕ) : Type 0 where
+  pub status_is : status ≡ status_of outcome
+  pub out_is : out ≡ text_of outcome
+
+-- the status and the output are those of an outcome that comes so
+abbrev pub AnswersBy : (Outcome → Type 0) → ℕ → List ℕ → Type 0
+AnswersBy Comes status out = (outcome : Outcome) × Comes outcome × Tells outcome status out

@@ -1,0 +1,30 @@
+-- What comes of a graph of which a spanning tree is asked.
+use Rattle.std.specs.Prelude.{◌≡◌, ℕ, ◌<◌, ◌≤◌}
+use Rattle.pop_model.specs.Stacks.{Origin}
+use Rattle.pop_model.specs.Places.{IsLeast}
+use Rattle.pop_model.specs.Families.Family.{Cycles}
+use Rattle.pop_model.specs.Instances.{Instance}
+use Rattle.graph_read.specs.Graphs.{GraphOf}
+use Rattle.graph_read.specs.Paths.{IsConnected, IsCutOff}
+use Rattle.cycle_popping.specs.Trees.{heads_of_tree, weights_of_tree}
+use Rattle.pop_print.specs.declared.facts.Facts.TheVariants.{Tree as TreeFacts}
+use Rattle.popsample.specs.Outcomes.{Outcome}
+use Rattle.popsample.specs.Outcomes.Outcome.{NoRoot, CutOff}
+use Rattle.popsample.specs.Sampling.{IsEndOf, ComesOfSampling}
+
+-- the instance of the cycles of a graph with this root
+abbrev pub tree_instance : Origin → GraphOf → ℕ → Instance
+tree_instance origin g root =
+    record {
+      stacks = record { origin = origin; weights = weights_of_tree g root };
+      family = Cycles (heads_of_tree g root);
+    }
+
+-- what comes of a graph of which a tree with this root is asked
+abbrev pub ComesOfTree : Origin → ℕ → GraphOf → Outcome → Type 0
+ComesOfTree origin root g (NoRoot r) = (r ≡ root) × (g.vertices < root)
+ComesOfTree origin root g (CutOff w) = (root ≤ g.vertices) × IsLeast (IsCutOff g root) w
+ComesOfTree origin root g o =
+    (root ≤ g.vertices) × IsConnected g root
+    × ComesOfSampling (TreeFacts g root) origin (weights_of_tree g root)
+    (IsEndOf (TreeFacts g root) (tree_instance origin g root)) o

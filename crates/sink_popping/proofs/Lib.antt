@@ -1,0 +1,3 @@
+mod SinkCubesLemmas
+mod GatheredSinks
+pub mod OneDirection

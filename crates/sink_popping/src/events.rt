@@ -1,0 +1,62 @@
+ghost use Rattle.std.specs.Prelude.{◌≡◌, ℕ, length, IfOk, IfErr, OnOk};
+ghost use Rattle.graph_read.specs.Graphs.{IsVertex};
+ghost use Rattle.graph_read.specs.Incidence.{incidence_of};
+ghost use Rattle.pop_instance.specs.Events.{FitVariables};
+ghost use Rattle.sink_popping.specs.Sinks.{AreSinksOf, IsIsolated, IsSinkFault};
+ghost use Rattle.sink_popping.specs.SinkCubes.{AreLoopMarks, ComesOfVertex};
+
+use crate::SinkFault;
+use crate::loops::loop_marks;
+use crate::sink_cubes::sink_cube;
+use graph_read::{Graph, Incidence};
+use pop_instance::{Cube, Events};
+use std::alloc::Global;
+
+/// The events of the graph, each under the number of its vertex, from 1: the cube of vertex w has
+/// each edge that touches w, with the value at which it points to w. Edge i, from 0, is variable i;
+/// value 0 points from u to v, and 1 from v to u. A vertex with a loop is never a sink, and has no
+/// event. Time and memory are linear in vertices and edges.
+///
+/// # Errors
+///
+/// `Isolated` with the least vertex that no edge touches, exactly where there is one. A loop
+/// touches its vertex.
+pub fn sinks(alloc: Global, graph: &Graph) -> Result<Events, SinkFault>
+    ensures sinks { IfOk result (AreSinksOf graph.now) }
+    ensures fit { IfOk result (FitVariables (length graph.now.edges)) }
+    ensures touched { OnOk result ((w : ℕ) → IsIsolated graph.now w → ⊥) }
+    ensures fault { IfErr result (IsSinkFault graph.now) }
+{
+    let incidence = Incidence::of(alloc, graph)?;
+    let loops = loop_marks(alloc, graph)?;
+    let mut rows = Vec::with_capacity(alloc, graph.vertices() as usize)?;
+    for w in 1..graph.vertices() + 1 {
+        if let Some(cube) = sink_at(alloc, graph, &incidence, &loops, w)? {
+            rows.push((w, cube))?;
+        }
+    }
+    Ok(Events::of(rows))
+}
+
+// The event of a vertex, if it has no loop.
+fn sink_at(
+    alloc: Global,
+    graph: &Graph,
+    incidence: &Incidence,
+    loops: &[bool],
+    w: u32,
+) -> Result<Option<Cube>, SinkFault>
+    requires vertex { IsVertex graph.now.vertices w }
+    requires incidence { incidence.now ≡ incidence_of graph.now }
+    requires loops { AreLoopMarks graph.now loops.now }
+    ensures { ComesOfVertex graph.now w result }
+{
+    if loops[w as usize] {
+        return Ok(None);
+    }
+    let edges = incidence.at(w);
+    if edges.is_empty() {
+        return Err(SinkFault::Isolated(w));
+    }
+    Ok(Some(sink_cube(alloc, graph, w, edges)?))
+}

@@ -1,0 +1,14 @@
+//! The events of sink-free orientations: an edge is a variable, whose value is its direction, and
+//! each vertex that can be a sink is an event. Contracts see the events as numbered cubes.
+#![tactic(auto)]
+
+mod events;
+pub mod laws;
+mod loops;
+mod sink_cubes;
+mod sink_fault;
+#[cfg(test)]
+mod tests;
+
+pub use events::sinks;
+pub use sink_fault::SinkFault;
