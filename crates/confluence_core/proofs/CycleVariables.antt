@@ -3,9 +3,10 @@ use Rattle.std.proofs.Common.{inl, inr, ◌≡◌, ℕ, ◌<◌, ◌≤◌, true
 use Rattle.std.proofs.lemmas.Bool.{cases_eq}
 use Rattle.std.proofs.lemmas.List.{length-map, get_or-map}
 use Rattle.std.proofs.lemmas.List.Kept.{AllPairs-from_increasing}
-use Rattle.pop_model.specs.Popping.{Cube, IsCube, names, variables}
+use Rattle.std.proofs.lemmas.List.Elements.{Contains-get_or}
+use Rattle.pop_model.specs.Popping.{Cube, IsCube, NamesBelow, names, variables}
 use Rattle.pop_model.specs.Cycles.{IsCycle, first_of}
-use Rattle.pop_model.proofs.Diamond.{named}
+use Rattle.pop_model.proofs.Diamond.{named, names_it}
 use Rattle.pop_model.proofs.Following.{named_demand}
 use Rattle.pop_model.proofs.CycleFamily.{Heads, arrow_demands, stays_in}
 use Rattle.pop_model.proofs.TreeEnd.{head_within}
@@ -16,6 +17,12 @@ cycle_below heads e v cycle there =
     let on = stays_in heads e cycle v there in
     let x = named_demand e v there in
     head_within heads v x.0 on.next (sym (arrow_demands heads e v x.0 x.1) ∙ on.leads)
+
+-- so each of them is below their number
+pub cycle_names_below : (heads : Heads) (e : Cube) → IsCycle heads e → NamesBelow e (length heads)
+cycle_names_below heads e cycle k d within =
+    let p : ℕ × ℕ = get_or e k d in
+    cycle_below heads e p.0 cycle (names_it e p (Contains-get_or e k d within))
 
 -- the first variable of a cube is its least
 pub first_least : (e : Cube) (v : ℕ) → IsCube e → names e v ≡ true → first_of e ≤ v

@@ -25,7 +25,7 @@ front_all : (xs : List ℕ) (n : ℕ) → length xs ≤ n → slice_range xs 0 n
 front_all xs n le = take_all (n - 0) xs (omega arith)
 
 -- a cycle that occurs leads as the current arrows do
-follows_as : (t : CycleTable) (c : List ℕ) (e : Cube) (v k w : ℕ) → IsCycle t.heads e → Occurs t.stacks c e
+pub follows_as : (t : CycleTable) (c : List ℕ) (e : Cube) (v k w : ℕ) → IsCycle t.heads e → Occurs t.stacks c e
     → names e v ≡ true → follow (arrow_in t.heads e) k v ≡ Some w → follow (current_head t c) k v ≡ Some w
 follows_as t c e v zero w cycle occurs at leads = leads
 follows_as t c e v (suc k) w cycle occurs at leads =
@@ -36,7 +36,7 @@ follows_as t c e v (suc k) w cycle occurs at leads =
     ∙ last.2
 
 -- a cycle has at most as many variables as there are
-cycle_short : (heads : Heads) (e : Cube) → IsCycle heads e → length e ≤ length heads
+pub cycle_short : (heads : Heads) (e : Cube) → IsCycle heads e → length e ≤ length heads
 cycle_short heads e cycle =
     let size : length (variables e) ≡ length e = length-map e (λ (p : ℕ × ℕ). p.0) in
     let below : All (λ v. v < length heads) (variables e) = λ k d less.

@@ -12,13 +12,13 @@ use Rattle.pop_model.proofs.FirstRun.{first_run}
 use Rattle.confluence_core.specs.Runs.{IsRun}
 
 -- the cursors after one record more
-replay_push : (c : List ℕ) (log : List LogRecord) (r : LogRecord)
+pub replay_push : (c : List ℕ) (log : List LogRecord) (r : LogRecord)
     → replay c (log ++ r ∷ []) ≡ pop (replay c log) r.event.cube
 replay_push c [] r = refl
 replay_push c (q ∷ log) r = replay_push (pop c q.event.cube) log r
 
 -- a record that is legal at the end of a log may stand there
-legal_push : (i : Instance) (c : List ℕ) (log : List LogRecord) (r : LogRecord) → IsLegal i c log
+pub legal_push : (i : Instance) (c : List ℕ) (log : List LogRecord) (r : LogRecord) → IsLegal i c log
     → IsLegalAt i (replay c log) r
     → IsLegal i c (log ++ r ∷ [])
 legal_push i c [] r legal at = (at, tt)

@@ -10,3 +10,4 @@ pub mod Loops
 pub mod Walks
 pub mod Steps
 pub mod Rounds
+pub mod Tickets

@@ -12,7 +12,7 @@ use std::marker::Model;
 /// The current arrow of each variable leads from the slot that is its value at its cursor. Here
 /// alone a walk looks at entries. Contracts see the stacks and the heads.
 #[derive(Drop)]
-pub(crate) struct CurrentArrows<'a> {
+pub struct CurrentArrows<'a> {
     stacks: &'a Stacks,
     arrows: &'a Arrows,
     reader: Reader,

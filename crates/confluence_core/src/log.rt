@@ -29,6 +29,13 @@ impl Log {
         }
     }
 
+    /// The log of these records, in their order. It takes no memory.
+    pub fn of(records: Vec<Record>) -> Log
+        ensures { result ≡ records.items }
+    {
+        Log { records }
+    }
+
     /// How many records there are.
     pub fn len(&self) -> u64
         ensures { result ≡ length self.now }

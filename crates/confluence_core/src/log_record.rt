@@ -45,8 +45,8 @@ impl Record {
         }
     }
 
-    // The record of an event that is popped at these cursors.
-    pub(crate) fn at(
+    /// The record of an event that is popped at these cursors: it uses their entries.
+    pub fn at(
         alloc: Global,
         unit: u32,
         cube: &Cube,

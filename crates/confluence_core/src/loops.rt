@@ -22,8 +22,9 @@ pub(crate) fn have_next(current: &CurrentArrows, cursors: &Cursors, members: &[u
     true
 }
 
-// The cube of these variables, each with its current slot.
-pub(crate) fn cube_of(
+/// The cube of these variables, each with its current slot. They are at least one and below 2^31, and
+/// no two are alike.
+pub fn cube_of(
     alloc: Global,
     current: &mut CurrentArrows,
     cursors: &Cursors,

@@ -62,5 +62,19 @@ pub fn run_from(
     }
 }
 
+/// A run from zeros with every unit a suspect.
+pub fn run_from_zeros(alloc: Global, instance: &Instance, keep: Keep) -> Result<Run, AllocError>
+    ensures run { IfOk result (λ run. IsRun instance.now (start_of instance.now) (keeps_log keep)
+        run.end.cursors run.end.pops run.end.stuck run.log) }
+    ensures first { IfOk result (λ run. IsExtremal instance.now.family
+        → IsFirstEnd instance.now run.end.cursors run.end.pops run.end.stuck) }
+    ensures count { IfOk result (λ run. variables_of instance.now.stacks ≡ length run.end.cursors) }
+    ensures within { IfOk result (λ run. AreWithin instance.now.stacks run.end.cursors) }
+{
+    let cursors = Cursors::zeros(alloc, instance.stacks().count())?;
+    let suspects = Units::all(alloc, instance.units())?;
+    run_from(alloc, instance, cursors, suspects, keep)
+}
+
 #[cfg(test)]
 mod tests;

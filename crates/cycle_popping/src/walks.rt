@@ -4,8 +4,8 @@ ghost use Rattle.pop_model.specs.Popping.{AreWithin};
 ghost use Rattle.pop_model.specs.Runs.{IsFirstEnd};
 ghost use Rattle.cycle_popping.specs.Walks.{AreCycles};
 
-use confluence_core::{End, Keep, Units, run_from};
-use pop_instance::{Cursors, Instance};
+use confluence_core::{End, Keep, run_from_zeros};
+use pop_instance::Instance;
 use std::alloc::{AllocError, Global};
 
 /// The loop-erased walk from each variable in turn, over an instance whose events are the cycles of
@@ -17,8 +17,6 @@ pub fn run_walks(alloc: Global, instance: &Instance) -> Result<End, AllocError>
     ensures count { IfOk result (λ end. variables_of instance.now.stacks ≡ length end.cursors) }
     ensures within { IfOk result (λ end. AreWithin instance.now.stacks end.cursors) }
 {
-    let cursors = Cursors::zeros(alloc, instance.stacks().count())?;
-    let suspects = Units::all(alloc, instance.units())?;
-    let run = run_from(alloc, instance, cursors, suspects, Keep::Nothing)?;
+    let run = run_from_zeros(alloc, instance, Keep::Nothing)?;
     Ok(run.end)
 }

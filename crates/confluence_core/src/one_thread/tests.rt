@@ -31,15 +31,6 @@ fn instance(rt: &impl Abort, rows: Rows, events: Events) -> Result<Instance, Fai
     Ok(Instance::new(stacks, Family::Listed(events)).expect(rt, "an instance"))
 }
 
-// A run from zeros, with all units as suspects.
-fn from_zeros(alloc: Global, instance: &Instance, keep: Keep) -> Result<Run, AllocError>
-    ensures count { IfOk result (λ run. variables_of instance.now.stacks ≡ length run.end.cursors) }
-{
-    let suspects = Units::all(alloc, instance.units())?;
-    let cursors = Cursors::zeros(alloc, instance.stacks().count())?;
-    run_from(alloc, instance, cursors, suspects, keep)
-}
-
 // What an end is to be: its cursors, its pops and the units of its stuck events.
 #[derive(Drop)]
 struct Want<'a> {
@@ -71,7 +62,7 @@ fn is_end(rt: &impl Abort, end: &End, count: u32, want: &Want)
 fn ends_with(rt: &impl Abort, alloc: Global, instance: &Instance, want: &Want) -> Result<(), Fail> {
     let count = instance.stacks().count();
     is_end(rt, &run_first(alloc, instance)?, count, want);
-    let run = from_zeros(alloc, instance, Keep::Nothing)?;
+    let run = run_from_zeros(alloc, instance, Keep::Nothing)?;
     is_end(rt, &run.end, count, want);
     Ok(())
 }
@@ -80,7 +71,7 @@ fn ends_with(rt: &impl Abort, alloc: Global, instance: &Instance, want: &Want) -
 // stuck.
 fn pops_and_stuck(rt: &impl Abort, alloc: Global, instance: &Instance) -> Result<(u64, u64), Fail> {
     let first = run_first(alloc, instance)?;
-    let run = from_zeros(alloc, instance, Keep::Nothing)?;
+    let run = run_from_zeros(alloc, instance, Keep::Nothing)?;
     for v in 0..instance.stacks().count() {
         assert_eq!(rt;
             run.end.cursors.get(v),
@@ -162,8 +153,12 @@ fn the_log_has_each_pop_with_its_entries(rt: HostRuntime) -> Result<(), Fail> {
         stuck: &[],
     };
     ends_with(&rt, alloc, &instance, &want)?;
-    assert!(&rt; from_zeros(alloc, &instance, Keep::Nothing)?.log.is_none());
-    let log = from_zeros(alloc, &instance, Keep::Log)?
+    assert!(&rt;
+        run_from_zeros(alloc, &instance, Keep::Nothing)?
+            .log
+            .is_none()
+    );
+    let log = run_from_zeros(alloc, &instance, Keep::Log)?
         .log
         .expect(&rt, "a log");
     assert_eq!(&rt; log.len(), 2);

@@ -2,7 +2,7 @@
 ghost use Rattle.std.specs.Prelude.{◌<◌, ◌≤◌, ◌^◌, length, All, IfOk};
 ghost use Rattle.pop_instance.specs.Arrows.{heads_of};
 
-use super::{from_zeros, pops_and_stuck};
+use super::{pops_and_stuck, run_from_zeros};
 use crate::Keep;
 use pop_instance::{Arrows, Family, Instance};
 use pop_stacks::{Rows, StackSpec, Stacks, Weights};
@@ -84,7 +84,7 @@ fn the_log_has_the_cycle_with_its_entries(rt: HostRuntime) -> Result<(), Fail> {
     let stacks = Stacks::new(StackSpec::Given(rows), Weights::pairs(2), 1)?;
     let instance = Instance::new(stacks, Family::Cycles(arrows)).expect(&rt, "an instance");
     assert_eq!(&rt; pops_and_stuck(&rt, alloc, &instance)?, (1, 0));
-    let log = from_zeros(alloc, &instance, Keep::Log)?
+    let log = run_from_zeros(alloc, &instance, Keep::Log)?
         .log
         .expect(&rt, "a log");
     assert!(&rt; log.len() == 1);

@@ -2,7 +2,7 @@ use Rattle.std.proofs.Common.{ap, ◌∙◌}
 use Rattle.std.specs.List.{range_with_len}
 use Rattle.pop_model.specs.Families.{units_of}
 use Rattle.confluence_core.proofs.Suspects.{all_known, all_miss_none}
-use Rattle.confluence_core.proofs.one_thread.tests.from_zeros.Goals as goal
+use Rattle.confluence_core.proofs.one_thread.run_from_zeros.Goals as goal
 
 pub run_from-requires-clause-units : goal.run_from-requires-clause-units
 run_from-requires-clause-units c =
