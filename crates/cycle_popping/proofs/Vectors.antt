@@ -1,7 +1,7 @@
 -- Worked trees, so that a wrong vertex, head or weight in a definition does not check.
-use Rattle.std.proofs.Common.{◌≡◌, ℕ, List, [], ◌∷◌, Option, None, Some, refl}
+use Rattle.std.proofs.Common.{◌≡◌, [], ◌∷◌, None, Some, refl}
 use Rattle.graph_read.specs.Graphs.{GraphOf}
-use Rattle.cycle_popping.specs.Trees.{variable_of, heads_of_tree, weights_of_tree}
+use Rattle.cycle_popping.specs.Trees.{heads_of_tree, weights_of_tree}
 
 -- three vertices, each joined to each
 triangle : GraphOf

@@ -1,5 +1,4 @@
-ghost use Rattle.std.specs.Prelude.{◌≡◌, ◌≤◌, length, IfOk};
-ghost use Rattle.pop_model.specs.Stacks.{variables_of};
+ghost use Rattle.std.specs.Prelude.{◌≡◌, ◌<◌, ◌^◌, length, IfOk};
 ghost use Rattle.cycle_popping.specs.Walks.{AreCycles};
 
 use crate::{arrow_weights, arrows, run_walks};
@@ -12,20 +11,25 @@ use std::alloc::Global;
 use std::process::Abort;
 use std::test::Fail;
 
+mod multigraphs;
+
 // The graph of a text.
 fn graph(alloc: Global, text: &[u8]) -> Result<Graph, Fail> {
     let mut source = MemSource::new(Vec::from_slice(alloc, text)?, 4096, Vec::new(alloc));
     Ok(read_graph(alloc, &mut source)?)
 }
 
-// The trees of a graph to a root, over these stacks.
+// The trees of a graph to a root, over these stacks, of this height where they come from a key.
 fn trees(
     rt: &impl Abort,
     alloc: Global,
     text: &[u8],
     root: u32,
     spec: StackSpec,
+    height: u32,
 ) -> Result<Instance, Fail>
+    requires some { 0 < height }
+    requires short { height < 2 ^ 31 }
     ensures { IfOk result (λ instance. AreCycles instance.family) }
 {
     let graph = graph(alloc, text)?;
@@ -35,7 +39,7 @@ fn trees(
     assert!(rt; cut_off.is_none());
     let arrows = arrows(alloc, &graph, root)?;
     let weights = arrow_weights(alloc, &graph, root)?;
-    let stacks = Stacks::new(spec, weights, 9)?;
+    let stacks = Stacks::new(spec, weights, height)?;
     Ok(Instance::new(stacks, Family::Cycles(arrows)).expect(rt, "an instance"))
 }
 
@@ -83,7 +87,7 @@ const TRIANGLE: &[u8] = b"p edge 3 3\ne 1 2\ne 2 3\ne 1 3\n";
 fn the_cycle_of_two_vertices_is_popped(rt: HostRuntime) -> Result<(), Fail> {
     let alloc = rt.alloc();
     let rows = Rows::of(vec![in alloc; vec![in alloc; 1, 0]?, vec![in alloc; 0, 0]?]?);
-    let instance = trees(&rt, alloc, TRIANGLE, 1, StackSpec::Given(rows))?;
+    let instance = trees(&rt, alloc, TRIANGLE, 1, StackSpec::Given(rows), 1)?;
     let want = Want {
         cursors: &[1, 1],
         pops: 1,
@@ -97,7 +101,7 @@ fn the_cycle_of_two_vertices_is_popped(rt: HostRuntime) -> Result<(), Fail> {
 fn a_cycle_is_stuck_at_the_last_entry(rt: HostRuntime) -> Result<(), Fail> {
     let alloc = rt.alloc();
     let rows = Rows::of(vec![in alloc; vec![in alloc; 1]?, vec![in alloc; 0]?]?);
-    let instance = trees(&rt, alloc, TRIANGLE, 1, StackSpec::Given(rows))?;
+    let instance = trees(&rt, alloc, TRIANGLE, 1, StackSpec::Given(rows), 1)?;
     let want = Want {
         cursors: &[0, 0],
         pops: 0,
@@ -116,7 +120,7 @@ fn a_vertex_in_front_of_a_cycle_keeps_its_arrow(rt: HostRuntime) -> Result<(), F
         vec![in alloc; 0, 1]?,
     ]?);
     let text = b"p edge 4 3\ne 2 3\ne 3 4\ne 4 1\n";
-    let instance = trees(&rt, alloc, text, 1, StackSpec::Given(rows))?;
+    let instance = trees(&rt, alloc, text, 1, StackSpec::Given(rows), 1)?;
     let want = Want {
         cursors: &[0, 1, 1],
         pops: 1,
@@ -131,7 +135,7 @@ fn a_vertex_in_front_of_a_cycle_keeps_its_arrow(rt: HostRuntime) -> Result<(), F
 fn parallel_edges_are_slots_and_loops_are_none(rt: HostRuntime) -> Result<(), Fail> {
     let alloc = rt.alloc();
     let text = b"p edge 2 3\ne 2 2\ne 1 2 5\ne 1 2\n";
-    let instance = trees(&rt, alloc, text, 1, StackSpec::Key([0; 32]))?;
+    let instance = trees(&rt, alloc, text, 1, StackSpec::Key([0; 32]), 9)?;
     let want = Want {
         cursors: &[0],
         pops: 0,
