@@ -1,31 +1,19 @@
 -- Each event that occurs at an end can be printed: a listed one has a place, and the variables of a cycle have arrows.
-use Rattle.std.proofs.Common.{ℕ, ◌<◌, ◌^◌, List, length, get_or, All, sym, ◌∙◌, arith}
+use Rattle.std.proofs.Common.{ℕ, ◌<◌, ◌^◌, List, length, get_or, All, arith}
 use Rattle.std.proofs.lemmas.List.Elements.{Contains-get_or}
 use Rattle.std.proofs.lemmas.Option.{slice_get_within}
-use Rattle.pop_model.specs.Popping.{Cube, NamesBelow}
-use Rattle.pop_model.specs.Cycles.{IsCycle}
 use Rattle.pop_model.specs.Families.{Event, Family, IsEvent, units_of}
 use Rattle.pop_model.specs.Families.Family.{Listed, Cycles}
 use Rattle.pop_model.specs.Instances.{Instance}
 use Rattle.pop_model.specs.Runs.{IsStuckList}
-use Rattle.pop_model.proofs.Following.{contains_demand, demand_named}
-use Rattle.pop_model.proofs.CycleFamily.{Heads, arrow_demands, stays_in}
-use Rattle.pop_model.proofs.TreeEnd.{head_within}
+use Rattle.confluence_core.proofs.CycleVariables.{cycle_names_below}
 use Rattle.pop_print.specs.Stuck.{HasNames}
-
--- each variable of a cycle has an arrow
-cycle_below : (heads : Heads) (e : Cube) → IsCycle heads e → NamesBelow e (length heads)
-cycle_below heads e cycle k d within =
-    let p : ℕ × ℕ = get_or e k d in
-    let found = contains_demand e p.0 p.1 (Contains-get_or e k d within) in
-    let next = stays_in heads e cycle p.0 (demand_named e p.0 found.0 found.1) in
-    head_within heads p.0 found.0 next.next (sym (arrow_demands heads e p.0 found.0 found.1) ∙ next.leads)
 
 -- an event of a family of so few units can be printed
 event_named : (family : Family) (e : Event) → units_of family < 2 ^ 31 → IsEvent family e → HasNames family e
 event_named (Listed rows) e few is = slice_get_within rows e.unit (is.0, e.cube) is.1
 event_named (Cycles heads) e few is = λ k d within.
-    let below = cycle_below heads e.cube is.0 k d within in omega arith
+    let below = cycle_names_below heads e.cube is.0 k d within in omega arith
 
 -- the events that occur at an end
 pub stuck_named : (i : Instance) (c : List ℕ) (stuck : List Event) → units_of i.family < 2 ^ 31

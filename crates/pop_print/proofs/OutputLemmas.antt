@@ -1,37 +1,16 @@
--- The lines of an end, one member after another: where those before a place are printed, and the member there is
--- printed behind them, those up to it are.
+-- The lines of an end, one member after another.
 use Rattle.std.proofs.Common.{◌≡◌, ℕ, ◌+◌, ◌<◌, ◌≤◌, List, [], ◌∷◌, ◌++◌, length, take, get_or, codes, sym, ap, ◌∙◌, arith, append_assoc, zero-add}
-use Rattle.std.specs.List.{enumerate_from, flat_map}
-use Rattle.std.proofs.lemmas.Grind.{flat_map-append}
-use Rattle.std.proofs.lemmas.List.{append-nil, take_more, take_all, get_or-map, length-map}
+use Rattle.std.specs.List.{enumerate_from}
+use Rattle.std.proofs.lemmas.List.{take_all, get_or-map, length-map}
 use Rattle.std.proofs.lemmas.List.FromFn.{get_or-enumerate_from, length-enumerate_from}
 use Rattle.pop_model.specs.Stacks.{StackTable, value_at}
 use Rattle.pop_model.specs.Popping.{cursor}
 use Rattle.pop_model.specs.Families.{Event}
 use Rattle.pop_model.specs.Instances.{Instance}
 use Rattle.pop_model.specs.Text.{spaced}
+use Rattle.pop_text.proofs.PrintedMembers.{flat_map-take}
 use Rattle.pop_print.specs.declared.facts.Facts.{Facts}
 use Rattle.pop_print.specs.Output.{literal_of, literals_of, assignment_line, stuck_lines, findings}
-
--- what is printed of one member more
-flat_map-take : {X : Type 0} (f : X → List ℕ) (xs : List X) (i : ℕ) (x : X) → i < length xs → get_or xs i x ≡ x
-    → flat_map f (take (i + 1) xs) ≡ flat_map f (take i xs) ++ f x
-flat_map-take f xs i x within is =
-    ap (flat_map f) (take_more xs i x within ∙ ap (λ y. take i xs ++ y ∷ []) is)
-    ∙ flat_map-append f (take i xs) (x ∷ []) ∙ ap (λ l. flat_map f (take i xs) ++ l) (append-nil (f x))
-
--- one member more, of members that are printed one behind another
-pub member_more : {X : Type 0} (f : X → List ℕ) (xs : List X) (i : ℕ) (x : X) (before out new : List ℕ)
-    → i < length xs → get_or xs i x ≡ x → out ≡ before ++ flat_map f (take i xs) → new ≡ out ++ f x
-    → new ≡ before ++ flat_map f (take (i + 1) xs)
-member_more f xs i x before out new within is printed pushed =
-    pushed ∙ ap (λ l. l ++ f x) printed ∙ append_assoc before (flat_map f (take i xs)) (f x)
-    ∙ ap (λ l. before ++ l) (sym (flat_map-take f xs i x within is))
-
--- all members
-pub all_members : {X : Type 0} (f : X → List ℕ) (xs : List X) (n : ℕ) (before out : List ℕ) → length xs ≤ n
-    → out ≡ before ++ flat_map f (take n xs) → out ≡ before ++ flat_map f xs
-all_members f xs n before out all printed = printed ∙ ap (λ ys. before ++ flat_map f ys) (take_all n xs all)
 
 -- a member under its number
 pub numbered_at : {X : Type 0} (xs : List X) (i : ℕ) (x : X) → i < length xs → x ≡ get_or xs i x

@@ -4,9 +4,9 @@ ghost use Rattle.pop_model.specs.Stacks.{variables_of};
 ghost use Rattle.pop_model.specs.Popping.{AreWithin};
 ghost use Rattle.pop_print.specs.Output.{literal_of, assignment_line};
 
-use crate::output::Output;
 use pop_instance::Cursors;
 use pop_stacks::{Reader, Stacks};
+use pop_text::Output;
 use std::alloc::AllocError;
 
 // A space and a variable's name, with `-` before it where its value is 0.

@@ -2,10 +2,10 @@
 //! instance, the cursors, the number of pops and the events that occur.
 #![tactic(auto)]
 
+mod arrow;
 mod assignment;
 mod facts;
 mod orientation;
-mod output;
 mod printing;
 mod sample;
 mod stuck;

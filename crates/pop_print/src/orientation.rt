@@ -4,10 +4,11 @@ ghost use Rattle.pop_model.specs.Stacks.{variables_of};
 ghost use Rattle.pop_model.specs.Popping.{AreWithin};
 ghost use Rattle.pop_print.specs.Output.{oriented_line, orientation_lines};
 
-use crate::output::Output;
+use crate::arrow::push_arrow;
 use graph_read::{Edge, Graph};
 use pop_instance::Cursors;
 use pop_stacks::{Reader, Stacks};
+use pop_text::Output;
 use std::alloc::AllocError;
 
 // An edge by its value: 0 points from its first vertex to its second, and 1 back.
@@ -15,9 +16,9 @@ fn push_oriented(out: &mut Output, edge: Edge, number: u32, x: u32) -> Result<()
     ensures { OnOk result (out.new ≡ out.old ++ oriented_line edge number x) }
 {
     if x == 0 {
-        return out.push_arrow(edge.u, edge.v, number);
+        return push_arrow(out, edge.u, edge.v, number);
     }
-    out.push_arrow(edge.v, edge.u, number)
+    push_arrow(out, edge.v, edge.u, number)
 }
 
 /// A line for each edge.

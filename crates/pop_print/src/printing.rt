@@ -4,12 +4,12 @@ ghost use Rattle.pop_print.specs.Ends.{AreFactsOf, IsAtEnd};
 ghost use Rattle.pop_print.specs.Output.{findings, used_line, pops_line, end_text};
 
 use crate::Facts;
-use crate::output::Output;
 use crate::sample::push_sample;
 use crate::stuck::push_stuck;
 use confluence_core::End;
 use itoa::Buffer;
 use pop_instance::{Cursors, Instance};
+use pop_text::Output;
 use std::alloc::{AllocError, Global};
 
 // What was found: the sample, or the events that occur.

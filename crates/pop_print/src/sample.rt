@@ -9,9 +9,9 @@ ghost use Rattle.pop_print.specs.Output.{sample_lines};
 use crate::Facts;
 use crate::assignment::push_assignment;
 use crate::orientation::push_orientation;
-use crate::output::Output;
 use crate::tree::push_tree;
 use pop_instance::{Cursors, Instance};
+use pop_text::Output;
 use std::alloc::{AllocError, Global};
 
 /// The lines of the sample.

@@ -9,9 +9,9 @@ ghost use Rattle.pop_print.specs.Output.{stuck_line, stuck_lines};
 ghost use Rattle.pop_print.specs.Stuck.{HasNames};
 
 use crate::Facts;
-use crate::output::Output;
 use confluence_core::Stuck;
 use pop_instance::{Cube, Family};
+use pop_text::Output;
 use std::alloc::AllocError;
 
 // The names of a cube's variables.

@@ -7,10 +7,11 @@ ghost use Rattle.graph_read.specs.Graphs.{IsVertex};
 ghost use Rattle.graph_read.specs.Incidence.{edges_at};
 ghost use Rattle.pop_print.specs.Output.{slot_line, tree_lines};
 
-use crate::output::Output;
+use crate::arrow::push_arrow;
 use graph_read::{Graph, Incidence, vertex_of};
 use pop_instance::Cursors;
 use pop_stacks::{Reader, Stacks};
+use pop_text::Output;
 use std::alloc::{AllocError, Global};
 
 // A vertex by the slot of its arrow, which stands for one of these edges.
@@ -27,7 +28,7 @@ fn push_slot(
 {
     let _edges = graph.edges();
     let i = edges[x as usize];
-    out.push_arrow(vertex, graph.edge(i).other_end(vertex), i + 1)
+    push_arrow(out, vertex, graph.edge(i).other_end(vertex), i + 1)
 }
 
 /// A line for each vertex but the root.

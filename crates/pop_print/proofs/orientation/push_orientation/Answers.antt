@@ -3,7 +3,8 @@ use Rattle.std.specs.List.{enumerate_from}
 use Rattle.std.proofs.lemmas.List.FromFn.{length-enumerate_from}
 use Rattle.pop_model.specs.Stacks.{value_at}
 use Rattle.pop_print.specs.Output.{edge_line, oriented_line}
-use Rattle.pop_print.proofs.OutputLemmas.{member_more, all_members, numbered_at}
+use Rattle.pop_text.proofs.PrintedMembers.{member_more, all_members}
+use Rattle.pop_print.proofs.OutputLemmas.{numbered_at}
 use Rattle.pop_print.proofs.orientation.push_orientation.Goals as goal
 
 pub loop-i-preserved : goal.loop-i-preserved

@@ -1,5 +1,5 @@
 use Rattle.std.proofs.Common.{ℕ, List, ◌∷◌, decimal, ◌∙◌, arith}
-use Rattle.pop_print.proofs.OutputLemmas.{member_more}
+use Rattle.pop_text.proofs.PrintedMembers.{member_more}
 use Rattle.pop_print.proofs.NamedCubes.{name_words, length-name_words, name_word_at}
 use Rattle.pop_print.proofs.stuck.push_names.Goals as goal
 

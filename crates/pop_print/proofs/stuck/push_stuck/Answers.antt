@@ -4,7 +4,7 @@ use Rattle.pop_model.specs.Families.{Event}
 use Rattle.pop_instance.specs.Family.{family_of}
 use Rattle.confluence_core.specs.Stuck.{event_of}
 use Rattle.pop_print.specs.Output.{stuck_line}
-use Rattle.pop_print.proofs.OutputLemmas.{member_more, all_members}
+use Rattle.pop_text.proofs.PrintedMembers.{member_more, all_members}
 use Rattle.pop_print.proofs.stuck.push_stuck.Goals as goal
 
 pub loop-i-preserved : goal.loop-i-preserved

@@ -6,7 +6,8 @@ use Rattle.pop_model.specs.Stacks.{value_at}
 use Rattle.pop_model.specs.Names.{vertex_of}
 use Rattle.graph_read.specs.Incidence.{edges_at}
 use Rattle.pop_print.specs.Output.{vertex_line, slot_line}
-use Rattle.pop_print.proofs.OutputLemmas.{member_more, all_members, numbered_at}
+use Rattle.pop_text.proofs.PrintedMembers.{member_more, all_members}
+use Rattle.pop_print.proofs.OutputLemmas.{numbered_at}
 use Rattle.graph_read.proofs.KnownEdges.{vertex_listed, edges_listed}
 use Rattle.pop_print.proofs.tree.push_tree.Goals as goal
 

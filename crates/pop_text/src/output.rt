@@ -1,5 +1,4 @@
 ghost use Rattle.std.specs.Prelude.{◌≡◌, ◌++◌, ◌∷◌, [], decimal, IfOk, OnOk};
-ghost use Rattle.pop_print.specs.Output.{arrow_line};
 
 use itoa::Buffer;
 use std::alloc::{AllocError, Global};
@@ -52,15 +51,14 @@ impl Output {
         self.push_number(n)
     }
 
-    /// Adds the line of an arrow along an edge.
-    pub fn push_arrow(&mut self, tail: u32, head: u32, number: u32) -> Result<(), AllocError>
-        ensures { OnOk result (self.new ≡ self.old ++ arrow_line tail head number) }
+    /// Adds a space and two numbers with a sign between them.
+    pub fn push_pair(&mut self, first: u64, sign: u8, second: u64) -> Result<(), AllocError>
+        ensures { OnOk result (self.new
+            ≡ self.old ++ 32 ∷ (decimal first ++ sign ∷ decimal second)) }
     {
-        self.push(b"a")?;
-        self.push_spaced(u64::from(tail))?;
-        self.push_spaced(u64::from(head))?;
-        self.push_spaced(u64::from(number))?;
-        self.push(b"\n")
+        self.push_spaced(first)?;
+        self.push(&[sign])?;
+        self.push_number(second)
     }
 
     /// The whole text.
