@@ -1,0 +1,14 @@
+pub mod Histories
+pub mod Replays
+pub mod Layers
+pub mod LastLayers
+pub mod Printed
+pub mod Printable
+pub mod Decimals
+pub mod PrintedWords
+pub mod Candidates
+pub mod TextLines
+pub mod LogTexts
+pub mod Reading
+pub mod Refusals
+pub mod Laws

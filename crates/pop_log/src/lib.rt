@@ -1,0 +1,29 @@
+//! Logs of pops: merged from tickets, replayed, in layers, and as text both ways.
+//!
+//! Contracts see a log as the list of its records.
+#![tactic(auto)]
+
+mod candidates;
+mod decimals;
+pub mod laws;
+mod layering;
+mod legality;
+mod log_refusal;
+mod merging;
+mod names;
+mod printed_record;
+mod printing;
+mod progress;
+mod reading;
+mod replay_result;
+mod replaying;
+mod text_lines;
+
+pub use layering::layers;
+pub use log_refusal::LogRefusal;
+pub use merging::merge;
+pub use names::Names;
+pub use printing::{number_of_event, print_log};
+pub use reading::read_log;
+pub use replay_result::Replay;
+pub use replaying::replay;

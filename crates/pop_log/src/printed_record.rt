@@ -1,0 +1,87 @@
+ghost use Rattle.std.specs.Prelude.{◌≡◌, ◌<◌, ◌≤◌, ◌^◌, ◌++◌, ℕ, List, length, map, decimal, IfOk, IsTrue, MatchOption, ◌↔◌, ◌∷◌, []};
+ghost use Rattle.pop_log.specs.Printed.{Printed};
+ghost use Rattle.pop_log.specs.LogTexts.{head_line, record_line};
+ghost use Rattle.pop_log.specs.PrintedWords.{BeginsWithPair, FitsWords};
+
+use crate::decimals::{front_number, number_behind};
+use std::alloc::{AllocError, Global};
+use std::marker::Model;
+
+/// A record as it is printed: the number of its event, and of each variable the name and the entry.
+#[derive(Drop)]
+pub(crate) struct PrintedRecord {
+    number: u32,
+    pairs: Vec<(u32, u32)>,
+}
+
+impl Model for PrintedRecord {
+    ghost use Rattle.pop_log.specs.Printed.{Printed as ModelPrinted};
+
+    ghost Value = { ModelPrinted };
+
+    ghost view = { λ a. record { number = a.number; pairs = a.pairs.items } };
+}
+
+impl PrintedRecord {
+    /// The record that a line says. None exactly where it is the line of no record whose numbers
+    /// have 32 bits.
+    pub fn read(alloc: Global, line: &[u8]) -> Result<Option<PrintedRecord>, AllocError>
+        ensures { IfOk result (λ found. MatchOption found
+            ((p : Printed) → FitsWords p → line.now ≡ record_line p → ⊥)
+            (λ p. FitsWords p × (line.now ≡ record_line p))) }
+    {
+        let Some((number, mut rest)) = number_behind(b"pop ", line) else {
+            return Ok(None);
+        };
+        let mut pairs = Vec::new(alloc);
+        while !is_line_end(rest) {
+            let Some((name, entry, behind)) = front_pair(rest) else {
+                return Ok(None);
+            };
+            pairs.push((name, entry))?;
+            rest = behind;
+        }
+        Ok(Some(PrintedRecord { number, pairs }))
+    }
+
+    /// The number of the event.
+    pub fn number(&self) -> u32
+        ensures { result ≡ self.now.number }
+    {
+        self.number
+    }
+
+    /// The names and entries.
+    pub fn pairs(&self) -> &[(u32, u32)]
+        ensures { result.now ≡ self.now.pairs }
+    {
+        &self.pairs
+    }
+}
+
+/// The count that the first line of a log text says. None exactly where it is no first line with a
+/// count of 64 bits.
+pub(crate) fn read_head(line: &[u8]) -> Option<u64>
+    ensures { MatchOption result ((n : ℕ) → n < 2 ^ 64 → line.now ≡ head_line n → ⊥)
+        (λ n. (n < 2 ^ 64) × (line.now ≡ head_line n)) }
+{
+    let (count, rest) = front_number(line.strip_prefix(b"log 1 ")?)?;
+    if is_line_end(rest) { Some(count) } else { None }
+}
+
+// A name and an entry at the front of a text, behind a space, and the rest.
+fn front_pair(text: &[u8]) -> Option<(u32, u32, &[u8])>
+    ensures { MatchOption result ((q : ℕ × ℕ) (rest : List ℕ) → BeginsWithPair text.now q rest → ⊥)
+        (λ r. BeginsWithPair text.now (r.0, r.1) r.2.now) }
+{
+    let (name, behind) = number_behind(b" ", text)?;
+    let (entry, rest) = number_behind(b":", behind)?;
+    Some((name, entry, rest))
+}
+
+// Whether the text is the end of a line and no more.
+fn is_line_end(text: &[u8]) -> bool
+    ensures { IsTrue result ↔ (text.now ≡ 10 ∷ []) }
+{
+    text.len() == 1 && text[0] == b'\n'
+}

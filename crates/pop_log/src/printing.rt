@@ -1,0 +1,153 @@
+ghost use Rattle.std.specs.Prelude.{◌≡◌, ◌<◌, ◌^◌, ◌++◌, map, flat_map, All, IfOk, OnOk};
+ghost use Rattle.std.specs.List.{zip as zip_lists};
+ghost use Rattle.pop_model.specs.Text.{spaced};
+ghost use Rattle.pop_model.specs.Popping.{NamesBelow, variables};
+ghost use Rattle.pop_model.specs.Families.{units_of};
+ghost use Rattle.pop_model.specs.Logs.{IsLegal};
+ghost use Rattle.pop_model.specs.Runs.{start_of};
+ghost use Rattle.pop_instance.specs.Family.{family_of};
+ghost use Rattle.pop_log.specs.LogTexts.{log_text, record_line};
+ghost use Rattle.pop_log.specs.Printable.{IsPrintable};
+ghost use Rattle.pop_log.specs.Printed.{joined, name_of, number_of, printed};
+
+use crate::Names;
+use confluence_core::{Log, Record};
+use itoa::Buffer;
+use pop_instance::{Family, Instance};
+use pop_text::Output;
+use std::alloc::{AllocError, Global};
+
+/// The printed number of an event, by its unit: a listed event has its own, and a cycle has the name
+/// of its least variable.
+pub fn number_of_event(names: &Names, family: &Family, unit: u32) -> u32
+    requires known { unit < units_of (family_of family.now) }
+    ensures { result ≡ number_of names.now (family_of family.now) unit }
+{
+    match family {
+        Family::Listed(events) => events.number(unit),
+        Family::Cycles(arrows) => {
+            // Read for its contract, which says that each variable has a name.
+            let _count = arrows.count();
+            names.name(unit)
+        }
+    }
+}
+
+// The name of each variable of a record, with the entry that its pop used.
+fn push_entries(out: &mut Output, names: &Names, popped: &Record) -> Result<(), AllocError>
+    requires { NamesBelow popped.now.event.cube (2 ^ 31) }
+    ensures { OnOk result (out.new ≡ out.old ++ spaced (map (joined 58)
+        (zip_lists (map (name_of names.now) (variables popped.now.event.cube)) popped.now.entries))) }
+{
+    let cube = popped.cube();
+    for i in 0..cube.len() {
+        let (v, _) = cube.pair(i);
+        out.push_pair(u64::from(names.name(v)), b':', u64::from(popped.entry(i)))?;
+    }
+    Ok(())
+}
+
+// The line of a record.
+fn push_record(
+    out: &mut Output,
+    names: &Names,
+    family: &Family,
+    popped: &Record,
+) -> Result<(), AllocError>
+    requires { IsPrintable (family_of family.now) popped.now.event }
+    ensures { OnOk result (out.new
+        ≡ out.old ++ record_line (printed names.now (family_of family.now) popped.now)) }
+{
+    out.push(b"pop ")?;
+    out.push_number(u64::from(number_of_event(names, family, popped.unit())))?;
+    push_entries(out, names, popped)?;
+    out.push(b"\n")
+}
+
+// The line of each record.
+fn push_records(
+    out: &mut Output,
+    names: &Names,
+    family: &Family,
+    log: &Log,
+) -> Result<(), AllocError>
+    requires { All (λ r. IsPrintable (family_of family.now) r.event) log.now }
+    ensures { OnOk result (out.new ≡ out.old
+        ++ flat_map (λ r. record_line (printed names.now (family_of family.now) r)) log.now) }
+{
+    for t in 0..log.len() {
+        push_record(out, names, family, log.at(t))?;
+    }
+    Ok(())
+}
+
+// About how many bytes the text has: for each record its number, and for each of its pairs a name and
+// an entry, mostly of one or two digits.
+fn room_for(count: u32, log: &Log) -> usize {
+    let digits = Buffer::new().format(count).len();
+    let mut room = 32usize;
+    for t in 0..log.len() {
+        let pairs = log.at(t).cube().len() as usize;
+        room = room.saturating_add((pairs + 1) * (digits + 4));
+    }
+    room
+}
+
+/// The text of a legal log: `log 1 P` with the number of records, and a line `pop E V:K V:K ..` for
+/// each, with the number of its event and, for each variable in rising order, its name and the entry
+/// that the pop used.
+pub fn print_log(
+    alloc: Global,
+    instance: &Instance,
+    names: &Names,
+    log: &Log,
+) -> Result<Vec<u8>, AllocError>
+    requires { IsLegal instance.now (start_of instance.now) log.now }
+    ensures { IfOk result (λ bytes. bytes.items ≡ log_text names.now instance.now log.now) }
+{
+    // Read for its contract, which says that the events fit the stacks, and so have names.
+    let _units = instance.units();
+    let mut out = Output::with_room(alloc, room_for(instance.stacks().count(), log))?;
+    out.push(b"log 1 ")?;
+    out.push_number(log.len())?;
+    out.push(b"\n")?;
+    push_records(&mut out, names, instance.family(), log)?;
+    Ok(out.into_bytes())
+}
+
+#[cfg(test)]
+mod tests {
+    use super::*;
+    use confluence_core::{Keep, run_from_zeros};
+    use pop_instance::{Cube, Events};
+    use pop_stacks::{Rows, StackSpec, Stacks, Weights};
+    use std::process::Abort;
+    use std::test::Fail;
+
+    // The text of the log of a run from zeros.
+    fn text_of_run(rt: &impl Abort, alloc: Global, instance: &Instance) -> Result<Vec<u8>, Fail> {
+        let run = run_from_zeros(alloc, instance, Keep::Log)?;
+        let log = run.log.expect(rt, "a log");
+        Ok(print_log(alloc, instance, &Names::Plain, &log)?)
+    }
+
+    // Worked by hand: the clauses 1 2 and -1 2, under the numbers 3 and 4. The variables have the
+    // entries 0, 1, 1 and 0, 0, 1.
+    #[test]
+    fn a_record_has_the_number_of_its_event_and_the_entries_used(
+        rt: HostRuntime,
+    ) -> Result<(), Fail> {
+        let alloc = rt.alloc();
+        let rows = vec![in alloc; vec![in alloc; 0, 1, 1]?, vec![in alloc; 0, 0, 1]?]?;
+        let stacks = Stacks::new(StackSpec::Given(Rows::of(rows)), Weights::pairs(2), 1)?;
+        let first = Cube::new(vec![in alloc; (0, 0), (1, 0)]?).expect(&rt, "a cube");
+        let second = Cube::new(vec![in alloc; (0, 1), (1, 0)]?).expect(&rt, "a cube");
+        let events = Events::gather(alloc, vec![in alloc; (3, first), (4, second)]?)?;
+        let instance = Instance::new(stacks, Family::Listed(events)).expect(&rt, "known variables");
+        assert_eq!(rt;
+            text_of_run(&rt, alloc, &instance)?.as_slice(),
+            b"log 1 2\npop 3 1:0 2:0\npop 4 1:1 2:1\n".as_slice()
+        );
+        Ok(())
+    }
+}
