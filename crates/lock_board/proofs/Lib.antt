@@ -1,0 +1,5 @@
+pub mod EventLemmas
+pub mod BookLemmas
+pub mod PassedTwice
+pub mod FoundEvents
+pub mod Ways

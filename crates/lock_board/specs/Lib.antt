@@ -1,0 +1,4 @@
+pub mod Books
+pub mod Attempts
+pub mod ArrowWalks
+pub mod Laws

@@ -1,0 +1,70 @@
+//! Walks along the current arrows. Laps of growing length keep nothing of their way, so that a walk
+//! takes no memory and no more time than some times the arrows that it passes (Brent 1980).
+ghost use Rattle.std.specs.Prelude.{◌≡◌, ◌<◌, ◌≤◌, length, MatchOption};
+ghost use Rattle.pop_model.specs.Cycles.{ReachesRoot};
+ghost use Rattle.confluence_core.specs.CycleTables.{current_head, AreCursors};
+ghost use Rattle.lock_board.specs.ArrowWalks.{Laps, LeadsToCycle};
+
+use confluence_core::CurrentArrows;
+use pop_instance::Cursors;
+
+// Where a lap of so many arrows leads.
+enum Lap {
+    Root,
+    // To its start.
+    Back,
+    // To this variable, and not to its start before.
+    On(u32),
+}
+
+// Follows so many arrows from a variable, unless they lead to the root or back to it before.
+fn lap_from(current: &mut CurrentArrows, cursors: &Cursors, start: u32, steps: u32) -> Lap
+    requires known { start < length current.old.heads }
+    requires cursors { AreCursors current.old cursors.now }
+    ensures laps { Laps current.old cursors.now start steps result }
+    ensures same { current.new ≡ current.old }
+{
+    let _count = current.count();
+    let mut v = start;
+    'steps: for _ in 0..steps {
+        let Some(w) = current.head(cursors, v) else {
+            return Lap::Root;
+        };
+        if w == start {
+            return Lap::Back;
+        }
+        v = w;
+    }
+    Lap::On(v)
+}
+
+/// A variable of the cycle to which the current arrows lead from a variable; None exactly where they
+/// lead to the root. A lap as long as there are variables ends on the cycle.
+pub(crate) fn variable_of_cycle(
+    current: &mut CurrentArrows,
+    cursors: &Cursors,
+    start: u32,
+) -> Option<u32>
+    requires known { start < length current.old.heads }
+    requires cursors { AreCursors current.old cursors.now }
+    ensures found { MatchOption result (ReachesRoot (current_head current.old cursors.now) start)
+        (LeadsToCycle current.old cursors.now start) }
+    ensures same { current.new ≡ current.old }
+{
+    let count = current.count();
+    let mut from = start;
+    let mut steps = 1;
+    'laps: while steps < count {
+        match lap_from(current, cursors, from, steps) {
+            Lap::Root => return None,
+            Lap::Back => return Some(from),
+            Lap::On(v) => from = v,
+        }
+        steps *= 2;
+    }
+    match lap_from(current, cursors, from, count) {
+        Lap::Root => None,
+        Lap::Back => Some(from),
+        Lap::On(v) => Some(v),
+    }
+}

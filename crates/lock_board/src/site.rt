@@ -1,0 +1,19 @@
+use std::marker::Brand;
+
+/// Which instance a book is of. Who calls a function that is generic over it picks this.
+pub trait Site {
+    ghost use Rattle.pop_model.specs.Instances.{Instance};
+
+    ghost instance: { Instance };
+}
+
+impl Site for Brand {
+    ghost use Rattle.std.specs.Prelude.{[]};
+    ghost use Rattle.pop_model.specs.Stacks.Origin.{Given};
+    ghost use Rattle.pop_model.specs.Families.Family.{Listed};
+
+    ghost instance = { record {
+      stacks = record { origin = Given []; weights = [] };
+      family = Listed [];
+    } };
+}

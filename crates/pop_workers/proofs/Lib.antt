@@ -1,0 +1,2 @@
+pub mod JoinedLogs
+pub mod JoinedRuns
