@@ -1,0 +1,7 @@
+mod ChangedFront
+mod Counted
+mod Digits
+mod FirstOfKind
+mod ToldLog
+mod UpToLast
+mod Vectors

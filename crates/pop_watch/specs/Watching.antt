@@ -1,0 +1,62 @@
+-- The states of watchers: what a record makes of them, and their reports.
+use Rattle.std.specs.Prelude.{ℕ, ◌+◌, ◌-◌, ◌^◌, ◌==◌, if◌then◌else◌, List, [], ◌∷◌, ◌++◌, length, map, fold, count_by, min, max, decimal, codes}
+use Rattle.std.specs.List.{enumerate_from}
+use Rattle.std.specs.Int.{leading_zeros, w32}
+use Rattle.pop_model.specs.Text.{line, spaced}
+use Rattle.pop_model.specs.Logs.{LogRecord}
+
+-- a sum stops at the greatest number of 64 bits
+abbrev pub plus : ℕ → ℕ → ℕ
+plus n m = min (n + m) (2 ^ 64 - 1)
+
+-- how many records, how many entries in them, and how many in the longest; a state of another
+-- length is left
+abbrev pub totals_step : List ℕ → LogRecord → List ℕ
+totals_step (a ∷ b ∷ c ∷ []) r =
+    plus a 1 ∷ plus b (length r.entries) ∷ max c (length r.entries) ∷ []
+totals_step s r = s
+
+-- how many binary digits a number of 32 bits has; 0 has none
+abbrev pub binary_digits : ℕ → ℕ
+binary_digits k = 32 - leading_zeros w32 k
+
+-- at each place, how many entries have so many binary digits; a state of another length is left
+abbrev pub heights_step : List ℕ → LogRecord → List ℕ
+heights_step s r =
+    if length s == 33
+    then map (λ p. plus p.1 (count_by (λ k. binary_digits k == p.0) r.entries)) (enumerate_from 0 s)
+    else s
+
+-- kind 1 keeps totals, kind 2 heights; any other leaves its state
+abbrev pub step : ℕ → List ℕ → LogRecord → List ℕ
+step kind s r = if kind == 1 then totals_step s r else if kind == 2 then heights_step s r else s
+
+-- the state after the records of a log
+abbrev pub told : ℕ → List ℕ → List LogRecord → List ℕ
+told kind s log = fold (step kind) s log
+
+-- a number before others that are kept; where none is, a 0 isn't either
+abbrev pub kept_before : ℕ → List ℕ → List ℕ
+kept_before n [] = if n == 0 then [] else n ∷ []
+kept_before n (m ∷ ms) = n ∷ m ∷ ms
+
+-- the numbers up to the last that isn't 0
+abbrev pub up_to_last : List ℕ → List ℕ
+up_to_last [] = []
+up_to_last (n ∷ ns) = kept_before n (up_to_last ns)
+
+-- the line of totals
+abbrev pub totals_text : List ℕ → List ℕ
+totals_text (a ∷ b ∷ c ∷ []) = line (codes "report totals" ++ spaced (map decimal (a ∷ b ∷ c ∷ [])))
+totals_text s = []
+
+-- the line of heights
+abbrev pub heights_text : List ℕ → List ℕ
+heights_text s =
+    if length s == 33
+    then line (codes "report heights" ++ spaced (map decimal (up_to_last s)))
+    else []
+
+-- the report on a state; empty where its length isn't the kind's, and for a kind that has none
+abbrev pub report_text : ℕ → List ℕ → List ℕ
+report_text kind s = if kind == 1 then totals_text s else if kind == 2 then heights_text s else []
