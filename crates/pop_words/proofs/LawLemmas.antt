@@ -8,9 +8,9 @@ use Rattle.pop_words.specs.declared.command.Command.{Command}
 use Rattle.pop_words.specs.declared.job.Job.{Job}
 use Rattle.pop_edge.specs.Numbers.{number_of}
 use Rattle.pop_words.specs.declared.option.OptionName.{OptionName}
-use Rattle.pop_words.specs.declared.option.OptionName.TheVariants.{Stacks, Key, Height, Root}
-use Rattle.pop_words.specs.Values.{number_between, rows_in, key_in}
-use Rattle.pop_words.specs.Options.{command_word, default_job, row, set_rows, set_key, set_height, set_root}
+use Rattle.pop_words.specs.declared.option.OptionName.TheVariants.{Stacks, Key, Height, Workers, Root, Witness}
+use Rattle.pop_words.specs.Values.{number_between, rows_in, key_in, pair_in}
+use Rattle.pop_words.specs.Options.{command_word, default_job, row, set_rows, set_key, set_height, set_workers, set_root, set_witness}
 use Rattle.pop_words.proofs.ValuesLemmas.{passed}
 use Rattle.pop_words.proofs.ReadingLemmas.{both}
 use Rattle.std.proofs.lemmas.Bool.{leb-true}
@@ -69,12 +69,14 @@ same_first_bad In xs p q first other = elim (cases_lt p q) [
   ]
 ]
 
--- ---- heights and roots
+-- ---- heights, workers and roots
 
--- the height may be that of keyed stacks, and the root that of a tree
+-- the height may be that of keyed stacks, the workers are few, and the root may be that of a tree
 pub record IsInRange (job : Job) : Type 0 where
   pub some : 0 < job.height
   pub short : job.height < 2 ^ 31
+  pub one : 0 < job.workers
+  pub few : job.workers ≤ 64
   pub root : 0 < job.root
   pub fits : job.root < 2 ^ 32
 
@@ -97,15 +99,20 @@ keeps_range o word job set value is = by_option o value
 
     by_option : (p : OptionName) → (row p).value word ≡ Some set → IsInRange (set job)
     by_option Stacks some = of_map set_rows (rows_in word)
-        (λ rows read. record { some = is.some; short = is.short; root = is.root; fits = is.fits }) some
+        (λ rows read. record { some = is.some; short = is.short; one = is.one; few = is.few; root = is.root; fits = is.fits }) some
     by_option Key some = of_map set_key (key_in word)
-        (λ key read. record { some = is.some; short = is.short; root = is.root; fits = is.fits }) some
+        (λ key read. record { some = is.some; short = is.short; one = is.one; few = is.few; root = is.root; fits = is.fits }) some
     by_option Height some = of_map set_height (number_between 1 (2 ^ 31 - 1) word)
         (λ n read. let bounds = between 1 (2 ^ 31 - 1) n word read in
-        record { some = omega arith; short = omega arith; root = is.root; fits = is.fits }) some
+        record { some = omega arith; short = omega arith; one = is.one; few = is.few; root = is.root; fits = is.fits }) some
+    by_option Workers some = of_map set_workers (number_between 1 64 word)
+        (λ n read. let bounds = between 1 64 n word read in
+        record { some = is.some; short = is.short; one = omega arith; few = omega arith; root = is.root; fits = is.fits }) some
     by_option Root some = of_map set_root (number_between 1 (2 ^ 32 - 1) word)
         (λ n read. let bounds = between 1 (2 ^ 32 - 1) n word read in
-        record { some = is.some; short = is.short; root = omega arith; fits = omega arith }) some
+        record { some = is.some; short = is.short; one = is.one; few = is.few; root = omega arith; fits = omega arith }) some
+    by_option Witness some = of_map set_witness (pair_in word)
+        (λ pair read. record { some = is.some; short = is.short; one = is.one; few = is.few; root = is.root; fits = is.fits }) some
 
 -- so do options one after another
 jobs_range : (job : Job) (command : Command) (before : List OptionName) (chosen : List Choice)
@@ -120,15 +127,19 @@ jobs_range job command before (p ∷ chosen) options is =
     by_value None none = is
     by_value (Some set) some = keeps_range p.0 p.1 job set some is
 
--- a job that is asked for has both in range
+-- a job that is asked for has all three in range
 asked_range : (words : List (List ℕ)) (job : Job) → Asks words job → IsInRange job
 asked_range words job asks = subst IsInRange (sym asks.job_is)
     (jobs_range (default_job asks.command) asks.command [] asks.chosen asks.options
-    (record { some = lit< tt; short = lit< tt; root = lit< tt; fits = lit< tt }))
+    (record { some = lit< tt; short = lit< tt; one = lit< tt; few = lit< tt; root = lit< tt; fits = lit< tt }))
 
 -- it has a height that keyed stacks may have
 pub asked_height : (words : List (List ℕ)) (job : Job) → Asks words job → (0 < job.height) × (job.height < 2 ^ 31)
 asked_height words job asks = let is = asked_range words job asks in (is.some, is.short)
+
+-- from 1 to 64 workers
+pub asked_workers : (words : List (List ℕ)) (job : Job) → Asks words job → (0 < job.workers) × (job.workers ≤ 64)
+asked_workers words job asks = let is = asked_range words job asks in (is.one, is.few)
 
 -- and a root from 1 on
 pub asked_root : (words : List (List ℕ)) (job : Job) → Asks words job → (0 < job.root) × (job.root < 2 ^ 32)

@@ -7,9 +7,9 @@ use Rattle.std.specs.Str.{bytes_eq}
 use Rattle.std.proofs.lemmas.Slice.Eq.{bytes_eq-Decides}
 use Rattle.hex.proofs.OnLiterals.{hex_on_literals}
 use Rattle.pop_words.specs.declared.command.Command.{Command}
-use Rattle.pop_words.specs.declared.command.Command.TheVariants.{Formula, Orient, Tree, Check}
+use Rattle.pop_words.specs.declared.command.Command.TheVariants.{Formula, Orient, Tree, Resample, Check}
 use Rattle.pop_words.specs.declared.option.OptionName.{OptionName}
-use Rattle.pop_words.specs.declared.option.OptionName.TheVariants.{Stacks, Key, Height, Root}
+use Rattle.pop_words.specs.declared.option.OptionName.TheVariants.{Stacks, Key, Height, Workers, Root, Witness}
 use Rattle.pop_words.specs.Options.{commands, command_word, options, row}
 use Rattle.pop_words.specs.CommandLines.{AreCompatible}
 use Rattle.pop_words.specs.Reading.{option_named, command_named, same_name}
@@ -21,6 +21,7 @@ pub commanded_again : (c : Command) → command_named (command_word c) ≡ Some 
 commanded_again Formula = refl
 commanded_again Orient = refl
 commanded_again Tree = refl
+commanded_again Resample = refl
 commanded_again Check = refl
 
 -- its name stands for an option, and for no other
@@ -28,21 +29,27 @@ pub named_again : (o : OptionName) → option_named (row o).name ≡ Some o
 named_again Stacks = refl
 named_again Key = refl
 named_again Height = refl
+named_again Workers = refl
 named_again Root = refl
+named_again Witness = refl
 
 -- it stands in the list of all options
 pub among_options : (o : OptionName) → Contains options o
 among_options Stacks = (0, omega arith, refl)
 among_options Key = (1, omega arith, refl)
 among_options Height = (2, omega arith, refl)
-among_options Root = (3, omega arith, refl)
+among_options Workers = (3, omega arith, refl)
+among_options Root = (4, omega arith, refl)
+among_options Witness = (5, omega arith, refl)
 
 -- a word that each option takes as its value
 abbrev pub example : OptionName → List ℕ
 example Stacks = []
 example Key = codes "0000000000000000000000000000000000000000000000000000000000000000"
 example Height = codes "1"
+example Workers = codes "1"
 example Root = codes "1"
+example Witness = codes "1,0"
 
 -- it is a value of it
 pub example_is_value : (o : OptionName) → IsSome ((row o).value (example o))
@@ -50,14 +57,18 @@ unfolding hex_on_literals
 example_is_value Stacks = refl
 example_is_value Key = refl
 example_is_value Height = refl
+example_is_value Workers = refl
 example_is_value Root = refl
+example_is_value Witness = refl
 
 -- a needed option may stand beside each other one
 pub needed_is_compatible : (o other : OptionName) → (row o).needed ≡ true → other ≢ o → AreCompatible other o
 needed_is_compatible Stacks other needed differ = absurd (cc)
 needed_is_compatible Key other needed differ = absurd (cc)
 needed_is_compatible Height other needed differ = absurd (cc)
+needed_is_compatible Workers other needed differ = absurd (cc)
 needed_is_compatible Root other needed differ = absurd (cc)
+needed_is_compatible Witness other needed differ = absurd (cc)
 
 -- ---- names and words tell apart
 

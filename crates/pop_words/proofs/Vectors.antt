@@ -62,7 +62,9 @@ formula_alone : Asks (codes "formula" ∷ []) (record {
   stacks =
       Key (replicate 32 0);
   height = 1048576;
+  workers = 1;
   root = 1;
+  witness = None;
 })
 formula_alone = reading_is (codes "formula" ∷ [])
 
@@ -71,28 +73,30 @@ check_alone : Asks (codes "check" ∷ []) (record {
   stacks =
       Key (replicate 32 0);
   height = 1048576;
+  workers = 1;
   root = 1;
+  witness = None;
 })
 check_alone = reading_is (codes "check" ∷ [])
 
 orient_alone : Asks (codes "orient" ∷ [])
-    (record { command = Orient; stacks = Key (replicate 32 0); height = 1048576; root = 1 })
+    (record { command = Orient; stacks = Key (replicate 32 0); height = 1048576; workers = 1; root = 1; witness = None })
 orient_alone = reading_is (codes "orient" ∷ [])
 
 tree_alone : Asks (codes "tree" ∷ [])
-    (record { command = Tree; stacks = Key (replicate 32 0); height = 1048576; root = 1 })
+    (record { command = Tree; stacks = Key (replicate 32 0); height = 1048576; workers = 1; root = 1; witness = None })
 tree_alone = reading_is (codes "tree" ∷ [])
 
 height_behind_root : Asks (codes "tree" ∷ codes "--root" ∷ codes "03" ∷ codes "--height" ∷ codes "9" ∷ [])
-    (record { command = Tree; stacks = Key (replicate 32 0); height = 9; root = 3 })
+    (record { command = Tree; stacks = Key (replicate 32 0); height = 9; workers = 1; root = 3; witness = None })
 height_behind_root = reading_is (codes "tree" ∷ codes "--root" ∷ codes "03" ∷ codes "--height" ∷ codes "9" ∷ [])
 
 rows_for_a_formula : Asks (codes "formula" ∷ codes "--stacks" ∷ codes "0,0,1" ∷ [])
-    (record { command = Formula; stacks = Given ((0 ∷ 0 ∷ 1 ∷ []) ∷ []); height = 1048576; root = 1 })
+    (record { command = Formula; stacks = Given ((0 ∷ 0 ∷ 1 ∷ []) ∷ []); height = 1048576; workers = 1; root = 1; witness = None })
 rows_for_a_formula = reading_is (codes "formula" ∷ codes "--stacks" ∷ codes "0,0,1" ∷ [])
 
 key_behind_height : Asks (codes "formula" ∷ codes "--height" ∷ codes "9" ∷ codes "--key" ∷ zeros ∷ [])
-    (record { command = Formula; stacks = Key (replicate 32 0); height = 9; root = 1 })
+    (record { command = Formula; stacks = Key (replicate 32 0); height = 9; workers = 1; root = 1; witness = None })
 unfolding hex_on_literals
 key_behind_height = reading_is (codes "formula" ∷ codes "--height" ∷ codes "9" ∷ codes "--key" ∷ zeros ∷ [])
 

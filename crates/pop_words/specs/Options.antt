@@ -1,22 +1,23 @@
 -- The commands, and the table of options: what a later option adds is a row here.
-use Rattle.std.specs.Prelude.{ℕ, ◌-◌, ◌^◌, Bool, true, false, List, [], ◌∷◌, replicate, Option, option_map, codes}
+use Rattle.std.specs.Prelude.{ℕ, ◌-◌, ◌^◌, Bool, true, false, List, [], ◌∷◌, replicate, Option, None, Some, option_map, codes}
 use Rattle.pop_stacks.specs.declared.stack_spec.StackSpec.TheVariants.{Key as KeyedStacks, Given as GivenStacks}
 use Rattle.pop_words.specs.declared.command.Command.{Command}
-use Rattle.pop_words.specs.declared.command.Command.TheVariants.{Formula, Orient, Tree, Check}
+use Rattle.pop_words.specs.declared.command.Command.TheVariants.{Formula, Orient, Tree, Resample, Check}
 use Rattle.pop_words.specs.declared.option.OptionName.{OptionName}
-use Rattle.pop_words.specs.declared.option.OptionName.TheVariants.{Stacks, Key, Height, Root}
+use Rattle.pop_words.specs.declared.option.OptionName.TheVariants.{Stacks, Key, Height, Workers, Root, Witness}
 use Rattle.pop_words.specs.declared.job.Job.{Job}
-use Rattle.pop_words.specs.Values.{number_between, rows_in, key_in}
+use Rattle.pop_words.specs.Values.{number_between, rows_in, key_in, pair_in}
 
 -- every command
 abbrev pub commands : List Command
-commands = Formula ∷ Orient ∷ Tree ∷ Check ∷ []
+commands = Formula ∷ Orient ∷ Tree ∷ Resample ∷ Check ∷ []
 
 -- the word of a command
 abbrev pub command_word : Command → List ℕ
 command_word Formula = codes "formula"
 command_word Orient = codes "orient"
 command_word Tree = codes "tree"
+command_word Resample = codes "resample"
 command_word Check = codes "check"
 
 -- The job of a command with no option: the defaults. The key is 32 bytes of 0.
@@ -26,7 +27,9 @@ default_job command =
       command = command;
       stacks = KeyedStacks (replicate 32 0);
       height = 1048576;
+      workers = 1;
       root = 1;
+      witness = None;
     }
 
 -- the commands that sample
@@ -34,6 +37,7 @@ abbrev pub samples : Command → Bool
 samples Formula = true
 samples Orient = true
 samples Tree = true
+samples Resample = true
 samples Check = false
 
 -- the command whose samples have a root
@@ -41,7 +45,16 @@ abbrev pub has_root : Command → Bool
 has_root Formula = false
 has_root Orient = false
 has_root Tree = true
+has_root Resample = false
 has_root Check = false
+
+-- the command that tells its log
+abbrev pub tells_log : Command → Bool
+tells_log Formula = false
+tells_log Orient = false
+tells_log Tree = false
+tells_log Resample = true
+tells_log Check = false
 
 -- an option that excludes none
 abbrev pub nothing : OptionName → Bool
@@ -52,7 +65,9 @@ abbrev pub key_or_height : OptionName → Bool
 key_or_height Stacks = false
 key_or_height Key = true
 key_or_height Height = true
+key_or_height Workers = false
 key_or_height Root = false
+key_or_height Witness = false
 
 -- the job with given rows
 abbrev pub set_rows : List (List ℕ) → Job → Job
@@ -66,9 +81,17 @@ set_key key job = record job { stacks = KeyedStacks key }
 abbrev pub set_height : ℕ → Job → Job
 set_height height job = record job { height = height }
 
+-- the job with a number of workers
+abbrev pub set_workers : ℕ → Job → Job
+set_workers workers job = record job { workers = workers }
+
 -- the job with a root
 abbrev pub set_root : ℕ → Job → Job
 set_root root job = record job { root = root }
+
+-- the job that asks for the witness of a pop
+abbrev pub set_witness : ℕ × ℕ → Job → Job
+set_witness pair job = record job { witness = Some pair }
 
 -- what there is to say of an option
 pub record OptionRow : Type 0 where
@@ -109,6 +132,14 @@ row Height =
       excludes = nothing;
       needed = false;
     }
+row Workers =
+    record {
+      name = codes "--workers";
+      value = λ word. option_map set_workers (number_between 1 64 word);
+      allowed = samples;
+      excludes = nothing;
+      needed = false;
+    }
 row Root =
     record {
       name = codes "--root";
@@ -117,7 +148,15 @@ row Root =
       excludes = nothing;
       needed = false;
     }
+row Witness =
+    record {
+      name = codes "--witness";
+      value = λ word. option_map set_witness (pair_in word);
+      allowed = tells_log;
+      excludes = nothing;
+      needed = false;
+    }
 
 -- every option
 abbrev pub options : List OptionName
-options = Stacks ∷ Key ∷ Height ∷ Root ∷ []
+options = Stacks ∷ Key ∷ Height ∷ Workers ∷ Root ∷ Witness ∷ []

@@ -53,3 +53,12 @@ are_within rows = nat_le (length rows) (2 ^ 22) && nat_le (sum_by length rows) (
 abbrev pub rows_in : List ℕ → Option (List (List ℕ))
 rows_in [] = Some []
 rows_in (b ∷ bs) = only_if are_within (all_some row_in (semicolon_parts (b ∷ bs)))
+
+-- just two numbers
+abbrev pub pair_of : List ℕ → Option (ℕ × ℕ)
+pair_of (a ∷ b ∷ []) = Some (a, b)
+pair_of numbers = None
+
+-- two numbers joined by `,`
+abbrev pub pair_in : List ℕ → Option (ℕ × ℕ)
+pair_in word = option_and_then pair_of (row_in word)

@@ -1,6 +1,6 @@
 // The commands.
 ghost use Rattle.std.specs.Prelude.{◌≡◌};
-ghost use Rattle.pop_words.specs.Options.{command_word, has_root, samples};
+ghost use Rattle.pop_words.specs.Options.{command_word, has_root, samples, tells_log};
 ghost use Rattle.pop_words.specs.Reading.{command_named};
 
 /// What is to be done with the formula or the graph on the input.
@@ -12,15 +12,19 @@ pub enum Command {
     Orient,
     /// `tree`: sample a spanning tree of the graph, with its arrows to a root.
     Tree,
+    /// `resample`: sample a valuation as `formula` does, of clauses that may clash, and tell the log of
+    /// the pops.
+    Resample,
     /// `check`: say whether the clauses of the formula are extremal.
     Check,
 }
 
 impl Command {
-    const ALL: [Command; 4] = [
+    const ALL: [Command; 5] = [
         Command::Formula,
         Command::Orient,
         Command::Tree,
+        Command::Resample,
         Command::Check,
     ];
 
@@ -32,6 +36,7 @@ impl Command {
             Command::Formula => "formula",
             Command::Orient => "orient",
             Command::Tree => "tree",
+            Command::Resample => "resample",
             Command::Check => "check",
         }
     }
@@ -41,7 +46,7 @@ impl Command {
         ensures { result ≡ samples self }
     {
         match self {
-            Command::Formula | Command::Orient | Command::Tree => true,
+            Command::Formula | Command::Orient | Command::Tree | Command::Resample => true,
             Command::Check => false,
         }
     }
@@ -52,7 +57,17 @@ impl Command {
     {
         match self {
             Command::Tree => true,
-            Command::Formula | Command::Orient | Command::Check => false,
+            Command::Formula | Command::Orient | Command::Resample | Command::Check => false,
+        }
+    }
+
+    // Whether it tells its log.
+    pub(crate) fn tells_log(self) -> bool
+        ensures { result ≡ tells_log self }
+    {
+        match self {
+            Command::Resample => true,
+            Command::Formula | Command::Orient | Command::Tree | Command::Check => false,
         }
     }
 

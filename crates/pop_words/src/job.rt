@@ -14,9 +14,14 @@ pub struct Job {
     /// The number of entries of each keyed stack, from 1 to 2^31 - 1: that of `--height`, which is
     /// 2^20 by default.
     pub height: u32,
+    /// How many workers share the pops, from 1 to 64: that of `--workers`, which is 1 by default.
+    pub workers: u32,
     /// The vertex to which the arrows of a tree lead, from 1 to 2^32 - 1: that of `--root`, which
     /// is 1 by default.
     pub root: u32,
+    /// The pop whose witness tree is asked for, by the printed name of a variable and the entry that
+    /// the pop used, which counts from 0: those of `--witness`. None by default.
+    pub witness: Option<(u32, u32)>,
 }
 
 impl Job {
@@ -30,7 +35,9 @@ impl Job {
             command,
             stacks: StackSpec::Key([0; 32]),
             height: 1 << 20,
+            workers: 1,
             root: 1,
+            witness: None,
         }
     }
 }

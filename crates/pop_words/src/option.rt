@@ -5,7 +5,7 @@ ghost use Rattle.std.specs.List.{list_all, list_any};
 ghost use Rattle.pop_words.specs.Options.{row};
 ghost use Rattle.pop_words.specs.Reading.{option_named, compatible, may_follow, option_next, is_complete, same_name, stands_if_needed};
 
-use crate::value::{key_in, number_between, rows_in};
+use crate::value::{key_in, number_between, pair_in, rows_in};
 use crate::{Command, Job};
 use pop_stacks::StackSpec;
 use std::alloc::{AllocError, Global};
@@ -13,20 +13,27 @@ use std::alloc::{AllocError, Global};
 // The greatest height of keyed stacks.
 const MAX_HEIGHT: u32 = (1 << 31) - 1;
 
+// How many workers there may be.
+const MAX_WORKERS: u32 = 64;
+
 #[derive(Clone, Copy, Debug, PartialEq, Eq)]
 pub enum OptionName {
     Stacks,
     Key,
     Height,
+    Workers,
     Root,
+    Witness,
 }
 
 impl OptionName {
-    const ALL: [OptionName; 4] = [
+    const ALL: [OptionName; 6] = [
         OptionName::Stacks,
         OptionName::Key,
         OptionName::Height,
+        OptionName::Workers,
         OptionName::Root,
+        OptionName::Witness,
     ];
 
     // As it is written.
@@ -37,7 +44,9 @@ impl OptionName {
             OptionName::Stacks => "--stacks",
             OptionName::Key => "--key",
             OptionName::Height => "--height",
+            OptionName::Workers => "--workers",
             OptionName::Root => "--root",
+            OptionName::Witness => "--witness",
         }
     }
 
@@ -64,8 +73,19 @@ impl OptionName {
                 Some(height) => Ok(Some(Job { height, ..job })),
                 None => Ok(None),
             },
+            OptionName::Workers => match number_between(1, MAX_WORKERS, word) {
+                Some(workers) => Ok(Some(Job { workers, ..job })),
+                None => Ok(None),
+            },
             OptionName::Root => match number_between(1, u32::MAX, word) {
                 Some(root) => Ok(Some(Job { root, ..job })),
+                None => Ok(None),
+            },
+            OptionName::Witness => match pair_in(alloc, word)? {
+                Some(pair) => Ok(Some(Job {
+                    witness: Some(pair),
+                    ..job
+                })),
                 None => Ok(None),
             },
         }
@@ -76,8 +96,11 @@ impl OptionName {
         ensures { result ≡ (row self).allowed command }
     {
         match self {
-            OptionName::Stacks | OptionName::Key | OptionName::Height => command.samples(),
+            OptionName::Stacks | OptionName::Key | OptionName::Height | OptionName::Workers => {
+                command.samples()
+            }
             OptionName::Root => command.has_root(),
+            OptionName::Witness => command.tells_log(),
         }
     }
 
@@ -87,7 +110,11 @@ impl OptionName {
     {
         match self {
             OptionName::Stacks => matches!(other, OptionName::Key | OptionName::Height),
-            OptionName::Key | OptionName::Height | OptionName::Root => false,
+            OptionName::Key
+            | OptionName::Height
+            | OptionName::Workers
+            | OptionName::Root
+            | OptionName::Witness => false,
         }
     }
 
@@ -96,7 +123,12 @@ impl OptionName {
         ensures { result ≡ (row self).needed }
     {
         match self {
-            OptionName::Stacks | OptionName::Key | OptionName::Height | OptionName::Root => false,
+            OptionName::Stacks
+            | OptionName::Key
+            | OptionName::Height
+            | OptionName::Workers
+            | OptionName::Root
+            | OptionName::Witness => false,
         }
     }
 

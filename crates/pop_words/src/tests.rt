@@ -19,6 +19,7 @@ fn shown(alloc: Global, read: Result<Job, WordFault>) -> Result<String, AllocErr
             Command::Formula => "formula",
             Command::Orient => "orient",
             Command::Tree => "tree",
+            Command::Resample => "resample",
             Command::Check => "check",
         },
     )?;
@@ -38,6 +39,12 @@ fn shown(alloc: Global, read: Result<Job, WordFault>) -> Result<String, AllocErr
         }
     }
     write!(text, " height {} root {}", job.height, job.root)?;
+    if job.workers != 1 {
+        write!(text, " workers {}", job.workers)?;
+    }
+    if let Some((name, entry)) = job.witness {
+        write!(text, " witness {name} {entry}")?;
+    }
     Ok(text)
 }
 
@@ -158,6 +165,55 @@ fn words_in_the_grammar_give_their_job(rt: HostRuntime) -> Result<(), Fail> {
 }
 
 #[test]
+fn workers_and_witnesses_give_their_job(rt: HostRuntime) -> Result<(), Fail> {
+    // Worked by hand.
+    let lines = [
+        (
+            "resample --stacks 0,1;0,0;0,0",
+            "resample rows [0, 1] [0, 0] [0, 0] height 1048576 root 1",
+        ),
+        (
+            "resample --height 3 --key Z",
+            "resample key Z height 3 root 1",
+        ),
+        (
+            "formula --workers 64",
+            "formula key Z height 1048576 root 1 workers 64",
+        ),
+        (
+            "orient --workers 02 --stacks 0",
+            "orient rows [0] height 1048576 root 1 workers 2",
+        ),
+        (
+            "tree --root 3 --workers 8",
+            "tree key Z height 1048576 root 3 workers 8",
+        ),
+        (
+            "resample --workers 2 --witness 1,1",
+            "resample key Z height 1048576 root 1 workers 2 witness 1 1",
+        ),
+        (
+            "resample --witness 1,0",
+            "resample key Z height 1048576 root 1 witness 1 0",
+        ),
+        (
+            "resample --witness 0000000007,4294967295 --stacks 0",
+            "resample rows [0] height 1048576 root 1 witness 7 4294967295",
+        ),
+        (
+            "resample --key Z --witness 0,00",
+            "resample key Z height 1048576 root 1 witness 0 0",
+        ),
+        ("resample", "resample key Z height 1048576 root 1"),
+        ("formula --workers 1", "formula key Z height 1048576 root 1"),
+    ];
+    for (line, job) in lines {
+        assert_eq!(rt; answer(rt.alloc(), line)?.as_str(), job, "{line}");
+    }
+    Ok(())
+}
+
+#[test]
 fn words_outside_the_grammar_give_their_first_bad_place(rt: HostRuntime) -> Result<(), Fail> {
     // Worked by hand; 64 zeros are a key, 63 and 65 aren't.
     let lines = [
@@ -173,7 +229,6 @@ fn words_outside_the_grammar_give_their_first_bad_place(rt: HostRuntime) -> Resu
         ("formula ", "usage 2"),
         ("formula --speed 3", "usage 2"),
         ("formula --speed 3 --height 0", "usage 2"),
-        ("formula --workers 65", "usage 2"),
         ("formula --height=5", "usage 2"),
         ("formula --Key Z", "usage 2"),
         ("formula --root 1", "usage 2"),
@@ -246,6 +301,40 @@ fn words_outside_the_grammar_give_their_first_bad_place(rt: HostRuntime) -> Resu
         shown(rt.alloc(), read_words(rt.alloc(), &[]))?.as_str(),
         "usage 1"
     );
+    Ok(())
+}
+
+#[test]
+fn workers_and_witnesses_are_refused_at_their_first_bad_place(rt: HostRuntime) -> Result<(), Fail> {
+    // Worked by hand.
+    let lines = [
+        ("formula --workers 65", "usage 3"),
+        ("formula --workers 0", "usage 3"),
+        ("formula --workers", "usage 3"),
+        ("formula --workers 2,3", "usage 3"),
+        ("check --workers 2", "usage 2"),
+        ("tree --workers 2 --workers 2", "usage 4"),
+        ("resample --root 1", "usage 2"),
+        ("resamples", "usage 1"),
+        ("formula --witness 1,0", "usage 2"),
+        ("check --witness 1,0", "usage 2"),
+        ("resample --witness", "usage 3"),
+        ("resample --witness ", "usage 3"),
+        ("resample --witness 1", "usage 3"),
+        ("resample --witness 1,", "usage 3"),
+        ("resample --witness ,1", "usage 3"),
+        ("resample --witness 1,2,3", "usage 3"),
+        ("resample --witness 1;2", "usage 3"),
+        ("resample --witness -1,2", "usage 3"),
+        ("resample --witness 4294967296,0", "usage 3"),
+        ("resample --witness 00000000001,0", "usage 3"),
+        ("resample --witness 1,0 --witness 1,0", "usage 4"),
+        ("resample --stacks 0 --height 1", "usage 4"),
+        ("resample --height 0", "usage 3"),
+    ];
+    for (line, place) in lines {
+        assert_eq!(rt; answer(rt.alloc(), line)?.as_str(), place, "{line}");
+    }
     Ok(())
 }
 

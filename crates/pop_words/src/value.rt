@@ -1,6 +1,6 @@
 // Values of options, read from their words.
 ghost use Rattle.std.specs.Prelude.{◌≡◌, ◌∷◌, ◌&&◌, ℕ, List, IfOk, Option, option_map, vec_items};
-ghost use Rattle.pop_words.specs.Values.{number_between as number_between_of, key_in as key_of, row_in as row_of, rows_in as rows_of, only_if, fits_in};
+ghost use Rattle.pop_words.specs.Values.{number_between as number_between_of, key_in as key_of, row_in as row_of, rows_in as rows_of, pair_in as pair_of, only_if, fits_in};
 
 use hex::FromHex;
 use pop_edge::number;
@@ -68,4 +68,17 @@ pub fn rows_in(alloc: Global, word: &[u8]) -> Result<Option<Rows>, AllocError>
         rows.push(row)?;
     }
     Ok(Some(Rows::of(rows)))
+}
+
+/// Two numbers joined by `,`.
+pub fn pair_in(alloc: Global, word: &[u8]) -> Result<Option<(u32, u32)>, AllocError>
+    ensures { IfOk result (λ pair. pair ≡ pair_of word.now) }
+{
+    let Some(numbers) = row_in(alloc, word, 2)? else {
+        return Ok(None);
+    };
+    if numbers.len() != 2 {
+        return Ok(None);
+    }
+    Ok(Some((numbers[0], numbers[1])))
 }

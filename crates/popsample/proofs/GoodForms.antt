@@ -11,7 +11,7 @@ use Rattle.pop_print.specs.declared.facts.Facts.{Facts}
 use Rattle.pop_print.specs.declared.facts.Facts.TheVariants.{Orient as OrientFacts, Tree as TreeFacts}
 use Rattle.popsample.specs.declared.answer.Answer.{Answer}
 use Rattle.popsample.specs.Outcomes.{Outcome, Tells, AnswersBy}
-use Rattle.popsample.specs.Outcomes.Outcome.{Usage, Unread, Isolated, NoRoot, CutOff, Unsound, Clashes, Extremal, Ended}
+use Rattle.popsample.specs.Outcomes.Outcome.{Usage, Unread, Isolated, NoRoot, CutOff, Unsound, Clashes, Extremal, Ended, Resampled}
 use Rattle.popsample.specs.Sampling.{pair_weights, IsEndOf, ComesOfSampling}
 use Rattle.popsample.specs.Orientations.{EndsOrientation, ComesOfOrienting}
 use Rattle.popsample.specs.Trees.{tree_instance, ComesOfTree}
@@ -39,6 +39,7 @@ of_touched origin g touched (Unsound t f) h = (touched, h)
 of_touched origin g touched (Clashes i j) h = (touched, h)
 of_touched origin g touched (Extremal n) h = (touched, h)
 of_touched origin g touched (Ended t i c n s) h = (touched, h)
+of_touched origin g touched (Resampled t i l s w) h = (touched, h)
 
 -- where the root is a vertex, and each vertex is joined to it
 pub of_connected : (origin : Origin) (root : ℕ) (g : GraphOf) → root ≤ g.vertices → IsConnected g root → (o : Outcome)
@@ -54,3 +55,4 @@ of_connected origin root g last connected (Unsound t f) h = (last, connected, h)
 of_connected origin root g last connected (Clashes i j) h = (last, connected, h)
 of_connected origin root g last connected (Extremal n) h = (last, connected, h)
 of_connected origin root g last connected (Ended t i c n s) h = (last, connected, h)
+of_connected origin root g last connected (Resampled t i l s w) h = (last, connected, h)

@@ -1,4 +1,5 @@
 mod Carrying
+mod Finished
 mod GoodForms
 mod Leasts
 mod Lifting
@@ -9,7 +10,9 @@ mod OneFormula
 mod OneOrientation
 mod OneOutcome
 mod OneReading
+mod OneResampling
 mod OneSampling
 mod OneTree
 mod Statuses
 mod Telling
+mod WitnessLemmas

@@ -11,7 +11,7 @@ use Rattle.dimacs_read.specs.Falsifying.{AreEventsOf}
 use Rattle.extremal_check.specs.Clashes.{AreClashing}
 use Rattle.pop_print.specs.declared.facts.Facts.TheVariants.{Formula as FormulaFacts}
 use Rattle.popsample.specs.Outcomes.{Outcome}
-use Rattle.popsample.specs.Outcomes.Outcome.{Usage, Unread, Isolated, NoRoot, CutOff, Unsound, Clashes, Extremal, Ended}
+use Rattle.popsample.specs.Outcomes.Outcome.{Usage, Unread, Isolated, NoRoot, CutOff, Unsound, Clashes, Extremal, Ended, Resampled}
 use Rattle.popsample.specs.Sampling.{pair_weights, instance_of, IsEndOf}
 use Rattle.popsample.specs.Formulas.{ClashesAt, EndsFormula, ComesOfRunning, ComesOfFormula, ComesOfChecking}
 use Rattle.popsample.proofs.Leasts.{one_least_pair}
@@ -19,7 +19,7 @@ use Rattle.popsample.proofs.OneClash.{extremal_has_none}
 use Rattle.popsample.proofs.OneSampling.{IsOne, one_end, one_sampling}
 
 -- clauses have one list of events
-one_events : (clauses : List (List ℤ)) (a b : List (ℕ × Cube)) → AreEventsOf clauses a → AreEventsOf clauses b → a ≡ b
+pub one_events : (clauses : List (List ℤ)) (a b : List (ℕ × Cube)) → AreEventsOf clauses a → AreEventsOf clauses b → a ≡ b
 one_events clauses a b is is' =
     same_rising (λ (r : ℕ × Cube). r.0) a b is.rising is'.rising
     (λ r has. (is'.exact r.0 r.1).1 ((is.exact r.0 r.1).0 has)) (λ r has. (is.exact r.0 r.1).1 ((is'.exact r.0 r.1).0 has))
@@ -61,6 +61,7 @@ running_cases origin f (Unsound t r) h = inr h
 running_cases origin f (Clashes i j) h = inl (i, j, refl, h)
 running_cases origin f (Extremal n) h = inr h
 running_cases origin f (Ended t i c n s) h = inr h
+running_cases origin f (Resampled t i l s w) h = inr h
 
 one_running : (origin : Origin) (f : Cnf) → IsOne (ComesOfRunning origin f)
 one_running origin f o p h h' = elim (running_cases origin f o h) [

@@ -11,7 +11,7 @@ use Rattle.pop_stacks.specs.declared.stack_fault.StackFault.{StackFault}
 use Rattle.pop_stacks.specs.Faults.{IsSound, IsCause}
 use Rattle.pop_print.specs.declared.facts.Facts.{Facts}
 use Rattle.popsample.specs.Outcomes.{Outcome}
-use Rattle.popsample.specs.Outcomes.Outcome.{Usage, Unread, Isolated, NoRoot, CutOff, Unsound, Clashes, Extremal, Ended}
+use Rattle.popsample.specs.Outcomes.Outcome.{Usage, Unread, Isolated, NoRoot, CutOff, Unsound, Clashes, Extremal, Ended, Resampled}
 use Rattle.popsample.specs.Sampling.{IsEndOf, ComesOfSampling}
 use Rattle.popsample.proofs.OneFault.{one_cause, sound_has_none}
 
@@ -36,6 +36,7 @@ ended facts i (CutOff w) h = absurd h
 ended facts i (Unsound f r) h = absurd h
 ended facts i (Clashes j k) h = absurd h
 ended facts i (Extremal n) h = absurd h
+ended facts i (Resampled told j l s w) h = absurd h
 ended facts i (Ended told j c n s) h =
     record {
       cursors = c;
@@ -73,18 +74,27 @@ sampling_cases facts origin weights Runs (Unsound told fault) h = inl (fault, ap
 sampling_cases facts origin weights Runs (Clashes j k) h = inr h
 sampling_cases facts origin weights Runs (Extremal n) h = inr h
 sampling_cases facts origin weights Runs (Ended told j c n s) h = inr h
+sampling_cases facts origin weights Runs (Resampled told j l s w) h = inr h
+
+-- two outcomes of sampling are alike where those of its run are
+pub alike_sampling : (Alike : Outcome → Outcome → Type 0) → ((o p : Outcome) → o ≡ p → Alike o p) → (facts : Facts)
+    (origin : Origin) (weights : List (List ℕ)) (Runs : Outcome → Type 0)
+    → ((o p : Outcome) → Runs o → Runs p → Alike o p) → (o p : Outcome)
+    → ComesOfSampling facts origin weights Runs o → ComesOfSampling facts origin weights Runs p → Alike o p
+alike_sampling Alike same facts origin weights Runs alike o p h h' =
+    elim (sampling_cases facts origin weights Runs o h) [
+      | inl (a, o_is, cause) ↦ elim (sampling_cases facts origin weights Runs p h') [
+        | inl (b, p_is, cause') ↦
+            same o p (o_is ∙ ap (λ f. Unsound facts f) (one_cause origin weights a b cause cause') ∙ sym p_is)
+        | inr (sound', runs') ↦ absurd (sound_has_none origin weights a sound' cause)
+      ]
+      | inr (sound, runs) ↦ elim (sampling_cases facts origin weights Runs p h') [
+        | inl (b, p_is, cause') ↦ absurd (sound_has_none origin weights b sound cause')
+        | inr (sound', runs') ↦ alike o p runs runs'
+      ]
+    ]
 
 -- sampling has one outcome where its run has
 pub one_sampling : (facts : Facts) (origin : Origin) (weights : List (List ℕ)) (Runs : Outcome → Type 0) → IsOne Runs
     → IsOne (ComesOfSampling facts origin weights Runs)
-one_sampling facts origin weights Runs one o p h h' = elim (sampling_cases facts origin weights Runs o h) [
-  | inl (a, o_is, cause) ↦ elim (sampling_cases facts origin weights Runs p h') [
-    | inl (b, p_is, cause') ↦
-        o_is ∙ ap (λ f. Unsound facts f) (one_cause origin weights a b cause cause') ∙ sym p_is
-    | inr (sound', runs') ↦ absurd (sound_has_none origin weights a sound' cause)
-  ]
-  | inr (sound, runs) ↦ elim (sampling_cases facts origin weights Runs p h') [
-    | inl (b, p_is, cause') ↦ absurd (sound_has_none origin weights b sound cause')
-    | inr (sound', runs') ↦ one o p runs runs'
-  ]
-]
+one_sampling facts origin weights Runs one = alike_sampling (λ o p. o ≡ p) (λ o p is. is) facts origin weights Runs one

@@ -9,7 +9,7 @@ use Rattle.graph_read.specs.Paths.{IsConnected, IsCutOff}
 use Rattle.cycle_popping.specs.Trees.{heads_of_tree, weights_of_tree}
 use Rattle.pop_print.specs.declared.facts.Facts.TheVariants.{Tree as TreeFacts}
 use Rattle.popsample.specs.Outcomes.{Outcome}
-use Rattle.popsample.specs.Outcomes.Outcome.{Usage, Unread, Isolated, NoRoot, CutOff, Unsound, Clashes, Extremal, Ended}
+use Rattle.popsample.specs.Outcomes.Outcome.{Usage, Unread, Isolated, NoRoot, CutOff, Unsound, Clashes, Extremal, Ended, Resampled}
 use Rattle.popsample.specs.Sampling.{IsEndOf, ComesOfSampling}
 use Rattle.popsample.specs.Trees.{tree_instance, ComesOfTree}
 use Rattle.popsample.proofs.Leasts.{one_least}
@@ -38,6 +38,7 @@ ways origin root g (Unsound t r) h = sampled h
 ways origin root g (Clashes i j) h = sampled h
 ways origin root g (Extremal n) h = sampled h
 ways origin root g (Ended t i c n s) h = sampled h
+ways origin root g (Resampled t i l s w) h = sampled h
 
 one_way : (origin : Origin) (root : ℕ) (g : GraphOf) (o p : Outcome) → Ways origin root g o → Ways origin root g p → o ≡ p
 one_way origin root g o p (no_root o_is above) (no_root p_is above') = o_is ∙ sym p_is

@@ -1,5 +1,5 @@
 -- Which statuses a text is answered by: each up to 6 but that of bad words.
-use Rattle.std.proofs.Common.{◌≤◌, ◌<◌, ℕ, List, [], ◌∷◌, length, sym, subst, arith}
+use Rattle.std.proofs.Common.{◌≤◌, ◌<◌, ℕ, Option, List, [], ◌∷◌, length, sym, subst, arith}
 use Rattle.pop_model.specs.Stacks.{Origin}
 use Rattle.pop_model.specs.Stacks.Origin.{Given, Keyed}
 use Rattle.pop_model.specs.Families.{Event}
@@ -13,10 +13,13 @@ use Rattle.dimacs_read.specs.Cnf.{Cnf}
 use Rattle.graph_read.specs.Graphs.{GraphOf}
 use Rattle.cycle_popping.specs.Trees.{weights_of_tree}
 use Rattle.popsample.specs.Refusals.{reading_status, stacks_status}
-use Rattle.popsample.specs.Outcomes.{Outcome, IsTextStatus, status_of, end_status, AnswersBy}
-use Rattle.popsample.specs.Outcomes.Outcome.{Usage, Unread, Isolated, NoRoot, CutOff, Unsound, Clashes, Extremal, Ended}
+use Rattle.popsample.specs.Outcomes.{Outcome, IsTextStatus, status_of, end_status, resampled_status, AnswersBy}
+use Rattle.popsample.specs.Outcomes.Outcome.{Usage, Unread, Isolated, NoRoot, CutOff, Unsound, Clashes, Extremal, Ended, Resampled}
+use Rattle.popsample.specs.Witnesses.{Witness}
+use Rattle.popsample.specs.Witnesses.Witness.{Unasked, Missing, Shown}
 use Rattle.popsample.specs.Sampling.{pair_weights}
 use Rattle.popsample.specs.Formulas.{ComesOfFormula, ComesOfChecking}
+use Rattle.popsample.specs.Resamplings.{ComesOfResampling}
 use Rattle.popsample.specs.Orientations.{ComesOfOrienting}
 use Rattle.popsample.specs.Trees.{ComesOfTree}
 use Rattle.popsample.specs.Answers.{IsOfText}
@@ -48,6 +51,12 @@ fault_status (Keyed key height) weights NoMemory h = absurd h
 known_status : (n : ℕ) → 2 < n → n ≤ 6 → IsTextStatus n
 known_status n high low = record { low = low; no_usage = λ h. absurd (omega arith) }
 
+-- the status of a run with its log
+resampled_status_is : (stuck : List Event) (w : Witness) → IsTextStatus (resampled_status stuck w)
+resampled_status_is stuck Unasked = end_status_is stuck
+resampled_status_is stuck (Missing name entry c) = known_status 6 (omega arith) (omega arith)
+resampled_status_is stuck (Shown tree) = end_status_is stuck
+
 -- what comes so says nothing of words or the text, and its fault of stacks is one
 record AreTold (Comes : Outcome → Type 0) : Type 0 where
   no_usage : (place : ℕ) → Comes (Usage place) → ⊥
@@ -65,6 +74,7 @@ told_status Comes told (Unsound t f) h = told.fault t f h
 told_status Comes told (Clashes i j) h = known_status 5 (omega arith) (omega arith)
 told_status Comes told (Extremal n) h = record { low = omega arith; no_usage = λ h'. absurd (omega arith) }
 told_status Comes told (Ended t i c n s) h = end_status_is s
+told_status Comes told (Resampled t i l s w) h = resampled_status_is s w
 
 -- the status of an answer that tells what comes so
 answer_status : (Comes : Outcome → Type 0) → AreTold Comes → (status : ℕ) (out : List ℕ) → AnswersBy Comes status out
@@ -80,6 +90,18 @@ formula_status origin f status out answers =
     (record {
       no_usage = λ place h. h.1.end;
       no_refusal = λ refusal h. h.1.end;
+      fault = λ facts fault h. fault_status origin (pair_weights f.variables) fault h.1;
+    })
+    status out answers
+
+-- the status of an answer to a formula that is resampled
+pub resampling_status : (origin : Origin) (asked : Option (ℕ × ℕ)) (f : Cnf) (status : ℕ) (out : List ℕ)
+    → AnswersBy (ComesOfResampling origin asked f) status out → IsTextStatus status
+resampling_status origin asked f status out answers =
+    answer_status (ComesOfResampling origin asked f)
+    (record {
+      no_usage = λ place h. h.1.history;
+      no_refusal = λ refusal h. h.1.history;
       fault = λ facts fault h. fault_status origin (pair_weights f.variables) fault h.1;
     })
     status out answers

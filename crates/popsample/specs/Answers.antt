@@ -9,12 +9,13 @@ use Rattle.dimacs_read.specs.CnfText.{AnswersCnf, HasNoBadLine as HasNoBadCnfLin
 use Rattle.graph_read.specs.Graphs.{GraphOf}
 use Rattle.graph_read.specs.GraphText.{AnswersGraph, HasNoBadLine as HasNoBadGraphLine}
 use Rattle.pop_words.specs.declared.command.Command.{Command}
-use Rattle.pop_words.specs.declared.command.Command.TheVariants.{Formula, Orient, Tree, Check}
+use Rattle.pop_words.specs.declared.command.Command.TheVariants.{Formula, Orient, Tree, Resample, Check}
 use Rattle.pop_words.specs.declared.job.Job.{Job}
 use Rattle.pop_words.specs.CommandLines.{Asks, IsBadPlace}
 use Rattle.popsample.specs.Outcomes.{Outcome, AnswersBy}
 use Rattle.popsample.specs.Outcomes.Outcome.{Usage, Unread}
 use Rattle.popsample.specs.Formulas.{ComesOfFormula, ComesOfChecking}
+use Rattle.popsample.specs.Resamplings.{ComesOfResampling}
 use Rattle.popsample.specs.Orientations.{ComesOfOrienting}
 use Rattle.popsample.specs.Trees.{ComesOfTree}
 
@@ -32,18 +33,24 @@ pub record ComesOfGraph (Comes : GraphOf → Outcome → Type 0) (text : List �
   pub spelled : AnswersGraph text (Ok graph)
   pub comes : Comes graph o
 
--- what comes of a text that a command reads, with stacks of this origin and a root
-abbrev pub ComesOfCommand : Command → Origin → ℕ → List ℕ → Outcome → Type 0
-ComesOfCommand Formula origin root text o = ComesOfCnf (ComesOfFormula origin) text o
-ComesOfCommand Orient origin root text o = ComesOfGraph (ComesOfOrienting origin) text o
-ComesOfCommand Tree origin root text o = ComesOfGraph (ComesOfTree origin root) text o
-ComesOfCommand Check origin root text o = ComesOfCnf ComesOfChecking text o
+-- the origin of the stacks that a job asks for
+abbrev pub origin_for : Job → Origin
+origin_for job = origin_of job.stacks job.height
+
+-- what comes of a text that a command reads, with what the job says beside it
+abbrev pub ComesOfCommand : Command → Job → List ℕ → Outcome → Type 0
+ComesOfCommand Formula job text o = ComesOfCnf (ComesOfFormula (origin_for job)) text o
+ComesOfCommand Orient job text o = ComesOfGraph (ComesOfOrienting (origin_for job)) text o
+ComesOfCommand Tree job text o = ComesOfGraph (ComesOfTree (origin_for job) job.root) text o
+ComesOfCommand Resample job text o = ComesOfCnf (ComesOfResampling (origin_for job) job.witness) text o
+ComesOfCommand Check job text o = ComesOfCnf ComesOfChecking text o
 
 -- a command's grammar refuses the text so
 abbrev pub Refuses : Command → List ℕ → ReadRefusal → Type 0
 Refuses Formula text refusal = AnswersCnf text (Err refusal)
 Refuses Orient text refusal = AnswersGraph text (Err refusal)
 Refuses Tree text refusal = AnswersGraph text (Err refusal)
+Refuses Resample text refusal = AnswersCnf text (Err refusal)
 Refuses Check text refusal = AnswersCnf text (Err refusal)
 
 -- the refusal is one of the text itself, and not of the source or of memory
@@ -56,7 +63,7 @@ IsOfText refusal = ⊤
 abbrev pub ComesOf : Job → List ℕ → Outcome → Type 0
 ComesOf job text (Usage place) = ⊥
 ComesOf job text (Unread refusal) = IsOfText refusal × Refuses job.command text refusal
-ComesOf job text o = ComesOfCommand job.command (origin_of job.stacks job.height) job.root text o
+ComesOf job text o = ComesOfCommand job.command job text o
 
 -- the words ask for a job, of which with the text this comes
 pub record ComesOfJob (words : List (List ℕ)) (text : List ℕ) (o : Outcome) : Type 0 where
@@ -78,6 +85,7 @@ abbrev pub ReadsCnf : Command → Type 0
 ReadsCnf Formula = ⊤
 ReadsCnf Orient = ⊥
 ReadsCnf Tree = ⊥
+ReadsCnf Resample = ⊤
 ReadsCnf Check = ⊤
 
 -- the command reads a graph
@@ -85,6 +93,7 @@ abbrev pub ReadsGraph : Command → Type 0
 ReadsGraph Formula = ⊥
 ReadsGraph Orient = ⊤
 ReadsGraph Tree = ⊤
+ReadsGraph Resample = ⊥
 ReadsGraph Check = ⊥
 
 -- no line whose end was taken is refused by the command's grammar
@@ -92,4 +101,5 @@ abbrev pub HasNoBadLine : Command → List ℕ → Type 0
 HasNoBadLine Formula taken = HasNoBadCnfLine taken
 HasNoBadLine Orient taken = HasNoBadGraphLine taken
 HasNoBadLine Tree taken = HasNoBadGraphLine taken
+HasNoBadLine Resample taken = HasNoBadCnfLine taken
 HasNoBadLine Check taken = HasNoBadCnfLine taken

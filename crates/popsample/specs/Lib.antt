@@ -1,8 +1,10 @@
 pub mod Refusals
 pub mod Stacks
+pub mod Witnesses
 pub mod Outcomes
 pub mod Sampling
 pub mod Formulas
+pub mod Resamplings
 pub mod Orientations
 pub mod Trees
 pub mod Answers

@@ -1,12 +1,17 @@
 -- What can come of command words and a text, and how each is told.
-use Rattle.std.specs.Prelude.{◌≡◌, ◌≢◌, ◌≤◌, ℕ, List, [], ◌∷◌}
+use Rattle.std.specs.Prelude.{◌≡◌, ◌≢◌, ◌≤◌, ℕ, if◌then◌else◌, List, [], ◌∷◌, ◌++◌, length}
 use Rattle.pop_model.specs.Families.{Event}
 use Rattle.pop_model.specs.Instances.{Instance}
+use Rattle.pop_model.specs.Logs.{LogRecord, replay}
+use Rattle.pop_model.specs.Runs.{start_of}
 use Rattle.pop_edge.specs.declared.refusal.ReadRefusal.{ReadRefusal}
 use Rattle.pop_stacks.specs.declared.stack_fault.StackFault.{StackFault}
+use Rattle.pop_log.specs.declared.names.Names.TheVariants.{Plain}
+use Rattle.pop_log.specs.LogTexts.{log_text}
 use Rattle.pop_print.specs.declared.facts.Facts.{Facts}
 use Rattle.pop_print.specs.Names.{name_of}
 use Rattle.pop_print.specs.Output.{end_text}
+use Rattle.popsample.specs.Witnesses.{Witness, witness_text, is_missing}
 use Rattle.popsample.specs.Refusals.{usage_line, isolated_line, root_line, cut_off_line, clash_line, extremal_line, reading_line, reading_status, stacks_line, stacks_status}
 
 -- what comes of command words and a text
@@ -30,11 +35,18 @@ pub data Outcome : Type 0 where
   -- the run came to an end
   Ended : (facts : Facts) (instance : Instance) (cursors : List ℕ) (pops : ℕ) (stuck : List Event)
       → Outcome
+  -- a run whose order isn't determined came to an end; this is its log, and the witness of a pop
+  Resampled : (facts : Facts) (instance : Instance) (log : List LogRecord) (stuck : List Event)
+      (witness : Witness) → Outcome
 
 -- a run's status tells whether an event still occurs
 abbrev pub end_status : List Event → ℕ
 end_status [] = 0
 end_status (e ∷ stuck) = 1
+
+-- where the pop whose witness is asked for isn't there, that is told first
+abbrev pub resampled_status : List Event → Witness → ℕ
+resampled_status stuck witness = if is_missing witness then 6 else end_status stuck
 
 abbrev pub status_of : Outcome → ℕ
 status_of (Usage place) = 2
@@ -46,6 +58,17 @@ status_of (Unsound facts fault) = stacks_status fault
 status_of (Clashes i j) = 5
 status_of (Extremal count) = 0
 status_of (Ended facts i cursors pops stuck) = end_status stuck
+status_of (Resampled facts i log stuck witness) = resampled_status stuck witness
+
+-- the text of a run with its log: that of the end to which the log leads, and that of the log
+abbrev pub history_text : Facts → Instance → List LogRecord → List Event → List ℕ
+history_text facts i log stuck =
+    end_text facts i (replay (start_of i) log) (length log) stuck ++ log_text Plain i log
+
+-- and behind it that of the witness
+abbrev pub resampled_text : Facts → Instance → List LogRecord → List Event → Witness → List ℕ
+resampled_text facts i log stuck witness =
+    history_text facts i log stuck ++ witness_text i.family witness
 
 abbrev pub text_of : Outcome → List ℕ
 text_of (Usage place) = usage_line place
@@ -57,6 +80,7 @@ text_of (Unsound facts fault) = stacks_line (name_of facts) fault
 text_of (Clashes i j) = clash_line i j
 text_of (Extremal count) = extremal_line count
 text_of (Ended facts i cursors pops stuck) = end_text facts i cursors pops stuck
+text_of (Resampled facts i log stuck witness) = resampled_text facts i log stuck witness
 
 -- a status that a text is answered by: none of the words, of a device or of memory
 pub record IsTextStatus (status : ℕ) : Type 0 where

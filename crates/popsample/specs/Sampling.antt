@@ -1,9 +1,8 @@
 -- What comes of sampling, whatever the source.
-use Rattle.std.specs.Prelude.{◌≡◌, ℕ, List, [], ◌∷◌, replicate, ⊤}
+use Rattle.std.specs.Prelude.{◌≡◌, ℕ, List, [], ◌∷◌, replicate}
 use Rattle.pop_model.specs.Stacks.{Origin}
 use Rattle.pop_model.specs.Popping.{Cube}
-use Rattle.pop_model.specs.Families.{Family}
-use Rattle.pop_model.specs.Families.Family.{Listed, Cycles}
+use Rattle.pop_model.specs.Families.Family.{Listed}
 use Rattle.pop_model.specs.Instances.{Instance}
 use Rattle.pop_model.specs.Runs.{IsFirstEnd}
 use Rattle.pop_stacks.specs.Faults.{IsSound, IsCause}
@@ -19,11 +18,6 @@ pair_weights n = replicate n (1 ∷ 1 ∷ [])
 abbrev pub instance_of : Origin → ℕ → List (ℕ × Cube) → Instance
 instance_of origin n events =
     record { stacks = record { origin = origin; weights = pair_weights n }; family = Listed events }
-
--- the family is listed
-abbrev pub IsListed : Family → Type 0
-IsListed (Listed rows) = ⊤
-IsListed (Cycles heads) = ⊥
 
 -- the end of the instance's one-thread run
 abbrev pub IsEndOf : Facts → Instance → Outcome → Type 0

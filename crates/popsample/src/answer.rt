@@ -11,16 +11,21 @@ ghost use Rattle.pop_edge.specs.declared.refusal.ReadRefusal.TheVariants.{ReadFa
 ghost use Rattle.popsample.specs.Refusals.{usage_line};
 ghost use Rattle.popsample.specs.declared.stop.Stop.TheVariants.{ReadFault, OutOfMemory};
 
+use crate::crew::Crew;
 use crate::formula::{check_formula, sample_formula};
 use crate::orientation::orient;
 use crate::refusals::{refuse_reading, refuse_words};
+use crate::resampling::resample_formula;
 use crate::stop::Stop;
 use crate::tree::tree;
 use dimacs_read::read_formula;
 use graph_read::read_graph;
 use pop_edge::{ReadRefusal, Source};
 use pop_words::{Command, Job, WordFault, read_words};
+use pop_workers::Gate;
 use std::alloc::Global;
+use std::sync::Wait;
+use std::thread::Threads;
 
 /// A status, and the whole text that goes with it.
 #[derive(Drop)]
@@ -42,7 +47,12 @@ fn answer_refusal(alloc: Global, refusal: ReadRefusal) -> Result<Answer, Stop>
 }
 
 // The answer to a job that reads a formula.
-fn answer_cnf<S: Source>(alloc: Global, job: Job, source: &mut S) -> Result<Answer, Stop>
+fn answer_cnf<S: Source, R: Threads + Wait + Sync, G: Gate + Sync>(
+    alloc: Global,
+    crew: &Crew<R, G>,
+    job: Job,
+    source: &mut S,
+) -> Result<Answer, Stop>
     requires reads { ReadsCnf job.command }
     requires some { 0 < job.height }
     requires short { job.height < 2 ^ 31 }
@@ -61,14 +71,28 @@ fn answer_cnf<S: Source>(alloc: Global, job: Job, source: &mut S) -> Result<Answ
         Err(refusal) => return answer_refusal(alloc, refusal),
     };
     match job.command {
-        Command::Formula => Ok(sample_formula(alloc, job.stacks, job.height, &formula)?),
+        Command::Formula => Ok(sample_formula(alloc, crew, job.stacks, job.height, &formula)?),
+        Command::Resample => {
+            let Job {
+                stacks,
+                height,
+                witness,
+                ..
+            } = job;
+            Ok(resample_formula(alloc, crew, stacks, height, witness, &formula)?)
+        }
         Command::Check => Ok(check_formula(alloc, &formula)?),
         Command::Orient | Command::Tree => unreachable!(),
     }
 }
 
 // The answer to a job that reads a graph.
-fn answer_graph<S: Source>(alloc: Global, job: Job, source: &mut S) -> Result<Answer, Stop>
+fn answer_graph<S: Source, R: Threads + Wait + Sync, G: Gate + Sync>(
+    alloc: Global,
+    crew: &Crew<R, G>,
+    job: Job,
+    source: &mut S,
+) -> Result<Answer, Stop>
     requires reads { ReadsGraph job.command }
     requires some { 0 < job.height }
     requires short { job.height < 2 ^ 31 }
@@ -88,14 +112,19 @@ fn answer_graph<S: Source>(alloc: Global, job: Job, source: &mut S) -> Result<An
         Err(refusal) => return answer_refusal(alloc, refusal),
     };
     match job.command {
-        Command::Orient => Ok(orient(alloc, job.stacks, job.height, graph)?),
-        Command::Tree => Ok(tree(alloc, job.stacks, job.height, job.root, graph)?),
-        Command::Formula | Command::Check => unreachable!(),
+        Command::Orient => Ok(orient(alloc, crew, job.stacks, job.height, graph)?),
+        Command::Tree => Ok(tree(alloc, crew, job.stacks, job.height, job.root, graph)?),
+        Command::Formula | Command::Resample | Command::Check => unreachable!(),
     }
 }
 
 // The answer to a job, once its text is read.
-fn answer_job<S: Source>(alloc: Global, job: Job, source: &mut S) -> Result<Answer, Stop>
+fn answer_job<S: Source, R: Threads + Wait + Sync, G: Gate + Sync>(
+    alloc: Global,
+    crew: &Crew<R, G>,
+    job: Job,
+    source: &mut S,
+) -> Result<Answer, Stop>
     requires some { 0 < job.height }
     requires short { job.height < 2 ^ 31 }
     requires root { 1 ≤ job.root }
@@ -110,13 +139,21 @@ fn answer_job<S: Source>(alloc: Global, job: Job, source: &mut S) -> Result<Answ
         × HasNoBadLine job.command taken }
 {
     match job.command {
-        Command::Formula | Command::Check => answer_cnf(alloc, job, source),
-        Command::Orient | Command::Tree => answer_graph(alloc, job, source),
+        Command::Formula | Command::Resample | Command::Check => answer_cnf(
+            alloc, crew, job, source,
+        ),
+        Command::Orient | Command::Tree => answer_graph(alloc, crew, job, source),
     }
 }
 
 /// The answer to command words and the text of a source, or why there is none.
-pub fn answer_to<S: Source>(alloc: Global, words: &[String], source: &mut S) -> Result<Answer, Stop>
+pub fn answer_to<S: Source, R: Threads + Wait + Sync, G: Gate + Sync>(
+    rt: &R,
+    alloc: Global,
+    words: &[String],
+    gate: &G,
+    source: &mut S,
+) -> Result<Answer, Stop>
     ensures answer { (text : List ℕ) → S.left source.old ≡ Some text
         → IfOk result (λ a. IsAnswer (map string_bytes words.now) text a.status a.text.items) }
     ensures status { IfOk result (λ a. a.status ≤ 6) }
@@ -136,6 +173,9 @@ pub fn answer_to<S: Source>(alloc: Global, words: &[String], source: &mut S) -> 
     match read_words(alloc, words) {
         Err(WordFault::Usage(place)) => Ok(refuse_words(alloc, place)?),
         Err(WordFault::OutOfMemory) => Err(Stop::OutOfMemory),
-        Ok(job) => answer_job(alloc, job, source),
+        Ok(job) => {
+            let crew = Crew::new(rt, gate, job.workers);
+            answer_job(alloc, &crew, job, source)
+        }
     }
 }

@@ -13,14 +13,18 @@ ghost use Rattle.popsample.specs.Sampling.{pair_weights, instance_of, IsEndOf};
 ghost use Rattle.popsample.specs.Formulas.{ComesOfRunning, ComesOfFormula, ComesOfChecking};
 
 use crate::answer::Answer;
+use crate::crew::Crew;
 use crate::refusals::{refuse_clash, refuse_stacks, tell_extremal};
-use crate::running::run_listed;
+use crate::running::run_extremal;
 use dimacs_read::Formula;
 use extremal_check::{Verdict, check};
 use pop_instance::{Events, Family, Index, Instance};
 use pop_print::Facts;
 use pop_stacks::{StackSpec, Stacks, Weights};
+use pop_workers::Gate;
 use std::alloc::{AllocError, Global};
+use std::sync::Wait;
+use std::thread::Threads;
 
 // The verdict on events over so many variables.
 fn judge(alloc: Global, variables: u32, events: &Events) -> Result<Verdict, AllocError>
@@ -31,9 +35,23 @@ fn judge(alloc: Global, variables: u32, events: &Events) -> Result<Verdict, Allo
     check(alloc, events, &index)
 }
 
+/// The instance of events over so many variables of two values.
+pub(crate) fn instance(variables: u32, stacks: Stacks, events: Events) -> Instance
+    requires weights { stacks.weights ≡ pair_weights variables }
+    requires fit { FitVariables variables events }
+    ensures { result ≡ instance_of stacks.origin variables events }
+{
+    let _count = stacks.count();
+    match Instance::new(stacks, Family::Listed(events)) {
+        Some(instance) => instance,
+        None => unreachable!(),
+    }
+}
+
 // The run of events over so many variables.
-fn run_events(
+fn run_events<R: Threads + Wait + Sync, G: Gate + Sync>(
     alloc: Global,
+    crew: &Crew<R, G>,
     variables: u32,
     stacks: Stacks,
     events: Events,
@@ -45,15 +63,17 @@ fn run_events(
         (IsEndOf (FormulaFacts variables) (instance_of stacks.origin variables events))
         a.status a.text.items) }
 {
-    let _count = stacks.count();
-    match Instance::new(stacks, Family::Listed(events)) {
-        Some(instance) => run_listed(alloc, &Facts::Formula(variables), &instance),
-        None => unreachable!(),
-    }
+    let instance = instance(variables, stacks, events);
+    run_extremal(alloc, crew, &Facts::Formula(variables), &instance)
 }
 
 // Samples the formula with sound stacks.
-fn sample_with(alloc: Global, stacks: Stacks, formula: &Formula) -> Result<Answer, AllocError>
+fn sample_with<R: Threads + Wait + Sync, G: Gate + Sync>(
+    alloc: Global,
+    crew: &Crew<R, G>,
+    stacks: Stacks,
+    formula: &Formula,
+) -> Result<Answer, AllocError>
     requires filled { first_empty formula.now ≡ None }
     requires weights { stacks.weights ≡ pair_weights formula.now.variables }
     ensures { IfOk result (λ a.
@@ -63,13 +83,14 @@ fn sample_with(alloc: Global, stacks: Stacks, formula: &Formula) -> Result<Answe
     let events = formula.events(alloc)?;
     match judge(alloc, variables, &events)? {
         Verdict::Clash(number, other) => refuse_clash(alloc, number, other),
-        Verdict::Extremal => run_events(alloc, variables, stacks, events),
+        Verdict::Extremal => run_events(alloc, crew, variables, stacks, events),
     }
 }
 
 /// Samples the formula: the answer of `formula`.
-pub fn sample_formula(
+pub fn sample_formula<R: Threads + Wait + Sync, G: Gate + Sync>(
     alloc: Global,
+    crew: &Crew<R, G>,
     spec: StackSpec,
     height: u32,
     formula: &Formula,
@@ -83,7 +104,7 @@ pub fn sample_formula(
     let variables = formula.variables();
     match Stacks::new(spec, Weights::pairs(variables), height) {
         Err(fault) => refuse_stacks(alloc, &Facts::Formula(variables), fault),
-        Ok(stacks) => sample_with(alloc, stacks, formula),
+        Ok(stacks) => sample_with(alloc, crew, stacks, formula),
     }
 }
 

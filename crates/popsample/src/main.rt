@@ -4,18 +4,22 @@
 #![tactic(auto)]
 
 mod answer;
+mod crew;
 mod formula;
 pub mod laws;
 mod orientation;
 mod refusals;
+mod resampling;
 mod running;
 mod stop;
 #[cfg(test)]
 mod tests;
 mod top;
 mod tree;
+mod witness;
 
 use pop_edge::{StdSink, StdSource};
+use pop_workers::NoGate;
 use std::env;
 use std::process::ExitCode;
 pub use top::run;
@@ -37,5 +41,5 @@ fn main(rt: HostRuntime) -> ExitCode {
     }
     let mut source = StdSource::new(rt.stdin());
     let mut sink = StdSink::new(rt.stdout());
-    ExitCode::from(run(&rt, rt.alloc(), &words, &mut source, &mut sink))
+    ExitCode::from(run(&rt, rt.alloc(), &words, &NoGate, &mut source, &mut sink))
 }

@@ -10,18 +10,23 @@ ghost use Rattle.popsample.specs.Sampling.{pair_weights, ComesOfSampling};
 ghost use Rattle.popsample.specs.Orientations.{EndsOrientation, ComesOfOrienting};
 
 use crate::answer::Answer;
+use crate::crew::Crew;
 use crate::refusals::{refuse_isolated, refuse_stacks};
-use crate::running::run_listed;
+use crate::running::run_extremal;
 use graph_read::Graph;
 use pop_instance::{Events, Family, Instance};
 use pop_print::Facts;
 use pop_stacks::{StackSpec, Stacks, Weights};
+use pop_workers::Gate;
 use sink_popping::{SinkFault, sinks};
 use std::alloc::{AllocError, Global};
+use std::sync::Wait;
+use std::thread::Threads;
 
 // The run of the graph's sinks.
-fn run_sinks(
+fn run_sinks<R: Threads + Wait + Sync, G: Gate + Sync>(
     alloc: Global,
+    crew: &Crew<R, G>,
     graph: Graph,
     stacks: Stacks,
     events: Events,
@@ -35,14 +40,15 @@ fn run_sinks(
     let _edges = graph.edges();
     let _count = stacks.count();
     match Instance::new(stacks, Family::Listed(events)) {
-        Some(instance) => run_listed(alloc, &Facts::Orient(graph), &instance),
+        Some(instance) => run_extremal(alloc, crew, &Facts::Orient(graph), &instance),
         None => unreachable!(),
     }
 }
 
 // Samples an orientation without the sinks that are given.
-fn sample_orientation(
+fn sample_orientation<R: Threads + Wait + Sync, G: Gate + Sync>(
     alloc: Global,
+    crew: &Crew<R, G>,
     spec: StackSpec,
     height: u32,
     graph: Graph,
@@ -59,14 +65,15 @@ fn sample_orientation(
 {
     match Stacks::new(spec, Weights::pairs(graph.edges()), height) {
         Err(fault) => refuse_stacks(alloc, &Facts::Orient(graph), fault),
-        Ok(stacks) => run_sinks(alloc, graph, stacks, events),
+        Ok(stacks) => run_sinks(alloc, crew, graph, stacks, events),
     }
 }
 
 /// Orients the graph so that each vertex that an edge touches has an edge that leaves it: the answer
 /// of `orient`. A loop leaves its vertex.
-pub fn orient(
+pub fn orient<R: Threads + Wait + Sync, G: Gate + Sync>(
     alloc: Global,
+    crew: &Crew<R, G>,
     spec: StackSpec,
     height: u32,
     graph: Graph,
@@ -77,7 +84,7 @@ pub fn orient(
         AnswersBy (ComesOfOrienting (origin_of spec height) graph) a.status a.text.items) }
 {
     match sinks(alloc, &graph) {
-        Ok(events) => sample_orientation(alloc, spec, height, graph, events),
+        Ok(events) => sample_orientation(alloc, crew, spec, height, graph, events),
         Err(SinkFault::Isolated(vertex)) => refuse_isolated(alloc, vertex),
         Err(SinkFault::OutOfMemory) => Err(AllocError),
     }

@@ -1,21 +1,23 @@
 //! The run of an extremal instance, as an answer.
-ghost use Rattle.std.specs.Prelude.{◌≡◌, ◌<◌, ℕ, List, All, Contains, IfOk};
+ghost use Rattle.std.specs.Prelude.{◌≡◌, IfOk};
 ghost use Rattle.pop_model.specs.Extremal.{IsExtremal};
 ghost use Rattle.pop_model.specs.Runs.{IsFirstEnd};
-ghost use Rattle.cycle_popping.specs.Walks.{AreCycles};
 ghost use Rattle.pop_print.specs.Ends.{AreFactsOf, IsAtEnd};
 ghost use Rattle.popsample.specs.Outcomes.{AnswersBy, end_status};
-ghost use Rattle.popsample.specs.Sampling.{IsEndOf, IsListed};
+ghost use Rattle.popsample.specs.Sampling.{IsEndOf};
 
 use crate::answer::Answer;
-use confluence_core::{End, Keep, Units, run_from};
-use cycle_popping::run_walks;
-use pop_instance::{Cursors, Instance};
+use crate::crew::Crew;
+use confluence_core::{End, Keep};
+use pop_instance::Instance;
 use pop_print::{Facts, text};
+use pop_workers::Gate;
 use std::alloc::{AllocError, Global};
+use std::sync::Wait;
+use std::thread::Threads;
 
-// The status of an end: 1 where an event still occurs.
-fn status_of(end: &End) -> u8
+/// The status of an end: 1 where an event still occurs.
+pub(crate) fn status_of(end: &End) -> u8
     ensures { result ≡ end_status end.now.stuck }
 {
     if end.stuck.len() == 0 { 0 } else { 1 }
@@ -41,28 +43,19 @@ fn tell_end(
     })
 }
 
-/// The end of the one-thread run of listed events that are extremal. It pops in an order of its own,
+/// The end of the one-thread run of an extremal instance. Its pops are made in an order of their own,
 /// since all orders end alike.
-pub fn run_listed(alloc: Global, facts: &Facts, instance: &Instance) -> Result<Answer, AllocError>
+pub fn run_extremal<R: Threads + Wait + Sync, G: Gate + Sync>(
+    alloc: Global,
+    crew: &Crew<R, G>,
+    facts: &Facts,
+    instance: &Instance,
+) -> Result<Answer, AllocError>
     requires facts { AreFactsOf facts.now instance.now }
-    requires listed { IsListed instance.now.family }
     requires extremal { IsExtremal instance.now.family }
     ensures { IfOk result (λ a.
         AnswersBy (IsEndOf facts.now instance.now) a.status a.text.items) }
 {
-    let cursors = Cursors::zeros(alloc, instance.stacks().count())?;
-    let units = Units::all(alloc, instance.units())?;
-    let outcome = run_from(alloc, instance, cursors, units, Keep::Nothing)?;
-    tell_end(alloc, facts, instance, &outcome.end)
-}
-
-/// The end of the one-thread run of cycles, by walks.
-pub fn run_cycles(alloc: Global, facts: &Facts, instance: &Instance) -> Result<Answer, AllocError>
-    requires facts { AreFactsOf facts.now instance.now }
-    requires cycles { AreCycles instance.now.family }
-    ensures { IfOk result (λ a.
-        AnswersBy (IsEndOf facts.now instance.now) a.status a.text.items) }
-{
-    let end = run_walks(alloc, instance)?;
-    tell_end(alloc, facts, instance, &end)
+    let run = crew.run(alloc, instance, Keep::Nothing)?;
+    tell_end(alloc, facts, instance, &run.end)
 }

@@ -1,7 +1,9 @@
 //! Answers of `run`, over sources and sinks in memory.
 use crate::run;
 use pop_edge::{MemSink, MemSource};
+use pop_workers::{Gate, NoGate};
 use std::alloc::Global;
+use std::sync::Wait;
 use std::test::Fail;
 use std::thread::Threads;
 
@@ -9,14 +11,16 @@ mod faults;
 mod formulas;
 mod orientations;
 mod refusals;
+mod resamplings;
 mod texts;
 mod trees;
+mod workers;
 
 // A key of 64 zeros.
 const ZERO_KEY: &str = "0000000000000000000000000000000000000000000000000000000000000000";
 
 // The status and the output of a run, with a source and a sink that don't fail.
-fn answer<R: Threads + Sync>(
+fn answer<R: Threads + Wait + Sync>(
     rt: &R,
     alloc: Global,
     words: &[&str],
@@ -26,9 +30,21 @@ fn answer<R: Threads + Sync>(
 }
 
 // The same, where the source gives so many bytes at a call.
-fn answer_in_pieces<R: Threads + Sync>(
+fn answer_in_pieces<R: Threads + Wait + Sync>(
     rt: &R,
     alloc: Global,
+    words: &[&str],
+    input: &str,
+    piece: usize,
+) -> Result<(u8, Vec<u8>), Fail> {
+    answer_behind(rt, alloc, &NoGate, words, input, piece)
+}
+
+// The same, with a gate before the workers' turns.
+fn answer_behind<R: Threads + Wait + Sync, G: Gate + Sync>(
+    rt: &R,
+    alloc: Global,
+    gate: &G,
     words: &[&str],
     input: &str,
     piece: usize,
@@ -40,6 +56,6 @@ fn answer_in_pieces<R: Threads + Sync>(
     let bytes = Vec::from_slice(alloc, input.as_bytes())?;
     let mut source = MemSource::new(bytes, piece.max(1), Vec::new(alloc));
     let mut sink = MemSink::new(alloc, 65536, 65536, Vec::new(alloc))?;
-    let status = run(rt, alloc, &all, &mut source, &mut sink);
+    let status = run(rt, alloc, &all, gate, &mut source, &mut sink);
     Ok((status, Vec::from_slice(alloc, sink.bytes())?))
 }

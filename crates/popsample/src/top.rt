@@ -11,7 +11,9 @@ ghost use Rattle.popsample.specs.TopCall.{IsBreak, Answered, AnsweredUsage, HasR
 use crate::answer::answer_to;
 use crate::stop::Stop;
 use pop_edge::{Sink, Source, put_all};
+use pop_workers::Gate;
 use std::alloc::Global;
+use std::sync::Wait;
 use std::thread::Threads;
 
 // Writes the text, and answers the status, or 8 where the sink failed.
@@ -34,18 +36,23 @@ fn deliver<K: Sink>(sink: &mut K, text: &[u8], status: u8) -> u8
 /// The status is 0 for a sample or extremal events, 1 where the run ends with an event still
 /// occurring, 2 for words that are no command line, 3 for a malformed text, a wrong number of clauses
 /// or rows that don't fit, 4 where a limit is passed, 5 where two events clash, 6 for an empty clause,
-/// an isolated vertex, a root that is none or a vertex that is cut off from it, 7 where reading
-/// failed, 8 where writing failed and 9 where memory ran out. The whole text is made before its first
-/// byte is written.
-pub fn run<S: Source, K: Sink, R: Threads + Sync>(
+/// an isolated vertex, a root that is none, a vertex that is cut off from it or a witness of a pop that
+/// isn't there, 7 where reading failed, 8 where writing failed and 9 where memory ran out. The whole
+/// text is made before its first byte is written.
+///
+/// Where several workers are asked for they run on threads of `rt`, which are joined, and each passes
+/// the gate before each of its turns; the call may wait for their lock and for them.
+pub fn run<S: Source, K: Sink, R: Threads + Wait + Sync, G: Gate + Sync>(
     rt: &R,
     alloc: Global,
     words: &[String],
+    gate: &G,
     source: &mut S,
     sink: &mut K,
 ) -> u8
     // An answer is that of the words and the text: of an extremal formula, an orientation or a tree,
-    // the end of the run on one thread that always pops the first poppable event.
+    // the end of the run on one thread that always pops the first poppable event, for any number of
+    // workers; of a resampling, that of a legal log to an end.
     ensures answer { (text : List ℕ) → S.left source.old ≡ Some text → (IsBreak result → ⊥)
         → Answered (map string_bytes words.now) text (K.holds sink.old) (K.holds sink.new) result }
     ensures statuses { result ≤ 9 }
@@ -76,8 +83,7 @@ pub fn run<S: Source, K: Sink, R: Threads + Sync>(
     // With a sample, a verdict or an exhausted end the source was read to its end.
     ensures whole { result ≤ 1 → IsAtEnd (S.left source.new) }
 {
-    let _ = rt;
-    match answer_to(alloc, words, source) {
+    match answer_to(rt, alloc, words, gate, source) {
         Ok(answer) => deliver(sink, &answer.text, answer.status),
         Err(Stop::ReadFault) => deliver(sink, b"s READFAULT\n", 7),
         Err(Stop::OutOfMemory) => deliver(sink, b"s MEMORY\n", 9),

@@ -10,18 +10,23 @@ ghost use Rattle.popsample.specs.Sampling.{IsEndOf, ComesOfSampling};
 ghost use Rattle.popsample.specs.Trees.{tree_instance, ComesOfTree};
 
 use crate::answer::Answer;
+use crate::crew::Crew;
 use crate::refusals::{refuse_cut_off, refuse_root, refuse_stacks};
-use crate::running::run_cycles;
+use crate::running::run_extremal;
 use cycle_popping::{arrow_weights, arrows};
 use graph_read::{Graph, first_cut_off};
 use pop_instance::{Arrows, Family, Instance};
 use pop_print::Facts;
 use pop_stacks::{StackSpec, Stacks};
+use pop_workers::Gate;
 use std::alloc::{AllocError, Global};
+use std::sync::Wait;
+use std::thread::Threads;
 
 // The run of the cycles of a graph's arrows.
-fn run_arrows(
+fn run_arrows<R: Threads + Wait + Sync, G: Gate + Sync>(
     alloc: Global,
+    crew: &Crew<R, G>,
     root: u32,
     graph: Graph,
     stacks: Stacks,
@@ -36,14 +41,15 @@ fn run_arrows(
 {
     let _count = stacks.count();
     match Instance::new(stacks, Family::Cycles(arrows)) {
-        Some(instance) => run_cycles(alloc, &Facts::Tree(graph, root), &instance),
+        Some(instance) => run_extremal(alloc, crew, &Facts::Tree(graph, root), &instance),
         None => unreachable!(),
     }
 }
 
 // Samples a tree of a graph of which no vertex is cut off.
-fn sample_tree(
+fn sample_tree<R: Threads + Wait + Sync, G: Gate + Sync>(
     alloc: Global,
+    crew: &Crew<R, G>,
     spec: StackSpec,
     height: u32,
     root: u32,
@@ -65,13 +71,14 @@ fn sample_tree(
     let weights = arrow_weights(alloc, &graph, root)?;
     match Stacks::new(spec, weights, height) {
         Err(fault) => refuse_stacks(alloc, &Facts::Tree(graph, root), fault),
-        Ok(stacks) => run_arrows(alloc, root, graph, stacks, arrows),
+        Ok(stacks) => run_arrows(alloc, crew, root, graph, stacks, arrows),
     }
 }
 
 /// Samples a spanning tree of the graph with this root, from 1: the answer of `tree`.
-pub fn tree(
+pub fn tree<R: Threads + Wait + Sync, G: Gate + Sync>(
     alloc: Global,
+    crew: &Crew<R, G>,
     spec: StackSpec,
     height: u32,
     root: u32,
@@ -88,6 +95,6 @@ pub fn tree(
     }
     match first_cut_off(alloc, &graph, root)? {
         Some(vertex) => refuse_cut_off(alloc, vertex),
-        None => sample_tree(alloc, spec, height, root, graph),
+        None => sample_tree(alloc, crew, spec, height, root, graph),
     }
 }

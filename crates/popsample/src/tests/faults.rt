@@ -2,7 +2,9 @@
 use super::answer;
 use crate::run;
 use pop_edge::{MemSink, MemSource, Source};
+use pop_workers::NoGate;
 use std::alloc::Global;
+use std::sync::Wait;
 use std::test::Fail;
 use std::thread::Threads;
 
@@ -24,7 +26,7 @@ fn owned(alloc: Global, words: &[&str]) -> Result<Vec<String>, Fail> {
 
 // The status and what the sink holds, where source and sink move a byte at a call, and the call of
 // this number fails at the one and at the other; 0 is none.
-fn with_faults<R: Threads + Sync>(
+fn with_faults<R: Threads + Wait + Sync>(
     rt: &R,
     alloc: Global,
     input: &str,
@@ -35,7 +37,7 @@ fn with_faults<R: Threads + Sync>(
     let bytes = Vec::from_slice(alloc, input.as_bytes())?;
     let mut source = MemSource::new(bytes, 1, vec![in alloc; read]?);
     let mut sink = MemSink::new(alloc, 64, 1, vec![in alloc; write]?)?;
-    let status = run(rt, alloc, &words, &mut source, &mut sink);
+    let status = run(rt, alloc, &words, &NoGate, &mut source, &mut sink);
     Ok((status, Vec::from_slice(alloc, sink.bytes())?))
 }
 
@@ -100,7 +102,7 @@ fn a_fault_of_the_sink_is_told_by_the_status_alone(rt: HostRuntime) -> Result<()
         Vec::new(alloc),
     );
     let mut sink = MemSink::new(alloc, 64, 64, vec![in alloc; 1]?)?;
-    assert_eq!(&rt; run(&rt, alloc, &words, &mut source, &mut sink), 8);
+    assert_eq!(&rt; run(&rt, alloc, &words, &NoGate, &mut source, &mut sink), 8);
     assert!(&rt; sink.bytes().is_empty());
     assert_eq!(&rt; source.read(&mut [0; 64]), Ok(14));
     Ok(())
@@ -117,7 +119,7 @@ fn a_sink_that_takes_pieces_holds_the_first(rt: HostRuntime) -> Result<(), Fail>
         Vec::new(alloc),
     );
     let mut sink = MemSink::new(alloc, 64, 4, vec![in alloc; 2]?)?;
-    assert_eq!(&rt; run(&rt, alloc, &words, &mut source, &mut sink), 8);
+    assert_eq!(&rt; run(&rt, alloc, &words, &NoGate, &mut source, &mut sink), 8);
     assert_eq!(&rt; sink.bytes(), b"s SA".as_slice());
     Ok(())
 }

@@ -3,11 +3,12 @@
 use super::answer;
 use std::alloc::Global;
 use std::process::Abort;
+use std::sync::Wait;
 use std::test::Fail;
 use std::thread::Threads;
 
 // Each text is answered by the status and the line beside it.
-fn are_answered<R: Threads + Sync + Abort>(
+fn are_answered<R: Threads + Wait + Sync + Abort>(
     rt: &R,
     alloc: Global,
     texts: &[(&str, u8, &str)],

@@ -1,6 +1,6 @@
 use Rattle.std.proofs.Common.{map, string_bytes}
 use Rattle.popsample.specs.Answers.{ComesOf, IsOutcome}
-use Rattle.pop_words.proofs.LawLemmas.{asked_height, asked_root}
+use Rattle.pop_words.proofs.LawLemmas.{asked_height, asked_root, asked_workers}
 use Rattle.popsample.proofs.Carrying.{carried}
 use Rattle.popsample.proofs.Lifting.{of_words}
 use Rattle.popsample.proofs.answer.answer_to.Goals as goal
@@ -26,8 +26,23 @@ returns-in-Ok-clause-read_fault g c failed =
       no_bad_line = front.2;
     }
 
-pub answer_job-requires : goal.answer_job-requires
-answer_job-requires g c =
-    let asked = asked_height (map string_bytes c.args.words.now) c.in-Ok.job c.in-Ok.ensures.job in
-    let root = asked_root (map string_bytes c.args.words.now) c.in-Ok.job c.in-Ok.ensures.job in
-    record { some = asked.0; short = asked.1; root = root.0 }
+pub answer_job-requires-clause-some : goal.answer_job-requires-clause-some
+answer_job-requires-clause-some g c κs lives =
+    (asked_height (map string_bytes c.args.words.now) c.in-Ok.job c.in-Ok.ensures.job).0
+
+pub answer_job-requires-clause-short : goal.answer_job-requires-clause-short
+answer_job-requires-clause-short g c κs lives =
+    (asked_height (map string_bytes c.args.words.now) c.in-Ok.job c.in-Ok.ensures.job).1
+
+pub answer_job-requires-clause-root : goal.answer_job-requires-clause-root
+answer_job-requires-clause-root g c κs lives =
+    (asked_root (map string_bytes c.args.words.now) c.in-Ok.job c.in-Ok.ensures.job).0
+
+-- from 1 to 64 workers are asked for
+pub new-crew-requires-clause-one : goal.new-crew-requires-clause-one
+new-crew-requires-clause-one g c κs lives =
+    (asked_workers (map string_bytes c.args.words.now) c.in-Ok.job c.in-Ok.ensures.job).0
+
+pub new-crew-requires-clause-few : goal.new-crew-requires-clause-few
+new-crew-requires-clause-few g c κs lives =
+    (asked_workers (map string_bytes c.args.words.now) c.in-Ok.job c.in-Ok.ensures.job).1

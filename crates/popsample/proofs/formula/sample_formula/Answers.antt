@@ -10,13 +10,13 @@ use Rattle.popsample.proofs.Telling.{has_name, pairs_few}
 use Rattle.popsample.proofs.formula.sample_formula.Goals as goal
 
 pub refuse_stacks-requires : goal.refuse_stacks-requires
-refuse_stacks-requires c =
+refuse_stacks-requires g c =
     has_name (origin_of c.args.spec c.args.height) c.pairs.result c.in-Err.fault
     (pairs_few c.variables-variables.result c.pairs.result c.pairs.ensures (omega (arith, c.variables-variables.ensures.bound)))
     c.in-Err.ensures.cause
 
 pub returns-in-Err : goal.returns-in-Err
-returns-in-Err c =
+returns-in-Err g c =
     let n = c.variables-variables.result in
     let origin = origin_of c.args.spec c.args.height in
     let count : n ≡ c.args.formula.now.variables = c.variables-variables.ensures.count in

@@ -8,9 +8,9 @@ use Rattle.popsample.proofs.GoodForms.{of_touched}
 use Rattle.popsample.proofs.orientation.orient.Goals as goal
 
 pub returns-in-Ok : goal.returns-in-Ok
-returns-in-Ok c =
+returns-in-Ok g c =
     let origin = origin_of c.args.spec c.args.height in
-    let g = c.args.graph in
-    carried (ComesOfSampling (OrientFacts g) origin (pair_weights (length g.edges)) (EndsOrientation origin g))
-    (ComesOfOrienting origin g) c.sample_orientation.result (of_touched origin g c.in-Ok.ensures.touched)
+    let graph = c.args.graph in
+    carried (ComesOfSampling (OrientFacts graph) origin (pair_weights (length graph.edges)) (EndsOrientation origin graph))
+    (ComesOfOrienting origin graph) c.sample_orientation.result (of_touched origin graph c.in-Ok.ensures.touched)
     c.sample_orientation.ensures

@@ -11,21 +11,21 @@ use Rattle.popsample.proofs.MadeInstances.{same_instance}
 use Rattle.popsample.proofs.orientation.run_sinks.Goals as goal
 
 -- the sinks of a graph are extremal
-pub run_listed-requires-clause-extremal : goal.run_listed-requires-clause-extremal
-run_listed-requires-clause-extremal c =
+pub run_extremal-requires-clause-extremal : goal.run_extremal-requires-clause-extremal
+run_extremal-requires-clause-extremal g c κs lives =
     subst IsExtremal (sym (ap (λ (i : Instance). i.family) c.in-Some.ensures))
     (sinks_extremal c.args.graph c.args.events c.requires.sinks)
 
 pub returns : goal.returns
-returns c =
-    let g = c.args.graph in
+returns g c =
+    let graph = c.args.graph in
     let origin = c.args.stacks.origin in
     let i = c.in-Some.instance in
-    let same : i ≡ instance_of origin (length g.edges) c.args.events =
-    same_instance c.args.stacks (pair_weights (length g.edges)) (Listed c.args.events) i c.in-Some.ensures
+    let same : i ≡ instance_of origin (length graph.edges) c.args.events =
+    same_instance c.args.stacks (pair_weights (length graph.edges)) (Listed c.args.events) i c.in-Some.ensures
     c.requires.weights in
-    carried (IsEndOf (OrientFacts g) i) (EndsOrientation origin g) c.run_listed.result (λ o end. record {
+    carried (IsEndOf (OrientFacts graph) i) (EndsOrientation origin graph) c.run_extremal.result (λ o end. record {
       events = c.args.events;
       of_graph = c.requires.sinks;
-      end = subst (λ k. IsEndOf (OrientFacts g) k o) same end;
-    }) c.run_listed.ensures
+      end = subst (λ k. IsEndOf (OrientFacts graph) k o) same end;
+    }) c.run_extremal.ensures

@@ -10,17 +10,17 @@ use Rattle.popsample.proofs.Telling.{has_name}
 use Rattle.popsample.proofs.tree.sample_tree.Goals as goal
 
 pub refuse_stacks-requires : goal.refuse_stacks-requires
-refuse_stacks-requires c =
+refuse_stacks-requires g c =
     let count = ap length c.in_ok-weights.ensures ∙ count_of_weights c.args.graph c.args.root in
     let few = c.vertices-vertices.ensures.graph.vertices_fit in
     has_name (origin_of c.args.spec c.args.height) c.in_ok-weights.weights c.in-Err.fault (omega (arith, count, few))
     c.in-Err.ensures.cause
 
 pub returns-in-Err : goal.returns-in-Err
-returns-in-Err c =
-    let g = c.args.graph in
+returns-in-Err g c =
+    let graph = c.args.graph in
     let root = c.args.root in
     let origin = origin_of c.args.spec c.args.height in
-    unsound (TreeFacts g root) origin (weights_of_tree g root) c.in_ok-weights.weights
-    (IsEndOf (TreeFacts g root) (tree_instance origin g root)) c.in-Err.fault c.refuse_stacks.result
+    unsound (TreeFacts graph root) origin (weights_of_tree graph root) c.in_ok-weights.weights
+    (IsEndOf (TreeFacts graph root) (tree_instance origin graph root)) c.in-Err.fault c.refuse_stacks.result
     c.in_ok-weights.ensures c.in-Err.ensures.cause c.refuse_stacks.ensures

@@ -1,0 +1,42 @@
+-- Two outcomes of a formula that is resampled are the same fault of stacks, or two runs of the formula's events.
+use Rattle.std.proofs.Common.{inl, inr, ℕ, Option, sym, subst, ◌∙◌}
+use Rattle.pop_model.specs.Stacks.{Origin}
+use Rattle.pop_model.specs.Instances.{Instance}
+use Rattle.dimacs_read.specs.Cnf.{Cnf}
+use Rattle.pop_print.specs.declared.facts.Facts.{Facts}
+use Rattle.pop_print.specs.declared.facts.Facts.TheVariants.{Formula as FormulaFacts}
+use Rattle.popsample.specs.Outcomes.{Outcome}
+use Rattle.popsample.specs.Outcomes.Outcome.{Resampled}
+use Rattle.popsample.specs.Sampling.{pair_weights, instance_of}
+use Rattle.popsample.specs.Resamplings.{LeadsToEnd, IsHistoryOf, EndsResampling, ComesOfResampling}
+use Rattle.popsample.specs.Laws.{AreHistories, Agree}
+use Rattle.popsample.proofs.OneFormula.{one_events}
+use Rattle.popsample.proofs.OneSampling.{alike_sampling}
+
+-- two runs of one instance
+two_runs : (asked : Option (ℕ × ℕ)) (facts : Facts) (i : Instance) (o p : Outcome) → IsHistoryOf asked facts i o
+    → IsHistoryOf asked facts i p → AreHistories o p
+two_runs asked facts i (Resampled t j l s w) (Resampled u k m r x) h h' = (
+  h.0 ∙ sym h'.0,
+  h.1 ∙ sym h'.1,
+  subst (λ n. LeadsToEnd n l s) (sym h.1) h.2,
+  subst (λ n. LeadsToEnd n m r) (sym h.1) h'.2,
+)
+two_runs asked facts i (Resampled t j l s w) p h h' = absurd h'
+two_runs asked facts i o p h h' = absurd h
+
+-- two runs of a formula
+two_endings : (origin : Origin) (asked : Option (ℕ × ℕ)) (f : Cnf) (o p : Outcome) → EndsResampling origin asked f o
+    → EndsResampling origin asked f p → Agree o p
+two_endings origin asked f o p h h' =
+    let facts = FormulaFacts f.variables in
+    let events = one_events f.clauses h.events h'.events h.of_formula h'.of_formula in
+    let history : IsHistoryOf asked facts (instance_of origin f.variables h'.events) o =
+    subst (λ rows. IsHistoryOf asked facts (instance_of origin f.variables rows) o) events h.history in
+    inr (two_runs asked facts (instance_of origin f.variables h'.events) o p history h'.history)
+
+pub one_resampling : (origin : Origin) (asked : Option (ℕ × ℕ)) (f : Cnf) (o p : Outcome)
+    → ComesOfResampling origin asked f o → ComesOfResampling origin asked f p → Agree o p
+one_resampling origin asked f =
+    alike_sampling Agree (λ o p is. inl is) (FormulaFacts f.variables) origin (pair_weights f.variables)
+    (EndsResampling origin asked f) (two_endings origin asked f)

@@ -1,0 +1,5 @@
+use Rattle.popsample.proofs.OneOutcome.{one_outcome}
+use Rattle.popsample.proofs.laws.one_outcome.Goals as goal
+
+pub returns : goal.returns
+returns c = one_outcome
