@@ -1,5 +1,6 @@
 ghost use Rattle.std.specs.Prelude.{◌≡◌, ◌<◌, length, All, IfOk};
 ghost use Rattle.graph_read.specs.Graphs.{IsVertex};
+ghost use Rattle.graph_read.specs.Incidence.{incidence_of};
 ghost use Rattle.cycle_popping.specs.Trees.{heads_along as heads_in, heads_of_tree};
 ghost use Rattle.graph_read.specs.Paths.{IsConnected};
 
@@ -18,6 +19,21 @@ pub fn arrows(alloc: Global, graph: &Graph, root: u32) -> Result<Arrows, AllocEr
     ensures { IfOk result (λ arrows. arrows ≡ heads_of_tree graph.now root) }
 {
     let incidence = Incidence::of(alloc, graph)?;
+    arrows_by(alloc, graph, &incidence, root)
+}
+
+/// What `arrows` gives, by the incidence of the graph.
+pub fn arrows_by(
+    alloc: Global,
+    graph: &Graph,
+    incidence: &Incidence,
+    root: u32,
+) -> Result<Arrows, AllocError>
+    requires incidence { incidence.now ≡ incidence_of graph.now }
+    requires root { IsVertex graph.now.vertices root }
+    requires joined { IsConnected graph.now root }
+    ensures { IfOk result (λ arrows. arrows ≡ heads_of_tree graph.now root) }
+{
     let count = graph.vertices() - 1;
     let mut rows = Vec::with_capacity(alloc, count as usize)?;
     for v in 0..count {

@@ -11,6 +11,6 @@ mod tests;
 mod walks;
 mod weights;
 
-pub use heads::arrows;
+pub use heads::{arrows, arrows_by};
 pub use walks::run_walks;
-pub use weights::arrow_weights;
+pub use weights::{arrow_weights, arrow_weights_by};

@@ -8,6 +8,7 @@ pub mod JoinedPaths
 pub mod VisitedEdges
 pub mod ReachedVertices
 pub mod GridPlaces
+pub mod GridPaths
 mod Vectors
 pub mod KnownEdges
 pub mod Numbering

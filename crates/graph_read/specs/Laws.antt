@@ -3,7 +3,8 @@ use Rattle.std.specs.Prelude.{◌≡◌, ◌↔◌, ℕ, List, None}
 use Rattle.graph_read.specs.Graphs.{GraphOf}
 use Rattle.graph_read.specs.GraphText.{graph_refusal, graph_of}
 use Rattle.graph_read.specs.Grammar.{IsGraphText}
-use Rattle.graph_read.specs.Paths.{IsJoined}
+use Rattle.graph_read.specs.Grids.{IsSide, grid_of}
+use Rattle.graph_read.specs.Paths.{IsConnected, IsJoined}
 
 -- a text is that of a graph exactly where it has no refusal, and the graph is the one it spells
 abbrev pub AcceptsExactly : Type 0
@@ -18,3 +19,7 @@ HasOneGraph = (text : List ℕ) (g h : GraphOf) → IsGraphText text g → IsGra
 -- paths lead both ways
 abbrev pub JoinedBothWays : Type 0
 JoinedBothWays = (g : GraphOf) (a b : ℕ) → IsJoined g a b → IsJoined g b a
+
+-- in a grid each vertex is joined to the first
+abbrev pub GridConnected : Type 0
+GridConnected = (side : ℕ) → IsSide side → IsConnected (grid_of side) 1

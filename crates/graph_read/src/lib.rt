@@ -21,5 +21,5 @@ pub use edge::Edge;
 pub use graph::Graph;
 pub use incidence::Incidence;
 pub use read::read_graph;
-pub use search::first_cut_off;
+pub use search::{first_cut_off, first_cut_off_by};
 pub use vertices::vertex_of;

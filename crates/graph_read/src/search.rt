@@ -75,17 +75,22 @@ fn visit(
 
 // The vertices that paths join to the root: for each vertex, from vertex 1 on, whether some path
 // does.
-fn reach(alloc: Global, graph: &Graph, root: u32) -> Result<Vec<bool>, AllocError>
-    requires { IsVertex graph.now.vertices root }
+fn reach(
+    alloc: Global,
+    graph: &Graph,
+    incidence: &Incidence,
+    root: u32,
+) -> Result<Vec<bool>, AllocError>
+    requires incidence { incidence.now ≡ incidence_of graph.now }
+    requires root { IsVertex graph.now.vertices root }
     ensures { IfOk result (λ met. AreJoined graph.now root met.items) }
 {
-    let incidence = Incidence::of(alloc, graph)?;
     let mut search = Search::new(alloc, graph.vertices())?;
     search.meet(root)?;
     let mut at = 0;
     while at < search.found.len() {
         let vertex = search.found[at];
-        visit(&mut search, graph, &incidence, vertex)?;
+        visit(&mut search, graph, incidence, vertex)?;
         at += 1;
     }
     let Search { met, found: _ } = search;
@@ -105,9 +110,25 @@ pub fn first_cut_off(alloc: Global, graph: &Graph, root: u32) -> Result<Option<u
     ensures least { IfOk result (λ vertex. IfSome vertex (IsLeast (IsCutOff graph.now root))) }
     ensures none { IfOk result (λ vertex. IfNone vertex (IsConnected graph.now root)) }
 {
+    let incidence = Incidence::of(alloc, graph)?;
+    first_cut_off_by(alloc, graph, &incidence, root)
+}
+
+/// The vertex that `first_cut_off` finds, by the incidence of the graph.
+pub fn first_cut_off_by(
+    alloc: Global,
+    graph: &Graph,
+    incidence: &Incidence,
+    root: u32,
+) -> Result<Option<u32>, AllocError>
+    requires incidence { incidence.now ≡ incidence_of graph.now }
+    requires root { IsVertex graph.now.vertices root }
+    ensures least { IfOk result (λ vertex. IfSome vertex (IsLeast (IsCutOff graph.now root))) }
+    ensures none { IfOk result (λ vertex. IfNone vertex (IsConnected graph.now root)) }
+{
     // Read for its contract, which says that there are at most 2^22 vertices.
     let _vertices = graph.vertices();
-    let met = reach(alloc, graph, root)?;
+    let met = reach(alloc, graph, incidence, root)?;
     match first_unmet(&met) {
         None => Ok(None),
         Some(place) => Ok(Some(place as u32 + 1)),

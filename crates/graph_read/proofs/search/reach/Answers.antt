@@ -6,7 +6,7 @@ use Rattle.graph_read.proofs.search.reach.Goals as goal
 pub meet-requires-clause-last : goal.meet-requires-clause-last
 meet-requires-clause-last c =
     let search = c.in_ok-search.ensures c.args.graph.now (sym c.vertices.ensures.count) c.args.root in
-    omega (arith, search.size, c.requires.last)
+    omega (arith, search.size, c.requires.root.last)
 
 pub loop-at-init : goal.loop-at-init
 loop-at-init c =
@@ -25,5 +25,5 @@ loop-at-preserved c =
 
 pub returns : goal.returns
 returns c =
-    reaches_all c.args.graph.now c.args.root c.loop-at.at c.loop-at.search c.vertices.ensures.graph c.requires
+    reaches_all c.args.graph.now c.args.root c.loop-at.at c.loop-at.search c.vertices.ensures.graph c.requires.root
     c.loop-at.invariant (omega (arith, c.loop-at-test.false, c.len.ensures))

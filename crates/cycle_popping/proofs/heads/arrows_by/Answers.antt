@@ -9,7 +9,7 @@ use Rattle.graph_read.specs.Incidence.{edges_at, at_vertex}
 use Rattle.graph_read.proofs.IncidenceLemmas.{at_vertex-incidence_of}
 use Rattle.cycle_popping.specs.Trees.{heads_at, heads_of_tree, heads_along}
 use Rattle.cycle_popping.proofs.TreeRows.{vertex_of_is, edges_known, tree_arrows, heads_short, rows_more}
-use Rattle.cycle_popping.proofs.heads.arrows.Goals as goal
+use Rattle.cycle_popping.proofs.heads.arrows_by.Goals as goal
 
 -- where all variables have their rows
 all_rows_are : {A : Type 0} (g : GraphOf) (root v count : ℕ) (rows : List (Vec (Option ℕ) A))
@@ -28,8 +28,8 @@ at-requires-clause-last c =
     let g = c.args.graph.now in
     let vertex = vertex_of_is g.vertices c.args.root c.loop-v.v c.requires.root
     (omega (arith, c.vertices-count.ensures.count, c.loop-v-test.true)) in
-    let size : length c.in_ok-incidence.incidence ≡ g.vertices =
-    ap length c.in_ok-incidence.ensures ∙ length-map-range_with_len (edges_at g) 1 g.vertices in
+    let size : length c.args.incidence.now ≡ g.vertices =
+    ap length c.requires.incidence ∙ length-map-range_with_len (edges_at g) 1 g.vertices in
     omega (arith, c.vertex_of-vertex.ensures, vertex.vertex.last, size)
 
 pub heads_along-requires-clause-known : goal.heads_along-requires-clause-known
@@ -38,7 +38,7 @@ heads_along-requires-clause-known c =
     let w : ℕ = c.vertex_of-vertex.result in
     let vertex = vertex_of_is g.vertices c.args.root c.loop-v.v c.requires.root
     (omega (arith, c.vertices-count.ensures.count, c.loop-v-test.true)) in
-    let edges : c.at.result.now ≡ edges_at g w = c.at.ensures ∙ ap (λ xs. at_vertex xs w) c.in_ok-incidence.ensures
+    let edges : c.at.result.now ≡ edges_at g w = c.at.ensures ∙ ap (λ xs. at_vertex xs w) c.requires.incidence
     ∙ at_vertex-incidence_of g w (subst (IsVertex g.vertices) (sym c.vertex_of-vertex.ensures) vertex.vertex) in
     subst (All (λ i. i < length g.edges)) (sym edges) (edges_known g w)
 
@@ -50,7 +50,7 @@ loop-v-preserved c =
     let v : ℕ = c.loop-v.v in
     let vertex = vertex_of_is g.vertices root v c.requires.root
     (omega (arith, c.vertices-count.ensures.count, c.loop-v-test.true)) in
-    let edges : c.at.result.now ≡ edges_at g w = c.at.ensures ∙ ap (λ xs. at_vertex xs w) c.in_ok-incidence.ensures
+    let edges : c.at.result.now ≡ edges_at g w = c.at.ensures ∙ ap (λ xs. at_vertex xs w) c.requires.incidence
     ∙ at_vertex-incidence_of g w (subst (IsVertex g.vertices) (sym c.vertex_of-vertex.ensures) vertex.vertex) in
     let row : c.in_ok-heads_along.field-0.items ≡ heads_at g root v = c.in_ok-heads_along.ensures
     ∙ ap (heads_along g root w) edges

@@ -1,6 +1,6 @@
 use Rattle.std.proofs.Common.{not, position, sym, ap, ◌∙◌}
 use Rattle.graph_read.proofs.ReachedVertices.{least_unmet, none_unmet}
-use Rattle.graph_read.proofs.search.first_cut_off.Goals as goal
+use Rattle.graph_read.proofs.search.first_cut_off_by.Goals as goal
 
 pub returns-in-None-clause-none : goal.returns-in-None-clause-none
 returns-in-None-clause-none c =
