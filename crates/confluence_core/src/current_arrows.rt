@@ -1,4 +1,4 @@
-ghost use Rattle.std.specs.Prelude.{◌≡◌, ◌<◌, ◌+◌, ◌↔◌, [], length, slice_index_or, IsTrue};
+ghost use Rattle.std.specs.Prelude.{◌≡◌, ◌<◌, ◌+◌, ◌↔◌, [], length, slice_index_or, IsTrue, IfOk};
 ghost use Rattle.pop_model.specs.Stacks.{height_of};
 ghost use Rattle.pop_model.specs.Popping.{cursor};
 ghost use Rattle.pop_model.specs.Families.Family.{Cycles as CycleEvents};
@@ -7,6 +7,7 @@ ghost use Rattle.confluence_core.specs.CycleTables.{cycles, current_slot, curren
 
 use pop_instance::{Arrows, Cursors};
 use pop_stacks::{Reader, Stacks};
+use std::alloc::{AllocError, Global};
 use std::marker::Model;
 
 /// The current arrow of each variable leads from the slot that is its value at its cursor. Here
@@ -15,7 +16,7 @@ use std::marker::Model;
 pub struct CurrentArrows<'a> {
     stacks: &'a Stacks,
     arrows: &'a Arrows,
-    reader: Reader,
+    reader: Reader<'a>,
 }
 
 impl<'a> Model for CurrentArrows<'a> {
@@ -33,9 +34,12 @@ impl<'a> Model for CurrentArrows<'a> {
 }
 
 impl<'a> CurrentArrows<'a> {
-    /// The arrows of an instance. It takes no memory.
-    pub fn new(stacks: &'a Stacks, arrows: &'a Arrows) -> CurrentArrows<'a>
-        requires { FamilyFits stacks.now (CycleEvents arrows.now) }
+    ghost use Rattle.pop_stacks.specs.Readers.{Belongs};
+
+    /// The arrows of an instance, looked at by this reader. It takes no memory.
+    pub fn of(stacks: &'a Stacks, arrows: &'a Arrows, reader: Reader<'a>) -> CurrentArrows<'a>
+        requires fits { FamilyFits stacks.now (CycleEvents arrows.now) }
+        requires belongs { Belongs stacks.now reader }
         ensures { result ≡ record { stacks = stacks.now; heads = arrows.now } }
     {
         let _stacks = stacks.count();
@@ -43,8 +47,37 @@ impl<'a> CurrentArrows<'a> {
         CurrentArrows {
             stacks,
             arrows,
-            reader: Reader::new(stacks),
+            reader,
         }
+    }
+
+    /// The arrows of an instance. It takes no memory.
+    pub fn new(stacks: &'a Stacks, arrows: &'a Arrows) -> CurrentArrows<'a>
+        requires { FamilyFits stacks.now (CycleEvents arrows.now) }
+        ensures { result ≡ record { stacks = stacks.now; heads = arrows.now } }
+    {
+        CurrentArrows::of(stacks, arrows, Reader::new(stacks))
+    }
+
+    /// The arrows of an instance, with the values that were looked at last kept for each variable.
+    /// Its memory is linear in the number of variables.
+    pub fn keeping(
+        alloc: Global,
+        stacks: &'a Stacks,
+        arrows: &'a Arrows,
+    ) -> Result<CurrentArrows<'a>, AllocError>
+        requires { FamilyFits stacks.now (CycleEvents arrows.now) }
+        ensures { IfOk result (λ current. current ≡ record { stacks = stacks.now; heads = arrows.now }) }
+    {
+        let reader = Reader::keeping(alloc, stacks)?;
+        Ok(CurrentArrows::of(stacks, arrows, reader))
+    }
+
+    /// The reader that looked at the arrows.
+    pub fn into_reader(self) -> Reader<'a>
+        ensures { Belongs self.entry.stacks result }
+    {
+        self.reader
     }
 
     /// How many variables there are.

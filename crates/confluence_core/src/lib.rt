@@ -32,7 +32,7 @@ pub use keep::Keep;
 pub use log::Log;
 pub use log_record::Record;
 pub use loops::cube_of;
-pub use one_thread::{run_first, run_from, run_from_zeros};
+pub use one_thread::{run_first, run_from, run_from_by, run_from_zeros, run_from_zeros_by};
 pub use run::Run;
 pub use stuck::Stuck;
 pub use ticketed::Ticketed;

@@ -4,6 +4,7 @@ ghost use Rattle.pop_model.specs.Popping.{AreWithin, NamesBelow};
 ghost use Rattle.pop_model.specs.Families.Family.{Listed as ListedEvents};
 ghost use Rattle.pop_model.specs.Instances.{FitsStacks};
 ghost use Rattle.pop_model.specs.Runs.{IsFirstEnd};
+ghost use Rattle.pop_stacks.specs.Readers.{Belongs};
 ghost use Rattle.confluence_core.specs.Kept.{keeps_log};
 ghost use Rattle.confluence_core.specs.Records.{record_at};
 ghost use Rattle.confluence_core.specs.Runs.{IsRun};
@@ -47,6 +48,7 @@ pub(crate) fn run_listed_from(
     alloc: Global,
     stacks: &Stacks,
     events: &Events,
+    reader: &mut Reader,
     mut cursors: Cursors,
     suspects: Units,
     keep: Keep,
@@ -54,6 +56,7 @@ pub(crate) fn run_listed_from(
     requires fits { All (λ r. FitsStacks stacks.now r.1) events.now }
     requires count { variables_of stacks.now ≡ length cursors }
     requires within { AreWithin stacks.now cursors }
+    requires belongs { Belongs stacks.now reader.old }
     requires units { All (λ u. u < length events.now) suspects }
     requires suspects { Covers stacks.now cursors events.now suspects }
     ensures run { IfOk result (λ run. IsRun
@@ -61,21 +64,21 @@ pub(crate) fn run_listed_from(
         run.end.cursors run.end.pops run.end.stuck run.log) }
     ensures count { IfOk result (λ run. variables_of stacks.now ≡ length run.end.cursors) }
     ensures within { IfOk result (λ run. AreWithin stacks.now run.end.cursors) }
+    ensures reader { reader.new ≡ reader.old }
 {
     let index = Index::build(alloc, events, stacks.count())?;
     let mut work = WorkList::new(alloc, events.count())?;
     work.add_all(suspects.as_slice())?;
-    let mut reader = Reader::new(stacks);
     let mut pops: u64 = 0;
     let mut log = Log::new(alloc);
-    while let Some(place) = next_poppable(stacks, events, &mut reader, &cursors, &mut work) {
+    while let Some(place) = next_poppable(stacks, events, reader, &cursors, &mut work) {
         let cube = events.cube(place);
         keep_record(alloc, &mut log, keep, place, cube, &cursors)?;
         cursors.pop(cube);
         pops += 1;
         work.add_sharing(&index, cube)?;
     }
-    let stuck = stuck_at(alloc, stacks, events, &mut reader, &cursors)?;
+    let stuck = stuck_at(alloc, stacks, events, reader, &cursors)?;
     let end = End {
         cursors,
         pops,

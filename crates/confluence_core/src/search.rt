@@ -75,7 +75,9 @@ pub(crate) fn stuck_at(
     requires count { variables_of stacks.now ≡ length cursors.now }
     requires within { AreWithin stacks.now cursors.now }
     requires belongs { Belongs stacks.now reader.old }
-    ensures { IfOk result (IsStuckBelow stacks.now cursors.now events.now (length events.now)) }
+    ensures stuck { IfOk result
+        (IsStuckBelow stacks.now cursors.now events.now (length events.now)) }
+    ensures reader { reader.new ≡ reader.old }
 {
     let mut stuck = Stuck::new(alloc);
     for unit in 0..events.count() {

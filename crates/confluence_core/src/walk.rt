@@ -57,6 +57,7 @@ pub(crate) fn walk_all(
     ensures end { OnOk result (IsEnd (cycles current.old) walked.new.cursors) }
     ensures stuck_list { OnOk result
         (IsStuckList (cycles current.old) walked.new.cursors walked.new.stuck) }
+    ensures same { current.new ≡ current.old }
 {
     let count = current.count();
     let mut marks = vec![in alloc; 0; count as usize]?;

@@ -1,5 +1,5 @@
 -- Walks along the current arrows that keep nothing of their way.
-use Rattle.std.specs.Prelude.{◌≡◌, ◌≢◌, ℕ, suc, ◌<◌, true, List, [], ◌∷◌, ◌++◌, length, slice_index, Some}
+use Rattle.std.specs.Prelude.{◌≡◌, ◌≢◌, ℕ, suc, ◌<◌, true, List, [], ◌∷◌, ◌++◌, length, slice_index, Option, Some, MatchOption}
 use Rattle.pop_model.specs.Popping.{Cube, Occurs, names}
 use Rattle.pop_model.specs.Cycles.{IsCycle, ReachesRoot, follow}
 use Rattle.confluence_core.specs.CycleTables.{CycleTable, current_head}
@@ -49,3 +49,8 @@ pub record IsCycleFrom (t : CycleTable) (c : List ℕ) (start : ℕ) (e : Cube) 
   pub cycle : IsCycle t.heads e
   pub occurs : Occurs t.stacks c e
   pub leads : LeadsInto t.heads t.stacks c start e
+
+-- what is found at a variable: a cycle, or none where the current arrows lead to the root
+abbrev pub IsFoundAt : CycleTable → List ℕ → ℕ → Option Cube → Type 0
+IsFoundAt t c start found =
+    MatchOption found (ReachesRoot (current_head t c) start) (IsCycleFrom t c start)

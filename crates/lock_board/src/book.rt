@@ -4,7 +4,8 @@ ghost use Rattle.pop_model.specs.Families.{IsEvent, units_of};
 ghost use Rattle.pop_model.specs.Families.Family.{Listed as ListedEvents, Cycles as CycleEvents};
 ghost use Rattle.pop_model.specs.Runs.{start_of};
 ghost use Rattle.pop_stacks.specs.Readers.{Belongs};
-ghost use Rattle.lock_board.specs.Books.{IsBook};
+ghost use Rattle.lock_board.specs.Books.{IsBook, HasArrows};
+ghost use Rattle.lock_board.specs.ArrowWalks.{IsFoundAt};
 ghost use Rattle.lock_board.specs.Attempts.{IsAnswer, IsAnswerOf, PopsEvent};
 
 use crate::cycle_from::cycle_from;
@@ -22,19 +23,39 @@ pub struct Book<'i, N: Site> {
     instance: &'i Instance,
     cursors: Cursors,
     log: Log,
+    // The arrows of cycles, with the values that attempts looked at.
+    current: Option<CurrentArrows<'i>>,
     site: PhantomData<N>,
 }
 
 impl<'i, N: Site> Model for Book<'i, N> {
     ghost use Rattle.std.specs.Prelude.{◌≡◌};
-    ghost use Rattle.lock_board.specs.Books.{Progress, IsBook};
+    ghost use Rattle.lock_board.specs.Books.{Progress, IsBook, HasArrows};
 
     ghost Value = { Progress };
 
     ghost view = { λ a. record { cursors = a.cursors; log = a.log } };
 
     ghost invariant = { λ a. (a.instance.now ≡ N.instance)
-        × IsBook N.instance (record { cursors = a.cursors; log = a.log }) };
+        × IsBook N.instance (record { cursors = a.cursors; log = a.log })
+        × HasArrows N.instance a.current };
+}
+
+// The arrows of an instance of cycles; None for listed events.
+fn current_arrows<'i>(
+    alloc: Global,
+    instance: &'i Instance,
+) -> Result<Option<CurrentArrows<'i>>, AllocError>
+    ensures { IfOk result (HasArrows instance.now) }
+{
+    let _units = instance.units();
+    match instance.family() {
+        Family::Listed(_) => Ok(None),
+        Family::Cycles(arrows) => {
+            let current = CurrentArrows::keeping(alloc, instance.stacks(), arrows)?;
+            Ok(Some(current))
+        }
+    }
 }
 
 impl<'i, N: Site> Book<'i, N> {
@@ -48,6 +69,7 @@ impl<'i, N: Site> Book<'i, N> {
             instance,
             cursors: Cursors::zeros(alloc, instance.stacks().count())?,
             log: Log::new(alloc),
+            current: current_arrows(alloc, instance)?,
             site: PhantomData,
         })
     }
@@ -78,6 +100,7 @@ impl<'i, N: Site> Book<'i, N> {
             instance: _,
             cursors,
             log,
+            current: _,
             site: _,
         } = self;
         (cursors, log)
@@ -122,6 +145,26 @@ impl<'i, N: Site> Book<'i, N> {
         self.attempt_event(alloc, reader, unit, cube)
     }
 
+    // The cycle that occurs to which the arrows lead from a unit.
+    fn cycle_at(
+        &mut self,
+        alloc: Global,
+        arrows: &Arrows,
+        unit: u32,
+    ) -> Result<Option<Cube>, AllocError>
+        requires family { N.instance.family ≡ CycleEvents arrows.now }
+        requires known { unit < units_of N.instance.family }
+        ensures found { IfOk result (IsFoundAt
+            (record { stacks = N.instance.stacks; heads = arrows.now }) self.old.cursors unit) }
+        ensures same { self.new ≡ self.old }
+    {
+        let _units = self.instance.units();
+        let Some(current) = &mut self.current else {
+            unreachable!()
+        };
+        cycle_from(alloc, current, &self.cursors, unit)
+    }
+
     // Pops the cycle to which the arrows lead from a unit, where it is poppable.
     fn attempt_cycle(
         &mut self,
@@ -137,8 +180,7 @@ impl<'i, N: Site> Book<'i, N> {
         ensures reader { reader.new ≡ reader.old }
     {
         let _units = self.instance.units();
-        let mut current = CurrentArrows::new(self.instance.stacks(), arrows);
-        match cycle_from(alloc, &mut current, &self.cursors, unit) {
+        match self.cycle_at(alloc, arrows, unit) {
             Ok(Some(cube)) => {
                 let (least, _) = cube.pair(0);
                 self.attempt_event(alloc, reader, least, &cube)

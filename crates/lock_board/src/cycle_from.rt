@@ -1,7 +1,6 @@
-ghost use Rattle.std.specs.Prelude.{◌≡◌, ◌<◌, ◌≤◌, length, IfOk, MatchOption};
-ghost use Rattle.pop_model.specs.Cycles.{ReachesRoot};
-ghost use Rattle.confluence_core.specs.CycleTables.{current_head, AreCursors};
-ghost use Rattle.lock_board.specs.ArrowWalks.{IsOnCycle, IsWay, IsCycleFrom, ClosesWay};
+ghost use Rattle.std.specs.Prelude.{◌≡◌, ◌<◌, ◌≤◌, length, IfOk};
+ghost use Rattle.confluence_core.specs.CycleTables.{AreCursors};
+ghost use Rattle.lock_board.specs.ArrowWalks.{IsOnCycle, IsWay, ClosesWay, IsFoundAt};
 
 use crate::arrow_walk::variable_of_cycle;
 use confluence_core::{CurrentArrows, cube_of};
@@ -47,9 +46,7 @@ pub(crate) fn cycle_from(
 ) -> Result<Option<Cube>, AllocError>
     requires known { start < length current.old.heads }
     requires cursors { AreCursors current.old cursors.now }
-    ensures found { IfOk result (λ found. MatchOption found
-        (ReachesRoot (current_head current.old cursors.now) start)
-        (IsCycleFrom current.old cursors.now start)) }
+    ensures found { IfOk result (IsFoundAt current.old cursors.now start) }
     ensures same { current.new ≡ current.old }
 {
     let _count = current.count();

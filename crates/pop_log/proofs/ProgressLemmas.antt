@@ -6,7 +6,7 @@ use Rattle.std.specs.List.{AllByRecursion}
 use Rattle.std.proofs.lemmas.Bool.{cases_lt, lt-ltb, le-ltb}
 use Rattle.std.proofs.lemmas.List.{length-map, get_or-map}
 use Rattle.std.proofs.lemmas.List.Elements.{recursion_from_All, All-map}
-use Rattle.pop_model.specs.Stacks.{variables_of}
+use Rattle.pop_model.specs.Stacks.{StackTable, variables_of}
 use Rattle.pop_model.specs.Popping.{Cube, AreWithin, pop}
 use Rattle.pop_model.specs.Families.{Family, units_of}
 use Rattle.pop_model.specs.Families.Family.{Listed, Cycles}
@@ -165,8 +165,8 @@ reads_on names i c p r log new_log false false legal at only adds ps read =
     ∙ sym (map_push (printed names i.family) log r) ∙ ap (map (printed names i.family)) (sym adds.1)
 
 -- a legal record behind a log
-pub replayed_push : (i : Instance) (s : Progress) (r : LogRecord) (log : List LogRecord) (cursors reader : List ℕ)
-    → IsReplayed i s → IsLegalAt i s.cursors r
+pub replayed_push : (i : Instance) (s : Progress) (r : LogRecord) (log : List LogRecord) (cursors : List ℕ)
+    (reader : StackTable) → IsReplayed i s → IsLegalAt i s.cursors r
     → log ≡ s.log ++ r ∷ [] → cursors ≡ pop s.cursors r.event.cube → variables_of i.stacks ≡ length cursors
     → AreWithin i.stacks cursors → reader ≡ s.reader
     → IsReplayed i (record { log = log; cursors = cursors; reader = reader; stopped = s.stopped })

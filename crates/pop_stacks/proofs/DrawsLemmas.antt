@@ -73,16 +73,40 @@ rises_at total (x ∷ sums) (suc k) rising below =
     let first = rising.0 in
     omega (arith, rest, first)
 
--- a later sum is no less
+-- each sum is above the number by its place at least
+rises_to : (total : ℕ) (sums : List ℕ) (k : ℕ) → RisesFrom total sums → k < length sums
+    → total + suc k ≤ get_or sums k 0
+rises_to total [] k rising below = absurd (omega arith)
+rises_to total (x ∷ sums) zero rising below = let first = rising.0 in omega (arith, first)
+rises_to total (x ∷ sums) (suc k) rising below =
+    let rest = rises_to x sums k rising.1 (omega arith) in
+    let first = rising.0 in
+    omega (arith, rest, first)
+
+-- a later sum is more by the places between at least
+rises_by : (total : ℕ) (sums : List ℕ) (i j : ℕ) → RisesFrom total sums → i ≤ j → j < length sums
+    → get_or sums i 0 + (j - i) ≤ get_or sums j 0
+rises_by total [] i j rising le below = absurd (omega arith)
+rises_by total (x ∷ sums) zero zero rising le below = omega arith
+rises_by total (x ∷ sums) zero (suc j) rising le below =
+    let rest = rises_to x sums j rising.1 (omega arith) in omega (arith, rest)
+rises_by total (x ∷ sums) (suc i) zero rising le below = absurd (omega arith)
+rises_by total (x ∷ sums) (suc i) (suc j) rising le below =
+    let rest = rises_by x sums i j rising.1 (omega arith) (omega arith) in omega (arith, rest)
+
+-- so a later sum is no less
 pub rises_between : (total : ℕ) (sums : List ℕ) (i j : ℕ) → RisesFrom total sums → i ≤ j → j < length sums
     → get_or sums i 0 ≤ get_or sums j 0
-rises_between total [] i j rising le below = absurd (omega arith)
-rises_between total (x ∷ sums) zero zero rising le below = omega arith
-rises_between total (x ∷ sums) zero (suc j) rising le below =
-    let rest = rises_at x sums j rising.1 (omega arith) in omega (arith, rest)
-rises_between total (x ∷ sums) (suc i) zero rising le below = absurd (omega arith)
-rises_between total (x ∷ sums) (suc i) (suc j) rising le below =
-    rises_between x sums i j rising.1 (omega arith) (omega arith)
+rises_between total sums i j rising le below =
+    let more = rises_by total sums i j rising le below in omega (arith, more)
+
+-- sums of which the last is their number are 1, 2, 3 and so on
+pub unit_sums : (sums : List ℕ) (k : ℕ) → RisesFrom 0 sums → k < length sums
+    → get_or sums (length sums - 1) 0 ≡ length sums → get_or sums k 0 ≡ suc k
+unit_sums sums k rising below units =
+    let low = rises_to 0 sums k rising below in
+    let high = rises_by 0 sums k (length sums - 1) rising (omega arith) (omega arith) in
+    omega (arith, low, high, units)
 
 -- the least place of a sum above m is the least value whose weights up to it exceed m
 pub first_above-differences : (total : ℕ) (sums : List ℕ) (m place : ℕ) → RisesFrom total sums → total ≤ m

@@ -6,4 +6,5 @@ pub mod Readers
 pub mod Draws
 pub mod Sums
 pub mod Words
+pub mod KeptValues
 pub mod Laws

@@ -3,11 +3,11 @@ use Rattle.std.specs.Prelude.{◌≡◌, ℕ, List, ⊤}
 use Rattle.pop_model.specs.Stacks.{Origin, StackTable}
 use Rattle.pop_model.specs.Stacks.Origin.{Given, Keyed}
 
--- a reader of this key's stream gives the entries of this origin: given rows have no stream
-abbrev pub Reads : Origin → List ℕ → Type 0
-Reads (Given rows) reader = ⊤
-Reads (Keyed key height) reader = reader ≡ key
+-- a stream of this key gives the entries of this origin: given rows have no stream
+abbrev pub Streams : Origin → List ℕ → Type 0
+Streams (Given rows) stream = ⊤
+Streams (Keyed key height) stream = stream ≡ key
 
--- the reader was made of stacks with this origin
-abbrev pub Belongs : StackTable → List ℕ → Type 0
-Belongs s reader = Reads s.origin reader
+-- the reader is of these stacks
+abbrev pub Belongs : StackTable → StackTable → Type 0
+Belongs s reader = reader ≡ s

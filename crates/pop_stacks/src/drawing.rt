@@ -44,5 +44,10 @@ pub fn draw(sums: &[u32], low: u32, high: u32) -> u32
     ensures within { result < length sums.now }
 {
     let total = sums[sums.len() - 1];
-    first_above(sums, scale(low, high, total)) as u32
+    let m = scale(low, high, total);
+    // Weights of 1 have the sums 1, 2, 3 and so on.
+    if total as usize == sums.len() {
+        return m;
+    }
+    first_above(sums, m) as u32
 }

@@ -29,6 +29,8 @@ impl Model for KeyStream {
 }
 
 impl KeyStream {
+    ghost use Rattle.pop_stacks.specs.Words.{AreWordsOf};
+
     /// The key stream of the key with these bytes.
     pub fn new(key: [u8; 32]) -> KeyStream
         ensures { result ≡ key_of key }
@@ -37,6 +39,15 @@ impl KeyStream {
             rng: ChaCha20Rng::from_seed(key),
             kept: [NONE; KEPT],
         }
+    }
+
+    /// Reads the words of a group of entries of variable v, and keeps none of them.
+    pub fn read(&mut self, v: u32, group: u32, words: &mut [u32; 64])
+        requires { group < 2 ^ 26 }
+        ensures words { AreWordsOf self.old v group words.new }
+        ensures same { self.new ≡ self.old }
+    {
+        read_group(&mut self.rng, v, group, words);
     }
 
     /// The two words of entry k of variable v, the low word first.

@@ -1,12 +1,17 @@
 //! The stacks of entries: which value each variable has at each entry, read off given rows or off
 //! a ChaCha20 key stream. Contracts see stacks as `StackTable`, rows and weights as lists of
-//! lists, and a reader as the words of its key.
+//! lists, and a reader as the stacks that it reads.
 #![tactic(auto)]
 
+mod bit_line;
+mod bit_planes;
+mod byte_line;
 mod drawing;
+mod kept_values;
 mod key_stream;
 mod laws;
 mod prefix_sums;
+mod quad_line;
 mod reader;
 mod refill;
 mod row_faults;

@@ -1,9 +1,12 @@
 ghost use Rattle.std.specs.Prelude.{◌≡◌, ◌<◌, ◌^◌, ℕ, OnOk, IfOk, IfErr};
 ghost use Rattle.pop_model.specs.Stacks.{variables_of, domain_of, height_of, value_at, IsTable};
 
+use crate::kept_values::KeptValues;
 use crate::key_stream::KeyStream;
+use crate::refill::GROUP;
 use crate::sums::Sums;
 use crate::{StackFault, StackSpec, Weights};
+use std::alloc::{AllocError, Global};
 use std::marker::Model;
 
 /// The stacks of all variables. Variables and entries count from 0.
@@ -30,7 +33,8 @@ impl Model for Stacks {
 impl Stacks {
     ghost use Rattle.pop_stacks.specs.Tables.{origin_of, table_of};
     ghost use Rattle.pop_stacks.specs.Faults.{IsSound, IsCause};
-    ghost use Rattle.pop_stacks.specs.Readers.{Belongs};
+    ghost use Rattle.pop_stacks.specs.Readers.{Streams};
+    ghost use Rattle.pop_stacks.specs.KeptValues.{KeepsValues};
 
     /// The stacks with entries of this origin, under these weights. With a key each variable has
     /// this height; with given rows it is its row's length, and `height` has no effect.
@@ -79,7 +83,7 @@ impl Stacks {
 
     // The key stream of keyed stacks; with given rows any, which is never read.
     pub(crate) fn stream(&self) -> KeyStream
-        ensures { Belongs self.now result }
+        ensures { Streams self.now.origin result }
     {
         match &self.spec {
             StackSpec::Key(key) => KeyStream::new(*key),
@@ -87,18 +91,46 @@ impl Stacks {
         }
     }
 
-    // Entry k of variable v.
-    pub(crate) fn value(&self, stream: &mut KeyStream, v: u32, k: u32) -> u32
-        requires belongs { Belongs self.now stream.old }
+    // Room for values of each variable; given rows are at hand anyway.
+    pub(crate) fn room_for_values(&self, alloc: Global) -> Result<KeptValues, AllocError>
+        ensures { IfOk result (KeepsValues self.now) }
+    {
+        if let StackSpec::Given(_) = &self.spec {
+            return Ok(KeptValues::Nothing);
+        }
+        let count = self.sums.count();
+        if self.sums.have_at_most(2) {
+            return KeptValues::bits(alloc, count);
+        }
+        if self.sums.have_at_most(4) {
+            return KeptValues::quads(alloc, count);
+        }
+        KeptValues::bytes(alloc, count)
+    }
+
+    // Entry k of variable v. The values of its group are kept, where there is a line for them.
+    #[inline(never)]
+    pub(crate) fn value(&self, stream: &mut KeyStream, kept: &mut KeptValues, v: u32, k: u32) -> u32
+        requires streams { Streams self.now.origin stream.old }
+        requires kept { KeepsValues self.now kept.old }
         requires variable { v < variables_of self.now }
         requires place { k < height_of self.now v }
         requires short { k < 2 ^ 31 }
         ensures value { result ≡ value_at self.now v k }
         ensures within { result < domain_of self.now v }
         ensures same { stream.new ≡ stream.old }
+        ensures kept { KeepsValues self.now kept.new }
     {
         match &self.spec {
             StackSpec::Key(_) => {
+                let domain = self.sums.slots(v);
+                if kept.can_keep(v, domain) {
+                    let mut words = [0; 64];
+                    stream.read(v, k / GROUP, &mut words);
+                    let values = self.sums.draw_group(v, &words);
+                    kept.keep(v, domain, k / GROUP, &values);
+                    return values[(k % GROUP) as usize] as u32;
+                }
                 let (low, high) = stream.words(v, k);
                 self.sums.draw(v, low, high)
             }

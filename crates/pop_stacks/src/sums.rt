@@ -1,7 +1,8 @@
-ghost use Rattle.std.specs.Prelude.{◌≡◌, ◌<◌, ◌+◌, ◌*◌, ◌^◌, ℕ, List, length, OnOk, IfOk, IfErr};
+ghost use Rattle.std.specs.Prelude.{◌≡◌, ◌<◌, ◌≤◌, ◌+◌, ◌*◌, ◌^◌, ◌↔◌, ℕ, List, length, OnOk, IfOk, IfErr, IsTrue};
 ghost use Rattle.pop_model.specs.Stacks.{row_of, weighted};
 ghost use Rattle.pop_model.specs.Places.{IsLeast};
 ghost use Rattle.pop_stacks.specs.Faults.{AreLight, IsTooHeavy};
+ghost use Rattle.pop_stacks.specs.Draws.{AreDrawn};
 ghost use Rattle.pop_stacks.specs.Rows.{lists_of, AreWeights};
 
 use crate::Weights;
@@ -77,6 +78,19 @@ impl Sums {
         }
     }
 
+    /// Whether no variable has more values than this.
+    pub fn have_at_most(&self, values: u32) -> bool
+        ensures { IsTrue result
+            ↔ ((v : ℕ) → v < length self.now → length (row_of self.now v) ≤ values) }
+    {
+        for v in 0..self.count() {
+            if self.slots(v) > values {
+                return false;
+            }
+        }
+        true
+    }
+
     /// How many values variable v has.
     pub fn slots(&self, v: u32) -> u32
         requires { v < length self.now }
@@ -99,5 +113,18 @@ impl Sums {
             KeptSums::Pairs(_) => high >> 31,
             KeptSums::Rows(rows) => draw(&rows[v as usize], low, high),
         }
+    }
+
+    /// The values that the words of a group of entries give variable v, which has at most 256.
+    pub fn draw_group(&self, v: u32, words: &[u32; 64]) -> [u8; 32]
+        requires known { v < length self.now }
+        requires small { length (row_of self.now v) ≤ 256 }
+        ensures { AreDrawn (row_of self.now v) words.now 32 result }
+    {
+        let mut values = [0; 32];
+        for i in 0..32 {
+            values[i] = self.draw(v, words[2 * i], words[2 * i + 1]) as u8;
+        }
+        values
     }
 }

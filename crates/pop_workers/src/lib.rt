@@ -10,4 +10,4 @@ mod turns;
 
 pub use confluence_core::Run as Outcome;
 pub use gate::{Gate, NoGate};
-pub use locked::sample_locked;
+pub use locked::{sample_locked, sample_locked_by};

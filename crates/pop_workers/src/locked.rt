@@ -3,15 +3,17 @@ ghost use Rattle.pop_model.specs.Stacks.{variables_of};
 ghost use Rattle.pop_model.specs.Popping.{AreWithin};
 ghost use Rattle.pop_model.specs.Extremal.{IsExtremal};
 ghost use Rattle.pop_model.specs.Runs.{IsFirstEnd, start_of};
+ghost use Rattle.pop_stacks.specs.Readers.{Belongs};
 ghost use Rattle.confluence_core.specs.Kept.{keeps_log};
 ghost use Rattle.confluence_core.specs.Runs.{IsRun};
 
 use crate::finishing::finish;
 use crate::turns::{Worker, work};
 use crate::{Gate, Outcome};
-use confluence_core::{Keep, run_from_zeros};
+use confluence_core::{Keep, run_from_zeros_by};
 use lock_board::{Book, Site};
 use pop_instance::Instance;
+use pop_stacks::Reader;
 use std::alloc::{AllocError, Global};
 use std::marker::Brand;
 use std::sync::{Mutex, Wait};
@@ -43,18 +45,45 @@ pub fn sample_locked<R: Threads + Wait + Sync, G: Gate + Sync>(
     ensures count { IfOk result (λ run. variables_of instance.now.stacks ≡ length run.end.cursors) }
     ensures within { IfOk result (λ run. AreWithin instance.now.stacks run.end.cursors) }
 {
+    let mut reader = Reader::keeping(alloc, instance.stacks())?;
+    sample_locked_by(rt, alloc, instance, &mut reader, workers, keep, gate)
+}
+
+/// A run as that of `sample_locked`. Of the work that the caller ends with, and with one worker of all
+/// of it, this reader of the instance's stacks looks at the entries.
+pub fn sample_locked_by<'i, R: Threads + Wait + Sync, G: Gate + Sync>(
+    rt: &R,
+    alloc: Global,
+    instance: &'i Instance,
+    reader: &mut Reader<'i>,
+    workers: u32,
+    keep: Keep,
+    gate: &G,
+) -> Result<Outcome, AllocError>
+    requires some { 0 < workers }
+    requires most { workers ≤ 64 }
+    requires belongs { Belongs instance.now.stacks reader.old }
+    ensures run { IfOk result (λ run. IsRun instance.now (start_of instance.now) (keeps_log keep)
+        run.end.cursors run.end.pops run.end.stuck run.log) }
+    ensures first { IfOk result (λ run. IsExtremal instance.now.family
+        → IsFirstEnd instance.now run.end.cursors run.end.pops run.end.stuck) }
+    ensures count { IfOk result (λ run. variables_of instance.now.stacks ≡ length run.end.cursors) }
+    ensures within { IfOk result (λ run. AreWithin instance.now.stacks run.end.cursors) }
+    ensures reader { reader.new ≡ reader.old }
+{
     if workers == 1 {
         gate.at(0, 0);
-        return run_from_zeros(alloc, instance, keep);
+        return run_from_zeros_by(alloc, instance, reader, keep);
     }
-    sample_shared::<Brand, R, G>(rt, alloc, instance, workers, keep, gate)
+    sample_shared::<Brand, R, G>(rt, alloc, instance, reader, workers, keep, gate)
 }
 
 // The run by workers who share a book of this instance.
-fn sample_shared<N: Site + Send + Sync, R: Threads + Wait + Sync, G: Gate + Sync>(
+fn sample_shared<'i, N: Site + Send + Sync, R: Threads + Wait + Sync, G: Gate + Sync>(
     rt: &R,
     alloc: Global,
-    instance: &Instance,
+    instance: &'i Instance,
+    reader: &mut Reader<'i>,
     workers: u32,
     keep: Keep,
     gate: &G,
@@ -62,16 +91,18 @@ fn sample_shared<N: Site + Send + Sync, R: Threads + Wait + Sync, G: Gate + Sync
     requires site { instance.now ≡ N.instance }
     requires some { 0 < workers }
     requires most { workers ≤ 64 }
+    requires belongs { Belongs instance.now.stacks reader.old }
     ensures run { IfOk result (λ run. IsRun instance.now (start_of instance.now) (keeps_log keep)
         run.end.cursors run.end.pops run.end.stuck run.log) }
     ensures first { IfOk result (λ run. IsExtremal instance.now.family
         → IsFirstEnd instance.now run.end.cursors run.end.pops run.end.stuck) }
     ensures count { IfOk result (λ run. variables_of instance.now.stacks ≡ length run.end.cursors) }
     ensures within { IfOk result (λ run. AreWithin instance.now.stacks run.end.cursors) }
+    ensures reader { reader.new ≡ reader.old }
 {
     let book = work_together::<N, R, G>(rt, alloc, instance, workers, gate)?;
     let (cursors, log) = book.into_parts();
-    finish(alloc, instance, cursors, log, keep)
+    finish(alloc, instance, reader, cursors, log, keep)
 }
 
 // The book that the workers leave.

@@ -34,7 +34,7 @@ pub(crate) fn work<N: Site, R: Wait, G: Gate>(
     requires most { worker.workers ≤ 64 }
 {
     let units = instance.units();
-    let mut reader = Reader::new(instance.stacks());
+    let mut reader = Reader::keeping(alloc, instance.stacks())?;
     let mut unit = worker.number;
     let mut popped = false;
     for turn in 0..MOST_TURNS {

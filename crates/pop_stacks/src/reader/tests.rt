@@ -1,3 +1,4 @@
+ghost use Rattle.std.specs.Prelude.{◌<◌, ◌^◌};
 ghost use Rattle.pop_stacks.specs.Readers.{Belongs};
 
 use super::*;
@@ -30,16 +31,28 @@ fn look_along(rt: &impl Abort, stacks: &Stacks, reader: &mut Reader, order: &[u3
     }
 }
 
-// Compares the first entries of variable 0 under the key of zeros, forwards, backwards and between
-// looks at a later group.
-fn has_values(rt: &impl Abort, weights: Weights, values: &[u32]) -> Result<(), Fail> {
-    let stacks = Stacks::new(StackSpec::Key([0; 32]), weights, 64)?;
-    let mut reader = Reader::new(&stacks);
-    look_along(rt, &stacks, &mut reader, &[0, 1, 2, 3, 4, 5, 6, 7], values);
-    look_along(rt, &stacks, &mut reader, &[7, 6, 5, 4, 3, 2, 1, 0], values);
+// Compares the first entries of variable 0, forwards, backwards and between looks at a later group.
+fn reads_values(rt: &impl Abort, stacks: &Stacks, reader: &mut Reader, values: &[u32])
+    requires { Belongs stacks.now reader.old }
+{
+    look_along(rt, stacks, reader, &[0, 1, 2, 3, 4, 5, 6, 7], values);
+    look_along(rt, stacks, reader, &[7, 6, 5, 4, 3, 2, 1, 0], values);
     assert!(rt; 0 < stacks.count());
-    let _later = reader.entry(&stacks, 0, 40);
-    look_along(rt, &stacks, &mut reader, &[3, 0, 5], values);
+    assert!(rt; 40 < stacks.height(0));
+    let _later = reader.entry(stacks, 0, 40);
+    look_along(rt, stacks, reader, &[3, 0, 5], values);
+}
+
+// Compares the first entries of variable 0 under the key of zeros, by a reader of each kind.
+fn has_values(
+    rt: &impl Abort,
+    alloc: Global,
+    weights: Weights,
+    values: &[u32],
+) -> Result<(), Fail> {
+    let stacks = Stacks::new(StackSpec::Key([0; 32]), weights, 64)?;
+    reads_values(rt, &stacks, &mut Reader::new(&stacks), values);
+    reads_values(rt, &stacks, &mut Reader::keeping(alloc, &stacks)?, values);
     Ok(())
 }
 
@@ -50,35 +63,114 @@ fn a_value_is_the_least_whose_weights_exceed_the_scaled_number(
     rt: HostRuntime,
 ) -> Result<(), Fail> {
     let alloc = rt.alloc();
-    has_values(&rt, Weights::pairs(1), &[1, 0, 0, 1, 1, 0, 0, 1])?;
+    has_values(&rt, alloc, Weights::pairs(1), &[1, 0, 0, 1, 1, 0, 0, 1])?;
     let equal = Rows::of(vec![in alloc; vec![in alloc; 1, 1]?]?);
-    has_values(&rt, Weights::of(equal), &[1, 0, 0, 1, 1, 0, 0, 1])?;
+    has_values(&rt, alloc, Weights::of(equal), &[1, 0, 0, 1, 1, 0, 0, 1])?;
     let thirds = Rows::of(vec![in alloc; vec![in alloc; 1, 1, 1]?]?);
-    has_values(&rt, Weights::of(thirds), &[1, 0, 0, 2, 1, 0, 0, 1])?;
+    has_values(&rt, alloc, Weights::of(thirds), &[1, 0, 0, 2, 1, 0, 0, 1])?;
     let falling = Rows::of(vec![in alloc; vec![in alloc; 2, 1]?]?);
-    has_values(&rt, Weights::of(falling), &[0, 0, 0, 1, 0, 0, 0, 0])?;
+    has_values(&rt, alloc, Weights::of(falling), &[0, 0, 0, 1, 0, 0, 0, 0])?;
     let steep = Rows::of(vec![in alloc; vec![in alloc; 5, 1]?]?);
-    has_values(&rt, Weights::of(steep), &[0, 0, 0, 0, 0, 0, 0, 0])?;
+    has_values(&rt, alloc, Weights::of(steep), &[0, 0, 0, 0, 0, 0, 0, 0])?;
     let rising = Rows::of(vec![in alloc; vec![in alloc; 1, 5]?]?);
-    has_values(&rt, Weights::of(rising), &[1, 0, 0, 1, 1, 1, 0, 1])
+    has_values(&rt, alloc, Weights::of(rising), &[1, 0, 0, 1, 1, 1, 0, 1])
 }
 
-// Variables 0, 16 and 32 share a place among the kept refills.
+// Variables 0, 16 and 32 share a place among the kept refills. The values of variable 0 are those
+// of RFC 8439, A.1, vector 1.
+fn reads_beside_others(rt: &impl Abort, stacks: &Stacks, reader: &mut Reader)
+    requires { Belongs stacks.now reader.old }
+{
+    let values = [1, 0, 0, 1, 1, 0, 0, 1];
+    assert_eq!(rt; stacks.count(), 40);
+    assert_eq!(rt; stacks.height(16), 64);
+    assert_eq!(rt; stacks.height(1), 64);
+    assert_eq!(rt; stacks.height(32), 64);
+    look_along(rt, stacks, reader, &[0, 7], &values);
+    let sixteenth = reader.entry(stacks, 16, 1);
+    look_along(rt, stacks, reader, &[1, 6], &values);
+    let _first = reader.entry(stacks, 1, 63);
+    look(rt, stacks, reader, 16, 1, sixteenth);
+    look_along(rt, stacks, reader, &[3, 2], &values);
+    let _last = reader.entry(stacks, 32, 32);
+    look_along(rt, stacks, reader, &[4, 5], &values);
+    look(rt, stacks, reader, 16, 1, sixteenth);
+}
+
 #[test]
 fn a_look_at_another_variable_changes_no_answer(rt: HostRuntime) -> Result<(), Fail> {
     let stacks = Stacks::new(StackSpec::Key([0; 32]), Weights::pairs(40), 64)?;
-    let values = [1, 0, 0, 1, 1, 0, 0, 1];
-    let mut reader = Reader::new(&stacks);
-    look_along(&rt, &stacks, &mut reader, &[0, 7], &values);
-    let sixteenth = reader.entry(&stacks, 16, 1);
-    look_along(&rt, &stacks, &mut reader, &[1, 6], &values);
-    let _first = reader.entry(&stacks, 1, 63);
-    look(&rt, &stacks, &mut reader, 16, 1, sixteenth);
-    look_along(&rt, &stacks, &mut reader, &[3, 2], &values);
-    let _last = reader.entry(&stacks, 32, 32);
-    look_along(&rt, &stacks, &mut reader, &[4, 5], &values);
-    look(&rt, &stacks, &mut reader, 16, 1, sixteenth);
+    reads_beside_others(&rt, &stacks, &mut Reader::new(&stacks));
+    reads_beside_others(&rt, &stacks, &mut Reader::keeping(rt.alloc(), &stacks)?);
     Ok(())
+}
+
+// Compares an entry as a reader that keeps values gives it with the answer of a fresh reader.
+fn compare(rt: &impl Abort, stacks: &Stacks, keeping: &mut Reader, v: u32, k: u32)
+    requires { Belongs stacks.now keeping.old }
+    ensures { Belongs stacks.now keeping.new }
+{
+    assert!(rt; v < stacks.count());
+    assert!(rt; k < stacks.height(v));
+    let value = Reader::new(stacks).entry(stacks, v, k);
+    look(rt, stacks, keeping, v, k, value);
+}
+
+// Compares entries in steps that go over all variables, places and groups, back and forth.
+fn compare_in_jumps(rt: &impl Abort, stacks: &Stacks, keeping: &mut Reader, height: u32)
+    requires { Belongs stacks.now keeping.old }
+{
+    let count = stacks.count();
+    assert!(rt; 0 < count);
+    assert!(rt; 0 < height);
+    for step in 0..300 {
+        compare(rt, stacks, keeping, step % count, step * 37 % height);
+        compare(
+            rt,
+            stacks,
+            keeping,
+            step / 3 % count,
+            height - 1 - step % height,
+        );
+    }
+}
+
+// Compares entries under these weights at a height.
+fn compare_under(rt: &impl Abort, alloc: Global, weights: Weights, height: u32) -> Result<(), Fail>
+    requires { (0 < height) × (height < 2 ^ 31) }
+{
+    let stacks = Stacks::new(StackSpec::Key([3; 32]), weights, height)?;
+    compare_in_jumps(rt, &stacks, &mut Reader::keeping(alloc, &stacks)?, height);
+    Ok(())
+}
+
+// Compares entries where a variable has up to two values, up to four, and more.
+fn compare_at_height(rt: &impl Abort, alloc: Global, height: u32) -> Result<(), Fail>
+    requires { (0 < height) × (height < 2 ^ 31) }
+{
+    compare_under(rt, alloc, Weights::pairs(5), height)?;
+    let two = vec![in alloc;
+        vec![in alloc; 9]?,
+        vec![in alloc; 2, 1]?,
+        vec![in alloc; 1, 5]?,
+    ]?;
+    compare_under(rt, alloc, Weights::of(Rows::of(two)), height)?;
+    let four = vec![in alloc; vec![in alloc; 2, 1]?, vec![in alloc; 1, 1, 1, 1]?]?;
+    compare_under(rt, alloc, Weights::of(Rows::of(four)), height)?;
+    let many = vec![in alloc; vec![in alloc; 1, 1, 1]?, vec![in alloc; 3, 1, 4, 1, 5, 9]?]?;
+    compare_under(rt, alloc, Weights::of(Rows::of(many)), height)
+}
+
+// A group has 32 entries, and the last of the greatest height is in the last group.
+#[test]
+fn kept_values_are_the_entries_at_any_height(rt: HostRuntime) -> Result<(), Fail> {
+    let alloc = rt.alloc();
+    compare_at_height(&rt, alloc, 1)?;
+    compare_at_height(&rt, alloc, 31)?;
+    compare_at_height(&rt, alloc, 32)?;
+    compare_at_height(&rt, alloc, 33)?;
+    compare_at_height(&rt, alloc, 200)?;
+    compare_at_height(&rt, alloc, (1 << 31) - 1)
 }
 
 #[test]
@@ -90,11 +182,14 @@ fn given_rows_are_read_as_they_stand(rt: HostRuntime) -> Result<(), Fail> {
         vec![in alloc; 1, 3]?,
     ]?));
     let stacks = Stacks::new(StackSpec::Given(rows), weights, 1)?;
-    let mut reader = Reader::new(&stacks);
     assert_eq!(&rt; stacks.count(), 2);
     assert_eq!(&rt; (stacks.height(0), stacks.height(1)), (3, 1));
     assert_eq!(&rt; (stacks.domain(0), stacks.domain(1)), (3, 2));
+    let mut reader = Reader::new(&stacks);
     look_along(&rt, &stacks, &mut reader, &[2, 0, 1], &[0, 2, 1]);
     look(&rt, &stacks, &mut reader, 1, 0, 1);
+    let mut keeping = Reader::keeping(alloc, &stacks)?;
+    look_along(&rt, &stacks, &mut keeping, &[2, 0, 1], &[0, 2, 1]);
+    look(&rt, &stacks, &mut keeping, 1, 0, 1);
     Ok(())
 }

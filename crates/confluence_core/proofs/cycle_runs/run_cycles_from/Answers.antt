@@ -7,23 +7,29 @@ use Rattle.confluence_core.proofs.cycle_runs.run_cycles_from.Goals as goal
 
 pub walk_all-requires-clause-room : goal.walk_all-requires-clause-room
 walk_all-requires-clause-room c =
-    let stacks : StackTable = c.new-current.result.stacks in
-    let same : stacks ≡ c.args.stacks.now = ap (λ (t : CycleTable). t.stacks) c.new-current.ensures in
+    let stacks : StackTable = c.of-current.result.stacks in
+    let same : stacks ≡ c.args.stacks.now = ap (λ (t : CycleTable). t.stacks) c.of-current.ensures in
     let fits = pops_fit stacks c.args.cursors c.count-count.ensures.instance.table
     (ap variables_of same ∙ c.requires.count) in
     omega (arith, fits)
 
 pub returns-clause-count : goal.returns-clause-count
 returns-clause-count c =
-    let are : AreCursors c.new-current.result c.walk_all.new.walked.cursors = c.in_ok-walk_all.ensures.cursors in
-    let heads : length c.new-current.result.heads ≡ length c.args.arrows.now =
-    ap (λ (t : CycleTable). length t.heads) c.new-current.ensures in
+    let are : AreCursors c.of-current.result c.walk_all.new.walked.cursors = c.in_ok-walk_all.ensures.cursors in
+    let heads : length c.of-current.result.heads ≡ length c.args.arrows.now =
+    ap (λ (t : CycleTable). length t.heads) c.of-current.ensures in
     omega (arith, c.requires.fits.0, heads, are.count, ap length c.into_run.ensures.cursors)
 
 pub returns-clause-within : goal.returns-clause-within
 returns-clause-within c =
-    let are : AreCursors c.new-current.result c.walk_all.new.walked.cursors = c.in_ok-walk_all.ensures.cursors in
-    let same : c.new-current.result.stacks ≡ c.args.stacks.now =
-    ap (λ (t : CycleTable). t.stacks) c.new-current.ensures in
+    let are : AreCursors c.of-current.result c.walk_all.new.walked.cursors = c.in_ok-walk_all.ensures.cursors in
+    let same : c.of-current.result.stacks ≡ c.args.stacks.now =
+    ap (λ (t : CycleTable). t.stacks) c.of-current.ensures in
     subst (λ xs. AreWithin c.args.stacks.now xs) (sym c.into_run.ensures.cursors)
     (subst (λ s. AreWithin s c.walk_all.new.walked.cursors) same are.within)
+
+pub returns-clause-reader : goal.returns-clause-reader
+returns-clause-reader c =
+    c.into_reader.ensures
+    ∙ ap (λ (t : CycleTable). t.stacks) (c.walk_all.ensures.same ∙ c.of-current.ensures)
+    ∙ sym c.requires.belongs

@@ -67,4 +67,4 @@ returns-clause-end c =
     let at = c.loop-place.cursors in
     let rows = c.args.events.now in
     complete_end (listed s rows) at c.loop-place.pops c.in_ok-stuck.stuck c.loop-place.invariant.run
-    (end_from s at rows c.in_default.ensures.first) (stuck_list s at rows c.in_ok-stuck.stuck c.in_ok-stuck.ensures)
+    (end_from s at rows c.in_default.ensures.first) (stuck_list s at rows c.in_ok-stuck.stuck c.in_ok-stuck.ensures.stuck)

@@ -26,7 +26,7 @@ loop-place-init c =
       count = c.requires.count;
       within = c.requires.within;
       room = omega arith;
-      belongs = c.new-reader.ensures;
+      belongs = c.requires.belongs;
       units = gains.units ∙ ap (λ (w : Waiting). w.units) c.in_ok-work.ensures ∙ c.count-2.ensures.count;
       covers = covers_gained s c.args.cursors rows c.args.suspects work new c.requires.suspects gains;
       so_far = subst (IsSoFar (listed s rows) c.args.cursors (keeps_log c.args.keep) c.args.cursors 0)
@@ -103,5 +103,5 @@ returns-clause-run c =
     so_far_end (listed s rows) c.args.cursors (keeps_log c.args.keep) at c.loop-place.pops c.loop-place.log
     c.in_ok-stuck.stuck c.then_some.result
     (c.then_some.ensures ∙ ap (λ b. then_some b c.loop-place.log) c.keeps_log.ensures)
-    (end_from s at rows c.in_default.ensures.next) (stuck_list s at rows c.in_ok-stuck.stuck c.in_ok-stuck.ensures)
+    (end_from s at rows c.in_default.ensures.next) (stuck_list s at rows c.in_ok-stuck.stuck c.in_ok-stuck.ensures.stuck)
     c.loop-place.invariant.so_far

@@ -11,13 +11,13 @@ use Rattle.lock_board.specs.Books.{Progress}
 use Rattle.pop_workers.proofs.JoinedRuns.{joined_run, joined_fits}
 use Rattle.pop_workers.proofs.finishing.finish.Goals as goal
 
-pub run_from-requires-clause-units : goal.run_from-requires-clause-units
-run_from-requires-clause-units c =
+pub run_from_by-requires-clause-units : goal.run_from_by-requires-clause-units
+run_from_by-requires-clause-units c =
     all_known (units_of c.args.instance.now.family) c.in_ok-suspects.suspects
     (c.in_ok-suspects.ensures ∙ ap (range_with_len 0) c.units.ensures.units)
 
-pub run_from-requires-clause-suspects : goal.run_from-requires-clause-suspects
-run_from-requires-clause-suspects c =
+pub run_from_by-requires-clause-suspects : goal.run_from_by-requires-clause-suspects
+run_from_by-requires-clause-suspects c =
     all_miss_none c.args.instance.now c.args.cursors c.in_ok-suspects.suspects
     (c.in_ok-suspects.ensures ∙ ap (range_with_len 0) c.units.ensures.units)
 

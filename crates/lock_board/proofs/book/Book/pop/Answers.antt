@@ -28,4 +28,5 @@ invariant_of-self-2 g c =
       c.self.invariant.0,
       book_pop i old new (record { unit = c.args.unit; cube = c.args.cube.now }) c.self.invariant.1 c.requires.event
           poppable (c.in_ok-push.ensures.pushed ∙ ap (λ r. old.log ++ r ∷ []) c.in_ok-popped.ensures) c.pop.ensures,
+      c.self.invariant.2,
     )

@@ -11,7 +11,7 @@ use Rattle.confluence_core.specs.CycleTables.{cycles}
 use Rattle.confluence_core.proofs.Places.{listed}
 use Rattle.confluence_core.proofs.Covering.{covers_from}
 use Rattle.confluence_core.proofs.SoFar.{first_end_from}
-use Rattle.confluence_core.proofs.one_thread.run_from.Goals as goal
+use Rattle.confluence_core.proofs.one_thread.run_from_by.Goals as goal
 
 instance_of : StackTable → Family → Instance
 instance_of s family = record { stacks = s; family = family }

@@ -2,14 +2,14 @@ use Rattle.std.proofs.Common.{ap, ◌∙◌}
 use Rattle.std.specs.List.{range_with_len}
 use Rattle.pop_model.specs.Families.{units_of}
 use Rattle.confluence_core.proofs.Suspects.{all_known, all_miss_none}
-use Rattle.confluence_core.proofs.one_thread.run_from_zeros.Goals as goal
+use Rattle.confluence_core.proofs.one_thread.run_from_zeros_by.Goals as goal
 
-pub run_from-requires-clause-units : goal.run_from-requires-clause-units
-run_from-requires-clause-units c =
+pub run_from_by-requires-clause-units : goal.run_from_by-requires-clause-units
+run_from_by-requires-clause-units c =
     all_known (units_of c.args.instance.now.family) c.in_ok-suspects.suspects
     (c.in_ok-suspects.ensures ∙ ap (range_with_len 0) c.units.ensures.units)
 
-pub run_from-requires-clause-suspects : goal.run_from-requires-clause-suspects
-run_from-requires-clause-suspects c =
+pub run_from_by-requires-clause-suspects : goal.run_from_by-requires-clause-suspects
+run_from_by-requires-clause-suspects c =
     all_miss_none c.args.instance.now c.in_ok-cursors.cursors c.in_ok-suspects.suspects
     (c.in_ok-suspects.ensures ∙ ap (range_with_len 0) c.units.ensures.units)
