@@ -1,5 +1,5 @@
 -- Each event that occurs at an end can be printed: a listed one has a place, and the variables of a cycle have arrows.
-use Rattle.std.proofs.Common.{ℕ, ◌<◌, ◌^◌, List, length, get_or, All, arith}
+use Rattle.std.proofs.Common.{ℕ, ◌<◌, ◌^◌, List, get_or, All, arith}
 use Rattle.std.proofs.lemmas.List.Elements.{Contains-get_or}
 use Rattle.std.proofs.lemmas.Option.{slice_get_within}
 use Rattle.pop_model.specs.Families.{Event, Family, IsEvent, units_of}

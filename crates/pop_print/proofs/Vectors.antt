@@ -6,7 +6,8 @@ use Rattle.pop_model.specs.Families.{Event}
 use Rattle.pop_model.specs.Families.Family.{Listed, Cycles}
 use Rattle.pop_model.specs.Instances.{Instance}
 use Rattle.graph_read.specs.Graphs.{GraphOf}
-use Rattle.pop_print.specs.declared.facts.Facts.TheVariants.{Formula, Orient, Tree}
+use Rattle.graph_read.specs.Grids.{grid_of}
+use Rattle.pop_print.specs.declared.facts.Facts.TheVariants.{Formula, Orient, Tree, Made}
 use Rattle.pop_print.specs.Output.{end_text}
 
 abbrev entries : List (List ℕ)
@@ -110,3 +111,37 @@ a_sink_that_occurs : end_text (Orient triangle)
     ≡ codes "s EXHAUSTED\nstuck 2\nused 0 0 0\npops 0\n"
 unfolding digits
 a_sink_that_occurs = refl
+
+-- a grid of one vertex has no variable
+one_vertex : end_text (Made (grid_of 1) 1) (given [] [] []) [] 0 []
+    ≡ codes "s SAMPLE\ngrid 1\nused 0 0\npops 0\nsum 0\n"
+unfolding digits
+one_vertex = refl
+
+-- the arrows of the grid of side 2 towards vertex 1: of vertex 2 along the edges 1 and 3, of vertex 3 along 2 and 4, of
+-- vertex 4 along 3 and 4
+abbrev to_corner : List (List (Option ℕ))
+to_corner = (None ∷ Some 2 ∷ []) ∷ (None ∷ Some 2 ∷ []) ∷ (Some 0 ∷ Some 1 ∷ []) ∷ []
+
+abbrev over_corner : List (List ℕ) → Instance
+over_corner rows = given rows (two_each 3) to_corner
+
+-- each vertex once
+a_grid : end_text (Made (grid_of 2) 2) (over_corner ((0 ∷ []) ∷ (0 ∷ []) ∷ (0 ∷ []) ∷ [])) (0 ∷ 0 ∷ 0 ∷ []) 0 []
+    ≡ codes "s SAMPLE\ngrid 2\nused 0 0\npops 0\nsum 9\n"
+unfolding digits
+a_grid = refl
+
+-- vertex 3 twice; the greatest cursor is not the last
+a_popped_grid : end_text (Made (grid_of 2) 2) (over_corner ((1 ∷ 1 ∷ 0 ∷ []) ∷ (0 ∷ 1 ∷ []) ∷ (0 ∷ []) ∷ []))
+    (2 ∷ 1 ∷ 0 ∷ []) 7 []
+    ≡ codes "s SAMPLE\ngrid 2\nused 3 2\npops 7\nsum 12\n"
+unfolding digits
+a_popped_grid = refl
+
+-- the cycle of the vertices 2 and 4
+a_stuck_grid : end_text (Made (grid_of 2) 2) (over_corner ((1 ∷ []) ∷ (0 ∷ []) ∷ (0 ∷ []) ∷ [])) (0 ∷ 0 ∷ 0 ∷ []) 0
+    (record { unit = 0; cube = (0, 1) ∷ (2, 0) ∷ [] } ∷ [])
+    ≡ codes "s EXHAUSTED\ngrid 2\nstuck 1\nused 0 0\npops 0\n"
+unfolding digits
+a_stuck_grid = refl

@@ -1,4 +1,5 @@
 pub mod Names
+pub mod Made
 pub mod Output
 pub mod Ends
 pub mod Stuck

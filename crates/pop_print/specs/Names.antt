@@ -6,13 +6,14 @@ use Rattle.pop_model.specs.Families.Family.{Listed, Cycles}
 use Rattle.pop_model.specs.Names.{vertex_of}
 use Rattle.pop_instance.specs.Events.{event_number}
 use Rattle.pop_print.specs.declared.facts.Facts.{Facts}
-use Rattle.pop_print.specs.declared.facts.Facts.TheVariants.{Formula, Orient, Tree}
+use Rattle.pop_print.specs.declared.facts.Facts.TheVariants.{Formula, Orient, Tree, Made}
 
 -- the name of a variable: its number or that of its edge, from 1, or its vertex
 abbrev pub name_of : Facts → ℕ → ℕ
 name_of (Formula n) v = v + 1
 name_of (Orient g) v = v + 1
 name_of (Tree g root) v = vertex_of root v
+name_of (Made g side) v = vertex_of 1 v
 
 -- the numbers that tell an event: a listed one's own, or the names of a cycle's variables
 abbrev pub event_names : Facts → Family → Event → List ℕ

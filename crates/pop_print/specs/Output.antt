@@ -1,5 +1,5 @@
 -- The text of a run's end.
-use Rattle.std.specs.Prelude.{ℕ, ◌+◌, ◌==◌, if◌then◌else◌, List, [], ◌∷◌, ◌++◌, map, flat_map, decimal, codes, slice_index}
+use Rattle.std.specs.Prelude.{ℕ, ◌+◌, ◌==◌, if◌then◌else◌, List, [], ◌∷◌, ◌++◌, length, map, flat_map, decimal, codes, slice_index}
 use Rattle.std.specs.List.{enumerate_from}
 use Rattle.pop_model.specs.Stacks.{StackTable, value_at}
 use Rattle.pop_model.specs.Popping.{cursor}
@@ -11,8 +11,9 @@ use Rattle.graph_read.specs.declared.edge.Edge.{Edge}
 use Rattle.graph_read.specs.Graphs.{GraphOf, edge_at}
 use Rattle.graph_read.specs.Incidence.{edges_at, other_end}
 use Rattle.pop_print.specs.declared.facts.Facts.{Facts}
-use Rattle.pop_print.specs.declared.facts.Facts.TheVariants.{Formula, Orient, Tree}
+use Rattle.pop_print.specs.declared.facts.Facts.TheVariants.{Formula, Orient, Tree, Made}
 use Rattle.pop_print.specs.Names.{event_names}
+use Rattle.pop_print.specs.Made.{grid_line, count_line, totals_line, sum_line, slot_sum}
 
 -- the printed name of a variable, which counts from 1, with `-` before it where its value is 0
 abbrev pub literal_of : ℕ → ℕ → List ℕ
@@ -62,11 +63,12 @@ abbrev pub tree_lines : GraphOf → ℕ → StackTable → List ℕ → List ℕ
 tree_lines g root stacks cursors =
     flat_map (vertex_line g root stacks) (enumerate_from 0 cursors)
 
--- the lines of the sample
+-- the lines of the sample; on a made grid it is a tree to vertex 1
 abbrev pub sample_lines : Facts → StackTable → List ℕ → List ℕ
 sample_lines (Formula n) stacks cursors = assignment_line stacks cursors
 sample_lines (Orient g) stacks cursors = orientation_lines g stacks cursors
 sample_lines (Tree g root) stacks cursors = tree_lines g root stacks cursors
+sample_lines (Made g side) stacks cursors = tree_lines g 1 stacks cursors
 
 -- the line of an event that occurs
 abbrev pub stuck_line : Facts → Family → Event → List ℕ
@@ -91,7 +93,21 @@ used_line cursors = line (codes "used" ++ spaced (map decimal cursors))
 abbrev pub pops_line : ℕ → List ℕ
 pops_line pops = line (codes "pops " ++ decimal pops)
 
--- the text of an end: what was found, the cursors, the number of pops
-abbrev pub end_text : Facts → Instance → List ℕ → ℕ → List Event → List ℕ
-end_text facts i cursors pops stuck =
+-- the text of an end in full: what was found, the cursors, the number of pops
+abbrev pub full_text : Facts → Instance → List ℕ → ℕ → List Event → List ℕ
+full_text facts i cursors pops stuck =
     findings facts i cursors stuck ++ used_line cursors ++ pops_line pops
+
+-- the summary of an end over the grid of a side: at a sample its sum, else how many events occur
+abbrev pub summary : ℕ → StackTable → List ℕ → ℕ → List Event → List ℕ
+summary side stacks cursors pops [] =
+    line (codes "s SAMPLE") ++ grid_line side ++ totals_line cursors ++ pops_line pops
+    ++ sum_line (slot_sum stacks cursors)
+summary side stacks cursors pops (e ∷ stuck) =
+    line (codes "s EXHAUSTED") ++ grid_line side ++ count_line (length (e ∷ stuck))
+    ++ totals_line cursors ++ pops_line pops
+
+-- the text of an end: of a made grid the summary, and else in full
+abbrev pub end_text : Facts → Instance → List ℕ → ℕ → List Event → List ℕ
+end_text (Made g side) i cursors pops stuck = summary side i.stacks cursors pops stuck
+end_text facts i cursors pops stuck = full_text facts i cursors pops stuck

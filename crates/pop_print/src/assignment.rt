@@ -2,6 +2,7 @@
 ghost use Rattle.std.specs.Prelude.{◌≡◌, ◌++◌, ◌∷◌, length, OnOk};
 ghost use Rattle.pop_model.specs.Stacks.{variables_of};
 ghost use Rattle.pop_model.specs.Popping.{AreWithin};
+ghost use Rattle.pop_stacks.specs.Readers.{Belongs};
 ghost use Rattle.pop_print.specs.Output.{literal_of, assignment_line};
 
 use pop_instance::Cursors;
@@ -25,15 +26,17 @@ fn push_literal(out: &mut Output, v: u32, x: u32) -> Result<(), AllocError>
 pub fn push_assignment(
     out: &mut Output,
     stacks: &Stacks,
+    reader: &mut Reader,
     cursors: &Cursors,
     count: u32,
 ) -> Result<(), AllocError>
     requires variables { variables_of stacks.now ≡ count }
     requires count { length cursors.now ≡ count }
     requires within { AreWithin stacks.now cursors.now }
-    ensures { OnOk result (out.new ≡ out.old ++ assignment_line stacks.now cursors.now) }
+    requires belongs { Belongs stacks.now reader.old }
+    ensures line { OnOk result (out.new ≡ out.old ++ assignment_line stacks.now cursors.now) }
+    ensures reader { reader.new ≡ reader.old }
 {
-    let mut reader = Reader::new(stacks);
     out.push(b"v")?;
     for v in 0..count {
         let x = reader.entry(stacks, v, cursors.get(v));

@@ -4,14 +4,17 @@
 
 mod arrow;
 mod assignment;
+mod counts;
 mod facts;
+mod line;
 mod orientation;
 mod printing;
 mod sample;
 mod stuck;
+mod summary;
 #[cfg(test)]
 mod tests;
 mod tree;
 
 pub use facts::Facts;
-pub use printing::text;
+pub use printing::{text, text_by};

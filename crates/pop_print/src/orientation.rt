@@ -2,6 +2,7 @@
 ghost use Rattle.std.specs.Prelude.{◌≡◌, ◌+◌, ◌<◌, ◌++◌, length, OnOk};
 ghost use Rattle.pop_model.specs.Stacks.{variables_of};
 ghost use Rattle.pop_model.specs.Popping.{AreWithin};
+ghost use Rattle.pop_stacks.specs.Readers.{Belongs};
 ghost use Rattle.pop_print.specs.Output.{oriented_line, orientation_lines};
 
 use crate::arrow::push_arrow;
@@ -26,15 +27,17 @@ pub fn push_orientation(
     out: &mut Output,
     graph: &Graph,
     stacks: &Stacks,
+    reader: &mut Reader,
     cursors: &Cursors,
 ) -> Result<(), AllocError>
     requires variables { variables_of stacks.now ≡ length graph.now.edges }
     requires count { length cursors.now ≡ length graph.now.edges }
     requires within { AreWithin stacks.now cursors.now }
-    ensures { OnOk result
+    requires belongs { Belongs stacks.now reader.old }
+    ensures lines { OnOk result
         (out.new ≡ out.old ++ orientation_lines graph.now stacks.now cursors.now) }
+    ensures reader { reader.new ≡ reader.old }
 {
-    let mut reader = Reader::new(stacks);
     for i in 0..graph.edges() {
         let x = reader.entry(stacks, i, cursors.get(i));
         push_oriented(out, graph.edge(i), i + 1, x)?;

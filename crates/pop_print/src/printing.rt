@@ -1,14 +1,18 @@
-ghost use Rattle.std.specs.Prelude.{◌≡◌, ◌++◌, length, OnOk, IfOk};
-ghost use Rattle.pop_model.specs.Stacks.{variables_of};
+ghost use Rattle.std.specs.Prelude.{◌≡◌, ◌++◌, OnOk, IfOk};
+ghost use Rattle.pop_stacks.specs.Readers.{Belongs};
 ghost use Rattle.pop_print.specs.Ends.{AreFactsOf, IsAtEnd};
-ghost use Rattle.pop_print.specs.Output.{findings, used_line, pops_line, end_text};
+ghost use Rattle.pop_print.specs.Output.{findings, full_text, end_text};
 
 use crate::Facts;
+use crate::counts::push_used;
+use crate::line::push_line;
 use crate::sample::push_sample;
 use crate::stuck::push_stuck;
+use crate::summary::push_summary;
 use confluence_core::End;
 use itoa::Buffer;
-use pop_instance::{Cursors, Instance};
+use pop_instance::Instance;
+use pop_stacks::Reader;
 use pop_text::Output;
 use std::alloc::{AllocError, Global};
 
@@ -18,59 +22,92 @@ fn push_findings(
     out: &mut Output,
     facts: &Facts,
     instance: &Instance,
+    reader: &mut Reader,
     end: &End,
 ) -> Result<(), AllocError>
     requires facts { AreFactsOf facts.now instance.now }
     requires end { IsAtEnd instance.now end.now.cursors end.now.stuck }
-    ensures { OnOk result
+    requires belongs { Belongs instance.now.stacks reader.old }
+    ensures text { OnOk result
         (out.new ≡ out.old ++ findings facts.now instance.now end.now.cursors end.now.stuck) }
+    ensures reader { reader.new ≡ reader.old }
 {
     // Read for its contract, which says that the units, and so all names, fit their type.
     let _units = instance.units();
     if end.stuck.len() == 0 {
         out.push(b"s SAMPLE\n")?;
-        push_sample(alloc, out, facts, instance, &end.cursors)
+        push_sample(alloc, out, facts, instance, reader, &end.cursors)
     } else {
         out.push(b"s EXHAUSTED\n")?;
         push_stuck(out, facts, instance.family(), &end.stuck)
     }
 }
 
-// The line of the cursors.
-fn push_used(out: &mut Output, cursors: &Cursors, count: u32) -> Result<(), AllocError>
-    requires { length cursors.now ≡ count }
-    ensures { OnOk result (out.new ≡ out.old ++ used_line cursors.now) }
+// The text of an end in full: what was found, the cursors, the number of pops.
+fn push_full(
+    alloc: Global,
+    out: &mut Output,
+    facts: &Facts,
+    instance: &Instance,
+    reader: &mut Reader,
+    end: &End,
+) -> Result<(), AllocError>
+    requires facts { AreFactsOf facts.now instance.now }
+    requires end { IsAtEnd instance.now end.now.cursors end.now.stuck }
+    requires belongs { Belongs instance.now.stacks reader.old }
+    ensures text { OnOk result (out.new ≡ out.old ++ full_text facts.now instance.now
+        end.now.cursors end.now.pops end.now.stuck) }
+    ensures reader { reader.new ≡ reader.old }
 {
-    out.push(b"used")?;
-    for v in 0..count {
-        out.push_spaced(u64::from(cursors.get(v)))?;
-    }
-    out.push(b"\n")
+    push_findings(alloc, out, facts, instance, reader, end)?;
+    push_used(out, &end.cursors, instance.stacks().count())?;
+    push_line(out, b"pops ", end.pops)
 }
 
-// The line of the number of pops.
-fn push_pops(out: &mut Output, pops: u64) -> Result<(), AllocError>
-    ensures { OnOk result (out.new ≡ out.old ++ pops_line pops) }
+// The text of an end: of a made grid the summary, and else in full.
+fn push_text(
+    alloc: Global,
+    out: &mut Output,
+    facts: &Facts,
+    instance: &Instance,
+    reader: &mut Reader,
+    end: &End,
+) -> Result<(), AllocError>
+    requires facts { AreFactsOf facts.now instance.now }
+    requires end { IsAtEnd instance.now end.now.cursors end.now.stuck }
+    requires belongs { Belongs instance.now.stacks reader.old }
+    ensures text { OnOk result (out.new ≡ out.old ++ end_text facts.now instance.now
+        end.now.cursors end.now.pops end.now.stuck) }
+    ensures reader { reader.new ≡ reader.old }
 {
-    out.push(b"pops ")?;
-    out.push_number(pops)?;
-    out.push(b"\n")
+    match facts {
+        Facts::Made(graph, side) => push_summary(out, graph, *side, instance, reader, end),
+        Facts::Formula(_) | Facts::Orient(_) | Facts::Tree(_, _) => {
+            push_full(alloc, out, facts, instance, reader, end)
+        }
+    }
 }
 
 // About how many bytes the text has: for each variable a cursor, mostly of one digit, and its name
-// with a sign and a space, or a line of three numbers.
+// with a sign and a space, or a line of three numbers; and a few lines, which are all of a summary.
 fn room_for(facts: &Facts, count: u32) -> usize {
     let digits = Buffer::new().format(count).len();
     let of_each = match facts {
         Facts::Formula(_) => digits + 4,
         Facts::Orient(_) | Facts::Tree(_, _) => 3 * digits + 7,
+        Facts::Made(_, _) => 0,
     };
-    count as usize * of_each + 64
+    count as usize * of_each + 128
 }
 
 /// The text of an end: `s SAMPLE` and the lines of the sample where no event occurs, else
 /// `s EXHAUSTED` and a line for each event that does; then the cursors and the number of pops.
 /// Variables, edges, vertices and events have printed numbers from 1 on.
+///
+/// Of a made grid it is a summary: the status; `grid` and the side; where events occur, `stuck` and
+/// how many do; `used`, the sum of the cursors and the greatest of them; `pops` and their number;
+/// and where no event occurs, `sum` and the sum, over the vertices but the root, of the vertex times
+/// its slot, which counts from 1 here.
 pub fn text(
     alloc: Global,
     facts: &Facts,
@@ -82,10 +119,28 @@ pub fn text(
     ensures { IfOk result (λ bytes. bytes.items
         ≡ end_text facts.now instance.now end.now.cursors end.now.pops end.now.stuck) }
 {
+    let mut reader = Reader::new(instance.stacks());
+    text_by(alloc, facts, instance, &mut reader, end)
+}
+
+/// The text of `text`, by a reader of the instance's stacks: that of the run has mostly kept the
+/// values that are printed.
+pub fn text_by(
+    alloc: Global,
+    facts: &Facts,
+    instance: &Instance,
+    reader: &mut Reader,
+    end: &End,
+) -> Result<Vec<u8>, AllocError>
+    requires facts { AreFactsOf facts.now instance.now }
+    requires end { IsAtEnd instance.now end.now.cursors end.now.stuck }
+    requires belongs { Belongs instance.now.stacks reader.old }
+    ensures text { IfOk result (λ bytes. bytes.items
+        ≡ end_text facts.now instance.now end.now.cursors end.now.pops end.now.stuck) }
+    ensures reader { reader.new ≡ reader.old }
+{
     let count = instance.stacks().count();
     let mut out = Output::with_room(alloc, room_for(facts, count))?;
-    push_findings(alloc, &mut out, facts, instance, end)?;
-    push_used(&mut out, &end.cursors, count)?;
-    push_pops(&mut out, end.pops)?;
+    push_text(alloc, &mut out, facts, instance, reader, end)?;
     Ok(out.into_bytes())
 }

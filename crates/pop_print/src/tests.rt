@@ -9,6 +9,8 @@ use std::alloc::Global;
 use std::process::Abort;
 use std::test::Fail;
 
+mod made;
+
 // The event of a clause, which occurs where each of these variables has this value.
 fn clause(rt: &impl Abort, number: u32, pairs: Vec<(u32, u32)>) -> (u32, Cube)
     requires { length pairs.items < 2 ^ 31 }

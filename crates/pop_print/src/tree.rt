@@ -3,6 +3,7 @@ ghost use Rattle.std.specs.Prelude.{◌≡◌, ◌+◌, ◌<◌, ◌++◌, ℕ, 
 ghost use Rattle.pop_model.specs.Stacks.{variables_of, domain_of};
 ghost use Rattle.pop_model.specs.Popping.{AreWithin};
 ghost use Rattle.pop_model.specs.Names.{vertex_of as vertex_named};
+ghost use Rattle.pop_stacks.specs.Readers.{Belongs};
 ghost use Rattle.graph_read.specs.Graphs.{IsVertex};
 ghost use Rattle.graph_read.specs.Incidence.{edges_at};
 ghost use Rattle.pop_print.specs.Output.{slot_line, tree_lines};
@@ -38,19 +39,21 @@ pub fn push_tree(
     graph: &Graph,
     root: u32,
     stacks: &Stacks,
+    reader: &mut Reader,
     cursors: &Cursors,
 ) -> Result<(), AllocError>
     requires root { IsVertex graph.now.vertices root }
     requires variables { variables_of stacks.now + 1 ≡ graph.now.vertices }
     requires count { length cursors.now ≡ variables_of stacks.now }
     requires within { AreWithin stacks.now cursors.now }
+    requires belongs { Belongs stacks.now reader.old }
     requires slots { (v : ℕ) → v < variables_of stacks.now
         → domain_of stacks.now v ≡ length (edges_at graph.now (vertex_named root v)) }
-    ensures { OnOk result
+    ensures lines { OnOk result
         (out.new ≡ out.old ++ tree_lines graph.now root stacks.now cursors.now) }
+    ensures reader { reader.new ≡ reader.old }
 {
     let incidence = Incidence::of(alloc, graph)?;
-    let mut reader = Reader::new(stacks);
     for v in 0..stacks.count() {
         let x = reader.entry(stacks, v, cursors.get(v));
         let vertex = vertex_of(root, v);

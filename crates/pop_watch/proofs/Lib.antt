@@ -1,7 +1,4 @@
-mod ChangedFront
 mod Counted
 mod Digits
-mod FirstOfKind
-mod ToldLog
 mod UpToLast
 mod Vectors

@@ -1,22 +1,25 @@
 -- The grammar leaves no choice: a list of words is the word of one command and the words of one list of options, and a
 -- first bad place is one in every language.
-use Rattle.std.proofs.Common.{refl, ◌-◌, ◌^◌, ◌&&◌, nat_le, Option, None, Some, option_map, unwrap_or, lit<, inl, inr, ◌≡◌, ℕ, suc, ◌<◌, ◌≤◌, List, [], ◌∷◌, ◌++◌, length, take, drop, sym, ap, subst, ◌∙◌, arith, append_assoc, take-append-drop}
+use Rattle.std.proofs.Common.{refl, ◌-◌, ◌^◌, ◌&&◌, nat_le, Option, None, Some, option_map, unwrap_or, IsSome, Contains, lit<, inl, inr, ◌≡◌, ℕ, suc, ◌<◌, ◌≤◌, List, [], ◌∷◌, ◌++◌, length, take, drop, sym, ap, subst, ◌∙◌, arith, append_assoc, take-append-drop}
 use Rattle.std.proofs.lemmas.List.{append-nil, take-take}
+use Rattle.std.proofs.lemmas.List.Elements.{Contains-append_cases}
 use Rattle.std.proofs.lemmas.Bool.{cases_lt}
 use Rattle.pop_model.specs.Languages.{Begins, IsFirstBad}
 use Rattle.pop_words.specs.declared.command.Command.{Command}
+use Rattle.pop_words.specs.declared.command.Command.TheVariants.{Make}
 use Rattle.pop_words.specs.declared.job.Job.{Job}
 use Rattle.pop_edge.specs.Numbers.{number_of}
 use Rattle.pop_words.specs.declared.option.OptionName.{OptionName}
-use Rattle.pop_words.specs.declared.option.OptionName.TheVariants.{Stacks, Key, Height, Workers, Root, Witness}
-use Rattle.pop_words.specs.Values.{number_between, rows_in, key_in, pair_in}
-use Rattle.pop_words.specs.Options.{command_word, default_job, row, set_rows, set_key, set_height, set_workers, set_root, set_witness}
+use Rattle.pop_words.specs.declared.option.OptionName.TheVariants.{Stacks, Key, Height, Workers, Root, Witness, Report, Grid}
+use Rattle.pop_words.specs.Values.{number_between, rows_in, key_in, pair_in, reports_in}
+use Rattle.pop_words.specs.Options.{command_word, default_job, makes, row, set_rows, set_key, set_height, set_workers, set_root, set_witness, set_reports, set_size}
 use Rattle.pop_words.proofs.ValuesLemmas.{passed}
 use Rattle.pop_words.proofs.ReadingLemmas.{both}
 use Rattle.std.proofs.lemmas.Bool.{leb-true}
-use Rattle.pop_words.specs.CommandLines.{Choice, words_of, AreOptions, Asks, job_from, set_option}
+use Rattle.pop_words.specs.CommandLines.{Choice, names_of, words_of, AreOptions, Asks, job_from, set_option}
 use Rattle.pop_words.proofs.OptionFacts.{same_command}
 use Rattle.pop_words.proofs.Chosen.{words_split}
+use Rattle.pop_words.proofs.Completing.{head_is}
 
 -- options with the same words are the same
 pub same_chosen : (xs zs : List Choice) → words_of xs ≡ words_of zs → xs ≡ zs
@@ -69,16 +72,14 @@ same_first_bad In xs p q first other = elim (cases_lt p q) [
   ]
 ]
 
--- ---- heights, workers and roots
+-- ---- heights, workers, roots and sizes
 
--- the height may be that of keyed stacks, the workers are few, and the root may be that of a tree
-pub record IsInRange (job : Job) : Type 0 where
-  pub some : 0 < job.height
-  pub short : job.height < 2 ^ 31
-  pub one : 0 < job.workers
-  pub few : job.workers ≤ 64
-  pub root : 0 < job.root
-  pub fits : job.root < 2 ^ 32
+-- The job is of the command. Its height may be that of keyed stacks, its workers are few, its root may be that of a
+-- tree, and its size is from the least on, and one that a grid may have.
+abbrev pub IsInRange : Command → ℕ → Job → Type 0
+IsInRange command least job =
+    (job.command ≡ command) × ((0 < job.height) × (job.height < 2 ^ 31)) × ((0 < job.workers) × (job.workers ≤ 64))
+    × ((0 < job.root) × (job.root < 2 ^ 32)) × ((least ≤ job.size) × (job.size ≤ 2048))
 
 -- a number between bounds is between them
 between : (low high n : ℕ) (word : List ℕ) → number_between low high word ≡ Some n → (low ≤ n) × (n ≤ high)
@@ -87,60 +88,112 @@ between low high n word read =
     let tests = both (nat_le low n) (nat_le n high) test in
     (leb-true low n tests.0, leb-true n high tests.1)
 
--- an option leaves height and root in range
-keeps_range : (o : OptionName) (word : List ℕ) (job : Job) (set : Job → Job) → (row o).value word ≡ Some set
-    → IsInRange job → IsInRange (set job)
-keeps_range o word job set value is = by_option o value
-  where
-    of_map : {X : Type 0} (put : X → Job → Job) (read : Option X) → ((x : X) → read ≡ Some x → IsInRange (put x job))
-        → option_map put read ≡ Some set → IsInRange (set job)
-    of_map put None each some = absurd (cc)
-    of_map put (Some x) each some = let same : put x ≡ set = cc in subst (λ f. IsInRange (f job)) same (each x refl)
+-- what is so with each value that may be read is so with the one that was
+of_map : {X : Type 0} (Is : Job → Type 0) (job : Job) (set : Job → Job) (put : X → Job → Job) (read : Option X)
+    → ((x : X) → read ≡ Some x → Is (put x job)) → option_map put read ≡ Some set → Is (set job)
+of_map Is job set put None each some = absurd (cc)
+of_map Is job set put (Some x) each some = let same : put x ≡ set = cc in subst (λ f. Is (f job)) same (each x refl)
 
-    by_option : (p : OptionName) → (row p).value word ≡ Some set → IsInRange (set job)
-    by_option Stacks some = of_map set_rows (rows_in word)
-        (λ rows read. record { some = is.some; short = is.short; one = is.one; few = is.few; root = is.root; fits = is.fits }) some
-    by_option Key some = of_map set_key (key_in word)
-        (λ key read. record { some = is.some; short = is.short; one = is.one; few = is.few; root = is.root; fits = is.fits }) some
-    by_option Height some = of_map set_height (number_between 1 (2 ^ 31 - 1) word)
+-- an option leaves the command, and the numbers in range
+keeps_range : (command : Command) (least : ℕ) → least ≤ 1
+    → (o : OptionName) (word : List ℕ) (job : Job) (set : Job → Job) → (row o).value word ≡ Some set
+    → IsInRange command least job → IsInRange command least (set job)
+keeps_range command least low o word job set value is = by_option o value
+  where
+    by_option : (p : OptionName) → (row p).value word ≡ Some set → IsInRange command least (set job)
+    by_option Stacks some = of_map (IsInRange command least) job set set_rows (rows_in word) (λ rows read. is) some
+    by_option Key some = of_map (IsInRange command least) job set set_key (key_in word) (λ key read. is) some
+    by_option Height some = of_map (IsInRange command least) job set set_height (number_between 1 (2 ^ 31 - 1) word)
         (λ n read. let bounds = between 1 (2 ^ 31 - 1) n word read in
-        record { some = omega arith; short = omega arith; one = is.one; few = is.few; root = is.root; fits = is.fits }) some
-    by_option Workers some = of_map set_workers (number_between 1 64 word)
+        (is.0, (omega arith, omega arith), is.2, is.3, is.4)) some
+    by_option Workers some = of_map (IsInRange command least) job set set_workers (number_between 1 64 word)
         (λ n read. let bounds = between 1 64 n word read in
-        record { some = is.some; short = is.short; one = omega arith; few = omega arith; root = is.root; fits = is.fits }) some
-    by_option Root some = of_map set_root (number_between 1 (2 ^ 32 - 1) word)
+        (is.0, is.1, (omega arith, omega arith), is.3, is.4)) some
+    by_option Root some = of_map (IsInRange command least) job set set_root (number_between 1 (2 ^ 32 - 1) word)
         (λ n read. let bounds = between 1 (2 ^ 32 - 1) n word read in
-        record { some = is.some; short = is.short; one = is.one; few = is.few; root = omega arith; fits = omega arith }) some
-    by_option Witness some = of_map set_witness (pair_in word)
-        (λ pair read. record { some = is.some; short = is.short; one = is.one; few = is.few; root = is.root; fits = is.fits }) some
+        (is.0, is.1, is.2, (omega arith, omega arith), is.4)) some
+    by_option Witness some = of_map (IsInRange command least) job set set_witness (pair_in word) (λ pair read. is) some
+    by_option Report some = of_map (IsInRange command least) job set set_reports (reports_in word)
+        (λ reports read. is) some
+    by_option Grid some = of_map (IsInRange command least) job set set_size (number_between 1 2048 word)
+        (λ n read. let bounds = between 1 2048 n word read in
+        (is.0, is.1, is.2, is.3, (omega arith, bounds.1))) some
 
--- so do options one after another
-jobs_range : (job : Job) (command : Command) (before : List OptionName) (chosen : List Choice)
-    → AreOptions command before chosen → IsInRange job
-    → IsInRange (job_from job chosen)
-jobs_range job command before [] options is = is
-jobs_range job command before (p ∷ chosen) options is =
-    jobs_range (set_option job p) command (before ++ p.0 ∷ []) chosen options.2
-    (by_value ((row p.0).value p.1) refl)
+-- so does a choice
+choice_range : (command : Command) (least : ℕ) → least ≤ 1 → (job : Job) (p : Choice) → IsInRange command least job
+    → IsInRange command least (set_option job p)
+choice_range command least low job p is = by_value ((row p.0).value p.1) refl
   where
-    by_value : (value : Option (Job → Job)) → (row p.0).value p.1 ≡ value → IsInRange (unwrap_or value (λ j. j) job)
+    by_value : (value : Option (Job → Job)) → (row p.0).value p.1 ≡ value
+        → IsInRange command least (unwrap_or value (λ j. j) job)
     by_value None none = is
-    by_value (Some set) some = keeps_range p.0 p.1 job set some is
+    by_value (Some set) some = keeps_range command least low p.0 p.1 job set some is
 
--- a job that is asked for has all three in range
-asked_range : (words : List (List ℕ)) (job : Job) → Asks words job → IsInRange job
-asked_range words job asks = subst IsInRange (sym asks.job_is)
-    (jobs_range (default_job asks.command) asks.command [] asks.chosen asks.options
-    (record { some = lit< tt; short = lit< tt; one = lit< tt; few = lit< tt; root = lit< tt; fits = lit< tt }))
+-- so do choices one after another
+choices_range : (command : Command) (least : ℕ) → least ≤ 1 → (job : Job) (chosen : List Choice)
+    → IsInRange command least job → IsInRange command least (job_from job chosen)
+choices_range command least low job [] is = is
+choices_range command least low job (p ∷ chosen) is =
+    choices_range command least low (set_option job p) chosen (choice_range command least low job p is)
+
+-- `grid` makes the size one from 1 on
+grid_sizes : (command : Command) (job : Job) (p : Choice) → p.0 ≡ Grid → IsSome ((row p.0).value p.1)
+    → IsInRange command 0 job → IsInRange command 1 (set_option job p)
+grid_sizes command job (o, word) named value is =
+    subst (λ x. IsSome ((row x).value word) → IsInRange command 1 (set_option job (x, word))) (sym named)
+    (λ some. by_number (number_between 1 2048 word) refl some) value
+  where
+    by_number : (read : Option ℕ) → number_between 1 2048 word ≡ read → IsSome (option_map set_size read)
+        → IsInRange command 1 (unwrap_or (option_map set_size read) (λ j. j) job)
+    by_number None none some = absurd (cc)
+    by_number (Some n) read some = (is.0, is.1, is.2, is.3, between 1 2048 n word read)
+
+-- where `grid` is among the choices, the size is from 1 on
+choices_size : (command : Command) (before : List OptionName) (job : Job) (chosen : List Choice)
+    → AreOptions command before chosen → Contains (names_of chosen) Grid → IsInRange command 0 job
+    → IsInRange command 1 (job_from job chosen)
+choices_size command before job [] options (k, within, at) is = absurd (omega arith)
+choices_size command before job (p ∷ chosen) options among is =
+    elim (Contains-append_cases (p.0 ∷ []) (names_of chosen) Grid among) [
+      | inl first ↦ choices_range command 1 (omega arith) (set_option job p) chosen
+          (grid_sizes command job p (head_is p.0 Grid first) options.1 is)
+      | inr later ↦ choices_size command (before ++ p.0 ∷ []) (set_option job p) chosen options.2 later
+          (choice_range command 0 (omega arith) job p is)
+    ]
+
+-- with no option the numbers are in range
+default_range : (command : Command) → IsInRange command 0 (default_job command)
+default_range command =
+    (refl, (lit< tt, lit< tt), (lit< tt, lit< tt), (lit< tt, lit< tt), (omega arith, omega arith))
+
+-- a job that is asked for has its numbers in range
+asked_range : (words : List (List ℕ)) (job : Job) (asks : Asks words job) → IsInRange asks.command 0 job
+asked_range words job asks = subst (IsInRange asks.command 0) (sym asks.job_is)
+    (choices_range asks.command 0 (omega arith) (default_job asks.command) asks.chosen (default_range asks.command))
 
 -- it has a height that keyed stacks may have
 pub asked_height : (words : List (List ℕ)) (job : Job) → Asks words job → (0 < job.height) × (job.height < 2 ^ 31)
-asked_height words job asks = let is = asked_range words job asks in (is.some, is.short)
+asked_height words job asks = (asked_range words job asks).1
 
 -- from 1 to 64 workers
 pub asked_workers : (words : List (List ℕ)) (job : Job) → Asks words job → (0 < job.workers) × (job.workers ≤ 64)
-asked_workers words job asks = let is = asked_range words job asks in (is.one, is.few)
+asked_workers words job asks = (asked_range words job asks).2
 
--- and a root from 1 on
+-- a root from 1 on
 pub asked_root : (words : List (List ℕ)) (job : Job) → Asks words job → (0 < job.root) × (job.root < 2 ^ 32)
-asked_root words job asks = let is = asked_range words job asks in (is.root, is.fits)
+asked_root words job asks = (asked_range words job asks).3
+
+-- where a grid is made its size is from 1 on, since `grid` is needed there
+made_size : (words : List (List ℕ)) (job : Job) → Asks words job → job.command ≡ Make → 0 < job.size
+made_size words job asks made =
+    let command : asks.command ≡ Make = sym (asked_range words job asks).0 ∙ made in
+    let stands = asks.complete Grid (ap makes command) refl in
+    let is = subst (IsInRange asks.command 1) (sym asks.job_is)
+    (choices_size asks.command [] (default_job asks.command) asks.chosen asks.options stands
+    (default_range asks.command)) in
+    is.4.0
+
+-- and a size that a grid may have, from 1 on where a grid is made
+pub asked_size : (words : List (List ℕ)) (job : Job) → Asks words job
+    → (job.size ≤ 2048) × (job.command ≡ Make → 0 < job.size)
+asked_size words job asks = ((asked_range words job asks).4.1, made_size words job asks)

@@ -1,6 +1,7 @@
 pub mod ValuesLemmas
 pub mod Parts
 pub mod RowParts
+pub mod ReportParts
 pub mod OptionFacts
 pub mod Chosen
 pub mod Completing

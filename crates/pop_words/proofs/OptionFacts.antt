@@ -7,9 +7,9 @@ use Rattle.std.specs.Str.{bytes_eq}
 use Rattle.std.proofs.lemmas.Slice.Eq.{bytes_eq-Decides}
 use Rattle.hex.proofs.OnLiterals.{hex_on_literals}
 use Rattle.pop_words.specs.declared.command.Command.{Command}
-use Rattle.pop_words.specs.declared.command.Command.TheVariants.{Formula, Orient, Tree, Resample, Check}
+use Rattle.pop_words.specs.declared.command.Command.TheVariants.{Formula, Orient, Tree, Resample, Check, Make}
 use Rattle.pop_words.specs.declared.option.OptionName.{OptionName}
-use Rattle.pop_words.specs.declared.option.OptionName.TheVariants.{Stacks, Key, Height, Workers, Root, Witness}
+use Rattle.pop_words.specs.declared.option.OptionName.TheVariants.{Stacks, Key, Height, Workers, Root, Witness, Report, Grid}
 use Rattle.pop_words.specs.Options.{commands, command_word, options, row}
 use Rattle.pop_words.specs.CommandLines.{AreCompatible}
 use Rattle.pop_words.specs.Reading.{option_named, command_named, same_name}
@@ -23,6 +23,7 @@ commanded_again Orient = refl
 commanded_again Tree = refl
 commanded_again Resample = refl
 commanded_again Check = refl
+commanded_again Make = refl
 
 -- its name stands for an option, and for no other
 pub named_again : (o : OptionName) → option_named (row o).name ≡ Some o
@@ -32,6 +33,8 @@ named_again Height = refl
 named_again Workers = refl
 named_again Root = refl
 named_again Witness = refl
+named_again Report = refl
+named_again Grid = refl
 
 -- it stands in the list of all options
 pub among_options : (o : OptionName) → Contains options o
@@ -41,6 +44,8 @@ among_options Height = (2, omega arith, refl)
 among_options Workers = (3, omega arith, refl)
 among_options Root = (4, omega arith, refl)
 among_options Witness = (5, omega arith, refl)
+among_options Report = (6, omega arith, refl)
+among_options Grid = (7, omega arith, refl)
 
 -- a word that each option takes as its value
 abbrev pub example : OptionName → List ℕ
@@ -50,6 +55,8 @@ example Height = codes "1"
 example Workers = codes "1"
 example Root = codes "1"
 example Witness = codes "1,0"
+example Report = codes "totals"
+example Grid = codes "1"
 
 -- it is a value of it
 pub example_is_value : (o : OptionName) → IsSome ((row o).value (example o))
@@ -60,6 +67,19 @@ example_is_value Height = refl
 example_is_value Workers = refl
 example_is_value Root = refl
 example_is_value Witness = refl
+example_is_value Report = refl
+example_is_value Grid = refl
+
+-- no option excludes `grid`
+none_excludes_grid : (o : OptionName) → (row o).excludes Grid ≡ false
+none_excludes_grid Stacks = refl
+none_excludes_grid Key = refl
+none_excludes_grid Height = refl
+none_excludes_grid Workers = refl
+none_excludes_grid Root = refl
+none_excludes_grid Witness = refl
+none_excludes_grid Report = refl
+none_excludes_grid Grid = refl
 
 -- a needed option may stand beside each other one
 pub needed_is_compatible : (o other : OptionName) → (row o).needed ≡ true → other ≢ o → AreCompatible other o
@@ -69,6 +89,9 @@ needed_is_compatible Height other needed differ = absurd (cc)
 needed_is_compatible Workers other needed differ = absurd (cc)
 needed_is_compatible Root other needed differ = absurd (cc)
 needed_is_compatible Witness other needed differ = absurd (cc)
+needed_is_compatible Report other needed differ = absurd (cc)
+needed_is_compatible Grid other needed differ =
+    record { different = differ; keeps = none_excludes_grid other; kept_by = refl }
 
 -- ---- names and words tell apart
 

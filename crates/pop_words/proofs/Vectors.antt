@@ -1,9 +1,9 @@
 -- Worked values of the grammar, so that a wrong row of the table doesn't check.
-use Rattle.std.proofs.Common.{◌≡◌, ℕ, List, [], ◌∷◌, ◌++◌, None, Some, refl, codes, replicate}
+use Rattle.std.proofs.Common.{◌≡◌, ℕ, true, false, List, [], ◌∷◌, ◌++◌, None, Some, refl, codes, replicate}
 use Rattle.hex.proofs.OnLiterals.{hex_on_literals}
 use Rattle.pop_stacks.specs.declared.stack_spec.StackSpec.TheVariants.{Given, Key}
-use Rattle.pop_words.specs.declared.command.Command.TheVariants.{Formula, Orient, Tree, Check}
-use Rattle.pop_words.specs.Values.{number_between, rows_in, key_in}
+use Rattle.pop_words.specs.declared.command.Command.TheVariants.{Formula, Orient, Tree, Resample, Check, Make}
+use Rattle.pop_words.specs.Values.{number_between, rows_in, key_in, no_reports, reports_in}
 use Rattle.pop_words.specs.CommandLines.{Asks, IsBadPlace}
 use Rattle.pop_words.proofs.ReadingLemmas.{reading_is}
 
@@ -52,6 +52,27 @@ no_root = refl
 past_the_greatest_root : number_between 1 4294967295 (codes "4294967296") ≡ None
 past_the_greatest_root = refl
 
+greatest_grid : number_between 1 2048 (codes "2048") ≡ Some 2048
+greatest_grid = refl
+
+past_the_greatest_grid : number_between 1 2048 (codes "2049") ≡ None
+past_the_greatest_grid = refl
+
+totals_alone : reports_in (codes "totals") ≡ Some (record { totals = true; heights = false })
+totals_alone = refl
+
+heights_in_front : reports_in (codes "heights,totals") ≡ Some (record { totals = true; heights = true })
+heights_in_front = refl
+
+no_name_of_a_report : reports_in [] ≡ None
+no_name_of_a_report = refl
+
+an_empty_name_behind : reports_in (codes "totals,") ≡ None
+an_empty_name_behind = refl
+
+heights_twice : reports_in (codes "heights,totals,heights") ≡ None
+heights_twice = refl
+
 -- ---- jobs
 
 abbrev zeros : List ℕ
@@ -65,6 +86,8 @@ formula_alone : Asks (codes "formula" ∷ []) (record {
   workers = 1;
   root = 1;
   witness = None;
+  reports = record { totals = false; heights = false };
+  size = 0;
 })
 formula_alone = reading_is (codes "formula" ∷ [])
 
@@ -76,29 +99,116 @@ check_alone : Asks (codes "check" ∷ []) (record {
   workers = 1;
   root = 1;
   witness = None;
+  reports = record { totals = false; heights = false };
+  size = 0;
 })
 check_alone = reading_is (codes "check" ∷ [])
 
 orient_alone : Asks (codes "orient" ∷ [])
-    (record { command = Orient; stacks = Key (replicate 32 0); height = 1048576; workers = 1; root = 1; witness = None })
+    (record {
+      command = Orient;
+      stacks = Key (replicate 32 0);
+      height = 1048576;
+      workers = 1;
+      root = 1;
+      witness = None;
+      reports = no_reports;
+      size = 0;
+    })
 orient_alone = reading_is (codes "orient" ∷ [])
 
 tree_alone : Asks (codes "tree" ∷ [])
-    (record { command = Tree; stacks = Key (replicate 32 0); height = 1048576; workers = 1; root = 1; witness = None })
+    (record {
+      command = Tree;
+      stacks = Key (replicate 32 0);
+      height = 1048576;
+      workers = 1;
+      root = 1;
+      witness = None;
+      reports = no_reports;
+      size = 0;
+    })
 tree_alone = reading_is (codes "tree" ∷ [])
 
 height_behind_root : Asks (codes "tree" ∷ codes "--root" ∷ codes "03" ∷ codes "--height" ∷ codes "9" ∷ [])
-    (record { command = Tree; stacks = Key (replicate 32 0); height = 9; workers = 1; root = 3; witness = None })
+    (record {
+      command = Tree;
+      stacks = Key (replicate 32 0);
+      height = 9;
+      workers = 1;
+      root = 3;
+      witness = None;
+      reports = no_reports;
+      size = 0;
+    })
 height_behind_root = reading_is (codes "tree" ∷ codes "--root" ∷ codes "03" ∷ codes "--height" ∷ codes "9" ∷ [])
 
 rows_for_a_formula : Asks (codes "formula" ∷ codes "--stacks" ∷ codes "0,0,1" ∷ [])
-    (record { command = Formula; stacks = Given ((0 ∷ 0 ∷ 1 ∷ []) ∷ []); height = 1048576; workers = 1; root = 1; witness = None })
+    (record {
+      command = Formula;
+      stacks = Given ((0 ∷ 0 ∷ 1 ∷ []) ∷ []);
+      height = 1048576;
+      workers = 1;
+      root = 1;
+      witness = None;
+      reports = no_reports;
+      size = 0;
+    })
 rows_for_a_formula = reading_is (codes "formula" ∷ codes "--stacks" ∷ codes "0,0,1" ∷ [])
 
 key_behind_height : Asks (codes "formula" ∷ codes "--height" ∷ codes "9" ∷ codes "--key" ∷ zeros ∷ [])
-    (record { command = Formula; stacks = Key (replicate 32 0); height = 9; workers = 1; root = 1; witness = None })
+    (record {
+      command = Formula;
+      stacks = Key (replicate 32 0);
+      height = 9;
+      workers = 1;
+      root = 1;
+      witness = None;
+      reports = no_reports;
+      size = 0;
+    })
 unfolding hex_on_literals
 key_behind_height = reading_is (codes "formula" ∷ codes "--height" ∷ codes "9" ∷ codes "--key" ∷ zeros ∷ [])
+
+both_reports : Asks (codes "resample" ∷ codes "--report" ∷ codes "heights,totals" ∷ [])
+    (record {
+      command = Resample;
+      stacks = Key (replicate 32 0);
+      height = 1048576;
+      workers = 1;
+      root = 1;
+      witness = None;
+      reports = record { totals = true; heights = true };
+      size = 0;
+    })
+both_reports = reading_is (codes "resample" ∷ codes "--report" ∷ codes "heights,totals" ∷ [])
+
+grid_behind_key : Asks (codes "make" ∷ codes "--key" ∷ zeros ∷ codes "grid" ∷ codes "2" ∷ [])
+    (record {
+      command = Make;
+      stacks = Key (replicate 32 0);
+      height = 1048576;
+      workers = 1;
+      root = 1;
+      witness = None;
+      reports = no_reports;
+      size = 2;
+    })
+unfolding hex_on_literals
+grid_behind_key = reading_is (codes "make" ∷ codes "--key" ∷ zeros ∷ codes "grid" ∷ codes "2" ∷ [])
+
+workers_behind_grid : Asks (codes "make" ∷ codes "grid" ∷ codes "2048" ∷ codes "--workers" ∷ codes "2" ∷ [])
+    (record {
+      command = Make;
+      stacks = Key (replicate 32 0);
+      height = 1048576;
+      workers = 2;
+      root = 1;
+      witness = None;
+      reports = no_reports;
+      size = 2048;
+    })
+workers_behind_grid = reading_is (codes "make" ∷ codes "grid" ∷ codes "2048" ∷ codes "--workers" ∷ codes "2" ∷ [])
 
 -- ---- bad places
 
@@ -147,3 +257,28 @@ height_behind_the_stacks_of_a_tree : IsBadPlace (codes "tree" ∷ codes "--stack
     codes "5" ∷ []) 4
 height_behind_the_stacks_of_a_tree = reading_is (codes "tree" ∷ codes "--stacks" ∷ codes "0" ∷ codes "--height" ∷
     codes "5" ∷ [])
+
+make_alone : IsBadPlace (codes "make" ∷ []) 2
+make_alone = reading_is (codes "make" ∷ [])
+
+make_without_its_grid : IsBadPlace (codes "make" ∷ codes "--key" ∷ zeros ∷ []) 4
+unfolding hex_on_literals
+make_without_its_grid = reading_is (codes "make" ∷ codes "--key" ∷ zeros ∷ [])
+
+grid_of_none : IsBadPlace (codes "make" ∷ codes "grid" ∷ codes "0" ∷ []) 3
+grid_of_none = reading_is (codes "make" ∷ codes "grid" ∷ codes "0" ∷ [])
+
+grid_twice : IsBadPlace (codes "make" ∷ codes "grid" ∷ codes "2" ∷ codes "grid" ∷ codes "2" ∷ []) 4
+grid_twice = reading_is (codes "make" ∷ codes "grid" ∷ codes "2" ∷ codes "grid" ∷ codes "2" ∷ [])
+
+a_grid_of_a_formula : IsBadPlace (codes "formula" ∷ codes "grid" ∷ codes "2" ∷ []) 2
+a_grid_of_a_formula = reading_is (codes "formula" ∷ codes "grid" ∷ codes "2" ∷ [])
+
+a_root_of_make : IsBadPlace (codes "make" ∷ codes "--root" ∷ codes "1" ∷ codes "grid" ∷ codes "2" ∷ []) 2
+a_root_of_make = reading_is (codes "make" ∷ codes "--root" ∷ codes "1" ∷ codes "grid" ∷ codes "2" ∷ [])
+
+a_report_of_a_tree : IsBadPlace (codes "tree" ∷ codes "--report" ∷ codes "totals" ∷ []) 2
+a_report_of_a_tree = reading_is (codes "tree" ∷ codes "--report" ∷ codes "totals" ∷ [])
+
+totals_twice : IsBadPlace (codes "resample" ∷ codes "--report" ∷ codes "totals,totals" ∷ []) 3
+totals_twice = reading_is (codes "resample" ∷ codes "--report" ∷ codes "totals,totals" ∷ [])

@@ -1,5 +1,6 @@
 -- The laws of the grammar: it leaves the reading of words no choice, and its jobs can be done.
-use Rattle.std.specs.Prelude.{◌≡◌, ◌⊎◌, ℕ, ◌^◌, ◌<◌, List}
+use Rattle.std.specs.Prelude.{◌≡◌, ◌⊎◌, ℕ, ◌^◌, ◌<◌, ◌≤◌, List}
+use Rattle.pop_words.specs.declared.command.Command.TheVariants.{Make}
 use Rattle.pop_words.specs.declared.job.Job.{Job}
 use Rattle.pop_words.specs.CommandLines.{Asks, AreWords, IsBadPlace}
 
@@ -24,3 +25,8 @@ HeightInRange = (words : List (List ℕ)) (job : Job) → Asks words job
 abbrev pub RootInRange : Type 0
 RootInRange = (words : List (List ℕ)) (job : Job) → Asks words job
     → (0 < job.root) × (job.root < 2 ^ 32)
+
+-- a size that is asked for is one that a grid may have, and from 1 on where a grid is made
+abbrev pub SizeInRange : Type 0
+SizeInRange = (words : List (List ℕ)) (job : Job) → Asks words job
+    → (job.size ≤ 2048) × (job.command ≡ Make → 0 < job.size)

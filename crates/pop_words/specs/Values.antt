@@ -1,9 +1,11 @@
 -- How the value of an option is read from its word.
-use Rattle.std.specs.Prelude.{ℕ, ◌^◌, Bool, ◌&&◌, ◌==◌, nat_le, if◌then◌else◌, List, [], ◌∷◌, length, sum_by, Option, None, Some, option_and_then}
-use Rattle.std.specs.List.{slice_split}
+use Rattle.std.specs.Prelude.{ℕ, ◌^◌, Bool, true, false, not, ◌&&◌, ◌||◌, ◌==◌, nat_le, if◌then◌else◌, List, [], ◌∷◌, length, sum_by, Option, None, Some, option_and_then, codes}
+use Rattle.std.specs.List.{list_all, list_any, slice_split}
+use Rattle.std.specs.Str.{bytes_eq}
 use Rattle.std.specs.Result.{result_ok}
 use Rattle.hex.specs.Hex.{decode_sized}
 use Rattle.pop_edge.specs.Numbers.{number_of}
+use Rattle.pop_words.specs.declared.reports.Reports.{Reports}
 
 -- a value in front of the values that are read behind it
 abbrev pub cons_some : {Y : Type 0} → Option Y → Option (List Y) → Option (List Y)
@@ -62,3 +64,40 @@ pair_of numbers = None
 -- two numbers joined by `,`
 abbrev pub pair_in : List ℕ → Option (ℕ × ℕ)
 pair_in word = option_and_then pair_of (row_in word)
+
+-- no report
+abbrev pub no_reports : Reports
+no_reports = record { totals = false; heights = false }
+
+-- the names of the two reports
+abbrev pub totals_name : List ℕ
+totals_name = codes "totals"
+
+abbrev pub heights_name : List ℕ
+heights_name = codes "heights"
+
+-- a part is the name of a report
+abbrev pub is_report : List ℕ → Bool
+is_report part = bytes_eq part totals_name || bytes_eq part heights_name
+
+-- no part stands twice
+abbrev pub are_different : List (List ℕ) → Bool
+are_different [] = true
+are_different (part ∷ parts) = not (list_any (bytes_eq part) parts) && are_different parts
+
+-- the parts are names of reports, each at most once
+abbrev pub are_reports : List (List ℕ) → Bool
+are_reports parts = list_all is_report parts && are_different parts
+
+-- the reports whose names stand among the parts
+abbrev pub reports_among : List (List ℕ) → Reports
+reports_among parts =
+    record {
+      totals = list_any (bytes_eq totals_name) parts;
+      heights = list_any (bytes_eq heights_name) parts;
+    }
+
+-- names of reports joined by `,`, each at most once
+abbrev pub reports_in : List ℕ → Option Reports
+reports_in word =
+    if are_reports (comma_parts word) then Some (reports_among (comma_parts word)) else None

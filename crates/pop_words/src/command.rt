@@ -1,9 +1,9 @@
 // The commands.
 ghost use Rattle.std.specs.Prelude.{◌≡◌};
-ghost use Rattle.pop_words.specs.Options.{command_word, has_root, samples, tells_log};
+ghost use Rattle.pop_words.specs.Options.{command_word, has_root, makes, samples, tells_log};
 ghost use Rattle.pop_words.specs.Reading.{command_named};
 
-/// What is to be done with the formula or the graph on the input.
+/// What is to be done with the formula or the graph on the input, or with a graph that is made.
 #[derive(Clone, Copy, Debug, PartialEq, Eq)]
 pub enum Command {
     /// `formula`: sample a valuation that satisfies the formula.
@@ -17,15 +17,19 @@ pub enum Command {
     Resample,
     /// `check`: say whether the clauses of the formula are extremal.
     Check,
+    /// `make`: sample a spanning tree of a square grid that is made from a number, and tell it in
+    /// short.
+    Make,
 }
 
 impl Command {
-    const ALL: [Command; 5] = [
+    const ALL: [Command; 6] = [
         Command::Formula,
         Command::Orient,
         Command::Tree,
         Command::Resample,
         Command::Check,
+        Command::Make,
     ];
 
     // The word that stands for the command.
@@ -38,6 +42,7 @@ impl Command {
             Command::Tree => "tree",
             Command::Resample => "resample",
             Command::Check => "check",
+            Command::Make => "make",
         }
     }
 
@@ -46,18 +51,26 @@ impl Command {
         ensures { result ≡ samples self }
     {
         match self {
-            Command::Formula | Command::Orient | Command::Tree | Command::Resample => true,
+            Command::Formula
+            | Command::Orient
+            | Command::Tree
+            | Command::Resample
+            | Command::Make => true,
             Command::Check => false,
         }
     }
 
-    // Whether its samples have a root.
+    // Whether a root may be asked for.
     pub(crate) fn has_root(self) -> bool
         ensures { result ≡ has_root self }
     {
         match self {
             Command::Tree => true,
-            Command::Formula | Command::Orient | Command::Resample | Command::Check => false,
+            Command::Formula
+            | Command::Orient
+            | Command::Resample
+            | Command::Check
+            | Command::Make => false,
         }
     }
 
@@ -67,7 +80,22 @@ impl Command {
     {
         match self {
             Command::Resample => true,
-            Command::Formula | Command::Orient | Command::Tree | Command::Check => false,
+            Command::Formula | Command::Orient | Command::Tree | Command::Check | Command::Make =>
+                false,
+        }
+    }
+
+    // Whether its graph is made, and not read.
+    pub(crate) fn makes(self) -> bool
+        ensures { result ≡ makes self }
+    {
+        match self {
+            Command::Make => true,
+            Command::Formula
+            | Command::Orient
+            | Command::Tree
+            | Command::Resample
+            | Command::Check => false,
         }
     }
 

@@ -1,7 +1,7 @@
 // What the words ask for.
 ghost use Rattle.std.specs.Prelude.{◌≡◌};
 
-use crate::Command;
+use crate::{Command, Reports};
 use pop_stacks::StackSpec;
 
 /// What the words ask for. What no option says holds its default.
@@ -22,6 +22,11 @@ pub struct Job {
     /// The pop whose witness tree is asked for, by the printed name of a variable and the entry that
     /// the pop used, which counts from 0: those of `--witness`. None by default.
     pub witness: Option<(u32, u32)>,
+    /// The reports of the log that are asked for: those of `--report`. None by default.
+    pub reports: Reports,
+    /// The number of rows, and of columns, of the grid that is made, from 1 to 2048: that of
+    /// `grid`. 0 by default, for every command but `make`.
+    pub size: u32,
 }
 
 impl Job {
@@ -38,6 +43,8 @@ impl Job {
             workers: 1,
             root: 1,
             witness: None,
+            reports: Reports::none(),
+            size: 0,
         }
     }
 }

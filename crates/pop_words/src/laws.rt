@@ -1,6 +1,6 @@
 //! The laws of the grammar: it leaves the reading of words no choice. Each function's contract is
 //! the law.
-ghost use Rattle.pop_words.specs.Laws.{OneJob, OneBadPlace, JobOrBadPlace, HeightInRange, RootInRange};
+ghost use Rattle.pop_words.specs.Laws.{OneJob, OneBadPlace, JobOrBadPlace, HeightInRange, RootInRange, SizeInRange};
 
 /// A list of words asks for at most one job.
 pub fn one_job()
@@ -25,4 +25,9 @@ pub fn height_in_range()
 /// A root that is asked for is from 1 to 2^32 - 1.
 pub fn root_in_range()
     ensures { RootInRange }
+{}
+
+/// A size that is asked for is at most 2048, and from 1 on where a grid is made.
+pub fn size_in_range()
+    ensures { SizeInRange }
 {}

@@ -8,6 +8,7 @@ mod fault;
 mod job;
 pub mod laws;
 mod option;
+mod reports;
 #[cfg(test)]
 mod tests;
 mod value;
@@ -16,3 +17,4 @@ pub use command::Command;
 pub use command_line::read_words;
 pub use fault::WordFault;
 pub use job::Job;
+pub use reports::Reports;

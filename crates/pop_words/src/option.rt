@@ -5,7 +5,7 @@ ghost use Rattle.std.specs.List.{list_all, list_any};
 ghost use Rattle.pop_words.specs.Options.{row};
 ghost use Rattle.pop_words.specs.Reading.{option_named, compatible, may_follow, option_next, is_complete, same_name, stands_if_needed};
 
-use crate::value::{key_in, number_between, pair_in, rows_in};
+use crate::value::{key_in, number_between, pair_in, reports_in, rows_in};
 use crate::{Command, Job};
 use pop_stacks::StackSpec;
 use std::alloc::{AllocError, Global};
@@ -16,6 +16,9 @@ const MAX_HEIGHT: u32 = (1 << 31) - 1;
 // How many workers there may be.
 const MAX_WORKERS: u32 = 64;
 
+// How many rows, and columns, a grid may have.
+const MAX_SIZE: u32 = 2048;
+
 #[derive(Clone, Copy, Debug, PartialEq, Eq)]
 pub enum OptionName {
     Stacks,
@@ -24,16 +27,20 @@ pub enum OptionName {
     Workers,
     Root,
     Witness,
+    Report,
+    Grid,
 }
 
 impl OptionName {
-    const ALL: [OptionName; 6] = [
+    const ALL: [OptionName; 8] = [
         OptionName::Stacks,
         OptionName::Key,
         OptionName::Height,
         OptionName::Workers,
         OptionName::Root,
         OptionName::Witness,
+        OptionName::Report,
+        OptionName::Grid,
     ];
 
     // As it is written.
@@ -47,6 +54,8 @@ impl OptionName {
             OptionName::Workers => "--workers",
             OptionName::Root => "--root",
             OptionName::Witness => "--witness",
+            OptionName::Report => "--report",
+            OptionName::Grid => "grid",
         }
     }
 
@@ -88,6 +97,14 @@ impl OptionName {
                 })),
                 None => Ok(None),
             },
+            OptionName::Report => match reports_in(word) {
+                Some(reports) => Ok(Some(Job { reports, ..job })),
+                None => Ok(None),
+            },
+            OptionName::Grid => match number_between(1, MAX_SIZE, word) {
+                Some(size) => Ok(Some(Job { size, ..job })),
+                None => Ok(None),
+            },
         }
     }
 
@@ -100,7 +117,8 @@ impl OptionName {
                 command.samples()
             }
             OptionName::Root => command.has_root(),
-            OptionName::Witness => command.tells_log(),
+            OptionName::Witness | OptionName::Report => command.tells_log(),
+            OptionName::Grid => command.makes(),
         }
     }
 
@@ -114,7 +132,9 @@ impl OptionName {
             | OptionName::Height
             | OptionName::Workers
             | OptionName::Root
-            | OptionName::Witness => false,
+            | OptionName::Witness
+            | OptionName::Report
+            | OptionName::Grid => false,
         }
     }
 
@@ -123,12 +143,14 @@ impl OptionName {
         ensures { result ≡ (row self).needed }
     {
         match self {
+            OptionName::Grid => true,
             OptionName::Stacks
             | OptionName::Key
             | OptionName::Height
             | OptionName::Workers
             | OptionName::Root
-            | OptionName::Witness => false,
+            | OptionName::Witness
+            | OptionName::Report => false,
         }
     }
 

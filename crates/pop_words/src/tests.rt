@@ -21,6 +21,7 @@ fn shown(alloc: Global, read: Result<Job, WordFault>) -> Result<String, AllocErr
             Command::Tree => "tree",
             Command::Resample => "resample",
             Command::Check => "check",
+            Command::Make => "make",
         },
     )?;
     match &job.stacks {
@@ -44,6 +45,15 @@ fn shown(alloc: Global, read: Result<Job, WordFault>) -> Result<String, AllocErr
     }
     if let Some((name, entry)) = job.witness {
         write!(text, " witness {name} {entry}")?;
+    }
+    if job.reports.totals {
+        text.push_str(" totals")?;
+    }
+    if job.reports.heights {
+        text.push_str(" heights")?;
+    }
+    if job.size != 0 {
+        write!(text, " grid {}", job.size)?;
     }
     Ok(text)
 }
@@ -214,6 +224,73 @@ fn workers_and_witnesses_give_their_job(rt: HostRuntime) -> Result<(), Fail> {
 }
 
 #[test]
+fn a_grid_that_is_made_gives_its_job(rt: HostRuntime) -> Result<(), Fail> {
+    // Worked by hand.
+    let lines = [
+        ("make grid 2", "make key Z height 1048576 root 1 grid 2"),
+        (
+            "make --key Z grid 2",
+            "make key Z height 1048576 root 1 grid 2",
+        ),
+        (
+            "make grid 2048 --height 7",
+            "make key Z height 7 root 1 grid 2048",
+        ),
+        (
+            "make grid 0000000001",
+            "make key Z height 1048576 root 1 grid 1",
+        ),
+        (
+            "make --stacks 0;0;0 grid 2",
+            "make rows [0] [0] [0] height 1048576 root 1 grid 2",
+        ),
+        (
+            "make --workers 2 grid 2",
+            "make key Z height 1048576 root 1 workers 2 grid 2",
+        ),
+        (
+            "make --height 9 grid 3 --key Z --workers 64",
+            "make key Z height 9 root 1 workers 64 grid 3",
+        ),
+    ];
+    for (line, job) in lines {
+        assert_eq!(rt; answer(rt.alloc(), line)?.as_str(), job, "{line}");
+    }
+    Ok(())
+}
+
+#[test]
+fn reports_give_their_job(rt: HostRuntime) -> Result<(), Fail> {
+    // Worked by hand.
+    let lines = [
+        (
+            "resample --report totals",
+            "resample key Z height 1048576 root 1 totals",
+        ),
+        (
+            "resample --report heights",
+            "resample key Z height 1048576 root 1 heights",
+        ),
+        (
+            "resample --report totals,heights",
+            "resample key Z height 1048576 root 1 totals heights",
+        ),
+        (
+            "resample --report heights,totals",
+            "resample key Z height 1048576 root 1 totals heights",
+        ),
+        (
+            "resample --report heights --witness 1,0 --workers 2",
+            "resample key Z height 1048576 root 1 workers 2 witness 1 0 heights",
+        ),
+    ];
+    for (line, job) in lines {
+        assert_eq!(rt; answer(rt.alloc(), line)?.as_str(), job, "{line}");
+    }
+    Ok(())
+}
+
+#[test]
 fn words_outside_the_grammar_give_their_first_bad_place(rt: HostRuntime) -> Result<(), Fail> {
     // Worked by hand; 64 zeros are a key, 63 and 65 aren't.
     let lines = [
@@ -331,6 +408,65 @@ fn workers_and_witnesses_are_refused_at_their_first_bad_place(rt: HostRuntime) -
         ("resample --witness 1,0 --witness 1,0", "usage 4"),
         ("resample --stacks 0 --height 1", "usage 4"),
         ("resample --height 0", "usage 3"),
+    ];
+    for (line, place) in lines {
+        assert_eq!(rt; answer(rt.alloc(), line)?.as_str(), place, "{line}");
+    }
+    Ok(())
+}
+
+#[test]
+fn a_grid_that_is_made_is_refused_at_its_first_bad_place(rt: HostRuntime) -> Result<(), Fail> {
+    // Worked by hand.
+    let lines = [
+        ("makes", "usage 1"),
+        ("make", "usage 2"),
+        ("make 2", "usage 2"),
+        ("make --grid 2", "usage 2"),
+        ("make --root 1 grid 2", "usage 2"),
+        ("make --witness 1,1 grid 2", "usage 2"),
+        ("make --report totals grid 2", "usage 2"),
+        ("formula grid 2", "usage 2"),
+        ("check grid 2", "usage 2"),
+        ("make grid", "usage 3"),
+        ("make grid ", "usage 3"),
+        ("make grid 0", "usage 3"),
+        ("make grid 2049", "usage 3"),
+        ("make grid 2,2", "usage 3"),
+        ("make grid 00000000002", "usage 3"),
+        ("make --height 0 grid 2", "usage 3"),
+        ("make --key Z", "usage 4"),
+        ("make grid 2 grid 2", "usage 4"),
+        ("make --stacks 0 --height 5 grid 2", "usage 4"),
+        ("make --key Z --workers 2", "usage 6"),
+        ("make grid 2 --stacks 0 --key Z", "usage 6"),
+    ];
+    for (line, place) in lines {
+        assert_eq!(rt; answer(rt.alloc(), line)?.as_str(), place, "{line}");
+    }
+    Ok(())
+}
+
+#[test]
+fn reports_are_refused_at_their_first_bad_place(rt: HostRuntime) -> Result<(), Fail> {
+    // Worked by hand.
+    let lines = [
+        ("formula --report totals", "usage 2"),
+        ("orient --report totals", "usage 2"),
+        ("tree --report totals", "usage 2"),
+        ("check --report totals", "usage 2"),
+        ("resample --reports totals", "usage 2"),
+        ("resample --report", "usage 3"),
+        ("resample --report ", "usage 3"),
+        ("resample --report ,", "usage 3"),
+        ("resample --report totals,", "usage 3"),
+        ("resample --report ,heights", "usage 3"),
+        ("resample --report total", "usage 3"),
+        ("resample --report Totals", "usage 3"),
+        ("resample --report totals;heights", "usage 3"),
+        ("resample --report totals,totals", "usage 3"),
+        ("resample --report heights,totals,heights", "usage 3"),
+        ("resample --report totals --report heights", "usage 4"),
     ];
     for (line, place) in lines {
         assert_eq!(rt; answer(rt.alloc(), line)?.as_str(), place, "{line}");

@@ -1,7 +1,8 @@
 // Values of options, read from their words.
 ghost use Rattle.std.specs.Prelude.{◌≡◌, ◌∷◌, ◌&&◌, ℕ, List, IfOk, Option, option_map, vec_items};
-ghost use Rattle.pop_words.specs.Values.{number_between as number_between_of, key_in as key_of, row_in as row_of, rows_in as rows_of, pair_in as pair_of, only_if, fits_in};
+ghost use Rattle.pop_words.specs.Values.{number_between as number_between_of, key_in as key_of, row_in as row_of, rows_in as rows_of, pair_in as pair_of, reports_in as reports_of, only_if, fits_in};
 
+use crate::Reports;
 use hex::FromHex;
 use pop_edge::number;
 use pop_stacks::Rows;
@@ -81,4 +82,21 @@ pub fn pair_in(alloc: Global, word: &[u8]) -> Result<Option<(u32, u32)>, AllocEr
         return Ok(None);
     }
     Ok(Some((numbers[0], numbers[1])))
+}
+
+/// Names of reports joined by `,`, each at most once.
+pub fn reports_in(word: &[u8]) -> Option<Reports>
+    ensures { result ≡ reports_of word.now }
+{
+    let mut reports = Reports::none();
+    for part in word.split(|b| *b == b',') {
+        if part == "totals".as_bytes() && !reports.totals {
+            reports.totals = true;
+        } else if part == "heights".as_bytes() && !reports.heights {
+            reports.heights = true;
+        } else {
+            return None;
+        }
+    }
+    Some(reports)
 }

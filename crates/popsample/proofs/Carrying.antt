@@ -14,3 +14,8 @@ pub carried : {E : Type 0} (Comes Goes : Outcome → Type 0) (r : Result Answer 
     → IfOk r (λ a. AnswersBy Comes a.status a.text.items) → IfOk r (λ a. AnswersBy Goes a.status a.text.items)
 carried Comes Goes (Ok a) goes (o, comes, tells) = (o, goes o comes, tells)
 carried Comes Goes (Err e) goes tells = tt
+
+-- what holds of each answer
+pub if_ok : {X E : Type 0} (P Q : X → Type 0) (r : Result X E) → ((x : X) → P x → Q x) → IfOk r P → IfOk r Q
+if_ok P Q (Ok x) f holds = f x holds
+if_ok P Q (Err e) f holds = tt

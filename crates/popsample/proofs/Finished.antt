@@ -5,8 +5,9 @@ use Rattle.pop_model.specs.Instances.{Instance}
 use Rattle.pop_model.specs.Logs.{LogRecord, replay}
 use Rattle.pop_model.specs.Runs.{IsFinished, IsStuckList, start_of}
 use Rattle.pop_words.specs.declared.command.Command.{Command}
-use Rattle.pop_words.specs.declared.command.Command.TheVariants.{Formula, Orient, Tree, Resample, Check}
+use Rattle.pop_words.specs.declared.command.Command.TheVariants.{Formula, Orient, Tree, Resample, Check, Make}
 use Rattle.pop_words.specs.declared.job.Job.{Job}
+use Rattle.pop_watch.specs.Telling.{Watcher}
 use Rattle.pop_print.specs.declared.facts.Facts.{Facts}
 use Rattle.popsample.specs.Witnesses.{Witness}
 use Rattle.popsample.specs.Witnesses.Witness.{Unasked, Missing, Shown}
@@ -22,28 +23,31 @@ finished i c [] list none =
 finished i c (e ∷ stuck) list none = absurd (omega arith)
 
 -- the stuck list of a run's end
-stuck_list : (command : Command) (job : Job) (text : List ℕ) (facts : Facts) (i : Instance) (c : List ℕ) (pops : ℕ)
-    (stuck : List Event) → ComesOfCommand command job text (Ended facts i c pops stuck) → IsStuckList i c stuck
-stuck_list Formula job text facts i c pops stuck h =
+stuck_list : (command : Command) (job : Job) (ws : List Watcher) (text : List ℕ) (facts : Facts) (i : Instance) (c : List ℕ) (pops : ℕ)
+    (stuck : List Event) → ComesOfCommand command job ws text (Ended facts i c pops stuck) → IsStuckList i c stuck
+stuck_list Formula job ws text facts i c pops stuck h =
     let end = h.comes.1.end in subst (λ j. IsStuckList j c stuck) (sym end.1) end.2.stuck_list
-stuck_list Orient job text facts i c pops stuck h =
+stuck_list Orient job ws text facts i c pops stuck h =
     let end = h.comes.1.1.end in subst (λ j. IsStuckList j c stuck) (sym end.1) end.2.stuck_list
-stuck_list Tree job text facts i c pops stuck h =
+stuck_list Tree job ws text facts i c pops stuck h =
     let end = h.comes.2.1 in subst (λ j. IsStuckList j c stuck) (sym end.1) end.2.stuck_list
-stuck_list Resample job text facts i c pops stuck h = absurd h.comes.1.history
-stuck_list Check job text facts i c pops stuck h = absurd h.comes
+stuck_list Resample job ws text facts i c pops stuck h = absurd h.comes.1.history
+stuck_list Check job ws text facts i c pops stuck h = absurd h.comes
+stuck_list Make job ws text facts i c pops stuck h =
+    subst (λ j. IsStuckList j c stuck) (sym h.1.1) h.1.2.stuck_list
 
 -- that of a run with its log
-logged_stuck_list : (command : Command) (job : Job) (text : List ℕ) (facts : Facts) (i : Instance) (log : List LogRecord)
-    (stuck : List Event) (w : Witness) → ComesOfCommand command job text (Resampled facts i log stuck w)
+logged_stuck_list : (command : Command) (job : Job) (ws : List Watcher) (text : List ℕ) (facts : Facts) (i : Instance)
+    (log : List LogRecord) (stuck : List Event) (w : Witness) (b : List ℕ) → ComesOfCommand command job ws text (Resampled facts i log stuck w b)
     → IsStuckList i (replay (start_of i) log) stuck
-logged_stuck_list Formula job text facts i log stuck w h = absurd h.comes.1.end
-logged_stuck_list Orient job text facts i log stuck w h = absurd h.comes.1.1.end
-logged_stuck_list Tree job text facts i log stuck w h = absurd h.comes.2.1
-logged_stuck_list Resample job text facts i log stuck w h =
+logged_stuck_list Formula job ws text facts i log stuck w b h = absurd h.comes.1.end
+logged_stuck_list Orient job ws text facts i log stuck w b h = absurd h.comes.1.1.end
+logged_stuck_list Tree job ws text facts i log stuck w b h = absurd h.comes.2.1
+logged_stuck_list Resample job ws text facts i log stuck w b h =
     let history = h.comes.1.history in
     subst (λ j. IsStuckList j (replay (start_of j) log) stuck) (sym history.1) history.2.stuck_list
-logged_stuck_list Check job text facts i log stuck w h = absurd h.comes
+logged_stuck_list Check job ws text facts i log stuck w b h = absurd h.comes
+logged_stuck_list Make job ws text facts i log stuck w b h = absurd h.1
 
 -- a run with its log whose status is 0 has an empty stuck list
 none_stuck : (stuck : List Event) (w : Witness) → resampled_status stuck w ≡ 0 → end_status stuck ≡ 0
@@ -51,18 +55,19 @@ none_stuck stuck Unasked is = is
 none_stuck stuck (Missing name entry c) is = absurd (omega arith)
 none_stuck stuck (Shown tree) is = is
 
-pub sample_finished : (words : List (List ℕ)) (text : List ℕ) (o : Outcome) → IsOutcome words text o
+pub sample_finished : (words : List (List ℕ)) (ws : List Watcher) (text : List ℕ) (o : Outcome)
+    → IsOutcome words ws text o
     → status_of o ≡ 0 → EndsFinished o
-sample_finished words text (Ended facts i c pops stuck) h is =
-    finished i c stuck (stuck_list h.job.command h.job text facts i c pops stuck h.comes) is
-sample_finished words text (Resampled facts i log stuck w) h is =
+sample_finished words ws text (Ended facts i c pops stuck) h is =
+    finished i c stuck (stuck_list h.job.command h.job ws text facts i c pops stuck h.comes) is
+sample_finished words ws text (Resampled facts i log stuck w b) h is =
     finished i (replay (start_of i) log) stuck
-    (logged_stuck_list h.job.command h.job text facts i log stuck w h.comes) (none_stuck stuck w is)
-sample_finished words text (Usage p) h is = tt
-sample_finished words text (Unread r) h is = tt
-sample_finished words text (Isolated w) h is = tt
-sample_finished words text (NoRoot r) h is = tt
-sample_finished words text (CutOff w) h is = tt
-sample_finished words text (Unsound t f) h is = tt
-sample_finished words text (Clashes i j) h is = tt
-sample_finished words text (Extremal n) h is = tt
+    (logged_stuck_list h.job.command h.job ws text facts i log stuck w b h.comes) (none_stuck stuck w is)
+sample_finished words ws text (Usage p) h is = tt
+sample_finished words ws text (Unread r) h is = tt
+sample_finished words ws text (Isolated w) h is = tt
+sample_finished words ws text (NoRoot r) h is = tt
+sample_finished words ws text (CutOff w) h is = tt
+sample_finished words ws text (Unsound t f) h is = tt
+sample_finished words ws text (Clashes i j) h is = tt
+sample_finished words ws text (Extremal n) h is = tt

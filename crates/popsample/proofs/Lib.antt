@@ -1,6 +1,10 @@
 mod Carrying
+mod ChangedFront
+mod FaultNames
 mod Finished
+mod FirstOfKind
 mod GoodForms
+mod HandedWatchers
 mod Leasts
 mod Lifting
 mod MadeInstances
@@ -14,5 +18,5 @@ mod OneResampling
 mod OneSampling
 mod OneTree
 mod Statuses
-mod Telling
+mod ToldLog
 mod WitnessLemmas

@@ -1,5 +1,5 @@
 -- The instances that the program makes are those of the definitions, and can be told.
-use Rattle.std.proofs.Common.{◌≡◌, ℕ, ◌-◌, ◌<◌, List, [], length, get_or, refl, sym, ap, ◌∙◌, arith, zero-add}
+use Rattle.std.proofs.Common.{◌≡◌, ℕ, zero, suc, ◌-◌, ◌*◌, ◌<◌, ◌≤◌, List, [], Option, length, get_or, refl, sym, ap, subst, ◌∙◌, arith, zero-add}
 use Rattle.std.proofs.lemmas.List.{length-map}
 use Rattle.std.proofs.lemmas.List.FromFn.{length-map-range_with_len, get_or-map-range_with_len}
 use Rattle.pop_model.specs.Stacks.{StackTable, Origin}
@@ -11,7 +11,7 @@ use Rattle.graph_read.specs.Graphs.{GraphOf, IsVertex, edge_at}
 use Rattle.graph_read.specs.Incidence.{edges_at, other_end}
 use Rattle.cycle_popping.specs.Trees.{variable_of, heads_at, weights_at, heads_of_tree, weights_of_tree}
 use Rattle.pop_print.specs.Ends.{IsOfTree}
-use Rattle.popsample.specs.Trees.{tree_instance}
+use Rattle.popsample.specs.Trees.{cycles_instance, tree_instance}
 
 -- an instance over stacks of these weights
 pub same_instance : (s : StackTable) (weights : List (List ℕ)) (f : Family) (i : Instance)
@@ -40,7 +40,7 @@ slots_of_heads g root v below =
     ∙ length-map (edges_at g (vertex_of root v)) (λ i. variable_of root (other_end (edge_at g i) (vertex_of root v)))
 
 -- the instance of a graph's cycles is one of a tree
-pub tree_told : (origin : Origin) (g : GraphOf) (root : ℕ) → IsVertex g.vertices root
+tree_told : (origin : Origin) (g : GraphOf) (root : ℕ) → IsVertex g.vertices root
     → IsOfTree g root (tree_instance origin g root)
 tree_told origin g root root_is =
     let count = count_of_weights g root in
@@ -54,7 +54,7 @@ tree_told origin g root root_is =
     }
 
 -- each variable has a slot for each of its weights
-pub tree_fits : (s : StackTable) (g : GraphOf) (root : ℕ) → s.weights ≡ weights_of_tree g root
+tree_fits : (s : StackTable) (g : GraphOf) (root : ℕ) → s.weights ≡ weights_of_tree g root
     → FamilyFits s (Cycles (heads_of_tree g root))
 tree_fits s g root same =
     let heads = length-map-range_with_len (heads_at g root) 0 (g.vertices - 1) in
@@ -65,3 +65,23 @@ tree_fits s g root same =
           slots_of_heads g root v less ∙ sym (slots_of_weights g root v less)
           ∙ ap (λ w. length (get_or w v [])) (sym same),
     )
+
+-- arrows with the heads and weights of a graph's trees make an instance of these
+pub told_tree : (origin : Origin) (g : GraphOf) (root : ℕ) (weights : List (List ℕ)) (heads : List (List (Option ℕ)))
+    → IsVertex g.vertices root → weights ≡ weights_of_tree g root → heads ≡ heads_of_tree g root
+    → IsOfTree g root (cycles_instance origin weights heads)
+told_tree origin g root weights heads root_is weights_are heads_are =
+    subst (λ h. IsOfTree g root (cycles_instance origin weights h)) (sym heads_are)
+    (subst (λ w. IsOfTree g root (cycles_instance origin w (heads_of_tree g root))) (sym weights_are)
+    (tree_told origin g root root_is))
+
+-- and fit stacks of these weights
+pub fits_tree : (s : StackTable) (g : GraphOf) (root : ℕ) (heads : List (List (Option ℕ)))
+    → s.weights ≡ weights_of_tree g root → heads ≡ heads_of_tree g root → FamilyFits s (Cycles heads)
+fits_tree s g root heads weights_are heads_are =
+    subst (λ h. FamilyFits s (Cycles h)) (sym heads_are) (tree_fits s g root weights_are)
+
+-- a grid has a first vertex
+pub first_of_grid : (side : ℕ) → 1 ≤ side → IsVertex (side * side) 1
+first_of_grid zero some = absurd (omega arith)
+first_of_grid (suc k) some = record { first = omega arith; last = omega arith }

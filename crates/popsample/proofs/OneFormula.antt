@@ -61,7 +61,7 @@ running_cases origin f (Unsound t r) h = inr h
 running_cases origin f (Clashes i j) h = inl (i, j, refl, h)
 running_cases origin f (Extremal n) h = inr h
 running_cases origin f (Ended t i c n s) h = inr h
-running_cases origin f (Resampled t i l s w) h = inr h
+running_cases origin f (Resampled t i l s w b) h = inr h
 
 one_running : (origin : Origin) (f : Cnf) → IsOne (ComesOfRunning origin f)
 one_running origin f o p h h' = elim (running_cases origin f o h) [

@@ -49,7 +49,7 @@ orienting_cases origin g (Unsound t r) h = inr h
 orienting_cases origin g (Clashes i j) h = inr h
 orienting_cases origin g (Extremal n) h = inr h
 orienting_cases origin g (Ended t i c n s) h = inr h
-orienting_cases origin g (Resampled t i l s w) h = inr h
+orienting_cases origin g (Resampled t i l s w b) h = inr h
 
 -- a graph that is oriented has one outcome
 pub one_orienting : (origin : Origin) (g : GraphOf) → IsOne (ComesOfOrienting origin g)

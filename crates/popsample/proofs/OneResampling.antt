@@ -1,10 +1,12 @@
 -- Two outcomes of a formula that is resampled are the same fault of stacks, or two runs of the formula's events.
-use Rattle.std.proofs.Common.{inl, inr, ℕ, Option, sym, subst, ◌∙◌}
+use Rattle.std.proofs.Common.{inl, inr, ℕ, List, sym, subst, ◌∙◌}
 use Rattle.pop_model.specs.Stacks.{Origin}
 use Rattle.pop_model.specs.Instances.{Instance}
 use Rattle.dimacs_read.specs.Cnf.{Cnf}
+use Rattle.pop_watch.specs.Telling.{Watcher}
 use Rattle.pop_print.specs.declared.facts.Facts.{Facts}
 use Rattle.pop_print.specs.declared.facts.Facts.TheVariants.{Formula as FormulaFacts}
+use Rattle.popsample.specs.declared.asked.Asked.{Asked}
 use Rattle.popsample.specs.Outcomes.{Outcome}
 use Rattle.popsample.specs.Outcomes.Outcome.{Resampled}
 use Rattle.popsample.specs.Sampling.{pair_weights, instance_of}
@@ -14,29 +16,29 @@ use Rattle.popsample.proofs.OneFormula.{one_events}
 use Rattle.popsample.proofs.OneSampling.{alike_sampling}
 
 -- two runs of one instance
-two_runs : (asked : Option (ℕ × ℕ)) (facts : Facts) (i : Instance) (o p : Outcome) → IsHistoryOf asked facts i o
-    → IsHistoryOf asked facts i p → AreHistories o p
-two_runs asked facts i (Resampled t j l s w) (Resampled u k m r x) h h' = (
+two_runs : (asked : Asked) (ws vs : List Watcher) (facts : Facts) (i : Instance) (o p : Outcome)
+    → IsHistoryOf asked ws facts i o → IsHistoryOf asked vs facts i p → AreHistories o p
+two_runs asked ws vs facts i (Resampled t j l s w b) (Resampled u k m r x c) h h' = (
   h.0 ∙ sym h'.0,
   h.1 ∙ sym h'.1,
   subst (λ n. LeadsToEnd n l s) (sym h.1) h.2,
   subst (λ n. LeadsToEnd n m r) (sym h.1) h'.2,
 )
-two_runs asked facts i (Resampled t j l s w) p h h' = absurd h'
-two_runs asked facts i o p h h' = absurd h
+two_runs asked ws vs facts i (Resampled t j l s w b) p h h' = absurd h'
+two_runs asked ws vs facts i o p h h' = absurd h
 
 -- two runs of a formula
-two_endings : (origin : Origin) (asked : Option (ℕ × ℕ)) (f : Cnf) (o p : Outcome) → EndsResampling origin asked f o
-    → EndsResampling origin asked f p → Agree o p
-two_endings origin asked f o p h h' =
+two_endings : (origin : Origin) (asked : Asked) (ws vs : List Watcher) (f : Cnf) (o p : Outcome)
+    → EndsResampling origin asked ws f o → EndsResampling origin asked vs f p → Agree o p
+two_endings origin asked ws vs f o p h h' =
     let facts = FormulaFacts f.variables in
     let events = one_events f.clauses h.events h'.events h.of_formula h'.of_formula in
-    let history : IsHistoryOf asked facts (instance_of origin f.variables h'.events) o =
-    subst (λ rows. IsHistoryOf asked facts (instance_of origin f.variables rows) o) events h.history in
-    inr (two_runs asked facts (instance_of origin f.variables h'.events) o p history h'.history)
+    let history : IsHistoryOf asked ws facts (instance_of origin f.variables h'.events) o =
+    subst (λ rows. IsHistoryOf asked ws facts (instance_of origin f.variables rows) o) events h.history in
+    inr (two_runs asked ws vs facts (instance_of origin f.variables h'.events) o p history h'.history)
 
-pub one_resampling : (origin : Origin) (asked : Option (ℕ × ℕ)) (f : Cnf) (o p : Outcome)
-    → ComesOfResampling origin asked f o → ComesOfResampling origin asked f p → Agree o p
-one_resampling origin asked f =
+pub one_resampling : (origin : Origin) (asked : Asked) (ws vs : List Watcher) (f : Cnf) (o p : Outcome)
+    → ComesOfResampling origin asked ws f o → ComesOfResampling origin asked vs f p → Agree o p
+one_resampling origin asked ws vs f =
     alike_sampling Agree (λ o p is. inl is) (FormulaFacts f.variables) origin (pair_weights f.variables)
-    (EndsResampling origin asked f) (two_endings origin asked f)
+    (EndsResampling origin asked ws f) (EndsResampling origin asked vs f) (two_endings origin asked ws vs f)

@@ -36,7 +36,7 @@ ended facts i (CutOff w) h = absurd h
 ended facts i (Unsound f r) h = absurd h
 ended facts i (Clashes j k) h = absurd h
 ended facts i (Extremal n) h = absurd h
-ended facts i (Resampled told j l s w) h = absurd h
+ended facts i (Resampled told j l s w b) h = absurd h
 ended facts i (Ended told j c n s) h =
     record {
       cursors = c;
@@ -74,21 +74,21 @@ sampling_cases facts origin weights Runs (Unsound told fault) h = inl (fault, ap
 sampling_cases facts origin weights Runs (Clashes j k) h = inr h
 sampling_cases facts origin weights Runs (Extremal n) h = inr h
 sampling_cases facts origin weights Runs (Ended told j c n s) h = inr h
-sampling_cases facts origin weights Runs (Resampled told j l s w) h = inr h
+sampling_cases facts origin weights Runs (Resampled told j l s w b) h = inr h
 
--- two outcomes of sampling are alike where those of its run are
+-- an outcome of sampling and one of sampling with other runs are alike where those of the runs are
 pub alike_sampling : (Alike : Outcome → Outcome → Type 0) → ((o p : Outcome) → o ≡ p → Alike o p) → (facts : Facts)
-    (origin : Origin) (weights : List (List ℕ)) (Runs : Outcome → Type 0)
-    → ((o p : Outcome) → Runs o → Runs p → Alike o p) → (o p : Outcome)
-    → ComesOfSampling facts origin weights Runs o → ComesOfSampling facts origin weights Runs p → Alike o p
-alike_sampling Alike same facts origin weights Runs alike o p h h' =
+    (origin : Origin) (weights : List (List ℕ)) (Runs Others : Outcome → Type 0)
+    → ((o p : Outcome) → Runs o → Others p → Alike o p) → (o p : Outcome)
+    → ComesOfSampling facts origin weights Runs o → ComesOfSampling facts origin weights Others p → Alike o p
+alike_sampling Alike same facts origin weights Runs Others alike o p h h' =
     elim (sampling_cases facts origin weights Runs o h) [
-      | inl (a, o_is, cause) ↦ elim (sampling_cases facts origin weights Runs p h') [
+      | inl (a, o_is, cause) ↦ elim (sampling_cases facts origin weights Others p h') [
         | inl (b, p_is, cause') ↦
             same o p (o_is ∙ ap (λ f. Unsound facts f) (one_cause origin weights a b cause cause') ∙ sym p_is)
         | inr (sound', runs') ↦ absurd (sound_has_none origin weights a sound' cause)
       ]
-      | inr (sound, runs) ↦ elim (sampling_cases facts origin weights Runs p h') [
+      | inr (sound, runs) ↦ elim (sampling_cases facts origin weights Others p h') [
         | inl (b, p_is, cause') ↦ absurd (sound_has_none origin weights b sound cause')
         | inr (sound', runs') ↦ alike o p runs runs'
       ]
@@ -97,4 +97,5 @@ alike_sampling Alike same facts origin weights Runs alike o p h h' =
 -- sampling has one outcome where its run has
 pub one_sampling : (facts : Facts) (origin : Origin) (weights : List (List ℕ)) (Runs : Outcome → Type 0) → IsOne Runs
     → IsOne (ComesOfSampling facts origin weights Runs)
-one_sampling facts origin weights Runs one = alike_sampling (λ o p. o ≡ p) (λ o p is. is) facts origin weights Runs one
+one_sampling facts origin weights Runs one =
+    alike_sampling (λ o p. o ≡ p) (λ o p is. is) facts origin weights Runs Runs one

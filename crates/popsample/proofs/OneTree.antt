@@ -5,13 +5,15 @@ use Rattle.pop_model.specs.Stacks.{Origin}
 use Rattle.pop_model.specs.Places.{IsLeast}
 use Rattle.pop_model.proofs.CycleFamily.{cycles_extremal}
 use Rattle.graph_read.specs.Graphs.{GraphOf}
+use Rattle.graph_read.specs.Grids.{grid_of}
 use Rattle.graph_read.specs.Paths.{IsConnected, IsCutOff}
 use Rattle.cycle_popping.specs.Trees.{heads_of_tree, weights_of_tree}
-use Rattle.pop_print.specs.declared.facts.Facts.TheVariants.{Tree as TreeFacts}
+use Rattle.pop_print.specs.declared.facts.Facts.TheVariants.{Tree as TreeFacts, Made as MadeFacts}
 use Rattle.popsample.specs.Outcomes.{Outcome}
 use Rattle.popsample.specs.Outcomes.Outcome.{Usage, Unread, Isolated, NoRoot, CutOff, Unsound, Clashes, Extremal, Ended, Resampled}
 use Rattle.popsample.specs.Sampling.{IsEndOf, ComesOfSampling}
 use Rattle.popsample.specs.Trees.{tree_instance, ComesOfTree}
+use Rattle.popsample.specs.Grids.{ComesOfGrid}
 use Rattle.popsample.proofs.Leasts.{one_least}
 use Rattle.popsample.proofs.OneSampling.{IsOne, one_end, one_sampling}
 
@@ -38,7 +40,7 @@ ways origin root g (Unsound t r) h = sampled h
 ways origin root g (Clashes i j) h = sampled h
 ways origin root g (Extremal n) h = sampled h
 ways origin root g (Ended t i c n s) h = sampled h
-ways origin root g (Resampled t i l s w) h = sampled h
+ways origin root g (Resampled t i l s w b) h = sampled h
 
 one_way : (origin : Origin) (root : ℕ) (g : GraphOf) (o p : Outcome) → Ways origin root g o → Ways origin root g p → o ≡ p
 one_way origin root g o p (no_root o_is above) (no_root p_is above') = o_is ∙ sym p_is
@@ -58,3 +60,10 @@ one_way origin root g o p (sampled h) (sampled h') =
 -- a graph of which a tree is asked has one outcome
 pub one_tree : (origin : Origin) (root : ℕ) (g : GraphOf) → IsOne (ComesOfTree origin root g)
 one_tree origin root g o p h h' = one_way origin root g o p (ways origin root g o h) (ways origin root g p h')
+
+-- and so has a grid
+pub one_grid : (origin : Origin) (side : ℕ) → IsOne (ComesOfGrid origin side)
+one_grid origin side =
+    let g = grid_of side in
+    one_sampling (MadeFacts g side) origin (weights_of_tree g 1) (IsEndOf (MadeFacts g side) (tree_instance origin g 1))
+    (one_end (MadeFacts g side) (tree_instance origin g 1) (cycles_extremal (heads_of_tree g 1)))

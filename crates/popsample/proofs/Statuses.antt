@@ -1,5 +1,5 @@
 -- Which statuses a text is answered by: each up to 6 but that of bad words.
-use Rattle.std.proofs.Common.{◌≤◌, ◌<◌, ℕ, Option, List, [], ◌∷◌, length, sym, subst, arith}
+use Rattle.std.proofs.Common.{◌≤◌, ◌<◌, ℕ, List, [], ◌∷◌, length, sym, subst, arith}
 use Rattle.pop_model.specs.Stacks.{Origin}
 use Rattle.pop_model.specs.Stacks.Origin.{Given, Keyed}
 use Rattle.pop_model.specs.Families.{Event}
@@ -11,7 +11,10 @@ use Rattle.pop_stacks.specs.Faults.{IsCause}
 use Rattle.pop_print.specs.declared.facts.Facts.{Facts}
 use Rattle.dimacs_read.specs.Cnf.{Cnf}
 use Rattle.graph_read.specs.Graphs.{GraphOf}
+use Rattle.graph_read.specs.Grids.{grid_of}
 use Rattle.cycle_popping.specs.Trees.{weights_of_tree}
+use Rattle.pop_watch.specs.Telling.{Watcher}
+use Rattle.popsample.specs.declared.asked.Asked.{Asked}
 use Rattle.popsample.specs.Refusals.{reading_status, stacks_status}
 use Rattle.popsample.specs.Outcomes.{Outcome, IsTextStatus, status_of, end_status, resampled_status, AnswersBy}
 use Rattle.popsample.specs.Outcomes.Outcome.{Usage, Unread, Isolated, NoRoot, CutOff, Unsound, Clashes, Extremal, Ended, Resampled}
@@ -22,6 +25,7 @@ use Rattle.popsample.specs.Formulas.{ComesOfFormula, ComesOfChecking}
 use Rattle.popsample.specs.Resamplings.{ComesOfResampling}
 use Rattle.popsample.specs.Orientations.{ComesOfOrienting}
 use Rattle.popsample.specs.Trees.{ComesOfTree}
+use Rattle.popsample.specs.Grids.{ComesOfGrid}
 use Rattle.popsample.specs.Answers.{IsOfText}
 
 end_status_is : (stuck : List Event) → IsTextStatus (end_status stuck)
@@ -74,7 +78,7 @@ told_status Comes told (Unsound t f) h = told.fault t f h
 told_status Comes told (Clashes i j) h = known_status 5 (omega arith) (omega arith)
 told_status Comes told (Extremal n) h = record { low = omega arith; no_usage = λ h'. absurd (omega arith) }
 told_status Comes told (Ended t i c n s) h = end_status_is s
-told_status Comes told (Resampled t i l s w) h = resampled_status_is s w
+told_status Comes told (Resampled t i l s w b) h = resampled_status_is s w
 
 -- the status of an answer that tells what comes so
 answer_status : (Comes : Outcome → Type 0) → AreTold Comes → (status : ℕ) (out : List ℕ) → AnswersBy Comes status out
@@ -95,10 +99,10 @@ formula_status origin f status out answers =
     status out answers
 
 -- the status of an answer to a formula that is resampled
-pub resampling_status : (origin : Origin) (asked : Option (ℕ × ℕ)) (f : Cnf) (status : ℕ) (out : List ℕ)
-    → AnswersBy (ComesOfResampling origin asked f) status out → IsTextStatus status
-resampling_status origin asked f status out answers =
-    answer_status (ComesOfResampling origin asked f)
+pub resampling_status : (origin : Origin) (asked : Asked) (ws : List Watcher) (f : Cnf) (status : ℕ) (out : List ℕ)
+    → AnswersBy (ComesOfResampling origin asked ws f) status out → IsTextStatus status
+resampling_status origin asked ws f status out answers =
+    answer_status (ComesOfResampling origin asked ws f)
     (record {
       no_usage = λ place h. h.1.history;
       no_refusal = λ refusal h. h.1.history;
@@ -135,5 +139,17 @@ tree_status origin root g status out answers =
       no_usage = λ place h. h.2.1;
       no_refusal = λ refusal h. h.2.1;
       fault = λ facts fault h. fault_status origin (weights_of_tree g root) fault h.2.1;
+    })
+    status out answers
+
+-- the status of an answer to a grid of which a tree is asked
+pub grid_status : (origin : Origin) (side : ℕ) (status : ℕ) (out : List ℕ) → AnswersBy (ComesOfGrid origin side) status out
+    → IsTextStatus status
+grid_status origin side status out answers =
+    answer_status (ComesOfGrid origin side)
+    (record {
+      no_usage = λ place h. h.1;
+      no_refusal = λ refusal h. h.1;
+      fault = λ facts fault h. fault_status origin (weights_of_tree (grid_of side) 1) fault h.1;
     })
     status out answers

@@ -1,5 +1,5 @@
 -- What the sampler answers to command words and a text.
-use Rattle.std.specs.Prelude.{ℕ, List, Ok, Err, ⊤}
+use Rattle.std.specs.Prelude.{◌≡◌, ◌⊎◌, ℕ, List, Option, Ok, Err, Some, ⊤}
 use Rattle.pop_model.specs.Stacks.{Origin}
 use Rattle.pop_edge.specs.declared.refusal.ReadRefusal.{ReadRefusal}
 use Rattle.pop_edge.specs.declared.refusal.ReadRefusal.TheVariants.{ReadFault, OutOfMemory}
@@ -9,15 +9,18 @@ use Rattle.dimacs_read.specs.CnfText.{AnswersCnf, HasNoBadLine as HasNoBadCnfLin
 use Rattle.graph_read.specs.Graphs.{GraphOf}
 use Rattle.graph_read.specs.GraphText.{AnswersGraph, HasNoBadLine as HasNoBadGraphLine}
 use Rattle.pop_words.specs.declared.command.Command.{Command}
-use Rattle.pop_words.specs.declared.command.Command.TheVariants.{Formula, Orient, Tree, Resample, Check}
+use Rattle.pop_words.specs.declared.command.Command.TheVariants.{Formula, Orient, Tree, Resample, Check, Make}
 use Rattle.pop_words.specs.declared.job.Job.{Job}
 use Rattle.pop_words.specs.CommandLines.{Asks, IsBadPlace}
+use Rattle.pop_watch.specs.Telling.{Watcher}
+use Rattle.popsample.specs.declared.asked.Asked.{Asked}
 use Rattle.popsample.specs.Outcomes.{Outcome, AnswersBy}
 use Rattle.popsample.specs.Outcomes.Outcome.{Usage, Unread}
 use Rattle.popsample.specs.Formulas.{ComesOfFormula, ComesOfChecking}
 use Rattle.popsample.specs.Resamplings.{ComesOfResampling}
 use Rattle.popsample.specs.Orientations.{ComesOfOrienting}
 use Rattle.popsample.specs.Trees.{ComesOfTree}
+use Rattle.popsample.specs.Grids.{ComesOfGrid}
 
 -- the text is that of a formula, of which this comes
 pub record ComesOfCnf (Comes : Cnf → Outcome → Type 0) (text : List ℕ) (o : Outcome)
@@ -37,13 +40,20 @@ pub record ComesOfGraph (Comes : GraphOf → Outcome → Type 0) (text : List �
 abbrev pub origin_for : Job → Origin
 origin_for job = origin_of job.stacks job.height
 
--- what comes of a text that a command reads, with what the job says beside it
-abbrev pub ComesOfCommand : Command → Job → List ℕ → Outcome → Type 0
-ComesOfCommand Formula job text o = ComesOfCnf (ComesOfFormula (origin_for job)) text o
-ComesOfCommand Orient job text o = ComesOfGraph (ComesOfOrienting (origin_for job)) text o
-ComesOfCommand Tree job text o = ComesOfGraph (ComesOfTree (origin_for job) job.root) text o
-ComesOfCommand Resample job text o = ComesOfCnf (ComesOfResampling (origin_for job) job.witness) text o
-ComesOfCommand Check job text o = ComesOfCnf ComesOfChecking text o
+-- what a job asks to be told behind the log
+abbrev pub asked_by : Job → Asked
+asked_by job = record { witness = job.witness; reports = job.reports }
+
+-- What comes of a command, with what the job says beside it, the watchers, and the text that it reads;
+-- a grid is made without one.
+abbrev pub ComesOfCommand : Command → Job → List Watcher → List ℕ → Outcome → Type 0
+ComesOfCommand Formula job watchers text o = ComesOfCnf (ComesOfFormula (origin_for job)) text o
+ComesOfCommand Orient job watchers text o = ComesOfGraph (ComesOfOrienting (origin_for job)) text o
+ComesOfCommand Tree job watchers text o = ComesOfGraph (ComesOfTree (origin_for job) job.root) text o
+ComesOfCommand Resample job watchers text o =
+    ComesOfCnf (ComesOfResampling (origin_for job) (asked_by job) watchers) text o
+ComesOfCommand Check job watchers text o = ComesOfCnf ComesOfChecking text o
+ComesOfCommand Make job watchers text o = ComesOfGrid (origin_for job) job.size o
 
 -- a command's grammar refuses the text so
 abbrev pub Refuses : Command → List ℕ → ReadRefusal → Type 0
@@ -52,6 +62,7 @@ Refuses Orient text refusal = AnswersGraph text (Err refusal)
 Refuses Tree text refusal = AnswersGraph text (Err refusal)
 Refuses Resample text refusal = AnswersCnf text (Err refusal)
 Refuses Check text refusal = AnswersCnf text (Err refusal)
+Refuses Make text refusal = ⊥
 
 -- the refusal is one of the text itself, and not of the source or of memory
 abbrev pub IsOfText : ReadRefusal → Type 0
@@ -59,26 +70,35 @@ IsOfText ReadFault = ⊥
 IsOfText OutOfMemory = ⊥
 IsOfText refusal = ⊤
 
--- what comes of a job and a text
-abbrev pub ComesOf : Job → List ℕ → Outcome → Type 0
-ComesOf job text (Usage place) = ⊥
-ComesOf job text (Unread refusal) = IsOfText refusal × Refuses job.command text refusal
-ComesOf job text o = ComesOfCommand job.command job text o
+-- what comes of a job, watchers and a text
+abbrev pub ComesOf : Job → List Watcher → List ℕ → Outcome → Type 0
+ComesOf job watchers text (Usage place) = ⊥
+ComesOf job watchers text (Unread refusal) = IsOfText refusal × Refuses job.command text refusal
+ComesOf job watchers text o = ComesOfCommand job.command job watchers text o
 
--- the words ask for a job, of which with the text this comes
-pub record ComesOfJob (words : List (List ℕ)) (text : List ℕ) (o : Outcome) : Type 0 where
+-- the words ask for a job, of which with the watchers and the text this comes
+pub record ComesOfJob (words : List (List ℕ)) (watchers : List Watcher) (text : List ℕ) (o : Outcome)
+    : Type 0 where
   pub job : Job
   pub asks : Asks words job
-  pub comes : ComesOf job text o
+  pub comes : ComesOf job watchers text o
 
--- what comes of words and a text
-abbrev pub IsOutcome : List (List ℕ) → List ℕ → Outcome → Type 0
-IsOutcome words text (Usage place) = IsBadPlace words place
-IsOutcome words text o = ComesOfJob words text o
+-- what comes of words, watchers and a text
+abbrev pub IsOutcome : List (List ℕ) → List Watcher → List ℕ → Outcome → Type 0
+IsOutcome words watchers text (Usage place) = IsBadPlace words place
+IsOutcome words watchers text o = ComesOfJob words watchers text o
 
--- the status and the output that words and a text are answered by
-abbrev pub IsAnswer : List (List ℕ) → List ℕ → ℕ → List ℕ → Type 0
-IsAnswer words text status out = AnswersBy (IsOutcome words text) status out
+-- the status and the output that words, watchers and a text are answered by
+abbrev pub IsAnswer : List (List ℕ) → List Watcher → List ℕ → ℕ → List ℕ → Type 0
+IsAnswer words watchers text status out = AnswersBy (IsOutcome words watchers text) status out
+
+-- the words ask for a grid
+abbrev pub AskForGrid : List (List ℕ) → Type 0
+AskForGrid words = (job : Job) × Asks words job × (job.command ≡ Make)
+
+-- the text is what the words are answered for: what the source has left, or any where a grid is made
+abbrev pub IsInput : List (List ℕ) → Option (List ℕ) → List ℕ → Type 0
+IsInput words left text = (left ≡ Some text) ⊎ AskForGrid words
 
 -- the command reads a formula
 abbrev pub ReadsCnf : Command → Type 0
@@ -87,6 +107,7 @@ ReadsCnf Orient = ⊥
 ReadsCnf Tree = ⊥
 ReadsCnf Resample = ⊤
 ReadsCnf Check = ⊤
+ReadsCnf Make = ⊥
 
 -- the command reads a graph
 abbrev pub ReadsGraph : Command → Type 0
@@ -95,11 +116,13 @@ ReadsGraph Orient = ⊤
 ReadsGraph Tree = ⊤
 ReadsGraph Resample = ⊥
 ReadsGraph Check = ⊥
+ReadsGraph Make = ⊥
 
--- no line whose end was taken is refused by the command's grammar
+-- the command reads, and no line whose end was taken is refused by its grammar
 abbrev pub HasNoBadLine : Command → List ℕ → Type 0
 HasNoBadLine Formula taken = HasNoBadCnfLine taken
 HasNoBadLine Orient taken = HasNoBadGraphLine taken
 HasNoBadLine Tree taken = HasNoBadGraphLine taken
 HasNoBadLine Resample taken = HasNoBadCnfLine taken
 HasNoBadLine Check taken = HasNoBadCnfLine taken
+HasNoBadLine Make taken = ⊥

@@ -3,6 +3,7 @@ use Rattle.std.specs.Prelude.{◌≡◌, ◌≢◌, ◌⊎◌, ℕ, List, ⊤}
 use Rattle.pop_words.specs.declared.command.Command.TheVariants.{Resample}
 use Rattle.pop_words.specs.declared.job.Job.{Job}
 use Rattle.pop_words.specs.CommandLines.{Asks}
+use Rattle.pop_watch.specs.Telling.{Watcher}
 use Rattle.pop_model.specs.Logs.{replay}
 use Rattle.pop_model.specs.Runs.{IsFinished, start_of}
 use Rattle.popsample.specs.Outcomes.{Outcome, status_of}
@@ -14,15 +15,17 @@ use Rattle.popsample.specs.Answers.{IsOutcome, IsAnswer}
 abbrev pub AskForOneEnd : List (List ℕ) → Type 0
 AskForOneEnd words = (job : Job) → Asks words job → job.command ≢ Resample
 
--- such words and a text have one answer: one status and one output
+-- such words and a text have one answer, whatever watchers there are: one status and one output
 abbrev pub OneAnswer : Type 0
-OneAnswer = (words : List (List ℕ)) (text : List ℕ) (status other : ℕ) (out out' : List ℕ)
-    → AskForOneEnd words → IsAnswer words text status out → IsAnswer words text other out'
+OneAnswer = (words : List (List ℕ)) (watchers others : List Watcher) (text : List ℕ)
+    (status other : ℕ) (out out' : List ℕ) → AskForOneEnd words
+    → IsAnswer words watchers text status out → IsAnswer words others text other out'
     → (status ≡ other) × (out ≡ out')
 
 -- both are runs of one instance to an end, each with its log
 abbrev pub AreHistories : Outcome → Outcome → Type 0
-AreHistories (Resampled facts i log stuck witness) (Resampled told j other rest another) =
+AreHistories (Resampled facts i log stuck witness reports)
+    (Resampled told j other rest another further) =
     (facts ≡ told) × (i ≡ j) × LeadsToEnd i log stuck × LeadsToEnd i other rest
 AreHistories o p = ⊥
 
@@ -30,19 +33,20 @@ AreHistories o p = ⊥
 abbrev pub Agree : Outcome → Outcome → Type 0
 Agree o p = (o ≡ p) ⊎ AreHistories o p
 
--- words and a text have one outcome, but for the order of pops where a resampling is asked for
+-- Words and a text have one outcome, whatever watchers there are, but for the order of pops and the
+-- reports where a resampling is asked for.
 abbrev pub OneOutcome : Type 0
-OneOutcome = (words : List (List ℕ)) (text : List ℕ) (o p : Outcome)
-    → IsOutcome words text o → IsOutcome words text p → Agree o p
+OneOutcome = (words : List (List ℕ)) (watchers others : List Watcher) (text : List ℕ) (o p : Outcome)
+    → IsOutcome words watchers text o → IsOutcome words others text p → Agree o p
 
 -- no event occurs at the end of a run
 abbrev pub EndsFinished : Outcome → Type 0
 EndsFinished (Ended facts i cursors pops stuck) = IsFinished i cursors
-EndsFinished (Resampled facts i log stuck witness) = IsFinished i (replay (start_of i) log)
+EndsFinished (Resampled facts i log stuck witness reports) = IsFinished i (replay (start_of i) log)
 EndsFinished o = ⊤
 
 -- A run with status 0 is one at whose end no event occurs: each clause is satisfied, each vertex has
 -- an edge that leaves it, or the arrows have no cycle.
 abbrev pub SampleFinished : Type 0
-SampleFinished = (words : List (List ℕ)) (text : List ℕ) (o : Outcome)
-    → IsOutcome words text o → status_of o ≡ 0 → EndsFinished o
+SampleFinished = (words : List (List ℕ)) (watchers : List Watcher) (text : List ℕ) (o : Outcome)
+    → IsOutcome words watchers text o → status_of o ≡ 0 → EndsFinished o

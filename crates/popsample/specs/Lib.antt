@@ -1,12 +1,14 @@
 pub mod Refusals
 pub mod Stacks
 pub mod Witnesses
+pub mod Reports
 pub mod Outcomes
 pub mod Sampling
 pub mod Formulas
 pub mod Resamplings
 pub mod Orientations
 pub mod Trees
+pub mod Grids
 pub mod Answers
 pub mod TopCall
 pub mod Laws

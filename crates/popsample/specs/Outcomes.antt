@@ -35,9 +35,10 @@ pub data Outcome : Type 0 where
   -- the run came to an end
   Ended : (facts : Facts) (instance : Instance) (cursors : List ℕ) (pops : ℕ) (stuck : List Event)
       → Outcome
-  -- a run whose order isn't determined came to an end; this is its log, and the witness of a pop
+  -- a run whose order isn't determined came to an end; this is its log, the witness of a pop, and
+  -- what watchers reported of the log
   Resampled : (facts : Facts) (instance : Instance) (log : List LogRecord) (stuck : List Event)
-      (witness : Witness) → Outcome
+      (witness : Witness) (reports : List ℕ) → Outcome
 
 -- a run's status tells whether an event still occurs
 abbrev pub end_status : List Event → ℕ
@@ -58,17 +59,17 @@ status_of (Unsound facts fault) = stacks_status fault
 status_of (Clashes i j) = 5
 status_of (Extremal count) = 0
 status_of (Ended facts i cursors pops stuck) = end_status stuck
-status_of (Resampled facts i log stuck witness) = resampled_status stuck witness
+status_of (Resampled facts i log stuck witness reports) = resampled_status stuck witness
 
 -- the text of a run with its log: that of the end to which the log leads, and that of the log
 abbrev pub history_text : Facts → Instance → List LogRecord → List Event → List ℕ
 history_text facts i log stuck =
     end_text facts i (replay (start_of i) log) (length log) stuck ++ log_text Plain i log
 
--- and behind it that of the witness
-abbrev pub resampled_text : Facts → Instance → List LogRecord → List Event → Witness → List ℕ
-resampled_text facts i log stuck witness =
-    history_text facts i log stuck ++ witness_text i.family witness
+-- and behind it that of the witness, and the reports
+abbrev pub resampled_text : Facts → Instance → List LogRecord → List Event → Witness → List ℕ → List ℕ
+resampled_text facts i log stuck witness reports =
+    history_text facts i log stuck ++ witness_text i.family witness ++ reports
 
 abbrev pub text_of : Outcome → List ℕ
 text_of (Usage place) = usage_line place
@@ -80,7 +81,7 @@ text_of (Unsound facts fault) = stacks_line (name_of facts) fault
 text_of (Clashes i j) = clash_line i j
 text_of (Extremal count) = extremal_line count
 text_of (Ended facts i cursors pops stuck) = end_text facts i cursors pops stuck
-text_of (Resampled facts i log stuck witness) = resampled_text facts i log stuck witness
+text_of (Resampled facts i log stuck witness reports) = resampled_text facts i log stuck witness reports
 
 -- a status that a text is answered by: none of the words, of a device or of memory
 pub record IsTextStatus (status : ℕ) : Type 0 where

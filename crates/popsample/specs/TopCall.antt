@@ -6,6 +6,7 @@ use Rattle.pop_edge.specs.Devices.{AppendsFront}
 use Rattle.pop_edge.specs.declared.refusal.ReadRefusal.TheVariants.{ReadFault, OutOfMemory}
 use Rattle.pop_words.specs.declared.job.Job.{Job}
 use Rattle.pop_words.specs.CommandLines.{Asks, IsBadPlace}
+use Rattle.pop_watch.specs.Telling.{Watcher}
 use Rattle.popsample.specs.Refusals.{usage_line, reading_line}
 use Rattle.popsample.specs.Answers.{IsAnswer, HasNoBadLine}
 
@@ -14,9 +15,10 @@ abbrev pub IsBreak : ℕ → Type 0
 IsBreak status = (status ≡ 7) ⊎ ((status ≡ 8) ⊎ (status ≡ 9))
 
 -- the sink holds just the text of the answer more
-pub record Answered (words : List (List ℕ)) (text : List ℕ) (old new : Option (List ℕ)) (status : ℕ) : Type 0 where
+pub record Answered (words : List (List ℕ)) (watchers : List Watcher) (text : List ℕ)
+    (old new : Option (List ℕ)) (status : ℕ) : Type 0 where
   pub out : List ℕ
-  pub answer : IsAnswer words text status out
+  pub answer : IsAnswer words watchers text status out
   pub held : Appends old new out
 
 -- the sink holds just the line of the first bad word more
@@ -36,14 +38,14 @@ pub record HasReadFault (words : List (List ℕ)) (left left' : Option (List ℕ
   pub no_bad_line : HasNoBadLine job.command taken
 
 -- a text that a call may write: that of an answer, of a fault of the source, or of want of memory
-abbrev pub MayWrite : List (List ℕ) → List ℕ → Type 0 → List ℕ → Type 0
-MayWrite words text fault out =
-    ((status : ℕ) × IsAnswer words text status out)
+abbrev pub MayWrite : List (List ℕ) → List Watcher → List ℕ → Type 0 → List ℕ → Type 0
+MayWrite words watchers text fault out =
+    ((status : ℕ) × IsAnswer words watchers text status out)
     ⊎ ((fault × (out ≡ reading_line ReadFault)) ⊎ (out ≡ reading_line OutOfMemory))
 
 -- the sink holds just a front of such a text more
-pub record IsCutShort (words : List (List ℕ)) (text : List ℕ) (fault : Type 0)
-    (old new : Option (List ℕ)) : Type 0 where
+pub record IsCutShort (words : List (List ℕ)) (watchers : List Watcher) (text : List ℕ)
+    (fault : Type 0) (old new : Option (List ℕ)) : Type 0 where
   pub out : List ℕ
-  pub may : MayWrite words text fault out
+  pub may : MayWrite words watchers text fault out
   pub held : AppendsFront old new out

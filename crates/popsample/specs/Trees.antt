@@ -1,5 +1,5 @@
 -- What comes of a graph of which a spanning tree is asked.
-use Rattle.std.specs.Prelude.{◌≡◌, ℕ, ◌<◌, ◌≤◌}
+use Rattle.std.specs.Prelude.{◌≡◌, ℕ, ◌<◌, ◌≤◌, List, Option}
 use Rattle.pop_model.specs.Stacks.{Origin}
 use Rattle.pop_model.specs.Places.{IsLeast}
 use Rattle.pop_model.specs.Families.Family.{Cycles}
@@ -12,13 +12,15 @@ use Rattle.popsample.specs.Outcomes.{Outcome}
 use Rattle.popsample.specs.Outcomes.Outcome.{NoRoot, CutOff}
 use Rattle.popsample.specs.Sampling.{IsEndOf, ComesOfSampling}
 
+-- the instance of the cycles of arrows with these weights and heads
+abbrev pub cycles_instance : Origin → List (List ℕ) → List (List (Option ℕ)) → Instance
+cycles_instance origin weights heads =
+    record { stacks = record { origin = origin; weights = weights }; family = Cycles heads }
+
 -- the instance of the cycles of a graph with this root
 abbrev pub tree_instance : Origin → GraphOf → ℕ → Instance
 tree_instance origin g root =
-    record {
-      stacks = record { origin = origin; weights = weights_of_tree g root };
-      family = Cycles (heads_of_tree g root);
-    }
+    cycles_instance origin (weights_of_tree g root) (heads_of_tree g root)
 
 -- what comes of a graph of which a tree with this root is asked
 abbrev pub ComesOfTree : Origin → ℕ → GraphOf → Outcome → Type 0

@@ -4,12 +4,14 @@ ghost use Rattle.pop_model.specs.Stacks.{variables_of};
 ghost use Rattle.pop_model.specs.Popping.{AreWithin};
 ghost use Rattle.pop_model.specs.Extremal.{IsExtremal};
 ghost use Rattle.pop_model.specs.Runs.{IsFirstEnd, start_of};
+ghost use Rattle.pop_stacks.specs.Readers.{Belongs};
 ghost use Rattle.confluence_core.specs.Kept.{keeps_log};
 ghost use Rattle.confluence_core.specs.Runs.{IsRun};
 
 use confluence_core::Keep;
 use pop_instance::Instance;
-use pop_workers::{Gate, Outcome, sample_locked};
+use pop_stacks::Reader;
+use pop_workers::{Gate, Outcome, sample_locked_by};
 use std::alloc::{AllocError, Global};
 use std::marker::Model;
 use std::sync::Wait;
@@ -44,8 +46,15 @@ impl<'a, R: Threads + Wait + Sync, G: Gate + Sync> Crew<'a, R, G> {
         Crew { rt, gate, workers }
     }
 
-    /// A run of the instance from zeros.
-    pub fn run(&self, alloc: Global, instance: &Instance, keep: Keep) -> Result<Outcome, AllocError>
+    /// A run of the instance from zeros, by a reader of its stacks.
+    pub fn run<'i>(
+        &self,
+        alloc: Global,
+        instance: &'i Instance,
+        reader: &mut Reader<'i>,
+        keep: Keep,
+    ) -> Result<Outcome, AllocError>
+        requires belongs { Belongs instance.now.stacks reader.old }
         ensures run { IfOk result (λ run. IsRun instance.now (start_of instance.now)
             (keeps_log keep) run.end.cursors run.end.pops run.end.stuck run.log) }
         ensures first { IfOk result (λ run. IsExtremal instance.now.family
@@ -53,7 +62,16 @@ impl<'a, R: Threads + Wait + Sync, G: Gate + Sync> Crew<'a, R, G> {
         ensures count { IfOk result (λ run.
             variables_of instance.now.stacks ≡ length run.end.cursors) }
         ensures within { IfOk result (λ run. AreWithin instance.now.stacks run.end.cursors) }
+        ensures reader { reader.new ≡ reader.old }
     {
-        sample_locked(self.rt, alloc, instance, self.workers, keep, self.gate)
+        sample_locked_by(
+            self.rt,
+            alloc,
+            instance,
+            reader,
+            self.workers,
+            keep,
+            self.gate,
+        )
     }
 }

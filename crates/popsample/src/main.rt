@@ -4,14 +4,19 @@
 #![tactic(auto)]
 
 mod answer;
+mod asked;
 mod crew;
 mod formula;
+mod grid;
 pub mod laws;
 mod orientation;
+mod reading;
 mod refusals;
+mod reporting;
 mod resampling;
 mod running;
 mod stop;
+mod telling;
 #[cfg(test)]
 mod tests;
 mod top;
@@ -19,27 +24,52 @@ mod tree;
 mod witness;
 
 use pop_edge::{StdSink, StdSource};
+use pop_watch::{Heights, Totals, Watch};
 use pop_workers::NoGate;
 use std::env;
 use std::process::ExitCode;
 pub use top::run;
 
-// The status where the words can't be told, as one that isn't UTF-8, or there is no memory for
-// them.
-const NO_WORDS: u8 = 9;
+// The status where the words can't be told, as one that isn't UTF-8, or there is no memory for them
+// or for the watchers.
+const NOT_BEGUN: u8 = 9;
 
-/// Runs the words behind the program's own name, on standard input and standard output.
-fn main(rt: HostRuntime) -> ExitCode {
-    let Ok(arguments) = env::args(&rt) else {
-        return ExitCode::from(NO_WORDS);
-    };
+// The words behind the program's own name.
+fn words_of(rt: &HostRuntime) -> Option<Vec<String>> {
+    let arguments = env::args(rt).ok()?;
     let mut words = Vec::new(rt.alloc());
     for word in arguments.skip(1) {
-        if words.push(word).is_err() {
-            return ExitCode::from(NO_WORDS);
-        }
+        words.push(word).ok()?;
+    }
+    Some(words)
+}
+
+/// Runs the words behind the program's own name, on standard input and standard output, with a
+/// watcher of each kind.
+fn main(rt: HostRuntime) -> ExitCode {
+    let alloc = rt.alloc();
+    let Some(words) = words_of(&rt) else {
+        return ExitCode::from(NOT_BEGUN);
+    };
+    let mut watchers: Vec<Box<dyn Watch>> = Vec::new(alloc);
+    let (Ok(totals), Ok(heights)) = (
+        Box::new(alloc, Totals::new()),
+        Box::new(alloc, Heights::new()),
+    ) else {
+        return ExitCode::from(NOT_BEGUN);
+    };
+    if watchers.push(totals).is_err() || watchers.push(heights).is_err() {
+        return ExitCode::from(NOT_BEGUN);
     }
     let mut source = StdSource::new(rt.stdin());
     let mut sink = StdSink::new(rt.stdout());
-    ExitCode::from(run(&rt, rt.alloc(), &words, &NoGate, &mut source, &mut sink))
+    ExitCode::from(run(
+        &rt,
+        alloc,
+        &words,
+        watchers,
+        &NoGate,
+        &mut source,
+        &mut sink,
+    ))
 }

@@ -1,6 +1,7 @@
 //! Answers of `run`, over sources and sinks in memory.
 use crate::run;
 use pop_edge::{MemSink, MemSource};
+use pop_watch::{Heights, Totals, Watch};
 use pop_workers::{Gate, NoGate};
 use std::alloc::Global;
 use std::sync::Wait;
@@ -9,8 +10,10 @@ use std::thread::Threads;
 
 mod faults;
 mod formulas;
+mod grids;
 mod orientations;
 mod refusals;
+mod reports;
 mod resamplings;
 mod texts;
 mod trees;
@@ -49,13 +52,28 @@ fn answer_behind<R: Threads + Wait + Sync, G: Gate + Sync>(
     input: &str,
     piece: usize,
 ) -> Result<(u8, Vec<u8>), Fail> {
+    let bytes = Vec::from_slice(alloc, input.as_bytes())?;
+    let mut source = MemSource::new(bytes, piece.max(1), Vec::new(alloc));
+    let mut sink = MemSink::new(alloc, 65536, 65536, Vec::new(alloc))?;
+    let words = owned(alloc, words)?;
+    let watchers = each_kind(alloc)?;
+    let status = run(rt, alloc, &words, watchers, gate, &mut source, &mut sink);
+    Ok((status, Vec::from_slice(alloc, sink.bytes())?))
+}
+
+// Words of one's own.
+fn owned(alloc: Global, words: &[&str]) -> Result<Vec<String>, Fail> {
     let mut all = Vec::new(alloc);
     for word in words {
         all.push(String::from_str(alloc, word)?)?;
     }
-    let bytes = Vec::from_slice(alloc, input.as_bytes())?;
-    let mut source = MemSource::new(bytes, piece.max(1), Vec::new(alloc));
-    let mut sink = MemSink::new(alloc, 65536, 65536, Vec::new(alloc))?;
-    let status = run(rt, alloc, &all, gate, &mut source, &mut sink);
-    Ok((status, Vec::from_slice(alloc, sink.bytes())?))
+    Ok(all)
+}
+
+// A watcher of each kind, as the program has them.
+fn each_kind(alloc: Global) -> Result<Vec<Box<dyn Watch>>, Fail> {
+    let mut watchers: Vec<Box<dyn Watch>> = Vec::new(alloc);
+    watchers.push(Box::new(alloc, Totals::new())?)?;
+    watchers.push(Box::new(alloc, Heights::new())?)?;
+    Ok(watchers)
 }

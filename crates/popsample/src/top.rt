@@ -6,11 +6,13 @@ ghost use Rattle.pop_edge.specs.Devices.{AppendsFront};
 ghost use Rattle.pop_edge.specs.declared.refusal.ReadRefusal.TheVariants.{ReadFault, OutOfMemory};
 ghost use Rattle.pop_words.specs.CommandLines.{AreWords};
 ghost use Rattle.popsample.specs.Refusals.{reading_line};
+ghost use Rattle.popsample.specs.Answers.{AskForGrid, IsInput};
 ghost use Rattle.popsample.specs.TopCall.{IsBreak, Answered, AnsweredUsage, HasReadFault, IsCutShort};
 
 use crate::answer::answer_to;
 use crate::stop::Stop;
 use pop_edge::{Sink, Source, put_all};
+use pop_watch::Watch;
 use pop_workers::Gate;
 use std::alloc::Global;
 use std::sync::Wait;
@@ -40,31 +42,40 @@ fn deliver<K: Sink>(sink: &mut K, text: &[u8], status: u8) -> u8
 /// isn't there, 7 where reading failed, 8 where writing failed and 9 where memory ran out. The whole
 /// text is made before its first byte is written.
 ///
+/// `resample` tells each watcher each record of its log, in order and once. The report of a kind that
+/// `--report` asks for is that of the first watcher of the kind; where there is none, it has no line.
+/// The watchers are dropped when the call ends.
+///
 /// Where several workers are asked for they run on threads of `rt`, which are joined, and each passes
 /// the gate before each of its turns; the call may wait for their lock and for them.
 pub fn run<S: Source, K: Sink, R: Threads + Wait + Sync, G: Gate + Sync>(
     rt: &R,
     alloc: Global,
     words: &[String],
+    watchers: Vec<Box<dyn Watch>>,
     gate: &G,
     source: &mut S,
     sink: &mut K,
 ) -> u8
-    // An answer is that of the words and the text: of an extremal formula, an orientation or a tree,
-    // the end of the run on one thread that always pops the first poppable event, for any number of
-    // workers; of a resampling, that of a legal log to an end.
-    ensures answer { (text : List ℕ) → S.left source.old ≡ Some text → (IsBreak result → ⊥)
-        → Answered (map string_bytes words.now) text (K.holds sink.old) (K.holds sink.new) result }
+    // An answer is that of the words and the text: of an extremal formula, an orientation, a tree or
+    // the tree of a grid, the end of the run on one thread that always pops the first poppable event,
+    // for any number of workers; of a resampling, that of a legal log to an end, which each watcher
+    // was told. A grid is made whatever the source is.
+    ensures answer { (text : List ℕ)
+        → IsInput (map string_bytes words.now) (S.left source.old) text → (IsBreak result → ⊥)
+        → Answered (map string_bytes words.now) (map (λ b. (kind b, state b)) watchers.items) text
+        (K.holds sink.old) (K.holds sink.new) result }
     ensures statuses { result ≤ 9 }
 
-    // Words outside the grammar are told of whatever the source is, nothing else is then, and the
-    // source is left as it was.
+    // Words outside the grammar are told of whatever the source is, and nothing else is then.
     ensures usage { result ≡ 2
         → AnsweredUsage (map string_bytes words.now) (K.holds sink.old) (K.holds sink.new) }
     ensures only_usage { (AreWords (map string_bytes words.now) → ⊥)
         → (result ≡ 2) ⊎ ((result ≡ 8) ⊎ (result ≡ 9)) }
 
-    ensures unread { (AreWords (map string_bytes words.now) → ⊥) → source.new ≡ source.old }
+    // The source is left as it was then, and where a grid is made.
+    ensures unread { (AreWords (map string_bytes words.now) → ⊥)
+        ⊎ AskForGrid (map string_bytes words.now) → source.new ≡ source.old }
 
     ensures read_fault { result ≡ 7
         → HasReadFault (map string_bytes words.now) (S.left source.old) (S.left source.new)
@@ -72,18 +83,21 @@ pub fn run<S: Source, K: Sink, R: Threads + Wait + Sync, G: Gate + Sync>(
     ensures told_read_fault { result ≡ 7
         → Appends (K.holds sink.old) (K.holds sink.new) (reading_line ReadFault) }
     ensures write_fault { result ≡ 8 → Rose (K.faults sink.old) (K.faults sink.new) }
-    ensures cut { (text : List ℕ) → S.left source.old ≡ Some text → result ≡ 8
-        → IsCutShort (map string_bytes words.now) text
+    ensures cut { (text : List ℕ)
+        → IsInput (map string_bytes words.now) (S.left source.old) text → result ≡ 8
+        → IsCutShort (map string_bytes words.now) (map (λ b. (kind b, state b)) watchers.items) text
         (HasReadFault (map string_bytes words.now) (S.left source.old) (S.left source.new)
         (S.faults source.old) (S.faults source.new))
         (K.holds sink.old) (K.holds sink.new) }
     ensures memory { result ≡ 9
         → Appends (K.holds sink.old) (K.holds sink.new) (reading_line OutOfMemory) }
 
-    // With a sample, a verdict or an exhausted end the source was read to its end.
-    ensures whole { result ≤ 1 → IsAtEnd (S.left source.new) }
+    // With a sample, a verdict or an exhausted end a source that is read was read to its end.
+    ensures whole { result ≤ 1
+        → (AskForGrid (map string_bytes words.now) → ⊥) → IsAtEnd (S.left source.new) }
 {
-    match answer_to(rt, alloc, words, gate, source) {
+    let mut watchers = watchers;
+    match answer_to(rt, alloc, words, &mut watchers, gate, source) {
         Ok(answer) => deliver(sink, &answer.text, answer.status),
         Err(Stop::ReadFault) => deliver(sink, b"s READFAULT\n", 7),
         Err(Stop::OutOfMemory) => deliver(sink, b"s MEMORY\n", 9),

@@ -1,5 +1,5 @@
 //! Reads and writes that fail, each in turn, and texts that are cut short.
-use super::answer;
+use super::{answer, each_kind, owned};
 use crate::run;
 use pop_edge::{MemSink, MemSource, Source};
 use pop_workers::NoGate;
@@ -16,14 +16,6 @@ const INPUT: &str = "p cnf 1 1\n1 0\n";
 // It has 29 bytes.
 const OUTPUT: &str = "s SAMPLE\nv 1 0\nused 2\npops 2\n";
 
-fn owned(alloc: Global, words: &[&str]) -> Result<Vec<String>, Fail> {
-    let mut all = Vec::new(alloc);
-    for word in words {
-        all.push(String::from_str(alloc, word)?)?;
-    }
-    Ok(all)
-}
-
 // The status and what the sink holds, where source and sink move a byte at a call, and the call of
 // this number fails at the one and at the other; 0 is none.
 fn with_faults<R: Threads + Wait + Sync>(
@@ -37,7 +29,8 @@ fn with_faults<R: Threads + Wait + Sync>(
     let bytes = Vec::from_slice(alloc, input.as_bytes())?;
     let mut source = MemSource::new(bytes, 1, vec![in alloc; read]?);
     let mut sink = MemSink::new(alloc, 64, 1, vec![in alloc; write]?)?;
-    let status = run(rt, alloc, &words, &NoGate, &mut source, &mut sink);
+    let watchers = each_kind(alloc)?;
+    let status = run(rt, alloc, &words, watchers, &NoGate, &mut source, &mut sink);
     Ok((status, Vec::from_slice(alloc, sink.bytes())?))
 }
 
@@ -102,7 +95,17 @@ fn a_fault_of_the_sink_is_told_by_the_status_alone(rt: HostRuntime) -> Result<()
         Vec::new(alloc),
     );
     let mut sink = MemSink::new(alloc, 64, 64, vec![in alloc; 1]?)?;
-    assert_eq!(&rt; run(&rt, alloc, &words, &NoGate, &mut source, &mut sink), 8);
+    let watchers = each_kind(alloc)?;
+    let status = run(
+        &rt,
+        alloc,
+        &words,
+        watchers,
+        &NoGate,
+        &mut source,
+        &mut sink,
+    );
+    assert_eq!(&rt; status, 8);
     assert!(&rt; sink.bytes().is_empty());
     assert_eq!(&rt; source.read(&mut [0; 64]), Ok(14));
     Ok(())
@@ -119,7 +122,17 @@ fn a_sink_that_takes_pieces_holds_the_first(rt: HostRuntime) -> Result<(), Fail>
         Vec::new(alloc),
     );
     let mut sink = MemSink::new(alloc, 64, 4, vec![in alloc; 2]?)?;
-    assert_eq!(&rt; run(&rt, alloc, &words, &NoGate, &mut source, &mut sink), 8);
+    let watchers = each_kind(alloc)?;
+    let status = run(
+        &rt,
+        alloc,
+        &words,
+        watchers,
+        &NoGate,
+        &mut source,
+        &mut sink,
+    );
+    assert_eq!(&rt; status, 8);
     assert_eq!(&rt; sink.bytes(), b"s SA".as_slice());
     Ok(())
 }

@@ -66,15 +66,17 @@ fn the_log_stands_behind_the_end(rt: HostRuntime) -> Result<(), Fail> {
 #[test]
 fn clauses_may_clash(rt: HostRuntime) -> Result<(), Fail> {
     let input = "p cnf 3 2\n1 2 0\n1 3 0\n";
-    let words = ["resample", "--stacks", "0,1;0,0;0,0"];
-    let (status, text) = answer(&rt, rt.alloc(), &words, input)?;
     let first = "s SAMPLE\nv 1 -2 -3 0\nused 1 1 0\npops 1\nlog 1 1\npop 1 1:0 2:0\n";
     let second = "s SAMPLE\nv 1 -2 -3 0\nused 1 0 1\npops 1\nlog 1 1\npop 2 1:0 3:0\n";
-    assert_eq!(&rt; status, 0);
-    assert!(&rt;
-        text.as_slice() == first.as_bytes() || text.as_slice() == second.as_bytes(),
-        "{text:?}"
-    );
+    for workers in ["1", "2"] {
+        let words = ["resample", "--stacks", "0,1;0,0;0,0", "--workers", workers];
+        let (status, text) = answer(&rt, rt.alloc(), &words, input)?;
+        assert_eq!(&rt; status, 0, "{workers}");
+        assert!(&rt;
+            text.as_slice() == first.as_bytes() || text.as_slice() == second.as_bytes(),
+            "{text:?}"
+        );
+    }
     Ok(())
 }
 
@@ -82,7 +84,7 @@ fn clauses_may_clash(rt: HostRuntime) -> Result<(), Fail> {
 // status and the output.
 #[test]
 fn the_witness_stands_behind_the_log(rt: HostRuntime) -> Result<(), Fail> {
-    let rows: [(&[&str], &str, u8, &str); 6] = [
+    let rows: [(&[&str], &str, u8, &str); 7] = [
         (
             &["resample", "--stacks", "0,0,1", "--witness", "1,1"],
             "p cnf 1 1\n1 0\n",
@@ -103,6 +105,12 @@ fn the_witness_stands_behind_the_log(rt: HostRuntime) -> Result<(), Fail> {
             "p cnf 1 1\n1 0\n",
             6,
             "s EXHAUSTED\nstuck 1\nused 1\npops 1\nlog 1 1\npop 1 1:0\nwitness none 1 1 1\n",
+        ),
+        (
+            &["resample", "--stacks", "0,0,1", "--witness", "1,2"],
+            "p cnf 1 1\n1 0\n",
+            6,
+            "s SAMPLE\nv 1 0\nused 2\npops 2\nlog 1 2\npop 1 1:0\npop 1 1:1\nwitness none 1 2 2\n",
         ),
         // the pop is there, and an event still occurs
         (
@@ -149,7 +157,16 @@ fn a_witness_is_that_of_the_log_before_it(rt: HostRuntime) -> Result<(), Fail> {
         ("1,1", 6, "witness none 1 1 1\n", "witness none 1 1 1\n"),
     ];
     for (asked, status, of_first, of_second) in rows {
-        let words = ["resample", "--stacks", "0,1;0,0;0,0", "--witness", asked];
+        let stacks = "0,1;0,0;0,0";
+        let words = [
+            "resample",
+            "--stacks",
+            stacks,
+            "--workers",
+            "2",
+            "--witness",
+            asked,
+        ];
         let (got, text) = answer(&rt, rt.alloc(), &words, input)?;
         let either = [(first, of_first), (second, of_second)];
         let mut told = false;

@@ -15,8 +15,8 @@ loop-v-preserved c =
           c.in_ok-push_literal.ensures;
     }
 
-pub returns : goal.returns
-returns c =
+pub returns-clause-line : goal.returns-clause-line
+returns-clause-line c =
     on_ok_weaker c.push-2.result
     (assignment_whole c.args.stacks.now c.args.cursors.now c.loop-v.v c.args.out.now c.loop-v.out c.push-2.new.self
     (omega arith) c.loop-v.invariant.text)

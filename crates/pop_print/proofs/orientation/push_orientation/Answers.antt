@@ -22,8 +22,8 @@ loop-i-preserved c =
           (c.entry-x.ensures.value ∙ ap (value_at c.args.stacks.now i) c.get.ensures));
     }
 
-pub returns : goal.returns
-returns c =
+pub returns-clause-lines : goal.returns-clause-lines
+returns-clause-lines c =
     let edges = c.args.graph.now.edges in
     let size = length-enumerate_from 0 edges in
     all_members (edge_line c.args.stacks.now c.args.cursors.now) (enumerate_from 0 edges) c.loop-i.i c.args.out.now

@@ -29,8 +29,8 @@ loop-v-preserved c =
           c.vertex_of-vertex.ensures);
     }
 
-pub returns : goal.returns
-returns c =
+pub returns-clause-lines : goal.returns-clause-lines
+returns-clause-lines c =
     let cursors = c.args.cursors.now in
     let size = length-enumerate_from 0 cursors in
     all_members (vertex_line c.args.graph.now c.args.root c.args.stacks.now) (enumerate_from 0 cursors) c.loop-v.v

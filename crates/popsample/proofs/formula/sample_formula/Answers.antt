@@ -6,7 +6,7 @@ use Rattle.popsample.specs.Formulas.{ComesOfFormula}
 use Rattle.popsample.specs.Sampling.{pair_weights}
 use Rattle.popsample.specs.Outcomes.Outcome.{Unsound}
 use Rattle.popsample.proofs.Carrying.{told}
-use Rattle.popsample.proofs.Telling.{has_name, pairs_few}
+use Rattle.popsample.proofs.FaultNames.{has_name, pairs_few}
 use Rattle.popsample.proofs.formula.sample_formula.Goals as goal
 
 pub refuse_stacks-requires : goal.refuse_stacks-requires

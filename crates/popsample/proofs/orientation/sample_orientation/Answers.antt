@@ -4,7 +4,7 @@ use Rattle.pop_print.specs.declared.facts.Facts.TheVariants.{Orient as OrientFac
 use Rattle.popsample.specs.Sampling.{pair_weights}
 use Rattle.popsample.specs.Orientations.{EndsOrientation}
 use Rattle.popsample.proofs.GoodForms.{unsound}
-use Rattle.popsample.proofs.Telling.{has_name, pairs_few}
+use Rattle.popsample.proofs.FaultNames.{has_name, pairs_few}
 use Rattle.popsample.proofs.orientation.sample_orientation.Goals as goal
 
 pub refuse_stacks-requires : goal.refuse_stacks-requires

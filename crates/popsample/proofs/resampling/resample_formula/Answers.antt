@@ -1,6 +1,6 @@
 use Rattle.std.proofs.Common.{arith}
 use Rattle.pop_stacks.specs.Tables.{origin_of}
-use Rattle.popsample.proofs.Telling.{has_name, pairs_few}
+use Rattle.popsample.proofs.FaultNames.{has_name, pairs_few}
 use Rattle.popsample.proofs.resampling.resample_formula.Goals as goal
 
 pub refuse_stacks-requires : goal.refuse_stacks-requires

@@ -24,7 +24,7 @@ leads i cursors pops stuck log run =
     }
 
 pub returns : goal.returns
-returns c =
+returns g c =
     let i = c.args.instance.now in
     let log = c.args.log.now in
     let stuck = c.args.end.now.stuck in
@@ -34,11 +34,19 @@ returns c =
     let kept = run.kept_is in
     let same : run.log ≡ log = cc in
     let there : c.args.end.now.cursors ≡ replay (start_of i) log = run.cursors_are ∙ ap (replay (start_of i)) same in (
-      Resampled c.args.facts.now i log stuck w.witness,
-      (refl, refl, leads_there, subst (λ l. IsWitness c.args.asked l log w.witness) there w.is),
+      Resampled c.args.facts.now i log stuck w.witness c.in_ok-reports.reports.items,
+      (
+        refl,
+        refl,
+        leads_there,
+        subst (λ l. IsWitness c.args.asked.witness l log w.witness) there w.is,
+        c.in_ok-reports.ensures.reports,
+      ),
       record {
         status_is = c.status_with.ensures ∙ ap (λ b. if b then 6 else end_status stuck) w.missing_is;
-        out_is = c.in_ok-extend_from_slice.ensures.items
-            ∙ ap₂ (λ (a b : List ℕ). a ++ b) c.in_ok-text.ensures (c.deref.ensures.value ∙ w.text_is);
+        out_is = c.in_ok-extend_from_slice-2.ensures.items
+            ∙ ap₂ (λ (a b : List ℕ). a ++ b) (c.in_ok-extend_from_slice.ensures.items
+            ∙ ap₂ (λ (a b : List ℕ). a ++ b) c.in_ok-text.ensures (c.deref.ensures.value ∙ w.text_is))
+            c.deref-2.ensures.value;
       },
     )

@@ -6,5 +6,5 @@ pub returns : goal.returns
 returns c = (
   Ended c.args.facts.now c.args.instance.now c.args.end.now.cursors c.args.end.now.pops c.args.end.now.stuck,
   (refl, refl, c.requires.first),
-  record { status_is = c.status_of.ensures; out_is = c.in_ok-text.ensures },
+  record { status_is = c.status_of.ensures; out_is = c.in_ok-text.ensures.text },
 )

@@ -1,0 +1,31 @@
+use Rattle.std.proofs.Common.{◌++◌, ap, ◌∙◌, arith}
+use Rattle.std.proofs.lemmas.Result.{on_ok_weaker}
+use Rattle.pop_print.specs.Made.{grid_line, count_line, slot_sum, sum_line}
+use Rattle.pop_print.proofs.SummaryLemmas.{summary_sample, summary_stuck}
+use Rattle.pop_print.proofs.summary.push_summary.Goals as goal
+
+pub returns-in_ok-push_line-2-clause-text : goal.returns-in_ok-push_line-2-clause-text
+returns-in_ok-push_line-2-clause-text c =
+    on_ok_weaker c.push_line-then-len-eq0-2.result
+    (λ summed. summary_sample c.args.side c.args.end.now.pops c.args.instance.now.stacks c.args.end.now.cursors
+    c.args.end.now.stuck c.args.out.now c.push.new.self c.push_line.new.out c.push_totals.new.out
+    c.push_line-then-len-eq0.new.out c.push_line-then-len-eq0-2.new.out (omega arith) c.in_ok-push.ensures
+    (c.in_ok-push_line.ensures ∙ ap (λ n. c.push.new.self ++ grid_line n) c.from.ensures)
+    c.in_ok-push_totals.ensures c.in_ok-push_line-2.ensures
+    (summed ∙ ap (λ n. c.push_line-then-len-eq0.new.out ++ sum_line n)
+    (c.slot_sum.ensures.sum ∙ ap (λ s. slot_sum s c.args.end.now.cursors) c.stacks-stacks.ensures)))
+    c.push_line-then-len-eq0-2.ensures
+
+pub returns-in_ok-push_totals-2-clause-text : goal.returns-in_ok-push_totals-2-clause-text
+returns-in_ok-push_totals-2-clause-text c =
+    on_ok_weaker c.push_line-else-len-eq0-3.result
+    (summary_stuck c.args.side c.args.end.now.pops c.args.instance.now.stacks c.args.end.now.cursors
+    c.args.end.now.stuck c.args.out.now c.push-else-len-eq0.new.self c.push_line-else-len-eq0.new.out
+    c.push_line-else-len-eq0-2.new.out c.push_totals-else-len-eq0.new.out c.push_line-else-len-eq0-3.new.out
+    (omega arith) c.in_ok-push-2.ensures
+    (c.in_ok-push_line-3.ensures
+    ∙ ap (λ n. c.push-else-len-eq0.new.self ++ grid_line n) c.from-else-len-eq0.ensures)
+    (c.in_ok-push_line-4.ensures
+    ∙ ap (λ n. c.push_line-else-len-eq0.new.out ++ count_line n) c.len-else-len-eq0.ensures)
+    c.in_ok-push_totals-2.ensures)
+    c.push_line-else-len-eq0-3.ensures

@@ -1,0 +1,42 @@
+use Rattle.std.proofs.Common.{◌+◌, ◌*◌, ◌<◌, ◌≤◌, ◌^◌, length, ap, ◌∙◌, arith}
+use Rattle.pop_model.specs.Stacks.{value_at}
+use Rattle.pop_model.specs.Names.{vertex_of}
+use Rattle.graph_read.specs.Incidence.{edges_at}
+use Rattle.pop_print.proofs.Degrees.{degrees_below}
+use Rattle.pop_print.proofs.SlotSums.{sum_fits, sum_small, terms_all, terms_more}
+use Rattle.pop_print.proofs.summary.slot_sum.Goals as goal
+
+-- the sum with the term of the variable is small still
+small : (c : goal.After-from-in-loop-v) → c.loop-v.total + c.from.result * (c.from-in-loop-v.result + 1)
+    ≤ 2 ^ 22 * degrees_below c.args.graph.now (c.loop-v.v + 1)
+small c =
+    let slots = c.requires.slots c.loop-v.v (omega arith) in
+    let within = c.entry-x.ensures.within in
+    let slot : c.from-in-loop-v.result < length (edges_at c.args.graph.now (vertex_of 1 c.loop-v.v)) = omega arith in
+    sum_small c.args.graph.now c.loop-v.v c.from.result c.from-in-loop-v.result c.loop-v.total
+    c.vertices-vertices.ensures.graph.vertices_fit (omega arith) (c.from.ensures ∙ c.vertex_of.ensures) slot
+    c.loop-v.invariant.small
+
+pub overflow_add-total-in-loop-v : goal.overflow_add-total-in-loop-v
+overflow_add-total-in-loop-v c =
+    omega (
+      arith,
+      sum_fits c.args.graph.now (c.loop-v.v + 1) (c.loop-v.total + c.from.result * (c.from-in-loop-v.result + 1))
+          c.vertices-vertices.ensures.graph.edges_fit (small c),
+    )
+
+pub loop-v-preserved : goal.loop-v-preserved
+loop-v-preserved c =
+    record {
+      belongs = rw c.entry-x.ensures.same c.loop-v.invariant.belongs;
+      is = terms_more c.args.stacks.now c.args.cursors.now c.loop-v.v c.from.result c.from-in-loop-v.result
+          c.loop-v.total (omega arith) (c.from.ensures ∙ c.vertex_of.ensures)
+          (c.from-in-loop-v.ensures ∙ c.entry-x.ensures.value
+          ∙ ap (value_at c.args.stacks.now c.loop-v.v) c.get.ensures)
+          c.loop-v.invariant.is;
+      small = small c;
+    }
+
+pub returns-clause-sum : goal.returns-clause-sum
+returns-clause-sum c =
+    terms_all c.args.stacks.now c.args.cursors.now c.loop-v.v c.loop-v.total (omega arith) c.loop-v.invariant.is

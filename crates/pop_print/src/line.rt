@@ -1,0 +1,15 @@
+//! A line of a word and a number.
+ghost use Rattle.std.specs.Prelude.{◌≡◌, ◌++◌, decimal, OnOk};
+ghost use Rattle.pop_model.specs.Text.{line};
+
+use pop_text::Output;
+use std::alloc::AllocError;
+
+/// A word, with the space behind it, and a number, on a line of their own.
+pub fn push_line(out: &mut Output, word: &[u8], n: u64) -> Result<(), AllocError>
+    ensures { OnOk result (out.new ≡ out.old ++ line (word.now ++ decimal n)) }
+{
+    out.push(word)?;
+    out.push_number(n)?;
+    out.push(b"\n")
+}

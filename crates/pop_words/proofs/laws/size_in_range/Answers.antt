@@ -1,0 +1,5 @@
+use Rattle.pop_words.proofs.LawLemmas.{asked_size}
+use Rattle.pop_words.proofs.laws.size_in_range.Goals as goal
+
+pub returns : goal.returns
+returns c = asked_size

@@ -1,0 +1,244 @@
+//! Watchers of a resampling, and what they report of its log.
+ghost use Rattle.std.specs.Prelude.{[], ◌∷◌};
+
+use super::{each_kind, owned};
+use crate::run;
+use confluence_core::Record;
+use pop_edge::{MemSink, MemSource};
+use pop_instance::Cube;
+use pop_watch::{Heights, Totals, Watch};
+use pop_workers::NoGate;
+use std::alloc::{AllocError, Global};
+use std::sync::atomic::{AtomicU64, Ordering};
+use std::sync::{Arc, Wait};
+use std::test::Fail;
+use std::thread::Threads;
+
+// What is printed of two pops of one clause, but for the reports. Worked by hand.
+const INPUT: &str = "p cnf 1 1\n1 0\n";
+
+const HISTORY: &str = "s SAMPLE\nv 1 0\nused 2\npops 2\nlog 1 2\npop 1 1:0\npop 1 1:1\n";
+
+// What is printed of them with these words behind the stacks, and these watchers.
+fn reported<R: Threads + Wait + Sync>(
+    rt: &R,
+    alloc: Global,
+    more: &[&str],
+    watchers: Vec<Box<dyn Watch>>,
+) -> Result<(u8, Vec<u8>), Fail> {
+    let mut words = owned(alloc, &["resample", "--stacks", "0,0,1"])?;
+    for word in more {
+        words.push(String::from_str(alloc, word)?)?;
+    }
+    let bytes = Vec::from_slice(alloc, INPUT.as_bytes())?;
+    let mut source = MemSource::new(bytes, 64, Vec::new(alloc));
+    let mut sink = MemSink::new(alloc, 4096, 4096, Vec::new(alloc))?;
+    let status = run(rt, alloc, &words, watchers, &NoGate, &mut source, &mut sink);
+    Ok((status, Vec::from_slice(alloc, sink.bytes())?))
+}
+
+// Worked by hand: the words behind the stacks, and the text behind the log.
+#[test]
+fn reports_stand_by_rising_kind_behind_the_witness(rt: HostRuntime) -> Result<(), Fail> {
+    let rows: [(&[&str], &str); 6] = [
+        (
+            &["--witness", "1,1", "--report", "totals,heights"],
+            "witness 2\nwit 0 1 1=0\nwit 1 1 1=0\nreport totals 2 2 1\nreport heights 1 1\n",
+        ),
+        (
+            &["--report", "heights,totals"],
+            "report totals 2 2 1\nreport heights 1 1\n",
+        ),
+        (&["--report", "totals"], "report totals 2 2 1\n"),
+        (&["--report", "heights"], "report heights 1 1\n"),
+        (
+            &["--workers", "2", "--report", "heights"],
+            "report heights 1 1\n",
+        ),
+        (&[], ""),
+    ];
+    let alloc = rt.alloc();
+    for (more, behind) in rows {
+        let (status, text) = reported(&rt, alloc, more, each_kind(alloc)?)?;
+        assert_eq!(&rt; status, 0, "{more:?}");
+        let whole = format!(in alloc; "{HISTORY}{behind}")?;
+        assert_eq!(&rt; text.as_slice(), whole.as_bytes(), "{more:?}");
+    }
+    Ok(())
+}
+
+#[test]
+fn a_kind_that_no_watcher_has_has_no_line(rt: HostRuntime) -> Result<(), Fail> {
+    let alloc = rt.alloc();
+    let more = ["--report", "totals,heights"];
+    let (status, text) = reported(&rt, alloc, &more, Vec::new(alloc))?;
+    assert_eq!(&rt; status, 0);
+    assert_eq!(&rt; text.as_slice(), HISTORY.as_bytes());
+
+    let mut watchers: Vec<Box<dyn Watch>> = Vec::new(alloc);
+    watchers.push(Box::new(alloc, Heights::new())?)?;
+    let (status, text) = reported(&rt, alloc, &more, watchers)?;
+    let whole = format!(in alloc; "{HISTORY}report heights 1 1\n")?;
+    assert_eq!(&rt; status, 0);
+    assert_eq!(&rt; text.as_slice(), whole.as_bytes());
+    Ok(())
+}
+
+// What was done with a watcher.
+#[derive(Drop)]
+struct Notes {
+    told: AtomicU64,
+    reported: AtomicU64,
+    // How often it had reported when it was dropped, plus 1; 0 until then.
+    dropped: AtomicU64,
+}
+
+impl Notes {
+    fn none() -> Notes {
+        Notes {
+            told: AtomicU64::new(0),
+            reported: AtomicU64::new(0),
+            dropped: AtomicU64::new(0),
+        }
+    }
+}
+
+// Totals that note what is done with them.
+struct Noted {
+    totals: Totals,
+    notes: Arc<Notes>,
+}
+
+impl Watch for Noted {
+    ghost kind = { λ _. 1 };
+
+    ghost state = { λ a. ⟦<Totals as Watch>⟧.state a.totals };
+
+    fn kind(&self) -> u32 {
+        1
+    }
+
+    fn tell(&mut self, popped: &Record) -> Result<(), AllocError> {
+        self.notes.told.fetch_add(1, Ordering::SeqCst);
+        self.totals.tell(popped)
+    }
+
+    fn report(&self, alloc: Global) -> Result<Vec<u8>, AllocError> {
+        self.notes.reported.fetch_add(1, Ordering::SeqCst);
+        self.totals.report(alloc)
+    }
+}
+
+impl Drop for Noted {
+    fn drop(self) {
+        let before = self.notes.reported.load(Ordering::SeqCst);
+        self.notes
+            .dropped
+            .store(before.wrapping_add(1), Ordering::SeqCst);
+        let Noted {
+            totals: _,
+            notes: _,
+        } = self;
+    }
+}
+
+// What was done with totals that were handed in with these words: how often they were told, and how
+// often they reported; and that they were dropped after that.
+fn done<R: Threads + Wait + Sync + std::process::Abort>(
+    rt: &R,
+    alloc: Global,
+    more: &[&str],
+) -> Result<(u64, u64), Fail> {
+    let notes = Arc::new(alloc, Notes::none())?;
+    let mut watchers: Vec<Box<dyn Watch>> = Vec::new(alloc);
+    let noted = Noted {
+        totals: Totals::new(),
+        notes: notes.clone()?,
+    };
+    watchers.push(Box::new(alloc, noted)?)?;
+    let (status, _text) = reported(rt, alloc, more, watchers)?;
+    assert_eq!(rt; status, 0);
+    let told = notes.told.load(Ordering::SeqCst);
+    let reported = notes.reported.load(Ordering::SeqCst);
+    assert_eq!(rt;
+        notes.dropped.load(Ordering::SeqCst),
+        reported.wrapping_add(1)
+    );
+    Ok((told, reported))
+}
+
+// The log has two records. A watcher is told them also where its report isn't asked for, and is
+// dropped by the call, after its report.
+#[test]
+fn each_watcher_is_told_each_record_once_and_dropped(rt: HostRuntime) -> Result<(), Fail> {
+    let alloc = rt.alloc();
+    assert_eq!(&rt; done(&rt, alloc, &[])?, (2, 0));
+    assert_eq!(&rt; done(&rt, alloc, &["--report", "heights"])?, (2, 0));
+    assert_eq!(&rt; done(&rt, alloc, &["--report", "totals"])?, (2, 1));
+    assert_eq!(&rt; done(&rt, alloc, &["--report", "heights,totals"])?, (2, 1));
+    Ok(())
+}
+
+// A watcher of a kind that has no report.
+#[derive(Drop)]
+struct Silent;
+
+impl Watch for Silent {
+    ghost kind = { λ _. 7 };
+
+    ghost state = { λ _. 5 ∷ [] };
+
+    fn kind(&self) -> u32 {
+        7
+    }
+
+    fn tell(&mut self, popped: &Record) -> Result<(), AllocError> {
+        let _len = popped.cube().len();
+        Ok(())
+    }
+
+    fn report(&self, alloc: Global) -> Result<Vec<u8>, AllocError> {
+        Ok(Vec::new(alloc))
+    }
+}
+
+// A watcher of another kind beside the two changes nothing, and of two of a kind the first reports.
+#[test]
+fn the_first_watcher_of_a_kind_reports(rt: HostRuntime) -> Result<(), Fail> {
+    let alloc = rt.alloc();
+    let mut watchers: Vec<Box<dyn Watch>> = Vec::new(alloc);
+    watchers.push(Box::new(alloc, Silent)?)?;
+    watchers.push(Box::new(alloc, Heights::new())?)?;
+    watchers.push(Box::new(alloc, Totals::new())?)?;
+    watchers.push(Box::new(
+        alloc,
+        Noted {
+            totals: Totals::new(),
+            notes: Arc::new(alloc, Notes::none())?,
+        },
+    )?)?;
+    let more = ["--report", "totals,heights"];
+    let (status, text) = reported(&rt, alloc, &more, watchers)?;
+    let whole = format!(in alloc; "{HISTORY}report totals 2 2 1\nreport heights 1 1\n")?;
+    assert_eq!(&rt; status, 0);
+    assert_eq!(&rt; text.as_slice(), whole.as_bytes());
+    Ok(())
+}
+
+// Worked by hand: the totals were told a pop of two entries before they are handed in.
+#[test]
+fn a_report_goes_on_from_the_state_that_is_handed_in(rt: HostRuntime) -> Result<(), Fail> {
+    let alloc = rt.alloc();
+    let cube = Cube::new(vec![in alloc; (0, 0), (1, 0)]?).expect(&rt, "rising variables");
+    assert_eq!(&rt; cube.len(), 2);
+    let mut totals = Totals::new();
+    totals.tell(&Record::new(0, cube, vec![in alloc; 4, 0]?))?;
+    let mut watchers: Vec<Box<dyn Watch>> = Vec::new(alloc);
+    watchers.push(Box::new(alloc, totals)?)?;
+    watchers.push(Box::new(alloc, Totals::new())?)?;
+    let (status, text) = reported(&rt, alloc, &["--report", "totals"], watchers)?;
+    let whole = format!(in alloc; "{HISTORY}report totals 3 4 2\n")?;
+    assert_eq!(&rt; status, 0);
+    assert_eq!(&rt; text.as_slice(), whole.as_bytes());
+    Ok(())
+}
