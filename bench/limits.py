@@ -1,0 +1,141 @@
+"""Inputs at each limit of the program and one past it, with what it is to say."""
+from typing import Callable, Iterator, List, NamedTuple, Optional
+
+import inputs
+
+VARIABLES = 2**22
+CLAUSES = 2**22
+LITERALS = 2**25
+VERTICES = 2**22
+EDGES = 2**23
+TEXT_BYTES = 2**28
+WEIGHTS = 2**32 - 1
+SIDE = 2048
+
+
+class Trial(NamedTuple):
+    """An input at a limit or past it: the words of the command, the lines of the text, if it reads one, and the status
+    and the first line that are wanted."""
+
+    name: str
+    words: List[str]
+    lines: Optional[Callable[[], Iterator[str]]]
+    status: int
+    first_line: str
+
+
+def fits(name, words, lines):
+    return Trial(f"{name}: at the limit", words, lines, 0, "s SAMPLE")
+
+
+def is_refused(name, words, lines, first_line, status=4):
+    return Trial(f"{name}: one past", words, lines, status, first_line)
+
+
+def chain_of_most_variables():
+    """A chain that uses all variables but one, which stands in the header alone."""
+    clauses = (VARIABLES - 2) // 2
+    yield f"p cnf {VARIABLES} {clauses}\n"
+    yield from inputs.chain_lines(clauses)
+
+
+def few_signs(count):
+    """Numbers below 256 with the fewest bits. Each sign takes a byte, and so many literals leave few to spare."""
+    return sorted(range(256), key=lambda signs: bin(signs).count("1"))[:count]
+
+
+def clause_form(signs):
+    """The line of a clause over 8 variables that are yet to be named, negated where the number has a bit."""
+    return "".join(("-" if signs >> place & 1 else "") + "{" + str(place) + "} " for place in range(8)) + "0\n"
+
+
+def block_lines():
+    """As many clauses as there may be, of 8 literals each: as many literals as there may be. Blocks of 8 variables have
+    32 clauses each, so that a quarter of the variables serves, whose names are short enough for the text's limit."""
+    form = "".join(map(clause_form, few_signs(32)))
+    for first in range(1, CLAUSES // 32 * 8, 8):
+        yield form.format(*range(first, first + 8))
+
+
+def fullest_formula():
+    yield f"p cnf {VARIABLES} {CLAUSES}\n"
+    yield from block_lines()
+
+
+def clause_too_many():
+    """The header declares as many as it may, and one more follows."""
+    yield from fullest_formula()
+    yield f"{VARIABLES} 0\n"
+
+
+def literal_too_many():
+    """Most literals in half as many clauses, and then one more."""
+    yield f"p cnf {VARIABLES} {CLAUSES}\n"
+    for _ in range(LITERALS // 16):
+        yield "1 2 3 4 5 6 7 8 9 10 11 12 13 14 15 16 0\n"
+    yield "1 0\n"
+
+
+def padded(size):
+    """A formula of one clause, with comments that fill the text up to so many bytes."""
+    front = "p cnf 1 1\n1 0\n"
+    line = "c" * 1023 + "\n"
+    yield front
+    whole, rest = divmod(size - len(front), len(line))
+    for _ in range(whole):
+        yield line
+    yield "c" * rest
+
+
+def edge_too_many():
+    yield from inputs.torus(SIDE)
+    yield "e 1 2\n"
+
+
+def pair_of_weight(sum_of_weights):
+    """Two vertices, joined by two edges of this weight together."""
+    yield from ("p edge 2 2\n", f"e 1 2 {sum_of_weights - 1}\n", "e 1 2 1\n")
+
+
+def formula_trials():
+    formula = ["formula"]
+    lines_of_padding = (TEXT_BYTES - 14) // 1024
+    return [
+        fits("variables", formula, chain_of_most_variables),
+        is_refused("variables", formula, lambda: [f"p cnf {VARIABLES + 1} 1\n"], "s LIMIT 2 1"),
+        fits("variables, clauses and literals", formula, fullest_formula),
+        is_refused("clauses declared", formula, lambda: [f"p cnf 1 {CLAUSES + 1}\n"], "s LIMIT 3 1"),
+        is_refused("clauses", formula, clause_too_many, f"s LIMIT 3 {CLAUSES + 2}"),
+        is_refused("literals", formula, literal_too_many, f"s LIMIT 4 {LITERALS // 16 + 2}"),
+        fits("bytes", formula, lambda: padded(TEXT_BYTES)),
+        is_refused("bytes", formula, lambda: padded(TEXT_BYTES + 1), f"s LIMIT 1 {lines_of_padding + 3}"),
+    ]
+
+
+def graph_trials(command):
+    return [
+        fits(f"{command}, vertices and edges", [command], lambda: inputs.torus(SIDE)),
+        is_refused(f"{command}, vertices", [command], lambda: [f"p edge {VERTICES + 1} 0\n"], "s LIMIT 2 1"),
+        is_refused(f"{command}, edges", [command], edge_too_many, f"s LIMIT 5 {EDGES + 2}"),
+    ]
+
+
+def weight_trials():
+    tree = ["tree"]
+    return [
+        fits("tree, weights at a vertex", tree, lambda: pair_of_weight(WEIGHTS)),
+        is_refused("tree, weights at a vertex", tree, lambda: pair_of_weight(WEIGHTS + 1), "s LIMIT 6 2"),
+    ]
+
+
+def grid_trials():
+    side, past = ["make", "grid", str(SIDE)], ["make", "grid", str(SIDE + 1)]
+    return [
+        fits("make grid", side, None),
+        # The side is a command word, so that a greater one is refused as such.
+        is_refused("make grid", past, None, "s USAGE 3", status=2),
+    ]
+
+
+def trials():
+    return [*formula_trials(), *graph_trials("orient"), *graph_trials("tree"), *weight_trials(), *grid_trials()]
