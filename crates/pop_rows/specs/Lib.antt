@@ -1,2 +1,5 @@
 pub mod FlatRows
 pub mod Layout
+pub mod RowList
+pub mod Fronts
+pub mod PrefixSums

@@ -1,7 +1,8 @@
-ghost use Rattle.std.specs.Prelude.{◌≡◌, ◌<◌, ◌≤◌, ◌^◌, [], length, replicate, slice_range, IfOk};
+ghost use Rattle.std.specs.Prelude.{◌≡◌, ◌<◌, ◌^◌, [], length, replicate, IfOk};
 ghost use Rattle.pop_rows.specs.FlatRows.{row_at, push_at, HasRoom, AreRoomy};
 ghost use Rattle.pop_rows.specs.Layout.{AreStarts};
 
+use crate::parts::part;
 use std::alloc::{AllocError, Global};
 use std::marker::Model;
 
@@ -74,15 +75,6 @@ impl FlatRows {
         let v = row as usize;
         part(&self.items, self.starts[v], self.ends[v])
     }
-}
-
-// The items from a place up to below another.
-fn part(items: &[u32], start: u32, end: u32) -> &[u32]
-    requires begun { start ≤ end }
-    requires within { end ≤ length items.now }
-    ensures { result.now ≡ slice_range items.now start end }
-{
-    &items[start as usize..end as usize]
 }
 
 // The sums of the first rooms: of none, of one, and so on up to that of all.

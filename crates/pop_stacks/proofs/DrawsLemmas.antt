@@ -8,18 +8,14 @@ use Rattle.std.proofs.lemmas.List.Sums.{sum_by-cons}
 use Rattle.std.proofs.lemmas.Nat.{shr-shr, mul-le, div-add-mod'}
 use Rattle.std.proofs.Math.Nat.{mul_assoc, add-mul}
 use Rattle.pop_model.specs.Stacks.{scaled, first_above, weighted}
-use Rattle.pop_stacks.specs.Draws.{running, differences, RisesFrom}
+use Rattle.pop_rows.specs.PrefixSums.{running}
+use Rattle.pop_stacks.specs.Draws.{differences, RisesFrom}
 
 -- the sum of a list with a number more
 pub sum-cons : (x : ℕ) (xs : List ℕ) → sum (x ∷ xs) ≡ x + sum xs
 sum-cons x xs = sum_by-cons (λ (n : ℕ). n) x xs
 
--- there are as many sums as weights
-pub length-running : (total : ℕ) (weights : List ℕ) → length (running total weights) ≡ length weights
-length-running total [] = refl
-length-running total (w ∷ weights) = ap suc (length-running (total + w) weights)
-
--- and as many differences as sums
+-- there are as many differences as sums
 pub length-differences : (total : ℕ) (sums : List ℕ) → length (differences total sums) ≡ length sums
 length-differences total [] = refl
 length-differences total (x ∷ sums) = ap suc (length-differences x sums)

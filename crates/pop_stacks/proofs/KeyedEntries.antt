@@ -1,11 +1,11 @@
 -- Keyed entries, by the words of the key stream that make their numbers.
-use Rattle.std.proofs.Common.{◌≡◌, ◌<◌, ◌+◌, ◌*◌, ◌^◌, ◌∙◌, ℕ, List, length, slice_index, ap, ap₂, sym, subst, arith}
+use Rattle.std.proofs.Common.{◌≡◌, ◌<◌, ◌+◌, ◌*◌, ◌^◌, ◌∙◌, ℕ, List, slice_index, ap, ap₂, sym, subst, arith}
 use Rattle.rand_chacha.specs.ChaCha.{key_of, word_at}
 use Rattle.pop_model.specs.Stacks.{StackTable, value_at, domain_of, number_at, weighted, row_of}
 use Rattle.pop_stacks.specs.Tables.{table_of}
 use Rattle.pop_stacks.specs.Readers.{Streams}
 use Rattle.pop_stacks.specs.Words.{AreWordsOf}
-use Rattle.pop_stacks.specs.Draws.{AreDrawn, number_in}
+use Rattle.pop_stacks.specs.Draws.{AreDrawn}
 use Rattle.pop_stacks.specs.KeptValues.{AreValuesOf}
 use Rattle.pop_stacks.specs.declared.stack_spec.StackSpec.{StackSpec}
 use Rattle.pop_stacks.specs.declared.stack_spec.StackSpec.TheVariants.{Key}

@@ -1,5 +1,6 @@
 mod RowsLemmas
 mod DrawsLemmas
+mod GroupDraws
 mod SumsInPlace
 mod WeightsBySums
 mod PlaneLemmas

@@ -1,17 +1,17 @@
 -- What kept running sums say of the weights. Each row of sums gives back its row of weights by its
 -- differences; it is as long, it isn't empty, and it rises. Of pairs of weights 1 the sums are 1
 -- and 2 for each variable.
-use Rattle.std.proofs.Common.{◌≡◌, ℕ, zero, suc, ◌<◌, ◌^◌, List, [], ◌∷◌, length, get_or, map, replicate, refl, sym, ap, subst, ◌∙◌, arith, All, Vec}
+use Rattle.std.proofs.Common.{◌≡◌, ℕ, zero, suc, ◌<◌, ◌^◌, List, [], ◌∷◌, length, map, replicate, refl, sym, ap, subst, ◌∙◌, arith, All}
 use Rattle.std.proofs.lemmas.List.{length-map, get_or-map, length-replicate, get_or-replicate}
 use Rattle.pop_model.specs.Stacks.{row_of}
-use Rattle.pop_stacks.specs.Rows.{lists_of, AreWeights}
-use Rattle.pop_stacks.specs.Draws.{running, differences, RisesFrom, AreRunning}
+use Rattle.pop_stacks.specs.Rows.{AreShort, AreWeights}
+use Rattle.pop_rows.specs.PrefixSums.{running}
+use Rattle.pop_rows.proofs.SumsInPlace.{length-running}
+use Rattle.pop_stacks.specs.Draws.{differences, RisesFrom, AreRunning}
 use Rattle.pop_stacks.specs.Sums.{sums_of}
 use Rattle.pop_stacks.specs.declared.sums.KeptSums.{KeptSums}
 use Rattle.pop_stacks.specs.declared.sums.KeptSums.TheVariants.{Pairs, Rows}
-use Rattle.std.specs.declared.alloc.Global.{Global}
-use Rattle.pop_stacks.proofs.RowsLemmas.{length-lists_of, list_at, row_has}
-use Rattle.pop_stacks.proofs.DrawsLemmas.{length-running, length-differences, differences-running, rises-running}
+use Rattle.pop_stacks.proofs.DrawsLemmas.{length-differences, differences-running, rises-running}
 
 -- the differences of the sums are the weights again
 pub weights_again : (weights : List (List ℕ)) → map (differences 0) (map (running 0) weights) ≡ weights
@@ -28,14 +28,18 @@ each_running P Q step (row ∷ rows) all zero d below = step row (all 0 d (omega
 each_running P Q step (row ∷ rows) all (suc k) d below =
     each_running P Q step rows (λ j e under. all (suc j) e (omega arith)) k d (omega arith)
 
+-- there are as many rows of sums, and as many sums in each
+pub short_running : (rows : List (List ℕ)) → AreShort rows → AreShort (map (running 0) rows)
+short_running rows are = record {
+  count = let size = length-map rows (running 0) in let few = are.count in omega (arith, size, few);
+  each = each_running (λ row. length row < 2 ^ 31) (λ row. length row < 2 ^ 31)
+      (λ row few. omega (arith, length-running 0 row, few)) rows are.each;
+}
+
 -- the sums of weights are running sums
 pub are_running : (weights : List (List ℕ)) → AreWeights weights → AreRunning (map (running 0) weights)
 are_running weights are = record {
-  short = record {
-    count = let size = length-map weights (running 0) in let few = are.short.count in omega (arith, size, few);
-    each = each_running (λ row. length row < 2 ^ 31) (λ row. length row < 2 ^ 31)
-        (λ row few. omega (arith, length-running 0 row, few)) weights are.short.each;
-  };
+  short = short_running weights are.short;
   some = each_running (λ row. 0 < length row) (λ row. 0 < length row)
       (λ row some. omega (arith, length-running 0 row, some)) weights are.some;
   rising = each_running (λ row. All (λ w. 0 < w) row) (λ row. RisesFrom 0 row)
@@ -55,28 +59,30 @@ pub record IsSumsAt (weights : List (List ℕ)) (v : ℕ) (sums : List ℕ) : Ty
   pub short : length sums < 2 ^ 31
   pub rising : RisesFrom 0 sums
 
+-- there is a row of sums for each variable
+pub sums_there : (weights : List (List ℕ)) (kept : KeptSums) (rows : List (List ℕ)) (v : ℕ) → kept ≡ Rows rows
+    → map (differences 0) (sums_of kept) ≡ weights → v < length weights → v < length rows
+sums_there weights kept rows v is view below =
+    let shown : map (differences 0) rows ≡ weights = ap (λ k. map (differences 0) (sums_of k)) (sym is) ∙ view in
+    omega (arith, ap length shown, length-map rows (differences 0), below)
+
 -- a row of sums that was read is the one of its variable
-pub sums_at : (weights : List (List ℕ)) (kept : KeptSums) (rows : Vec (Vec ℕ Global) Global) (v : ℕ)
-    (x : Vec ℕ Global) → kept ≡ Rows rows → map (differences 0) (sums_of kept) ≡ weights
-    → AreRunning (sums_of kept) → v < length weights → x ≡ get_or rows.items v x → IsSumsAt weights v x.items
-sums_at weights kept rows v x is view running below read =
-    let shown : map (differences 0) (lists_of rows.items) ≡ weights =
-    ap (λ k. map (differences 0) (sums_of k)) (sym is) ∙ view in
-    let are : AreRunning (lists_of rows.items) = subst (λ k. AreRunning (sums_of k)) is running in
-    let mapped : length (map (differences 0) (lists_of rows.items)) ≡ length (lists_of rows.items) =
-    length-map (lists_of rows.items) (differences 0) in
-    let listed : length (lists_of rows.items) ≡ length rows.items = length-lists_of rows.items in
-    let within : v < length rows.items = omega (arith, ap length shown, mapped, listed, below) in
-    let inside : v < length (lists_of rows.items) = omega arith in
-    let row : row_of weights v ≡ differences 0 x.items =
-    ap (λ ws. row_of ws v) (sym shown) ∙ get_or-map (differences 0) (lists_of rows.items) v [] [] inside
-    ∙ ap (differences 0) (list_at rows.items v x [] within read) in
+pub sums_at : (weights : List (List ℕ)) (kept : KeptSums) (rows : List (List ℕ)) (v : ℕ) (sums : List ℕ)
+    → kept ≡ Rows rows → map (differences 0) (sums_of kept) ≡ weights → AreRunning (sums_of kept) → v < length weights
+    → sums ≡ row_of rows v → IsSumsAt weights v sums
+sums_at weights kept rows v sums is view running below read =
+    let shown : map (differences 0) rows ≡ weights = ap (λ k. map (differences 0) (sums_of k)) (sym is) ∙ view in
+    let are : AreRunning rows = subst (λ k. AreRunning (sums_of k)) is running in
+    let within : v < length rows = sums_there weights kept rows v is view below in
+    let row : row_of weights v ≡ differences 0 sums =
+    ap (λ ws. row_of ws v) (sym shown) ∙ get_or-map (differences 0) rows v [] [] within
+    ∙ ap (differences 0) (sym read) in
     record {
       row = row;
-      size = ap length row ∙ length-differences 0 x.items;
-      some = row_has (λ row. 0 < length row) rows.items v x within read are.some;
-      short = row_has (λ row. length row < 2 ^ 31) rows.items v x within read are.short.each;
-      rising = row_has (λ row. RisesFrom 0 row) rows.items v x within read are.rising;
+      size = ap length row ∙ length-differences 0 sums;
+      some = subst (λ (row : List ℕ). 0 < length row) (sym read) (are.some v [] within);
+      short = subst (λ (row : List ℕ). length row < 2 ^ 31) (sym read) (are.short.each v [] within);
+      rising = subst (λ row. RisesFrom 0 row) (sym read) (are.rising v [] within);
     }
 
 -- the weights of a variable by pairs of sums

@@ -1,12 +1,7 @@
 -- Weights by their running sums.
-use Rattle.std.specs.Prelude.{◌≡◌, ℕ, ◌+◌, ◌-◌, ◌*◌, ◌^◌, ◌<◌, List, [], ◌∷◌, ⊤, All, length, slice_index}
-use Rattle.pop_model.specs.Stacks.{weighted}
+use Rattle.std.specs.Prelude.{◌≡◌, ℕ, ◌+◌, ◌-◌, ◌*◌, ◌^◌, ◌<◌, ◌≤◌, ltb, if◌then◌else◌, List, [], ◌∷◌, ⊤, All, length, slice_index}
+use Rattle.pop_model.specs.Stacks.{scaled, weighted}
 use Rattle.pop_stacks.specs.Rows.{AreShort}
-
--- the sums of the weights so far, from a number on
-abbrev pub running : ℕ → List ℕ → List ℕ
-running total [] = []
-running total (w ∷ weights) = (total + w) ∷ running (total + w) weights
 
 -- what running sums add, one after another
 abbrev pub differences : ℕ → List ℕ → List ℕ
@@ -32,3 +27,23 @@ number_in words i = slice_index words (2 * i) + 2 ^ 32 * slice_index words (2 * 
 abbrev pub AreDrawn : List ℕ → List ℕ → ℕ → List ℕ → Type 0
 AreDrawn weights words n values = (i : ℕ) → i < n
     → (slice_index values i ≡ weighted weights (number_in words i)) × (slice_index values i < length weights)
+
+-- the first numbers are those that these words make, scaled to a total
+abbrev pub AreScaled : ℕ → List ℕ → ℕ → List ℕ → Type 0
+AreScaled total words n numbers = (i : ℕ) → i < n
+    → slice_index numbers i ≡ scaled (number_in words i) total
+
+-- the least place of a sum above m
+pub record IsFirstAbove (sums : List ℕ) (m place : ℕ) : Type 0 where
+  pub within : place < length sums
+  pub above : m < slice_index sums place
+  pub least : (k : ℕ) → k < place → slice_index sums k ≤ m
+
+-- the first values are the least places of sums above these numbers
+abbrev pub AreFirstAbove : List ℕ → List ℕ → ℕ → List ℕ → Type 0
+AreFirstAbove sums numbers n values = (i : ℕ) → i < n
+    → IsFirstAbove sums (slice_index numbers i) (slice_index values i)
+
+-- a place, moved past this sum where the sum is not above m
+abbrev pub past : ℕ → ℕ → ℕ → ℕ
+past sum m place = if ltb m sum then place else place + 1

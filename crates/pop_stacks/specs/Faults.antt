@@ -1,8 +1,9 @@
 -- What may be wrong with the entries and the weights of stacks, and which fault is named.
-use Rattle.std.specs.Prelude.{◌≡◌, ◌≢◌, ℕ, ◌<◌, ◌≤◌, ◌^◌, List, length, sum, slice_index, ⊤}
+use Rattle.std.specs.Prelude.{◌≡◌, ◌≢◌, ℕ, ◌<◌, ◌≤◌, List, length, slice_index, ⊤}
 use Rattle.pop_model.specs.Stacks.{Origin, row_of}
 use Rattle.pop_model.specs.Stacks.Origin.{Given, Keyed}
 use Rattle.pop_model.specs.Places.{IsLeast, IsLeastPair}
+pub use Rattle.pop_rows.specs.PrefixSums.{IsTooHeavy, AreLight}
 use Rattle.pop_stacks.specs.declared.stack_fault.StackFault.{StackFault}
 use Rattle.pop_stacks.specs.declared.stack_fault.StackFault.TheVariants.{RowCount, EmptyRow, ValueTooLarge, WeightSum}
 
@@ -16,10 +17,6 @@ pub record IsTooLarge (rows weights : List (List ℕ)) (v k : ℕ) : Type 0 wher
   pub place : k < length (row_of rows v)
   pub large : length (row_of weights v) ≤ slice_index (row_of rows v) k
 
--- the weights of variable v sum to more than 2 ^ 32 - 1
-abbrev pub IsTooHeavy : List (List ℕ) → ℕ → Type 0
-IsTooHeavy weights v = (v < length weights) × (2 ^ 32 ≤ sum (row_of weights v))
-
 -- each row has an entry
 abbrev pub HaveEntries : List (List ℕ) → Type 0
 HaveEntries rows = (v : ℕ) → v < length rows → 0 < length (row_of rows v)
@@ -28,10 +25,6 @@ HaveEntries rows = (v : ℕ) → v < length rows → 0 < length (row_of rows v)
 abbrev pub HaveValues : List (List ℕ) → List (List ℕ) → Type 0
 HaveValues rows weights = (v k : ℕ) → v < length rows → k < length (row_of rows v)
     → slice_index (row_of rows v) k < length (row_of weights v)
-
--- the weights of each variable sum to less than 2 ^ 32
-abbrev pub AreLight : List (List ℕ) → Type 0
-AreLight weights = (v : ℕ) → v < length weights → sum (row_of weights v) < 2 ^ 32
 
 -- rows without a fault: one for each variable, with entries that are values of it
 pub record AreSoundRows (rows weights : List (List ℕ)) : Type 0 where

@@ -1,4 +1,5 @@
 pub mod Rows
+pub mod KeptRows
 pub mod Weights
 pub mod Tables
 pub mod Faults

@@ -1,10 +1,9 @@
 -- Running sums, by how they are kept.
 use Rattle.std.specs.Prelude.{ℕ, List, [], ◌∷◌, replicate}
-use Rattle.pop_stacks.specs.Rows.{lists_of}
 use Rattle.pop_stacks.specs.declared.sums.KeptSums.{KeptSums}
 use Rattle.pop_stacks.specs.declared.sums.KeptSums.TheVariants.{Pairs, Rows}
 
 -- the running sums of each variable
 abbrev pub sums_of : KeptSums → List (List ℕ)
 sums_of (Pairs count) = replicate count (1 ∷ 2 ∷ [])
-sums_of (Rows rows) = lists_of rows.items
+sums_of (Rows rows) = rows

@@ -1,6 +1,6 @@
 -- Words of the key stream that are kept.
 use Rattle.std.specs.Prelude.{◌≡◌, ℕ, ◌+◌, ◌*◌, ◌<◌, List, true, slice_index}
-use Rattle.rand_chacha.specs.ChaCha.{word_at}
+use Rattle.rand_chacha.specs.ChaCha.{ChaCha, word_at}
 use Rattle.pop_stacks.specs.declared.refill.Refill.{Refill}
 
 -- the 64 words of a group of 32 entries of a variable
@@ -11,3 +11,8 @@ AreWordsOf key v group words =
 -- what a refill says it holds, it holds
 abbrev pub HoldsWords : List ℕ → Refill → Type 0
 HoldsWords key r = r.filled ≡ true → AreWordsOf key r.variable r.group r.words
+
+-- the first n words are those of the n places before the one where the cipher stands
+abbrev pub AreRead : ChaCha → ℕ → List ℕ → Type 0
+AreRead rng n words = (start j : ℕ) → rng.word_pos ≡ start + n → j < n
+    → slice_index words j ≡ word_at 10 rng.key rng.stream (start + j)

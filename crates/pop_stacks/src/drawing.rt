@@ -2,8 +2,8 @@ ghost use Rattle.std.specs.Prelude.{◌≡◌, ◌<◌, ◌≤◌, ◌+◌, ◌-
 ghost use Rattle.pop_model.specs.Stacks.{weighted, scaled};
 ghost use Rattle.pop_stacks.specs.Draws.{differences, RisesFrom};
 
-// The least place of a sum above m. A variable may have a million values, so it halves.
-fn first_above(sums: &[u32], m: u32) -> usize
+/// The least place of a sum above m. A variable may have a million values, so it halves.
+pub fn first_above(sums: &[u32], m: u32) -> usize
     requires some { 0 < length sums.now }
     requires rising { RisesFrom 0 sums.now }
     requires above { m < slice_index sums.now (length sums.now - 1) }
@@ -24,8 +24,8 @@ fn first_above(sums: &[u32], m: u32) -> usize
     low
 }
 
-// The number of two words, scaled to a total: the product of 96 bits by its halves.
-fn scale(low: u32, high: u32, total: u32) -> u32
+/// The number of two words, scaled to a total: the product of 96 bits by its halves.
+pub fn scale(low: u32, high: u32, total: u32) -> u32
     requires { 0 < total }
     ensures scaled { result ≡ scaled (low + 2 ^ 32 * high) total }
     ensures below { result < total }

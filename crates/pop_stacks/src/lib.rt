@@ -7,6 +7,7 @@ mod bit_line;
 mod bit_planes;
 mod byte_line;
 mod drawing;
+mod group_drawing;
 mod kept_values;
 mod key_stream;
 mod laws;

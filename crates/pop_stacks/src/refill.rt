@@ -1,5 +1,5 @@
-ghost use Rattle.std.specs.Prelude.{◌≡◌, ◌<◌, ◌*◌, ◌^◌, ℕ};
-ghost use Rattle.pop_stacks.specs.Words.{AreWordsOf};
+ghost use Rattle.std.specs.Prelude.{◌≡◌, ◌<◌, ◌≤◌, ◌+◌, ◌^◌};
+ghost use Rattle.pop_stacks.specs.Words.{AreRead, AreWordsOf};
 
 use rand_chacha::ChaCha20Rng;
 use rand_core::utils::NextWord;
@@ -27,6 +27,36 @@ pub const NONE: Refill = Refill {
     words: [0; 64],
 };
 
+// Reads four words more, to this place of a list of words.
+#[inline(always)]
+fn read_four(rng: &mut ChaCha20Rng, words: &mut [u32; 64], at: usize)
+    requires room { at + 4 ≤ 64 }
+    requires place { rng.old.word_pos + 4 < 2 ^ 68 }
+    requires read { AreRead rng.old at words.old }
+    ensures read { AreRead rng.new (at + 4) words.new }
+    ensures place { rng.new ≡ record rng.old { word_pos = rng.old.word_pos + 4 } }
+{
+    words[at] = rng.next_word();
+    words[at + 1] = rng.next_word();
+    words[at + 2] = rng.next_word();
+    words[at + 3] = rng.next_word();
+}
+
+// Reads sixteen words more, a block.
+#[inline(always)]
+fn read_block(rng: &mut ChaCha20Rng, words: &mut [u32; 64], at: usize)
+    requires room { at + 16 ≤ 64 }
+    requires place { rng.old.word_pos + 16 < 2 ^ 68 }
+    requires read { AreRead rng.old at words.old }
+    ensures read { AreRead rng.new (at + 16) words.new }
+    ensures place { rng.new ≡ record rng.old { word_pos = rng.old.word_pos + 16 } }
+{
+    read_four(rng, words, at);
+    read_four(rng, words, at + 4);
+    read_four(rng, words, at + 8);
+    read_four(rng, words, at + 12);
+}
+
 /// Reads the words of a group of entries of variable v: one refill of the cipher. The place is set
 /// before the stream, and both stand at a block's start, so that neither refills by itself.
 pub fn read_group(rng: &mut ChaCha20Rng, v: u32, group: u32, words: &mut [u32; 64])
@@ -36,7 +66,12 @@ pub fn read_group(rng: &mut ChaCha20Rng, v: u32, group: u32, words: &mut [u32; 6
 {
     rng.set_word_pos(64 * group as u128);
     rng.set_stream(v as u64);
-    for word in words.iter_mut() {
-        *word = rng.next_word();
-    }
+    // Written out and not in a loop, so that the compiler sees that only the first word refills, and
+    // moves the others many at a time.
+    let mut read = [0; 64];
+    read_block(rng, &mut read, 0);
+    read_block(rng, &mut read, 16);
+    read_block(rng, &mut read, 32);
+    read_block(rng, &mut read, 48);
+    *words = read;
 }

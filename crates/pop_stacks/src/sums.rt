@@ -3,18 +3,18 @@ ghost use Rattle.pop_model.specs.Stacks.{row_of, weighted};
 ghost use Rattle.pop_model.specs.Places.{IsLeast};
 ghost use Rattle.pop_stacks.specs.Faults.{AreLight, IsTooHeavy};
 ghost use Rattle.pop_stacks.specs.Draws.{AreDrawn};
-ghost use Rattle.pop_stacks.specs.Rows.{lists_of, AreWeights};
+ghost use Rattle.pop_stacks.specs.Rows.{AreWeights};
 
-use crate::Weights;
 use crate::drawing::draw;
-use crate::prefix_sums::accumulate_rows;
+use crate::group_drawing::{draw_all, draw_pairs};
+use crate::{Rows, Weights};
 use std::marker::Model;
 
 // How running sums are kept: those of pairs of weights 1 are 1 and 2.
 #[derive(Drop)]
 enum KeptSums {
     Pairs(u32),
-    Rows(Vec<Vec<u32>>),
+    Rows(Rows),
 }
 
 /// Weights by their running sums, so that a value is drawn by halving. Contracts see the weights.
@@ -36,19 +36,16 @@ impl Model for Sums {
 }
 
 // The sums of rows of weights, made in their place.
-fn sums_of_rows(rows: Vec<Vec<u32>>) -> Result<Sums, u32>
-    requires { AreWeights (lists_of rows.items) }
-    ensures made { IfOk result (λ sums. sums ≡ lists_of rows.items) }
-    ensures light { OnOk result (AreLight (lists_of rows.items)) }
-    ensures heavy { IfErr result (IsLeast (IsTooHeavy (lists_of rows.items))) }
+fn sums_of_rows(rows: Rows) -> Result<Sums, u32>
+    requires { AreWeights rows }
+    ensures made { IfOk result (λ sums. sums ≡ rows) }
+    ensures light { OnOk result (AreLight rows) }
+    ensures heavy { IfErr result (IsLeast (IsTooHeavy rows)) }
 {
-    let mut rows = rows;
-    match accumulate_rows(&mut rows) {
-        Some(v) => Err(v),
-        None => Ok(Sums {
-            kept: KeptSums::Rows(rows),
-        }),
-    }
+    let sums = rows.into_sums()?;
+    Ok(Sums {
+        kept: KeptSums::Rows(sums),
+    })
 }
 
 impl Sums {
@@ -74,7 +71,7 @@ impl Sums {
     {
         match &self.kept {
             KeptSums::Pairs(count) => *count,
-            KeptSums::Rows(rows) => rows.len() as u32,
+            KeptSums::Rows(rows) => rows.count(),
         }
     }
 
@@ -98,7 +95,7 @@ impl Sums {
     {
         match &self.kept {
             KeptSums::Pairs(_) => 2,
-            KeptSums::Rows(rows) => rows[v as usize].len() as u32,
+            KeptSums::Rows(rows) => rows.row(v).len() as u32,
         }
     }
 
@@ -111,7 +108,7 @@ impl Sums {
         match &self.kept {
             // Of two equal weights the top bit of the number chooses.
             KeptSums::Pairs(_) => high >> 31,
-            KeptSums::Rows(rows) => draw(&rows[v as usize], low, high),
+            KeptSums::Rows(rows) => draw(rows.row(v), low, high),
         }
     }
 
@@ -121,10 +118,9 @@ impl Sums {
         requires small { length (row_of self.now v) ≤ 256 }
         ensures { AreDrawn (row_of self.now v) words.now 32 result }
     {
-        let mut values = [0; 32];
-        for i in 0..32 {
-            values[i] = self.draw(v, words[2 * i], words[2 * i + 1]) as u8;
+        match &self.kept {
+            KeptSums::Pairs(_) => draw_pairs(words),
+            KeptSums::Rows(rows) => draw_all(rows.row(v), words),
         }
-        values
     }
 }

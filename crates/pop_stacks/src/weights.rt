@@ -1,6 +1,6 @@
 ghost use Rattle.std.specs.Prelude.{◌≡◌, ◌<◌, ◌^◌, ℕ, List, [], ◌∷◌, length, replicate, All, MatchOption};
 ghost use Rattle.pop_model.specs.Stacks.{row_of};
-ghost use Rattle.pop_stacks.specs.Rows.{lists_of, AreWeights};
+ghost use Rattle.pop_stacks.specs.Rows.{AreWeights};
 
 use crate::Rows;
 use std::marker::Model;
@@ -77,15 +77,15 @@ impl Weights {
     }
 
     // The rows again; None where each variable has two values of weight 1.
-    pub(crate) fn into_rows(self) -> Option<Vec<Vec<u32>>>
+    pub(crate) fn into_rows(self) -> Option<Rows>
         ensures rows { MatchOption result (self ≡ replicate (length self) (1 ∷ 1 ∷ []))
-            (λ rows. self ≡ lists_of rows.items) }
+            (λ rows. self ≡ rows) }
         ensures weights { AreWeights self }
     {
         let Weights { kept } = self;
         match kept {
             KeptWeights::Pairs(_) => None,
-            KeptWeights::Rows(rows) => Some(rows.into_rows()),
+            KeptWeights::Rows(rows) => Some(rows),
         }
     }
 }

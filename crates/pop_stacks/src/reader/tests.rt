@@ -1,8 +1,9 @@
-ghost use Rattle.std.specs.Prelude.{◌<◌, ◌^◌};
+ghost use Rattle.std.specs.Prelude.{◌<◌, ◌^◌, length, All};
 ghost use Rattle.pop_stacks.specs.Readers.{Belongs};
 
 use super::*;
 use crate::{Rows, StackSpec, Weights};
+use pop_rows::RowList;
 use std::process::Abort;
 use std::test::Fail;
 
@@ -56,6 +57,18 @@ fn has_values(
     Ok(())
 }
 
+// These weights of variable 0, in one array with those of another variable.
+fn flat(alloc: Global, weights: &[u32]) -> Result<Weights, Fail>
+    requires some { 0 < length weights.now }
+    requires short { length weights.now < 2 ^ 31 }
+    requires positive { All (λ weight. 0 < weight) weights.now }
+{
+    let mut rows = RowList::with_room(alloc, 2, 8)?;
+    rows.push_row(weights)?;
+    rows.push_row(&[7])?;
+    Ok(Weights::of(Rows::flat(rows)))
+}
+
 // The numbers of entries 0 to 7 are the words of RFC 8439, A.1, vector 1; they are scaled and
 // compared with the sums of the weights by hand.
 #[test]
@@ -74,6 +87,26 @@ fn a_value_is_the_least_whose_weights_exceed_the_scaled_number(
     has_values(&rt, alloc, Weights::of(steep), &[0, 0, 0, 0, 0, 0, 0, 0])?;
     let rising = Rows::of(vec![in alloc; vec![in alloc; 1, 5]?]?);
     has_values(&rt, alloc, Weights::of(rising), &[1, 0, 0, 1, 1, 1, 0, 1])
+}
+
+// The same weights in one array give the same values.
+#[test]
+fn weights_in_one_array_give_the_same_values(rt: HostRuntime) -> Result<(), Fail> {
+    let alloc = rt.alloc();
+    let equal = flat(alloc, &[1, 1])?;
+    has_values(&rt, alloc, equal, &[1, 0, 0, 1, 1, 0, 0, 1])?;
+    let thirds = flat(alloc, &[1, 1, 1])?;
+    has_values(&rt, alloc, thirds, &[1, 0, 0, 2, 1, 0, 0, 1])?;
+    let falling = flat(alloc, &[2, 1])?;
+    has_values(&rt, alloc, falling, &[0, 0, 0, 1, 0, 0, 0, 0])?;
+    let steep = flat(alloc, &[5, 1])?;
+    has_values(&rt, alloc, steep, &[0, 0, 0, 0, 0, 0, 0, 0])?;
+    let rising = flat(alloc, &[1, 5])?;
+    has_values(&rt, alloc, rising, &[1, 0, 0, 1, 1, 1, 0, 1])?;
+    let two = Weights::of(Rows::ones(alloc, vec![in alloc; 2, 4, 1]?)?);
+    has_values(&rt, alloc, two, &[1, 0, 0, 1, 1, 0, 0, 1])?;
+    let three = Weights::of(Rows::ones(alloc, vec![in alloc; 3, 1]?)?);
+    has_values(&rt, alloc, three, &[1, 0, 0, 2, 1, 0, 0, 1])
 }
 
 // Variables 0, 16 and 32 share a place among the kept refills. The values of variable 0 are those

@@ -3,10 +3,11 @@ use Rattle.std.specs.Vec.{with_items}
 use Rattle.std.proofs.lemmas.Bool.{false≢true}
 use Rattle.std.proofs.lemmas.List.{with_items_is}
 use Rattle.pop_model.specs.Stacks.{row_of}
+use Rattle.pop_rows.specs.PrefixSums.{running}
+use Rattle.pop_rows.proofs.SumsInPlace.{heavy_is_least}
 use Rattle.pop_stacks.specs.Rows.{lists_of}
-use Rattle.pop_stacks.specs.Draws.{running}
 use Rattle.pop_stacks.proofs.RowsLemmas.{length-lists_of}
-use Rattle.pop_stacks.proofs.SumsInPlace.{row_read, rows_next, heavy_is_least}
+use Rattle.pop_stacks.proofs.SumsInPlace.{row_read, rows_next}
 use Rattle.pop_stacks.proofs.prefix_sums.accumulate_rows.Goals as goal
 
 pub returns-then-not-accumulate-clause-heavy : goal.returns-then-not-accumulate-clause-heavy

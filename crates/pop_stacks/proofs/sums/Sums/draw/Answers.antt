@@ -1,29 +1,32 @@
 use Rattle.std.proofs.Common.{◌+◌, ◌*◌, ◌^◌, ◌∙◌, length, ap, sym, arith}
 use Rattle.pop_model.specs.Stacks.{weighted}
-use Rattle.pop_stacks.specs.Draws.{differences}
 use Rattle.pop_stacks.proofs.DrawsLemmas.{halves}
-use Rattle.pop_stacks.proofs.WeightsBySums.{sums_at, pair_at}
+use Rattle.pop_stacks.proofs.WeightsBySums.{sums_there, sums_at, pair_at}
 use Rattle.pop_stacks.proofs.sums.Sums.draw.Goals as goal
+
+pub row-requires : goal.row-requires
+row-requires c =
+    sums_there c.args.self.now c.self.inside.kept c.in-Rows.rows c.args.v c.in-Rows.is c.self.view_is c.requires
 
 pub draw-requires : goal.draw-requires
 draw-requires c =
-    let at = sums_at c.args.self.now c.self.inside.kept c.in-Rows.rows c.args.v c.index.result.now
-    c.in-Rows.is c.self.view_is c.self.invariant c.requires c.index.ensures in
+    let at = sums_at c.args.self.now c.self.inside.kept c.in-Rows.rows c.args.v c.row.result.now
+    c.in-Rows.is c.self.view_is c.self.invariant c.requires c.row.ensures.row in
     record {
-      some = rw c.deref.ensures.value at.some;
-      short = rw c.deref.ensures.value at.short;
-      rising = rw c.deref.ensures.value at.rising;
+      some = at.some;
+      short = at.short;
+      rising = at.rising;
     }
 
 pub returns-in-Rows : goal.returns-in-Rows
 returns-in-Rows c =
-    let at = sums_at c.args.self.now c.self.inside.kept c.in-Rows.rows c.args.v c.index.result.now
-    c.in-Rows.is c.self.view_is c.self.invariant c.requires c.index.ensures in
+    let at = sums_at c.args.self.now c.self.inside.kept c.in-Rows.rows c.args.v c.row.result.now
+    c.in-Rows.is c.self.view_is c.self.invariant c.requires c.row.ensures.row in
     let number = c.args.low + 2 ^ 32 * c.args.high in
     record {
       value = c.draw.ensures.value
-          ∙ ap (λ ws. weighted ws number) (ap (differences 0) c.deref.ensures.value ∙ sym at.row);
-      within = let within = c.draw.ensures.within in omega (arith, at.size, within, ap length c.deref.ensures.value);
+          ∙ ap (λ ws. weighted ws number) (sym at.row);
+      within = let within = c.draw.ensures.within in omega (arith, at.size, within);
     }
 
 pub returns-in-Pairs : goal.returns-in-Pairs

@@ -1,7 +1,7 @@
 use Rattle.std.proofs.Common.{inl, inr, ◌+◌, ◌≤◌, ◌^◌, arith, get_or, refl, sum}
 use Rattle.std.proofs.lemmas.Bool.{cases_lt, false≢true}
-use Rattle.pop_stacks.proofs.SumsInPlace.{summed_turn, too_heavy, all_summed}
-use Rattle.pop_stacks.proofs.prefix_sums.accumulate.Goals as goal
+use Rattle.pop_rows.proofs.SumsInPlace.{summed_turn, too_heavy, all_summed}
+use Rattle.pop_rows.proofs.prefix_sums.accumulate.Goals as goal
 
 pub loop-x-preserved : goal.loop-x-preserved
 loop-x-preserved c =

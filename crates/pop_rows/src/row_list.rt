@@ -1,0 +1,164 @@
+ghost use Rattle.std.specs.Prelude.{◌≡◌, ◌<◌, ◌^◌, ◌+◌, ◌++◌, [], ◌∷◌, length, map, IfOk, OnOk, OnErr, IfNone, IfSome, OnSome};
+ghost use Rattle.pop_model.specs.Places.{IsLeast};
+ghost use Rattle.pop_rows.specs.FlatRows.{row_at};
+ghost use Rattle.pop_rows.specs.RowList.{rows_between, AreEndToEnd};
+ghost use Rattle.pop_rows.specs.PrefixSums.{running, IsTooHeavy, AreLight};
+
+use crate::parts::part;
+use crate::prefix_sums::accumulate;
+use std::alloc::{AllocError, Global};
+use std::marker::Model;
+
+/// Rows of numbers in one array, added one after another at the end. Rows count from 0; there are
+/// at most 2^32 - 1, and as many numbers.
+#[derive(Drop)]
+pub struct RowList {
+    // Row v has its numbers in `items` from starts[v] up to below starts[v + 1]. The last start is
+    // the end of `items`.
+    starts: Vec<u32>,
+    items: Vec<u32>,
+}
+
+impl Model for RowList {
+    ghost use Rattle.std.specs.Prelude.{ℕ, List};
+    ghost use Rattle.pop_rows.specs.RowList.{rows_between, AreEndToEnd};
+
+    ghost Value = { List (List ℕ) };
+
+    ghost view = { λ a. rows_between a.starts.items a.items.items };
+
+    ghost invariant = { λ a. AreEndToEnd a.starts.items a.items.items };
+}
+
+impl RowList {
+    /// No rows, with room for so many rows and numbers.
+    pub fn with_room(alloc: Global, rows: usize, numbers: usize) -> Result<RowList, AllocError>
+        ensures { IfOk result (λ list. list ≡ []) }
+    {
+        let places = rows.checked_add(1).ok_or(AllocError)?;
+        let mut starts = Vec::with_capacity(alloc, places)?;
+        starts.push(0)?;
+        let items = Vec::with_capacity(alloc, numbers)?;
+        Ok(RowList { starts, items })
+    }
+
+    /// Adds a row at the end. Rows or numbers that are 2^32 or more find no memory.
+    pub fn push_row(&mut self, row: &[u32]) -> Result<(), AllocError>
+        ensures added { OnOk result (self.new ≡ self.old ++ row.now ∷ []) }
+        ensures kept { OnErr result (self.new ≡ self.old) }
+    {
+        let Some(end) = next_end(&self.starts, &self.items, row.len()) else {
+            return Err(AllocError);
+        };
+        // The start comes first: a failure of the second step then takes it back.
+        self.starts.push(end)?;
+        if self.items.extend_from_slice(row).is_err() {
+            self.starts.pop();
+            return Err(AllocError);
+        }
+        Ok(())
+    }
+
+    /// How many rows there are.
+    pub fn count(&self) -> u32
+        ensures { result ≡ length self.now }
+    {
+        (self.starts.len() - 1) as u32
+    }
+
+    /// Row v.
+    #[inline]
+    pub fn row(&self, v: u32) -> &[u32]
+        requires known { v < length self.now }
+        ensures row { result.now ≡ row_at self.now v }
+        ensures short { length result.now < 2 ^ 32 }
+    {
+        let place = v as usize;
+        part(&self.items, self.starts[place], self.starts[place + 1])
+    }
+
+    /// Puts running sums in the place of each row; the least row whose sum passes 32 bits, where
+    /// there is one, and then the rows are of no more use.
+    pub fn accumulate(&mut self) -> Option<u32>
+        ensures sums { IfNone result (self.new ≡ map (running 0) self.old) }
+        ensures light { IfNone result (AreLight self.old) }
+        ensures heavy { IfSome result (IsLeast (IsTooHeavy self.old)) }
+    {
+        accumulate_between(&self.starts, &mut self.items)
+    }
+}
+
+// Puts running sums in the place of each row between these starts.
+fn accumulate_between(starts: &[u32], items: &mut [u32]) -> Option<u32>
+    requires { AreEndToEnd starts.now items.old }
+    ensures sums { IfNone result
+        (rows_between starts.now items.new ≡ map (running 0) (rows_between starts.now items.old)) }
+    ensures light { IfNone result (AreLight (rows_between starts.now items.old)) }
+    ensures heavy { IfSome result (IsLeast (IsTooHeavy (rows_between starts.now items.old))) }
+{
+    for v in 0..starts.len() - 1 {
+        let row = &mut items[starts[v] as usize..starts[v + 1] as usize];
+        if !accumulate(row) {
+            return Some(v as u32);
+        }
+    }
+    None
+}
+
+// Where the items end with so many more, if places and the number of starts still fit 32 bits.
+fn next_end(starts: &[u32], items: &[u32], more: usize) -> Option<u32>
+    ensures end { IfSome result (λ end. end ≡ length items.now + more) }
+    ensures few { OnSome result (length starts.now < 2 ^ 32) }
+{
+    u32::try_from(starts.len()).ok()?;
+    u32::try_from(items.len().checked_add(more)?).ok()
+}
+
+#[cfg(test)]
+mod tests {
+    use super::*;
+    use std::test::Fail;
+
+    #[test]
+    fn rows_come_back_in_order_with_empty_ones_between(rt: HostRuntime) -> Result<(), Fail> {
+        let mut rows = RowList::with_room(rt.alloc(), 3, 4)?;
+        assert_eq!(&rt; rows.count(), 0);
+        rows.push_row(&[5, 6])?;
+        rows.push_row(&[])?;
+        rows.push_row(&[])?;
+        rows.push_row(&[7])?;
+        rows.push_row(&[8, 8, 9])?;
+        assert_eq!(&rt; rows.count(), 5, "more than there was room for");
+        assert_eq!(&rt; rows.row(0), [5, 6].as_slice());
+        assert_eq!(&rt; rows.row(1), [].as_slice());
+        assert_eq!(&rt; rows.row(2), [].as_slice());
+        assert_eq!(&rt; rows.row(3), [7].as_slice());
+        assert_eq!(&rt; rows.row(4), [8, 8, 9].as_slice());
+        Ok(())
+    }
+
+    #[test]
+    fn running_sums_start_anew_in_each_row(rt: HostRuntime) -> Result<(), Fail> {
+        let mut rows = RowList::with_room(rt.alloc(), 4, 6)?;
+        rows.push_row(&[3, 1, 2])?;
+        rows.push_row(&[])?;
+        rows.push_row(&[u32::MAX])?;
+        rows.push_row(&[5, 0])?;
+        assert_eq!(&rt; rows.accumulate(), None);
+        assert_eq!(&rt; rows.row(0), [3, 4, 6].as_slice());
+        assert_eq!(&rt; rows.row(1), [].as_slice());
+        assert_eq!(&rt; rows.row(2), [u32::MAX].as_slice());
+        assert_eq!(&rt; rows.row(3), [5, 5].as_slice());
+        Ok(())
+    }
+
+    #[test]
+    fn the_least_row_past_32_bits_is_named(rt: HostRuntime) -> Result<(), Fail> {
+        let mut rows = RowList::with_room(rt.alloc(), 3, 5)?;
+        rows.push_row(&[u32::MAX])?;
+        rows.push_row(&[1, u32::MAX])?;
+        rows.push_row(&[u32::MAX, 1])?;
+        assert_eq!(&rt; rows.accumulate(), Some(1));
+        Ok(())
+    }
+}
