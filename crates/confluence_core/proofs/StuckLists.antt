@@ -7,10 +7,11 @@ use Rattle.std.proofs.lemmas.Bool.{cases_eq}
 use Rattle.pop_model.specs.Stacks.{StackTable}
 use Rattle.pop_model.specs.Popping.{Cube, Occurs}
 use Rattle.pop_model.specs.Families.{Event}
+use Rattle.pop_model.specs.Instances.{FitsStacks}
 use Rattle.pop_model.specs.Runs.{IsStuckList}
 use Rattle.pop_instance.specs.Events.{cube_at}
 use Rattle.pop_instance.proofs.Increasing.{increasing_push}
-use Rattle.confluence_core.specs.Search.{OccursBelow, IsStuckBelow}
+use Rattle.confluence_core.specs.Search.{OccursBelow, IsStuckBelow, NoneBefore, AllHaveNext}
 use Rattle.confluence_core.proofs.Places.{listed, event_at, event_from, event_to}
 
 event_with : ℕ → Cube → Event
@@ -84,6 +85,21 @@ module _ (s : StackTable) (c : List ℕ) (rows : List (ℕ × Cube)) (n : ℕ) (
             absurd (none (subst (Occurs s c) (sym cube) h.occurs))
         | inr other ↦ (old.exact e).1 (earlier e h other)
       ]
+
+-- where no event is poppable and each variable has a next entry, no event occurs
+pub stuck_nowhere : (s : StackTable) (c : List ℕ) (rows : List (ℕ × Cube)) → All (λ r. FitsStacks s r.1) rows
+    → NoneBefore s c rows (length rows) → AllHaveNext s c → IsStuckBelow s c rows (length rows) []
+stuck_nowhere s c rows fits end next = record {
+  rising = λ k h. absurd (omega arith);
+  below = λ k d h. absurd (omega arith);
+  exact = λ e. (λ h. absurd (omega (arith, h.1)), λ h. absurd (none e h));
+}
+  where
+    none : (e : Event) → OccursBelow s c rows (length rows) e → ⊥
+    none e h = end e.unit h.within (record {
+      occurs = subst (Occurs s c) (sym h.cube) h.occurs;
+      next = λ k p less. next _ (fits e.unit (0, []) h.within k p less).0;
+    })
 
 -- the events below all units are the stuck list
 pub stuck_list : (s : StackTable) (c : List ℕ) (rows : List (ℕ × Cube)) (stuck : List Event)

@@ -1,8 +1,8 @@
 -- What a search over listed events has found so far.
-use Rattle.std.specs.Prelude.{◌≡◌, ℕ, ◌<◌, ◌↔◌, List, [], ◌∷◌, ◌++◌, map, length, Contains, All}
+use Rattle.std.specs.Prelude.{◌≡◌, ℕ, ◌+◌, ◌<◌, ◌↔◌, List, [], ◌∷◌, ◌++◌, map, length, Contains, All}
 use Rattle.std.specs.List.Sorted.{IsStrictlyIncreasing}
-use Rattle.pop_model.specs.Stacks.{StackTable}
-use Rattle.pop_model.specs.Popping.{Cube, IsPoppable, Occurs}
+use Rattle.pop_model.specs.Stacks.{StackTable, variables_of, height_of}
+use Rattle.pop_model.specs.Popping.{Cube, IsPoppable, Occurs, cursor}
 use Rattle.pop_model.specs.Families.{Event}
 use Rattle.pop_model.specs.Places.{IsLeast}
 use Rattle.pop_instance.specs.Events.{cube_at}
@@ -35,6 +35,10 @@ pub record IsStuckBelow (s : StackTable) (c : List ℕ) (rows : List (ℕ × Cub
   pub rising : IsStrictlyIncreasing (map (λ e. e.unit) stuck)
   pub below : All (λ e. e.unit < n) stuck
   pub exact : (e : Event) → Contains stuck e ↔ OccursBelow s c rows n e
+
+-- each variable has an entry behind its cursor
+abbrev pub AllHaveNext : StackTable → List ℕ → Type 0
+AllHaveNext s c = (v : ℕ) → v < variables_of s → cursor c v + 1 < height_of s v
 
 -- the list has the place of each poppable event
 abbrev pub Covers : StackTable → List ℕ → List (ℕ × Cube) → List ℕ → Type 0

@@ -10,7 +10,7 @@ ghost use Rattle.confluence_core.specs.Records.{record_at};
 ghost use Rattle.confluence_core.specs.Runs.{IsRun};
 ghost use Rattle.confluence_core.specs.Search.{Covers};
 
-use crate::search::{first_poppable, next_poppable, stuck_at};
+use crate::search::{first_poppable, next_poppable, stuck_at, stuck_at_end};
 use crate::work_list::WorkList;
 use crate::{End, Keep, Log, Record, Run, Units};
 use pop_instance::{Cube, Cursors, Events, Index};
@@ -78,7 +78,7 @@ pub(crate) fn run_listed_from(
         pops += 1;
         work.add_sharing(&index, cube)?;
     }
-    let stuck = stuck_at(alloc, stacks, events, reader, &cursors)?;
+    let stuck = stuck_at_end(alloc, stacks, events, reader, &cursors)?;
     let end = End {
         cursors,
         pops,

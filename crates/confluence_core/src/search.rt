@@ -1,9 +1,16 @@
-ghost use Rattle.std.specs.Prelude.{◌≡◌, ◌<◌, length, All, IfOk, MatchOption};
+ghost use Rattle.std.specs.Prelude.{◌≡◌, ◌<◌, ◌↔◌, length, All, IfOk, IsTrue, MatchOption};
 ghost use Rattle.pop_model.specs.Stacks.{variables_of};
 ghost use Rattle.pop_model.specs.Popping.{AreWithin};
 ghost use Rattle.pop_model.specs.Instances.{FitsStacks};
 ghost use Rattle.pop_stacks.specs.Readers.{Belongs};
-ghost use Rattle.confluence_core.specs.Search.{NoneBefore, IsFirstPlace, IsStuckBelow, Covers, IsNextPlace};
+ghost use Rattle.confluence_core.specs.Search.{
+  NoneBefore,
+  IsFirstPlace,
+  IsStuckBelow,
+  Covers,
+  IsNextPlace,
+  AllHaveNext,
+};
 
 use crate::Stuck;
 use crate::work_list::WorkList;
@@ -87,4 +94,43 @@ pub(crate) fn stuck_at(
         }
     }
     Ok(stuck)
+}
+
+// The events that occur, by rising unit, where none is poppable. Each of them has a variable at its
+// last entry, so where there is no such variable, no event is looked at.
+pub(crate) fn stuck_at_end(
+    alloc: Global,
+    stacks: &Stacks,
+    events: &Events,
+    reader: &mut Reader,
+    cursors: &Cursors,
+) -> Result<Stuck, AllocError>
+    requires fits { All (λ r. FitsStacks stacks.now r.1) events.now }
+    requires count { variables_of stacks.now ≡ length cursors.now }
+    requires within { AreWithin stacks.now cursors.now }
+    requires belongs { Belongs stacks.now reader.old }
+    requires end { NoneBefore stacks.now cursors.now events.now (length events.now) }
+    ensures stuck { IfOk result
+        (IsStuckBelow stacks.now cursors.now events.now (length events.now)) }
+    ensures reader { reader.new ≡ reader.old }
+{
+    if all_have_next(stacks, cursors) {
+        return Ok(Stuck::new(alloc));
+    }
+    stuck_at(alloc, stacks, events, reader, cursors)
+}
+
+// Whether each variable has an entry behind its cursor.
+fn all_have_next(stacks: &Stacks, cursors: &Cursors) -> bool
+    requires count { variables_of stacks.now ≡ length cursors.now }
+    requires within { AreWithin stacks.now cursors.now }
+    ensures { IsTrue result ↔ AllHaveNext stacks.now cursors.now }
+{
+    for v in 0..stacks.count() {
+        let height = stacks.height(v);
+        if cursors.get(v) + 1 >= height {
+            return false;
+        }
+    }
+    true
 }

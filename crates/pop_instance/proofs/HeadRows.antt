@@ -15,7 +15,7 @@ pub row_is : {A : Type 0} (rows : List (Vec (Option ℕ) A)) (v : ℕ) (row : Ve
 row_is rows v row inside read = get_or-map (λ r. r.items) rows v row [] inside ∙ ap (λ r. r.items) (sym read)
 
 -- what holds of a head, whichever variable it is
-if_some : (P : ℕ → Type 0) (head : Option ℕ) → ((w : ℕ) → head ≡ Some w → P w) → IfSome head P
+pub if_some : (P : ℕ → Type 0) (head : Option ℕ) → ((w : ℕ) → head ≡ Some w → P w) → IfSome head P
 if_some P None holds = tt
 if_some P (Some w) holds = holds w refl
 

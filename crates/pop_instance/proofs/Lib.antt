@@ -1,4 +1,5 @@
 pub mod HeadRows
+mod NumberRows
 mod Rounds
 mod Demands
 pub mod Increasing

@@ -2,5 +2,6 @@ pub mod Cubes
 pub mod Events
 pub mod Gathering
 pub mod Arrows
+pub mod KeptHeads
 pub mod Family
 pub mod Index

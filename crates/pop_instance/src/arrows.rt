@@ -1,28 +1,36 @@
-ghost use Rattle.std.specs.Prelude.{◌≡◌, ◌<◌, ◌^◌, ◌↔◌, [], length, slice_index_or, All, IsTrue, IfSome, MatchOption};
+ghost use Rattle.std.specs.Prelude.{◌≡◌, ◌<◌, ◌^◌, ◌↔◌, [], ◌∷◌, length, slice_index_or, All, IsTrue, IfSome, IfOk, MatchOption};
 ghost use Rattle.pop_model.specs.Cycles.{AreArrows, head_of};
-ghost use Rattle.pop_instance.specs.Arrows.{heads_of, IsRow};
+ghost use Rattle.pop_instance.specs.Arrows.{
+  heads_of,
+  IsRow,
+  heads_of_numbers,
+  IsNumberRow,
+  AreHeadNumbers,
+};
 
+use crate::kept_heads::KeptHeads;
+use pop_rows::RowList;
 use std::marker::Model;
 
 /// For each variable the heads of its slots: the variable to which a slot leads, or None where it
 /// leads to the root. Each variable has a slot. Variables and slots count from 0.
 #[derive(Drop)]
 pub struct Arrows {
-    rows: Vec<Vec<Option<u32>>>,
+    heads: KeptHeads,
 }
 
 impl Model for Arrows {
     ghost use Rattle.std.specs.Prelude.{ℕ, List, Option, length, All, ◌<◌, ◌^◌};
     ghost use Rattle.pop_model.specs.Cycles.{AreArrows};
-    ghost use Rattle.pop_instance.specs.Arrows.{heads_of};
+    ghost use Rattle.pop_instance.specs.KeptHeads.{heads_kept};
 
     ghost Value = { List (List (Option ℕ)) };
 
-    ghost view = { λ a. heads_of a.rows.items };
+    ghost view = { λ a. heads_kept a.heads };
 
-    ghost invariant = { λ a. AreArrows (heads_of a.rows.items)
-        × (length (heads_of a.rows.items) < 2 ^ 31)
-        × All (λ row. length row < 2 ^ 31) (heads_of a.rows.items) };
+    ghost invariant = { λ a. AreArrows (heads_kept a.heads)
+        × (length (heads_kept a.heads) < 2 ^ 31)
+        × All (λ row. length row < 2 ^ 31) (heads_kept a.heads) };
 }
 
 impl Arrows {
@@ -37,7 +45,26 @@ impl Arrows {
         if !are_rows(&heads) {
             return None;
         }
-        Some(Arrows { rows: heads })
+        Some(Arrows {
+            heads: KeptHeads::Nested(heads),
+        })
+    }
+
+    /// The arrows whose heads lie in one array, for each variable those of its slots: a number below
+    /// the number of rows is a variable, and the number of rows itself is the root.
+    /// None exactly where a row is empty or a number is greater than the number of rows.
+    pub fn flat(rows: RowList) -> Option<Arrows>
+        requires short { length rows < 2 ^ 31 }
+        requires short_rows { All (λ row. length row < 2 ^ 31) rows }
+        ensures { MatchOption result (AreHeadNumbers rows → ⊥)
+            (λ arrows. arrows ≡ heads_of_numbers rows) }
+    {
+        if !are_head_numbers(&rows) {
+            return None;
+        }
+        Some(Arrows {
+            heads: KeptHeads::Flat(rows),
+        })
     }
 
     /// How many variables there are: at most 2^31 - 1.
@@ -46,26 +73,28 @@ impl Arrows {
         ensures arrows { AreArrows self.now }
         ensures short { result < 2 ^ 31 }
     {
-        self.rows.len() as u32
+        self.heads.count()
     }
 
     /// How many slots a variable has: from 1 to 2^31 - 1.
+    #[inline]
     pub fn slots(&self, v: u32) -> u32
         requires known { v < length self.now }
         ensures slots { result ≡ length (slice_index_or self.now v []) }
         ensures some { 0 < result }
         ensures short { result < 2 ^ 31 }
     {
-        self.rows[v as usize].len() as u32
+        self.heads.slots(v)
     }
 
     /// Where a slot of a variable leads: to a variable, or to the root.
+    #[inline]
     pub fn head(&self, v: u32, slot: u32) -> Option<u32>
         requires known { v < length self.now }
         requires slot { slot < length (slice_index_or self.now v []) }
         ensures { result ≡ head_of self.now v slot }
     {
-        self.rows[v as usize][slot as usize]
+        self.heads.head(v, slot)
     }
 }
 
@@ -100,4 +129,94 @@ fn are_rows(rows: &[Vec<Option<u32>>]) -> bool
         }
     }
     true
+}
+
+// Whether a row has a slot, and no number of it is greater than the count.
+fn is_number_row(row: &[u32], count: u32) -> bool
+    ensures { IsTrue result ↔ IsNumberRow count row.now }
+{
+    !row.is_empty() && row.iter().all(|x| *x <= count)
+}
+
+// Whether each row has a slot, and no number is greater than the number of rows.
+fn are_head_numbers(rows: &RowList) -> bool
+    ensures { IsTrue result ↔ AreHeadNumbers rows.now }
+{
+    let count = rows.count();
+    for v in 0..count {
+        if !is_number_row(rows.row(v), count) {
+            return false;
+        }
+    }
+    true
+}
+
+#[cfg(test)]
+mod tests {
+    use super::*;
+    use std::alloc::Global;
+    use std::process::Abort;
+    use std::test::Fail;
+
+    // Three rows of numbers in one array.
+    fn numbers(alloc: Global, first: &[u32], second: &[u32], third: &[u32]) -> Result<RowList, Fail>
+        ensures { IfOk result (λ rows. rows ≡ first.now ∷ second.now ∷ third.now ∷ []) }
+    {
+        let mut rows = RowList::with_room(alloc, 3, 8)?;
+        rows.push_row(first)?;
+        rows.push_row(second)?;
+        rows.push_row(third)?;
+        Ok(rows)
+    }
+
+    // Compares where the slots of a variable lead.
+    fn leads(rt: &impl Abort, arrows: &Arrows, v: u32, want: &[Option<u32>])
+        requires { v < length arrows.now }
+    {
+        assert_eq!(rt; arrows.slots(v) as usize, want.len());
+        for slot in 0..arrows.slots(v) {
+            assert_eq!(rt;
+                arrows.head(v, slot),
+                want[slot as usize],
+                "slot {slot} of variable {v}"
+            );
+        }
+    }
+
+    // The case of the test below: variable 0 leads to the root and to variable 1.
+    fn is_worked_case(rt: &impl Abort, arrows: &Arrows) {
+        assert!(rt; arrows.count() == 3);
+        leads(rt, arrows, 0, &[None, Some(1)]);
+        leads(rt, arrows, 1, &[Some(2)]);
+        leads(rt, arrows, 2, &[Some(0), Some(0), None]);
+    }
+
+    // Worked by hand: of three variables, number 3 is the root.
+    #[test]
+    fn arrows_in_one_array_answer_like_lists(rt: HostRuntime) -> Result<(), Fail> {
+        let alloc = rt.alloc();
+        let flat = Arrows::flat(numbers(alloc, &[3, 1], &[2], &[0, 0, 3])?);
+        is_worked_case(&rt, &flat.expect(&rt, "numbers up to 3"));
+        let lists = Arrows::new(vec![in alloc;
+            vec![in alloc; None, Some(1)]?,
+            vec![in alloc; Some(2)]?,
+            vec![in alloc; Some(0), Some(0), None]?,
+        ]?);
+        is_worked_case(&rt, &lists.expect(&rt, "variables below 3"));
+        Ok(())
+    }
+
+    #[test]
+    fn no_slot_and_a_head_past_the_root_are_refused(rt: HostRuntime) -> Result<(), Fail> {
+        let alloc = rt.alloc();
+        let no_slot = numbers(alloc, &[3, 1], &[], &[0, 0, 3])?;
+        assert!(&rt; Arrows::flat(no_slot).is_none());
+        let past_the_root = numbers(alloc, &[3, 1], &[2], &[0, 4, 3])?;
+        assert!(&rt; Arrows::flat(past_the_root).is_none());
+        let no_slot = vec![in alloc; vec![in alloc; Some(0)]?, Vec::new(alloc)]?;
+        assert!(&rt; Arrows::new(no_slot).is_none());
+        let past_the_last = vec![in alloc; vec![in alloc; Some(1), None]?]?;
+        assert!(&rt; Arrows::new(past_the_last).is_none());
+        Ok(())
+    }
 }

@@ -79,7 +79,7 @@ impl Cursors {
         ensures poppable { IsTrue result ↔ IsPoppable stacks.now self.now cube.now }
         ensures reader { reader.new ≡ reader.old }
     {
-        has_next_at(&self.entries, stacks, cube) && occurs_at(&self.entries, stacks, reader, cube)
+        occurs_at(&self.entries, stacks, reader, cube) && has_next_at(&self.entries, stacks, cube)
     }
 
     /// Pops an event: the cursor of each of its variables moves on by 1.

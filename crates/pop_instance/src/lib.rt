@@ -13,6 +13,7 @@ mod events;
 mod family;
 mod index;
 mod instance;
+mod kept_heads;
 
 pub use arrows::Arrows;
 pub use cube::Cube;

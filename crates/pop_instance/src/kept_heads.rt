@@ -1,0 +1,57 @@
+ghost use Rattle.std.specs.Prelude.{◌≡◌, ◌<◌, ◌^◌, [], length, slice_index_or, All};
+ghost use Rattle.pop_model.specs.Cycles.{head_of};
+ghost use Rattle.pop_instance.specs.KeptHeads.{heads_kept};
+
+use pop_rows::RowList;
+
+// How the heads of all variables are kept.
+#[derive(Drop)]
+pub(crate) enum KeptHeads {
+    // A list for each variable.
+    Nested(Vec<Vec<Option<u32>>>),
+    // Numbers in one array: one below the count of variables is a variable, the count is the root.
+    Flat(RowList),
+}
+
+impl KeptHeads {
+    // How many variables there are.
+    #[inline]
+    pub(crate) fn count(&self) -> u32
+        requires { length (heads_kept self.now) < 2 ^ 31 }
+        ensures { result ≡ length (heads_kept self.now) }
+    {
+        match self {
+            KeptHeads::Nested(rows) => rows.len() as u32,
+            KeptHeads::Flat(rows) => rows.count(),
+        }
+    }
+
+    // How many slots a variable has.
+    #[inline]
+    pub(crate) fn slots(&self, v: u32) -> u32
+        requires known { v < length (heads_kept self.now) }
+        requires short { All (λ row. length row < 2 ^ 31) (heads_kept self.now) }
+        ensures { result ≡ length (slice_index_or (heads_kept self.now) v []) }
+    {
+        match self {
+            KeptHeads::Nested(rows) => rows[v as usize].len() as u32,
+            KeptHeads::Flat(rows) => rows.row(v).len() as u32,
+        }
+    }
+
+    // Where a slot of a variable leads.
+    #[inline]
+    pub(crate) fn head(&self, v: u32, slot: u32) -> Option<u32>
+        requires known { v < length (heads_kept self.now) }
+        requires slot { slot < length (slice_index_or (heads_kept self.now) v []) }
+        ensures { result ≡ head_of (heads_kept self.now) v slot }
+    {
+        match self {
+            KeptHeads::Nested(rows) => rows[v as usize][slot as usize],
+            KeptHeads::Flat(rows) => {
+                let number = rows.row(v)[slot as usize];
+                (number < rows.count()).then_some(number)
+            }
+        }
+    }
+}
