@@ -1,33 +1,25 @@
-ghost use Rattle.std.specs.Prelude.{◌≡◌, ◌^◌, true, None, Some, nat_lt, if◌then◌else◌};
+ghost use Rattle.std.specs.Prelude.{◌≡◌, ◌≤◌, length, None, Some, if◌then◌else◌};
 ghost use Rattle.std.specs.List.{list_all};
 ghost use Rattle.std.specs.Str.Parse.{digits_value};
 ghost use Rattle.pop_edge.specs.Numbers.{is_digit, number_of};
 
-// The most digits that a number is written with, and its greatest value.
+// The most digits that a number is written with.
 const MAX_DIGITS: usize = 10;
 
-const MAX_VALUE: u64 = 4294967295;
-
-fn all_digits(word: &[u8]) -> bool
-    ensures { result ≡ list_all is_digit word.now }
-{
-    word.iter().all(|b| *b >= b'0' && *b <= b'9')
-}
-
-// The value of digits, where it is below 2^32.
-fn value_of(word: &[u8]) -> Option<u32>
-    requires { list_all is_digit word.now ≡ true }
-    ensures { result ≡ (if nat_lt (digits_value 10 word.now) (2 ^ 32)
+// The value of a few digits, or None where a byte isn't one.
+fn value_of(word: &[u8]) -> Option<u64>
+    requires { length word.now ≤ 10 }
+    ensures { result ≡ (if list_all is_digit word.now
         then Some (digits_value 10 word.now) else None) }
 {
     let mut value: u64 = 0;
     for b in word {
-        value = value * 10 + u64::from(*b - b'0');
-        if value > MAX_VALUE {
+        if *b < b'0' || *b > b'9' {
             return None;
         }
+        value = value * 10 + u64::from(*b - b'0');
     }
-    Some(value as u32)
+    Some(value)
 }
 
 /// The number that a word is, or None where it is none: one to ten decimal digits, leading zeros
@@ -35,8 +27,9 @@ fn value_of(word: &[u8]) -> Option<u32>
 pub fn number(word: &[u8]) -> Option<u32>
     ensures { result ≡ number_of word.now }
 {
-    if word.is_empty() || word.len() > MAX_DIGITS || !all_digits(word) {
+    if word.is_empty() || word.len() > MAX_DIGITS {
         return None;
     }
-    value_of(word)
+    let value = value_of(word)?;
+    u32::try_from(value).ok()
 }

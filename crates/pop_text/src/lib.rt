@@ -2,5 +2,9 @@
 #![tactic(auto)]
 
 mod output;
+mod short_text;
+#[cfg(test)]
+mod tests;
 
 pub use output::Output;
+pub use short_text::ShortText;

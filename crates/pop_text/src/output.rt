@@ -1,6 +1,6 @@
 ghost use Rattle.std.specs.Prelude.{◌≡◌, ◌++◌, ◌∷◌, [], decimal, IfOk, OnOk};
 
-use itoa::Buffer;
+use crate::short_text::ShortText;
 use std::alloc::{AllocError, Global};
 use std::marker::Model;
 
@@ -39,16 +39,18 @@ impl Output {
     pub fn push_number(&mut self, n: u64) -> Result<(), AllocError>
         ensures { OnOk result (self.new ≡ self.old ++ decimal n) }
     {
-        let mut buffer = Buffer::new();
-        self.push(buffer.format(n).as_bytes())
+        let mut text = ShortText::new();
+        text.put_number(n);
+        self.push(text.as_bytes())
     }
 
     /// Adds a space and a number.
     pub fn push_spaced(&mut self, n: u64) -> Result<(), AllocError>
         ensures { OnOk result (self.new ≡ self.old ++ 32 ∷ decimal n) }
     {
-        self.push(b" ")?;
-        self.push_number(n)
+        let mut text = ShortText::new();
+        text.put_spaced(n);
+        self.push(text.as_bytes())
     }
 
     /// Adds a space and two numbers with a sign between them.
@@ -56,9 +58,11 @@ impl Output {
         ensures { OnOk result (self.new
             ≡ self.old ++ 32 ∷ (decimal first ++ sign ∷ decimal second)) }
     {
-        self.push_spaced(first)?;
-        self.push(&[sign])?;
-        self.push_number(second)
+        let mut text = ShortText::new();
+        text.put_number(second);
+        text.put(sign);
+        text.put_spaced(first);
+        self.push(text.as_bytes())
     }
 
     /// The whole text.

@@ -1,6 +1,5 @@
-use Rattle.std.proofs.Common.{◌≡◌, ◌<◌, ◌^◌, take}
-use Rattle.std.specs.Str.Parse.{digits_value}
+use Rattle.pop_edge.proofs.NumbersLemmas.{HasRead}
 use Rattle.pop_edge.proofs.numbers.value_of.Given as goal
 
 abbrev pub invariant-loop-b : goal.invariant-loop-b
-invariant-loop-b l = record { value : l.value ≡ digits_value 10 (take l.b-index l.word); small : l.value < 2 ^ 32 }
+invariant-loop-b l = HasRead l.word l.b-index l.value

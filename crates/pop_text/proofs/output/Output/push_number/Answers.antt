@@ -1,0 +1,7 @@
+use Rattle.std.proofs.Common.{length, ap, arith}
+use Rattle.pop_text.proofs.DigitsLemmas.{length_twenty}
+use Rattle.pop_text.proofs.output.Output.push_number.Goals as goal
+
+pub put_number-requires : goal.put_number-requires
+put_number-requires c =
+    omega (arith, ap length c.new-text.ensures, length_twenty c.args.n c.ranges.n.fits)
