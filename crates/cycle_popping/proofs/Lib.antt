@@ -1,3 +1,6 @@
 mod JoinedVertices
 mod TreeRows
+mod HeadNumbers
+mod OneWeights
+mod GridRows
 mod Vectors

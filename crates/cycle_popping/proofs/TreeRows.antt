@@ -181,10 +181,17 @@ module _ (g : GraphOf) (root : ℕ) (is : IsGraph g) (at : IsVertex g.vertices r
       ))
 
 -- rows of the variables before here, and one more
-pub rows_more : {X : Type 0} (row : ℕ → List X) (n : ℕ) (rows : List (List X)) (x : List X)
+pub rows_more : {X : Type 0} (row : ℕ → X) (n : ℕ) (rows : List X) (x : X)
     → rows ≡ map row (range_with_len 0 n) → x ≡ row n → rows ++ x ∷ [] ≡ map row (range_with_len 0 (n + 1))
 rows_more {X} row n rows x are is =
-    ap₂ (λ (xs : List (List X)) (y : List X). xs ++ y ∷ []) are is ∙ sym (map-range_with_len_more row 0 n n (omega arith))
+    ap₂ (λ (xs : List X) (y : X). xs ++ y ∷ []) are is ∙ sym (map-range_with_len_more row 0 n n (omega arith))
+
+-- where all variables have their rows
+pub rows_whole : {X : Type 0} (row : ℕ → X) (n v count : ℕ) (rows : List X)
+    → rows ≡ map row (range_with_len 0 v) → count ≡ n → v ≤ count - 1 → count - 1 ≤ v
+    → rows ≡ map row (range_with_len 0 (n - 1))
+rows_whole row n v count rows are is low high =
+    let same : v ≡ n - 1 = omega arith in are ∙ ap (λ m. map row (range_with_len 0 m)) same
 
 -- an edge that was read is the one of its number
 pub edge_read : (g : GraphOf) (i : ℕ) (e : Edge) → i < length g.edges → e ≡ get_or g.edges i e → e ≡ edge_at g i

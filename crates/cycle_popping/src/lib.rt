@@ -3,6 +3,7 @@
 //! definitions.
 #![tactic(auto)]
 
+mod grids;
 mod heads;
 pub mod laws;
 mod names;
@@ -11,6 +12,7 @@ mod tests;
 mod walks;
 mod weights;
 
+pub use grids::{grid_arrows, grid_weights};
 pub use heads::{arrows, arrows_by};
 pub use walks::run_walks;
 pub use weights::{arrow_weights, arrow_weights_by};

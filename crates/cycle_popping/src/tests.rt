@@ -1,12 +1,13 @@
 ghost use Rattle.std.specs.Prelude.{◌≡◌, ◌<◌, ◌^◌, length, IfOk};
+ghost use Rattle.graph_read.specs.Grids.{IsSide};
 ghost use Rattle.cycle_popping.specs.Walks.{AreCycles};
 
-use crate::{arrow_weights, arrows, run_walks};
+use crate::{arrow_weights, arrows, grid_arrows, grid_weights, run_walks};
 use confluence_core::{End, run_first};
 use graph_read::{Graph, first_cut_off, read_graph};
 use pop_edge::MemSource;
-use pop_instance::{Family, Instance};
-use pop_stacks::{Reader, Rows, StackSpec, Stacks};
+use pop_instance::{Arrows, Family, Instance};
+use pop_stacks::{Reader, Rows, StackSpec, Stacks, Weights};
 use std::alloc::Global;
 use std::process::Abort;
 use std::test::Fail;
@@ -148,4 +149,92 @@ fn parallel_edges_are_slots_and_loops_are_none(rt: HostRuntime) -> Result<(), Fa
     assert!(&rt; stacks.height(0) == 9);
     assert_eq!(&rt; Reader::new(stacks).entry(stacks, 0, 0), 0);
     Ok(())
+}
+
+// Compares where the slots of a variable lead.
+fn leads(rt: &impl Abort, arrows: &Arrows, v: u32, want: &[Option<u32>]) {
+    assert!(rt; v < arrows.count());
+    assert_eq!(rt; arrows.slots(v) as usize, want.len(), "variable {v}");
+    for slot in 0..arrows.slots(v) {
+        assert_eq!(rt;
+            arrows.head(v, slot),
+            want[slot as usize],
+            "slot {slot} of variable {v}"
+        );
+    }
+}
+
+// Worked by hand: the rows 1 2 and 3 4. Vertices 2 and 3 have edges to 1 and 4, and vertex 4 to 2
+// and 3.
+#[test]
+fn the_arrows_of_a_grid_lead_to_neighbours(rt: HostRuntime) -> Result<(), Fail> {
+    let arrows = grid_arrows(rt.alloc(), 2)?;
+    assert_eq!(&rt; arrows.count(), 3);
+    leads(&rt, &arrows, 0, &[None, Some(2)]);
+    leads(&rt, &arrows, 1, &[None, Some(2)]);
+    leads(&rt, &arrows, 2, &[Some(0), Some(1)]);
+    Ok(())
+}
+
+// Compares the slots of a variable with those of the same variable of others.
+fn same_slots(rt: &impl Abort, made: &Arrows, want: &Arrows, v: u32)
+    requires made { v < length made.now }
+    requires want { v < length want.now }
+{
+    assert!(rt; made.slots(v) == want.slots(v));
+    for slot in 0..made.slots(v) {
+        assert_eq!(rt;
+            made.head(v, slot),
+            want.head(v, slot),
+            "slot {slot} of variable {v}"
+        );
+    }
+}
+
+// Compares the first values of variables with these weights, under one key.
+fn same_values(rt: &impl Abort, made: Weights, want: Weights) -> Result<(), Fail> {
+    let made = Stacks::new(StackSpec::Key([7; 32]), made, 1)?;
+    let want = Stacks::new(StackSpec::Key([7; 32]), want, 1)?;
+    assert!(rt; made.count() == want.count());
+    for v in 0..made.count() {
+        assert_eq!(rt; made.domain(v), want.domain(v), "variable {v}");
+        assert!(rt; 0 < made.height(v));
+        assert!(rt; 0 < want.height(v));
+        let value = Reader::new(&made).entry(&made, v, 0);
+        assert_eq!(rt;
+            value,
+            Reader::new(&want).entry(&want, v, 0),
+            "variable {v}"
+        );
+    }
+    Ok(())
+}
+
+// Compares what is made from a side with what comes of the grid's graph.
+fn is_as_of_graph(rt: &impl Abort, alloc: Global, side: u32) -> Result<(), Fail>
+    requires { IsSide side }
+{
+    let graph = Graph::grid(alloc, side)?;
+    assert!(rt; 1 <= graph.vertices());
+    let cut_off = first_cut_off(alloc, &graph, 1)?;
+    assert!(rt; cut_off.is_none());
+    let made = grid_arrows(alloc, side)?;
+    let want = arrows(alloc, &graph, 1)?;
+    assert!(rt; made.count() == want.count());
+    for v in 0..made.count() {
+        same_slots(rt, &made, &want, v);
+    }
+    same_values(
+        rt,
+        grid_weights(alloc, side)?,
+        arrow_weights(alloc, &graph, 1)?,
+    )
+}
+
+#[test]
+fn a_grid_without_its_graph_has_the_same_trees(rt: HostRuntime) -> Result<(), Fail> {
+    is_as_of_graph(&rt, rt.alloc(), 1)?;
+    is_as_of_graph(&rt, rt.alloc(), 2)?;
+    is_as_of_graph(&rt, rt.alloc(), 3)?;
+    is_as_of_graph(&rt, rt.alloc(), 5)
 }

@@ -98,7 +98,7 @@ column_joined side c (suc k) some few less top =
     (column_joined side c k some few (omega arith) top) (edge_below side (k + 1) c place (omega arith)))
 
 -- the vertex in the row and column that division with remainder gives, both counted from 0
-vertex_at : (side w : ℕ) → 1 ≤ w → grid_vertex side ((w - 1) / side + 1) ((w - 1) % side + 1) ≡ w
+pub vertex_at : (side w : ℕ) → 1 ≤ w → grid_vertex side ((w - 1) / side + 1) ((w - 1) % side + 1) ≡ w
 vertex_at side w first =
     let row : (w - 1) / side + 1 - 1 ≡ (w - 1) / side = omega arith in
     omega (arith, ap (λ r. r * side) row, div-add-mod' (w - 1) side)

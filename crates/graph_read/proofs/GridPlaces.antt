@@ -1,6 +1,6 @@
 -- The edges of a grid, as they come vertex by vertex and row by row. From each vertex at most two come, so the edges so
 -- far are at most twice the vertices so far.
-use Rattle.std.proofs.Common.{◌≡◌, ℕ, ◌+◌, ◌*◌, ◌≤◌, suc, zero, Bool, true, false, nat_lt, List, [], ◌∷◌, ◌++◌, length, flat_map, refl, sym, ap, ◌∙◌, arith, append_assoc, append-nil, length-append}
+use Rattle.std.proofs.Common.{◌≡◌, ℕ, ◌+◌, ◌*◌, ◌<◌, ◌≤◌, suc, zero, Bool, true, false, nat_lt, List, [], ◌∷◌, ◌++◌, length, flat_map, refl, sym, ap, ◌∙◌, arith, append_assoc, append-nil, length-append}
 use Rattle.std.specs.List.{range_with_len}
 use Rattle.std.proofs.lemmas.List.{map-id}
 use Rattle.std.proofs.lemmas.List.Concat.{flat_map-append}
@@ -8,7 +8,7 @@ use Rattle.std.proofs.lemmas.List.FromFn.{map-range_with_len_more}
 use Rattle.std.proofs.Math.Nat.{add-mul}
 use Rattle.graph_read.specs.declared.edge.Edge.{Edge}
 use Rattle.graph_read.specs.Graphs.{GraphOf}
-use Rattle.graph_read.specs.Grids.{AddsEdges, edge_where, edges_from, grid_vertex, row_edges}
+use Rattle.graph_read.specs.Grids.{AddsEdges, IsPlace, edge_where, edges_from, grid_vertex, row_edges}
 
 -- at most two edges come from a vertex
 pub edges_from_few : (side r c : ℕ) → length (edges_from side r c) ≤ 2
@@ -65,3 +65,12 @@ pub adds_on : (f g h : GraphOf) (xs ys : List Edge) → AddsEdges f g xs → Add
 adds_on f g h xs ys a b =
     b ∙ ap (λ k. let r : GraphOf = record { vertices = k.vertices; edges = k.edges ++ ys } in r) a
     ∙ ap (λ es. let r : GraphOf = record { vertices = f.vertices; edges = es } in r) (append_assoc f.edges xs ys)
+
+-- a place to the right, and one below
+pub right_place : (side r c : ℕ) → IsPlace side r c → c < side → IsPlace side r (c + 1)
+right_place side r c at less =
+    record { row = at.row; row_in = at.row_in; column = omega arith; column_in = omega (arith, less) }
+
+pub place_below : (side r c : ℕ) → IsPlace side r c → r < side → IsPlace side (r + 1) c
+place_below side r c at less =
+    record { row = omega arith; row_in = omega (arith, less); column = at.column; column_in = at.column_in }

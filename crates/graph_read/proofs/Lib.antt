@@ -9,6 +9,8 @@ pub mod VisitedEdges
 pub mod ReachedVertices
 pub mod GridPlaces
 pub mod GridPaths
+pub mod GridIncidence
+pub mod GridGraphs
 mod Vectors
 pub mod KnownEdges
 pub mod Numbering

@@ -4,7 +4,8 @@ use Rattle.pop_model.specs.Text.{line}
 use Rattle.pop_edge.specs.declared.refusal.ReadRefusal.TheVariants.{Malformed, Limit}
 use Rattle.graph_read.specs.declared.edge.Edge.{Edge}
 use Rattle.graph_read.specs.GraphText.{HasNoBadLine, graph_of, graph_refusal}
-use Rattle.graph_read.specs.Grids.{grid_of}
+use Rattle.graph_read.specs.Grids.{grid_neighbours, grid_of}
+use Rattle.graph_read.specs.Incidence.{neighbours_of}
 
 -- a text by its lines
 abbrev text : List (List ℕ) → List ℕ
@@ -271,3 +272,13 @@ grid_of_two_rows = refl
 
 grid_of_one_row : grid_of 1 ≡ record { vertices = 1; edges = [] }
 grid_of_one_row = refl
+
+-- of the rows 1 2 3, 4 5 6 and 7 8 9: the middle, a corner and the end of a row
+neighbours_of_the_middle : grid_neighbours 3 2 2 ≡ 2 ∷ 4 ∷ 6 ∷ 8 ∷ []
+neighbours_of_the_middle = refl
+
+neighbours_of_a_corner : neighbours_of (grid_of 3) 1 ≡ 2 ∷ 4 ∷ []
+neighbours_of_a_corner = refl
+
+neighbours_of_a_row_end : neighbours_of (grid_of 3) 6 ≡ 3 ∷ 5 ∷ 9 ∷ []
+neighbours_of_a_row_end = refl

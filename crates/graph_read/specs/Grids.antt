@@ -30,6 +30,18 @@ grid_of side =
       edges = flat_map (row_edges side) (range_with_len 1 side);
     }
 
+-- a vertex, where it is there
+abbrev pub vertex_where : Bool → ℕ → List ℕ
+vertex_where there v = if there then v ∷ [] else []
+
+-- the vertices above, to the left, to the right and below, where these are there
+abbrev pub grid_neighbours : ℕ → ℕ → ℕ → List ℕ
+grid_neighbours side r c =
+    vertex_where (nat_lt 1 r) (grid_vertex side (r - 1) c)
+    ++ vertex_where (nat_lt 1 c) (grid_vertex side r (c - 1))
+    ++ vertex_where (nat_lt c side) (grid_vertex side r (c + 1))
+    ++ vertex_where (nat_lt r side) (grid_vertex side (r + 1) c)
+
 -- so many rows and columns are allowed
 pub record IsSide (side : ℕ) : Type 0 where
   pub some : 1 ≤ side

@@ -2,7 +2,7 @@
 use Rattle.std.specs.Prelude.{ℕ, ◌-◌, Bool, ◌&&◌, ◌||◌, not, ◌==◌, if◌then◌else◌, List, [], length, map, filter, slice_index_or}
 use Rattle.std.specs.List.{enumerate_from, range_with_len}
 use Rattle.graph_read.specs.declared.edge.Edge.{Edge}
-use Rattle.graph_read.specs.Graphs.{GraphOf}
+use Rattle.graph_read.specs.Graphs.{GraphOf, edge_at}
 
 -- both ends of the edge are one vertex
 abbrev pub is_loop : Edge → Bool
@@ -23,6 +23,10 @@ listed_edges g w = filter (λ p. touches p.1 w && not (is_loop p.1)) (enumerate_
 -- the numbers of these edges
 abbrev pub edges_at : GraphOf → ℕ → List ℕ
 edges_at g w = map (λ p. p.0) (listed_edges g w)
+
+-- the other ends of these edges
+abbrev pub neighbours_of : GraphOf → ℕ → List ℕ
+neighbours_of g w = map (λ i. other_end (edge_at g i) w) (edges_at g w)
 
 -- the edges at each vertex, from vertex 1 on
 abbrev pub incidence_of : GraphOf → List (List ℕ)

@@ -1,4 +1,4 @@
-ghost use Rattle.std.specs.Prelude.{◌≡◌, ◌≤◌, IfOk, Option};
+ghost use Rattle.std.specs.Prelude.{◌≡◌, ◌≤◌, ◌∷◌, IfOk, Option};
 ghost use Rattle.std.specs.Option.{option_copied};
 ghost use Rattle.pop_edge.specs.Words.{words_of};
 ghost use Rattle.graph_read.specs.Graphs.{IsEdge, IsVertex};
@@ -8,16 +8,16 @@ ghost use Rattle.graph_read.specs.Reading.{AreEdgeWords, in_line};
 use crate::Edge;
 use pop_edge::{ReadRefusal, next_word, number};
 
-// The words behind the `e` of an edge's line: its two ends, and the weight where one is written.
-fn edge_words(line: &[u8]) -> Option<(&[u8], &[u8], Option<&[u8]>)>
-    ensures { AreEdgeWords (words_of line.now) result }
+// The words behind the `e` of an edge's line, by its first word and the bytes behind that: its two
+// ends, and the weight where one is written.
+fn edge_words<'a>(first: &[u8], rest: &'a [u8]) -> Option<(&'a [u8], &'a [u8], Option<&'a [u8]>)>
+    ensures { AreEdgeWords (first.now ∷ words_of rest.now) result }
 {
-    let (e, rest) = next_word(line)?;
-    let (u, rest) = next_word(rest)?;
-    let (v, rest) = next_word(rest)?;
-    if e != b"e".as_slice() {
+    if first != b"e".as_slice() {
         return None;
     }
+    let (u, rest) = next_word(rest)?;
+    let (v, rest) = next_word(rest)?;
     match next_word(rest) {
         None => Some((u, v, None)),
         Some((weight, rest)) => {
@@ -64,13 +64,14 @@ fn read_weight(line: u64, word: Option<&[u8]>) -> Result<u32, ReadRefusal>
     }
 }
 
-/// The edge that a line spells, in a graph of so many vertices, or what is wrong with the line:
-/// code 15 first, and then its words from left to right.
-pub fn read_edge(vertices: u32, number: u64, line: &[u8]) -> Result<Edge, ReadRefusal>
-    ensures edge { result ≡ in_line number (edge_in vertices (words_of line.now)) }
+/// The edge that a line spells by its first word and the bytes behind it, in a graph of so many
+/// vertices, or what is wrong with the line: code 15 first, and then its words from left to right.
+pub fn read_edge(vertices: u32, number: u64, first: &[u8], rest: &[u8]) -> Result<Edge, ReadRefusal>
+    ensures edge { result
+        ≡ in_line number (edge_in vertices (first.now ∷ words_of rest.now)) }
     ensures joins { IfOk result (IsEdge vertices) }
 {
-    match edge_words(line) {
+    match edge_words(first, rest) {
         None => Err(ReadRefusal::Malformed(number, 15)),
         Some((u, v, weight)) => {
             let u = read_end(vertices, number, u)?;

@@ -1,4 +1,4 @@
-ghost use Rattle.std.specs.Prelude.{◌≡◌, ◌++◌, ℕ, List, []};
+ghost use Rattle.std.specs.Prelude.{◌≡◌, ◌<◌, ◌++◌, ◌∷◌, ℕ, List, [], length};
 ghost use Rattle.pop_edge.specs.Words.{words_of};
 ghost use Rattle.pop_edge.specs.Judging.{told};
 ghost use Rattle.graph_read.specs.GraphText.{graph, is_passed_over};
@@ -38,7 +38,10 @@ impl Reader {
         ensures { (lines : List (ℕ × List (List ℕ))) → Knows self.old lines
             → TakesLine self.new (lines ++ told graph number (words_of line.now)) result }
     {
-        if passes_over(line) {
+        let Some((word, rest)) = next_word(line) else {
+            return Ok(());
+        };
+        if passes_over(word) {
             return Ok(());
         }
         match &mut self.graph {
@@ -47,7 +50,7 @@ impl Reader {
                 self.graph = Some(Graph::without_edges(self.alloc, vertices));
                 Ok(())
             }
-            Some(graph) => add_line(graph, number, line),
+            Some(graph) => add_line(graph, number, word, rest),
         }
     }
 
@@ -60,27 +63,24 @@ impl Reader {
     }
 }
 
-// Whether a line says nothing: it has no words, or it is a comment, or a descriptor.
-fn passes_over(line: &[u8]) -> bool
-    ensures { result ≡ is_passed_over (words_of line.now) }
+// Whether a line with this first word says nothing: it is a comment, or a descriptor.
+fn passes_over(word: &[u8]) -> bool
+    requires { 0 < length word.now }
+    ensures { (words : List (List ℕ)) → result ≡ is_passed_over (word.now ∷ words) }
 {
-    match next_word(line) {
-        None => true,
-        Some((word, _rest)) => {
-            word[0] == COMMENT
-                || word == b"n".as_slice()
-                || word == b"d".as_slice()
-                || word == b"v".as_slice()
-                || word == b"x".as_slice()
-        }
-    }
+    word[0] == COMMENT
+        || word == b"n".as_slice()
+        || word == b"d".as_slice()
+        || word == b"v".as_slice()
+        || word == b"x".as_slice()
 }
 
-// Adds the edge of a line behind the header, or refuses the line: its codes come before the limit.
-fn add_line(graph: &mut Graph, number: u64, line: &[u8]) -> Result<(), ReadRefusal>
-    ensures { AddsLine graph.old graph.new number (words_of line.now) result }
+// Adds the edge of a line behind the header, by its first word and the bytes behind it, or refuses
+// the line: its codes come before the limit.
+fn add_line(graph: &mut Graph, number: u64, word: &[u8], rest: &[u8]) -> Result<(), ReadRefusal>
+    ensures { AddsLine graph.old graph.new number (word.now ∷ words_of rest.now) result }
 {
-    let edge = read_edge(graph.vertices(), number, line)?;
+    let edge = read_edge(graph.vertices(), number, word, rest)?;
     if graph.edges() >= MAX_EDGES {
         return Err(ReadRefusal::Limit(5, number));
     }

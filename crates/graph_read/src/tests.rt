@@ -1,6 +1,6 @@
 ghost use Rattle.std.specs.Prelude.{◌≤◌};
 
-use crate::{Edge, Graph, Incidence, first_cut_off, read_graph};
+use crate::{Edge, Graph, Incidence, first_cut_off, put_grid_neighbours, read_graph};
 use pop_edge::{MemSource, ReadRefusal};
 use std::alloc::{AllocError, Global};
 use std::test::Fail;
@@ -171,5 +171,22 @@ fn a_grid_joins_each_vertex_to_the_right_and_below(rt: HostRuntime) -> Result<()
     assert_eq!(rt; edges.as_slice(), want.as_slice());
     assert_eq!(rt; first_cut_off(rt.alloc(), &graph, 5)?, None);
     assert_eq!(rt; Graph::grid(rt.alloc(), 1)?.edges(), 0);
+    Ok(())
+}
+
+// Worked by hand: the rows 1 2 3, 4 5 6 and 7 8 9.
+#[test]
+fn a_vertex_of_a_grid_has_up_to_four_neighbours(rt: HostRuntime) -> Result<(), Fail> {
+    let mut neighbours = Vec::new(rt.alloc());
+    put_grid_neighbours(&mut neighbours, 3, 5)?;
+    assert_eq!(rt; neighbours.as_slice(), [2, 4, 6, 8].as_slice());
+    put_grid_neighbours(&mut neighbours, 3, 1)?;
+    assert_eq!(rt; neighbours.as_slice(), [2, 4].as_slice());
+    put_grid_neighbours(&mut neighbours, 3, 6)?;
+    assert_eq!(rt; neighbours.as_slice(), [3, 5, 9].as_slice());
+    put_grid_neighbours(&mut neighbours, 3, 7)?;
+    assert_eq!(rt; neighbours.as_slice(), [4, 8].as_slice());
+    put_grid_neighbours(&mut neighbours, 1, 1)?;
+    assert_eq!(rt; neighbours.as_slice(), [].as_slice());
     Ok(())
 }

@@ -6,7 +6,6 @@ use Rattle.pop_model.specs.Families.{Event}
 use Rattle.pop_model.specs.Families.Family.{Listed, Cycles}
 use Rattle.pop_model.specs.Instances.{Instance}
 use Rattle.graph_read.specs.Graphs.{GraphOf}
-use Rattle.graph_read.specs.Grids.{grid_of}
 use Rattle.pop_print.specs.declared.facts.Facts.TheVariants.{Formula, Orient, Tree, Made}
 use Rattle.pop_print.specs.Output.{end_text}
 
@@ -113,7 +112,7 @@ unfolding digits
 a_sink_that_occurs = refl
 
 -- a grid of one vertex has no variable
-one_vertex : end_text (Made (grid_of 1) 1) (given [] [] []) [] 0 []
+one_vertex : end_text (Made 1) (given [] [] []) [] 0 []
     ≡ codes "s SAMPLE\ngrid 1\nused 0 0\npops 0\nsum 0\n"
 unfolding digits
 one_vertex = refl
@@ -127,20 +126,20 @@ abbrev over_corner : List (List ℕ) → Instance
 over_corner rows = given rows (two_each 3) to_corner
 
 -- each vertex once
-a_grid : end_text (Made (grid_of 2) 2) (over_corner ((0 ∷ []) ∷ (0 ∷ []) ∷ (0 ∷ []) ∷ [])) (0 ∷ 0 ∷ 0 ∷ []) 0 []
+a_grid : end_text (Made 2) (over_corner ((0 ∷ []) ∷ (0 ∷ []) ∷ (0 ∷ []) ∷ [])) (0 ∷ 0 ∷ 0 ∷ []) 0 []
     ≡ codes "s SAMPLE\ngrid 2\nused 0 0\npops 0\nsum 9\n"
 unfolding digits
 a_grid = refl
 
 -- vertex 3 twice; the greatest cursor is not the last
-a_popped_grid : end_text (Made (grid_of 2) 2) (over_corner ((1 ∷ 1 ∷ 0 ∷ []) ∷ (0 ∷ 1 ∷ []) ∷ (0 ∷ []) ∷ []))
+a_popped_grid : end_text (Made 2) (over_corner ((1 ∷ 1 ∷ 0 ∷ []) ∷ (0 ∷ 1 ∷ []) ∷ (0 ∷ []) ∷ []))
     (2 ∷ 1 ∷ 0 ∷ []) 7 []
     ≡ codes "s SAMPLE\ngrid 2\nused 3 2\npops 7\nsum 12\n"
 unfolding digits
 a_popped_grid = refl
 
 -- the cycle of the vertices 2 and 4
-a_stuck_grid : end_text (Made (grid_of 2) 2) (over_corner ((1 ∷ []) ∷ (0 ∷ []) ∷ (0 ∷ []) ∷ [])) (0 ∷ 0 ∷ 0 ∷ []) 0
+a_stuck_grid : end_text (Made 2) (over_corner ((1 ∷ []) ∷ (0 ∷ []) ∷ (0 ∷ []) ∷ [])) (0 ∷ 0 ∷ 0 ∷ []) 0
     (record { unit = 0; cube = (0, 1) ∷ (2, 0) ∷ [] } ∷ [])
     ≡ codes "s EXHAUSTED\ngrid 2\nstuck 1\nused 0 0\npops 0\n"
 unfolding digits

@@ -28,18 +28,17 @@ pub record IsOfTree (g : GraphOf) (root : ℕ) (i : Instance) : Type 0 where
   pub slots : (v : ℕ) → v < variables_of i.stacks
       → domain_of i.stacks v ≡ length (edges_at g (vertex_of root v))
 
--- the graph is the grid of this side, and the instance that of its trees to vertex 1
-pub record IsOfGrid (g : GraphOf) (side : ℕ) (i : Instance) : Type 0 where
+-- the instance is that of the trees to vertex 1 of the grid of this side
+pub record IsOfGrid (side : ℕ) (i : Instance) : Type 0 where
   pub side_is : IsSide side
-  pub grid : g ≡ grid_of side
-  pub tree : IsOfTree g 1 i
+  pub tree : IsOfTree (grid_of side) 1 i
 
 -- the instance is that of the facts
 abbrev pub AreFactsOf : Facts → Instance → Type 0
 AreFactsOf (Formula n) i = IsOfPairs n i
 AreFactsOf (Orient g) i = IsOfPairs (length g.edges) i
 AreFactsOf (Tree g root) i = IsOfTree g root i
-AreFactsOf (Made g side) i = IsOfGrid g side i
+AreFactsOf (Made side) i = IsOfGrid side i
 
 -- one cursor for each variable, below its height, and the events that occur there
 pub record IsAtEnd (i : Instance) (cursors : List ℕ) (stuck : List Event) : Type 0 where

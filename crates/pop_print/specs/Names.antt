@@ -13,7 +13,7 @@ abbrev pub name_of : Facts → ℕ → ℕ
 name_of (Formula n) v = v + 1
 name_of (Orient g) v = v + 1
 name_of (Tree g root) v = vertex_of root v
-name_of (Made g side) v = vertex_of 1 v
+name_of (Made side) v = vertex_of 1 v
 
 -- the numbers that tell an event: a listed one's own, or the names of a cycle's variables
 abbrev pub event_names : Facts → Family → Event → List ℕ

@@ -9,6 +9,7 @@ use Rattle.pop_model.specs.Names.{vertex_of}
 use Rattle.pop_model.specs.Text.{line, spaced}
 use Rattle.graph_read.specs.declared.edge.Edge.{Edge}
 use Rattle.graph_read.specs.Graphs.{GraphOf, edge_at}
+use Rattle.graph_read.specs.Grids.{grid_of}
 use Rattle.graph_read.specs.Incidence.{edges_at, other_end}
 use Rattle.pop_print.specs.declared.facts.Facts.{Facts}
 use Rattle.pop_print.specs.declared.facts.Facts.TheVariants.{Formula, Orient, Tree, Made}
@@ -68,7 +69,7 @@ abbrev pub sample_lines : Facts → StackTable → List ℕ → List ℕ
 sample_lines (Formula n) stacks cursors = assignment_line stacks cursors
 sample_lines (Orient g) stacks cursors = orientation_lines g stacks cursors
 sample_lines (Tree g root) stacks cursors = tree_lines g root stacks cursors
-sample_lines (Made g side) stacks cursors = tree_lines g 1 stacks cursors
+sample_lines (Made side) stacks cursors = tree_lines (grid_of side) 1 stacks cursors
 
 -- the line of an event that occurs
 abbrev pub stuck_line : Facts → Family → Event → List ℕ
@@ -109,5 +110,5 @@ summary side stacks cursors pops (e ∷ stuck) =
 
 -- the text of an end: of a made grid the summary, and else in full
 abbrev pub end_text : Facts → Instance → List ℕ → ℕ → List Event → List ℕ
-end_text (Made g side) i cursors pops stuck = summary side i.stacks cursors pops stuck
+end_text (Made side) i cursors pops stuck = summary side i.stacks cursors pops stuck
 end_text facts i cursors pops stuck = full_text facts i cursors pops stuck

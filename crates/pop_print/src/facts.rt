@@ -13,7 +13,7 @@ pub enum Facts {
     /// The spanning trees of a graph with this root: its other vertices are the variables.
     Tree(Graph, u32),
     /// The spanning trees of a square grid of this side, from 1 to 2048, whose root is vertex 1.
-    Made(Graph, u32),
+    Made(u32),
 }
 
 impl Facts {
@@ -26,7 +26,7 @@ impl Facts {
         match self {
             Facts::Formula(_) | Facts::Orient(_) => v + 1,
             Facts::Tree(_, root) => vertex_of(*root, v),
-            Facts::Made(_, _) => vertex_of(1, v),
+            Facts::Made(_) => vertex_of(1, v),
         }
     }
 }

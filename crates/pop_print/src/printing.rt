@@ -81,7 +81,7 @@ fn push_text(
     ensures reader { reader.new ≡ reader.old }
 {
     match facts {
-        Facts::Made(graph, side) => push_summary(out, graph, *side, instance, reader, end),
+        Facts::Made(side) => push_summary(out, *side, instance, reader, end),
         Facts::Formula(_) | Facts::Orient(_) | Facts::Tree(_, _) => {
             push_full(alloc, out, facts, instance, reader, end)
         }
@@ -95,7 +95,7 @@ fn room_for(facts: &Facts, count: u32) -> usize {
     let of_each = match facts {
         Facts::Formula(_) => digits + 4,
         Facts::Orient(_) | Facts::Tree(_, _) => 3 * digits + 7,
-        Facts::Made(_, _) => 0,
+        Facts::Made(_) => 0,
     };
     count as usize * of_each + 128
 }

@@ -10,6 +10,7 @@ use crate::Facts;
 use crate::assignment::push_assignment;
 use crate::orientation::push_orientation;
 use crate::tree::push_tree;
+use graph_read::Graph;
 use pop_instance::{Cursors, Instance};
 use pop_stacks::Reader;
 use pop_text::Output;
@@ -37,6 +38,9 @@ pub fn push_sample(
         Facts::Formula(count) => push_assignment(out, stacks, reader, cursors, *count),
         Facts::Orient(graph) => push_orientation(out, graph, stacks, reader, cursors),
         Facts::Tree(graph, root) => push_tree(alloc, out, graph, *root, stacks, reader, cursors),
-        Facts::Made(graph, _) => push_tree(alloc, out, graph, 1, stacks, reader, cursors),
+        Facts::Made(side) => {
+            let grid = Graph::grid(alloc, *side)?;
+            push_tree(alloc, out, &grid, 1, stacks, reader, cursors)
+        }
     }
 }

@@ -1,10 +1,12 @@
 ghost use Rattle.std.specs.Prelude.{◌≡◌, ◌<◌, ◌^◌, length, map};
 ghost use Rattle.std.specs.List.Sorted.{IsStrictlyIncreasing};
 
+use crate::arrow::push_arrow;
 use crate::{Facts, text};
 use confluence_core::run_first;
 use pop_instance::{Cube, Events, Family, Instance};
 use pop_stacks::{Rows, StackSpec, Stacks, Weights};
+use pop_text::Output;
 use std::alloc::Global;
 use std::process::Abort;
 use std::test::Fail;
@@ -96,6 +98,19 @@ fn an_end_with_events_prints_their_numbers(rt: HostRuntime) -> Result<(), Fail> 
     assert_eq!(rt;
         bytes.as_slice(),
         b"s EXHAUSTED\nstuck 1\nused 0 2\npops 2\n".as_slice()
+    );
+    Ok(())
+}
+
+#[test]
+fn an_arrow_of_the_largest_numbers_is_printed_in_full(rt: HostRuntime) -> Result<(), Fail> {
+    // 2^32 - 1, worked by hand
+    let mut out = Output::with_room(rt.alloc(), 0)?;
+    push_arrow(&mut out, u32::MAX, u32::MAX, u32::MAX)?;
+    push_arrow(&mut out, 1, 20, 300)?;
+    assert_eq!(rt;
+        out.into_bytes().as_slice(),
+        b"a 4294967295 4294967295 4294967295\na 1 20 300\n".as_slice()
     );
     Ok(())
 }

@@ -17,6 +17,7 @@ mod OneReading
 mod OneResampling
 mod OneSampling
 mod OneTree
+mod ResampledEnds
 mod Statuses
 mod ToldLog
 mod WitnessLemmas

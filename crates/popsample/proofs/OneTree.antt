@@ -65,5 +65,5 @@ one_tree origin root g o p h h' = one_way origin root g o p (ways origin root g 
 pub one_grid : (origin : Origin) (side : ℕ) → IsOne (ComesOfGrid origin side)
 one_grid origin side =
     let g = grid_of side in
-    one_sampling (MadeFacts g side) origin (weights_of_tree g 1) (IsEndOf (MadeFacts g side) (tree_instance origin g 1))
-    (one_end (MadeFacts g side) (tree_instance origin g 1) (cycles_extremal (heads_of_tree g 1)))
+    one_sampling (MadeFacts side) origin (weights_of_tree g 1) (IsEndOf (MadeFacts side) (tree_instance origin g 1))
+    (one_end (MadeFacts side) (tree_instance origin g 1) (cycles_extremal (heads_of_tree g 1)))

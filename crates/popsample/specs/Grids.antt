@@ -12,5 +12,5 @@ use Rattle.popsample.specs.Trees.{tree_instance}
 -- what comes of the grid of so many rows and columns
 abbrev pub ComesOfGrid : Origin → ℕ → Outcome → Type 0
 ComesOfGrid origin side o =
-    ComesOfSampling (MadeFacts (grid_of side) side) origin (weights_of_tree (grid_of side) 1)
-    (IsEndOf (MadeFacts (grid_of side) side) (tree_instance origin (grid_of side) 1)) o
+    ComesOfSampling (MadeFacts side) origin (weights_of_tree (grid_of side) 1)
+    (IsEndOf (MadeFacts side) (tree_instance origin (grid_of side) 1)) o

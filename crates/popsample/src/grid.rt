@@ -7,8 +7,7 @@ ghost use Rattle.popsample.specs.Grids.{ComesOfGrid};
 use crate::answer::Answer;
 use crate::crew::Crew;
 use crate::tree::sample_arrows;
-use cycle_popping::{arrow_weights_by, arrows_by};
-use graph_read::{Graph, Incidence};
+use cycle_popping::{grid_arrows, grid_weights};
 use pop_print::Facts;
 use pop_stacks::StackSpec;
 use pop_workers::Gate;
@@ -16,11 +15,8 @@ use std::alloc::{AllocError, Global};
 use std::sync::Wait;
 use std::thread::Threads;
 
-// The root of a grid's tree: the first vertex of the first row.
-const ROOT: u32 = 1;
-
 /// Samples a spanning tree of the grid of so many rows and columns, from 1 to 2048, with its arrows to
-/// vertex 1: the answer of `make`.
+/// vertex 1: the answer of `make`. The graph isn't made; arrows and weights come of the side.
 pub fn tree_of_grid<R: Threads + Wait + Sync, G: Gate + Sync>(
     alloc: Global,
     crew: &Crew<R, G>,
@@ -34,18 +30,14 @@ pub fn tree_of_grid<R: Threads + Wait + Sync, G: Gate + Sync>(
     ensures { IfOk result (λ a.
         AnswersBy (ComesOfGrid (origin_of spec height) side) a.status a.text.items) }
 {
-    let grid = Graph::grid(alloc, side)?;
-    let _vertices = grid.vertices();
-    let incidence = Incidence::of(alloc, &grid)?;
-    let arrows = arrows_by(alloc, &grid, &incidence, ROOT)?;
-    let weights = arrow_weights_by(alloc, &grid, &incidence, ROOT)?;
-    drop(incidence);
+    let arrows = grid_arrows(alloc, side)?;
+    let weights = grid_weights(alloc, side)?;
     sample_arrows(
         alloc,
         crew,
         spec,
         height,
-        &Facts::Made(grid, side),
+        &Facts::Made(side),
         weights,
         arrows,
     )

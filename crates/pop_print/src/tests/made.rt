@@ -6,7 +6,6 @@ ghost use Rattle.graph_read.specs.Incidence.{edges_at};
 
 use crate::{Facts, text};
 use confluence_core::run_first;
-use graph_read::Graph;
 use pop_instance::{Arrows, Family, Instance};
 use pop_stacks::{Rows, StackSpec, Stacks, Weights};
 use std::alloc::Global;
@@ -28,13 +27,12 @@ fn printed(
     requires short { length heads.items < 2 ^ 31 }
     requires short_rows { All (λ row. length row < 2 ^ 31) (heads_of heads.items) }
 {
-    let graph = Graph::grid(alloc, side)?;
-    let count = graph.vertices() - 1;
-    let stacks = Stacks::new(StackSpec::Given(rows), Weights::pairs(count), 1)?;
+    let weights = Weights::pairs(side * side - 1);
+    let stacks = Stacks::new(StackSpec::Given(rows), weights, 1)?;
     let arrows = Arrows::new(heads).expect(rt, "heads that are variables or the root");
     let instance = Instance::new(stacks, Family::Cycles(arrows)).expect(rt, "two slots for each");
     let end = run_first(alloc, &instance)?;
-    Ok(text(alloc, &Facts::Made(graph, side), &instance, &end)?)
+    Ok(text(alloc, &Facts::Made(side), &instance, &end)?)
 }
 
 // The same of the grid of side 2, by the entries of its vertices 2, 3 and 4. Its edges are 1 2,

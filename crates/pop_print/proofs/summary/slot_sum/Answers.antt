@@ -1,28 +1,30 @@
 use Rattle.std.proofs.Common.{◌+◌, ◌*◌, ◌<◌, ◌≤◌, ◌^◌, length, ap, ◌∙◌, arith}
 use Rattle.pop_model.specs.Stacks.{value_at}
 use Rattle.pop_model.specs.Names.{vertex_of}
+use Rattle.graph_read.specs.Grids.{grid_of}
 use Rattle.graph_read.specs.Incidence.{edges_at}
+use Rattle.graph_read.proofs.GridGraphs.{grid_is_graph}
 use Rattle.pop_print.proofs.Degrees.{degrees_below}
 use Rattle.pop_print.proofs.SlotSums.{sum_fits, sum_small, terms_all, terms_more}
 use Rattle.pop_print.proofs.summary.slot_sum.Goals as goal
 
 -- the sum with the term of the variable is small still
 small : (c : goal.After-from-in-loop-v) → c.loop-v.total + c.from.result * (c.from-in-loop-v.result + 1)
-    ≤ 2 ^ 22 * degrees_below c.args.graph.now (c.loop-v.v + 1)
+    ≤ 2 ^ 22 * degrees_below (grid_of c.args.side) (c.loop-v.v + 1)
 small c =
     let slots = c.requires.slots c.loop-v.v (omega arith) in
     let within = c.entry-x.ensures.within in
-    let slot : c.from-in-loop-v.result < length (edges_at c.args.graph.now (vertex_of 1 c.loop-v.v)) = omega arith in
-    sum_small c.args.graph.now c.loop-v.v c.from.result c.from-in-loop-v.result c.loop-v.total
-    c.vertices-vertices.ensures.graph.vertices_fit (omega arith) (c.from.ensures ∙ c.vertex_of.ensures) slot
+    let slot : c.from-in-loop-v.result < length (edges_at (grid_of c.args.side) (vertex_of 1 c.loop-v.v)) = omega arith in
+    sum_small (grid_of c.args.side) c.loop-v.v c.from.result c.from-in-loop-v.result c.loop-v.total
+    (grid_is_graph c.args.side c.requires.side).vertices_fit (omega arith) (c.from.ensures ∙ c.vertex_of.ensures) slot
     c.loop-v.invariant.small
 
 pub overflow_add-total-in-loop-v : goal.overflow_add-total-in-loop-v
 overflow_add-total-in-loop-v c =
     omega (
       arith,
-      sum_fits c.args.graph.now (c.loop-v.v + 1) (c.loop-v.total + c.from.result * (c.from-in-loop-v.result + 1))
-          c.vertices-vertices.ensures.graph.edges_fit (small c),
+      sum_fits (grid_of c.args.side) (c.loop-v.v + 1) (c.loop-v.total + c.from.result * (c.from-in-loop-v.result + 1))
+          (grid_is_graph c.args.side c.requires.side).edges_fit (small c),
     )
 
 pub loop-v-preserved : goal.loop-v-preserved

@@ -2,6 +2,7 @@ use Rattle.std.proofs.Common.{◌≡◌, ◌*◌, ◌≤◌, ◌^◌, take}
 use Rattle.std.specs.Prelude.{sum_by}
 use Rattle.std.specs.List.{enumerate_from}
 use Rattle.pop_stacks.specs.Readers.{Belongs}
+use Rattle.graph_read.specs.Grids.{grid_of}
 use Rattle.pop_print.specs.Made.{slot_term}
 use Rattle.pop_print.proofs.Degrees.{degrees_below}
 use Rattle.pop_print.proofs.summary.slot_sum.Given as goal
@@ -11,5 +12,5 @@ abbrev pub invariant-loop-v : goal.invariant-loop-v
 invariant-loop-v l = record {
   belongs : Belongs l.stacks l.reader;
   is : l.total ≡ sum_by (slot_term l.stacks) (take l.v (enumerate_from 0 l.cursors));
-  small : l.total ≤ 2 ^ 22 * degrees_below l.graph l.v;
+  small : l.total ≤ 2 ^ 22 * degrees_below (grid_of l.side) l.v;
 }

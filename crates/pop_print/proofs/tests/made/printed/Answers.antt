@@ -5,7 +5,6 @@ use Rattle.pop_model.specs.Stacks.{StackTable, variables_of, domain_of}
 use Rattle.pop_model.specs.Families.Family.{Cycles}
 use Rattle.pop_model.specs.Instances.{Instance}
 use Rattle.pop_model.specs.Names.{vertex_of}
-use Rattle.graph_read.specs.Graphs.{GraphOf}
 use Rattle.graph_read.specs.Grids.{IsSide, grid_of}
 use Rattle.graph_read.specs.Incidence.{edges_at}
 use Rattle.pop_print.specs.Ends.{IsOfGrid}
@@ -16,33 +15,31 @@ abbrev pair : List ℕ
 pair = 1 ∷ 1 ∷ []
 
 -- the instance is that of a grid in which each vertex but the root has two edges
-told : (side n : ℕ) (g : GraphOf) (i : Instance) (heads : List (List (Option ℕ))) → IsSide side → g ≡ grid_of side
-    → n ≡ g.vertices → i.stacks.weights ≡ replicate (n - 1) pair → i.family ≡ Cycles heads
-    → ((v : ℕ) → v + 1 < side * side → length (edges_at (grid_of side) (vertex_of 1 v)) ≡ 2) → IsOfGrid g side i
-told side n g i heads side_is grid vertices weights family pairs =
-    let square : g.vertices ≡ side * side = ap (λ h. h.vertices) grid in
+told : (side : ℕ) (i : Instance) (heads : List (List (Option ℕ))) → IsSide side
+    → i.stacks.weights ≡ replicate (side * side - 1) pair → i.family ≡ Cycles heads
+    → ((v : ℕ) → v + 1 < side * side → length (edges_at (grid_of side) (vertex_of 1 v)) ≡ 2) → IsOfGrid side i
+told side i heads side_is weights family pairs =
     let some : 1 ≤ side * side = mul-le 1 1 side side side_is.some side_is.some in
-    let count : variables_of i.stacks ≡ n - 1 = ap length weights ∙ length-replicate (n - 1) pair in
+    let count : variables_of i.stacks ≡ side * side - 1 =
+    ap length weights ∙ length-replicate (side * side - 1) pair in
     record {
       side_is = side_is;
-      grid = grid;
       tree = record {
-        root_is = record { first = omega arith; last = omega arith };
+        root_is = record { first = omega arith; last = some };
         cycles = (heads, family);
         count = omega arith;
         slots = λ v below.
             let values : domain_of i.stacks v ≡ 2 =
             ap (λ rows. length (get_or rows v [])) weights
-            ∙ ap length (get_or-replicate (n - 1) v pair [] (omega arith)) in
-            values ∙ sym (pairs v (omega arith)) ∙ ap (λ h. length (edges_at h (vertex_of 1 v))) (sym grid);
+            ∙ ap length (get_or-replicate (side * side - 1) v pair [] (omega arith)) in
+            values ∙ sym (pairs v (omega arith));
       };
     }
 
 pub text-requires-clause-facts : goal.text-requires-clause-facts
 text-requires-clause-facts g c =
     let is = rw c.expect-instance.ensures at c.new-3.ensures in
-    told c.args.side c.vertices-count.result c.in_ok-graph.graph c.expect-instance.result c.expect-arrows.result
-    c.requires.side c.in_ok-graph.ensures c.vertices-count.ensures.count
+    told c.args.side c.expect-instance.result c.expect-arrows.result c.requires.side
     (ap (λ (i : Instance). i.stacks.weights) is ∙ ap (λ (s : StackTable). s.weights) c.in_ok-stacks.ensures.made
-    ∙ c.pairs.ensures)
+    ∙ c.pairs-weights.ensures)
     (ap (λ (i : Instance). i.family) is) c.requires.pairs

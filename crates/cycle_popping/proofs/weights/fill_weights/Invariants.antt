@@ -1,6 +1,6 @@
 use Rattle.std.proofs.Common.{◌≡◌, take}
 use Rattle.cycle_popping.specs.Trees.{weights_along}
-use Rattle.cycle_popping.proofs.weights.weights_along.Given as goal
+use Rattle.cycle_popping.proofs.weights.fill_weights.Given as goal
 
 -- the weights of the edges before here
 abbrev pub invariant-loop-i : goal.invariant-loop-i

@@ -1,22 +1,12 @@
-use Rattle.std.proofs.Common.{◌≡◌, ◌-◌, ◌<◌, ◌≤◌, ℕ, List, Vec, All, length, map, sym, ap, subst, ◌∙◌, arith}
-use Rattle.std.specs.List.{range_with_len}
-use Rattle.std.proofs.lemmas.List.{map_push}
+use Rattle.std.proofs.Common.{◌≡◌, ◌<◌, ℕ, All, length, sym, ap, subst, ◌∙◌, arith}
 use Rattle.std.proofs.lemmas.List.FromFn.{length-map-range_with_len}
-use Rattle.pop_stacks.specs.Rows.{lists_of, AreShort}
-use Rattle.graph_read.specs.Graphs.{GraphOf, IsVertex}
+use Rattle.pop_stacks.specs.Rows.{AreShort}
+use Rattle.graph_read.specs.Graphs.{IsVertex}
 use Rattle.graph_read.specs.Incidence.{edges_at, at_vertex}
 use Rattle.graph_read.proofs.IncidenceLemmas.{at_vertex-incidence_of}
-use Rattle.cycle_popping.specs.Trees.{weights_at, weights_of_tree, weights_along}
-use Rattle.cycle_popping.proofs.TreeRows.{vertex_of_is, edges_known, tree_weights, rows_more}
-use Rattle.cycle_popping.proofs.weights.arrow_weights_by.Goals as goal
-
--- where all variables have their rows
-all_rows_are : {A : Type 0} (g : GraphOf) (root v count : ℕ) (rows : List (Vec ℕ A))
-    → lists_of rows ≡ map (weights_at g root) (range_with_len 0 v) → count ≡ g.vertices → v ≤ count - 1 → count - 1 ≤ v
-    → lists_of rows ≡ weights_of_tree g root
-all_rows_are g root v count rows are is low high =
-    let same : v ≡ g.vertices - 1 = omega arith in
-    are ∙ ap (λ n. map (weights_at g root) (range_with_len 0 n)) same
+use Rattle.cycle_popping.specs.Trees.{weights_at, weights_along}
+use Rattle.cycle_popping.proofs.TreeRows.{vertex_of_is, edges_known, tree_weights, rows_more, rows_whole}
+use Rattle.cycle_popping.proofs.weights.numbers_by.Goals as goal
 
 pub at-edges-requires-clause-last : goal.at-edges-requires-clause-last
 at-edges-requires-clause-last c =
@@ -27,8 +17,8 @@ at-edges-requires-clause-last c =
     ap length c.requires.incidence ∙ length-map-range_with_len (edges_at g) 1 g.vertices in
     omega (arith, c.vertex_of.ensures, vertex.vertex.last, size)
 
-pub weights_along-requires : goal.weights_along-requires
-weights_along-requires c =
+pub fill_weights-requires : goal.fill_weights-requires
+fill_weights-requires c =
     let g = c.args.graph.now in
     let w : ℕ = c.vertex_of.result in
     let vertex = vertex_of_is g.vertices c.args.root c.loop-v.v c.requires.root
@@ -49,38 +39,41 @@ loop-v-preserved c =
     let edges : c.at-edges.result.now ≡ edges_at g w =
     c.at-edges.ensures ∙ ap (λ xs. at_vertex xs w) c.requires.incidence
     ∙ at_vertex-incidence_of g w (subst (IsVertex g.vertices) (sym c.vertex_of.ensures) vertex.vertex) in
-    let row : c.in_ok-weights_along.field-0.items ≡ weights_at g root v = c.in_ok-weights_along.ensures
+    let row : c.deref.result.now ≡ weights_at g root v = c.deref.ensures.value ∙ c.in_ok-fill_weights.ensures
     ∙ ap (weights_along g) (edges ∙ ap (edges_at g) c.vertex_of.ensures) in
-    ap lists_of c.in_ok-push.ensures.items ∙ map_push _ c.loop-v.rows.items c.in_ok-weights_along.field-0
-    ∙ rows_more (weights_at g root) v (lists_of c.loop-v.rows.items) c.in_ok-weights_along.field-0.items c.loop-v.invariant
-    row
+    c.in_ok-push_row.ensures.added
+    ∙ rows_more (weights_at g root) v c.loop-v.rows c.deref.result.now c.loop-v.invariant row
 
-pub of-requires : goal.of-requires
-of-requires c =
+pub flat-requires : goal.flat-requires
+flat-requires c =
     let g = c.args.graph.now in
-    let are = all_rows_are g c.args.root c.loop-v.v c.vertices-count.result c.loop-v.rows.items c.loop-v.invariant
+    let are = rows_whole (weights_at g c.args.root) g.vertices c.loop-v.v
+    c.vertices-count.result c.loop-v.rows c.loop-v.invariant
     c.vertices-count.ensures.count c.loop-v.auto.v-end c.loop-v-test.false in
     subst AreShort (sym are)
     (tree_weights g c.args.root c.vertices-count.ensures.graph c.requires.root c.requires.joined).short
 
-pub of-requires-2-clause-some : goal.of-requires-2-clause-some
-of-requires-2-clause-some c =
+pub of-requires-clause-some : goal.of-requires-clause-some
+of-requires-clause-some c =
     let g = c.args.graph.now in
-    let are = all_rows_are g c.args.root c.loop-v.v c.vertices-count.result c.loop-v.rows.items c.loop-v.invariant
+    let are = rows_whole (weights_at g c.args.root) g.vertices c.loop-v.v
+    c.vertices-count.result c.loop-v.rows c.loop-v.invariant
     c.vertices-count.ensures.count c.loop-v.auto.v-end c.loop-v-test.false in
-    subst (All (λ row. 0 < length row)) (sym (c.of.ensures ∙ are))
+    subst (All (λ row. 0 < length row)) (sym (c.flat.ensures ∙ are))
     (tree_weights g c.args.root c.vertices-count.ensures.graph c.requires.root c.requires.joined).some
 
-pub of-requires-2-clause-positive : goal.of-requires-2-clause-positive
-of-requires-2-clause-positive c =
+pub of-requires-clause-positive : goal.of-requires-clause-positive
+of-requires-clause-positive c =
     let g = c.args.graph.now in
-    let are = all_rows_are g c.args.root c.loop-v.v c.vertices-count.result c.loop-v.rows.items c.loop-v.invariant
+    let are = rows_whole (weights_at g c.args.root) g.vertices c.loop-v.v
+    c.vertices-count.result c.loop-v.rows c.loop-v.invariant
     c.vertices-count.ensures.count c.loop-v.auto.v-end c.loop-v-test.false in
-    subst (All (All (λ weight. 0 < weight))) (sym (c.of.ensures ∙ are))
+    subst (All (All (λ weight. 0 < weight))) (sym (c.flat.ensures ∙ are))
     (tree_weights g c.args.root c.vertices-count.ensures.graph c.requires.root c.requires.joined).positive
 
 pub returns : goal.returns
 returns c =
     let g = c.args.graph.now in
-    c.of-2.ensures ∙ c.of.ensures ∙ all_rows_are g c.args.root c.loop-v.v c.vertices-count.result c.loop-v.rows.items
+    c.of.ensures ∙ c.flat.ensures ∙ rows_whole (weights_at g c.args.root) g.vertices c.loop-v.v
+    c.vertices-count.result c.loop-v.rows
     c.loop-v.invariant c.vertices-count.ensures.count c.loop-v.auto.v-end c.loop-v-test.false
