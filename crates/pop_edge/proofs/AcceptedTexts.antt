@@ -13,6 +13,7 @@ pub record IsAccepted (j : Judgement) (text : List ℕ) : Type 0 where
   pub lines : j.of_lines (told_lines j (lines_of text)) ≡ None
   pub whole : j.of_whole (length (lines_of text) + 1) (told_lines j (lines_of text)) ≡ None
 
+-- where a refusal isn't made, its cause isn't there
 no_refusal : (t : Bool) (r : ReadRefusal) → cond t (Some r) None ≡ None → t ≡ false
 no_refusal true r h = absurd (cc)
 no_refusal false r h = refl

@@ -11,8 +11,7 @@ use Rattle.pop_edge.specs.declared.next.Next.{Next}
 use Rattle.pop_edge.specs.declared.next.Next.TheVariants.{Line, End}
 use Rattle.pop_edge.specs.LineState.{LineState, IsNext, fresh}
 use Rattle.pop_edge.specs.Words.{words_of}
-use Rattle.pop_edge.specs.Lines.{ended_lines}
-use Rattle.pop_edge.specs.Judging.{Judgement, told, told_lines, text_refusal}
+use Rattle.pop_edge.specs.Judging.{Judgement, IsUnrefused, told, told_lines, text_refusal}
 use Rattle.pop_edge.proofs.RefusalsLemmas.{IsOfLine}
 use Rattle.pop_edge.proofs.JudgedLines.{IsInOrder, IsReading, IsRefused, bad_line, bad_next, fault_next, no_fault, reading_line}
 
@@ -69,12 +68,12 @@ next_allowed j Knows s t l m n text P e allows clean reading kept next is =
     by (inl fault) = subst P (sym fault) allows.fault
     by (inr other) = allowed j l text P e allows is other
 
--- and where it is a fault of the source, no line is refused whose end was taken
+-- and where it is a fault of the source, what was taken is within the limit, and no line is refused whose end was taken
 pub next_at_fault : {T : Type 0} (j : Judgement) (Knows : List (ℕ × List (List ℕ)) → Type 0) (s t : LineState)
     (l m n : Option (List ℕ)) (e : ReadRefusal) (r : Result T ReadRefusal)
     → ((lines : List (ℕ × List (List ℕ))) → Knows lines → j.of_lines lines ≡ None) → IsReading j Knows l m s
     → s.kept ≡ None → IfNone s.kept (IsNext s (fresh t) m n (Err e)) → r ≡ Err e → r ≡ Err ReadFault
-    → (taken : List ℕ) × Consumes l n taken × (j.of_lines (told_lines j (ended_lines taken)) ≡ None)
+    → (taken : List ℕ) × Consumes l n taken × IsUnrefused j taken
 next_at_fault {T} j Knows s t l m n e r clean reading kept next from h =
     let same : ◌≡◌ {A = Result T ReadRefusal} (Err e) (Err ReadFault) = sym from ∙ h in
     let fault : e ≡ ReadFault = cc in

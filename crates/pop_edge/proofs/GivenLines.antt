@@ -37,6 +37,7 @@ nothing_left : (s : LineState) (bytes more : List ℕ) (lines : List (List ℕ))
 nothing_left s bytes more lines d none = ap₂ (λ xs ys. xs ++ take (text_limit - s.taken) ys) d.rest none
     ∙ take_all (text_limit - s.taken) (let e : List ℕ = [] in e) (omega arith)
 
+-- no test comes out both ways
 true_false : true ≡ false → ⊥
 true_false e = cc
 
@@ -63,6 +64,7 @@ cut_line s t bytes more lines o g size taken =
       })
     ]
 
+-- once everything was given and no byte comes, no line is given
 done_line : (s t : LineState) (bytes more : List ℕ) (lines : List (List ℕ)) → IsDone s bytes lines → GivesLine s t more
     → more ≡ [] → ⊥
 done_line s t bytes more lines d g none =
@@ -168,6 +170,7 @@ pub record IsFront (lines text_lines : List (List ℕ)) : Type 0 where
   pub rest : List (List ℕ)
   pub whole : text_lines ≡ lines ++ rest
 
+-- the lines given so far are a front of those that are judged, whatever bytes come
 cut_front : (s : LineState) (bytes more : List ℕ) (lines : List (List ℕ)) → IsCut s bytes lines
     → IsFront lines (judged_lines (bytes ++ more))
 cut_front s bytes more lines o =

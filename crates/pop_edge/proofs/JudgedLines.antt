@@ -17,7 +17,7 @@ use Rattle.pop_edge.specs.Lines.{lines_of, ended_lines, judged_lines, text_limit
 use Rattle.pop_edge.specs.Words.{words_of}
 use Rattle.pop_edge.specs.LineState.{LineState, opening, Follows, IsNext, fresh}
 use Rattle.pop_edge.specs.Refusals.{or_else, length_refusal}
-use Rattle.pop_edge.specs.Judging.{Judgement, told, told_lines, text_refusal}
+use Rattle.pop_edge.specs.Judging.{Judgement, IsUnrefused, told, told_lines, text_refusal}
 use Rattle.pop_edge.proofs.RefusalsLemmas.{IsOfLine, MayBeOfLine}
 use Rattle.pop_edge.proofs.GivenLines.{follows_start, follows_line, all_given, past_limit, at_fault, judged_front, IsFront, IsAll, IsPast}
 
@@ -45,6 +45,7 @@ told_lines-append j xs ys =
     ∙ ap (filter keeps) (map-append by_words (enumerate_from 1 xs) (enumerate_from (1 + length xs) ys))
     ∙ filter-append keeps (map by_words (enumerate_from 1 xs)) (map by_words (enumerate_from (1 + length xs) ys))
 
+-- one line is told by its words, where it isn't passed over
 told_one : (j : Judgement) (n : ℕ) (line : List ℕ) → told_from j n (line ∷ []) ≡ told j n (words_of line)
 told_one j n line = by (j.passes_over (words_of line))
   where
@@ -217,16 +218,19 @@ bad_next j Knows s t l m n OutOfMemory clean i next = inr (inl refl)
 bad_next j Knows s t l m n (Limit kind line) clean i next =
     inr (inr (record { kind = tt; text = λ text is. too_long j Knows s t l m n kind line text clean i next is }))
 
--- at a fault no line is refused whose end was taken
+-- at a fault what was taken is within the limit, and no line is refused whose end was taken
 pub fault_next : (j : Judgement) (Knows : List (ℕ × List (List ℕ)) → Type 0) (s t : LineState) (l m n : Option (List ℕ))
     → ((lines : List (ℕ × List (List ℕ))) → Knows lines → j.of_lines lines ≡ None)
     → IsReading j Knows l m s → IsNext s (fresh t) m n (Err ReadFault)
-    → (taken : List ℕ) × Consumes l n taken × (j.of_lines (told_lines j (ended_lines taken)) ≡ None)
+    → (taken : List ℕ) × Consumes l n taken × IsUnrefused j taken
 fault_next j Knows s t l m n clean i next = (
   i.bytes ++ next.taken,
   Consumes-trans l m n i.bytes next.taken i.consumed next.takes.consumed,
-  ap (λ ls. j.of_lines (told_lines j ls)) (sym (at_fault s (fresh t) m n i.bytes i.lines i.follows next))
-      ∙ clean (told_lines j i.lines) i.knows,
+  record {
+    short = omega (arith, next.answers.1, next.takes.taken, i.follows.taken, length-append i.bytes next.taken);
+    clean = ap (λ ls. j.of_lines (told_lines j ls)) (sym (at_fault s (fresh t) m n i.bytes i.lines i.follows next))
+        ∙ clean (told_lines j i.lines) i.knows;
+  },
 )
 
 -- at the end the whole decides: the lines given are the text's, and the line behind them has the next number

@@ -18,6 +18,7 @@ take_front (suc n) (x ∷ xs) ys =
     let e : n - length xs ≡ suc n - length (x ∷ xs) = omega arith in
     ap (λ zs. x ∷ zs) (take_front n xs ys ∙ ap (λ k. take n xs ++ take k ys) e)
 
+-- where no byte is a line end, the first isn't, nor one behind it
 no_head : (b : ℕ) (bs : List ℕ) → list_any is_end (b ∷ bs) ≡ false → (is_end b ≡ false) × (list_any is_end bs ≡ false)
 no_head b bs h = by (is_end b) (list_any is_end bs) h
   where

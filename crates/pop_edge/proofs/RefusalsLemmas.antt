@@ -9,6 +9,7 @@ use Rattle.pop_edge.specs.Refusals.Fault.{Code, Passes}
 abbrev pub items : {X : Type 0} → List (ℕ × X) → List X
 items xs = map (λ x. x.1) xs
 
+-- the first refusal of three is the same, however they are grouped
 or_else_assoc : (a b c : Option ReadRefusal) → or_else a (or_else b c) ≡ or_else (or_else a b) c
 or_else_assoc None b c = refl
 or_else_assoc (Some a) b c = refl

@@ -38,12 +38,14 @@ no_words_none bs e =
     let past = ltb-false _ _ (none_from _ _ e) in
     no_words bs (λ k l. fails_before_first (λ b. not (is_blank b)) bs k 0 (omega (arith, past)))
 
+-- a word that isn't empty is one of the words
 kept_word : (word : List ℕ) (words : List (List ℕ)) → 0 < length word
     → filter (λ w. not (length w == 0)) (word ∷ words) ≡ word ∷ filter (λ w. not (length w == 0)) words
 kept_word [] words h = absurd (omega arith)
 kept_word (b ∷ bs) words h = let some : nat_eq (suc (length bs)) 0 ≡ false =
     ne_eqb (suc (length bs)) 0 (λ e. absurd (omega arith)) in rw some refl
 
+-- where none of the first n bytes is a blank, the front of n bytes has none
 clear_front : (bs : List ℕ) (n : ℕ) → n ≤ length bs → ((k : ℕ) → k < n → is_blank (get_or bs k 0) ≡ false)
     → All (λ x. is_blank x ≡ false) (take n bs)
 clear_front bs n l h k d j =

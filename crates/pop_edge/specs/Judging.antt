@@ -1,7 +1,7 @@
 -- How a text is judged by its lines, whatever the grammar.
-use Rattle.std.specs.Prelude.{ℕ, ◌+◌, Bool, not, if◌then◌else◌, List, [], ◌∷◌, length, filter, Option}
+use Rattle.std.specs.Prelude.{◌≡◌, ◌≤◌, ℕ, ◌+◌, Bool, not, if◌then◌else◌, List, [], ◌∷◌, length, filter, Option, None}
 use Rattle.pop_edge.specs.declared.refusal.ReadRefusal.{ReadRefusal}
-use Rattle.pop_edge.specs.Lines.{lines_of, judged_lines}
+use Rattle.pop_edge.specs.Lines.{lines_of, ended_lines, judged_lines, text_limit}
 use Rattle.pop_edge.specs.Words.{numbered_words}
 use Rattle.pop_edge.specs.Refusals.{or_else, length_refusal}
 
@@ -28,3 +28,8 @@ text_refusal j text =
     or_else (j.of_lines (told_lines j (judged_lines text)))
     (or_else (length_refusal text)
     (j.of_whole (length (lines_of text) + 1) (told_lines j (lines_of text))))
+
+-- what was taken of a text is within the limit, and no line of it whose end was taken is refused
+pub record IsUnrefused (j : Judgement) (taken : List ℕ) : Type 0 where
+  pub short : length taken ≤ text_limit
+  pub clean : j.of_lines (told_lines j (ended_lines taken)) ≡ None

@@ -1,6 +1,6 @@
 //! Bytes in and out: sources and sinks that count their faults, the lines of a text, and the words,
-//! numbers and header of a line. Contracts see the bytes that a source has left and a sink holds, where
-//! they are known.
+//! numbers and header of a line. Contracts see the bytes that a source has left and a sink holds,
+//! where they are known.
 #![tactic(auto)]
 
 mod failed;
@@ -12,6 +12,7 @@ mod next;
 mod numbers;
 mod refusal;
 mod sink;
+mod slice_source;
 mod source;
 mod splitter;
 mod std_sink;
@@ -29,6 +30,7 @@ pub use next::Next;
 pub use numbers::number;
 pub use refusal::ReadRefusal;
 pub use sink::{Sink, put_all};
+pub use slice_source::SliceSource;
 pub use source::Source;
 pub use std_sink::StdSink;
 pub use std_source::StdSource;

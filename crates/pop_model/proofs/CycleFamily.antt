@@ -1,5 +1,5 @@
 -- A cycle is closed: each of its arrows leads to a variable of it, and from each variable the arrows lead to each
--- other one. So two cycles that share a variable and demand the same of each shared variable run round together and
+-- other one. So two cycles that share a variable and demand the same of each shared variable run together and
 -- are equal.
 use Rattle.std.proofs.Common.{inl, inr, ◌≡◌, ◌≢◌, ◌⊎◌, ℕ, zero, suc, ◌+◌, ◌-◌, true, List, [], ◌∷◌, length, get_or, Option, Some, None, refl, sym, ap, ap₂, subst, ◌∙◌, arith, Contains}
 use Rattle.std.specs.Option.{option_and_then}
@@ -15,6 +15,7 @@ use Rattle.pop_model.specs.Families.Family.{Cycles}
 use Rattle.pop_model.proofs.Diamond.{names_it}
 use Rattle.pop_model.proofs.Following.{cases_Option, follow_more, follow_before, follow_next, follow_last, demand_named, named_demand, demand_contains, same_demands}
 
+-- for each variable where its slots lead; none is the root
 abbrev pub Heads : Type 0
 Heads = List (List (Option ℕ))
 
@@ -29,6 +30,7 @@ arrow_named heads e v w h = elim (cases_Option (demand e v)) [
   | inr some ↦ demand_named e v some.0 some.1
 ]
 
+-- a cube names its first variable
 pub first_named : (e : Cube) → IsCube e → names e (first_of e) ≡ true
 first_named e cube =
     let at : first_of e ≡ (get_or e 0 (0, 0)).0 = get_or-map (λ (p : ℕ × ℕ). p.0) e 0 (0, 0) 0 cube.some in
@@ -40,6 +42,7 @@ pub record StaysIn (heads : Heads) (e : Cube) (v : ℕ) : Type 0 where
   pub leads : arrow_in heads e v ≡ Some next
   pub named : names e next ≡ true
 
+-- the arrow of each variable of a cycle leads to a variable of it
 pub stays_in : (heads : Heads) (e : Cube) → IsCycle heads e → (v : ℕ) → names e v ≡ true → StaysIn heads e v
 stays_in heads e is v at =
     let step = arrow_in heads e in
@@ -63,9 +66,9 @@ stays_in heads e is v at =
     }
 
 -- the arrows lead from each variable of a cycle to each
-pub leads_round : (heads : Heads) (e : Cube) → IsCycle heads e → (v w : ℕ) → names e v ≡ true → names e w ≡ true
+pub leads_on_cycle : (heads : Heads) (e : Cube) → IsCycle heads e → (v w : ℕ) → names e v ≡ true → names e w ≡ true
     → (k : ℕ) × (follow (arrow_in heads e) k v ≡ Some w)
-leads_round heads e is v w at_v at_w =
+leads_on_cycle heads e is v w at_v at_w =
     let step = arrow_in heads e in
     let a = first_of e in
     let i = is.meets v at_v in
@@ -80,6 +83,7 @@ leads_round heads e is v w at_v at_w =
 abbrev pub Agree : Cube → Cube → Type 0
 Agree e f = (v x y : ℕ) → demand e v ≡ Some x → demand f v ≡ Some y → x ≡ y
 
+-- where each pair of a cube agrees with another cube, and one more in front does, so does each of these
 first_or : (q : ℕ × ℕ) (e f : Cube) → ((p : ℕ × ℕ) → Contains e p → (y : ℕ) → demand f p.0 ≡ Some y → p.1 ≡ y)
     → ((z : ℕ) → demand f q.0 ≡ Some z → q.1 ≡ z)
     → (p : ℕ × ℕ) → Contains (q ∷ e) p → (y : ℕ) → demand f p.0 ≡ Some y → p.1 ≡ y
@@ -103,6 +107,7 @@ agree_or_not (q ∷ e) f = elim (agree_or_not e f) [
   ]
 ]
 
+-- two cubes demand different values of some variable that they share, or they agree
 pub exclude_or_agree : (e f : Cube) → Exclude e f ⊎ Agree e f
 exclude_or_agree e f = elim (agree_or_not e f) [
   | inl (p, y, has, at, differ) ↦ inl (p.0, p.1, y, has, demand_contains f p.0 y at, differ)
@@ -117,6 +122,7 @@ pub record StaysInBoth (heads : Heads) (e f : Cube) (v : ℕ) : Type 0 where
   pub named_e : names e next ≡ true
   pub named_f : names f next ≡ true
 
+-- where two cycles agree, the arrow of a variable of both leads to a variable of both
 stays_in_both : (heads : Heads) (e f : Cube) → IsCycle heads e → IsCycle heads f → Agree e f → (v : ℕ)
     → names e v ≡ true → names f v ≡ true → StaysInBoth heads e f v
 stays_in_both heads e f is_e is_f agree v at_e at_f =
@@ -147,11 +153,12 @@ demanded : (heads : Heads) (e f : Cube) → IsCycle heads e → IsCycle heads f 
     → names f v ≡ true
     → (w x : ℕ) → demand e w ≡ Some x → demand f w ≡ Some x
 demanded heads e f is_e is_f agree v at_e at_f w x h =
-    let round = leads_round heads e is_e v w at_e (demand_named e w x h) in
-    let both = leads_in_both heads e f is_e is_f agree v at_e at_f round.0 w round.1 in
+    let walk = leads_on_cycle heads e is_e v w at_e (demand_named e w x h) in
+    let both = leads_in_both heads e f is_e is_f agree v at_e at_f walk.0 w walk.1 in
     let y = named_demand f w both.1 in
     y.1 ∙ ap (λ n. Some n) (sym (agree w x y.0 h y.1))
 
+-- two demands are the same where what either asks for the other asks for, too
 same_option : (a b : Option ℕ) → ((x : ℕ) → a ≡ Some x → b ≡ Some x) → ((x : ℕ) → b ≡ Some x → a ≡ Some x) → a ≡ b
 same_option None None f g = refl
 same_option None (Some y) f g = g y refl
@@ -165,6 +172,7 @@ same_cycle heads e f is_e is_f agree v at_e at_f =
     (λ x h. demanded heads e f is_e is_f agree v at_e at_f w x h)
     (λ x h. demanded heads f e is_f is_e (λ u y z a b. sym (agree u z y b a)) v at_f at_e w x h))
 
+-- the event of a cube, under a unit
 made : ℕ → Cube → Event
 made u e = record { unit = u; cube = e }
 

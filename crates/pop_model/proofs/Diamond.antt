@@ -56,10 +56,11 @@ unfolding Apart
 cursor_apart c e f apart p h = sym (cursor-pop_other c e p.0 (apart p.0 (names_it f p h)))
 
 -- what holds of each member, by what its members are
-all_by_members : (P : ℕ × ℕ → Type 0) (f : Cube) → ((p : ℕ × ℕ) → Contains f p → P p) → (k : ℕ) (d : ℕ × ℕ)
+pub all_by_members : (P : ℕ × ℕ → Type 0) (f : Cube) → ((p : ℕ × ℕ) → Contains f p → P p) → (k : ℕ) (d : ℕ × ℕ)
     → k < length f → P (get_or f k d)
 all_by_members P f each k d h = each (get_or f k d) (Contains-get_or f k d h)
 
+-- an event stays poppable after the pop of one apart from it
 pub poppable_apart : (s : StackTable) (c : List ℕ) (e f : Cube) → Apart e f → IsPoppable s c f
     → IsPoppable s (pop c e) f
 poppable_apart s c e f apart h =
@@ -82,6 +83,7 @@ legal_apart i c e r apart h =
       entries = h.entries ∙ entries_agree c (pop c e) r.event.cube (cursor_apart c e r.event.cube apart);
     }
 
+-- cubes are apart where the one names no variable of the other
 pub apart_from : (e f : Cube) → ((v : ℕ) → names f v ≡ true → names e v ≡ false) → Apart e f
 unfolding Apart
 apart_from e f h = h

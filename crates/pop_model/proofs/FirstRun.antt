@@ -12,14 +12,17 @@ use Rattle.pop_model.specs.Logs.{LogRecord, IsLegalAt, IsLegal, replay}
 use Rattle.pop_model.specs.Runs.{IsEnd, IsFirstPoppable, IsFirstRun}
 use Rattle.pop_model.proofs.UniqueEnd.{record_of, pops_first}
 
-all_cons : (P : ℕ × ℕ → Type 0) (p : ℕ × ℕ) (e : Cube) → P p → All P e → All P (p ∷ e)
+-- what holds of the first pair and of the others holds of all
+pub all_cons : (P : ℕ × ℕ → Type 0) (p : ℕ × ℕ) (e : Cube) → P p → All P e → All P (p ∷ e)
 all_cons P p e here rest zero d h = here
 all_cons P p e here rest (suc k) d h = rest k d (omega (arith, h))
 
-less_or_not : (m n : ℕ) → (m < n) ⊎ (m < n → ⊥)
+-- a number is less than another or not
+pub less_or_not : (m n : ℕ) → (m < n) ⊎ (m < n → ⊥)
 less_or_not m n = elim (cases_lt m n) [ inl less ↦ inl less | inr more ↦ inr (λ h. absurd (omega arith)) ]
 
-all_or_not : (P : ℕ × ℕ → Type 0) → ((p : ℕ × ℕ) → P p ⊎ (P p → ⊥)) → (e : Cube) → All P e ⊎ (All P e → ⊥)
+-- what can be told of each pair can be told of all
+pub all_or_not : (P : ℕ × ℕ → Type 0) → ((p : ℕ × ℕ) → P p ⊎ (P p → ⊥)) → (e : Cube) → All P e ⊎ (All P e → ⊥)
 all_or_not P each [] = inl (λ k d h. absurd (omega (arith, h)))
 all_or_not P each (p ∷ e) = elim (each p) [
   | inr not ↦ inr (λ all. not (all 0 p (omega arith)))
@@ -29,7 +32,8 @@ all_or_not P each (p ∷ e) = elim (each p) [
   ]
 ]
 
-poppable_or_not : (s : StackTable) (c : List ℕ) (e : Cube) → IsPoppable s c e ⊎ (IsPoppable s c e → ⊥)
+-- a cube is poppable or not
+pub poppable_or_not : (s : StackTable) (c : List ℕ) (e : Cube) → IsPoppable s c e ⊎ (IsPoppable s c e → ⊥)
 poppable_or_not s c e =
     elim (all_or_not (λ p. value_at s p.0 (cursor c p.0) ≡ p.1) (λ p. cases_eq (value_at s p.0 (cursor c p.0)) p.1) e) [
       | inr not ↦ inr (λ h. not h.occurs)
@@ -46,14 +50,17 @@ record LeastIn (i : Instance) (c : List ℕ) (log : List LogRecord) : Type 0 whe
   poppable : IsPoppable i.stacks c one.event.cube
   least : (q : LogRecord) → Contains log q → IsPoppable i.stacks c q.event.cube → one.event.unit ≤ q.event.unit
 
+-- what holds of the first record and of the others holds of each member
 member : (r : LogRecord) (log : List LogRecord) (P : LogRecord → Type 0) → P r
     → ((q : LogRecord) → Contains log q → P q) → (q : LogRecord) → Contains (r ∷ log) q → P q
 member r log P here rest q (zero, below, is) = subst P is here
 member r log P here rest q (suc k, below, is) = rest q (k, omega (arith, below), is)
 
+-- a member stays one behind another record
 further : (r q : LogRecord) (log : List LogRecord) → Contains log q → Contains (r ∷ log) q
 further r q log (k, below, is) = (suc k, omega (arith, below), is)
 
+-- a log has a poppable event of least unit, or none that is poppable
 least_in : (i : Instance) (c : List ℕ) (log : List LogRecord)
     → LeastIn i c log ⊎ ((q : LogRecord) → Contains log q → IsPoppable i.stacks c q.event.cube → ⊥)
 least_in i c [] = inr (λ q h. absurd (omega (arith, h.1)))
@@ -105,6 +112,7 @@ pub record FirstRunOf (i : Instance) (c : List ℕ) (log : List LogRecord) : Typ
   pub end : replay c first ≡ replay c log
   pub size : length first ≡ length log
 
+-- a log of this length that is legal and leads to an end has a one-thread run to the same end
 by_length : (n : ℕ) (i : Instance) → IsExtremal i.family → (c : List ℕ) (log : List LogRecord) → length log ≡ n
     → IsLegal i c log → IsEnd i (replay c log) → FirstRunOf i c log
 by_length n i extremal c [] same legal end = record { first = []; run = end; end = refl; size = refl }

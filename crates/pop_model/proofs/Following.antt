@@ -10,6 +10,7 @@ use Rattle.pop_model.specs.Popping.{Cube, names, variables}
 use Rattle.pop_model.specs.Cycles.{follow, demand}
 use Rattle.pop_model.proofs.Diamond.{named, names_it}
 
+-- there is no number, or there is one
 pub cases_Option : (o : Option ℕ) → (o ≡ None) ⊎ ((x : ℕ) × (o ≡ Some x))
 cases_Option None = inl refl
 cases_Option (Some x) = inr (x, refl)
@@ -21,6 +22,7 @@ follow_more step k zero v w h = ap (λ n. follow step n v) (add-zero k) ∙ h
 follow_more step k (suc j) v w h = ap (λ n. follow step n v) (add-suc k j)
     ∙ ap (option_and_then step) (follow_more step k j v w h)
 
+-- steps that came to the root don't leave it
 pub follow_none : (step : ℕ → Option ℕ) (k j v : ℕ) → follow step k v ≡ None → follow step (k + j) v ≡ None
 follow_none step k zero v h = ap (λ n. follow step n v) (add-zero k) ∙ h
 follow_none step k (suc j) v h = ap (λ n. follow step n v) (add-suc k j)
@@ -59,6 +61,7 @@ demand_contains (p ∷ e) v x h = elim (cases_Bool (p.0 == v)) [
       (suc rest.0, omega (arith, rest.1), rest.2)
 ]
 
+-- what a cube has of another variable than its first stands behind the first pair
 tail : (p : ℕ × ℕ) (e : Cube) (v x : ℕ) → (p.0 == v) ≡ false → Contains (p ∷ e) (v, x) → Contains e (v, x)
 tail p e v x other (zero, below, is) = absurd (eqb-false p.0 v other (ap (λ (q : ℕ × ℕ). q.0) is))
 tail p e v x other (suc k, below, is) = (k, omega (arith, below), is)
@@ -74,9 +77,11 @@ contains_demand (p ∷ e) v x h = elim (cases_Bool (p.0 == v)) [
       (found.0, ap (λ b. cond b (Some p.1) (demand e v)) other ∙ found.1)
 ]
 
+-- a cube names each variable of which it demands a value
 pub demand_named : (e : Cube) (v x : ℕ) → demand e v ≡ Some x → names e v ≡ true
 demand_named e v x h = names_it e (v, x) (demand_contains e v x h)
 
+-- and demands a value of each variable that it names
 pub named_demand : (e : Cube) (v : ℕ) → names e v ≡ true → (x : ℕ) × (demand e v ≡ Some x)
 named_demand e v h = let pair = named e v h in contains_demand e v pair.0 pair.1
 
@@ -84,6 +89,7 @@ named_demand e v h = let pair = named e v h in contains_demand e v pair.0 pair.1
 abbrev pub Rises : Cube → Type 0
 Rises e = IsStrictlyIncreasing (variables e)
 
+-- variables that rise do so behind the first, too
 pub rises_rest : (p : ℕ × ℕ) (e : Cube) → Rises (p ∷ e) → Rises e
 rises_rest p e h k below =
     let size : length (variables (p ∷ e)) ≡ suc (length (variables e)) = refl in
@@ -100,12 +106,15 @@ later p e v x h (k, below, is) =
     ∙ ap (λ (q : ℕ × ℕ). q.0) is in
     omega (arith, less, at)
 
+-- what is demanded behind the first pair is of a greater variable
 pub later_demand : (p : ℕ × ℕ) (e : Cube) (v x : ℕ) → Rises (p ∷ e) → demand e v ≡ Some x → p.0 < v
 later_demand p e v x h d = later p e v x h (demand_contains e v x d)
 
+-- of its first variable a cube demands the value of the first pair
 pub demand_first : (p : ℕ × ℕ) (e : Cube) → demand (p ∷ e) p.0 ≡ Some p.1
 demand_first p e = ap (λ b. cond b (Some p.1) (demand e p.0)) (eq-eqb p.0 p.0 refl)
 
+-- of each other variable it demands what the pairs behind the first do
 pub demand_rest : (p : ℕ × ℕ) (e : Cube) (v : ℕ) → (p.0 ≡ v → ⊥) → demand (p ∷ e) v ≡ demand e v
 demand_rest p e v other = ap (λ b. cond b (Some p.1) (demand e v)) (ne_eqb p.0 v other)
 

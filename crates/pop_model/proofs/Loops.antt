@@ -13,6 +13,7 @@ abbrev pub put_in : ℕ × ℕ → Cube → Cube
 put_in p [] = p ∷ []
 put_in p (q ∷ e) = cond (ltb p.0 q.0) (p ∷ q ∷ e) (q ∷ put_in p e)
 
+-- a cube into which a pair was put has one pair more
 length-put_in : (p : ℕ × ℕ) (e : Cube) → length (put_in p e) ≡ suc (length e)
 length-put_in p [] = refl
 length-put_in p (q ∷ e) = elim (cases_Bool (ltb p.0 q.0)) [
@@ -20,6 +21,7 @@ length-put_in p (q ∷ e) = elim (cases_Bool (ltb p.0 q.0)) [
   | inr other ↦ ap (λ b. length (cond b (p ∷ q ∷ e) (q ∷ put_in p e))) other ∙ ap suc (length-put_in p e)
 ]
 
+-- the value of the pair that was put in is demanded
 demand_put_same : (p : ℕ × ℕ) (e : Cube) → demand e p.0 ≡ None → demand (put_in p e) p.0 ≡ Some p.1
 demand_put_same p [] h = demand_first p []
 demand_put_same p (q ∷ e) h = elim (cases_Bool (ltb p.0 q.0)) [
@@ -31,6 +33,7 @@ demand_put_same p (q ∷ e) h = elim (cases_Bool (ltb p.0 q.0)) [
   ]
 ]
 
+-- of each other variable what is demanded stays
 demand_put_other : (p : ℕ × ℕ) (e : Cube) (v : ℕ) → (p.0 ≡ v → ⊥) → demand (put_in p e) v ≡ demand e v
 demand_put_other p [] v h = demand_rest p [] v h
 demand_put_other p (q ∷ e) v h = elim (cases_Bool (ltb p.0 q.0)) [
@@ -44,6 +47,7 @@ abbrev pub Ascends : Cube → Type 0
 Ascends [] = ⊤
 Ascends (p ∷ e) = ((v x : ℕ) → demand e v ≡ Some x → p.0 < v) × Ascends e
 
+-- variables that ascend still do where a pair of a new one is put in
 ascends_put : (p : ℕ × ℕ) (e : Cube) → demand e p.0 ≡ None → Ascends e → Ascends (put_in p e)
 ascends_put p [] h a = (λ v x d. absurd (none-some x d), tt)
 ascends_put p (q ∷ e) h a = elim (cases_Bool (ltb p.0 q.0)) [
@@ -62,6 +66,7 @@ ascends_put p (q ∷ e) h a = elim (cases_Bool (ltb p.0 q.0)) [
   ]
 ]
 
+-- a cube whose variables ascend has rising variables
 pub ascends_rises : (e : Cube) → Ascends e → Rises e
 ascends_rises [] a k h = absurd (omega (arith, h))
 ascends_rises (p ∷ []) a k h = absurd (omega (arith, h))
@@ -92,9 +97,11 @@ loop_cube slot at i (suc n) = put_in (at i, slot (at i)) (loop_cube slot at (suc
 abbrev pub Distinct : (ℕ → ℕ) → ℕ → ℕ → Type 0
 Distinct at i n = (a b : ℕ) → i ≤ a → a < b → b < i + n → at a ≢ at b
 
+-- variables that stand at one place each do so from the second place on
 pub distinct_rest : (at : ℕ → ℕ) (i n : ℕ) → Distinct at i (suc n) → Distinct at (suc i) n
 distinct_rest at i n d a b le lt below = d a b (omega arith) lt (omega arith)
 
+-- a loop has a pair for each of its places
 pub length-loop : (slot at : ℕ → ℕ) (i n : ℕ) → length (loop_cube slot at i n) ≡ n
 length-loop slot at i zero = refl
 length-loop slot at i (suc n) = length-put_in (at i, slot (at i)) (loop_cube slot at (suc i) n)
@@ -108,11 +115,13 @@ pub record StandsIn (slot at : ℕ → ℕ) (i n v x : ℕ) : Type 0 where
   pub is : at place ≡ v
   pub value : x ≡ slot v
 
+-- a variable of which the loop demands no value has no demand
 mutual_none : (slot at : ℕ → ℕ) (i n v : ℕ) → ((x : ℕ) → demand (loop_cube slot at i n) v ≡ Some x → ⊥)
     → demand (loop_cube slot at i n) v ≡ None
 mutual_none slot at i n v h =
     elim (cases_Option (demand (loop_cube slot at i n) v)) [ inl none ↦ none | inr some ↦ absurd (h some.0 some.1) ]
 
+-- the loop demands nothing but the slots of the variables at its places
 pub loop_only : (slot at : ℕ → ℕ) (i n : ℕ) → Distinct at i n → (v x : ℕ) → demand (loop_cube slot at i n) v ≡ Some x
     → StandsIn slot at i n v x
 loop_only slot at i zero d v x h = absurd (none-some x h)
@@ -150,6 +159,7 @@ loop_has slot at i (suc n) d k from below =
           ∙ loop_has slot at (suc i) n (distinct_rest at i n d) k (omega arith) (omega arith)
     ]
 
+-- the variables of a loop ascend
 pub loop_ascends : (slot at : ℕ → ℕ) (i n : ℕ) → Distinct at i n → Ascends (loop_cube slot at i n)
 loop_ascends slot at i zero d = tt
 loop_ascends slot at i (suc n) d =

@@ -5,14 +5,17 @@ use Rattle.std.proofs.lemmas.List.{get_or-map}
 use Rattle.std.proofs.lemmas.Option.{get_or_from_slice_get, slice_get_within}
 use Rattle.pop_model.specs.Popping.{Cube, variables}
 
+-- what holds of the members before a place, and of the one there, holds of all up to it
 pub all_more : {X : Type 0} (P : X → Type 0) (xs : List X) (i : ℕ) (x : X) → slice_get xs i ≡ Some x → All P (take i xs)
     → P x → All P (take (i + 1) xs)
 all_more P xs i x at all here =
     All-more P xs i x (slice_get_within xs i x at) all (rw (get_or_from_slice_get xs i x x at) here)
 
+-- what holds of the members before a place that is past the end holds of all
 pub all_whole : {X : Type 0} (P : X → Type 0) (xs : List X) (i : ℕ) → length xs ≤ i → All P (take i xs) → All P xs
 all_whole P xs i far all = rw (take_all i xs far) at all
 
+-- what holds of all members holds of the one at a place
 pub all_at : {X : Type 0} (P : X → Type 0) (xs : List X) (i : ℕ) (x : X) → slice_get xs i ≡ Some x → All P xs → P x
 all_at P xs i x at all = rw (get_or_from_slice_get xs i x x at) at (all i x (slice_get_within xs i x at))
 

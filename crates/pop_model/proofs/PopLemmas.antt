@@ -8,9 +8,11 @@ use Rattle.std.proofs.lemmas.Bool.{cases_lt}
 use Rattle.pop_model.specs.Popping.{Cube, cursor, names, pop}
 use Rattle.pop_model.specs.Logs.{entries_at}
 
+-- a pop keeps how many cursors there are
 pub length-pop : (c : List ℕ) (e : Cube) → length (pop c e) ≡ length c
 length-pop c e = length-map (enumerate_from 0 c) _ ∙ length-enumerate_from 0 c
 
+-- a pop moves the cursor of each variable of its event by one, and no other
 pub cursor-pop : (c : List ℕ) (e : Cube) (v : ℕ) → v < length c
     → cursor (pop c e) v ≡ cond (names e v) (cursor c v + 1) (cursor c v)
 cursor-pop c e v below =
@@ -36,6 +38,7 @@ raised_twice true false n = refl
 raised_twice false true n = refl
 raised_twice false false n = refl
 
+-- two pops move a cursor once for each of their events that names its variable
 cursor-pop-pop : (c : List ℕ) (e f : Cube) (v : ℕ) → v < length c
     → cursor (pop (pop c e) f) v ≡ cond (names f v) (cond (names e v) (cursor c v + 1) (cursor c v) + 1) (cond (names e v) (cursor c v + 1) (cursor c v))
 cursor-pop-pop c e f v below =

@@ -13,10 +13,11 @@ left_from s v [] = 0
 left_from s v (k ∷ c) = height_of s v - k + left_from s (suc v) c
 
 -- the lists have one length, and each number of c is at most that of d
-Below : List ℕ → List ℕ → Type 0
+pub Below : List ℕ → List ℕ → Type 0
 Below c d = (w : ℕ) → w < length c → get_or c w 0 ≤ get_or d w 0
 
-left_falls : (s : StackTable) (v : ℕ) (c d : List ℕ) → length c ≡ length d → Below c d
+-- cursors that are no less leave no more room
+pub left_falls : (s : StackTable) (v : ℕ) (c d : List ℕ) → length c ≡ length d → Below c d
     → left_from s v d ≤ left_from s v c
 unfolding Below
 left_falls s v [] [] e h = omega arith
@@ -28,7 +29,8 @@ left_falls s v (x ∷ c) (y ∷ d) e h =
     let head : x ≤ y = h 0 (omega arith) in
     omega arith
 
-left_falls_more : (s : StackTable) (v : ℕ) (c d : List ℕ) (at : ℕ) → length c ≡ length d → Below c d → at < length c
+-- and there is less room where one of them is greater
+pub left_falls_more : (s : StackTable) (v : ℕ) (c d : List ℕ) (at : ℕ) → length c ≡ length d → Below c d → at < length c
     → get_or c at 0 < get_or d at 0 → get_or c at 0 < height_of s (v + at) → left_from s v d < left_from s v c
 unfolding Below
 left_falls_more s v [] d at e h within more room = absurd (omega arith)
@@ -53,7 +55,7 @@ left_bound s short v (k ∷ c) = let rest = left_bound s short (suc v) c in let 
     short v in omega (arith, rest, here)
 
 -- a pop lowers no cursor
-not_lowered : (c : List ℕ) (e : Cube) (w : ℕ) → w < length c → cursor c w ≤ cursor (pop c e) w
+pub not_lowered : (c : List ℕ) (e : Cube) (w : ℕ) → w < length c → cursor c w ≤ cursor (pop c e) w
 not_lowered c e w below = elim (cases_Bool (names e w)) [
   | inl is ↦ let at : cursor (pop c e) w ≡ cursor c w + 1 = cursor-pop c e w below
       ∙ ap (λ b. cond b (cursor c w + 1) (cursor c w)) is in omega arith

@@ -14,7 +14,7 @@ use Rattle.pop_model.specs.Cycles.{IsCycle, AreArrows, ReachesRoot, head_of, fol
 use Rattle.pop_model.specs.Families.Family.{Cycles}
 use Rattle.pop_model.specs.Runs.{IsFinished}
 use Rattle.pop_model.proofs.Following.{cases_Option, follow_before, follow_next, follow_last, named_demand, demand_contains}
-use Rattle.pop_model.proofs.CycleFamily.{Heads, arrow_demands, first_named, stays_in, leads_round}
+use Rattle.pop_model.proofs.CycleFamily.{Heads, arrow_demands, first_named, stays_in, leads_on_cycle}
 use Rattle.pop_model.proofs.Loops.{loop_cube, Distinct, path_short}
 use Rattle.pop_model.proofs.MadeCycles.{IsLoop, slot_at, loop_is_cycle, loop_occurs}
 
@@ -37,6 +37,7 @@ pub record StaysAt (heads : Heads) (s : StackTable) (c : List ℕ) (e : Cube) (v
   pub leads : arrow_at heads s c v ≡ Some next
   pub named : names e next ≡ true
 
+-- where a cycle occurs, the current arrow of each of its variables leads to one of them
 pub stays_at : (heads : Heads) (s : StackTable) (c : List ℕ) (e : Cube) (v : ℕ) → IsCycle heads e → Occurs s c e
     → names e v ≡ true → StaysAt heads s c e v
 stays_at heads s c e v is occurs at =
@@ -61,6 +62,7 @@ never_root heads s c e v (suc k) is occurs at =
     let on = stays_at heads s c e before.0 is occurs (follows_in heads s c e v k before.0 is occurs at before.1) in
     (on.next, follow_next (arrow_at heads s c) k v before.0 before.1 ∙ on.leads)
 
+-- where a cycle occurs, the steps that it demands are those along the current arrows
 in_as_at : (heads : Heads) (s : StackTable) (c : List ℕ) (e : Cube) (v k w : ℕ) → IsCycle heads e → Occurs s c e
     → names e v ≡ true → follow (arrow_in heads e) k v ≡ Some w → follow (arrow_at heads s c) k v ≡ Some w
 in_as_at heads s c e v zero w is occurs at h = h
@@ -71,11 +73,12 @@ in_as_at heads s c e v (suc k) w is occurs at h =
     follow_next (arrow_at heads s c) k v last.0 same ∙ sym (occurs_arrow heads s c e last.0 occurs named) ∙ last.2
 
 -- they lead from each of its variables to each
-pub round_at : (heads : Heads) (s : StackTable) (c : List ℕ) (e : Cube) (v w : ℕ) → IsCycle heads e → Occurs s c e
+pub leads_at : (heads : Heads) (s : StackTable) (c : List ℕ) (e : Cube) (v w : ℕ) → IsCycle heads e → Occurs s c e
     → names e v ≡ true → names e w ≡ true → (k : ℕ) × (follow (arrow_at heads s c) k v ≡ Some w)
-round_at heads s c e v w is occurs at_v at_w = let round =
-    leads_round heads e is v w at_v at_w in (round.0, in_as_at heads s c e v round.0 w is occurs at_v round.1)
+leads_at heads s c e v w is occurs at_v at_w = let walk =
+    leads_on_cycle heads e is v w at_v at_w in (walk.0, in_as_at heads s c e v walk.0 w is occurs at_v walk.1)
 
+-- only a variable that has slots has one that leads to a variable
 pub head_within : (heads : Heads) (v x w : ℕ) → head_of heads v x ≡ Some w → v < length heads
 head_within heads v x w h = elim (cases_lt v (length heads)) [
   | inl below ↦ below
@@ -91,6 +94,7 @@ pub record Repeats (at : ℕ → ℕ) (m : ℕ) : Type 0 where
   pub same : at first ≡ at again
   pub before : Distinct at 0 again
 
+-- a variable stands at one of the first places of a sequence, or at none
 pub find : (at : ℕ → ℕ) (x m : ℕ) → ((i : ℕ) × (i < m) × (at i ≡ x)) ⊎ ((i : ℕ) → i < m → at i ≢ x)
 find at x zero = inr (λ i h. absurd (omega (arith, h)))
 find at x (suc m) = elim (find at x m) [
@@ -101,7 +105,8 @@ find at x (suc m) = elim (find at x m) [
   ]
 ]
 
-repeats_or_not : (at : ℕ → ℕ) (m : ℕ) → Repeats at m ⊎ Distinct at 0 m
+-- of the first places two have one variable, or no two have
+pub repeats_or_not : (at : ℕ → ℕ) (m : ℕ) → Repeats at m ⊎ Distinct at 0 m
 repeats_or_not at zero = inr (λ a b from lt below. absurd (omega arith))
 repeats_or_not at (suc m) = elim (repeats_or_not at m) [
   | inl r ↦ inl (record { first = r.first; again = r.again; order = r.order; below = omega (arith, r.below); same = r.same; before = r.before })
@@ -112,21 +117,24 @@ repeats_or_not at (suc m) = elim (repeats_or_not at m) [
 ]
 
 -- the variables that the arrows pass
-passed : (ℕ → Option ℕ) → ℕ → ℕ → ℕ
+pub passed : (ℕ → Option ℕ) → ℕ → ℕ → ℕ
 passed step v k = unwrap_or (follow step k v) 0
 
-passed_is : (step : ℕ → Option ℕ) (v k w : ℕ) → follow step k v ≡ Some w → follow step k v ≡ Some (passed step v k)
+-- it is where they lead, unless they came to the root
+pub passed_is : (step : ℕ → Option ℕ) (v k w : ℕ) → follow step k v ≡ Some w → follow step k v ≡ Some (passed step v k)
 unfolding passed
 passed_is step v k w h = h ∙ ap (λ (o : Option ℕ). Some (unwrap_or o 0)) (sym h)
 
+-- the instance of the cycles of these heads
 abbrev pub tree : StackTable → Heads → Instance
 tree s heads = record { stacks = s; family = Cycles heads }
 
+-- the event of a cycle
 event_of_cube : Cube → Event
 event_of_cube e = record { unit = first_of e; cube = e }
 
--- a walk that goes on for as many steps as there are variables meets a cycle
-no_long_walk : (s : StackTable) (heads : Heads) → AreArrows heads → (c : List ℕ) → IsFinished (tree s heads) c
+-- where no cycle occurs, a walk of as many steps as there are variables comes to the root
+pub no_long_walk : (s : StackTable) (heads : Heads) → AreArrows heads → (c : List ℕ) → IsFinished (tree s heads) c
     → (v w : ℕ) → v < length heads → follow (arrow_at heads s c) (length heads) v ≡ Some w → ⊥
 unfolding event_of_cube
 no_long_walk s heads are c finished v w below h =

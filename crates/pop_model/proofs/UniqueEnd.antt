@@ -18,6 +18,7 @@ same_pair p q = elim (cases_eq p.0 q.0) [
   | inr a ↦ inr (λ h. a (ap (λ (r : ℕ × ℕ). r.0) h))
 ]
 
+-- two cubes are equal or not
 same_cube : (e f : Cube) → (e ≡ f) ⊎ (e ≢ f)
 same_cube [] [] = inl refl
 same_cube [] (q ∷ f) = inr (λ h. cc)
@@ -27,9 +28,11 @@ same_cube (p ∷ e) (q ∷ f) = elim (same_pair p q) [
   | inr a ↦ inr (λ h. a (cc))
 ]
 
+-- the event of a cube, under its unit
 event_of : ℕ → Cube → Event
 event_of u e = record { unit = u; cube = e }
 
+-- two events are equal or not
 pub same_event : (e f : Event) → (e ≡ f) ⊎ (e ≢ f)
 unfolding event_of
 same_event e f = elim (cases_eq e.unit f.unit) [
@@ -41,6 +44,7 @@ same_event e f = elim (cases_eq e.unit f.unit) [
 abbrev pub made : Event → List ℕ → LogRecord
 made e entries = record { event = e; entries = entries }
 
+-- the record of an event that is popped here, with its variables' entries at these cursors
 abbrev pub record_of : List ℕ → Event → LogRecord
 record_of c e = made e (entries_at c e.cube)
 

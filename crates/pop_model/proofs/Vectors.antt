@@ -15,14 +15,17 @@ pub numbers : map (number_at zero_key 0) (0 ∷ 3 ∷ 7 ∷ [])
 unfolding zero_key number_at u32_at quarter_round column_round diagonal_round double_rounds block_word
 numbers = refl
 
+-- weights 1 and 1, at the first eight entries
 pub halves : map (λ k. weighted (1 ∷ 1 ∷ []) (number_at zero_key 0 k)) (0 ∷ 1 ∷ 2 ∷ 3 ∷ 4 ∷ 5 ∷ 6 ∷ 7 ∷ []) ≡ 1 ∷ 0 ∷ 0 ∷ 1 ∷ 1 ∷ 0 ∷ 0 ∷ 1 ∷ []
 unfolding zero_key number_at u32_at quarter_round column_round diagonal_round double_rounds block_word
 halves = refl
 
+-- weights 1, 1 and 1
 pub thirds : map (λ k. weighted (1 ∷ 1 ∷ 1 ∷ []) (number_at zero_key 0 k)) (0 ∷ 1 ∷ 2 ∷ 3 ∷ 4 ∷ 5 ∷ 6 ∷ 7 ∷ []) ≡ 1 ∷ 0 ∷ 0 ∷ 2 ∷ 1 ∷ 0 ∷ 0 ∷ 1 ∷ []
 unfolding zero_key number_at u32_at quarter_round column_round diagonal_round double_rounds block_word
 thirds = refl
 
+-- weights 2 and 1
 pub two_to_one : map (λ k. weighted (2 ∷ 1 ∷ []) (number_at zero_key 0 k)) (0 ∷ 1 ∷ 2 ∷ 3 ∷ 4 ∷ 5 ∷ 6 ∷ 7 ∷ []) ≡ 0 ∷ 0 ∷ 0 ∷ 1 ∷ 0 ∷ 0 ∷ 0 ∷ 0 ∷ []
 unfolding zero_key number_at u32_at quarter_round column_round diagonal_round double_rounds block_word
 two_to_one = refl

@@ -10,6 +10,7 @@ pub record Event : Type 0 where
   pub unit : ℕ
   pub cube : Cube
 
+-- the events that aren't to occur: listed ones, or the cycles of arrows
 pub data Family : Type 0 where
   -- cubes under their numbers
   Listed : (rows : List (ℕ × Cube)) → Family

@@ -1,13 +1,22 @@
 -- An instance: stacks, and a family of events over their variables.
 use Rattle.std.specs.Prelude.{◌≡◌, ℕ, ◌<◌, ◌^◌, [], length, slice_index_or, All}
-use Rattle.pop_model.specs.Stacks.{StackTable, variables_of, domain_of, IsTable}
+use Rattle.pop_model.specs.Stacks.{StackTable, variables_of, domain_of, stacks_for, stacks_raised, IsTable}
 use Rattle.pop_model.specs.Popping.{Cube}
 use Rattle.pop_model.specs.Families.{Family, IsFamily, units_of}
 use Rattle.pop_model.specs.Families.Family.{Listed, Cycles}
 
+-- the variables' stacks, and the events that aren't to occur
 pub record Instance : Type 0 where
   pub stacks : StackTable
   pub family : Family
+
+-- the instance for another sample
+abbrev pub instance_for : ℕ → Instance → Instance
+instance_for j i = record { stacks = stacks_for j i.stacks; family = i.family }
+
+-- the instance with another height of its keyed stacks
+abbrev pub instance_raised : ℕ → Instance → Instance
+instance_raised h i = record { stacks = stacks_raised h i.stacks; family = i.family }
 
 -- the cube names variables and values that the stacks have
 abbrev pub FitsStacks : StackTable → Cube → Type 0

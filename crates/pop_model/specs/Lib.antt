@@ -5,6 +5,7 @@ pub mod Families
 pub mod Instances
 pub mod Extremal
 pub mod Logs
+pub mod Tickets
 pub mod Runs
 pub mod Places
 pub mod Languages

@@ -2,7 +2,7 @@
 use Rattle.std.specs.Prelude.{◌≡◌, ℕ, ◌+◌, ◌<◌, Bool, ◌==◌, if◌then◌else◌, List, length, map, slice_index, All}
 use Rattle.std.specs.List.{enumerate_from, list_any}
 use Rattle.std.specs.List.Sorted.{IsStrictlyIncreasing}
-use Rattle.pop_model.specs.Stacks.{StackTable, variables_of, value_at, height_of}
+use Rattle.pop_model.specs.Stacks.{StackTable, variables_of, domain_of, value_at, height_of}
 
 -- pairs of a variable and a value that it is to have
 abbrev pub Cube : Type 0
@@ -20,6 +20,15 @@ pub record IsCube (e : Cube) : Type 0 where
 -- the number of the entry that is current for a variable
 abbrev pub cursor : List ℕ → ℕ → ℕ
 cursor c v = slice_index c v
+
+-- the value of each variable at its cursor
+abbrev pub values_at : StackTable → List ℕ → List ℕ
+values_at s c = map (λ p. value_at s p.0 p.1) (enumerate_from 0 c)
+
+-- these are the values at the cursors, each of which its variable has
+pub record AreValuesAt (s : StackTable) (c values : List ℕ) : Type 0 where
+  pub are : values ≡ values_at s c
+  pub within : (v : ℕ) → v < variables_of s → slice_index values v < domain_of s v
 
 -- the variables of the cube are below this number
 abbrev pub NamesBelow : Cube → ℕ → Type 0

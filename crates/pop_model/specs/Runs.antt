@@ -37,7 +37,8 @@ abbrev pub start_of : Instance → List ℕ
 start_of i = replicate (variables_of i.stacks) 0
 
 -- these are the end, the number of pops and the stuck list of the one-thread run
-pub record IsFirstEnd (i : Instance) (cursors : List ℕ) (pops : ℕ) (stuck : List Event) : Type 0 where
+pub record IsFirstEnd (i : Instance) (cursors : List ℕ) (pops : ℕ)
+    (stuck : List Event) : Type 0 where
   pub run : (log : List LogRecord) × IsFirstRun i (start_of i) log
       × (cursors ≡ replay (start_of i) log) × (pops ≡ length log)
   pub stuck_list : IsStuckList i cursors stuck

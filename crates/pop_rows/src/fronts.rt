@@ -38,6 +38,16 @@ impl Fronts {
         Ok(Fronts { lengths, list })
     }
 
+    /// Equal rows.
+    pub fn copy(&self, alloc: Global) -> Result<Fronts, AllocError>
+        ensures { IfOk result (λ rows. rows ≡ self.now) }
+    {
+        Ok(Fronts {
+            lengths: Vec::from_slice(alloc, &self.lengths)?,
+            list: Vec::from_slice(alloc, &self.list)?,
+        })
+    }
+
     /// How many rows there are.
     pub fn count(&self) -> u32
         ensures { result ≡ length self.now }

@@ -59,6 +59,16 @@ impl RowList {
         Ok(())
     }
 
+    /// Equal rows.
+    pub fn copy(&self, alloc: Global) -> Result<RowList, AllocError>
+        ensures { IfOk result (λ list. list ≡ self.now) }
+    {
+        Ok(RowList {
+            starts: Vec::from_slice(alloc, &self.starts)?,
+            items: Vec::from_slice(alloc, &self.items)?,
+        })
+    }
+
     /// How many rows there are.
     pub fn count(&self) -> u32
         ensures { result ≡ length self.now }
