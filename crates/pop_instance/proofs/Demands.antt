@@ -19,6 +19,7 @@ abbrev pub IsFound : Cube → ℕ → Result ℕ ℕ → Type 0
 IsFound e v r = MatchResult r (λ place. demand e v ≡ Some (get_or e place (0, 0)).1) (λ place. demand e v ≡ None)
 
 module _ (e : Cube) (rises : Rises e) (v : ℕ) where
+  -- the pairs of lesser variables come first, then that of this one, then those of greater ones
   comparisons_rise : IsNonDecreasingBy (λ p. ordering_index (nat_cmp p.0 v)) e
   comparisons_rise = IsNonDecreasingBy-from_default (λ p. ordering_index (nat_cmp p.0 v)) e (0, 0) (λ i j le inside.
       let size : length (variables e) ≡ length e = length-map e (λ (p : ℕ × ℕ). p.0) in
@@ -32,6 +33,7 @@ module _ (e : Cube) (rises : Rises e) (v : ℕ) where
       ] in
       grind (arith, nat_tests))
 
+  -- a search finds the pair of this variable, or that the cube demands nothing of it
   pub searched : (r : Result ℕ ℕ) → IsSearchInRange r (length e) → IsBinarySearchResult (λ p. nat_cmp p.0 v) e r
       → IsFound e v r
   searched (Ok place) inside found =

@@ -38,9 +38,11 @@ sorted_in_turn rows sorted i j d less inside =
     sorted_far (λ r q. is_lt (row_cmp r q)) (ranks_by row_total (λ (r : ℕ × Cube). r)) rows sorted i j d (omega arith)
     inside
 
+-- where the cubes are equal, the numbers decide
 not_less : (o : Ordering) → is_lt (ordering_then Equal o) ≡ false → is_lt o ≡ false
 not_less o h = h
 
+-- a number that isn't less than another is at least as great
 number_le : (m n : ℕ) → is_lt (nat_cmp n m) ≡ false → m ≤ n
 number_le m n h = grind (arith, nat_tests)
 
@@ -50,11 +52,13 @@ in_turn_number r q turn same =
     let ties : cube_cmp q.1 r.1 ≡ Equal = ap (cube_cmp q.1) same ∙ cube_ties_itself q.1 in
     number_le r.0 q.0 (sym (ap (λ o. is_lt (ordering_then o (nat_cmp q.0 r.0))) ties) ∙ turn)
 
+-- a row that isn't to stand before another has no lesser cube
 cube_not_less : (o p : Ordering) → is_lt (ordering_then o p) ≡ false → o ≡ Less → ⊥
 cube_not_less Less p h is = false≢true (sym h)
 cube_not_less Equal p h is = cc
 cube_not_less Greater p h is = cc
 
+-- where neither of two cubes is less, they tie
 tied : (o p : Ordering) → o ≡ ordering_reverse p → (o ≡ Less → ⊥) → (p ≡ Less → ⊥) → o ≡ Equal
 tied Less p turn no_o no_p = absurd (no_o refl)
 tied Equal p turn no_o no_p = refl
@@ -72,12 +76,15 @@ in_turn_between r p q first second same =
 
 -- the members of a list with one more in front
 module _ {X : Type 0} (x : X) (xs : List X) where
+  -- the one in front is a member
   pub contains_first : (y : X) → x ≡ y → Contains (x ∷ xs) y
   contains_first y is = (0, omega arith, is)
 
+  -- each member of the rest is one
   pub contains_later : (y : X) → Contains xs y → Contains (x ∷ xs) y
   contains_later y (k, inside, is) = (suc k, omega (arith, inside), is)
 
+  -- there is no other member
   pub contains_cases : (y : X) → Contains (x ∷ xs) y → (x ≡ y) ⊎ Contains xs y
   contains_cases y (zero, inside, is) = inl is
   contains_cases y (suc k, inside, is) = inr (k, omega (arith, inside), is)
@@ -248,6 +255,7 @@ pairs_kept_from R k (x ∷ rows) all = elim (cases_Bool (same_cube x k)) [
       (pairs_kept_from R x rows (pairs_rest R k (x ∷ rows) all)))
 ]
 
+-- what holds of any two rows holds of any two first ones of their cubes
 pub pairs_kept : (R : ℕ × Cube → ℕ × Cube → Type 0) (rows : List (ℕ × Cube)) → AllPairs R rows
     → AllPairs R (dedup same_cube rows)
 pairs_kept R [] all = all

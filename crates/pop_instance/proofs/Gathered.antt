@@ -48,6 +48,7 @@ apart_rising rows by_number apart k inside =
 
 module _ (rows sorted kept : List (ℕ × Cube)) (rising : IsStrictlyIncreasing (map (λ r. r.0) rows))
     (steps : AreSteps rows sorted kept) where
+  -- the rows that are kept have different numbers
   kept_apart : AllPairs Apart kept
   kept_apart =
       let turns = λ (r q : ℕ × Cube) (differ : Apart r q) (same : q.0 ≡ r.0). differ (sym same) in
@@ -58,6 +59,7 @@ module _ (rows sorted kept : List (ℕ × Cube)) (rising : IsStrictlyIncreasing 
   to_sorted : (r : ℕ × Cube) → Contains rows r → Contains sorted r
   to_sorted r = Contains-permutation rows sorted r steps.sorts
 
+  -- those that were sorted are the rows
   from_sorted : (r : ℕ × Cube) → Contains sorted r → Contains rows r
   from_sorted r = Contains-permutation sorted rows r (IsPermutation-sym rows sorted steps.sorts)
 
@@ -65,11 +67,13 @@ module _ (rows sorted kept : List (ℕ × Cube)) (rising : IsStrictlyIncreasing 
   to_kept : (r : ℕ × Cube) → Contains (dedup same_cube sorted) r → Contains kept r
   to_kept r = Contains-permutation (dedup same_cube sorted) kept r steps.sorts_back
 
+  -- each row that is kept begins a run of its cube
   from_kept : (r : ℕ × Cube) → Contains kept r → Contains (dedup same_cube sorted) r
   from_kept r =
       Contains-permutation kept (dedup same_cube sorted) r
       (IsPermutation-sym (dedup same_cube sorted) kept steps.sorts_back)
 
+  -- so of each cube the row of least number is kept, and the numbers rise
   pub keeps_first : KeepsFirst rows kept
   keeps_first = record {
     rising = apart_rising kept steps.by_number kept_apart;

@@ -1,14 +1,19 @@
+-- Arrows: heads row by row, from lists and from numbers
 pub mod HeadRows
 mod NumberRows
-mod Rounds
+-- Cubes: a cycle followed once round, a variable looked up, an event popped pair by pair
+mod CycleReturns
 mod Demands
+mod Raising
+-- Lists that rise, and the order of cubes
 pub mod Increasing
 mod Order
 mod PermutedPairs
+-- Gathering: the first of equal cubes, under its number
 mod FirstOfEach
 mod Gathered
-mod Raising
-mod PutRows
-mod Naming
+-- The index: places counted, put into rows, and named
 mod Tallies
+mod PutRows
 mod FilledRows
+mod Naming

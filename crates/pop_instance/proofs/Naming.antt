@@ -88,6 +88,7 @@ module _ (rows : List (ℕ × Cube)) (v : ℕ) where
             (omega (arith, old.0), old.1)
       ]
 
+  -- each place below n whose event names the variable is among them
   pub named_placed : (n place : ℕ) → place < n → names (cube_at rows place) v ≡ true
       → Contains (places_below rows n v) place
   named_placed zero place below is = absurd (omega arith)

@@ -6,10 +6,12 @@ use Rattle.std.proofs.lemmas.Cmp.{ranked, by_ranked, tied_itself}
 use Rattle.pop_model.specs.Popping.{Cube}
 use Rattle.pop_instance.specs.Cubes.{pair_cmp, cube_cmp, cube_total}
 
+-- numbers that tie are equal
 pub nat_ties : (x y : ℕ) → nat_cmp x y ≡ Equal → x ≡ y
 nat_ties x y ties = by_ranked (x < y) (x ≡ y) (y < x) (nat_cmp x y) (ranked x y (nat_cmp x y) refl) (λ is less. cc)
     (λ is same. same) (λ is more. cc)
 
+-- two comparisons behind one another tie only where both do
 then_ties : (a b : Ordering) → ordering_then a b ≡ Equal → (a ≡ Equal) × (b ≡ Equal)
 then_ties Less b ties = cc
 then_ties Equal b ties = (refl, ties)

@@ -9,9 +9,11 @@ use Rattle.std.proofs.lemmas.List.Sorted.{IsPermutation-keeps}
 abbrev exchanged : ℕ → ℕ → ℕ → ℕ
 exchanged i j k = cond (k == i) j (cond (k == j) i k)
 
+-- a place of a list is exchanged for a place of it
 exchanged_below : (n i j k : ℕ) → i < n → j < n → k < n → exchanged i j k < n
 exchanged_below n i j k inside_i inside_j inside_k = grind (arith, nat_tests)
 
+-- different places are exchanged for different ones
 exchanged_apart : (i j a b : ℕ) → a ≢ b → exchanged i j a ≢ exchanged i j b
 exchanged_apart i j a b differ same = differ (grind (arith, nat_tests))
 
@@ -44,6 +46,7 @@ module _ {X : Type 0} (R : X → X → Type 0) (turns : (x y : X) → R x y → 
     | inr (inr behind) ↦ turns (get_or xs b d) (get_or xs a d) (all b a d behind inside_a)
   ]
 
+  -- what holds of any two members still does where two of them are swapped
   swap_keeps : (xs : List X) (i j : ℕ) → i < length xs → j < length xs → AllPairs R xs → AllPairs R (swap xs i j)
   swap_keeps xs i j inside_i inside_j all a b d less below =
       let n = length xs in
@@ -56,6 +59,7 @@ module _ {X : Type 0} (R : X → X → Type 0) (turns : (x y : X) → R x y → 
       subst (λ x. R x (get_or (swap xs i j) b d)) (sym at_a)
       (subst (R (get_or xs (exchanged i j a) d)) (sym at_b) held)
 
+  -- what holds of any two members holds of any two in each other order
   pub pairs_permuted : (xs ys : List X) → IsPermutation xs ys → AllPairs R xs → AllPairs R ys
   pairs_permuted xs ys is all = IsPermutation-keeps xs (AllPairs R) all
       (λ zs i j inside_i inside_j. swap_keeps zs i j inside_i inside_j) ys is

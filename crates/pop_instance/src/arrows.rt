@@ -50,9 +50,9 @@ impl Arrows {
         })
     }
 
-    /// The arrows whose heads lie in one array, for each variable those of its slots: a number below
-    /// the number of rows is a variable, and the number of rows itself is the root.
-    /// None exactly where a row is empty or a number is greater than the number of rows.
+    /// The arrows whose heads lie in one array, for each variable those of its slots: a number
+    /// below the number of rows is a variable, and the number of rows itself is the root. None
+    /// exactly where a row is empty or a number is greater than the number of rows.
     pub fn flat(rows: RowList) -> Option<Arrows>
         requires short { length rows < 2 ^ 31 }
         requires short_rows { All (λ row. length row < 2 ^ 31) rows }

@@ -45,6 +45,23 @@ impl Cube {
         Some(Cube { pairs })
     }
 
+    /// The cube of pairs whose variables rise strictly: one at least, and at most 2^31 - 1. The
+    /// room of the list is kept, so that `into_pairs` gives it back.
+    pub fn of(pairs: Vec<(u32, u32)>) -> Cube
+        requires cube { IsCube pairs.items }
+        requires short { length pairs.items < 2 ^ 31 }
+        ensures { result ≡ pairs.items }
+    {
+        Cube { pairs }
+    }
+
+    /// The pairs, in the list that they are kept in.
+    pub fn into_pairs(self) -> Vec<(u32, u32)>
+        ensures { result.items ≡ self }
+    {
+        self.pairs
+    }
+
     /// How many pairs there are: from 1 to 2^31 - 1.
     pub fn len(&self) -> u32
         ensures len { result ≡ length self.now }

@@ -32,6 +32,13 @@ impl Cursors {
         })
     }
 
+    /// Cursors with these entries. It takes no memory.
+    pub fn of(entries: Vec<u32>) -> Cursors
+        ensures { result ≡ entries.items }
+    {
+        Cursors { entries }
+    }
+
     /// Equal cursors.
     pub fn copy(&self, alloc: Global) -> Result<Cursors, AllocError>
         ensures { IfOk result (λ cursors. cursors ≡ self.now) }

@@ -1,6 +1,7 @@
-ghost use Rattle.std.specs.Prelude.{◌≡◌, ◌↔◌, IsTrue, MatchOption};
+ghost use Rattle.std.specs.Prelude.{◌≡◌, ◌<◌, ◌≤◌, ◌^◌, ◌↔◌, ℕ, IsTrue, MatchOption};
+ghost use Rattle.pop_model.specs.Stacks.{height_of, IsKeyed};
 ghost use Rattle.pop_model.specs.Families.{units_of};
-ghost use Rattle.pop_model.specs.Instances.{IsInstance, FamilyFits};
+ghost use Rattle.pop_model.specs.Instances.{IsInstance, FamilyFits, instance_raised};
 
 use crate::{Cube, Family};
 use pop_stacks::Stacks;
@@ -31,8 +32,8 @@ impl Instance {
 
     /// The instance of these parts. None exactly where an event of a listed family names a variable
     /// that is not below the stacks' count, or a value that is not below its variable's domain, or
-    /// where there are not as many arrows' variables as the stacks have or not as many slots of some
-    /// variable as it has values.
+    /// where there are not as many arrows' variables as the stacks have or not as many slots of
+    /// some variable as it has values.
     pub fn new(stacks: Stacks, family: Family) -> Option<Instance>
         ensures { MatchOption result (FamilyFits stacks (family_of family) → ⊥)
             (λ i. i ≡ record { stacks = stacks; family = family_of family }) }
@@ -52,6 +53,17 @@ impl Instance {
         &self.stacks
     }
 
+    /// Gives each variable this height, which is at least the present one. It takes no memory, and
+    /// a reader of the stacks may go on reading them.
+    pub fn raise(&mut self, height: u32)
+        requires keyed { IsKeyed self.old.stacks.origin }
+        requires higher { (v : ℕ) → height_of self.old.stacks v ≤ height }
+        requires short { height < 2 ^ 31 }
+        ensures { self.new ≡ instance_raised height self.old }
+    {
+        self.stacks.raise(height);
+    }
+
     /// The family of events.
     pub fn family(&self) -> &Family
         ensures { family_of result.now ≡ self.now.family }
@@ -67,8 +79,8 @@ impl Instance {
         self.family.units()
     }
 
-    /// Whether the cube is that of an event of the family. A listed family looks at each event; in a
-    /// cycle family the arrows are followed once round.
+    /// Whether the cube is that of an event of the family. A listed family looks at each event; in
+    /// a cycle family the arrows are followed once round.
     pub fn is_event(&self, cube: &Cube) -> bool
         ensures { IsTrue result ↔ HasEvent self.now.family cube.now }
     {

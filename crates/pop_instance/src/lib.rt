@@ -14,6 +14,7 @@ mod family;
 mod index;
 mod instance;
 mod kept_heads;
+mod values;
 
 pub use arrows::Arrows;
 pub use cube::Cube;
@@ -22,3 +23,4 @@ pub use events::Events;
 pub use family::Family;
 pub use index::Index;
 pub use instance::Instance;
+pub use values::Values;

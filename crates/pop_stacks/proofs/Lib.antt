@@ -1,9 +1,13 @@
+-- Rows and weights: kept in vectors, and as running sums
 mod RowsLemmas
-mod DrawsLemmas
-mod GroupDraws
 mod SumsInPlace
 mod WeightsBySums
-mod PlaneLemmas
+-- Values: drawn by the sums, one or a group at a time, from the words of a key
+mod DrawsLemmas
+mod GroupDraws
 mod KeyedEntries
+-- What a reader keeps: bits in words, and groups in lines
+mod PlaneLemmas
 mod KeptLemmas
-mod ValueIsLeast
+-- The law: the value is the least whose weights exceed the scaled number
+pub mod ValueIsLeast

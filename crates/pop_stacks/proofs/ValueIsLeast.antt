@@ -6,7 +6,7 @@ use Rattle.std.proofs.Common.{inl, inr, ◌≡◌, ℕ, zero, suc, ◌+◌, ◌-
 use Rattle.std.proofs.lemmas.Bool.{cases_lt, lt-ltb, le-ltb}
 use Rattle.rand_chacha.specs.Block.{block_word}
 use Rattle.rand_chacha.specs.ChaCha.{word_at}
-use Rattle.pop_model.specs.Stacks.{row_of, number_at, scaled, first_above}
+use Rattle.pop_model.specs.Stacks.{row_of, number_at, stream_of, scaled, first_above}
 use Rattle.pop_model.specs.Places.{IsLeast}
 use Rattle.pop_stacks.specs.Laws.{Exceed, ValueIsLeast}
 use Rattle.pop_stacks.proofs.DrawsLemmas.{sum-cons, scaled_below}
@@ -65,14 +65,15 @@ unfolding block_word
 word_fits key stream place = omega arith
 
 -- so the number of an entry is below 2 ^ 64
-number_fits : (key : List ℕ) (v k : ℕ) → number_at key v k < 2 ^ 64
+pub number_fits : (key : List ℕ) (v k : ℕ) → number_at key v k < 2 ^ 64
 unfolding number_at
 number_fits key v k = omega (arith, word_fits key v (2 * k), word_fits key v (2 * k + 1))
 
 -- the law: the value of a keyed entry is the least
 pub value_is_least : ValueIsLeast
-value_is_least key height weights v k some =
+value_is_least key sample height weights v k some =
     let total = sum (row_of weights v) in
-    let below : scaled (number_at key v k) total < total =
-    scaled_below (number_at key v k) total (number_fits key v k) some in
-    first_above_is_least (row_of weights v) (scaled (number_at key v k) total) below
+    let number = number_at key (stream_of sample v) k in
+    let below : scaled number total < total =
+    scaled_below number total (number_fits key (stream_of sample v) k) some in
+    first_above_is_least (row_of weights v) (scaled number total) below

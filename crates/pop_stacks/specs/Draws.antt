@@ -26,7 +26,8 @@ number_in words i = slice_index words (2 * i) + 2 ^ 32 * slice_index words (2 * 
 -- the first values are those that these words give under these weights
 abbrev pub AreDrawn : List ℕ → List ℕ → ℕ → List ℕ → Type 0
 AreDrawn weights words n values = (i : ℕ) → i < n
-    → (slice_index values i ≡ weighted weights (number_in words i)) × (slice_index values i < length weights)
+    → (slice_index values i ≡ weighted weights (number_in words i))
+    × (slice_index values i < length weights)
 
 -- the first numbers are those that these words make, scaled to a total
 abbrev pub AreScaled : ℕ → List ℕ → ℕ → List ℕ → Type 0

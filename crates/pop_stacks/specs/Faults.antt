@@ -35,7 +35,7 @@ pub record AreSoundRows (rows weights : List (List ℕ)) : Type 0 where
 -- given rows are without a fault; a key has no rows
 abbrev pub HasSoundRows : Origin → List (List ℕ) → Type 0
 HasSoundRows (Given rows) weights = AreSoundRows rows weights
-HasSoundRows (Keyed key height) weights = ⊤
+HasSoundRows (Keyed key sample height) weights = ⊤
 
 -- there is no fault at all
 pub record IsSound (origin : Origin) (weights : List (List ℕ)) : Type 0 where

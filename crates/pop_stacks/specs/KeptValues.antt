@@ -1,5 +1,5 @@
 -- Values of entries that are kept, a group of 32 entries of a variable at a time.
-use Rattle.std.specs.Prelude.{◌≡◌, ℕ, ◌+◌, ◌*◌, ◌/◌, ◌%◌, ◌<◌, ◌≤◌, ◌==◌, if◌then◌else◌, Option, Some, None, List, length, slice_index, slice_get}
+use Rattle.std.specs.Prelude.{◌≡◌, ℕ, ◌+◌, ◌*◌, ◌/◌, ◌%◌, ◌<◌, ◌≤◌, ◌==◌, if◌then◌else◌, Option, Some, None, List, length, slice_index, slice_get, Bool, true, false}
 use Rattle.std.specs.Option.{option_and_then}
 use Rattle.std.specs.Int.{bit_at}
 use Rattle.pop_model.specs.Stacks.{StackTable, value_at, domain_of}
@@ -24,6 +24,11 @@ kept_at (Quads lines) v k =
 kept_at (Bytes lines) v k =
     option_and_then (λ l. kept_in l.filled (slice_index l.values) k) (slice_get lines.items v)
 
+-- there are lines to keep values in
+abbrev pub keeps : KeptValues → Bool
+keeps Nothing = false
+keeps kept = true
+
 -- the variable has a line, and a line has room for values below this number
 abbrev pub CanKeep : KeptValues → ℕ → ℕ → Type 0
 CanKeep Nothing v domain = ⊥
@@ -43,7 +48,8 @@ Replaces old new v group values = (u k : ℕ) → kept_at new u k
 -- values of the 32 entries of a group of variable v
 abbrev pub AreValuesOf : StackTable → ℕ → ℕ → List ℕ → Type 0
 AreValuesOf s v group values = (i : ℕ) → i < 32
-    → (slice_index values i ≡ value_at s v (32 * group + i)) × (slice_index values i < domain_of s v)
+    → (slice_index values i ≡ value_at s v (32 * group + i))
+    × (slice_index values i < domain_of s v)
 
 -- what is kept of an entry is its value
 abbrev pub KeepsValues : StackTable → KeptValues → Type 0

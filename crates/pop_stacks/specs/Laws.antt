@@ -1,6 +1,6 @@
 -- What the value of an entry is, in the words in which weights are spoken of.
 use Rattle.std.specs.Prelude.{ℕ, suc, ◌<◌, List, take, sum}
-use Rattle.pop_model.specs.Stacks.{row_of, number_at, scaled, value_from}
+use Rattle.pop_model.specs.Stacks.{row_of, number_at, stream_of, scaled, value_from}
 use Rattle.pop_model.specs.Stacks.Origin.{Keyed}
 use Rattle.pop_model.specs.Places.{IsLeast}
 
@@ -11,7 +11,8 @@ Exceed weights m j = m < sum (take (suc j) weights)
 -- The value of a keyed entry is the least j such that the weights 0 to j of its variable together
 -- exceed the entry's number, scaled to the sum of the weights.
 abbrev pub ValueIsLeast : Type 0
-ValueIsLeast = (key : List ℕ) (height : ℕ) (weights : List (List ℕ)) (v k : ℕ)
+ValueIsLeast = (key : List ℕ) (sample height : ℕ) (weights : List (List ℕ)) (v k : ℕ)
     → 0 < sum (row_of weights v)
-    → IsLeast (Exceed (row_of weights v) (scaled (number_at key v k) (sum (row_of weights v))))
-    (value_from (Keyed key height) weights v k)
+    → IsLeast (Exceed (row_of weights v)
+    (scaled (number_at key (stream_of sample v) k) (sum (row_of weights v))))
+    (value_from (Keyed key sample height) weights v k)

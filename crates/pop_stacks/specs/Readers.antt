@@ -1,13 +1,33 @@
--- Which reader may read which stacks.
-use Rattle.std.specs.Prelude.{◌≡◌, ℕ, List, ⊤}
+-- Readers of stacks: what they were made of, and which stacks they may read.
+use Rattle.std.specs.Prelude.{◌≡◌, ℕ, List, Bool, true, ⊤}
 use Rattle.pop_model.specs.Stacks.{Origin, StackTable}
 use Rattle.pop_model.specs.Stacks.Origin.{Given, Keyed}
+use Rattle.pop_stacks.specs.KeptValues.{keeps, KeepsValues}
+use Rattle.pop_stacks.specs.declared.kept_values.KeptValues.{KeptValues}
+
+-- the stacks that a reader was made of, and whether it keeps values
+pub record ReaderOf : Type 0 where
+  pub stacks : StackTable
+  pub keeping : Bool
 
 -- a stream of this key gives the entries of this origin: given rows have no stream
 abbrev pub Streams : Origin → List ℕ → Type 0
 Streams (Given rows) stream = ⊤
-Streams (Keyed key height) stream = stream ≡ key
+Streams (Keyed key sample height) stream = stream ≡ key
 
--- the reader is of these stacks
-abbrev pub Belongs : StackTable → StackTable → Type 0
-Belongs s reader = reader ≡ s
+-- the entries come from the same rows, or from the same key for the same sample
+abbrev pub HasSource : Origin → Origin → Type 0
+HasSource (Given rows) (Given other) = rows ≡ other
+HasSource (Keyed key sample height) (Keyed other number tall) = (key ≡ other) × (sample ≡ number)
+HasSource origin other = ⊥
+
+-- the reader may read these stacks: it was made of stacks of the same source, and of the same
+-- weights where it keeps values
+pub record Belongs (s : StackTable) (reader : ReaderOf) : Type 0 where
+  pub source : HasSource s.origin reader.stacks.origin
+  pub weights : reader.keeping ≡ true → s.weights ≡ reader.stacks.weights
+
+-- nothing is kept of given rows, which are at hand
+abbrev pub KeepsOfKeys : Origin → Bool → Type 0
+KeepsOfKeys (Given rows) keeping = keeping ≡ true → ⊥
+KeepsOfKeys (Keyed key sample height) keeping = ⊤

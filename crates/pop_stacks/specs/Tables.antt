@@ -7,10 +7,19 @@ use Rattle.pop_stacks.specs.declared.stack_spec.StackSpec.{StackSpec}
 use Rattle.pop_stacks.specs.declared.stack_spec.StackSpec.TheVariants.{Given, Key}
 
 -- where the entries come from; the height is that of keyed stacks alone
-abbrev pub origin_of : StackSpec → ℕ → Origin
-origin_of (Given rows) height = GivenRows rows
-origin_of (Key key) height = Keyed (key_of key) height
+abbrev pub sample_origin : ℕ → StackSpec → ℕ → Origin
+sample_origin sample (Given rows) height = GivenRows rows
+sample_origin sample (Key key) height = Keyed (key_of key) sample height
 
 -- the stacks of this origin, under these weights
+abbrev pub sample_table : ℕ → StackSpec → ℕ → List (List ℕ) → StackTable
+sample_table sample spec height weights =
+    record { origin = sample_origin sample spec height; weights = weights }
+
+-- where no sample was chosen, it is number 0
+abbrev pub origin_of : StackSpec → ℕ → Origin
+origin_of spec height = sample_origin 0 spec height
+
+-- where no sample was chosen, the stacks are those of number 0
 abbrev pub table_of : StackSpec → ℕ → List (List ℕ) → StackTable
-table_of spec height weights = record { origin = origin_of spec height; weights = weights }
+table_of spec height weights = sample_table 0 spec height weights

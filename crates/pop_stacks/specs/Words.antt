@@ -3,14 +3,14 @@ use Rattle.std.specs.Prelude.{◌≡◌, ℕ, ◌+◌, ◌*◌, ◌<◌, List, t
 use Rattle.rand_chacha.specs.ChaCha.{ChaCha, word_at}
 use Rattle.pop_stacks.specs.declared.refill.Refill.{Refill}
 
--- the 64 words of a group of 32 entries of a variable
+-- the 64 words of a group of 32 entries of a stream
 abbrev pub AreWordsOf : List ℕ → ℕ → ℕ → List ℕ → Type 0
-AreWordsOf key v group words =
-    (i : ℕ) → i < 64 → slice_index words i ≡ word_at 10 key v (64 * group + i)
+AreWordsOf key stream group words =
+    (i : ℕ) → i < 64 → slice_index words i ≡ word_at 10 key stream (64 * group + i)
 
 -- what a refill says it holds, it holds
 abbrev pub HoldsWords : List ℕ → Refill → Type 0
-HoldsWords key r = r.filled ≡ true → AreWordsOf key r.variable r.group r.words
+HoldsWords key r = r.filled ≡ true → AreWordsOf key r.stream r.group r.words
 
 -- the first n words are those of the n places before the one where the cipher stands
 abbrev pub AreRead : ChaCha → ℕ → List ℕ → Type 0

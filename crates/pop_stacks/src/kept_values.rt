@@ -20,7 +20,7 @@ pub enum KeptValues {
 }
 
 impl KeptValues {
-    ghost use Rattle.pop_stacks.specs.KeptValues.{kept_at, CanKeep, AreBelow, Replaces};
+    ghost use Rattle.pop_stacks.specs.KeptValues.{kept_at, keeps, CanKeep, AreBelow, Replaces};
 
     /// Empty lines for this many variables, for values 0 and 1.
     pub fn bits(alloc: Global, count: u32) -> Result<KeptValues, AllocError>
@@ -70,13 +70,14 @@ impl KeptValues {
         }
     }
 
-    /// Keeps the values of a group of variable v, which are below `domain`, in the place of what was
-    /// kept of it.
+    /// Keeps the values of a group of variable v, which are below `domain`, in the place of what
+    /// was kept of it.
     pub fn keep(&mut self, v: u32, domain: u32, group: u32, values: &[u8; 32])
         requires known { CanKeep self.old v domain }
         requires below { AreBelow domain values.now }
         requires group { group < 2 ^ 26 }
-        ensures { Replaces self.old self.new v group values.now }
+        ensures replaced { Replaces self.old self.new v group values.now }
+        ensures keeping { keeps self.new ≡ keeps self.old }
     {
         let filled = group + 1;
         match self {

@@ -6,7 +6,7 @@ use rand_chacha::ChaCha20Rng;
 use rand_core::SeedableRng;
 use std::marker::Model;
 
-// How many refills are kept, each at its variable's number modulo this.
+// How many refills are kept, each at its stream's number modulo this.
 const KEPT: usize = 16;
 
 /// The key stream of ChaCha20, with the last refills of some variables: an entry is mostly looked
@@ -41,30 +41,30 @@ impl KeyStream {
         }
     }
 
-    /// Reads the words of a group of entries of variable v, and keeps none of them.
-    pub fn read(&mut self, v: u32, group: u32, words: &mut [u32; 64])
+    /// Reads the words of a group of entries of a stream, and keeps none of them.
+    pub fn read(&mut self, stream: u64, group: u32, words: &mut [u32; 64])
         requires { group < 2 ^ 26 }
-        ensures words { AreWordsOf self.old v group words.new }
+        ensures words { AreWordsOf self.old stream group words.new }
         ensures same { self.new ≡ self.old }
     {
-        read_group(&mut self.rng, v, group, words);
+        read_group(&mut self.rng, stream, group, words);
     }
 
-    /// The two words of entry k of variable v, the low word first.
-    pub fn words(&mut self, v: u32, k: u32) -> (u32, u32)
+    /// The two words of entry k of a stream, the low word first.
+    pub fn words(&mut self, stream: u64, k: u32) -> (u32, u32)
         requires { k < 2 ^ 31 }
-        ensures low { result.0 ≡ word_at 10 self.old v (2 * k) }
-        ensures high { result.1 ≡ word_at 10 self.old v (2 * k + 1) }
+        ensures low { result.0 ≡ word_at 10 self.old stream (2 * k) }
+        ensures high { result.1 ≡ word_at 10 self.old stream (2 * k + 1) }
         ensures same { self.new ≡ self.old }
     {
         let group = k / GROUP;
         let place = 2 * (k % GROUP) as usize;
-        let refill = &mut self.kept[v as usize % KEPT];
-        if !refill.filled || refill.variable != v || refill.group != group {
+        let refill = &mut self.kept[stream as usize % KEPT];
+        if !refill.filled || refill.stream != stream || refill.group != group {
             refill.filled = true;
-            refill.variable = v;
+            refill.stream = stream;
             refill.group = group;
-            read_group(&mut self.rng, v, group, &mut refill.words);
+            read_group(&mut self.rng, stream, group, &mut refill.words);
         }
         (refill.words[place], refill.words[place + 1])
     }

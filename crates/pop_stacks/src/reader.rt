@@ -6,57 +6,60 @@ use crate::kept_values::KeptValues;
 use crate::key_stream::KeyStream;
 use std::alloc::{AllocError, Global};
 use std::marker::Model;
+use std::snapshot::Snapshot;
 
-/// Reads the entries of stacks; each worker has one of its own. Contracts see the stacks, and
-/// nothing of what it keeps.
+/// Reads the entries of stacks; each worker has one of its own. It owns its key stream and the
+/// values that it keeps, and holds no stacks: they may be raised while it lives. Contracts see what
+/// it was made of, and nothing of what it keeps.
 #[derive(Drop)]
-pub struct Reader<'s> {
-    stacks: &'s Stacks,
+pub struct Reader {
     stream: KeyStream,
     kept: KeptValues,
+    made_of: Snapshot<Stacks>,
 }
 
-impl<'s> Model for Reader<'s> {
-    ghost use Rattle.pop_model.specs.Stacks.{StackTable};
+impl Model for Reader {
+    ghost use Rattle.pop_stacks.specs.KeptValues.{keeps, KeepsValues};
+    ghost use Rattle.pop_stacks.specs.Readers.{ReaderOf, Streams, KeepsOfKeys};
 
-    ghost Value = { StackTable };
+    ghost Value = { ReaderOf };
 
-    ghost use Rattle.pop_stacks.specs.Readers.{Streams};
-    ghost use Rattle.pop_stacks.specs.KeptValues.{KeepsValues};
+    ghost view = { λ a. record { stacks = a.made_of.value; keeping = keeps a.kept } };
 
-    ghost view = { λ a. a.stacks.now };
-
-    ghost invariant = { λ a. Streams a.stacks.now.origin a.stream
-        × KeepsValues a.stacks.now a.kept };
+    ghost invariant = { λ a. Streams a.made_of.value.origin a.stream
+        × KeepsValues a.made_of.value a.kept
+        × KeepsOfKeys a.made_of.value.origin (keeps a.kept) };
 }
 
-impl<'s> Reader<'s> {
+impl Reader {
     ghost use Rattle.pop_stacks.specs.Readers.{Belongs};
 
     /// A reader of these stacks. It takes no memory, and keeps no values.
-    pub fn new(stacks: &'s Stacks) -> Reader<'s>
+    pub fn new(stacks: &Stacks) -> Reader
         ensures { Belongs stacks.now result }
     {
         Reader {
-            stacks,
             stream: stacks.stream(),
             kept: KeptValues::Nothing,
+            made_of: Snapshot::of(stacks),
         }
     }
 
     /// A reader of these stacks that keeps for each variable the values of the group of 32 entries
     /// that was looked at last. Its memory is linear in the number of variables.
-    pub fn keeping(alloc: Global, stacks: &'s Stacks) -> Result<Reader<'s>, AllocError>
+    pub fn keeping(alloc: Global, stacks: &Stacks) -> Result<Reader, AllocError>
         ensures { IfOk result (Belongs stacks.now) }
     {
         Ok(Reader {
-            stacks,
             stream: stacks.stream(),
             kept: stacks.room_for_values(alloc)?,
+            made_of: Snapshot::of(stacks),
         })
     }
 
-    /// Entry k of variable v, whatever was read before. It takes no memory.
+    /// Entry k of variable v of stacks of the same source: the same key and sample, or the same
+    /// given rows; and of the same weights, where values are kept. It is the same whatever was read
+    /// before. It takes no memory.
     #[inline]
     pub fn entry(&mut self, stacks: &Stacks, v: u32, k: u32) -> u32
         requires belongs { Belongs stacks.now self.old }

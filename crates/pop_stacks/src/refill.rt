@@ -8,12 +8,12 @@ use rand_core::utils::NextWord;
 /// has two words.
 pub const GROUP: u32 = 32;
 
-/// The words of one group of entries of a variable.
+/// The words of one group of entries of a stream.
 #[derive(Clone, Copy)]
 pub struct Refill {
     /// Whether there are words yet.
     pub filled: bool,
-    pub variable: u32,
+    pub stream: u64,
     /// The entries are those from 32 * group on.
     pub group: u32,
     pub words: [u32; 64],
@@ -22,7 +22,7 @@ pub struct Refill {
 /// No words yet.
 pub const NONE: Refill = Refill {
     filled: false,
-    variable: 0,
+    stream: 0,
     group: 0,
     words: [0; 64],
 };
@@ -57,17 +57,17 @@ fn read_block(rng: &mut ChaCha20Rng, words: &mut [u32; 64], at: usize)
     read_four(rng, words, at + 12);
 }
 
-/// Reads the words of a group of entries of variable v: one refill of the cipher. The place is set
+/// Reads the words of a group of entries of a stream: one refill of the cipher. The place is set
 /// before the stream, and both stand at a block's start, so that neither refills by itself.
-pub fn read_group(rng: &mut ChaCha20Rng, v: u32, group: u32, words: &mut [u32; 64])
+pub fn read_group(rng: &mut ChaCha20Rng, stream: u64, group: u32, words: &mut [u32; 64])
     requires { group < 2 ^ 26 }
-    ensures words { AreWordsOf rng.old.key v group words.new }
+    ensures words { AreWordsOf rng.old.key stream group words.new }
     ensures key { rng.new.key ≡ rng.old.key }
 {
     rng.set_word_pos(64 * group as u128);
-    rng.set_stream(v as u64);
-    // Written out and not in a loop, so that the compiler sees that only the first word refills, and
-    // moves the others many at a time.
+    rng.set_stream(stream);
+    // Written out and not in a loop, so that the compiler sees that only the first word refills,
+    // and moves the others many at a time.
     let mut read = [0; 64];
     read_block(rng, &mut read, 0);
     read_block(rng, &mut read, 16);

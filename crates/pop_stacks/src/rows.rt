@@ -93,6 +93,18 @@ impl Rows {
         }
     }
 
+    /// Equal rows.
+    pub fn copy(&self, alloc: Global) -> Result<Rows, AllocError>
+        ensures { IfOk result (λ rows. rows ≡ self.now) }
+    {
+        let kept = match &self.kept {
+            KeptRows::Nested(rows) => KeptRows::Nested(copy_lists(alloc, rows)?),
+            KeptRows::Flat(rows) => KeptRows::Flat(rows.copy(alloc)?),
+            KeptRows::Front(rows) => KeptRows::Front(rows.copy(alloc)?),
+        };
+        Ok(Rows { kept })
+    }
+
     // The running sums of each row, made in its place; else the least row whose sum passes 32 bits.
     pub(crate) fn into_sums(self) -> Result<Rows, u32>
         ensures made { IfOk result (λ sums. sums ≡ map (running 0) self) }
@@ -106,6 +118,17 @@ impl Rows {
             KeptRows::Front(rows) => front_sums(rows),
         }
     }
+}
+
+// Equal lists.
+fn copy_lists(alloc: Global, rows: &[Vec<u32>]) -> Result<Vec<Vec<u32>>, AllocError>
+    ensures { IfOk result (λ lists. lists_of lists.items ≡ lists_of rows.now) }
+{
+    let mut lists = Vec::with_capacity(alloc, rows.len())?;
+    for v in 0..rows.len() {
+        lists.push(Vec::from_slice(alloc, &rows[v])?)?;
+    }
+    Ok(lists)
 }
 
 // The sums of rows that have an array each.

@@ -1,5 +1,5 @@
-ghost use Rattle.std.specs.Prelude.{◌≡◌, ◌<◌, ◌^◌, ℕ, OnOk, IfOk, IfErr};
-ghost use Rattle.pop_model.specs.Stacks.{variables_of, domain_of, height_of, value_at, IsTable};
+ghost use Rattle.std.specs.Prelude.{◌≡◌, ◌<◌, ◌≤◌, ◌^◌, ◌↔◌, ℕ, OnOk, IfOk, IfErr, IsTrue};
+ghost use Rattle.pop_model.specs.Stacks.{variables_of, domain_of, height_of, value_at, stream_of, IsKeyed, stacks_for, stacks_raised, IsTable};
 
 use crate::kept_values::KeptValues;
 use crate::key_stream::KeyStream;
@@ -13,28 +13,37 @@ use std::marker::Model;
 #[derive(Drop)]
 pub struct Stacks {
     spec: StackSpec,
+    // The number of the sample: with a key each has streams of its own.
+    sample: u32,
     sums: Sums,
     height: u32,
 }
 
+// The number of a variable's stream, for a sample.
+fn stream_number(sample: u32, v: u32) -> u64
+    ensures { result ≡ stream_of sample v }
+{
+    sample as u64 * 0x1_0000_0000 + v as u64
+}
+
 impl Model for Stacks {
     ghost use Rattle.pop_model.specs.Stacks.{StackTable, IsTable};
-    ghost use Rattle.pop_stacks.specs.Tables.{origin_of, table_of};
+    ghost use Rattle.pop_stacks.specs.Tables.{sample_origin, sample_table};
     ghost use Rattle.pop_stacks.specs.Faults.{HasSoundRows};
 
     ghost Value = { StackTable };
 
-    ghost view = { λ a. table_of a.spec a.height a.sums };
+    ghost view = { λ a. sample_table a.sample a.spec a.height a.sums };
 
-    ghost invariant = { λ a. IsTable (table_of a.spec a.height a.sums)
-        × HasSoundRows (origin_of a.spec a.height) a.sums };
+    ghost invariant = { λ a. IsTable (sample_table a.sample a.spec a.height a.sums)
+        × HasSoundRows (sample_origin a.sample a.spec a.height) a.sums };
 }
 
 impl Stacks {
     ghost use Rattle.pop_stacks.specs.Tables.{origin_of, table_of};
     ghost use Rattle.pop_stacks.specs.Faults.{IsSound, IsCause};
-    ghost use Rattle.pop_stacks.specs.Readers.{Streams};
-    ghost use Rattle.pop_stacks.specs.KeptValues.{KeepsValues};
+    ghost use Rattle.pop_stacks.specs.Readers.{Streams, KeepsOfKeys};
+    ghost use Rattle.pop_stacks.specs.KeptValues.{keeps, KeepsValues};
 
     /// The stacks with entries of this origin, under these weights. With a key each variable has
     /// this height; with given rows it is its row's length, and `height` has no effect.
@@ -50,8 +59,40 @@ impl Stacks {
         spec.check(&weights, height)?;
         match Sums::of(weights) {
             Err(v) => Err(StackFault::WeightSum(v)),
-            Ok(sums) => Ok(Stacks { spec, sums, height }),
+            Ok(sums) => Ok(Stacks {
+                spec,
+                sample: 0,
+                sums,
+                height,
+            }),
         }
+    }
+
+    /// The stacks under the same key and weights for sample j, which has streams of its own.
+    pub fn for_sample(&self, alloc: Global, j: u32) -> Result<Stacks, AllocError>
+        requires keyed { IsKeyed self.now.origin }
+        ensures { IfOk result (λ stacks. stacks ≡ stacks_for j self.now) }
+    {
+        match &self.spec {
+            StackSpec::Key(key) => Ok(Stacks {
+                spec: StackSpec::Key(*key),
+                sample: j,
+                sums: self.sums.copy(alloc)?,
+                height: self.height,
+            }),
+            StackSpec::Given(_) => unreachable!(),
+        }
+    }
+
+    /// Gives each variable this height, which is at least the present one. It takes no memory, and
+    /// a reader of these stacks may go on reading them.
+    pub fn raise(&mut self, height: u32)
+        requires keyed { IsKeyed self.old.origin }
+        requires higher { (v : ℕ) → height_of self.old v ≤ height }
+        requires short { height < 2 ^ 31 }
+        ensures { self.new ≡ stacks_raised height self.old }
+    {
+        self.height = height;
     }
 
     /// How many variables there are.
@@ -81,6 +122,14 @@ impl Stacks {
         self.sums.slots(v)
     }
 
+    /// Whether no variable has more values than this.
+    pub fn have_at_most(&self, values: u32) -> bool
+        ensures { IsTrue result
+            ↔ ((v : ℕ) → v < variables_of self.now → domain_of self.now v ≤ values) }
+    {
+        self.sums.have_at_most(values)
+    }
+
     // The key stream of keyed stacks; with given rows any, which is never read.
     pub(crate) fn stream(&self) -> KeyStream
         ensures { Streams self.now.origin result }
@@ -93,7 +142,8 @@ impl Stacks {
 
     // Room for values of each variable; given rows are at hand anyway.
     pub(crate) fn room_for_values(&self, alloc: Global) -> Result<KeptValues, AllocError>
-        ensures { IfOk result (KeepsValues self.now) }
+        ensures none { IfOk result (KeepsValues self.now) }
+        ensures of_keys { IfOk result (λ kept. KeepsOfKeys self.now.origin (keeps kept)) }
     {
         if let StackSpec::Given(_) = &self.spec {
             return Ok(KeptValues::Nothing);
@@ -120,18 +170,19 @@ impl Stacks {
         ensures within { result < domain_of self.now v }
         ensures same { stream.new ≡ stream.old }
         ensures kept { KeepsValues self.now kept.new }
+        ensures keeping { keeps kept.new ≡ keeps kept.old }
     {
         match &self.spec {
             StackSpec::Key(_) => {
                 let domain = self.sums.slots(v);
                 if kept.can_keep(v, domain) {
                     let mut words = [0; 64];
-                    stream.read(v, k / GROUP, &mut words);
+                    stream.read(stream_number(self.sample, v), k / GROUP, &mut words);
                     let values = self.sums.draw_group(v, &words);
                     kept.keep(v, domain, k / GROUP, &values);
                     return values[(k % GROUP) as usize] as u32;
                 }
-                let (low, high) = stream.words(v, k);
+                let (low, high) = stream.words(stream_number(self.sample, v), k);
                 self.sums.draw(v, low, high)
             }
             StackSpec::Given(rows) => rows.row(v)[k as usize],

@@ -8,6 +8,7 @@ ghost use Rattle.pop_stacks.specs.Rows.{AreWeights};
 use crate::drawing::draw;
 use crate::group_drawing::{draw_all, draw_pairs};
 use crate::{Rows, Weights};
+use std::alloc::{AllocError, Global};
 use std::marker::Model;
 
 // How running sums are kept: those of pairs of weights 1 are 1 and 2.
@@ -62,6 +63,17 @@ impl Sums {
             }),
             Some(rows) => sums_of_rows(rows),
         }
+    }
+
+    /// Equal sums.
+    pub fn copy(&self, alloc: Global) -> Result<Sums, AllocError>
+        ensures { IfOk result (λ sums. sums ≡ self.now) }
+    {
+        let kept = match &self.kept {
+            KeptSums::Pairs(count) => KeptSums::Pairs(*count),
+            KeptSums::Rows(rows) => KeptSums::Rows(rows.copy(alloc)?),
+        };
+        Ok(Sums { kept })
     }
 
     /// How many variables there are.

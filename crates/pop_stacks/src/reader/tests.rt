@@ -226,3 +226,31 @@ fn given_rows_are_read_as_they_stand(rt: HostRuntime) -> Result<(), Fail> {
     look(&rt, &stacks, &mut keeping, 1, 0, 1);
     Ok(())
 }
+
+// RFC 8439, A.1, vector 5: the key of zeros, and a nonce whose last word is 2^25. As a stream
+// number of 64 bits that is stream 0 of sample 2^25. Of two equal weights the top bit of the high
+// word chooses.
+#[test]
+fn each_sample_has_streams_of_its_own(rt: HostRuntime) -> Result<(), Fail> {
+    let alloc = rt.alloc();
+    let first = Stacks::new(StackSpec::Key([0; 32]), Weights::pairs(1), 64)?;
+    let stacks = first.for_sample(alloc, 1 << 25)?;
+    let values = &[0, 1, 1, 1, 1, 1, 0, 0];
+    reads_values(&rt, &stacks, &mut Reader::new(&stacks), values);
+    reads_values(&rt, &stacks, &mut Reader::keeping(alloc, &stacks)?, values);
+    Ok(())
+}
+
+// The values are those of the first test, under the key of zeros.
+#[test]
+fn a_reader_goes_on_when_its_stacks_are_raised(rt: HostRuntime) -> Result<(), Fail> {
+    let alloc = rt.alloc();
+    let mut stacks = Stacks::new(StackSpec::Key([0; 32]), Weights::pairs(1), 8)?;
+    let mut reader = Reader::keeping(alloc, &stacks)?;
+    look(&rt, &stacks, &mut reader, 0, 7, 1);
+    stacks.raise(64);
+    assert!(&rt; 0 < stacks.count());
+    assert_eq!(&rt; stacks.height(0), 64);
+    reads_values(&rt, &stacks, &mut reader, &[1, 0, 0, 1, 1, 0, 0, 1]);
+    Ok(())
+}

@@ -1,4 +1,4 @@
-use Rattle.pop_instance.proofs.Rounds.{AreSteps}
+use Rattle.pop_instance.proofs.CycleReturns.{AreSteps}
 use Rattle.pop_instance.proofs.cycle.is_cycle.Given as goal
 
 -- the steps before this one led here, and none of them came back to the first variable

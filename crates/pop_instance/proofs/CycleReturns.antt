@@ -22,6 +22,7 @@ pub record Choice (m : ℕ) (P : ℕ → ℕ → Type 0) : Type 0 where
   pub at : ℕ → ℕ
   pub holds : (i : ℕ) → i < m → P i (at i)
 
+-- where there is a number for each one below m, one is chosen for each
 choose : (m : ℕ) (P : ℕ → ℕ → Type 0) → ((i : ℕ) → i < m → (k : ℕ) × P i k) → Choice m P
 choose m P some = record { at = λ i. pick i (cases_lt i m); holds = λ i below. picked i below (cases_lt i m) }
   where
@@ -72,61 +73,61 @@ module _ (heads : Heads) (e : Cube) (cube : IsCube e) where
       ]
 
   -- the steps come back after as many as the cube has pairs, and after none before
-  pub record GoesRound : Type 0 where
+  pub record ReturnsAtLength : Type 0 where
     pub returns : follow (arrow_in heads e) (length e) (first_of e) ≡ Some (first_of e)
     pub not_before : (k : ℕ) → 0 < k → k < length e
         → follow (arrow_in heads e) k (first_of e) ≡ Some (first_of e) → ⊥
 
   -- where they lead at each step before they come back
-  passes : GoesRound → Choice (length e) (λ k u. follow (arrow_in heads e) k (first_of e) ≡ Some u)
-  passes round = choose (length e) (λ k u. follow (arrow_in heads e) k (first_of e) ≡ Some u) (λ k below.
-      follow_before (arrow_in heads e) k (length e) (first_of e) (first_of e) (omega arith) round.returns)
+  passes : ReturnsAtLength → Choice (length e) (λ k u. follow (arrow_in heads e) k (first_of e) ≡ Some u)
+  passes ring = choose (length e) (λ k u. follow (arrow_in heads e) k (first_of e) ≡ Some u) (λ k below.
+      follow_before (arrow_in heads e) k (length e) (first_of e) (first_of e) (omega arith) ring.returns)
 
   -- to variables of the cube
-  passes_named : GoesRound → (k u : ℕ) → k < length e → follow (arrow_in heads e) k (first_of e) ≡ Some u
+  passes_named : ReturnsAtLength → (k u : ℕ) → k < length e → follow (arrow_in heads e) k (first_of e) ≡ Some u
       → names e u ≡ true
-  passes_named round k u below is =
+  passes_named ring k u below is =
       let step = arrow_in heads e in
-      let next = follow_before step (suc k) (length e) (first_of e) (first_of e) (omega arith) round.returns in
+      let next = follow_before step (suc k) (length e) (first_of e) (first_of e) (omega arith) ring.returns in
       let last = follow_last step k (first_of e) next.0 next.1 in
       let same : last.0 ≡ u = same_Some last.0 u (sym last.1 ∙ is) in
       subst (λ v. names e v ≡ true) same (arrow_named heads e last.0 next.0 last.2)
 
   -- and not twice to one
-  passes_once : GoesRound → (i j u : ℕ) → i < j → j < length e
+  passes_once : ReturnsAtLength → (i j u : ℕ) → i < j → j < length e
       → follow (arrow_in heads e) i (first_of e) ≡ Some u → follow (arrow_in heads e) j (first_of e) ≡ Some u → ⊥
-  passes_once round i j u less below at_i at_j =
+  passes_once ring i j u less below at_i at_j =
       let step = arrow_in heads e in
       let rest = length e - j in
       let whole : j + rest ≡ length e = omega arith in
       let home : follow step rest u ≡ Some (first_of e) = sym (follow_more step j rest (first_of e) u at_j)
-      ∙ ap (λ n. follow step n (first_of e)) whole ∙ round.returns in
-      round.not_before (i + rest) (omega arith) (omega arith) (follow_more step i rest (first_of e) u at_i ∙ home)
+      ∙ ap (λ n. follow step n (first_of e)) whole ∙ ring.returns in
+      ring.not_before (i + rest) (omega arith) (omega arith) (follow_more step i rest (first_of e) u at_i ∙ home)
 
   -- the variable of a step before they come back, and one variable more behind these
   abbrev Met : ℕ → ℕ → ℕ → Type 0
   Met v i u = ((i < length e) × (follow (arrow_in heads e) i (first_of e) ≡ Some u)) ⊎ ((length e ≤ i) × (u ≡ v))
 
   -- if the one more isn't met, each variable is that of one step
-  one_step : GoesRound → (v : ℕ) → ((k : ℕ) → k < length e → follow (arrow_in heads e) k (first_of e) ≡ Some v → ⊥)
+  one_step : ReturnsAtLength → (v : ℕ) → ((k : ℕ) → k < length e → follow (arrow_in heads e) k (first_of e) ≡ Some v → ⊥)
       → (i j u : ℕ) → i < suc (length e) → j < suc (length e) → Met v i u → Met v j u → i ≡ j
-  one_step round v none i j u most_i most_j (inl at_i) (inl at_j) = elim (cases_order i j) [
+  one_step ring v none i j u most_i most_j (inl at_i) (inl at_j) = elim (cases_order i j) [
     | inl equal ↦ equal
-    | inr (inl before) ↦ absurd (passes_once round i j u before at_j.0 at_i.1 at_j.1)
-    | inr (inr behind) ↦ absurd (passes_once round j i u behind at_i.0 at_j.1 at_i.1)
+    | inr (inl before) ↦ absurd (passes_once ring i j u before at_j.0 at_i.1 at_j.1)
+    | inr (inr behind) ↦ absurd (passes_once ring j i u behind at_i.0 at_j.1 at_i.1)
   ]
-  one_step round v none i j u most_i most_j (inl at_i) (inr last) =
+  one_step ring v none i j u most_i most_j (inl at_i) (inr last) =
       absurd (none i at_i.0 (at_i.1 ∙ ap (λ w. Some w) last.1))
-  one_step round v none i j u most_i most_j (inr last) (inl at_j) =
+  one_step ring v none i j u most_i most_j (inr last) (inl at_j) =
       absurd (none j at_j.0 (at_j.1 ∙ ap (λ w. Some w) last.1))
-  one_step round v none i j u most_i most_j (inr last) (inr last') = omega (arith, last.0, last'.0)
+  one_step ring v none i j u most_i most_j (inr last) (inr last') = omega (arith, last.0, last'.0)
 
   -- a variable of the cube is met: else it and those that are met would be more than the cube has
-  round_meets : GoesRound → (v : ℕ) → names e v ≡ true
+  return_meets : ReturnsAtLength → (v : ℕ) → names e v ≡ true
       → (k : ℕ) × (k < length e) × (follow (arrow_in heads e) k (first_of e) ≡ Some v)
-  round_meets round v at_v =
+  return_meets ring v at_v =
       let n = length e in
-      let chosen = passes round in
+      let chosen = passes ring in
       let place : (u : ℕ) → names e u ≡ true → (k : ℕ) × ((k < n) × (slice_index (variables e) k ≡ u)) =
       λ u is. let pair = named e u is in (pair.1.0, (pair.1.1, variable_of e u pair.0 pair.1)) in
       elim (find chosen.at v n) [
@@ -136,19 +137,19 @@ module _ (heads : Heads) (e : Cube) (cube : IsCube e) where
             (λ i below. elim (cases_lt i n) [
               | inl inside ↦
                   let at = chosen.holds i inside in
-                  let there = place (chosen.at i) (passes_named round i (chosen.at i) inside at) in
+                  let there = place (chosen.at i) (passes_named ring i (chosen.at i) inside at) in
                   (there.0, (there.1.0, inl (inside, at ∙ ap (λ w. Some w) (sym there.1.1))))
               | inr last ↦ let there = place v at_v in (there.0, (there.1.0, inr (last, there.1.1)))
             ])
-            (λ i j k below_i below_j. one_step round v (λ m inside at.
+            (λ i j k below_i below_j. one_step ring v (λ m inside at.
             none m inside (same_Some (chosen.at m) v (sym (chosen.holds m inside) ∙ at))) i j
             (slice_index (variables e) k) below_i below_j) in
             absurd (omega arith)
       ]
 
   -- so it is a cycle
-  pub round_is_cycle : GoesRound → IsCycle heads e
-  round_is_cycle round = record { cube = cube; returns = round.returns; meets = round_meets round }
+  pub return_is_cycle : ReturnsAtLength → IsCycle heads e
+  return_is_cycle ring = record { cube = cube; returns = ring.returns; meets = return_meets ring }
 
   -- where steps come back after k, what is met is met among the first k
   met_early : (k : ℕ) → 0 < k → follow (arrow_in heads e) k (first_of e) ≡ Some (first_of e) → (bound j w : ℕ)
@@ -167,8 +168,8 @@ module _ (heads : Heads) (e : Cube) (cube : IsCube e) where
   ]
 
   -- and a cycle goes round
-  pub cycle_goes_round : IsCycle heads e → GoesRound
-  cycle_goes_round is = record {
+  pub cycle_returns : IsCycle heads e → ReturnsAtLength
+  cycle_returns is = record {
     returns = is.returns;
     not_before = λ k some early home.
         let few : length e ≤ k = few_places (length e) k
@@ -188,12 +189,14 @@ pub record AreSteps (heads : Heads) (e : Cube) (first n at : ℕ) : Type 0 where
 
 module _ (heads : Heads) (e : Cube) (first n at : ℕ) (cube : IsCube e) (first_is : first_of e ≡ first) (some : 0 < n)
     (steps : AreSteps heads e first n at) where
+  -- the last step is the arrow of the variable that was reached
   step_is : follow (arrow_in heads e) n first ≡ arrow_in heads e at
   step_is =
       let next : n ≡ suc (n - 1) = omega arith in
       ap (λ k. follow (arrow_in heads e) k first) next
       ∙ follow_next (arrow_in heads e) (n - 1) first at steps.reached
 
+  -- after as many steps as it has pairs a cycle comes back to its first variable
   returns_is : IsCycle heads e → follow (arrow_in heads e) (length e) first ≡ Some first
   returns_is is = subst (λ v. follow (arrow_in heads e) (length e) v ≡ Some v) first_is is.returns
 
@@ -207,7 +210,7 @@ module _ (heads : Heads) (e : Cube) (first n at : ℕ) (cube : IsCube e) (first_
   -- nor where a step before the last comes back
   pub comes_early : n < length e → arrow_in heads e at ≡ Some first → IsCycle heads e → ⊥
   comes_early inside back is =
-      (cycle_goes_round heads e cube is).not_before n some inside
+      (cycle_returns heads e cube is).not_before n some inside
       (subst (λ v. follow (arrow_in heads e) n v ≡ Some v) (sym first_is) (step_is ∙ back))
 
   -- a step more
@@ -226,7 +229,7 @@ module _ (heads : Heads) (e : Cube) (first n at : ℕ) (cube : IsCube e) (first_
 
   -- it is a cycle where the last step comes back
   pub comes_back : length e ≡ n → arrow_in heads e at ≡ Some first → IsCycle heads e
-  comes_back whole back = round_is_cycle heads e cube (record {
+  comes_back whole back = return_is_cycle heads e cube (record {
     returns = subst (λ v. follow (arrow_in heads e) (length e) v ≡ Some v) (sym first_is)
         (ap (λ k. follow (arrow_in heads e) k first) whole ∙ step_is ∙ back);
     not_before = λ k positive below home.

@@ -1,0 +1,109 @@
+ghost use Rattle.std.specs.Prelude.{◌≡◌, ◌<◌, ◌≤◌, ℕ, length, slice_index, IfOk};
+ghost use Rattle.pop_model.specs.Stacks.{variables_of, domain_of};
+ghost use Rattle.pop_model.specs.Popping.{AreWithin, AreValuesAt};
+ghost use Rattle.pop_stacks.specs.Readers.{Belongs};
+
+use crate::Cursors;
+use pop_stacks::{Reader, Stacks};
+use std::alloc::{AllocError, Global};
+use std::marker::Model;
+
+// Numbers, a byte or a word each.
+#[derive(Drop)]
+enum KeptNumbers {
+    Bytes(Vec<u8>),
+    Words(Vec<u32>),
+}
+
+/// For each variable a value. It takes a byte where no variable has more than 256 values, and else
+/// four. Contracts see the list of values.
+#[derive(Drop)]
+pub struct Values {
+    kept: KeptNumbers,
+}
+
+impl Model for Values {
+    ghost use Rattle.std.specs.Prelude.{ℕ, List};
+    ghost use Rattle.pop_instance.specs.KeptNumbers.{numbers_of};
+
+    ghost Value = { List ℕ };
+
+    ghost view = { λ a. numbers_of a.kept };
+}
+
+impl Values {
+    /// The value of each variable at its cursor, which is below its domain. Each is looked at once.
+    pub fn at(
+        alloc: Global,
+        stacks: &Stacks,
+        reader: &mut Reader,
+        cursors: &Cursors,
+    ) -> Result<Values, AllocError>
+        requires count { variables_of stacks.now ≡ length cursors.now }
+        requires within { AreWithin stacks.now cursors.now }
+        requires belongs { Belongs stacks.now reader.old }
+        ensures values { IfOk result (AreValuesAt stacks.now cursors.now) }
+        ensures reader { reader.new ≡ reader.old }
+    {
+        let kept = if stacks.have_at_most(256) {
+            KeptNumbers::Bytes(bytes_at(alloc, stacks, reader, cursors)?)
+        } else {
+            KeptNumbers::Words(words_at(alloc, stacks, reader, cursors)?)
+        };
+        Ok(Values { kept })
+    }
+
+    /// The value of a variable.
+    pub fn get(&self, v: u32) -> u32
+        requires known { v < length self.now }
+        ensures { result ≡ slice_index self.now v }
+    {
+        match &self.kept {
+            KeptNumbers::Bytes(numbers) => numbers[v as usize] as u32,
+            KeptNumbers::Words(numbers) => numbers[v as usize],
+        }
+    }
+}
+
+// The value of each variable at its cursor, a byte each.
+fn bytes_at(
+    alloc: Global,
+    stacks: &Stacks,
+    reader: &mut Reader,
+    cursors: &Cursors,
+) -> Result<Vec<u8>, AllocError>
+    requires small { (v : ℕ) → v < variables_of stacks.now → domain_of stacks.now v ≤ 256 }
+    requires count { variables_of stacks.now ≡ length cursors.now }
+    requires within { AreWithin stacks.now cursors.now }
+    requires belongs { Belongs stacks.now reader.old }
+    ensures values { IfOk result (λ bytes. AreValuesAt stacks.now cursors.now bytes.items) }
+    ensures reader { reader.new ≡ reader.old }
+{
+    let count = stacks.count();
+    let mut bytes = Vec::with_capacity(alloc, count as usize)?;
+    for v in 0..count {
+        bytes.push(reader.entry(stacks, v, cursors.get(v)) as u8)?;
+    }
+    Ok(bytes)
+}
+
+// The value of each variable at its cursor, a word each.
+fn words_at(
+    alloc: Global,
+    stacks: &Stacks,
+    reader: &mut Reader,
+    cursors: &Cursors,
+) -> Result<Vec<u32>, AllocError>
+    requires count { variables_of stacks.now ≡ length cursors.now }
+    requires within { AreWithin stacks.now cursors.now }
+    requires belongs { Belongs stacks.now reader.old }
+    ensures values { IfOk result (λ words. AreValuesAt stacks.now cursors.now words.items) }
+    ensures reader { reader.new ≡ reader.old }
+{
+    let count = stacks.count();
+    let mut words = Vec::with_capacity(alloc, count as usize)?;
+    for v in 0..count {
+        words.push(reader.entry(stacks, v, cursors.get(v)))?;
+    }
+    Ok(words)
+}
