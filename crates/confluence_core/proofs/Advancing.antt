@@ -1,38 +1,52 @@
--- A step of the code, by what it reads: where the walk goes on, or that it is over.
+-- A step of the code, by what it reads: where the walk goes on, or that it is over. The walk w has put its variable onto
+-- its path, which gave n; a cycle that the path of n closes is popped or noted.
 use Rattle.std.proofs.Common.{inl, inr, ◌≡◌, ℕ, zero, suc, ◌+◌, ◌-◌, ◌<◌, Bool, cond, List, length, get_or, set, Some, refl, sym, ap, subst, ◌∙◌, arith, get_or-set_same, get_or-set_other, length-set, ne_eqb}
 use Rattle.std.specs.Bool.{MatchBool}
 use Rattle.std.specs.List.{slice_range}
+use Rattle.std.proofs.lemmas.Bool.{cases_eq}
 use Rattle.pop_model.specs.Stacks.{value_at}
-use Rattle.pop_model.specs.Popping.{cursor, pop}
+use Rattle.pop_model.specs.Popping.{Cube, HasNext, cursor, pop}
+use Rattle.pop_model.proofs.Room.{left_from}
+use Rattle.std.proofs.lemmas.List.Elements.{Contains-push_cases}
 use Rattle.confluence_core.specs.CycleTables.{CycleTable, current_head}
 use Rattle.confluence_core.specs.Loops.{Marks}
-use Rattle.confluence_core.specs.Walks.{settled, IsSettled, AreDone, AreSized, IsPath, GoesOn, Closes, Walks, StaySettled, begun_at}
-use Rattle.confluence_core.specs.Steps.{RunsOn, Pops, Notes, PopsOrNotes, GoesTo, Ends}
-use Rattle.confluence_core.specs.declared.walked.Walked.{Walked}
+use Rattle.confluence_core.specs.Walks.{settled, cycle_event, IsSettled, AreSized, IsPath, GoesOn, Closes}
+use Rattle.confluence_core.specs.LoopErasedWalks.{StaySettled, HasPath, IsSized, HasDone, Walks, begun_at}
+use Rattle.confluence_core.specs.Steps.{RunsOn, Extends, Pops, Notes, PopsOrNotes, GoesTo, Ends, with_pop, with_stuck}
+use Rattle.confluence_core.specs.declared.walk.Walk.{Walk}
 use Rattle.confluence_core.proofs.PathsLemmas.{room_for_more, pushed, pushed_here, pushed_stay, pushed_before, few}
-use Rattle.confluence_core.proofs.ClosedLoops.{IsClosed, closes_round, closed, loop_of}
-use Rattle.confluence_core.proofs.DoneVariables.{done_same, done_rests, done_stuck}
+use Rattle.confluence_core.proofs.ClosedLoops.{IsClosed, loop_of}
+use Rattle.confluence_core.proofs.DoneVariables.{done_same, done_rests, done_stuck, last_popped}
 use Rattle.confluence_core.proofs.LoopCubes.{cube_occurs}
-use Rattle.confluence_core.proofs.WalkSteps.{marks_places, sized_popped, sized_same, pop_falls, work_falls, popped_goes_on, popped_done, popped_stay}
-use Rattle.confluence_core.proofs.Runnings.{runs_popped}
+use Rattle.confluence_core.proofs.WalkSteps.{closes_here, MarksPlaces, marks_places, sized_popped, sized_same, pop_falls, work_falls, popped_goes_on, popped_done, popped_off, popped_stay}
+use Rattle.confluence_core.proofs.Runnings.{runs_noted, runs_popped}
 
 -- where the walk began, once it has a path
-begun_later : (path : List ℕ) (depth v : ℕ) → 0 < depth → begun_at path depth v ≡ get_or path 0 0
-begun_later path depth v some =
-    ap (λ b. cond b v (get_or path 0 0)) (ne_eqb depth 0 (λ none. absurd (omega arith)))
+begun_later : (w : Walk) → 0 < w.depth → begun_at w ≡ get_or w.path.items 0 0
+begun_later w some =
+    ap (λ b. cond b w.at (get_or w.path.items 0 0)) (ne_eqb w.depth 0 (λ none. absurd (omega arith)))
 
--- with one variable more it began there too
-begun_pushed : (path : List ℕ) (depth v : ℕ) → depth < length path
-    → get_or (set path depth v) 0 0 ≡ begun_at path depth v
-begun_pushed path zero v within = get_or-set_same path 0 v 0 within
-begun_pushed path (suc depth) v within =
-    get_or-set_other path (suc depth) 0 v 0 (λ e. absurd (omega arith))
-    ∙ sym (begun_later path (suc depth) v (omega arith))
+-- before it has one
+begun_first : (w : Walk) → w.depth ≡ 0 → begun_at w ≡ w.at
+begun_first w none = ap (λ d. begun_at (record w { depth = d })) none
 
--- wherever the walk goes on, it began at the first place
-begun_back : (path : List ℕ) (place : ℕ) → begun_at path place (get_or path place 0) ≡ get_or path 0 0
-begun_back path zero = refl
-begun_back path (suc place) = begun_later path (suc place) (get_or path (suc place) 0) (omega arith)
+-- with one variable more on the path it began there too
+begun_pushed : (w : Walk) → w.depth < length w.path.items → get_or (set w.path.items w.depth w.at) 0 0 ≡ begun_at w
+begun_pushed w within = elim (cases_eq w.depth 0) [
+  | inl none ↦
+      ap (λ d. get_or (set w.path.items d w.at) 0 0) none
+      ∙ get_or-set_same w.path.items 0 w.at 0 (omega arith) ∙ sym (begun_first w none)
+  | inr some ↦
+      get_or-set_other w.path.items w.depth 0 w.at 0 (λ e. absurd (omega arith))
+      ∙ sym (begun_later w (omega arith))
+]
+
+-- at whatever place of its path the walk goes on, it began at the first
+begun_back : (w : Walk) (place : ℕ) → begun_at (record w { depth = place; at = get_or w.path.items place 0 })
+    ≡ get_or w.path.items 0 0
+begun_back w zero = refl
+begun_back w (suc place) =
+    begun_later (record w { depth = suc place; at = get_or w.path.items (suc place) 0 }) (omega arith)
 
 module _ (t : CycleTable) (c marks path : List ℕ) (depth v : ℕ) (sized : AreSized t c marks path)
     (is : GoesOn t c marks path depth v) where
@@ -93,166 +107,209 @@ module _ (t : CycleTable) (c marks path : List ℕ) (depth v : ℕ) (sized : Are
         ]
       ]
 
-module _ (t : CycleTable) (old : Walked) (marks path new_marks new_path : List ℕ) (depth v : ℕ)
-    (walks : Walks t old marks path depth v)
-    (marks_are : new_marks ≡ set marks v (depth + 1)) (path_is : new_path ≡ set path depth v) where
+module _ (w n : Walk) (walks : Walks w) (ext : Extends w n) where
+  -- the walk with the new marks and the new path
+  abbrev pub went : Walk
+  went = record w { marks = n.marks; path = n.path }
+
+  -- there is room on the path
+  pub went_room : w.depth < length w.current.heads
+  went_room = room_for_more w.current w.walked.cursors w.marks.items w.path.items w.depth w.at walks.goes_on
+
+  pub went_few : suc w.depth < settled
+  went_few = few w.current w.walked.cursors w.marks.items w.path.items w.depth w.at walks.sized walks.goes_on
+
   -- a step settles no variable, and none less
-  pub went_stay : StaySettled marks new_marks
+  pub went_stay : StaySettled w went
   went_stay u at =
-      let one : suc depth ≡ depth + 1 = omega arith in
-      subst (λ xs. IsSettled xs u) (ap (set marks v) one ∙ sym marks_are)
-      (pushed_stay t old.cursors marks path depth v walks.sized walks.goes_on u at)
+      let one : suc w.depth ≡ w.depth + 1 = omega arith in
+      subst (λ xs. IsSettled xs u) (ap (set w.marks.items w.at) one ∙ sym ext.marks)
+      (pushed_stay w.current w.walked.cursors w.marks.items w.path.items w.depth w.at walks.sized walks.goes_on u at)
 
-  went_before : StaySettled new_marks marks
+  went_before : StaySettled went w
   went_before u at =
-      let one : suc depth ≡ depth + 1 = omega arith in
-      pushed_before t old.cursors marks path depth v walks.sized walks.goes_on u
-      (subst (λ xs. IsSettled xs u) (marks_are ∙ ap (set marks v) (sym one)) at)
+      let one : suc w.depth ≡ w.depth + 1 = omega arith in
+      pushed_before w.current w.walked.cursors w.marks.items w.path.items w.depth w.at walks.sized walks.goes_on u
+      (subst (λ xs. IsSettled xs u) (ext.marks ∙ ap (set w.marks.items w.at) (sym one)) at)
 
-  went_room : depth < length t.heads
-  went_room = room_for_more t old.cursors marks path depth v walks.goes_on
+  -- the sizes are as they were
+  pub went_sized : IsSized went
+  went_sized = sized_same w.current w.walked.cursors w.marks.items w.path.items n.marks.items n.path.items
+      (ap length ext.marks ∙ length-set w.marks.items w.at (w.depth + 1))
+      (ap length ext.path ∙ length-set w.path.items w.depth w.at) walks.sized
 
-  went_sized : AreSized t old.cursors new_marks new_path
-  went_sized = sized_same t old.cursors marks path new_marks new_path (ap length marks_are
-      ∙ length-set marks v (depth + 1))
-      (ap length path_is ∙ length-set path depth v) walks.sized
+  -- and so are the variables that are done
+  went_done : HasDone went
+  went_done = done_same w.current w.walked.cursors (IsSettled w.marks.items) (IsSettled n.marks.items) w.walked.stuck
+      went_stay went_before walks.done
 
-  went_done : AreDone t old.cursors (IsSettled new_marks) old.stuck
-  went_done = done_same t old.cursors (IsSettled marks) (IsSettled new_marks) old.stuck went_stay went_before walks.done
-
-  went_begun : get_or new_path 0 0 ≡ begun_at path depth v
-  went_begun = ap (λ xs. get_or xs 0 0) path_is
-      ∙ begun_pushed path depth v (let room = went_room in omega (arith, room, walks.sized.places_are))
-
-  pub went_few : suc depth < settled
-  went_few = few t old.cursors marks path depth v walks.sized walks.goes_on
+  -- the walk began where its path begins
+  went_begun : get_or n.path.items 0 0 ≡ begun_at w
+  went_begun = ap (λ xs. get_or xs 0 0) ext.path
+      ∙ begun_pushed w (let room = went_room in omega (arith, room, walks.sized.places_are))
 
   -- the walk goes on
-  pub advances_on : (w : ℕ) → GoesOn t old.cursors new_marks new_path (suc depth) w
-      → GoesTo t old old new_marks new_path depth (begun_at path depth v) (record { variable = w; depth = depth + 1 })
-  advances_on w goes_on =
-      let one : suc depth ≡ depth + 1 = omega arith in
+  pub advances_on : (v : ℕ) → GoesOn w.current w.walked.cursors n.marks.items n.path.items (suc w.depth) v
+      → GoesTo w (record went { depth = w.depth + 1; at = v })
+  advances_on v goes_on =
+      let one : suc w.depth ≡ w.depth + 1 = omega arith in
       let room = went_room in
+      let next : Walk = record went { depth = w.depth + 1; at = v } in
       record {
         walks = record {
           sized = went_sized;
-          goes_on = subst (λ n. GoesOn t old.cursors new_marks new_path n w) one goes_on;
+          goes_on = subst (λ m. GoesOn w.current w.walked.cursors n.marks.items n.path.items m v) one goes_on;
           done = went_done;
+          last = walks.last;
           room = walks.room;
         };
-        begun = begun_later new_path (depth + 1) w (omega arith) ∙ went_begun;
+        begun = begun_later next (omega arith) ∙ went_begun;
         nearer = omega arith;
       }
 
   -- the walk is over where all is settled
-  pub advances_rests : IsPath t old.cursors new_marks new_path (suc depth)
-      × ((w : ℕ) → current_head t old.cursors (get_or new_path depth 0) ≡ Some w → IsSettled new_marks w)
-      → Ends t old new_marks new_path depth (begun_at path depth v)
+  pub advances_rests : HasPath went (suc w.depth)
+      × ((v : ℕ) → current_head w.current w.walked.cursors (get_or n.path.items w.depth 0) ≡ Some v
+      → IsSettled n.marks.items v)
+      → Ends w went
   advances_rests (trail, rests) = record {
     over = record {
       sized = went_sized;
       trail = trail;
-      done = done_rests t old.cursors new_marks new_path depth old.stuck trail rests went_done;
+      done = done_rests w.current w.walked.cursors n.marks.items n.path.items w.depth w.walked.stuck trail rests
+          went_done;
+      last = walks.last;
       room = walks.room;
     };
     begun = went_begun;
   }
 
-  -- the path closes a loop
-  pub advances_closed : (place : ℕ) → Closes t old.cursors new_marks new_path depth place
-      → IsClosed t old.cursors new_path depth place (loop_of t old.cursors new_path depth place)
-  advances_closed place closes =
-      let room = went_room in
-      closed t old.cursors new_path depth place (omega (arith, room, went_sized.places_are))
-      (closes_round t old.cursors new_marks new_path depth place closes)
+  module _ (place : ℕ)
+      (closes : Closes w.current w.walked.cursors n.marks.items n.path.items w.depth place) where
+    -- the cycle that the path closes
+    abbrev pub went_cycle : Cube
+    went_cycle = loop_of w.current w.walked.cursors n.path.items w.depth place
 
-  -- its cycle was popped or noted
-  pub advances_by : (place : ℕ) (new : Walked) (last_marks : List ℕ) (same : CycleTable) (popped : Bool) → same ≡ t
-      → Closes t old.cursors new_marks new_path depth place
-      → PopsOrNotes same old new (slice_range new_path place (depth + 1)) new_marks last_marks popped
-      → MatchBool popped
-      (Pops t old new (slice_range new_path place (depth + 1)) new_marks last_marks (loop_of t old.cursors new_path
-      depth place))
-      (Notes t old new new_marks last_marks (loop_of t old.cursors new_path depth place))
-  advances_by place new last_marks same popped is closes by =
-      subst (λ u. PopsOrNotes u old new (slice_range new_path place (depth + 1)) new_marks last_marks popped) is by
-      (loop_of t old.cursors new_path depth place) (advances_closed place closes).cube
+    -- its variables
+    abbrev pub went_members : List ℕ
+    went_members = slice_range n.path.items place (w.depth + 1)
 
-  -- its cycle can't be popped
-  pub advances_noted : (place : ℕ) (new : Walked) (last_marks : List ℕ)
-      → Closes t old.cursors new_marks new_path depth place
-      → Notes t old new new_marks last_marks (loop_of t old.cursors new_path depth place)
-      → Ends t new last_marks new_path depth (begun_at path depth v)
-  advances_noted place new last_marks closes notes =
-      let e = loop_of t old.cursors new_path depth place in
-      subst (λ ms. Ends t new ms new_path depth (begun_at path depth v)) (sym notes.same_marks)
-      (subst (λ w. Ends t w new_marks new_path depth (begun_at path depth v)) (sym notes.noted) (record {
-        over = record {
-          sized = went_sized;
-          trail = closes.trail;
-          done = done_stuck t old.cursors new_marks new_path depth place old.stuck e went_few closes
-              (advances_closed place closes) notes.last went_done;
-          room = walks.room;
-        };
-        begun = went_begun;
-      }))
+    -- they are a loop
+    pub went_loop : IsClosed w.current w.walked.cursors n.path.items w.depth place went_cycle
+    went_loop = closes_here w.current w.walked.cursors n.marks.items n.path.items w.depth place went_sized closes
 
-  -- its cycle was popped
-  pub advances_popped : (place : ℕ) (new : Walked) (last_marks members : List ℕ)
-      → Closes t old.cursors new_marks new_path depth place
-      → members ≡ slice_range new_path place (depth + 1)
-      → Pops t old new members new_marks last_marks (loop_of t old.cursors new_path depth place)
-      → GoesTo t old new last_marks new_path depth (begun_at path depth v)
-      (record { variable = get_or new_path place 0; depth = place })
-  advances_popped place new last_marks members closes are pops =
-      let e = loop_of t old.cursors new_path depth place in
-      let loop = advances_closed place closes in
-      let order = closes.order in
-      let within = went_room in
-      let unmarked : Marks (slice_range new_path place (depth + 1)) (length (slice_range new_path place (depth + 1))) 0
-      new_marks last_marks = subst (λ xs. Marks xs (length xs) 0 new_marks last_marks) are pops.unmarked in
-      let un = marks_places new_path place (depth + 1) 0 new_marks last_marks (omega arith)
-      (omega (arith, within, went_sized.places_are)) unmarked in
-      let falls = pop_falls t old.cursors new_path depth place e went_sized.cursors.count loop pops.next in
-      let room = walks.room in
-      subst (λ w. GoesTo t old w last_marks new_path depth (begun_at path depth v)
-      (record { variable = get_or new_path place 0; depth = place })) (sym pops.popped) (record {
-        walks = record {
-          sized = sized_popped t old.cursors new_marks new_path last_marks e pops.next unmarked.count went_sized;
-          goes_on = popped_goes_on t old.cursors new_marks new_path last_marks depth place e went_few closes loop un;
-          done = popped_done t old.cursors new_marks new_path last_marks depth place e went_few closes loop un old.stuck
-              went_done;
-          room = omega (arith, falls, room);
-        };
-        begun = begun_back new_path place ∙ went_begun;
-        nearer = work_falls t old.cursors (pop old.cursors e) depth place falls;
+    -- where the cycle can't be popped the walk is over
+    pub advances_noted : (w.walked.pops < w.walked.limit → HasNext w.current.stacks w.walked.cursors went_cycle → ⊥)
+        → Ends w (record went { walked = with_stuck w.walked went_cycle })
+    advances_noted last = record {
+      over = record {
+        sized = went_sized;
+        trail = closes.trail;
+        done = done_stuck w.current w.walked.cursors n.marks.items n.path.items w.depth place w.walked.stuck went_cycle
+            went_few closes went_loop went_done;
+        last = λ few f has. elim (Contains-push_cases w.walked.stuck (cycle_event went_cycle) f has) [
+          | inl before ↦ walks.last few f before
+          | inr this ↦ subst (λ g. HasNext w.current.stacks w.walked.cursors g.cube → ⊥) this (last few)
+        ];
+        room = walks.room;
+      };
+      begun = went_begun;
+    }
+
+    module _ (m : Walk) (few : w.walked.pops < w.walked.limit)
+        (next : HasNext w.current.stacks w.walked.cursors went_cycle)
+        (unmarked : Marks went_members (length went_members) 0 n.marks.items m.marks.items) where
+      -- the marks of its variables are gone
+      went_unmarked : MarksPlaces n.path.items place (w.depth + 1) 0 n.marks.items m.marks.items
+      went_unmarked =
+          let order = closes.order in
+          let room = went_room in
+          marks_places n.path.items place (w.depth + 1) 0 n.marks.items m.marks.items (omega arith)
+          (omega (arith, room, went_sized.places_are)) unmarked
+
+      -- where the cycle was popped the walk goes on from where it closed
+      pub advances_popped : GoesTo w (record went {
+        walked = with_pop w.walked went_cycle;
+        marks = m.marks;
+        depth = place;
+        at = get_or n.path.items place 0;
       })
+      advances_popped =
+          let t = w.current in
+          let c = w.walked.cursors in
+          let falls = pop_falls t c n.path.items w.depth place went_cycle went_sized.cursors.count went_loop next in
+          let room = walks.room in
+          record {
+            walks = record {
+              sized = sized_popped t c n.marks.items n.path.items m.marks.items went_cycle next unmarked.count went_sized;
+              goes_on = popped_goes_on t c n.marks.items n.path.items m.marks.items w.depth place went_cycle went_few closes
+                  went_loop went_unmarked;
+              done = popped_done t c n.marks.items n.path.items m.marks.items w.depth place went_cycle went_few closes
+                  went_loop went_unmarked w.walked.stuck went_done;
+              last = λ few' f has. last_popped t c (IsSettled n.marks.items) w.walked.stuck went_cycle
+                  (popped_off t c n.marks.items n.path.items m.marks.items w.depth place went_cycle went_few closes
+                  went_loop went_unmarked) went_done (walks.last few) f has;
+              room = omega (arith, falls, room);
+            };
+            begun = begun_back went place ∙ went_begun;
+            nearer = work_falls (length t.heads) (left_from t.stacks 0 c) (left_from t.stacks 0 (pop c went_cycle)) w.depth
+                place falls;
+          }
 
-  -- settled variables stay so
-  pub advances_stay : (place : ℕ) (new : Walked) (last_marks members : List ℕ)
-      → Closes t old.cursors new_marks new_path depth place
-      → members ≡ slice_range new_path place (depth + 1)
-      → Pops t old new members new_marks last_marks (loop_of t old.cursors new_path depth place)
-      → StaySettled marks last_marks
-  advances_stay place new last_marks members closes are pops u at =
-      let e = loop_of t old.cursors new_path depth place in
-      let order = closes.order in
-      let within = went_room in
-      let unmarked : Marks (slice_range new_path place (depth + 1)) (length (slice_range new_path place (depth + 1))) 0
-      new_marks last_marks = subst (λ xs. Marks xs (length xs) 0 new_marks last_marks) are pops.unmarked in
-      let un = marks_places new_path place (depth + 1) 0 new_marks last_marks (omega arith)
-      (omega (arith, within, went_sized.places_are)) unmarked in
-      popped_stay t old.cursors new_marks new_path last_marks depth place e went_few closes (advances_closed place
-      closes)
-      un u (went_stay u at)
+      -- settled variables stay so
+      pub popped_keeps : (u : ℕ) → IsSettled w.marks.items u → IsSettled m.marks.items u
+      popped_keeps u at =
+          popped_stay w.current w.walked.cursors n.marks.items n.path.items m.marks.items w.depth place went_cycle went_few
+          closes went_loop went_unmarked u (went_stay u at)
 
-  -- the pop is legal
-  pub advances_runs : (place : ℕ) (new : Walked) (last_marks members : List ℕ)
-      → Closes t old.cursors new_marks new_path depth place
-      → Pops t old new members new_marks last_marks (loop_of t old.cursors new_path depth place)
-      → RunsOn t old new
-  advances_runs place new last_marks members closes pops =
-      let e = loop_of t old.cursors new_path depth place in
-      let loop = advances_closed place closes in
-      runs_popped t old new e (loop.cycle, refl)
-      (record { occurs = cube_occurs t old.cursors _ e loop.cube; next = pops.next }) pops.popped
+      -- the pop is legal
+      pub popped_runs : RunsOn w.current w.walked (with_pop w.walked went_cycle)
+      popped_runs =
+          runs_popped w.current w.walked (with_pop w.walked went_cycle) went_cycle few (went_loop.cycle, refl)
+          (record { occurs = cube_occurs w.current w.walked.cursors _ went_cycle went_loop.cube; next = next }) refl
+
+    module _ (m : Walk) where
+      -- what was done with the cycle
+      pub closed_by : (popped : Bool) → PopsOrNotes n m (slice_range n.path.items place (n.depth + 1)) popped
+          → MatchBool popped (Pops went m went_members went_cycle) (Notes went m went_cycle)
+      closed_by popped by =
+          subst (λ (x : Walk). PopsOrNotes x m (slice_range x.path.items place (x.depth + 1)) popped) ext.others by went_cycle
+          went_loop.cube
+
+      -- it was popped: the walk goes on from where it closed
+      pub pops_goes_to : Pops went m went_members went_cycle
+          → GoesTo w (record m { depth = place; at = get_or m.path.items place 0 })
+      pops_goes_to pops =
+          subst (λ (x : Walk). GoesTo w (record x { depth = place; at = get_or x.path.items place 0 })) (sym pops.popped)
+          (advances_popped m pops.few pops.next pops.unmarked)
+
+      -- the pop is legal
+      pub pops_runs : Pops went m went_members went_cycle → RunsOn w.current w.walked m.walked
+      pops_runs pops =
+          subst (λ (x : Walk). RunsOn w.current w.walked x.walked) (sym pops.popped)
+          (popped_runs m pops.few pops.next pops.unmarked)
+
+      -- settled variables stay so
+      pub pops_keeps : Pops went m went_members went_cycle → StaySettled w m
+      pops_keeps pops u at = popped_keeps m pops.few pops.next pops.unmarked u at
+
+      -- on the same arrows
+      pub pops_current : Pops went m went_members went_cycle → m.current ≡ w.current
+      pops_current pops = ap (λ (x : Walk). x.current) pops.popped
+
+      -- it was noted: the walk is over
+      pub notes_ends : Notes went m went_cycle → Ends w m
+      notes_ends notes = subst (Ends w) (sym notes.noted) (advances_noted notes.last)
+
+      -- with no pop
+      pub notes_runs : Notes went m went_cycle → RunsOn w.current w.walked m.walked
+      notes_runs notes =
+          runs_noted w.current w.walked m.walked went_cycle (ap (λ (x : Walk). x.walked) notes.noted)
+
+      -- settled variables stay so
+      pub notes_keeps : Notes went m went_cycle → StaySettled w m
+      notes_keeps notes = subst (StaySettled w) (sym notes.noted) went_stay
+
+      -- on the same arrows
+      pub notes_current : Notes went m went_cycle → m.current ≡ w.current
+      notes_current notes = ap (λ (x : Walk). x.current) notes.noted

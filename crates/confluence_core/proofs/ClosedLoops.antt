@@ -39,7 +39,7 @@ abbrev pub loop_of : CycleTable → List ℕ → List ℕ → ℕ → ℕ → Cu
 loop_of t c path depth place = loop_cube (current_slot t c) (at_place path) place (suc (depth - place))
 
 -- the current arrows lead along the variables from a place on, none of which stands there twice, and back to the first
-pub record LeadsRound (t : CycleTable) (c path : List ℕ) (depth place : ℕ) : Type 0 where
+pub record ClosesLoop (t : CycleTable) (c path : List ℕ) (depth place : ℕ) : Type 0 where
   pub order : place ≤ depth
   pub below : (k : ℕ) → place ≤ k → k ≤ depth → get_or path k 0 < length t.heads
   pub distinct : (j k : ℕ) → place ≤ j → j < k → k ≤ depth → get_or path j 0 ≢ get_or path k 0
@@ -47,9 +47,9 @@ pub record LeadsRound (t : CycleTable) (c path : List ℕ) (depth place : ℕ) :
   pub back : current_head t c (get_or path depth 0) ≡ Some (get_or path place 0)
 
 -- so do they where a path closes
-pub closes_round : (t : CycleTable) (c marks path : List ℕ) (depth place : ℕ) → Closes t c marks path depth place
-    → LeadsRound t c path depth place
-closes_round t c marks path depth place is = record {
+pub closes_loop : (t : CycleTable) (c marks path : List ℕ) (depth place : ℕ) → Closes t c marks path depth place
+    → ClosesLoop t c path depth place
+closes_loop t c marks path depth place is = record {
   order = is.order;
   below = λ k from within. is.trail.below k (omega arith);
   distinct = λ j k from less within.
@@ -58,14 +58,14 @@ closes_round t c marks path depth place is = record {
   back = is.back;
 }
 
-loop_distinct : (t : CycleTable) (c path : List ℕ) (depth place : ℕ) → LeadsRound t c path depth place
+loop_distinct : (t : CycleTable) (c path : List ℕ) (depth place : ℕ) → ClosesLoop t c path depth place
     → Distinct (at_place path) place (suc (depth - place))
 loop_distinct t c path depth place is a b from less below =
     let order = is.order in is.distinct a b from less (omega arith)
 
-loop_round : (t : CycleTable) (c path : List ℕ) (depth place : ℕ) → LeadsRound t c path depth place
+loop_leads : (t : CycleTable) (c path : List ℕ) (depth place : ℕ) → ClosesLoop t c path depth place
     → IsLoop t.heads (current_slot t c) (at_place path) place (depth - place)
-loop_round t c path depth place is =
+loop_leads t c path depth place is =
     let order = is.order in
     let last : depth ≡ place + (depth - place) = omega arith in
     record {
@@ -75,7 +75,7 @@ loop_round t c path depth place is =
     }
 
 -- each of its variables has its current slot there
-loop_demands : (t : CycleTable) (c path : List ℕ) (depth place : ℕ) → LeadsRound t c path depth place
+loop_demands : (t : CycleTable) (c path : List ℕ) (depth place : ℕ) → ClosesLoop t c path depth place
     → (k : ℕ) → place ≤ k → k ≤ depth
     → demand (loop_of t c path depth place) (get_or path k 0) ≡ Some (current_slot t c (get_or path k 0))
 loop_demands t c path depth place is k from below =
@@ -90,7 +90,7 @@ record StandsAt (t : CycleTable) (c path : List ℕ) (depth place v x : ℕ) : T
   is : get_or path at 0 ≡ v
   value : current_slot t c v ≡ x
 
-loop_demanded : (t : CycleTable) (c path : List ℕ) (depth place : ℕ) → LeadsRound t c path depth place
+loop_demanded : (t : CycleTable) (c path : List ℕ) (depth place : ℕ) → ClosesLoop t c path depth place
     → (v x : ℕ) → demand (loop_of t c path depth place) v ≡ Some x → StandsAt t c path depth place v x
 loop_demanded t c path depth place is v x demanded =
     let order = is.order in
@@ -106,7 +106,7 @@ loop_demanded t c path depth place is v x demanded =
 
 -- such variables are a loop
 pub closed : (t : CycleTable) (c path : List ℕ) (depth place : ℕ) → depth < length path
-    → LeadsRound t c path depth place → IsClosed t c path depth place (loop_of t c path depth place)
+    → ClosesLoop t c path depth place → IsClosed t c path depth place (loop_of t c path depth place)
 closed t c path depth place within is =
     let e = loop_of t c path depth place in
     let order = is.order in
@@ -117,7 +117,7 @@ closed t c path depth place within is =
     λ k less. range_at path place (depth + 1) k (omega (arith, size)) in
     let cycle : IsCycle t.heads e =
     loop_is_cycle t.heads (current_slot t c) (at_place path) place (depth - place)
-    (loop_round t c path depth place is) in
+    (loop_leads t c path depth place is) in
     let on_path : (v : ℕ) → Contains members v → (k : ℕ) × (place ≤ k) × (k ≤ depth) × (get_or path k 0 ≡ v) =
     λ v has. let there = place_of members v has in
     (place + there.0, omega arith, omega (arith, size, there.1), sym (at there.0 there.1) ∙ there.2) in

@@ -1,7 +1,7 @@
 -- Variables that are done. The arrows lead from them to such or to the root, and the cycles through them that occur are
--- noted and stuck. A pop leaves that as it is, since it moves no variable that is done: a cycle that it makes occur and
+-- noted. A pop leaves that as it is, since it moves no variable that is done: a cycle that it makes occur and
 -- that has such a variable would have them alone. When a walk is over, what it met is done too: its last arrow leads to
--- what is done, or closes a cycle that can't be popped and is noted.
+-- what is done, or closes a cycle that is noted.
 use Rattle.std.proofs.Common.{inl, inr, ◌≡◌, ◌≢◌, ℕ, zero, suc, ◌+◌, ◌<◌, true, false, List, [], ◌∷◌, ◌++◌, get_or, Some, refl, sym, ap, subst, ◌∙◌, arith, Contains}
 use Rattle.std.proofs.lemmas.Bool.{cases_eq}
 use Rattle.std.proofs.lemmas.Option.{same_Some}
@@ -15,7 +15,7 @@ use Rattle.pop_model.proofs.PopLemmas.{cursor-pop_other}
 use Rattle.pop_model.proofs.Diamond.{names_it}
 use Rattle.pop_model.proofs.Following.{follow_last}
 use Rattle.pop_model.proofs.CycleFamily.{first_named, same_cycle, Agree}
-use Rattle.pop_model.proofs.TreeEnd.{stays_at, round_at, occurs_demand}
+use Rattle.pop_model.proofs.TreeEnd.{stays_at, leads_at, occurs_demand}
 use Rattle.confluence_core.specs.CycleTables.{CycleTable, current_head}
 use Rattle.confluence_core.specs.Walks.{settled, IsSettled, IsMet, AreDone, IsStuckCycle, IsPath, Closes, cycle_event}
 use Rattle.confluence_core.proofs.LoopCubes.{cube_occurs}
@@ -47,13 +47,13 @@ done_follow t c Done closed (suc k) v w at leads =
     closed last.0 w (done_follow t c Done closed k v last.0 at last.1) last.2
 
 -- so a cycle that occurs and has one such variable has them alone
-pub done_round : (t : CycleTable) (c : List ℕ) (Done : ℕ → Type 0)
+pub done_cycle : (t : CycleTable) (c : List ℕ) (Done : ℕ → Type 0)
     → ((v w : ℕ) → Done v → current_head t c v ≡ Some w → Done w)
     → (e : Cube) (v w : ℕ) → IsCycle t.heads e → Occurs t.stacks c e → Done v → names e v ≡ true → names e w ≡ true
     → Done w
-done_round t c Done closed e v w cycle occurs at v_in w_in =
-    let round = round_at t.heads t.stacks c e v w cycle occurs v_in w_in in
-    done_follow t c Done closed round.0 v w at round.1
+done_cycle t c Done closed e v w cycle occurs at v_in w_in =
+    let leads = leads_at t.heads t.stacks c e v w cycle occurs v_in w_in in
+    done_follow t c Done closed leads.0 v w at leads.1
 
 -- the same variables under another name
 pub done_same : (t : CycleTable) (c : List ℕ) (Done Other : ℕ → Type 0) (stuck : List Event)
@@ -62,7 +62,7 @@ done_same t c Done Other stuck to from old = record {
   closed = λ v w at leads. to w (old.closed v w (from v at) leads);
   found = λ v e at cycle named occurs. old.found v e (from v at) cycle named occurs;
   are_stuck = λ e has. let is = old.are_stuck e has in
-      record { event = is.event; occurs = is.occurs; last = is.last; done = λ v named. to v (is.done v named) };
+      record { event = is.event; occurs = is.occurs; done = λ v named. to v (is.done v named) };
   differ = old.differ;
 }
 
@@ -82,7 +82,7 @@ done_popped t c Done stuck e off old =
       found = λ v f at cycle named occurs.
           old.found v f at cycle named (occurs_by t (pop c e) c f
           (λ w w_in. sym (cursor-pop_other c e w (off w
-          (done_round t (pop c e) Done closed f v w cycle occurs at named w_in)))) occurs);
+          (done_cycle t (pop c e) Done closed f v w cycle occurs at named w_in)))) occurs);
       are_stuck = λ f has.
           let is = old.are_stuck f has in
           let kept : (v : ℕ) → names f.cube v ≡ true → cursor (pop c e) v ≡ cursor c v =
@@ -90,11 +90,19 @@ done_popped t c Done stuck e off old =
           record {
             event = is.event;
             occurs = occurs_by t c (pop c e) f.cube kept is.occurs;
-            last = λ next. is.last (next_by t c (pop c e) f.cube kept next);
             done = is.done;
           };
       differ = old.differ;
     }
+
+-- so none of the noted cycles can be popped after it, where none could before
+pub last_popped : (t : CycleTable) (c : List ℕ) (Done : ℕ → Type 0) (stuck : List Event) (e : Cube)
+    → ((v : ℕ) → Done v → names e v ≡ false) → AreDone t c Done stuck
+    → ((f : Event) → Contains stuck f → HasNext t.stacks c f.cube → ⊥)
+    → (f : Event) → Contains stuck f → HasNext t.stacks (pop c e) f.cube → ⊥
+last_popped t c Done stuck e off old last f has next =
+    let is = old.are_stuck f has in
+    last f has (next_by t c (pop c e) f.cube (λ v named. cursor-pop_other c e v (off v (is.done v named))) next)
 
 -- a path whose last arrow leads to a settled variable or to the root
 pub done_rests : (t : CycleTable) (c marks path : List ℕ) (depth : ℕ) (stuck : List Event)
@@ -121,16 +129,16 @@ done_rests t c marks path depth stuck is rests old = record {
         old.found on.next e (rests on.next on.leads) cycle on.named occurs
   ];
   are_stuck = λ e has. let s = old.are_stuck e has in
-      record { event = s.event; occurs = s.occurs; last = s.last; done = λ v named. inl (s.done v named) };
+      record { event = s.event; occurs = s.occurs; done = λ v named. inl (s.done v named) };
   differ = old.differ;
 }
 
--- a path that closes a cycle which can't be popped: this one is noted
+-- a path that closes a cycle: this one is noted
 pub done_stuck : (t : CycleTable) (c marks path : List ℕ) (depth place : ℕ) (stuck : List Event) (e : Cube)
     → suc depth < settled → Closes t c marks path depth place → IsClosed t c path depth place e
-    → (HasNext t.stacks c e → ⊥) → AreDone t c (IsSettled marks) stuck
+    → AreDone t c (IsSettled marks) stuck
     → AreDone t c (IsMet marks path (suc depth)) (stuck ++ cycle_event e ∷ [])
-done_stuck t c marks path depth place stuck e few is loop last old = record {
+done_stuck t c marks path depth place stuck e few is loop old = record {
   closed = λ v w met leads. elim met [
     | inl at ↦ inl (old.closed v w at leads)
     | inr (k, less, at) ↦
@@ -166,11 +174,10 @@ done_stuck t c marks path depth place stuck e few is loop last old = record {
   ];
   are_stuck = λ f has. elim (Contains-push_cases stuck (cycle_event e) f has) [
     | inl before ↦ let s = old.are_stuck f before in
-        record { event = s.event; occurs = s.occurs; last = s.last; done = λ v named. inl (s.done v named) }
+        record { event = s.event; occurs = s.occurs; done = λ v named. inl (s.done v named) }
     | inr this ↦ subst (IsStuckCycle t c (IsMet marks path (suc depth))) this (record {
       event = (loop.cycle, refl);
       occurs = cube_occurs t c _ e loop.cube;
-      last = last;
       done = λ v named.
           let there = loop.on_only v named in
           let below = there.2 in

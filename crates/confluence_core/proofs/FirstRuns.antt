@@ -5,7 +5,7 @@ use Rattle.pop_model.specs.Families.{Event}
 use Rattle.pop_model.specs.Instances.{Instance}
 use Rattle.pop_model.specs.Logs.{LogRecord, IsLegalAt, replay}
 use Rattle.pop_model.specs.Runs.{IsEnd, IsFirstPoppable, IsFirstRun, IsFirstEnd, IsStuckList, start_of}
-use Rattle.pop_model.proofs.UniqueEnd.{record_of}
+use Rattle.confluence_core.specs.Records.{record_at}
 
 -- with this many pops made, and this log to come, the whole is a run from the start
 pub record Completes (i : Instance) (c : List ℕ) (pops : ℕ) (log : List LogRecord) : Type 0 where
@@ -32,9 +32,9 @@ complete_none i c e log run = record {
 pub complete_more : (i : Instance) (c : List ℕ) (pops : ℕ) (e : Event) → IsFirstPoppable i c e → CanComplete i c pops
     → CanComplete i (pop c e.cube) (pops + 1)
 complete_more i c pops e first old log run =
-    let legal : IsLegalAt i c (record_of c e) =
+    let legal : IsLegalAt i c (record_at e.unit e.cube c) =
     record { event = first.event; poppable = first.poppable; entries = refl } in
-    let all = old (record_of c e ∷ log) (first, legal, run) in
+    let all = old (record_at e.unit e.cube c ∷ log) (first, legal, run) in
     record { whole = all.whole; run = all.run; end = all.end; size = omega (arith, all.size) }
 
 -- at an end the pops are those of the one-thread run

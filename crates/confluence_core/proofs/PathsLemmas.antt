@@ -8,7 +8,7 @@ use Rattle.pop_model.specs.Cycles.{IsCycle}
 use Rattle.pop_model.proofs.Loops.{Distinct, path_short}
 use Rattle.pop_model.proofs.TreeEnd.{stays_at}
 use Rattle.confluence_core.specs.CycleTables.{CycleTable, current_head}
-use Rattle.confluence_core.specs.Walks.{settled, IsSettled, AreSized, IsPath, GoesOn, StaySettled}
+use Rattle.confluence_core.specs.Walks.{settled, IsSettled, AreSized, IsPath, GoesOn}
 
 -- the variable at a place of the path
 abbrev pub at_place : List ℕ → ℕ → ℕ
@@ -22,6 +22,13 @@ path_distinct t c marks path depth is a b from less below same =
     let two = is.marked b (omega arith) in
     let equal : suc a ≡ suc b = sym one ∙ ap (λ v. get_or marks v 0) same ∙ two in
     absurd (omega arith)
+
+-- so it has at most as many places as there are variables
+pub path_fits : (t : CycleTable) (c marks path : List ℕ) (depth : ℕ) → IsPath t c marks path depth
+    → depth ≤ length t.heads
+path_fits t c marks path depth is =
+    path_short (at_place path) 0 depth (length t.heads) (path_distinct t c marks path depth is)
+    (λ k from less. is.below k (omega arith))
 
 -- a variable without a mark isn't on the path
 pub fresh_off : (t : CycleTable) (c marks path : List ℕ) (depth v : ℕ) → IsPath t c marks path depth
@@ -122,7 +129,7 @@ module _ (t : CycleTable) (c marks path : List ℕ) (depth v : ℕ) (sized : Are
       omega (arith, room, units)
 
   -- which leaves settled variables settled
-  pub pushed_stay : StaySettled marks (set marks v (suc depth))
+  pub pushed_stay : (u : ℕ) → IsSettled marks u → IsSettled (set marks v (suc depth)) u
   pushed_stay u at = elim (cases_eq u v) [
     | inl same ↦
         let none : settled ≡ 0 = sym at ∙ ap (λ w. get_or marks w 0) same ∙ is.fresh in absurd (omega arith)
@@ -130,7 +137,7 @@ module _ (t : CycleTable) (c marks path : List ℕ) (depth v : ℕ) (sized : Are
   ]
 
   -- and settles none
-  pub pushed_before : StaySettled (set marks v (suc depth)) marks
+  pub pushed_before : (u : ℕ) → IsSettled (set marks v (suc depth)) u → IsSettled marks u
   pushed_before u at = elim (cases_eq u v) [
     | inl same ↦
         let within : v < length marks = omega (arith, is.below, sized.marks_are) in

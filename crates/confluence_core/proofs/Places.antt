@@ -7,8 +7,10 @@ use Rattle.pop_model.specs.Popping.{Cube, IsPoppable}
 use Rattle.pop_model.specs.Families.{Event, IsEvent}
 use Rattle.pop_model.specs.Families.Family.{Listed}
 use Rattle.pop_model.specs.Instances.{Instance}
+use Rattle.pop_model.specs.Logs.{IsLegalAt}
 use Rattle.pop_model.specs.Runs.{IsEnd, IsFirstPoppable}
 use Rattle.pop_instance.specs.Events.{cube_at}
+use Rattle.confluence_core.specs.Records.{record_at}
 use Rattle.confluence_core.specs.Search.{NoneBefore, IsFirstPlace}
 
 -- the instance of listed events
@@ -56,4 +58,13 @@ first_from s c rows place first = record {
         absurd (first.least.none_before f.unit before (subst (IsPoppable s c) (sym at.cube) pop))
     | inr after ↦ after
   ];
+}
+
+-- a poppable event of the rows may stand next in a log
+pub legal_at : (s : StackTable) (c : List ℕ) (rows : List (ℕ × Cube)) (place : ℕ) → place < length rows
+    → IsPoppable s c (cube_at rows place) → IsLegalAt (listed s rows) c (record_at place (cube_at rows place) c)
+legal_at s c rows place within poppable = record {
+  event = event_from rows (event_at rows place) within refl;
+  poppable = poppable;
+  entries = refl;
 }

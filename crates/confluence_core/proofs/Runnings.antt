@@ -1,5 +1,5 @@
 -- Legal logs one after another: what walks have left so far leads on to what they leave in the end.
-use Rattle.std.proofs.Common.{◌≡◌, ℕ, Bool, true, false, cond, List, [], ◌∷◌, ◌++◌, refl, sym, ap, subst, ◌∙◌, arith}
+use Rattle.std.proofs.Common.{◌≡◌, ◌<◌, ℕ, Bool, true, false, cond, List, [], ◌∷◌, ◌++◌, refl, sym, ap, subst, ◌∙◌, arith}
 use Rattle.std.proofs.lemmas.List.{append-nil, append_assoc, length-append}
 use Rattle.pop_model.specs.Popping.{Cube, IsPoppable, pop}
 use Rattle.pop_model.specs.Families.{IsEvent}
@@ -33,6 +33,8 @@ runs_none t w = record {
   pops_are = omega arith;
   log_is = either (keeps_log w.keep);
   keep_is = refl;
+  limit_is = refl;
+  most = λ most. most;
 }
   where
     either : (b : Bool) → w.log ≡ cond b (w.log ++ []) w.log
@@ -50,12 +52,14 @@ runs_noted t w new e is =
       pops_are = none.pops_are;
       log_is = none.log_is;
       keep_is = none.keep_is;
+      limit_is = refl;
+      most = λ most. most;
     })
 
 -- a cycle is popped
-pub runs_popped : (t : CycleTable) (w new : Walked) (e : Cube) → IsEvent (cycles t).family (cycle_event e)
+pub runs_popped : (t : CycleTable) (w new : Walked) (e : Cube) → w.pops < w.limit → IsEvent (cycles t).family (cycle_event e)
     → IsPoppable t.stacks w.cursors e → new ≡ with_pop w e → RunsOn t w new
-runs_popped t w new e event poppable is =
+runs_popped t w new e few event poppable is =
     subst (RunsOn t w) (sym is) (record {
       log = record_at (cycle_event e).unit e w.cursors ∷ [];
       legal = (record { event = event; poppable = poppable; entries = refl }, tt);
@@ -63,6 +67,8 @@ runs_popped t w new e event poppable is =
       pops_are = omega arith;
       log_is = refl;
       keep_is = refl;
+      limit_is = refl;
+      most = λ most. omega arith;
     })
 
 -- one after the other
@@ -77,6 +83,8 @@ runs_then t a b c first last = record {
   log_is = last.log_is ∙ ap (λ k. cond (keeps_log k) (b.log ++ last.log) b.log) first.keep_is
       ∙ either (keeps_log a.keep) first.log_is;
   keep_is = last.keep_is ∙ first.keep_is;
+  limit_is = last.limit_is ∙ first.limit_is;
+  most = λ most. last.most (first.most most);
 }
   where
     either : (keeps : Bool) → b.log ≡ cond keeps (a.log ++ first.log) a.log

@@ -36,7 +36,8 @@ keys_distinct {X = X} key xs differ = IsDistinct-from_apart eqb (map key xs) (ap
         ne_eqb (get_or (map key (x ∷ ys)) i d) (get_or (map key (x ∷ ys)) j d)
         (λ same. differ i j x less (omega arith) (sym low ∙ same ∙ high))
 
-eqb_comm : (m n : ℕ) → eqb m n ≡ eqb n m
+-- whether two numbers are equal doesn't depend on their order
+pub eqb_comm : (m n : ℕ) → eqb m n ≡ eqb n m
 eqb_comm m n = elim (cases_eq m n) [
   | inl same ↦ ap (λ k. eqb m k) (sym same) ∙ ap (λ k. eqb k m) same
   | inr differ ↦ ne_eqb m n differ ∙ sym (ne_eqb n m (λ h. differ (sym h)))

@@ -14,6 +14,7 @@ use Rattle.pop_instance.proofs.Increasing.{increasing_push}
 use Rattle.confluence_core.specs.Search.{OccursBelow, IsStuckBelow, NoneBefore, AllHaveNext}
 use Rattle.confluence_core.proofs.Places.{listed, event_at, event_from, event_to}
 
+-- the event of a unit and a cube
 event_with : ℕ → Cube → Event
 event_with u x = record { unit = u; cube = x }
 
@@ -27,10 +28,12 @@ stuck_none s c rows = record {
 
 module _ (s : StackTable) (c : List ℕ) (rows : List (ℕ × Cube)) (n : ℕ) (stuck : List Event)
     (old : IsStuckBelow s c rows n stuck) where
+  -- what occurs below a unit occurs below the next
   later : (e : Event) → OccursBelow s c rows n e → OccursBelow s c rows (n + 1) e
   later e h = let before = h.before in
       record { before = omega (arith, before); within = h.within; cube = h.cube; occurs = h.occurs }
 
+  -- the units are below the next one too
   below_more : All (λ e. e.unit < n + 1) stuck
   below_more = All-weaker (λ (e : Event). e.unit < n) (λ (e : Event). e.unit < n + 1)
       (λ e h. omega arith) stuck old.below

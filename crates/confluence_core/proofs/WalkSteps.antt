@@ -1,6 +1,6 @@
 -- The steps of a walk keep what holds in it, and take from the work that is left: the walk goes on to a variable that it
 -- hasn't met, a cycle that closes is popped, or the walk is over, and what it met is settled.
-use Rattle.std.proofs.Common.{inl, inr, ◌≡◌, ◌≢◌, ℕ, suc, ◌+◌, ◌-◌, ◌*◌, ◌<◌, ◌≤◌, true, false, List, length, take, get_or, Some, sym, ap, subst, ◌∙◌, arith}
+use Rattle.std.proofs.Common.{inl, inr, ◌≡◌, ◌≢◌, ℕ, suc, ◌+◌, ◌-◌, ◌*◌, ◌^◌, ◌<◌, ◌≤◌, true, false, List, length, take, get_or, Some, sym, ap, subst, ◌∙◌, arith}
 use Rattle.std.specs.List.{slice_range}
 use Rattle.std.proofs.lemmas.Bool.{cases_lt, cases_Bool, false≢true}
 use Rattle.std.proofs.lemmas.Nat.{mul-le}
@@ -12,11 +12,27 @@ use Rattle.pop_model.proofs.PopLemmas.{length-pop}
 use Rattle.pop_model.proofs.Room.{left_from, room_falls, within_pop}
 use Rattle.confluence_core.specs.CycleTables.{CycleTable}
 use Rattle.confluence_core.specs.Loops.{Marks}
-use Rattle.confluence_core.specs.Walks.{settled, IsSettled, AreDone, AreSized, GoesOn, Closes, StaySettled, work}
+use Rattle.confluence_core.specs.Walks.{settled, IsSettled, AreDone, AreSized, GoesOn, Closes}
 use Rattle.confluence_core.proofs.LoopCubes.{cube_all}
-use Rattle.confluence_core.proofs.PathsLemmas.{at_place, path_distinct, settled_off}
-use Rattle.confluence_core.proofs.ClosedLoops.{IsClosed, range_length, range_at}
+use Rattle.confluence_core.proofs.PathsLemmas.{at_place, path_distinct, path_fits, settled_off}
+use Rattle.confluence_core.proofs.ClosedLoops.{IsClosed, closed, closes_loop, loop_of, range_length, range_at}
 use Rattle.confluence_core.proofs.DoneVariables.{done_same, done_popped, arrow_kept}
+
+-- what a path closes is a loop
+pub closes_here : (t : CycleTable) (c marks path : List ℕ) (depth place : ℕ) → AreSized t c marks path
+    → Closes t c marks path depth place → IsClosed t c path depth place (loop_of t c path depth place)
+closes_here t c marks path depth place sized is =
+    let fits = path_fits t c marks path (suc depth) is.trail in
+    closed t c path depth place (omega (arith, fits, sized.places_are)) (closes_loop t c marks path depth place is)
+
+-- and a short one
+pub closes_short : (t : CycleTable) (c marks path : List ℕ) (depth place : ℕ) → AreSized t c marks path
+    → Closes t c marks path depth place → length (slice_range path place (depth + 1)) < 2 ^ 31
+closes_short t c marks path depth place sized is =
+    let fits = path_fits t c marks path (suc depth) is.trail in
+    let short = (closes_here t c marks path depth place sized is).short in
+    let units = sized.instance.units in
+    omega (arith, fits, short, units)
 
 -- marks at the places of a loop
 pub record MarksPlaces (path : List ℕ) (from end mark : ℕ) (marks new : List ℕ) : Type 0 where
@@ -91,12 +107,10 @@ pop_falls t c path depth place e count loop next =
     room_falls t.stacks c e loop.cycle.cube (loop_below t c path depth place e count loop) next
 
 -- so it makes the work less, wherever the walk goes on
-pub work_falls : (t : CycleTable) (c new : List ℕ) (depth place : ℕ) → left_from t.stacks 0 new < left_from t.stacks 0 c
-    → work t new place < work t c depth
-work_falls t c new depth place falls =
-    let n = length t.heads + 1 in
-    let before = left_from t.stacks 0 c in
-    let after = left_from t.stacks 0 new in
+pub work_falls : (count before after depth place : ℕ) → after < before
+    → after * (count + 1) + (count - place) < before * (count + 1) + (count - depth)
+work_falls count before after depth place falls =
+    let n = count + 1 in
     let most : (after + 1) * n ≤ before * n = mul-le (after + 1) n before n (omega arith) (omega arith) in
     let spread : (after + 1) * n ≡ after * n + 1 * n = add-mul after 1 n in
     omega (arith, most, spread)
@@ -127,11 +141,11 @@ module _ (t : CycleTable) (c marks path new_marks : List ℕ) (depth place : ℕ
   ]
 
   -- settled variables stay so
-  pub popped_stay : StaySettled marks new_marks
+  pub popped_stay : (v : ℕ) → IsSettled marks v → IsSettled new_marks v
   popped_stay v at = off_kept v (popped_off v at) ∙ at
 
   -- and no others are settled
-  pub popped_before : StaySettled new_marks marks
+  pub popped_before : (v : ℕ) → IsSettled new_marks v → IsSettled marks v
   popped_before v at = elim (cases_Bool (names e v)) [
     | inl there ↦ let none : settled ≡ 0 = sym at ∙ on_cleared v there in absurd (omega arith)
     | inr other ↦ sym (off_kept v other) ∙ at

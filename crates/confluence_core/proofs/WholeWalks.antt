@@ -1,29 +1,32 @@
 -- Walks as a whole: each begins at a variable without a mark and settles what it met; where every variable is settled
--- no cycle can be popped, and those that were noted are all that occur.
-use Rattle.std.proofs.Common.{inl, inr, ◌≡◌, ℕ, suc, ◌<◌, List, [], length, get_or, replicate, refl, sym, ap, subst, ◌∙◌, arith, Contains}
+-- those that were noted are all that occur.
+use Rattle.std.proofs.Common.{inl, inr, ◌≡◌, ℕ, suc, ◌+◌, ◌<◌, List, [], length, take, get_or, replicate, refl, sym, ap, subst, ◌∙◌, arith, Contains}
 use Rattle.std.specs.List.Sorted.{IsPermutation, IsNonDecreasingBy}
 use Rattle.std.proofs.lemmas.List.{length-replicate, get_or-replicate, get_or_past}
 use Rattle.std.proofs.lemmas.List.Sorted.{Contains-permutation, IsPermutation-sym}
 use Rattle.std.proofs.lemmas.Bool.{cases_lt}
 use Rattle.pop_model.specs.Stacks.{value_at}
-use Rattle.pop_model.specs.Popping.{Cube, cursor}
+use Rattle.pop_model.specs.Popping.{Cube, HasNext, cursor}
 use Rattle.pop_model.specs.Families.{Event, IsEvent}
 use Rattle.pop_model.specs.Cycles.{first_of}
 use Rattle.pop_model.specs.Runs.{IsEnd, IsStuckList}
 use Rattle.pop_model.proofs.CycleFamily.{first_named}
 use Rattle.pop_model.proofs.TreeEnd.{find, stays_at, head_within}
 use Rattle.confluence_core.specs.CycleTables.{CycleTable, cycles}
-use Rattle.confluence_core.specs.Walks.{settled, IsSettled, IsMet, AreDone, AreSized, HasRoom, Stands, Walks, IsOver}
-use Rattle.confluence_core.specs.declared.walked.Walked.{Walked}
+use Rattle.confluence_core.specs.Walks.{settled, IsSettled, IsMet, AreDone, HasRoom}
+use Rattle.confluence_core.specs.LoopErasedWalks.{IsSized, Stands, Walks, IsOver, begun_at}
+use Rattle.confluence_core.specs.Loops.{Marks}
+use Rattle.confluence_core.specs.Steps.{Ends}
+use Rattle.confluence_core.specs.declared.walk.Walk.{Walk}
 use Rattle.confluence_core.proofs.SortedKeys.{rises_sorted}
-use Rattle.confluence_core.proofs.PathsLemmas.{at_place}
+use Rattle.confluence_core.proofs.PathsLemmas.{at_place, path_fits}
 use Rattle.confluence_core.proofs.DoneVariables.{done_same}
-use Rattle.confluence_core.proofs.WalkSteps.{MarksPlaces, sized_same}
+use Rattle.confluence_core.proofs.WalkSteps.{MarksPlaces, marks_front, sized_same}
 
 -- a walk begins at a variable without a mark
-pub walk_begins : (t : CycleTable) (w : Walked) (marks path : List ℕ) (start : ℕ) → Stands t w marks path
-    → start < length t.heads → get_or marks start 0 ≡ 0 → Walks t w marks path 0 start
-walk_begins t w marks path start stands below fresh = record {
+pub walk_begins : (w : Walk) (start : ℕ) → Stands w → start < length w.current.heads
+    → get_or w.marks.items start 0 ≡ 0 → Walks (record w { depth = 0; at = start })
+walk_begins w start stands below fresh = record {
   sized = stands.sized;
   goes_on = record {
     trail = record {
@@ -37,8 +40,17 @@ walk_begins t w marks path start stands below fresh = record {
     last = λ d same. absurd (omega arith);
   };
   done = stands.done;
+  last = stands.last;
   room = stands.room;
 }
+
+-- so does one from a variable that isn't settled
+pub walk_begins_at : (w : Walk) (start : ℕ) → Stands w → start < length w.current.heads
+    → (get_or w.marks.items start 0 ≡ settled → ⊥) → Walks (record w { depth = 0; at = start })
+walk_begins_at w start stands below unsettled = walk_begins w start stands below (elim (stands.clear start below) [
+  | inl none ↦ none
+  | inr at ↦ absurd (unsettled at)
+])
 
 module _ (path : List ℕ) (depth : ℕ) (marks new : List ℕ) (are : MarksPlaces path 0 (suc depth) settled marks new) where
   -- what was met is settled
@@ -59,26 +71,60 @@ module _ (path : List ℕ) (depth : ℕ) (marks new : List ℕ) (are : MarksPlac
   ]
 
 -- what a walk that is over met is settled
-pub walk_settles : (t : CycleTable) (w : Walked) (marks path new : List ℕ) (depth : ℕ)
-    → IsOver t w marks path (suc depth)
-    → length new ≡ length marks → MarksPlaces path 0 (suc depth) settled marks new → Stands t w new path
-walk_settles t w marks path new depth over size are = record {
-  sized = sized_same t w.cursors marks path new path size refl over.sized;
+pub walk_settles : (w new : Walk) → IsOver w → new ≡ record w { marks = new.marks }
+    → length new.marks.items ≡ length w.marks.items
+    → MarksPlaces w.path.items 0 (suc w.depth) settled w.marks.items new.marks.items → Stands new
+walk_settles w new over is size are = subst Stands (sym is) (record {
+  sized = sized_same w.current w.walked.cursors w.marks.items w.path.items new.marks.items w.path.items size refl
+      over.sized;
   clear = λ v below. elim (over.trail.others v below) [
-    | inl none ↦ elim (find (at_place path) v (suc depth)) [
-      | inl (k, less, same) ↦ inr (met_settled path depth marks new are v (inr (k, less, same)))
+    | inl none ↦ elim (find (at_place w.path.items) v (suc w.depth)) [
+      | inl (k, less, same) ↦
+          inr (met_settled w.path.items w.depth w.marks.items new.marks.items are v (inr (k, less, same)))
       | inr off ↦ inl (are.kept v (λ k low high. off k high) ∙ none)
     ]
-    | inr met ↦ inr (met_settled path depth marks new are v met)
+    | inr met ↦ inr (met_settled w.path.items w.depth w.marks.items new.marks.items are v met)
   ];
-  done = done_same t w.cursors (IsMet marks path (suc depth)) (IsSettled new) w.stuck
-      (met_settled path depth marks new are) (settled_met path depth marks new are) over.done;
+  done = done_same w.current w.walked.cursors (IsMet w.marks.items w.path.items (suc w.depth))
+      (IsSettled new.marks.items) w.walked.stuck
+      (met_settled w.path.items w.depth w.marks.items new.marks.items are)
+      (settled_met w.path.items w.depth w.marks.items new.marks.items are) over.done;
+  last = over.last;
   room = over.room;
-}
+})
 
+-- a walk that is over, once the variables of its path are marked as settled
+module _ (old w m : Walk) (ends : Ends old w) (is : m ≡ record w { marks = m.marks })
+    (marked : Marks (take (w.depth + 1) w.path.items) (length (take (w.depth + 1) w.path.items)) settled w.marks.items
+    m.marks.items) where
+  -- so the first places of the path are
+  front_marked : MarksPlaces w.path.items 0 (suc w.depth) settled w.marks.items m.marks.items
+  front_marked =
+      let one : w.depth + 1 ≡ suc w.depth = omega arith in
+      let fits = path_fits w.current w.walked.cursors w.marks.items w.path.items (suc w.depth) ends.over.trail in
+      subst (λ k. MarksPlaces w.path.items 0 k settled w.marks.items m.marks.items) one
+      (marks_front w.path.items (w.depth + 1) settled w.marks.items m.marks.items
+      (omega (arith, fits, ends.over.sized.places_are)) marked)
+
+  -- what holds between two walks holds again
+  pub ended_stands : Stands m
+  ended_stands = walk_settles w m ends.over is marked.count front_marked
+
+  -- the variable where the walk began is settled
+  pub ended_settles : IsSettled m.marks.items (begun_at old)
+  ended_settles =
+      met_settled w.path.items w.depth w.marks.items m.marks.items front_marked (begun_at old)
+      (inr (0, omega arith, ends.begun))
+
+  -- and all that were settled before
+  pub ended_keeps : (v : ℕ) → IsSettled w.marks.items v → IsSettled m.marks.items v
+  ended_keeps v at = met_settled w.path.items w.depth w.marks.items m.marks.items front_marked v (inl at)
+
+-- so many zeros
 zeros : ℕ → List ℕ
 zeros n = replicate n 0
 
+-- a zero at each place and behind them
 zeros_at : (n v : ℕ) → get_or (zeros n) v 0 ≡ 0
 unfolding zeros
 zeros_at n v = elim (cases_lt v n) [
@@ -88,13 +134,12 @@ zeros_at n v = elim (cases_lt v n) [
 ]
 
 -- before the first walk no variable has a mark, and none is done
-pub walks_begin : (t : CycleTable) (w : Walked) (marks path : List ℕ) (n : ℕ) → AreSized t w.cursors marks path
-    → marks ≡ replicate n 0
-    → w.stuck ≡ [] → HasRoom t w → Stands t w marks path
+pub walks_begin : (w : Walk) (n : ℕ) → IsSized w → w.marks.items ≡ replicate n 0 → w.walked.stuck ≡ []
+    → HasRoom w.current w.walked → Stands w
 unfolding zeros
-walks_begin t w marks path n sized are none room =
-    let unmarked : (v : ℕ) → get_or marks v 0 ≡ 0 = λ v. ap (λ xs. get_or xs v 0) are ∙ zeros_at n v in
-    let unsettled : (v : ℕ) → IsSettled marks v → ⊥ =
+walks_begin w n sized are none room =
+    let unmarked : (v : ℕ) → get_or w.marks.items v 0 ≡ 0 = λ v. ap (λ xs. get_or xs v 0) are ∙ zeros_at n v in
+    let unsettled : (v : ℕ) → IsSettled w.marks.items v → ⊥ =
     λ v at. let big : settled ≡ 0 = sym at ∙ unmarked v in absurd (omega arith) in
     record {
       sized = sized;
@@ -108,9 +153,14 @@ walks_begin t w marks path n sized are none room =
         ));
         differ = λ i j d less below. let size = ap length none in absurd (omega (arith, size));
       };
+      last = λ few e has. absurd (let no : Contains [] e = subst (λ xs. Contains xs e) none has in omega (
+        arith,
+        no.1,
+      ));
       room = room;
     }
 
+-- the event of a unit and a cube
 event_with : ℕ → Cube → Event
 event_with u e = record { unit = u; cube = e }
 
@@ -128,9 +178,9 @@ module _ (t : CycleTable) (c marks : List ℕ) (stuck : List Event) (done : AreD
       subst (Contains stuck) (ap (λ u. event_with u e.cube) (sym is.1))
       (done.found a e.cube (all a below) is.0 there occurs)
 
-  -- so none can be popped
-  pub walks_end : IsEnd (cycles t) c
-  walks_end e is poppable = (done.are_stuck e (noted e is poppable.occurs)).last poppable.next
+  -- so none can be popped, where no noted one can
+  pub walks_end : ((e : Event) → Contains stuck e → HasNext t.stacks c e.cube → ⊥) → IsEnd (cycles t) c
+  walks_end last e is poppable = last e (noted e is poppable.occurs) poppable.next
 
   -- and sorted by their units they are the stuck list
   pub walks_stuck : (sorted : List Event) → IsPermutation stuck sorted

@@ -1,5 +1,6 @@
 -- The laws of popping on extremal instances.
-use Rattle.std.specs.Prelude.{◌≡◌, ◌≢◌, ◌↔◌, ℕ, List, [], length, IsPermutation}
+use Rattle.std.specs.Prelude.{◌≡◌, ◌≢◌, ◌↔◌, ◌≤◌, ℕ, List, [], length, IsPermutation}
+use Rattle.pop_model.specs.Stacks.{StackTable, height_of, stacks_raised, Extends}
 use Rattle.pop_model.specs.Popping.{IsPoppable, pop}
 use Rattle.pop_model.specs.Families.{Event, IsEvent}
 use Rattle.pop_model.specs.Instances.{Instance}
@@ -47,3 +48,14 @@ abbrev pub ExhaustedExactly : Type 0
 ExhaustedExactly = (i : Instance) → IsExtremal i.family → (c : List ℕ) (log : List LogRecord)
     (stuck : List Event) → RunsToEnd i c log → IsStuckList i (replay c log) stuck
     → (stuck ≢ []) ↔ (CanFinish i c → ⊥)
+
+-- a legal log is legal over stacks that have the same entries and maybe more
+abbrev pub TallerLegal : Type 0
+TallerLegal = (i : Instance) (taller : StackTable) → Extends i.stacks taller
+    → (c : List ℕ) (log : List LogRecord) → IsLegal i c log
+    → IsLegal (record { stacks = taller; family = i.family }) c log
+
+-- stacks that are raised to a height which is no less have the same entries and maybe more
+abbrev pub RaisedExtends : Type 0
+RaisedExtends = (s : StackTable) (height : ℕ) → ((v : ℕ) → height_of s v ≤ height)
+    → Extends s (stacks_raised height s)

@@ -5,9 +5,12 @@ pub mod WorkList
 pub mod Records
 pub mod Kept
 pub mod Runs
+pub mod Parts
 pub mod CycleTables
 pub mod Loops
 pub mod Walks
+pub mod LoopErasedWalks
 pub mod Steps
-pub mod Rounds
 pub mod Tickets
+pub mod ArrowWalks
+pub mod LeastVariables

@@ -1,5 +1,5 @@
 -- What a step of a walk leaves, and what popping a cycle does to what the walks have left so far.
-use Rattle.std.specs.Prelude.{◌≡◌, ℕ, suc, ◌+◌, ◌<◌, ◌++◌, ◌∷◌, [], List, length, if◌then◌else◌, Bool, MatchBool, slice_index, Option, Some, MatchOption}
+use Rattle.std.specs.Prelude.{◌≡◌, ℕ, suc, ◌+◌, ◌<◌, ◌≤◌, ◌++◌, ◌∷◌, [], List, length, if◌then◌else◌, Bool, MatchBool, slice_index, slice_set, Some}
 use Rattle.pop_model.specs.Popping.{Cube, HasNext, pop}
 use Rattle.pop_model.specs.Cycles.{first_of}
 use Rattle.pop_model.specs.Logs.{LogRecord, IsLegal, replay}
@@ -7,18 +7,26 @@ use Rattle.confluence_core.specs.Kept.{keeps_log}
 use Rattle.confluence_core.specs.Records.{record_at}
 use Rattle.confluence_core.specs.CycleTables.{CycleTable, cycles, current_head}
 use Rattle.confluence_core.specs.Loops.{IsCubeOf, Marks}
-use Rattle.confluence_core.specs.Walks.{cycle_event, IsSettled, IsPath, GoesOn, Closes, Walks, IsOver, begun_at, work}
+use Rattle.confluence_core.specs.Walks.{cycle_event, IsSettled, GoesOn, Closes}
+use Rattle.confluence_core.specs.LoopErasedWalks.{HasPath, Walks, IsOver, begun_at, work}
+use Rattle.confluence_core.specs.declared.walk.Walk.{Walk}
 use Rattle.confluence_core.specs.declared.walked.Walked.{Walked}
 use Rattle.confluence_core.specs.declared.steps.Step.{Step}
 use Rattle.confluence_core.specs.declared.steps.Step.TheVariants.{On, Back, Rests}
-use Rattle.confluence_core.specs.declared.steps.Place.{Place}
 
 -- where the last arrow of the path leads: on, back to the path, or to where all is settled
-abbrev pub LeadsTo : CycleTable → List ℕ → List ℕ → List ℕ → ℕ → Step → Type 0
-LeadsTo t c marks path depth (On v) = GoesOn t c marks path (suc depth) v
-LeadsTo t c marks path depth (Back place) = Closes t c marks path depth place
-LeadsTo t c marks path depth Rests = IsPath t c marks path (suc depth)
-    × ((v : ℕ) → current_head t c (slice_index path depth) ≡ Some v → IsSettled marks v)
+abbrev pub LeadsTo : Walk → Step → Type 0
+LeadsTo w (On v) = GoesOn w.current w.walked.cursors w.marks.items w.path.items (suc w.depth) v
+LeadsTo w (Back place) = Closes w.current w.walked.cursors w.marks.items w.path.items w.depth place
+LeadsTo w Rests = HasPath w (suc w.depth)
+    × ((v : ℕ) → current_head w.current w.walked.cursors (slice_index w.path.items w.depth) ≡ Some v
+    → IsSettled w.marks.items v)
+
+-- the variable to which the path leads is put onto it
+pub record Extends (old new : Walk) : Type 0 where
+  pub path : new.path.items ≡ slice_set old.path.items old.depth old.at
+  pub marks : new.marks.items ≡ slice_set old.marks.items old.at (old.depth + 1)
+  pub others : new ≡ record old { marks = new.marks; path = new.path }
 
 -- the record of a cycle's pop is kept, where logs are
 abbrev pub with_record : Walked → Cube → Walked
@@ -35,25 +43,23 @@ abbrev pub with_stuck : Walked → Cube → Walked
 with_stuck w e = record w { stuck = w.stuck ++ cycle_event e ∷ [] }
 
 -- the cycle was popped, and its variables are unmarked
-pub record Pops (t : CycleTable) (old new : Walked) (members marks new_marks : List ℕ)
-    (e : Cube) : Type 0 where
-  pub next : HasNext t.stacks old.cursors e
-  pub popped : new ≡ with_pop old e
-  pub unmarked : Marks members (length members) 0 marks new_marks
+pub record Pops (old new : Walk) (members : List ℕ) (e : Cube) : Type 0 where
+  pub few : old.walked.pops < old.walked.limit
+  pub next : HasNext old.current.stacks old.walked.cursors e
+  pub unmarked : Marks members (length members) 0 old.marks.items new.marks.items
+  pub popped : new ≡ record old { walked = with_pop old.walked e; marks = new.marks }
 
--- the cycle can't be popped, and was noted
-pub record Notes (t : CycleTable) (old new : Walked) (marks new_marks : List ℕ)
-    (e : Cube) : Type 0 where
-  pub last : HasNext t.stacks old.cursors e → ⊥
-  pub noted : new ≡ with_stuck old e
-  pub same_marks : new_marks ≡ marks
+-- the cycle can't be popped, or the limit is reached; so it was noted
+pub record Notes (old new : Walk) (e : Cube) : Type 0 where
+  pub last : old.walked.pops < old.walked.limit
+      → HasNext old.current.stacks old.walked.cursors e → ⊥
+  pub noted : new ≡ record old { walked = with_stuck old.walked e }
 
 -- the cycle of these variables was popped or noted
-abbrev pub PopsOrNotes : CycleTable → Walked → Walked → List ℕ → List ℕ → List ℕ → Bool → Type 0
-PopsOrNotes t old new members marks new_marks popped =
-    (e : Cube) → IsCubeOf t old.cursors members e
-    → MatchBool popped (Pops t old new members marks new_marks e)
-    (Notes t old new marks new_marks e)
+abbrev pub PopsOrNotes : Walk → Walk → List ℕ → Bool → Type 0
+PopsOrNotes old new members popped =
+    (e : Cube) → IsCubeOf old.current old.walked.cursors members e
+    → MatchBool popped (Pops old new members e) (Notes old new e)
 
 -- a legal log leads from the old cursors to the new ones, and is kept where logs are
 pub record RunsOn (t : CycleTable) (old new : Walked) : Type 0 where
@@ -63,22 +69,20 @@ pub record RunsOn (t : CycleTable) (old new : Walked) : Type 0 where
   pub pops_are : new.pops ≡ old.pops + length log
   pub log_is : new.log ≡ (if keeps_log old.keep then old.log ++ log else old.log)
   pub keep_is : new.keep ≡ old.keep
+  pub limit_is : new.limit ≡ old.limit
+  pub most : old.pops ≤ old.limit → new.pops ≤ new.limit
 
--- the walk goes on from this place, nearer to its end
-pub record GoesTo (t : CycleTable) (old new : Walked) (marks path : List ℕ) (depth start : ℕ)
-    (next : Place) : Type 0 where
-  pub walks : Walks t new marks path next.depth next.variable
-  pub begun : begun_at path next.depth next.variable ≡ start
-  pub nearer : work t new.cursors next.depth < work t old.cursors depth
+-- the walk goes on, nearer to its end
+pub record GoesTo (old new : Walk) : Type 0 where
+  pub walks : Walks new
+  pub begun : begun_at new ≡ begun_at old
+  pub nearer : work new < work old
 
 -- the walk is over
-pub record Ends (t : CycleTable) (new : Walked) (marks path : List ℕ)
-    (depth start : ℕ) : Type 0 where
-  pub over : IsOver t new marks path (suc depth)
-  pub begun : slice_index path 0 ≡ start
+pub record Ends (old new : Walk) : Type 0 where
+  pub over : IsOver new
+  pub begun : slice_index new.path.items 0 ≡ begun_at old
 
 -- the walk goes on or is over
-abbrev pub Advances : CycleTable → Walked → Walked → List ℕ → List ℕ → ℕ → ℕ → Option Place
-    → Type 0
-Advances t old new marks path depth start next =
-    MatchOption next (Ends t new marks path depth start) (GoesTo t old new marks path depth start)
+abbrev pub Advances : Walk → Walk → Bool → Type 0
+Advances old new goes_on = MatchBool goes_on (GoesTo old new) (Ends old new)

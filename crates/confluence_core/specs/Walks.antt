@@ -1,6 +1,6 @@
--- Walks along the current arrows (Wilson 1996; Propp and Wilson 1998): what holds at cursors c,
--- under a mark for each variable, along the variables at the first places of a path.
-use Rattle.std.specs.Prelude.{◌≡◌, ◌≢◌, ◌⊎◌, ℕ, suc, ◌+◌, ◌-◌, ◌*◌, ◌^◌, ◌<◌, ◌≤◌, true, ◌==◌, if◌then◌else◌, List, length, slice_index, AllPairs, Contains, Some}
+-- Paths along the current arrows: what holds at cursors c, under a mark for each variable, along
+-- the variables at the first places of a path.
+use Rattle.std.specs.Prelude.{◌≡◌, ◌≢◌, ◌⊎◌, ℕ, suc, ◌+◌, ◌-◌, ◌^◌, ◌<◌, ◌≤◌, true, List, length, slice_index, AllPairs, Contains, Some}
 use Rattle.pop_model.specs.Popping.{Cube, Occurs, HasNext, names}
 use Rattle.pop_model.specs.Cycles.{IsCycle, first_of}
 use Rattle.pop_model.specs.Families.{Event, IsEvent}
@@ -25,24 +25,19 @@ IsOn path depth v = (k : ℕ) × (k < depth) × (slice_index path k ≡ v)
 abbrev pub IsMet : List ℕ → List ℕ → ℕ → ℕ → Type 0
 IsMet marks path depth v = IsSettled marks v ⊎ IsOn path depth v
 
--- a settled variable stays so
-abbrev pub StaySettled : List ℕ → List ℕ → Type 0
-StaySettled marks new = (v : ℕ) → IsSettled marks v → IsSettled new v
-
 -- the event of a cycle
 abbrev pub cycle_event : Cube → Event
 cycle_event e = record { unit = first_of e; cube = e }
 
--- a cycle that occurs and can't be popped, each of whose variables is done
+-- a cycle that occurs, each of whose variables is done
 pub record IsStuckCycle (t : CycleTable) (c : List ℕ) (Done : ℕ → Type 0)
     (e : Event) : Type 0 where
   pub event : IsEvent (cycles t).family e
   pub occurs : Occurs t.stacks c e.cube
-  pub last : HasNext t.stacks c e.cube → ⊥
   pub done : (v : ℕ) → names e.cube v ≡ true → Done v
 
 -- From variables that are done the arrows lead to such or to the root, and the list has just the
--- cycles through them that occur: none of these can be popped.
+-- cycles through them that occur.
 pub record AreDone (t : CycleTable) (c : List ℕ) (Done : ℕ → Type 0)
     (stuck : List Event) : Type 0 where
   pub closed : (v w : ℕ) → Done v → current_head t c v ≡ Some w → Done w
@@ -87,31 +82,7 @@ AreClear t marks = (v : ℕ) → v < length t.heads → (slice_index marks v ≡
 abbrev pub HasRoom : CycleTable → Walked → Type 0
 HasRoom t w = w.pops + left_from t.stacks 0 w.cursors < 2 ^ 63
 
--- what holds between two walks
-pub record Stands (t : CycleTable) (w : Walked) (marks path : List ℕ) : Type 0 where
-  pub sized : AreSized t w.cursors marks path
-  pub clear : AreClear t marks
-  pub done : AreDone t w.cursors (IsSettled marks) w.stuck
-  pub room : HasRoom t w
-
--- what holds in a walk
-pub record Walks (t : CycleTable) (w : Walked) (marks path : List ℕ) (depth v : ℕ) : Type 0 where
-  pub sized : AreSized t w.cursors marks path
-  pub goes_on : GoesOn t w.cursors marks path depth v
-  pub done : AreDone t w.cursors (IsSettled marks) w.stuck
-  pub room : HasRoom t w
-
--- the walk is over: what it met is done
-pub record IsOver (t : CycleTable) (w : Walked) (marks path : List ℕ) (depth : ℕ) : Type 0 where
-  pub sized : AreSized t w.cursors marks path
-  pub trail : IsPath t w.cursors marks path depth
-  pub done : AreDone t w.cursors (IsMet marks path depth) w.stuck
-  pub room : HasRoom t w
-
--- the variable from which the walk began
-abbrev pub begun_at : List ℕ → ℕ → ℕ → ℕ
-begun_at path depth v = if depth == 0 then v else slice_index path 0
-
--- what a walk has left to do: it falls at each step
-abbrev pub work : CycleTable → List ℕ → ℕ → ℕ
-work t c depth = left_from t.stacks 0 c * (length t.heads + 1) + (length t.heads - depth)
+-- short of the limit no cycle that was noted can be popped
+abbrev pub AreLast : CycleTable → Walked → Type 0
+AreLast t w = w.pops < w.limit → (e : Event) → Contains w.stuck e
+    → HasNext t.stacks w.cursors e.cube → ⊥

@@ -1,5 +1,5 @@
 use crate::Stuck;
-use pop_instance::Cursors;
+use pop_instance::{Cursors, Values};
 
 /// The end of a run.
 #[derive(Drop)]
@@ -10,4 +10,6 @@ pub struct End {
     pub pops: u64,
     /// Every event that occurs at the cursors, by rising unit.
     pub stuck: Stuck,
+    /// For each variable the value at its cursor.
+    pub values: Values,
 }

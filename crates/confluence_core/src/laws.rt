@@ -1,5 +1,5 @@
 //! The laws of popping on extremal instances. The contract of each function is the law.
-ghost use Rattle.confluence_core.specs.Laws.{Diamond, UniqueEnd, EqualRecords, ExhaustedExactly};
+ghost use Rattle.confluence_core.specs.Laws.{Diamond, UniqueEnd, EqualRecords, ExhaustedExactly, TallerLegal, RaisedExtends};
 
 /// Two different events that are poppable together share no variable, each stays poppable after the
 /// other's pop, and both orders leave the same cursors.
@@ -20,4 +20,11 @@ pub fn equal_records()
 /// Some event occurs at an end exactly where no legal log leads to cursors at which none occurs.
 pub fn exhausted_exactly()
     ensures { ExhaustedExactly }
+{}
+
+/// A log that is legal stays legal where each stack has the same entries and maybe more, and so it
+/// is with stacks that are raised.
+pub fn taller_legal()
+    ensures legal { TallerLegal }
+    ensures raised { RaisedExtends }
 {}

@@ -4,6 +4,7 @@
 //! as in the definitions.
 #![tactic(auto)]
 
+mod closed_walks;
 mod current_arrows;
 mod cycle_runs;
 mod cycle_search;
@@ -11,14 +12,18 @@ mod end;
 mod keep;
 pub mod laws;
 mod listed_runs;
+mod listed_search;
 mod log;
 mod log_record;
+mod looks;
 mod loops;
 mod one_thread;
+mod part;
 mod run;
-mod search;
+mod shared_runs;
 mod steps;
 mod stuck;
+mod terms;
 mod ticketed;
 mod tickets;
 mod units;
@@ -26,15 +31,19 @@ mod walk;
 mod walked;
 mod work_list;
 
+pub use closed_walks::closed_walk;
 pub use current_arrows::CurrentArrows;
 pub use end::End;
 pub use keep::Keep;
 pub use log::Log;
 pub use log_record::Record;
+pub use looks::{first_poppable, occurring};
 pub use loops::cube_of;
-pub use one_thread::{run_first, run_from, run_from_by, run_from_zeros, run_from_zeros_by};
+pub use one_thread::{run_first, run_from, run_from_zeros, run_until};
 pub use run::Run;
+pub use shared_runs::{run_arrows, run_events};
 pub use stuck::Stuck;
+pub use terms::Terms;
 pub use ticketed::Ticketed;
 pub use tickets::Tickets;
 pub use units::Units;

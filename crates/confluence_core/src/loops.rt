@@ -1,11 +1,13 @@
 //! The variables of a loop of current arrows, one after another.
 ghost use Rattle.std.specs.Prelude.{◌≡◌, ◌≢◌, ◌<◌, ◌-◌, ◌^◌, ◌↔◌, length, All, AllPairs, IfOk, IsTrue};
 ghost use Rattle.pop_model.specs.Popping.{cursor};
+ghost use Rattle.pop_stacks.specs.Readers.{Belongs};
 ghost use Rattle.confluence_core.specs.CycleTables.{AreCursors};
 ghost use Rattle.confluence_core.specs.Loops.{AreMembers, HaveNext, IsCubeOf, Raises, Marks};
 
 use crate::current_arrows::CurrentArrows;
 use pop_instance::{Cube, Cursors};
+use pop_stacks::Reader;
 use std::alloc::{AllocError, Global};
 
 // Whether each of these variables has an entry behind its cursor.
@@ -22,23 +24,25 @@ pub(crate) fn have_next(current: &CurrentArrows, cursors: &Cursors, members: &[u
     true
 }
 
-/// The cube of these variables, each with its current slot. They are at least one and below 2^31, and
-/// no two are alike.
+/// The cube of these variables, each with its current slot. They are at least one and below 2^31,
+/// and no two are alike.
 pub fn cube_of(
     alloc: Global,
-    current: &mut CurrentArrows,
+    current: &CurrentArrows,
+    reader: &mut Reader,
     cursors: &Cursors,
     members: &[u32],
 ) -> Result<Cube, AllocError>
-    requires members { AreMembers current.old members.now }
-    requires cursors { AreCursors current.old cursors.now }
+    requires members { AreMembers current.now members.now }
+    requires cursors { AreCursors current.now cursors.now }
     requires short { length members.now < 2 ^ 31 }
-    ensures cube { IfOk result (IsCubeOf current.old cursors.now members.now) }
-    ensures same { current.new ≡ current.old }
+    requires belongs { Belongs current.now.stacks reader.old }
+    ensures cube { IfOk result (IsCubeOf current.now cursors.now members.now) }
+    ensures reader { reader.new ≡ reader.old }
 {
     let mut pairs = Vec::with_capacity(alloc, members.len())?;
     for v in members {
-        pairs.push((*v, current.slot(cursors, *v)))?;
+        pairs.push((*v, current.slot(reader, cursors, *v)))?;
     }
     pairs.sort_unstable_by_key(|pair| pair.0);
     let Some(cube) = Cube::new(pairs) else {

@@ -1,31 +1,44 @@
-ghost use Rattle.std.specs.Prelude.{◌≡◌, ◌<◌, length, All, IfOk};
+ghost use Rattle.std.specs.Prelude.{◌≡◌, ◌<◌, ◌^◌, length, All, IfOk};
 ghost use Rattle.pop_model.specs.Stacks.{variables_of};
 ghost use Rattle.pop_model.specs.Popping.{AreWithin};
 ghost use Rattle.pop_model.specs.Families.{units_of};
-ghost use Rattle.pop_model.specs.Extremal.{IsExtremal};
 ghost use Rattle.pop_model.specs.Runs.{IsFirstEnd, start_of};
 ghost use Rattle.pop_stacks.specs.Readers.{Belongs};
 ghost use Rattle.confluence_core.specs.Kept.{keeps_log};
-ghost use Rattle.confluence_core.specs.Runs.{IsRun, MissesNone};
+ghost use Rattle.confluence_core.specs.Runs.{IsPart, IsEndOver, IsPartOf, IsRunOf, MissesNone};
 
-use crate::cycle_runs::{run_cycles, run_cycles_from};
-use crate::listed_runs::{run_listed, run_listed_from};
-use crate::{End, Keep, Run, Units};
-use pop_instance::{Cursors, Family, Instance};
+use crate::cycle_runs::run_cycles_from;
+use crate::listed_runs::{Indexed, run_listed_from};
+use crate::looks::{first_poppable, occurring};
+use crate::part::Part;
+use crate::{End, Keep, Run, Terms, Units};
+use pop_instance::{Cursors, Family, Index, Instance, Values};
 use pop_stacks::Reader;
 use std::alloc::{AllocError, Global};
 
-/// The one-thread run: from zeros it pops the poppable event of least unit until there is none.
+/// The one-thread run: from zeros it pops the poppable event of least unit until there is none. It
+/// is slow, since each pop looks for that event anew.
 pub fn run_first(alloc: Global, instance: &Instance) -> Result<End, AllocError>
     ensures end { IfOk result (λ end. IsFirstEnd instance.now end.cursors end.pops end.stuck) }
-    ensures count { IfOk result (λ end. variables_of instance.now.stacks ≡ length end.cursors) }
-    ensures within { IfOk result (λ end. AreWithin instance.now.stacks end.cursors) }
+    ensures over { IfOk result (IsEndOver instance.now.stacks) }
 {
     let _units = instance.units();
-    match instance.family() {
-        Family::Listed(events) => run_listed(alloc, instance.stacks(), events),
-        Family::Cycles(arrows) => run_cycles(alloc, instance.stacks(), arrows),
+    let stacks = instance.stacks();
+    let mut reader = Reader::new(stacks);
+    let mut cursors = Cursors::zeros(alloc, stacks.count())?;
+    let mut pops: u64 = 0;
+    'pops: while let Some((_, cube)) = first_poppable(alloc, instance, &mut reader, &cursors)? {
+        cursors.pop(&cube);
+        pops += 1;
     }
+    let stuck = occurring(alloc, instance, &mut reader, &cursors)?;
+    let values = Values::at(alloc, stacks, &mut reader, &cursors)?;
+    Ok(End {
+        cursors,
+        pops,
+        stuck,
+        values,
+    })
 }
 
 /// A run from any cursors that are below the heights. The suspects are units of the instance, and
@@ -46,83 +59,80 @@ pub fn run_from(
     requires within { AreWithin instance.now.stacks cursors }
     requires units { All (λ u. u < units_of instance.now.family) suspects }
     requires suspects { MissesNone instance.now cursors suspects }
-    ensures run { IfOk result (λ run. IsRun instance.now cursors (keeps_log keep)
-        run.end.cursors run.end.pops run.end.stuck run.log) }
-    ensures first { IfOk result (λ run. IsExtremal instance.now.family
-        → cursors ≡ start_of instance.now
-        → IsFirstEnd instance.now run.end.cursors run.end.pops run.end.stuck) }
-    ensures count { IfOk result (λ run. variables_of instance.now.stacks ≡ length run.end.cursors) }
-    ensures within { IfOk result (λ run. AreWithin instance.now.stacks run.end.cursors) }
+    ensures run { IfOk result (IsRunOf instance.now cursors (keeps_log keep)) }
 {
     let mut reader = Reader::keeping(alloc, instance.stacks())?;
-    run_from_by(alloc, instance, &mut reader, cursors, suspects, keep)
+    let terms = Terms::to_the_end(keep);
+    run_until(alloc, instance, &mut reader, cursors, suspects, terms)
 }
 
-/// A run as that of `run_from`, by a reader of the instance's stacks. It keeps what it looked at last.
-pub fn run_from_by<'i>(
+/// A run from zeros with every unit a suspect.
+pub fn run_from_zeros(alloc: Global, instance: &Instance, keep: Keep) -> Result<Run, AllocError>
+    ensures run { IfOk result (IsRunOf instance.now (start_of instance.now) (keeps_log keep)) }
+{
+    let cursors = Cursors::zeros(alloc, instance.stacks().count())?;
+    let suspects = Units::all(alloc, instance.units())?;
+    run_from(alloc, instance, cursors, suspects, keep)
+}
+
+/// A run as that of `run_from`, to an end or to so many pops, by a reader of the instance's stacks,
+/// which keeps what it looked at last. The stuck list has the events that occur then.
+pub fn run_until(
     alloc: Global,
-    instance: &'i Instance,
-    reader: &mut Reader<'i>,
+    instance: &Instance,
+    reader: &mut Reader,
     cursors: Cursors,
     suspects: Units,
-    keep: Keep,
+    terms: Terms,
 ) -> Result<Run, AllocError>
     requires count { variables_of instance.now.stacks ≡ length cursors }
     requires within { AreWithin instance.now.stacks cursors }
     requires belongs { Belongs instance.now.stacks reader.old }
     requires units { All (λ u. u < units_of instance.now.family) suspects }
     requires suspects { MissesNone instance.now cursors suspects }
-    ensures run { IfOk result (λ run. IsRun instance.now cursors (keeps_log keep)
-        run.end.cursors run.end.pops run.end.stuck run.log) }
-    ensures first { IfOk result (λ run. IsExtremal instance.now.family
-        → cursors ≡ start_of instance.now
-        → IsFirstEnd instance.now run.end.cursors run.end.pops run.end.stuck) }
-    ensures count { IfOk result (λ run. variables_of instance.now.stacks ≡ length run.end.cursors) }
-    ensures within { IfOk result (λ run. AreWithin instance.now.stacks run.end.cursors) }
+    ensures run { IfOk result (IsPartOf instance.now cursors terms.limit (keeps_log terms.keep)) }
+    ensures few { IfOk result (λ run. run.end.pops < 2 ^ 63) }
+    ensures reader { reader.new ≡ reader.old }
+{
+    let part = part_from(alloc, instance, reader, cursors, suspects, terms)?;
+    part.into_run(alloc, instance.stacks(), reader)
+}
+
+// What the pops of a run from these cursors leave.
+fn part_from(
+    alloc: Global,
+    instance: &Instance,
+    reader: &mut Reader,
+    cursors: Cursors,
+    suspects: Units,
+    terms: Terms,
+) -> Result<Part, AllocError>
+    requires count { variables_of instance.now.stacks ≡ length cursors }
+    requires within { AreWithin instance.now.stacks cursors }
+    requires belongs { Belongs instance.now.stacks reader.old }
+    requires units { All (λ u. u < units_of instance.now.family) suspects }
+    requires suspects { MissesNone instance.now cursors suspects }
+    ensures part { IfOk result (λ part. IsPart instance.now cursors terms.limit
+        (keeps_log terms.keep) part.cursors part.pops part.stuck part.log) }
+    ensures few { IfOk result (λ part. part.pops < 2 ^ 63) }
+    ensures count { IfOk result (λ part. variables_of instance.now.stacks ≡ length part.cursors) }
+    ensures within { IfOk result (λ part. AreWithin instance.now.stacks part.cursors) }
     ensures reader { reader.new ≡ reader.old }
 {
     let _units = instance.units();
     let stacks = instance.stacks();
     match instance.family() {
         Family::Listed(events) => {
-            run_listed_from(alloc, stacks, events, reader, cursors, suspects, keep)
+            let index = Index::build(alloc, events, stacks.count())?;
+            let indexed = Indexed {
+                stacks,
+                events,
+                index: &index,
+            };
+            run_listed_from(alloc, indexed, reader, cursors, suspects, terms)
         }
-        Family::Cycles(arrows) => run_cycles_from(alloc, stacks, arrows, reader, cursors, keep),
+        Family::Cycles(arrows) => run_cycles_from(alloc, stacks, arrows, reader, cursors, terms),
     }
-}
-
-/// A run from zeros with every unit a suspect.
-pub fn run_from_zeros(alloc: Global, instance: &Instance, keep: Keep) -> Result<Run, AllocError>
-    ensures run { IfOk result (λ run. IsRun instance.now (start_of instance.now) (keeps_log keep)
-        run.end.cursors run.end.pops run.end.stuck run.log) }
-    ensures first { IfOk result (λ run. IsExtremal instance.now.family
-        → IsFirstEnd instance.now run.end.cursors run.end.pops run.end.stuck) }
-    ensures count { IfOk result (λ run. variables_of instance.now.stacks ≡ length run.end.cursors) }
-    ensures within { IfOk result (λ run. AreWithin instance.now.stacks run.end.cursors) }
-{
-    let mut reader = Reader::keeping(alloc, instance.stacks())?;
-    run_from_zeros_by(alloc, instance, &mut reader, keep)
-}
-
-/// A run as that of `run_from_zeros`, by a reader of the instance's stacks.
-pub fn run_from_zeros_by<'i>(
-    alloc: Global,
-    instance: &'i Instance,
-    reader: &mut Reader<'i>,
-    keep: Keep,
-) -> Result<Run, AllocError>
-    requires belongs { Belongs instance.now.stacks reader.old }
-    ensures run { IfOk result (λ run. IsRun instance.now (start_of instance.now) (keeps_log keep)
-        run.end.cursors run.end.pops run.end.stuck run.log) }
-    ensures first { IfOk result (λ run. IsExtremal instance.now.family
-        → IsFirstEnd instance.now run.end.cursors run.end.pops run.end.stuck) }
-    ensures count { IfOk result (λ run. variables_of instance.now.stacks ≡ length run.end.cursors) }
-    ensures within { IfOk result (λ run. AreWithin instance.now.stacks run.end.cursors) }
-    ensures reader { reader.new ≡ reader.old }
-{
-    let cursors = Cursors::zeros(alloc, instance.stacks().count())?;
-    let suspects = Units::all(alloc, instance.units())?;
-    run_from_by(alloc, instance, reader, cursors, suspects, keep)
 }
 
 #[cfg(test)]

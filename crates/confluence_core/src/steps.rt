@@ -1,13 +1,16 @@
-ghost use Rattle.std.specs.Prelude.{◌≡◌, ◌<◌, ◌+◌, ◌-◌, ◌^◌, length, IfOk, OnOk, slice_set};
+ghost use Rattle.std.specs.Prelude.{◌≡◌, ◌<◌, ◌↔◌, length, All, IfOk, OnOk, IsTrue, slice_range, ◌+◌};
+ghost use Rattle.pop_stacks.specs.Readers.{Belongs};
 ghost use Rattle.confluence_core.specs.CycleTables.{AreCursors};
-ghost use Rattle.confluence_core.specs.Loops.{AreMembers};
-ghost use Rattle.confluence_core.specs.Walks.{StaySettled, AreSized, GoesOn, Walks, begun_at};
-ghost use Rattle.confluence_core.specs.Steps.{LeadsTo, RunsOn, PopsOrNotes, Advances};
+ghost use Rattle.confluence_core.specs.Loops.{HaveNext};
+ghost use Rattle.confluence_core.specs.Walks.{Closes, HasRoom};
+ghost use Rattle.confluence_core.specs.LoopErasedWalks.{StaySettled, IsSized, Walks};
+ghost use Rattle.confluence_core.specs.Steps.{LeadsTo, Extends, RunsOn, PopsOrNotes, Advances};
 
 use crate::current_arrows::CurrentArrows;
 use crate::loops::{have_next, mark_all};
+use crate::walk::Walk;
 use crate::walked::Walked;
-use pop_instance::Cursors;
+use pop_stacks::Reader;
 use std::alloc::{AllocError, Global};
 
 /// The mark of a settled variable. One on the path has its place plus 1, and each other one 0.
@@ -23,103 +26,94 @@ enum Step {
     Rests,
 }
 
-/// Where a walk goes on: a variable, and the place of the path at which it is to stand.
-#[derive(Clone, Copy)]
-pub(crate) struct Place {
-    pub variable: u32,
-    pub depth: usize,
+// Whether the cycle of these variables is to be popped: each has an entry behind its cursor, and
+// the limit isn't reached.
+fn is_to_pop(current: &CurrentArrows, walked: &Walked, members: &[u32]) -> bool
+    requires known { All (λ v. v < length current.now.heads) members.now }
+    requires cursors { AreCursors current.now walked.now.cursors }
+    ensures { IsTrue result ↔ ((walked.now.pops < walked.now.limit)
+        × HaveNext current.now walked.now.cursors members.now) }
+{
+    walked.pops < walked.limit && have_next(current, &walked.cursors, members)
 }
 
-// Puts a variable onto the path, and looks where its arrow leads.
-fn extend(
-    current: &mut CurrentArrows,
-    cursors: &Cursors,
-    marks: &mut [u32],
-    path: &mut [u32],
-    at: Place,
-) -> Step
-    requires sized { AreSized current.old cursors.now marks.old path.old }
-    requires goes_on { GoesOn current.old cursors.now marks.old path.old at.depth at.variable }
-    ensures leads { LeadsTo current.old cursors.now marks.new path.new at.depth result }
-    ensures path { path.new ≡ slice_set path.old at.depth at.variable }
-    ensures marks { marks.new ≡ slice_set marks.old at.variable (at.depth + 1) }
-    ensures same { current.new ≡ current.old }
-{
-    path[at.depth] = at.variable;
-    marks[at.variable as usize] = at.depth as u32 + 1;
-    let Some(w) = current.head(cursors, at.variable) else {
-        return Step::Rests;
-    };
-    let mark = marks[w as usize];
-    if mark == SETTLED {
-        return Step::Rests;
+impl<'a> Walk<'a> {
+    // Puts the variable to which the path leads onto it, and looks where its arrow leads.
+    fn extend(&mut self, reader: &mut Reader) -> Step
+        requires walks { Walks self.old }
+        requires belongs { Belongs self.old.current.stacks reader.old }
+        ensures leads { LeadsTo self.new result }
+        ensures extends { Extends self.old self.new }
+        ensures reader { reader.new ≡ reader.old }
+    {
+        self.path[self.depth] = self.at;
+        self.marks[self.at as usize] = self.depth as u32 + 1;
+        let Some(w) = self.current.head(reader, &self.walked.cursors, self.at) else {
+            return Step::Rests;
+        };
+        let mark = self.marks[w as usize];
+        if mark == SETTLED {
+            return Step::Rests;
+        }
+        if mark == 0 {
+            return Step::On(w);
+        }
+        Step::Back(mark as usize - 1)
     }
-    if mark == 0 {
-        return Step::On(w);
-    }
-    Step::Back(mark as usize - 1)
-}
 
-// Pops the cycle of these variables, which no longer are on the path; or notes it as stuck, where
-// one of them is at its last entry. Whether it was popped.
-fn close(
-    alloc: Global,
-    current: &mut CurrentArrows,
-    walked: &mut Walked,
-    marks: &mut [u32],
-    members: &[u32],
-) -> Result<bool, AllocError>
-    requires members { AreMembers current.old members.now }
-    requires cursors { AreCursors current.old walked.old.cursors }
-    requires short { length members.now < 2 ^ 31 }
-    requires marks { length marks.old ≡ length current.old.heads }
-    requires room { walked.old.pops < 2 ^ 64 - 1 }
-    ensures closed { IfOk result (PopsOrNotes current.old walked.old walked.new members.now
-        marks.old marks.new) }
-    ensures same { current.new ≡ current.old }
-{
-    if !have_next(current, &walked.cursors, members) {
-        walked.note(alloc, current, members)?;
-        return Ok(false);
+    // Pops the cycle that the path closes from a place on, and takes the marks from its variables;
+    // or notes it, where one of them is at its last entry or the limit is reached. Whether it was
+    // popped.
+    fn close(
+        &mut self,
+        alloc: Global,
+        reader: &mut Reader,
+        place: usize,
+    ) -> Result<bool, AllocError>
+        requires sized { IsSized self.old }
+        requires closes { Closes self.old.current self.old.walked.cursors self.old.marks.items
+            self.old.path.items self.old.depth place }
+        requires room { HasRoom self.old.current self.old.walked }
+        requires belongs { Belongs self.old.current.stacks reader.old }
+        ensures closed { IfOk result (PopsOrNotes self.old self.new
+            (slice_range self.old.path.items place (self.old.depth + 1))) }
+        ensures reader { reader.new ≡ reader.old }
+    {
+        let members = &self.path[place..self.depth + 1];
+        if !is_to_pop(&self.current, &self.walked, members) {
+            self.walked.note(alloc, &self.current, reader, members)?;
+            return Ok(false);
+        }
+        self.walked.pop(alloc, &self.current, reader, members)?;
+        mark_all(&mut self.marks, members, 0);
+        Ok(true)
     }
-    walked.pop(alloc, current, members)?;
-    mark_all(marks, members, 0);
-    Ok(true)
-}
 
-/// Goes a step of a walk. A cycle that closes is popped, and the walk goes on from where it closed;
-/// one that can't be popped ends the walk. It answers where to go on, if the walk isn't over.
-pub(crate) fn advance(
-    alloc: Global,
-    current: &mut CurrentArrows,
-    walked: &mut Walked,
-    marks: &mut [u32],
-    path: &mut [u32],
-    at: Place,
-) -> Result<Option<Place>, AllocError>
-    requires walks { Walks current.old walked.old marks.old path.old at.depth at.variable }
-    ensures next { IfOk result (Advances current.old walked.old walked.new marks.new path.new
-        at.depth (begun_at path.old at.depth at.variable)) }
-    ensures runs { OnOk result (RunsOn current.old walked.old walked.new) }
-    ensures settled { OnOk result (StaySettled marks.old marks.new) }
-    ensures same { current.new ≡ current.old }
-{
-    let depth = at.depth;
-    match extend(current, &walked.cursors, marks, path, at) {
-        Step::On(variable) => Ok(Some(Place {
-            variable,
-            depth: depth + 1,
-        })),
-        Step::Rests => Ok(None),
-        Step::Back(place) => {
-            let members = &path[place..depth + 1];
-            if close(alloc, current, walked, marks, members)? {
-                Ok(Some(Place {
-                    variable: path[place],
-                    depth: place,
-                }))
-            } else {
-                Ok(None)
+    /// Goes a step of a walk, and answers whether it goes on. A cycle that closes is popped, and
+    /// the walk goes on from where it closed; one that can't be popped ends the walk.
+    pub fn advance(&mut self, alloc: Global, reader: &mut Reader) -> Result<bool, AllocError>
+        requires walks { Walks self.old }
+        requires belongs { Belongs self.old.current.stacks reader.old }
+        ensures next { IfOk result (Advances self.old self.new) }
+        ensures runs { OnOk result (RunsOn self.old.current self.old.walked self.new.walked) }
+        ensures settled { OnOk result (StaySettled self.old self.new) }
+        ensures current { OnOk result (self.new.current ≡ self.old.current) }
+        ensures reader { reader.new ≡ reader.old }
+    {
+        match self.extend(reader) {
+            Step::On(variable) => {
+                self.depth += 1;
+                self.at = variable;
+                Ok(true)
+            }
+            Step::Rests => Ok(false),
+            Step::Back(place) => {
+                if !self.close(alloc, reader, place)? {
+                    return Ok(false);
+                }
+                self.at = self.path[place];
+                self.depth = place;
+                Ok(true)
             }
         }
     }

@@ -39,6 +39,13 @@ impl Units {
         Ok(units)
     }
 
+    /// These units. It takes no memory.
+    pub fn of(units: Vec<u32>) -> Units
+        ensures { result ≡ units.items }
+    {
+        Units { units }
+    }
+
     /// How many units there are.
     pub fn len(&self) -> u64
         ensures { result ≡ length self.now }

@@ -1,70 +1,116 @@
-ghost use Rattle.std.specs.Prelude.{◌≡◌, ◌<◌, [], OnOk, length};
+ghost use Rattle.std.specs.Prelude.{◌≡◌, ◌<◌, [], IfOk, OnOk, length};
 ghost use Rattle.pop_model.specs.Runs.{IsEnd, IsStuckList};
+ghost use Rattle.pop_stacks.specs.Readers.{Belongs};
 ghost use Rattle.confluence_core.specs.CycleTables.{cycles, AreCursors};
-ghost use Rattle.confluence_core.specs.Walks.{HasRoom, Stands, IsSettled, StaySettled};
+ghost use Rattle.confluence_core.specs.Walks.{HasRoom, IsSettled};
+ghost use Rattle.confluence_core.specs.LoopErasedWalks.{Stands, StaySettled};
 ghost use Rattle.confluence_core.specs.Steps.{RunsOn};
 
 use crate::current_arrows::CurrentArrows;
 use crate::loops::mark_all;
-use crate::steps::{Place, SETTLED, advance};
+use crate::steps::SETTLED;
 use crate::walked::Walked;
+use pop_stacks::Reader;
 use std::alloc::{AllocError, Global};
 
-// Walks from a variable until it is settled.
-fn walk_from(
-    alloc: Global,
-    current: &mut CurrentArrows,
-    walked: &mut Walked,
-    marks: &mut [u32],
-    path: &mut [u32],
-    start: u32,
-) -> Result<(), AllocError>
-    requires stands { Stands current.old walked.old marks.old path.old }
-    requires known { start < length current.old.heads }
-    ensures stands { OnOk result (Stands current.old walked.new marks.new path.new) }
-    ensures runs { OnOk result (RunsOn current.old walked.old walked.new) }
-    ensures settled { OnOk result (IsSettled marks.new start) }
-    ensures stay { OnOk result (StaySettled marks.old marks.new) }
-    ensures same { current.new ≡ current.old }
-{
-    if marks[start as usize] == SETTLED {
-        return Ok(());
-    }
-    let mut at = Place {
-        variable: start,
-        depth: 0,
-    };
-    'walk: while let Some(next) = advance(alloc, current, walked, marks, path, at)? {
-        at = next;
-    }
-    mark_all(marks, &path[..at.depth + 1], SETTLED);
-    Ok(())
+/// A loop-erased walk along current arrows (Wilson 1996; Propp and Wilson 1998), which pops the
+/// cycles that it closes.
+#[derive(Drop)]
+pub(crate) struct Walk<'a> {
+    pub current: CurrentArrows<'a>,
+    /// What walks have left so far.
+    pub walked: Walked,
+    /// For each variable its place on the path plus 1, `SETTLED` or 0.
+    pub marks: Vec<u32>,
+    /// The path stands at the first `depth` places.
+    pub path: Vec<u32>,
+    pub depth: usize,
+    /// The variable to which the path leads.
+    pub at: u32,
 }
 
-/// Walks from each variable in turn, until no cycle can be popped, and lists those that are stuck.
-/// Each walk looks at an entry once more than it pops cycles there, so the time is linear in the
-/// variables, their entries that are used and, but for a logarithm, the variables of stuck cycles.
-pub(crate) fn walk_all(
-    alloc: Global,
-    current: &mut CurrentArrows,
-    walked: &mut Walked,
-) -> Result<(), AllocError>
-    requires cursors { AreCursors current.old walked.old.cursors }
-    requires none_stuck { walked.old.stuck ≡ [] }
-    requires room { HasRoom current.old walked.old }
-    ensures runs { OnOk result (RunsOn current.old walked.old walked.new) }
-    ensures cursors { OnOk result (AreCursors current.old walked.new.cursors) }
-    ensures end { OnOk result (IsEnd (cycles current.old) walked.new.cursors) }
-    ensures stuck_list { OnOk result
-        (IsStuckList (cycles current.old) walked.new.cursors walked.new.stuck) }
-    ensures same { current.new ≡ current.old }
-{
-    let count = current.count();
-    let mut marks = vec![in alloc; 0; count as usize]?;
-    let mut path = vec![in alloc; 0; count as usize]?;
-    for v in 0..count {
-        walk_from(alloc, current, walked, &mut marks, &mut path, v)?;
+impl<'a> Walk<'a> {
+    /// No walk yet: no variable is settled.
+    pub fn new(
+        alloc: Global,
+        current: CurrentArrows<'a>,
+        walked: Walked,
+    ) -> Result<Walk<'a>, AllocError>
+        requires cursors { AreCursors current walked.cursors }
+        requires none_stuck { walked.stuck ≡ [] }
+        requires room { HasRoom current walked }
+        ensures stands { IfOk result Stands }
+        ensures current { IfOk result (λ walk. walk.current ≡ current.entry) }
+        ensures walked { IfOk result (λ walk. walk.walked ≡ walked) }
+    {
+        let count = current.count() as usize;
+        Ok(Walk {
+            current,
+            walked,
+            marks: vec![in alloc; 0; count]?,
+            path: vec![in alloc; 0; count]?,
+            depth: 0,
+            at: 0,
+        })
     }
-    walked.stuck.sort();
-    Ok(())
+
+    // Walks from a variable until it is settled.
+    fn settle(&mut self, alloc: Global, reader: &mut Reader, start: u32) -> Result<(), AllocError>
+        requires stands { Stands self.old }
+        requires known { start < length self.old.current.heads }
+        requires belongs { Belongs self.old.current.stacks reader.old }
+        ensures stands { OnOk result (Stands self.new) }
+        ensures runs { OnOk result (RunsOn self.old.current self.old.walked self.new.walked) }
+        ensures settled { OnOk result (IsSettled self.new.marks.items start) }
+        ensures stay { OnOk result (StaySettled self.old self.new) }
+        ensures current { OnOk result (self.new.current ≡ self.old.current) }
+        ensures reader { reader.new ≡ reader.old }
+    {
+        if self.marks[start as usize] == SETTLED {
+            return Ok(());
+        }
+        self.depth = 0;
+        self.at = start;
+        'walk: while self.advance(alloc, reader)? {}
+        mark_all(&mut self.marks, &self.path[..self.depth + 1], SETTLED);
+        Ok(())
+    }
+
+    /// Walks from each variable in turn, until no cycle can be popped or the limit is reached, and
+    /// lists the cycles that occur then. Each walk looks at an entry once more than it pops cycles
+    /// there, so the time is linear in the variables, their entries that are used and, but for a
+    /// logarithm, the variables of stuck cycles.
+    pub fn settle_all(&mut self, alloc: Global, reader: &mut Reader) -> Result<(), AllocError>
+        requires stands { Stands self.old }
+        requires belongs { Belongs self.old.current.stacks reader.old }
+        ensures runs { OnOk result (RunsOn self.old.current self.old.walked self.new.walked) }
+        ensures cursors { OnOk result (AreCursors self.old.current self.new.walked.cursors) }
+        ensures end { OnOk result (self.new.walked.pops < self.new.walked.limit
+            → IsEnd (cycles self.old.current) self.new.walked.cursors) }
+        ensures room { OnOk result (HasRoom self.old.current self.new.walked) }
+        ensures stuck_list { OnOk result
+            (IsStuckList (cycles self.old.current) self.new.walked.cursors self.new.walked.stuck) }
+        ensures reader { reader.new ≡ reader.old }
+    {
+        for v in 0..self.current.count() {
+            self.settle(alloc, reader, v)?;
+        }
+        self.walked.stuck.sort();
+        Ok(())
+    }
+
+    /// What the walks left.
+    pub fn into_walked(self) -> Walked
+        ensures { result ≡ self.entry.walked }
+    {
+        let Walk {
+            current: _,
+            walked,
+            marks: _,
+            path: _,
+            depth: _,
+            at: _,
+        } = self;
+        walked
+    }
 }

@@ -1,4 +1,5 @@
 ghost use Rattle.std.specs.Prelude.{◌≡◌, ◌<◌, ◌+◌, ◌-◌, ◌^◌, ◌++◌, ◌∷◌, [], ℕ, List, length, OnOk, if◌then◌else◌, Some, None};
+ghost use Rattle.pop_stacks.specs.Readers.{Belongs};
 ghost use Rattle.confluence_core.specs.Kept.{keeps_log};
 ghost use Rattle.confluence_core.specs.CycleTables.{AreCursors};
 ghost use Rattle.confluence_core.specs.Loops.{AreMembers, HaveNext, IsCubeOf};
@@ -6,8 +7,10 @@ ghost use Rattle.confluence_core.specs.Steps.{with_record, with_pop, with_stuck}
 
 use crate::current_arrows::CurrentArrows;
 use crate::loops::{cube_of, raise};
-use crate::{End, Keep, Log, Record, Run, Stuck};
+use crate::part::Part;
+use crate::{Keep, Log, Record, Stuck};
 use pop_instance::Cursors;
+use pop_stacks::Reader;
 use std::alloc::{AllocError, Global};
 
 /// What walks have left so far.
@@ -15,6 +18,8 @@ use std::alloc::{AllocError, Global};
 pub(crate) struct Walked {
     pub cursors: Cursors,
     pub pops: u64,
+    /// The walks make no pop more once there are so many.
+    pub limit: u64,
     pub keep: Keep,
     /// The log of the pops where it is kept, and else empty.
     pub log: Log,
@@ -27,20 +32,22 @@ impl Walked {
     fn keep_record(
         &mut self,
         alloc: Global,
-        current: &mut CurrentArrows,
+        current: &CurrentArrows,
+        reader: &mut Reader,
         members: &[u32],
     ) -> Result<(), AllocError>
-        requires members { AreMembers current.old members.now }
-        requires cursors { AreCursors current.old self.old.cursors }
+        requires members { AreMembers current.now members.now }
+        requires cursors { AreCursors current.now self.old.cursors }
         requires short { length members.now < 2 ^ 31 }
+        requires belongs { Belongs current.now.stacks reader.old }
         ensures kept { OnOk result ((e : List (ℕ × ℕ))
-            → IsCubeOf current.old self.old.cursors members.now e
+            → IsCubeOf current.now self.old.cursors members.now e
             → self.new ≡ with_record self.old e) }
         ensures others { self.new ≡ record self.old { log = self.new.log } }
-        ensures same { current.new ≡ current.old }
+        ensures reader { reader.new ≡ reader.old }
     {
         if self.keep.keeps_log() {
-            let cube = cube_of(alloc, current, &self.cursors, members)?;
+            let cube = cube_of(alloc, current, reader, &self.cursors, members)?;
             let (unit, _) = cube.pair(0);
             let popped = Record::at(alloc, unit, &cube, &self.cursors)?;
             self.log.push(popped)?;
@@ -52,21 +59,23 @@ impl Walked {
     pub fn pop(
         &mut self,
         alloc: Global,
-        current: &mut CurrentArrows,
+        current: &CurrentArrows,
+        reader: &mut Reader,
         members: &[u32],
     ) -> Result<(), AllocError>
-        requires members { AreMembers current.old members.now }
-        requires cursors { AreCursors current.old self.old.cursors }
-        requires next { HaveNext current.old self.old.cursors members.now }
+        requires members { AreMembers current.now members.now }
+        requires cursors { AreCursors current.now self.old.cursors }
+        requires next { HaveNext current.now self.old.cursors members.now }
         requires short { length members.now < 2 ^ 31 }
         requires room { self.old.pops < 2 ^ 64 - 1 }
+        requires belongs { Belongs current.now.stacks reader.old }
         ensures popped { OnOk result ((e : List (ℕ × ℕ))
-            → IsCubeOf current.old self.old.cursors members.now e
+            → IsCubeOf current.now self.old.cursors members.now e
             → self.new ≡ with_pop self.old e) }
-        ensures same { current.new ≡ current.old }
+        ensures reader { reader.new ≡ reader.old }
     {
         let _count = current.count();
-        self.keep_record(alloc, current, members)?;
+        self.keep_record(alloc, current, reader, members)?;
         raise(&mut self.cursors, members);
         self.pops += 1;
         Ok(())
@@ -76,43 +85,44 @@ impl Walked {
     pub fn note(
         &mut self,
         alloc: Global,
-        current: &mut CurrentArrows,
+        current: &CurrentArrows,
+        reader: &mut Reader,
         members: &[u32],
     ) -> Result<(), AllocError>
-        requires members { AreMembers current.old members.now }
-        requires cursors { AreCursors current.old self.old.cursors }
+        requires members { AreMembers current.now members.now }
+        requires cursors { AreCursors current.now self.old.cursors }
         requires short { length members.now < 2 ^ 31 }
+        requires belongs { Belongs current.now.stacks reader.old }
         ensures noted { OnOk result ((e : List (ℕ × ℕ))
-            → IsCubeOf current.old self.old.cursors members.now e
+            → IsCubeOf current.now self.old.cursors members.now e
             → self.new ≡ with_stuck self.old e) }
-        ensures same { current.new ≡ current.old }
+        ensures reader { reader.new ≡ reader.old }
     {
-        let cube = cube_of(alloc, current, &self.cursors, members)?;
+        let cube = cube_of(alloc, current, reader, &self.cursors, members)?;
         let (unit, _) = cube.pair(0);
         self.stuck.push(unit, cube)?;
         Ok(())
     }
 
     /// What the walks leave in the end.
-    pub fn into_run(self) -> Run
-        ensures cursors { result.end.cursors ≡ self.cursors }
-        ensures pops { result.end.pops ≡ self.pops }
-        ensures stuck { result.end.stuck ≡ self.stuck }
+    pub fn into_part(self) -> Part
+        ensures cursors { result.cursors ≡ self.cursors }
+        ensures pops { result.pops ≡ self.pops }
+        ensures stuck { result.stuck ≡ self.stuck }
         ensures log { result.log ≡ (if keeps_log self.keep then Some self.log else None) }
     {
         let Walked {
             cursors,
             pops,
+            limit: _,
             keep,
             log,
             stuck,
         } = self;
-        Run {
-            end: End {
-                cursors,
-                pops,
-                stuck,
-            },
+        Part {
+            cursors,
+            pops,
+            stuck,
             log: keep.keeps_log().then_some(log),
         }
     }

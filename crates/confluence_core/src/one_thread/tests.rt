@@ -1,35 +1,14 @@
-ghost use Rattle.std.specs.Prelude.{◌≡◌, length, IfOk};
-ghost use Rattle.pop_model.specs.Stacks.{variables_of};
+ghost use Rattle.std.specs.Prelude.{◌≡◌, length};
 
 use super::*;
-use pop_instance::{Cube, Events, Family};
-use pop_stacks::{Rows, StackSpec, Stacks, Weights};
+use instances::listed;
 use std::process::Abort;
 use std::test::Fail;
 
 mod chains;
+mod instances;
+mod parts;
 mod rings;
-
-// The event of this number and these pairs.
-fn event(
-    rt: &impl Abort,
-    alloc: Global,
-    number: u32,
-    pairs: &[(u32, u32)],
-) -> Result<(u32, Cube), Fail>
-    ensures { IfOk result (λ r. r.0 ≡ number) }
-{
-    assert!(rt; pairs.len() < 9);
-    let cube = Cube::new(Vec::from_slice(alloc, pairs)?).expect(rt, "a cube");
-    Ok((number, cube))
-}
-
-// The instance of variables with two values each, the rows of their stacks and these events.
-fn instance(rt: &impl Abort, rows: Rows, events: Events) -> Result<Instance, Fail> {
-    let weights = Weights::pairs(rows.count());
-    let stacks = Stacks::new(StackSpec::Given(rows), weights, 1)?;
-    Ok(Instance::new(stacks, Family::Listed(events)).expect(rt, "an instance"))
-}
 
 // What an end is to be: its cursors, its pops and the units of its stuck events.
 #[derive(Drop)]
@@ -96,71 +75,58 @@ fn pops_and_stuck(rt: &impl Abort, alloc: Global, instance: &Instance) -> Result
 #[test]
 fn popping_goes_on_past_a_stuck_event(rt: HostRuntime) -> Result<(), Fail> {
     let alloc = rt.alloc();
-    let rows = Rows::of(vec![in alloc; vec![in alloc; 0]?, vec![in alloc; 0, 0, 1]?]?);
-    let first = event(&rt, alloc, 1, &[(0, 0)])?;
-    let events = Events::gather(
-        alloc,
-        vec![in alloc; first, event(&rt, alloc, 2, &[(1, 0)])?]?,
-    )?;
+    let events: [(u32, &[(u32, u32)]); 2] = [(1, &[(0, 0)]), (2, &[(1, 0)])];
+    let instance = listed(&rt, alloc, &[&[0], &[0, 0, 1]], &events)?;
     let want = Want {
         cursors: &[0, 2],
         pops: 2,
         stuck: &[0],
     };
-    ends_with(&rt, alloc, &instance(&rt, rows, events)?, &want)
+    ends_with(&rt, alloc, &instance, &want)
 }
 
 // Worked by hand.
 #[test]
 fn an_event_is_stuck_at_the_last_entry(rt: HostRuntime) -> Result<(), Fail> {
     let alloc = rt.alloc();
-    let rows = Rows::of(vec![in alloc; vec![in alloc; 0, 0]?]?);
-    let events = Events::gather(alloc, vec![in alloc; event(&rt, alloc, 1, &[(0, 0)])?]?)?;
+    let instance = listed(&rt, alloc, &[&[0, 0]], &[(1, &[(0, 0)])])?;
     let want = Want {
         cursors: &[1],
         pops: 1,
         stuck: &[0],
     };
-    ends_with(&rt, alloc, &instance(&rt, rows, events)?, &want)
+    ends_with(&rt, alloc, &instance, &want)
 }
 
 // Worked by hand.
 #[test]
 fn a_pop_moves_every_variable_of_the_event(rt: HostRuntime) -> Result<(), Fail> {
     let alloc = rt.alloc();
-    let rows = Rows::of(vec![in alloc; vec![in alloc; 0, 1]?, vec![in alloc; 0, 1]?]?);
-    let first = event(&rt, alloc, 1, &[(0, 0), (1, 0)])?;
-    let last = event(&rt, alloc, 2, &[(0, 1), (1, 0)])?;
-    let events = Events::gather(alloc, vec![in alloc; first, last]?)?;
+    let events: [(u32, &[(u32, u32)]); 2] = [(1, &[(0, 0), (1, 0)]), (2, &[(0, 1), (1, 0)])];
+    let instance = listed(&rt, alloc, &[&[0, 1], &[0, 1]], &events)?;
     let want = Want {
         cursors: &[1, 1],
         pops: 1,
         stuck: &[],
     };
-    ends_with(&rt, alloc, &instance(&rt, rows, events)?, &want)
+    ends_with(&rt, alloc, &instance, &want)
 }
 
 // Worked by hand: variable 0 has the entries 0, 0, 1, and the event has the value 0.
 #[test]
 fn the_log_has_each_pop_with_its_entries(rt: HostRuntime) -> Result<(), Fail> {
     let alloc = rt.alloc();
-    let rows = Rows::of(vec![in alloc; vec![in alloc; 0, 0, 1]?]?);
-    let events = Events::gather(alloc, vec![in alloc; event(&rt, alloc, 1, &[(0, 0)])?]?)?;
-    let instance = instance(&rt, rows, events)?;
+    let instance = listed(&rt, alloc, &[&[0, 0, 1]], &[(1, &[(0, 0)])])?;
     let want = Want {
         cursors: &[2],
         pops: 2,
         stuck: &[],
     };
     ends_with(&rt, alloc, &instance, &want)?;
-    assert!(&rt;
-        run_from_zeros(alloc, &instance, Keep::Nothing)?
-            .log
-            .is_none()
-    );
-    let log = run_from_zeros(alloc, &instance, Keep::Log)?
-        .log
-        .expect(&rt, "a log");
+    let silent = run_from_zeros(alloc, &instance, Keep::Nothing)?;
+    assert!(&rt; silent.log.is_none());
+    let run = run_from_zeros(alloc, &instance, Keep::Log)?;
+    let log = run.log.expect(&rt, "a log");
     assert_eq!(&rt; log.len(), 2);
     for i in 0..2 {
         assert!(&rt; i < log.len());

@@ -3,21 +3,27 @@ use Rattle.std.proofs.lemmas.Bool.{false≢true}
 use Rattle.pop_model.specs.Stacks.{height_of}
 use Rattle.pop_model.specs.Popping.{HasNext, cursor}
 use Rattle.confluence_core.specs.Loops.{HaveNext}
-use Rattle.confluence_core.specs.Rounds.{IsRound}
-use Rattle.confluence_core.proofs.LoopCubes.{cube_occurs, loop_all}
-use Rattle.confluence_core.proofs.StuckRounds.{one_round}
+use Rattle.confluence_core.specs.ArrowWalks.{HasNoCycle, IsClosedWalk}
+use Rattle.confluence_core.proofs.LoopCubes.{loop_all}
+use Rattle.confluence_core.proofs.ClosedWalks.{least_is, through_least}
+use Rattle.confluence_core.proofs.LeastCycles.{one_cycle}
 use Rattle.confluence_core.proofs.cycle_search.poppable_from.Goals as goal
+
+pub returns-in_default-clause-poppable : goal.returns-in_default-clause-poppable
+returns-in_default-clause-poppable c e cycle first poppable =
+    let none : HasNoCycle c.args.current.now c.args.cursors.now c.args.start c.args.start =
+    rw c.in_default.is at c.in_ok-members.ensures.walk in
+    none e (through_least c.args.current.now c.args.cursors.now c.args.start e cycle poppable.occurs first)
 
 pub returns-then-not-have_next-clause-poppable : goal.returns-then-not-have_next-clause-poppable
 returns-then-not-have_next-clause-poppable c e cycle first poppable =
     let t = c.args.current.now in
     let at = c.args.cursors.now in
     let members = c.in-Some.members.items in
-    let round : IsRound t at c.args.start members = rw c.in-Some.is at c.in_ok-members.ensures.round in
-    let occurs = cube_occurs t at members round.cube round.is_cube in
-    let same = one_round t at e round.cube cycle round.cycle poppable.occurs occurs (first ∙ sym round.first) in
-    let next : HaveNext t at members = loop_all t at members round.cube round.is_cube
+    let walk : IsClosedWalk t at c.args.start c.args.start members = rw c.in-Some.is at c.in_ok-members.ensures.walk in
+    let least = least_is t at c.args.start walk.cube walk.through in
+    let same = one_cycle t at e walk.cube cycle walk.through.cycle poppable.occurs walk.through.occurs
+    (first ∙ sym least) in
+    let next : HaveNext t at members = loop_all t at members walk.cube walk.is_cube
     (λ v. cursor at v + 1 < height_of t.stacks v) (subst (HasNext t.stacks at) same poppable.next) in
-    let moved : HaveNext t at c.deref.result.now = subst (HaveNext t at) (sym c.deref.ensures.value) next in
-    false≢true (c.if-not-have_next.ensures.1
-    (subst (λ u. HaveNext u at c.deref.result.now) (sym c.in_ok-members.ensures.same) moved))
+    false≢true (c.if-not-have_next.ensures.1 (subst (HaveNext t at) (sym c.deref.ensures.value) next))

@@ -15,10 +15,12 @@ invariant-loop-place l = record {
   count : variables_of l.stacks ≡ length l.cursors;
   within : AreWithin l.stacks l.cursors;
   room : l.pops + left_from l.stacks 0 l.cursors ≤ left_from l.stacks 0 l.fn.cursors;
+  most : l.pops ≤ l.limit;
   belongs : Belongs l.stacks l.reader;
+  reader : l.reader ≡ l.fn.reader;
   units : l.work.units ≡ length l.events;
   covers : Covers l.stacks l.cursors l.events l.work.list;
-  so_far : IsSoFar (listed l.stacks l.events) l.fn.cursors (keeps_log l.keep) l.cursors l.pops l.log;
+  so_far : IsSoFar (listed l.stacks l.events) l.fn.cursors (keeps_log l.terms.keep) l.cursors l.pops l.log;
 }
 
 abbrev pub decreases-loop-place : goal.decreases-loop-place

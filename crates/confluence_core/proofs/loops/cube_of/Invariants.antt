@@ -5,6 +5,6 @@ use Rattle.confluence_core.proofs.loops.cube_of.Given as goal
 -- the pairs of the variables before here
 abbrev pub invariant-loop-v : goal.invariant-loop-v
 invariant-loop-v l = record {
-  pairs : l.pairs.items ≡ map (pair_of l.fn.current l.cursors) (take l.v-index l.members);
-  same : l.current ≡ l.fn.current;
+  pairs : l.pairs.items ≡ map (pair_of l.current l.cursors) (take l.v-index l.members);
+  reader : l.reader ≡ l.fn.reader;
 }

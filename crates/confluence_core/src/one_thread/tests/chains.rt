@@ -1,26 +1,11 @@
 //! Chains of events: each shares a variable with the next, and excludes it there.
-ghost use Rattle.std.specs.Prelude.{◌≡◌, map};
-ghost use Rattle.std.specs.Bool.{OnTrue};
-ghost use Rattle.std.specs.List.Sorted.{IsStrictlyIncreasing};
-
-use super::{event, pops_and_stuck};
-use pop_instance::{Cube, Events, Family, Instance};
+use super::instances::{event, of_events};
+use super::pops_and_stuck;
+use pop_instance::Instance;
 use pop_stacks::{StackSpec, Stacks, Weights};
 use std::alloc::Global;
 use std::process::Abort;
 use std::test::Fail;
-
-// Whether the numbers rise.
-fn are_rising(rows: &[(u32, Cube)]) -> bool
-    ensures { OnTrue result (IsStrictlyIncreasing (map (λ r. r.0) rows.now)) }
-{
-    for i in 1..rows.len() {
-        if rows[i - 1].0 >= rows[i].0 {
-            return false;
-        }
-    }
-    true
-}
 
 // The chain of so many links, each the event that variables 2i and 2i + 1 have the value 0 and
 // variable 2i + 2 has the value 1, with stacks of this height under a key of 32 such bytes.
@@ -39,28 +24,34 @@ fn chain(
         let pairs = [(2 * i, 0), (2 * i + 1, 0), (2 * i + 2, 1)];
         rows.push(event(rt, alloc, i + 1, &pairs)?)?;
     }
-    assert!(rt; rows.len() < 1000);
-    let rising = are_rising(&rows);
-    assert!(rt; rising);
-    let events = Events::gather(alloc, rows)?;
     let weights = Weights::pairs(2 * links + 1);
     let stacks = Stacks::new(StackSpec::Key([key; 32]), weights, height)?;
-    Ok(Instance::new(stacks, Family::Listed(events)).expect(rt, "an instance"))
+    of_events(rt, alloc, stacks, rows)
 }
+
+// Runs the chain of so many links under high stacks and several keys. Returns the most pops.
+fn most_pops(rt: &impl Abort, alloc: Global, links: u32) -> Result<u64, Fail> {
+    let mut most = 0;
+    for key in [0, 1, 77, 255] {
+        let chain = chain(rt, alloc, links, key, 900)?;
+        let (pops, stuck) = pops_and_stuck(rt, alloc, &chain)?;
+        assert_eq!(rt; stuck, 0, "{links} links under key {key}");
+        most = most.max(pops);
+    }
+    Ok(most)
+}
+
+static LINKS: [u32; 7] = [1, 2, 3, 7, 20, 99, 400];
 
 #[test]
 fn both_runs_end_alike_under_high_stacks(rt: HostRuntime) -> Result<(), Fail> {
     let alloc = rt.alloc();
-    let mut pops = 0;
-    for links in [1, 2, 3, 7, 20, 99, 400] {
-        for key in [0, 1, 77, 255] {
-            let chain = chain(&rt, alloc, links, key, 900)?;
-            let (more, stuck) = pops_and_stuck(&rt, alloc, &chain)?;
-            assert_eq!(&rt; stuck, 0, "{links} links under key {key}");
-            pops = pops.max(more);
-        }
+    let mut most = 0;
+    for links in LINKS.iter() {
+        let pops = most_pops(&rt, alloc, *links)?;
+        most = most.max(pops);
     }
-    assert!(&rt; pops > 50);
+    assert!(&rt; most > 50);
     Ok(())
 }
 

@@ -1,23 +1,21 @@
 //! Rings of variables, each with an arrow to the next one and an arrow to the variable before it.
-ghost use Rattle.std.specs.Prelude.{◌<◌, ◌≤◌, ◌^◌, length, All, IfOk};
-ghost use Rattle.pop_instance.specs.Arrows.{heads_of};
+ghost use Rattle.std.specs.Prelude.{◌<◌};
 
+use super::instances::stacks;
 use super::{pops_and_stuck, run_from_zeros};
 use crate::Keep;
 use pop_instance::{Arrows, Family, Instance};
-use pop_stacks::{Rows, StackSpec, Stacks, Weights};
+use pop_stacks::{StackSpec, Stacks, Weights};
 use std::alloc::{AllocError, Global};
 use std::process::Abort;
 use std::test::Fail;
 
-// The heads of so many variables in rings of this size, of which the last may be shorter. Each
-// variable leads to the next one of its ring, and to the variable before it; variable 0 to the root.
-fn heads(alloc: Global, count: u32, size: u32) -> Result<Vec<Vec<Option<u32>>>, AllocError>
+// The two heads of each of so many variables in rings of this size, of which the last may be
+// shorter. Each leads to the next one of its ring, and to the variable before it; variable 0 to the
+// root.
+fn heads(alloc: Global, count: u32, size: u32) -> Result<Vec<[Option<u32>; 2]>, AllocError>
     requires some { 0 < size }
     requires few { count < 1000 }
-    ensures short { IfOk result (λ heads. length heads.items ≤ count) }
-    ensures short_rows { IfOk result (λ heads.
-        All (λ row. length row < 2 ^ 31) (heads_of heads.items)) }
 {
     let mut heads = Vec::new(alloc);
     for v in 0..count {
@@ -26,9 +24,19 @@ fn heads(alloc: Global, count: u32, size: u32) -> Result<Vec<Vec<Option<u32>>>, 
         } else {
             v + 1
         };
-        heads.push(vec![in alloc; Some(next), v.checked_sub(1)]?)?;
+        heads.push([Some(next), v.checked_sub(1)])?;
     }
     Ok(heads)
+}
+
+// The arrows of these heads.
+fn arrows_of(rt: &impl Abort, alloc: Global, heads: &[[Option<u32>; 2]]) -> Result<Arrows, Fail> {
+    let mut rows = Vec::new(alloc);
+    for row in heads {
+        rows.push(Vec::from_slice(alloc, row)?)?;
+    }
+    assert!(rt; rows.len() < 1000);
+    Ok(Arrows::new(rows).expect(rt, "arrows"))
 }
 
 // The instance of such rings, over stacks of this height under a key of 32 such bytes.
@@ -44,26 +52,40 @@ fn rings(
     assert!(rt; count < 1000);
     assert!(rt; 0 < height);
     assert!(rt; height < 1000);
-    let arrows = Arrows::new(heads(alloc, count, size)?).expect(rt, "arrows");
+    let heads = heads(alloc, count, size)?;
+    let arrows = arrows_of(rt, alloc, &heads)?;
     let stacks = Stacks::new(StackSpec::Key([key; 32]), Weights::pairs(count), height)?;
     Ok(Instance::new(stacks, Family::Cycles(arrows)).expect(rt, "an instance"))
 }
+
+// Runs such rings under several keys and heights. Returns the most pops, and the most stuck cycles.
+fn most_of(rt: &impl Abort, alloc: Global, count: u32, size: u32) -> Result<(u64, u64), Fail> {
+    let mut most_pops = 0;
+    let mut most_stuck = 0;
+    for key in [0, 3, 77, 200] {
+        for height in [1, 2, 3, 5, 900] {
+            let rings = rings(rt, alloc, count, size, key, height)?;
+            let (pops, stuck) = pops_and_stuck(rt, alloc, &rings)?;
+            assert!(rt; height > 1 || pops == 0, "a stack of one entry has no next");
+            most_pops = most_pops.max(pops);
+            most_stuck = most_stuck.max(stuck);
+        }
+    }
+    Ok((most_pops, most_stuck))
+}
+
+// How many variables there are, and the size of their rings.
+static RINGS: [(u32, u32); 7] = [(1, 1), (2, 2), (5, 5), (9, 3), (12, 5), (20, 4), (30, 30)];
 
 #[test]
 fn both_runs_of_rings_end_alike(rt: HostRuntime) -> Result<(), Fail> {
     let alloc = rt.alloc();
     let mut most_pops = 0;
     let mut most_stuck = 0;
-    for (count, size) in [(1, 1), (2, 2), (5, 5), (9, 3), (12, 5), (20, 4), (30, 30)] {
-        for key in [0, 3, 77, 200] {
-            for height in [1, 2, 3, 5, 900] {
-                let rings = rings(&rt, alloc, count, size, key, height)?;
-                let (pops, stuck) = pops_and_stuck(&rt, alloc, &rings)?;
-                assert!(&rt; height > 1 || pops == 0, "a stack of one entry has no next");
-                most_pops = most_pops.max(pops);
-                most_stuck = most_stuck.max(stuck);
-            }
-        }
+    for (count, size) in RINGS.iter() {
+        let (pops, stuck) = most_of(&rt, alloc, *count, *size)?;
+        most_pops = most_pops.max(pops);
+        most_stuck = most_stuck.max(stuck);
     }
     assert!(&rt; most_pops > 50);
     assert!(&rt; most_stuck > 2);
@@ -75,13 +97,8 @@ fn both_runs_of_rings_end_alike(rt: HostRuntime) -> Result<(), Fail> {
 #[test]
 fn the_log_has_the_cycle_with_its_entries(rt: HostRuntime) -> Result<(), Fail> {
     let alloc = rt.alloc();
-    let arrows = Arrows::new(vec![in alloc;
-        vec![in alloc; None, Some(1)]?,
-        vec![in alloc; Some(0), None]?,
-    ]?)
-    .expect(&rt, "arrows");
-    let rows = Rows::of(vec![in alloc; vec![in alloc; 1, 0]?, vec![in alloc; 0, 0]?]?);
-    let stacks = Stacks::new(StackSpec::Given(rows), Weights::pairs(2), 1)?;
+    let arrows = arrows_of(&rt, alloc, &[[None, Some(1)], [Some(0), None]])?;
+    let stacks = stacks(&rt, alloc, &[&[1, 0], &[0, 0]])?;
     let instance = Instance::new(stacks, Family::Cycles(arrows)).expect(&rt, "an instance");
     assert_eq!(&rt; pops_and_stuck(&rt, alloc, &instance)?, (1, 0));
     let log = run_from_zeros(alloc, &instance, Keep::Log)?

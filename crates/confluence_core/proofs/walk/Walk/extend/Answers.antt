@@ -1,0 +1,79 @@
+use Rattle.std.proofs.Common.{rules, ◌≡◌, ◌+◌, ◌-◌, ◌<◌, Some, None, length, get_or, set, sym, subst, ◌∙◌, arith, length-set}
+use Rattle.std.proofs.lemmas.List.{get_or_default}
+use Rattle.std.proofs.lemmas.Option.{none-some, same_Some}
+use Rattle.confluence_core.specs.CycleTables.{current_head}
+use Rattle.confluence_core.specs.Walks.{IsSettled, Closes}
+use Rattle.confluence_core.proofs.PathsLemmas.{room_for_more}
+use Rattle.confluence_core.proofs.Advancing.{step_rests, step_on, step_back, step_below}
+use Rattle.confluence_core.proofs.walk.Walk.extend.Goals as goal
+
+pub index_mut-requires : goal.index_mut-requires
+index_mut-requires c =
+    let room = room_for_more c.args.self.now.current c.args.self.now.walked.cursors c.args.self.now.marks.items c.args.self.now.path.items
+    c.args.self.now.depth c.args.self.now.at c.requires.walks.goes_on in
+    let h : c.args.self.now.depth < length c.args.self.now.path.items = omega (arith, room, c.requires.walks.sized.places_are) in
+    search rules
+
+pub overflow_cast-self : goal.overflow_cast-self
+overflow_cast-self c =
+    let room = room_for_more c.args.self.now.current c.args.self.now.walked.cursors c.args.self.now.marks.items c.args.self.now.path.items
+    c.args.self.now.depth c.args.self.now.at c.requires.walks.goes_on in
+    let units = c.requires.walks.sized.instance.units in
+    omega (arith, room, units)
+
+pub overflow_add-self : goal.overflow_add-self
+overflow_add-self c =
+    let room = room_for_more c.args.self.now.current c.args.self.now.walked.cursors c.args.self.now.marks.items c.args.self.now.path.items
+    c.args.self.now.depth c.args.self.now.at c.requires.walks.goes_on in
+    let units = c.requires.walks.sized.instance.units in
+    omega (arith, room, units)
+
+pub returns-in_default-clause-leads : goal.returns-in_default-clause-leads
+returns-in_default-clause-leads c =
+    let leads : current_head c.args.self.now.current c.args.self.now.walked.cursors c.args.self.now.at ≡ None =
+    sym c.head.ensures.head ∙ c.in_default.is in
+    step_rests c.args.self.now.current c.args.self.now.walked.cursors c.args.self.now.marks.items c.args.self.now.path.items c.args.self.now.depth c.args.self.now.at
+    c.requires.walks.sized c.requires.walks.goes_on
+    (λ w on. absurd (none-some w (sym leads ∙ on)))
+
+pub returns-then-mark-clause-leads : goal.returns-then-mark-clause-leads
+returns-then-mark-clause-leads c =
+    let w = c.args.self.now in
+    let leads : current_head w.current w.walked.cursors w.at ≡ Some c.in-Some.w = sym c.head.ensures.head ∙ c.in-Some.is in
+    let below = step_below w.current w.walked.cursors w.marks.items w.path.items w.depth w.at c.requires.walks.sized
+    c.requires.walks.goes_on c.in-Some.w leads in
+    let marks = set w.marks.items w.at (w.depth + 1) in
+    let read : c.index-mark.result.now ≡ get_or marks c.in-Some.w 0 =
+    c.index-mark.ensures ∙ get_or_default marks c.in-Some.w c.index-mark.result.now 0
+    (omega (arith, below, c.requires.walks.sized.marks_are, length-set w.marks.items w.at (w.depth + 1))) in
+    step_rests w.current w.walked.cursors w.marks.items w.path.items w.depth w.at c.requires.walks.sized
+    c.requires.walks.goes_on
+    (λ v on. subst (IsSettled marks) (same_Some c.in-Some.w v (sym leads ∙ on)) (sym read ∙ c.if-mark.true))
+
+pub returns-then-mark-eq0-clause-leads : goal.returns-then-mark-eq0-clause-leads
+returns-then-mark-eq0-clause-leads c =
+    let w = c.args.self.now in
+    let leads : current_head w.current w.walked.cursors w.at ≡ Some c.in-Some.w = sym c.head.ensures.head ∙ c.in-Some.is in
+    let below = step_below w.current w.walked.cursors w.marks.items w.path.items w.depth w.at c.requires.walks.sized
+    c.requires.walks.goes_on c.in-Some.w leads in
+    let marks = set w.marks.items w.at (w.depth + 1) in
+    let read : c.index-mark.result.now ≡ get_or marks c.in-Some.w 0 =
+    c.index-mark.ensures ∙ get_or_default marks c.in-Some.w c.index-mark.result.now 0
+    (omega (arith, below, c.requires.walks.sized.marks_are, length-set w.marks.items w.at (w.depth + 1))) in
+    step_on w.current w.walked.cursors w.marks.items w.path.items w.depth w.at c.requires.walks.sized
+    c.requires.walks.goes_on c.in-Some.w leads (sym read ∙ c.if-mark-eq0.true)
+
+pub returns-clause-leads : goal.returns-clause-leads
+returns-clause-leads c =
+    let w = c.args.self.now in
+    let leads : current_head w.current w.walked.cursors w.at ≡ Some c.in-Some.w = sym c.head.ensures.head ∙ c.in-Some.is in
+    let below = step_below w.current w.walked.cursors w.marks.items w.path.items w.depth w.at c.requires.walks.sized
+    c.requires.walks.goes_on c.in-Some.w leads in
+    let marks = set w.marks.items w.at (w.depth + 1) in
+    let read : c.index-mark.result.now ≡ get_or marks c.in-Some.w 0 =
+    c.index-mark.ensures ∙ get_or_default marks c.in-Some.w c.index-mark.result.now 0
+    (omega (arith, below, c.requires.walks.sized.marks_are, length-set w.marks.items w.at (w.depth + 1))) in
+    subst (λ m. Closes w.current w.walked.cursors marks (set w.path.items w.depth w.at) w.depth (m - 1)) (sym read)
+    (step_back w.current w.walked.cursors w.marks.items w.path.items w.depth w.at c.requires.walks.sized
+    c.requires.walks.goes_on c.in-Some.w leads (λ none. c.if-mark-eq0.false (read ∙ none))
+    (λ at. c.if-mark.false (read ∙ at)))

@@ -1,0 +1,55 @@
+-- A loop-erased walk along the current arrows (Wilson 1996; Propp and Wilson 1998).
+use Rattle.std.specs.Prelude.{ℕ, suc, ◌+◌, ◌-◌, ◌*◌, ◌==◌, if◌then◌else◌, length, slice_index}
+use Rattle.pop_model.proofs.Room.{left_from}
+use Rattle.confluence_core.specs.Walks.{IsSettled, IsMet, AreDone, AreSized, IsPath, GoesOn, AreClear, HasRoom, AreLast}
+use Rattle.confluence_core.specs.declared.walk.Walk.{Walk}
+
+-- a settled variable stays so
+abbrev pub StaySettled : Walk → Walk → Type 0
+StaySettled old new = (v : ℕ) → IsSettled old.marks.items v → IsSettled new.marks.items v
+
+-- the sizes of what the walk works on
+abbrev pub IsSized : Walk → Type 0
+IsSized w = AreSized w.current w.walked.cursors w.marks.items w.path.items
+
+-- the arrows lead along so many places of the path, which passes no variable twice
+abbrev pub HasPath : Walk → ℕ → Type 0
+HasPath w n = IsPath w.current w.walked.cursors w.marks.items w.path.items n
+
+-- the settled variables are done
+abbrev pub HasDone : Walk → Type 0
+HasDone w = AreDone w.current w.walked.cursors (IsSettled w.marks.items) w.walked.stuck
+
+-- what holds between two walks
+pub record Stands (w : Walk) : Type 0 where
+  pub sized : IsSized w
+  pub clear : AreClear w.current w.marks.items
+  pub done : HasDone w
+  pub last : AreLast w.current w.walked
+  pub room : HasRoom w.current w.walked
+
+-- the walk's invariant: its path leads to a variable that it hasn't met
+pub record Walks (w : Walk) : Type 0 where
+  pub sized : IsSized w
+  pub goes_on : GoesOn w.current w.walked.cursors w.marks.items w.path.items w.depth w.at
+  pub done : HasDone w
+  pub last : AreLast w.current w.walked
+  pub room : HasRoom w.current w.walked
+
+-- the walk is over: what it met is done
+pub record IsOver (w : Walk) : Type 0 where
+  pub sized : IsSized w
+  pub trail : HasPath w (suc w.depth)
+  pub done : AreDone w.current w.walked.cursors (IsMet w.marks.items w.path.items (suc w.depth))
+      w.walked.stuck
+  pub last : AreLast w.current w.walked
+  pub room : HasRoom w.current w.walked
+
+-- the variable from which the walk began
+abbrev pub begun_at : Walk → ℕ
+begun_at w = if w.depth == 0 then w.at else slice_index w.path.items 0
+
+-- what the walk has left to do: it falls at each step
+abbrev pub work : Walk → ℕ
+work w = left_from w.current.stacks 0 w.walked.cursors * (length w.current.heads + 1)
+    + (length w.current.heads - w.depth)

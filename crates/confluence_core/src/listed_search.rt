@@ -1,0 +1,167 @@
+ghost use Rattle.std.specs.Prelude.{◌≡◌, ◌<◌, ◌↔◌, length, All, IfOk, IsTrue, MatchOption};
+ghost use Rattle.pop_model.specs.Stacks.{variables_of};
+ghost use Rattle.pop_model.specs.Popping.{AreWithin};
+ghost use Rattle.pop_model.specs.Instances.{FitsStacks};
+ghost use Rattle.pop_stacks.specs.Readers.{Belongs};
+ghost use Rattle.confluence_core.specs.Search.{
+  NoneBefore,
+  IsFirstPlace,
+  IsStuckBelow,
+  Covers,
+  IsNextPlace,
+  AllHaveNext,
+};
+
+use crate::Stuck;
+use crate::work_list::WorkList;
+use pop_instance::{Cursors, Events};
+use pop_stacks::{Reader, Stacks};
+use std::alloc::{AllocError, Global};
+
+// The place of the first poppable event.
+pub(crate) fn first_poppable_listed(
+    stacks: &Stacks,
+    events: &Events,
+    reader: &mut Reader,
+    cursors: &Cursors,
+) -> Option<u32>
+    requires fits { All (λ r. FitsStacks stacks.now r.1) events.now }
+    requires count { variables_of stacks.now ≡ length cursors.now }
+    requires within { AreWithin stacks.now cursors.now }
+    requires belongs { Belongs stacks.now reader.old }
+    ensures first { MatchOption result
+        (NoneBefore stacks.now cursors.now events.now (length events.now))
+        (IsFirstPlace stacks.now cursors.now events.now) }
+    ensures reader { reader.new ≡ reader.old }
+{
+    for place in 0..events.count() {
+        if cursors.poppable(stacks, reader, events.cube(place)) {
+            return Some(place);
+        }
+    }
+    None
+}
+
+// The place of a poppable event, taken out of the work list with those before it that are none.
+pub(crate) fn next_poppable(
+    stacks: &Stacks,
+    events: &Events,
+    reader: &mut Reader,
+    cursors: &Cursors,
+    work: &mut WorkList,
+) -> Option<u32>
+    requires fits { All (λ r. FitsStacks stacks.now r.1) events.now }
+    requires count { variables_of stacks.now ≡ length cursors.now }
+    requires within { AreWithin stacks.now cursors.now }
+    requires belongs { Belongs stacks.now reader.old }
+    requires units { work.old.units ≡ length events.now }
+    requires covers { Covers stacks.now cursors.now events.now work.old.list }
+    ensures next { MatchOption result
+        (NoneBefore stacks.now cursors.now events.now (length events.now))
+        (IsNextPlace stacks.now cursors.now events.now work.new.list) }
+    ensures units { work.new.units ≡ work.old.units }
+    ensures reader { reader.new ≡ reader.old }
+{
+    while let Some(unit) = work.take() {
+        if cursors.poppable(stacks, reader, events.cube(unit)) {
+            return Some(unit);
+        }
+    }
+    None
+}
+
+// The events that occur, by rising unit.
+pub(crate) fn occurring_listed(
+    alloc: Global,
+    stacks: &Stacks,
+    events: &Events,
+    reader: &mut Reader,
+    cursors: &Cursors,
+) -> Result<Stuck, AllocError>
+    requires fits { All (λ r. FitsStacks stacks.now r.1) events.now }
+    requires count { variables_of stacks.now ≡ length cursors.now }
+    requires within { AreWithin stacks.now cursors.now }
+    requires belongs { Belongs stacks.now reader.old }
+    ensures stuck { IfOk result
+        (IsStuckBelow stacks.now cursors.now events.now (length events.now)) }
+    ensures reader { reader.new ≡ reader.old }
+{
+    let mut stuck = Stuck::new(alloc);
+    for unit in 0..events.count() {
+        let cube = events.cube(unit);
+        if cursors.occurs(stacks, reader, cube) {
+            stuck.push(unit, cube.copy(alloc)?)?;
+        }
+    }
+    Ok(stuck)
+}
+
+// The place of an event that is popped next, if the limit isn't reached and there is one.
+pub(crate) fn next_below(
+    stacks: &Stacks,
+    events: &Events,
+    reader: &mut Reader,
+    cursors: &Cursors,
+    work: &mut WorkList,
+    is_below: bool,
+) -> Option<u32>
+    requires fits { All (λ r. FitsStacks stacks.now r.1) events.now }
+    requires count { variables_of stacks.now ≡ length cursors.now }
+    requires within { AreWithin stacks.now cursors.now }
+    requires belongs { Belongs stacks.now reader.old }
+    requires units { work.old.units ≡ length events.now }
+    requires covers { Covers stacks.now cursors.now events.now work.old.list }
+    ensures next { MatchOption result
+        (IsTrue is_below → NoneBefore stacks.now cursors.now events.now (length events.now))
+        (λ place. IsTrue is_below
+        × IsNextPlace stacks.now cursors.now events.now work.new.list place) }
+    ensures units { work.new.units ≡ work.old.units }
+    ensures reader { reader.new ≡ reader.old }
+{
+    if is_below {
+        next_poppable(stacks, events, reader, cursors, work)
+    } else {
+        None
+    }
+}
+
+// The events that occur, by rising unit. At an end, where none is poppable, each of them has a
+// variable at its last entry, so where there is no such variable, no event is looked at.
+pub(crate) fn stuck_after(
+    alloc: Global,
+    stacks: &Stacks,
+    events: &Events,
+    reader: &mut Reader,
+    cursors: &Cursors,
+    is_end: bool,
+) -> Result<Stuck, AllocError>
+    requires fits { All (λ r. FitsStacks stacks.now r.1) events.now }
+    requires count { variables_of stacks.now ≡ length cursors.now }
+    requires within { AreWithin stacks.now cursors.now }
+    requires belongs { Belongs stacks.now reader.old }
+    requires end { IsTrue is_end
+        → NoneBefore stacks.now cursors.now events.now (length events.now) }
+    ensures stuck { IfOk result
+        (IsStuckBelow stacks.now cursors.now events.now (length events.now)) }
+    ensures reader { reader.new ≡ reader.old }
+{
+    if is_end && all_have_next(stacks, cursors) {
+        return Ok(Stuck::new(alloc));
+    }
+    occurring_listed(alloc, stacks, events, reader, cursors)
+}
+
+// Whether each variable has an entry behind its cursor.
+fn all_have_next(stacks: &Stacks, cursors: &Cursors) -> bool
+    requires count { variables_of stacks.now ≡ length cursors.now }
+    requires within { AreWithin stacks.now cursors.now }
+    ensures { IsTrue result ↔ AllHaveNext stacks.now cursors.now }
+{
+    for v in 0..stacks.count() {
+        let height = stacks.height(v);
+        if cursors.get(v) + 1 >= height {
+            return false;
+        }
+    }
+    true
+}

@@ -1,0 +1,115 @@
+//! Looks at an instance: what is poppable, and what occurs, at given cursors.
+ghost use Rattle.std.specs.Prelude.{◌≡◌, length, IfOk, MatchOption};
+ghost use Rattle.pop_model.specs.Stacks.{variables_of};
+ghost use Rattle.pop_model.specs.Popping.{AreWithin};
+ghost use Rattle.pop_model.specs.Families.Family.{Listed as ListedEvents, Cycles as CycleEvents};
+ghost use Rattle.pop_model.specs.Instances.{FamilyFits};
+ghost use Rattle.pop_model.specs.Runs.{IsEnd, IsFirstPoppable, IsStuckList};
+ghost use Rattle.pop_stacks.specs.Readers.{Belongs};
+ghost use Rattle.confluence_core.specs.Stuck.{event_of};
+
+use crate::Stuck;
+use crate::current_arrows::CurrentArrows;
+use crate::cycle_runs::occurring_cycles;
+use crate::cycle_search::first_poppable_cycle;
+use crate::listed_search::{first_poppable_listed, occurring_listed};
+use pop_instance::{Arrows, Cube, Cursors, Events, Family, Instance};
+use pop_stacks::{Reader, Stacks};
+use std::alloc::{AllocError, Global};
+
+/// The poppable event of least unit at cursors that are below the heights, under its unit. Listed
+/// events are looked at from the first on, and the cycles of each variable from variable 0 on: for
+/// these it takes time up to the square of the variables.
+pub fn first_poppable(
+    alloc: Global,
+    instance: &Instance,
+    reader: &mut Reader,
+    cursors: &Cursors,
+) -> Result<Option<(u32, Cube)>, AllocError>
+    requires count { variables_of instance.now.stacks ≡ length cursors.now }
+    requires within { AreWithin instance.now.stacks cursors.now }
+    requires belongs { Belongs instance.now.stacks reader.old }
+    ensures first { IfOk result (λ found. MatchOption found (IsEnd instance.now cursors.now)
+        (λ e. IsFirstPoppable instance.now cursors.now (event_of e))) }
+    ensures reader { reader.new ≡ reader.old }
+{
+    let _units = instance.units();
+    let stacks = instance.stacks();
+    match instance.family() {
+        Family::Listed(events) => first_listed(alloc, stacks, events, reader, cursors),
+        Family::Cycles(arrows) => first_cycle(alloc, stacks, arrows, reader, cursors),
+    }
+}
+
+// The first poppable event of listed ones.
+fn first_listed(
+    alloc: Global,
+    stacks: &Stacks,
+    events: &Events,
+    reader: &mut Reader,
+    cursors: &Cursors,
+) -> Result<Option<(u32, Cube)>, AllocError>
+    requires fits { FamilyFits stacks.now (ListedEvents events.now) }
+    requires count { variables_of stacks.now ≡ length cursors.now }
+    requires within { AreWithin stacks.now cursors.now }
+    requires belongs { Belongs stacks.now reader.old }
+    ensures first { IfOk result (λ found. MatchOption found
+        (IsEnd (record { stacks = stacks.now; family = ListedEvents events.now }) cursors.now)
+        (λ e. IsFirstPoppable (record { stacks = stacks.now; family = ListedEvents events.now })
+        cursors.now (event_of e))) }
+    ensures reader { reader.new ≡ reader.old }
+{
+    let Some(place) = first_poppable_listed(stacks, events, reader, cursors) else {
+        return Ok(None);
+    };
+    let cube = events.cube(place).copy(alloc)?;
+    Ok(Some((place, cube)))
+}
+
+// The first poppable cycle.
+fn first_cycle(
+    alloc: Global,
+    stacks: &Stacks,
+    arrows: &Arrows,
+    reader: &mut Reader,
+    cursors: &Cursors,
+) -> Result<Option<(u32, Cube)>, AllocError>
+    requires fits { FamilyFits stacks.now (CycleEvents arrows.now) }
+    requires count { variables_of stacks.now ≡ length cursors.now }
+    requires within { AreWithin stacks.now cursors.now }
+    requires belongs { Belongs stacks.now reader.old }
+    ensures first { IfOk result (λ found. MatchOption found
+        (IsEnd (record { stacks = stacks.now; family = CycleEvents arrows.now }) cursors.now)
+        (λ e. IsFirstPoppable (record { stacks = stacks.now; family = CycleEvents arrows.now })
+        cursors.now (event_of e))) }
+    ensures reader { reader.new ≡ reader.old }
+{
+    let current = CurrentArrows::of(stacks, arrows);
+    let Some(cube) = first_poppable_cycle(alloc, &current, reader, cursors)? else {
+        return Ok(None);
+    };
+    let (unit, _) = cube.pair(0);
+    Ok(Some((unit, cube)))
+}
+
+/// Every event that occurs at cursors that are below the heights, by rising unit. Each listed event
+/// is looked at once, and the current arrow of each variable.
+pub fn occurring(
+    alloc: Global,
+    instance: &Instance,
+    reader: &mut Reader,
+    cursors: &Cursors,
+) -> Result<Stuck, AllocError>
+    requires count { variables_of instance.now.stacks ≡ length cursors.now }
+    requires within { AreWithin instance.now.stacks cursors.now }
+    requires belongs { Belongs instance.now.stacks reader.old }
+    ensures stuck_list { IfOk result (IsStuckList instance.now cursors.now) }
+    ensures reader { reader.new ≡ reader.old }
+{
+    let _units = instance.units();
+    let stacks = instance.stacks();
+    match instance.family() {
+        Family::Listed(events) => occurring_listed(alloc, stacks, events, reader, cursors),
+        Family::Cycles(arrows) => occurring_cycles(alloc, stacks, arrows, reader, cursors),
+    }
+}
