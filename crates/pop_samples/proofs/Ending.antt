@@ -1,0 +1,113 @@
+-- Each instance of which it can be found whether an event is poppable has a legal log to an end, since a pop takes from
+-- the room.
+use Rattle.std.proofs.Common.{inl, inr, ◌≡◌, ◌⊎◌, ℕ, zero, suc, ◌<◌, ◌≤◌, List, [], ◌∷◌, length, get_or, Some, slice_get, refl, sym, subst, ◌∙◌, arith}
+use Rattle.std.proofs.lemmas.List.Elements.{Contains-get_or}
+use Rattle.std.proofs.lemmas.Option.{same_Some}
+use Rattle.pop_model.specs.Stacks.{StackTable, variables_of}
+use Rattle.pop_model.specs.Popping.{Cube, IsCube, IsPoppable, NamesBelow, pop}
+use Rattle.pop_model.specs.Families.{Event, Family, IsEvent, IsFamily}
+use Rattle.pop_model.specs.Families.Family.{Listed, Cycles}
+use Rattle.pop_model.specs.Instances.{Instance, FamilyFits}
+use Rattle.pop_model.specs.Logs.{LogRecord, IsLegal, replay, entries_at}
+use Rattle.pop_model.specs.Runs.{IsEnd}
+use Rattle.pop_model.proofs.Diamond.{names_it}
+use Rattle.pop_model.proofs.PopLemmas.{length-pop}
+use Rattle.pop_model.proofs.Room.{left_from, room_falls}
+use Rattle.pop_model.proofs.FirstRun.{poppable_or_not}
+use Rattle.pop_model.proofs.Members.{all_at}
+use Rattle.pop_samples.proofs.MovedLogs.{known_variable}
+
+-- some event is poppable, or none
+abbrev pub Found : Instance → List ℕ → Type 0
+Found i c = ((e : Event) × IsEvent i.family e × IsPoppable i.stacks c e.cube) ⊎ IsEnd i c
+
+-- the cube of an event is one
+cube_of_event : (family : Family) → IsFamily family → (e : Event) → IsEvent family e → IsCube e.cube
+cube_of_event (Listed rows) is e event =
+    all_at (λ (r : ℕ × Cube). IsCube r.1) rows e.unit (event.0, e.cube) event.1 is.cubes
+cube_of_event (Cycles heads) is e event = event.0.cube
+
+-- a legal log to an end
+pub record Ends (i : Instance) (c : List ℕ) : Type 0 where
+  pub log : List LogRecord
+  pub legal : IsLegal i c log
+  pub end : IsEnd i (replay c log)
+
+-- a pop takes from the room
+taken : (i : Instance) → IsFamily i.family → FamilyFits i.stacks i.family → (c : List ℕ)
+    → length c ≡ variables_of i.stacks → (e : Event) → IsEvent i.family e → IsPoppable i.stacks c e.cube
+    → left_from i.stacks 0 (pop c e.cube) < left_from i.stacks 0 c
+taken i family fits c size e is poppable =
+    let low : NamesBelow e.cube (length c) = λ k d h.
+    let p : ℕ × ℕ = get_or e.cube k d in
+    let less = known_variable i.stacks i.family fits e is p.0 (names_it e.cube p (Contains-get_or e.cube k d h)) in
+    omega (arith, less, size) in
+    room_falls i.stacks c e.cube (cube_of_event i.family family e is) low poppable.next
+
+-- with room for at most n pops
+by_room : (n : ℕ) (i : Instance) → IsFamily i.family → FamilyFits i.stacks i.family → ((d : List ℕ) → Found i d)
+    → (c : List ℕ) → length c ≡ variables_of i.stacks → left_from i.stacks 0 c ≤ n → Ends i c
+by_room zero i family fits find c size room = elim (find c) [
+  | inr none ↦ record { log = []; legal = tt; end = none }
+  | inl found ↦ absurd (let less = taken i family fits c size found.0 found.1 found.2 in omega (arith, less, room))
+]
+by_room (suc n) i family fits find c size room = elim (find c) [
+  | inr none ↦ record { log = []; legal = tt; end = none }
+  | inl found ↦
+      let e : Event = found.0 in
+      let less = taken i family fits c size e found.1 found.2 in
+      let rest : Ends i (pop c e.cube) =
+      by_room n i family fits find (pop c e.cube) (length-pop c e.cube ∙ size) (omega (arith, less, room)) in
+      record {
+        log = record { event = e; entries = entries_at c e.cube } ∷ rest.log;
+        legal = (record { event = found.1; poppable = found.2; entries = refl }, rest.legal);
+        end = rest.end;
+      }
+]
+
+-- from any cursors, where it can be found at each
+pub run_to_end : (i : Instance) → IsFamily i.family → FamilyFits i.stacks i.family → ((d : List ℕ) → Found i d)
+    → (c : List ℕ) → length c ≡ variables_of i.stacks → Ends i c
+run_to_end i family fits find c size = by_room (left_from i.stacks 0 c) i family fits find c size (omega arith)
+
+-- a poppable event among listed ones
+record Poppable (s : StackTable) (c : List ℕ) (rows : List (ℕ × Cube)) : Type 0 where
+  unit : ℕ
+  number : ℕ
+  cube : Cube
+  at : slice_get rows unit ≡ Some (number, cube)
+  poppable : IsPoppable s c cube
+
+-- the first poppable of some listed events, or none
+tried : (s : StackTable) (c : List ℕ) (rows : List (ℕ × Cube))
+    → Poppable s c rows ⊎ ((u n : ℕ) (e : Cube) → slice_get rows u ≡ Some (n, e) → IsPoppable s c e → ⊥)
+tried s c [] = inr (λ u n e at pop. absurd (cc))
+tried s c (r ∷ rows) = elim (poppable_or_not s c r.1) [
+  | inl is ↦ inl (record { unit = 0; number = r.0; cube = r.1; at = refl; poppable = is })
+  | inr not ↦ elim (tried s c rows) [
+    | inl old ↦ inl (record {
+      unit = suc old.unit;
+      number = old.number;
+      cube = old.cube;
+      at = old.at;
+      poppable = old.poppable;
+    })
+    | inr none ↦ inr (never r rows not none)
+  ]
+]
+  where
+    never : (r : ℕ × Cube) (rows : List (ℕ × Cube)) → (IsPoppable s c r.1 → ⊥)
+        → ((u n : ℕ) (e : Cube) → slice_get rows u ≡ Some (n, e) → IsPoppable s c e → ⊥)
+        → (u n : ℕ) (e : Cube) → slice_get (r ∷ rows) u ≡ Some (n, e) → IsPoppable s c e → ⊥
+    never r rows not none zero n e at pop =
+        let same : ◌≡◌ {A = ℕ × Cube} r (n, e) = same_Some r (n, e) at in
+        not (subst (λ (q : ℕ × Cube). IsPoppable s c q.1) (sym same) pop)
+    never r rows not none (suc u) n e at pop = none u n e at pop
+
+-- so it is found of all listed events
+pub found_listed : (s : StackTable) (rows : List (ℕ × Cube)) (c : List ℕ)
+    → Found (record { stacks = s; family = Listed rows }) c
+found_listed s rows c = elim (tried s c rows) [
+  | inl some ↦ inl (record { unit = some.unit; cube = some.cube }, (some.number, some.at), some.poppable)
+  | inr none ↦ inr (λ e is pop. none e.unit is.0 e.cube is.1 pop)
+]

@@ -1,0 +1,183 @@
+//! Where logs finish, and what the entries there have to do with it.
+use super::instances::*;
+use std::process::Abort;
+use std::test::Fail;
+
+// The rows with this sample in place of the entries at the cursors.
+fn exchange(rows: u32, place: u32, sample: u32) -> u32 {
+    let mut rows = rows;
+    for v in 0..3 {
+        let at = 3 * v + cursor(place, v);
+        if bit(rows, at) != bit(sample, v) {
+            rows ^= 1 << at;
+        }
+    }
+    rows
+}
+
+// The rows have the same entries below the cursors.
+fn agree_below(rows: u32, others: u32, place: u32) -> bool {
+    for at in 0..9 {
+        if at % 3 < cursor(place, at / 3) && bit(rows, at) != bit(others, at) {
+            return false;
+        }
+    }
+    true
+}
+
+// The cursors after a pop of the event; none where one of its variables has no next entry.
+fn popped(place: u32, names: u32) -> Option<u32> {
+    let a = cursor(place, 0) + bit(names, 0);
+    let b = cursor(place, 1) + bit(names, 1);
+    let c = cursor(place, 2) + bit(names, 2);
+    if a < 3 && b < 3 && c < 3 {
+        Some(a + 3 * b + 9 * c)
+    } else {
+        None
+    }
+}
+
+// The cursors to which one pop leads, as bits; none where no event occurs.
+fn next_places(rt: &impl Abort, which: usize, rows: u32, place: u32) -> Option<u32> {
+    let mut occurs = false;
+    let mut next = 0;
+    for e in 0..3 {
+        let (names, values) = event(rt, which, e);
+        if sample_at(rows, place) & names == values {
+            occurs = true;
+            if let Some(later) = popped(place, names) {
+                assert!(rt; later < 27);
+                next |= 1 << later;
+            }
+        }
+    }
+    if occurs { Some(next) } else { None }
+}
+
+// All cursors at which some log finishes, as bits. A pop leads to a greater number.
+fn finished_places(rt: &impl Abort, which: usize, rows: u32) -> u32 {
+    let mut reached: u32 = 1;
+    let mut finished: u32 = 0;
+    for place in 0..27 {
+        if bit(reached, place) == 1 {
+            match next_places(rt, which, rows, place) {
+                Some(next) => reached |= next,
+                None => finished |= 1 << place,
+            }
+        }
+    }
+    finished
+}
+
+#[test]
+fn some_log_finishes_where_the_run_ends_with_nothing_stuck(rt: HostRuntime) -> Result<(), Fail> {
+    let alloc = rt.alloc();
+    for which in [FORMULA, TRIANGLE, PATH] {
+        let all = finishes(&rt, alloc, which)?;
+        for rows in 0..512 {
+            let end = finish_of(&rt, &all, rows);
+            let places = finished_places(&rt, which, rows);
+            assert!(&rt; end.place < 28);
+            let place = if end.place == STUCK {
+                0
+            } else {
+                1 << end.place
+            };
+            assert_eq!(&rt; places, place, "rows {rows} of instance {which}");
+        }
+    }
+    Ok(())
+}
+
+#[test]
+fn logs_finish_at_several_cursors_where_clauses_clash(rt: HostRuntime) {
+    let mut several = 0;
+    for rows in 0..512 {
+        if finished_places(&rt, CLASHING, rows).count_ones() > 1 {
+            several = plus(&rt, several, 1);
+        }
+    }
+    assert!(&rt; several > 0);
+}
+
+// Tries a sample in place of the entries at the end of these rows.
+fn try_sample(rt: &impl Abort, which: usize, all: &[Finish], rows: u32, sample: u32) {
+    let end = finish_of(rt, all, rows);
+    let others = exchange(rows, end.place, sample);
+    let other = finish_of(rt, all, others);
+    if !is_sample(rt, which, sample) {
+        assert!(rt; other.place != end.place, "rows {rows} with {sample}");
+        return;
+    }
+    assert_eq!(rt; other.place, end.place, "rows {rows} with {sample}");
+    assert_eq!(rt; other.pops, end.pops, "rows {rows} with {sample}");
+    assert_eq!(rt; other.sample, sample, "rows {rows}");
+    assert_eq!(rt; exchange(others, end.place, end.sample), rows);
+    assert_eq!(rt;
+        times(rt, other.weight, sample_weight(rt, end.sample)),
+        times(rt, end.weight, sample_weight(rt, sample))
+    );
+}
+
+#[test]
+fn every_sample_may_be_exchanged_for_the_one_at_an_end_and_nothing_else(
+    rt: HostRuntime,
+) -> Result<(), Fail> {
+    let alloc = rt.alloc();
+    for which in [FORMULA, TRIANGLE, PATH] {
+        let all = finishes(&rt, alloc, which)?;
+        for rows in 0..512 {
+            for sample in 0..8 {
+                if finish_of(&rt, &all, rows).place != STUCK {
+                    try_sample(&rt, which, &all, rows, sample);
+                }
+            }
+        }
+    }
+    Ok(())
+}
+
+// Compares the ends of two rows that agree below the end of the first, and have a sample there.
+fn compare(rt: &impl Abort, which: usize, all: &[Finish], rows: u32, others: u32) {
+    let end = finish_of(rt, all, rows);
+    if end.place == STUCK || !agree_below(rows, others, end.place) {
+        return;
+    }
+    if is_sample(rt, which, sample_at(others, end.place)) {
+        let other = finish_of(rt, all, others);
+        assert_eq!(rt; other.place, end.place, "rows {rows} and {others}");
+        assert_eq!(rt; other.pops, end.pops, "rows {rows} and {others}");
+    }
+}
+
+#[test]
+fn the_pops_hang_on_the_entries_below_the_end_alone(rt: HostRuntime) -> Result<(), Fail> {
+    let alloc = rt.alloc();
+    for which in [FORMULA, TRIANGLE, PATH] {
+        let all = finishes(&rt, alloc, which)?;
+        for rows in 0..512 {
+            for others in 0..512 {
+                compare(&rt, which, &all, rows, others);
+            }
+        }
+    }
+    Ok(())
+}
+
+#[test]
+fn every_sample_is_reached_before_any_pop(rt: HostRuntime) -> Result<(), Fail> {
+    let alloc = rt.alloc();
+    for which in [FORMULA, TRIANGLE, PATH] {
+        let all = finishes(&rt, alloc, which)?;
+        for sample in 0..8 {
+            let rows = 7 * bit(sample, 0) + 56 * bit(sample, 1) + 448 * bit(sample, 2);
+            let end = finish_of(&rt, &all, rows);
+            assert_eq!(&rt;
+                end.place == 0,
+                is_sample(&rt, which, sample),
+                "sample {sample}"
+            );
+        }
+    }
+    Ok(())
+}

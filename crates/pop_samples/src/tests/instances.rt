@@ -1,0 +1,203 @@
+//! Rows are a number of nine bits: entry k of variable v is bit 3v + k. A sample is a number of
+//! three bits, and cursors are a number of three digits to base 3, that of variable 0 lowest.
+ghost use Rattle.std.specs.Prelude.{◌<◌, ◌^◌};
+
+use confluence_core::run_first;
+use pop_instance::{Arrows, Cube, Events, Family, Instance};
+use pop_stacks::{Rows, StackSpec, Stacks, Weights};
+use std::alloc::{AllocError, Global};
+use std::process::Abort;
+use std::test::Fail;
+
+/// A formula of two clauses that share a variable and exclude each other.
+pub const FORMULA: usize = 0;
+/// The sinks of the orientations of a triangle.
+pub const TRIANGLE: usize = 1;
+/// The cycles of arrows along a path, of which both ends are the root.
+pub const PATH: usize = 2;
+/// A formula of two clauses that share a variable and may be false together: it isn't extremal.
+pub const CLASHING: usize = 3;
+
+// The events of each instance: the variables that they name, and their values, in bits. The last is
+// repeated where there are two.
+const EVENTS: [[(u32, u32); 3]; 4] = [
+    [(0b011, 0b000), (0b110, 0b010), (0b110, 0b010)],
+    [(0b101, 0b001), (0b011, 0b010), (0b110, 0b100)],
+    [(0b011, 0b001), (0b110, 0b010), (0b110, 0b010)],
+    [(0b011, 0b000), (0b110, 0b000), (0b110, 0b000)],
+];
+
+// The weights of the values 0 and 1 of each variable.
+const WEIGHTS: [[u64; 2]; 3] = [[2, 1], [1, 3], [3, 2]];
+
+/// The cursors of rows where an event is stuck.
+pub const STUCK: u32 = 27;
+
+/// The end of the one-thread run of some rows: its cursors, its sample, and its pops; and the
+/// weight of the rows.
+#[derive(Clone, Copy)]
+pub struct Finish {
+    pub place: u32,
+    pub sample: u32,
+    pub pops: u64,
+    pub weight: u64,
+}
+
+/// A bit of a number.
+pub fn bit(number: u32, at: u32) -> u32
+    requires { at < 32 }
+    ensures { result < 2 }
+{
+    (number >> at) % 2
+}
+
+/// A digit to base 3.
+pub fn cursor(place: u32, v: u32) -> u32
+    ensures { result < 3 }
+{
+    match v {
+        0 => place % 3,
+        1 => place / 3 % 3,
+        _ => place / 9 % 3,
+    }
+}
+
+/// The entries at the cursors.
+pub fn sample_at(rows: u32, place: u32) -> u32 {
+    let first = bit(rows, cursor(place, 0));
+    let second = bit(rows, 3 + cursor(place, 1));
+    first + 2 * second + 4 * bit(rows, 6 + cursor(place, 2))
+}
+
+pub fn event(rt: &impl Abort, which: usize, e: usize) -> (u32, u32) {
+    assert!(rt; which < 4);
+    assert!(rt; e < 3);
+    EVENTS[which][e]
+}
+
+/// No event has all its values among these.
+pub fn is_sample(rt: &impl Abort, which: usize, sample: u32) -> bool {
+    for e in 0..3 {
+        let (names, values) = event(rt, which, e);
+        if sample & names == values {
+            return false;
+        }
+    }
+    true
+}
+
+pub fn plus(rt: &impl Abort, a: u64, b: u64) -> u64 {
+    a.checked_add(b).expect(rt, "a sum of 64 bits")
+}
+
+pub fn times(rt: &impl Abort, a: u64, b: u64) -> u64 {
+    a.checked_mul(b).expect(rt, "a product of 64 bits")
+}
+
+// The weight of a value of a variable.
+fn weight(v: u32, value: u32) -> u64
+    requires variable { v < 3 }
+    requires value { value < 2 }
+{
+    WEIGHTS[v as usize][value as usize]
+}
+
+/// The product of the weights of a sample.
+pub fn sample_weight(rt: &impl Abort, sample: u32) -> u64 {
+    let mut product = 1;
+    for v in 0..3 {
+        product = times(rt, product, weight(v, bit(sample, v)));
+    }
+    product
+}
+
+// The product of the weights of all entries.
+fn rows_weight(rt: &impl Abort, rows: u32) -> u64 {
+    let mut product = 1;
+    for at in 0..9 {
+        product = times(rt, product, weight(at / 3, bit(rows, at)));
+    }
+    product
+}
+
+// The cube of an event.
+fn cube(rt: &impl Abort, alloc: Global, which: usize, e: usize) -> Result<Cube, Fail> {
+    let (names, values) = event(rt, which, e);
+    let mut pairs = Vec::new(alloc);
+    for v in 0..3 {
+        if bit(names, v) == 1 {
+            pairs.push((v, bit(values, v)))?;
+        }
+    }
+    assert!(rt; pairs.len() < 9);
+    Ok(Cube::new(pairs).expect(rt, "a cube"))
+}
+
+// The arrows of the path: variables 0, 1 and 2 in a row, with the root before and behind them.
+fn path(rt: &impl Abort, alloc: Global) -> Result<Family, Fail> {
+    let heads = vec![in alloc;
+        vec![in alloc; None, Some(1)]?,
+        vec![in alloc; Some(0), Some(2)]?,
+        vec![in alloc; Some(1), None]?,
+    ]?;
+    Ok(Family::Cycles(Arrows::new(heads).expect(rt, "arrows")))
+}
+
+fn family(rt: &impl Abort, alloc: Global, which: usize) -> Result<Family, Fail> {
+    if which == PATH {
+        return path(rt, alloc);
+    }
+    let first = cube(rt, alloc, which, 0)?;
+    let second = cube(rt, alloc, which, 1)?;
+    let third = cube(rt, alloc, which, 2)?;
+    let events = vec![in alloc; (1, first), (2, second), (3, third)]?;
+    Ok(Family::Listed(Events::gather(alloc, events)?))
+}
+
+fn stacks(alloc: Global, n: u32) -> Result<Stacks, Fail> {
+    let rows = Rows::of(vec![in alloc;
+        vec![in alloc; bit(n, 0), bit(n, 1), bit(n, 2)]?,
+        vec![in alloc; bit(n, 3), bit(n, 4), bit(n, 5)]?,
+        vec![in alloc; bit(n, 6), bit(n, 7), bit(n, 8)]?,
+    ]?);
+    let weights = Rows::of(vec![in alloc;
+        vec![in alloc; 2, 1]?,
+        vec![in alloc; 1, 3]?,
+        vec![in alloc; 3, 2]?,
+    ]?);
+    Ok(Stacks::new(StackSpec::Given(rows), Weights::of(weights), 3)?)
+}
+
+// Runs the instance of these rows.
+fn end_of(rt: &impl Abort, alloc: Global, which: usize, rows: u32) -> Result<Finish, Fail> {
+    let family = family(rt, alloc, which)?;
+    let instance = Instance::new(stacks(alloc, rows)?, family).expect(rt, "an instance");
+    let end = run_first(alloc, &instance)?;
+    assert!(rt; instance.stacks().count() == 3);
+    let (a, b, c) = (end.cursors.get(0), end.cursors.get(1), end.cursors.get(2));
+    assert!(rt; a < 3);
+    assert!(rt; b < 3);
+    assert!(rt; c < 3);
+    let place = a + 3 * b + 9 * c;
+    Ok(Finish {
+        place: if end.stuck.len() == 0 { place } else { STUCK },
+        sample: sample_at(rows, place),
+        pops: end.pops,
+        weight: rows_weight(rt, rows),
+    })
+}
+
+/// The ends of all rows.
+pub fn finishes(rt: &impl Abort, alloc: Global, which: usize) -> Result<Vec<Finish>, Fail> {
+    let mut all = Vec::new(alloc);
+    for rows in 0..512 {
+        all.push(end_of(rt, alloc, which, rows)?)?;
+    }
+    Ok(all)
+}
+
+/// The end of these rows.
+pub fn finish_of(rt: &impl Abort, all: &[Finish], rows: u32) -> Finish {
+    assert!(rt; (rows as usize) < all.len());
+    all[rows as usize]
+}
