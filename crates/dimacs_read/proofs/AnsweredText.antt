@@ -25,6 +25,7 @@ record IsFrontOf (xs ys : List (ℕ × Option Token)) : Type 0 where
   rest : List (ℕ × Option Token)
   whole : ys ≡ xs ++ rest
 
+-- where more lines follow, the words of the first lines are a front of all words
 body_front : (xs ys : List (ℕ × List (List ℕ))) → IsFrontOf (body xs) (body (xs ++ ys))
 body_front [] ys = record { rest = body ys; whole = refl }
 body_front (x ∷ xs) ys =

@@ -26,20 +26,25 @@ use Rattle.dimacs_read.specs.Falsifying.{Falsifies, falsifier}
 abbrev pub pair_cmp : ℕ × ℕ → ℕ × ℕ → Ordering
 pair_cmp x y = ordering_then (nat_cmp x.0 y.0) (nat_cmp x.1 y.1)
 
+-- the variables are the same, and so are the values
 abbrev pub same_pair : ℕ × ℕ → ℕ × ℕ → Bool
 same_pair x y = (x.0 == y.0) && (x.1 == y.1)
 
+-- any two pairs can be compared, and the comparisons fit together
 pair_order : IsTotalOrder pair_cmp
 pair_order = then_total (on_total (λ (p : ℕ × ℕ). p.0) nat_cmp_total) (on_total (λ (p : ℕ × ℕ). p.1) nat_cmp_total)
 
+-- each pair is the same as itself, and pairs that are the same as one are the same
 pair_equiv : IsEquivalence same_pair
 pair_equiv = and_equiv (on_equiv (λ (p : ℕ × ℕ). p.0) nat_eq_equiv) (on_equiv (λ (p : ℕ × ℕ). p.1) nat_eq_equiv)
 
+-- two pairs are the same exactly where neither is less
 pair_ties : (x y : ℕ × ℕ) → same_pair x y ≡ eq_by_cmp pair_cmp x y
 pair_ties x y =
     both_tied (x.0 == y.0) (x.1 == y.1) (nat_cmp x.0 y.0) (nat_cmp x.1 y.1) (unsigned_ties x.0 y.0)
     (unsigned_ties x.1 y.1)
 
+-- pairs that the test calls the same are equal
 same_is : (x y : ℕ × ℕ) → same_pair x y ≡ true → x ≡ y
 same_is x y h =
     let both = and_parts (x.0 == y.0) (x.1 == y.1) h in

@@ -34,6 +34,7 @@ last_at at (suc k) (e ∷ []) h = absurd (omega arith)
 last_at at zero (e ∷ f ∷ ends) h = absurd (omega arith)
 last_at at (suc k) (e ∷ f ∷ ends) h = last_at e k (f ∷ ends) (omega arith)
 
+-- literals behind which no word follows are a clause of their own
 begun_alone : (ls : List ℤ) → 0 < length ls → with_begun ls [] ≡ ls ∷ []
 begun_alone [] h = absurd (omega arith)
 begun_alone (l ∷ []) h = refl
@@ -71,6 +72,7 @@ closed_rises ends size r =
           (rises_push 0 ends size size r (omega arith))
     ]
 
+-- a clause that has a literal isn't the first empty one
 full : (n : ℕ) (c : List ℤ) (cs : List (List ℤ)) → 0 < length c → empty_in n (c ∷ cs) ≡ empty_in (n + 1) cs
 full n [] cs h = absurd (omega arith)
 full n (l ∷ ls) cs h = refl
@@ -114,6 +116,7 @@ pub clauses_by : (c : Clauses) (ends : List ℕ) (size : ℕ) (tokens : List (Op
 clauses_by c ends size tokens h e k = closed_clauses c tokens h
     ∙ ap (parts c.literals.items 0) (sym (k ∙ ap (λ n. closed_ends n c.ends.items) e))
 
+-- the ends still rise once the last clause has its end
 pub rises_by : (c : Clauses) (ends : List ℕ) (size : ℕ) → Rises 0 c.ends.items (length c.literals.items)
     → size ≡ length c.literals.items → ends ≡ closed_ends size c.ends.items → Rises 0 ends (length c.literals.items)
 rises_by c ends size r e k =

@@ -14,6 +14,7 @@ part_at literals at [] i h = absurd (omega arith)
 part_at literals at (end ∷ ends) zero h = refl
 part_at literals at (end ∷ ends) (suc i) h = part_at literals end ends i (omega arith)
 
+-- ends that rise from a place end no earlier
 rises_from : (at : ℕ) (ends : List ℕ) (last : ℕ) → Rises at ends last → at ≤ last
 rises_from at [] last r = r
 rises_from at (end ∷ ends) last r = omega (arith, r.0, rises_from end ends last r.1)

@@ -43,6 +43,7 @@ word_is v before (Some (Literal l)) h k =
       ),
     )
 
+-- words that aren't refused are words of the grammar, with no more literals than may be
 pub words_are : (v : ℕ) (before : List (Option Token)) (xs : List (ℕ × Option Token))
     → first_refusal (token_fault v) before xs ≡ None → count_by is_literal before ≤ 2 ^ 25
     → AreTokens v (items xs) × (count_by is_literal (before ++ items xs) ≤ 2 ^ 25)
@@ -53,6 +54,7 @@ words_are v before (x ∷ xs) h k =
     let rest = words_are v (before ++ x.1 ∷ []) xs both.1 here.1 in
     ((here.0, rest.0), subst (λ ts. count_by is_literal ts ≤ 2 ^ 25) (append_assoc before (x.1 ∷ []) (items xs)) rest.1)
 
+-- a literal put before the first clause takes no clause away, and makes one where there is none
 length-onto : (l : ℤ) (cs : List (List ℤ)) → (length cs ≤ length (onto_first l cs)) × (1 ≤ length (onto_first l cs))
 length-onto l [] = (omega arith, omega arith)
 length-onto l (c ∷ cs) = (omega arith, omega arith)
@@ -75,6 +77,7 @@ ends_close v (Some (Literal l) ∷ before) more t h =
       sum_by-cons (λ x. cond (is_clause_end x) 1 0) (Some (Literal l)) before,
     )
 
+-- before a word that counts fewer count than in all
 count_front : (p : Option Token → Bool) (before more : List (Option Token)) (t : Option Token) → p t ≡ true
     → count_by p before < count_by p (before ++ t ∷ more)
 count_front p before more t e =
@@ -99,6 +102,7 @@ no_fault v before more (Some (Literal l)) h a b =
     lt-ltb _ _ (omega (arith, b, count_front is_literal before more (Some (Literal l)) refl)) in
     rw (small, few, room) refl
 
+-- words of the grammar that are within the limits have no fault
 no_faults : (v : ℕ) (before : List (Option Token)) (xs : List (ℕ × Option Token)) → AreTokens v (items xs)
     → length (clauses_of (before ++ items xs)) ≤ 2 ^ 22 → count_by is_literal (before ++ items xs) ≤ 2 ^ 25
     → first_refusal (token_fault v) before xs ≡ None
@@ -140,6 +144,7 @@ declares words h = by (declared words) refl h
           clauses_fit = omega (arith, c, ltb-false (2 ^ 22) d.1 (chosen_none _ _ two.1));
         }
 
+-- a count that isn't refused is the one that was declared
 same_count : (t : Bool) (r : ReadRefusal) → cond t None (Some r) ≡ None → t ≡ true
 same_count true r h = refl
 same_count false r h = absurd (cc)

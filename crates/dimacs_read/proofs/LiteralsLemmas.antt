@@ -26,10 +26,12 @@ abbrev pub IsSome : Option Token → Type 0
 IsSome (Some (Literal l)) = 0 < nat_abs l
 IsSome _ = ⊤
 
+-- none of the words is a literal 0
 abbrev pub AreSome : List (Option Token) → Type 0
 AreSome [] = ⊤
 AreSome (token ∷ tokens) = IsSome token × AreSome tokens
 
+-- a number without a sign is no literal 0: it is an end where it is 0
 plain_some : (n : ℕ) → IsSome (plain n)
 plain_some n =
     (elim (nat_eq n 0) as (λ b. nat_eq n 0 ≡ b
@@ -41,6 +43,7 @@ plain_some n =
           (λ b. IsSome (if b then Some (Literal (pos n)) else None)) [ true ↦ some | false ↦ tt ]
     ]) refl
 
+-- a number behind a sign is no literal 0
 negated_some : (n : ℕ) → IsSome (negated n)
 negated_some n =
     elim (nat_lt 0 n && nat_lt n (2 ^ 31)) as (λ b. IsSome (if b then Some (Literal (negsuc (n - 1))) else None)) [
@@ -48,6 +51,7 @@ negated_some n =
       | false ↦ tt
     ]
 
+-- what makes no literal 0 of a number makes none of a word that may be no number
 then_some : (f : ℕ → Option Token) → ((n : ℕ) → IsSome (f n)) → (o : Option ℕ) → IsSome (option_and_then f o)
 then_some f each None = tt
 then_some f each (Some n) = each n
@@ -62,15 +66,18 @@ token_some (b ∷ bs) =
       | false ↦ then_some plain plain_some (number_of (b ∷ bs))
     ]
 
+-- words behind one another have no literal 0 where neither have
 some_append : (xs ys : List (Option Token)) → AreSome xs → AreSome ys → AreSome (xs ++ ys)
 some_append [] ys h k = k
 some_append (x ∷ xs) ys h k = (h.0, some_append xs ys h.1 k)
 
+-- the words of a line have no literal 0
 words_some : (line : ℕ) (words : List (List ℕ))
     → AreSome (map (λ (w : ℕ × Option Token). w.1) (map (λ (word : List ℕ). (line, token_of word)) words))
 words_some line [] = tt
 words_some line (word ∷ words) = (token_some word, words_some line words)
 
+-- the words of all lines have no literal 0
 lines_some : (lines : List (ℕ × List (List ℕ)))
     → AreSome (map (λ (w : ℕ × Option Token). w.1)
     (flat_map (λ (line : ℕ × List (List ℕ)). map (λ (word : List ℕ). (line.0, token_of word)) line.1) lines))
@@ -84,6 +91,7 @@ lines_some (line ∷ lines) =
     ∙ map-append (λ (w : ℕ × Option Token). w.1) (words line) (flat_map words lines) in
     subst AreSome (sym whole) (some_append _ _ (words_some line.0 line.1) (lines_some lines))
 
+-- a literal of a formula, put before the first clause, leaves clauses of its literals
 onto_literals : (n : ℕ) (l : ℤ) (cs : List (List ℤ)) → IsLiteral n l → AreLiterals n cs
     → AreLiterals n (onto_first l cs)
 onto_literals n l [] is all = All-cons (λ clause. All (IsLiteral n) clause) (l ∷ []) []
@@ -92,6 +100,7 @@ onto_literals n l (c ∷ cs) is all =
     let P : List ℤ → Type 0 = λ clause. All (IsLiteral n) clause in
     All-cons P (l ∷ c) cs (All-cons (IsLiteral n) l c is (All-head P c cs all)) (All-tail P c cs all)
 
+-- words of the grammar make clauses of literals of declared variables
 clauses_literals : (n : ℕ) (tokens : List (Option Token)) → AreTokens n tokens → AreSome tokens
     → AreLiterals n (clauses_of tokens)
 clauses_literals n [] h k = All-nil (λ clause. All (IsLiteral n) clause)
@@ -108,6 +117,7 @@ pub body_literals : (n : ℕ) (lines : List (ℕ × List (List ℕ))) → AreTok
 body_literals n lines tokens = clauses_literals n (map (λ word. word.1) (body lines)) tokens
     (lines_some (take_while (λ (line : ℕ × List (List ℕ)). not (begins_with 37 line.1)) lines))
 
+-- what falsifies a literal is a value 0 or 1 of a declared variable
 falsifier_fits : (n : ℕ) (l : ℤ) → IsLiteral n l → ((falsifier l).0 < n) × ((falsifier l).1 < 2)
 falsifier_fits n (pos m) is = let some : 0 < m = is.some in let below : m ≤ n = is.below in (omega arith, omega arith)
 falsifier_fits n (negsuc m) is = let below : suc m ≤ n = is.below in (omega arith, omega arith)

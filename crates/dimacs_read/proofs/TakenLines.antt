@@ -19,12 +19,15 @@ use Rattle.dimacs_read.specs.Reading.{placed, Holds, TakesWords, TakesMore, Take
 use Rattle.pop_edge.specs.Judging.{told}
 use Rattle.pop_edge.proofs.RefusalsLemmas.{items, first_refusal-append, or_else_none}
 
+-- the words of lines, under the lines' numbers
 abbrev Lines : Type 0
 Lines = List (ℕ × List (List ℕ))
 
+-- the line begins with `%`, and so ends the clauses
 abbrev pub ends : ℕ × List (List ℕ) → Bool
 ends line = begins_with 37 line.1
 
+-- what the words of a line spell, with its number
 abbrev pub words_at : ℕ × List (List ℕ) → List (ℕ × Option Token)
 words_at line = map (λ word. (line.0, token_of word)) line.1
 
@@ -62,6 +65,7 @@ body_stop (y ∷ xs) x h =
       | inr e ↦ body_yes y (xs ++ x ∷ []) e ∙ ap (λ ws. words_at y ++ ws) (body_stop xs x h) ∙ sym (body_yes y xs e)
     ]
 
+-- where none of some lines ends the clauses, neither does the first, nor one behind it
 or_false : (s t : Bool) → (s || t) ≡ false → (s ≡ false) × (t ≡ false)
 or_false true t h = absurd (cc)
 or_false false t h = (refl, h)
@@ -80,10 +84,12 @@ any_more : (xs : Lines) (x : ℕ × List (List ℕ)) (s t : Bool) → list_any e
     → list_any ends (xs ++ x ∷ []) ≡ (s || (t || false))
 any_more xs x s t h k = list_any-append ends xs (x ∷ []) ∙ ap₂ (λ a b. a || (b || false)) h k
 
+-- what the words of a line spell, without its number
 items_words : (line : ℕ) (ws : List (List ℕ)) → items (map (λ word. (line, token_of word)) ws) ≡ map token_of ws
 items_words line [] = refl
 items_words line (w ∷ ws) = ap (λ ts. token_of w ∷ ts) (items_words line ws)
 
+-- where a line before or the new one ends the clauses, one of all does
 or_true : (s t : Bool) → (s ≡ true) ⊎ (t ≡ true) → (s || (t || false)) ≡ true
 or_true true t h = refl
 or_true false true (inl e) = refl

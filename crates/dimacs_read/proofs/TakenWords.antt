@@ -71,15 +71,18 @@ pub begun_closed : (ls : List ℤ) (cs : List (List ℤ)) → with_begun ls ([] 
 begun_closed [] cs = refl
 begun_closed (l ∷ ls) cs = ap (onto_first l) (begun_closed ls cs)
 
+-- an end that is no fault has room among the ends
 end_fits : (v ends literals : ℕ) → word_fault v ends literals (Some End) ≡ None → ends < 2 ^ 22
 end_fits v ends literals h = ltb-true ends (2 ^ 22) (chosen_some _ _ _ h).0
 
+-- a literal that is no fault has room among the literals
 literal_fits : (v ends literals : ℕ) (l : ℤ) → word_fault v ends literals (Some (Literal l)) ≡ None → literals < 2 ^ 25
 literal_fits v ends literals l h =
     let one = chosen_else _ _ _ h in
     let two = chosen_some _ _ _ one.1 in
     ltb-true literals (2 ^ 25) (chosen_some _ _ _ two.1).0
 
+-- the clauses hold an end more, which closes the one that is open
 holds_end : (a b : Clauses) (tokens : List (Option Token)) (v : ℕ) → Holds a tokens
     → word_fault v (length a.ends.items) (length a.literals.items) (Some End) ≡ None → Adds a b (Some End)
     → Holds b (tokens ++ Some End ∷ [])
@@ -115,6 +118,7 @@ holds_end a b tokens v h fault add =
           (sym add.1);
     }
 
+-- the clauses hold a literal more, in the one that is open
 holds_literal : (a b : Clauses) (tokens : List (Option Token)) (v : ℕ) (l : ℤ) → Holds a tokens
     → word_fault v (length a.ends.items) (length a.literals.items) (Some (Literal l)) ≡ None
     → Adds a b (Some (Literal l))

@@ -5,12 +5,12 @@ use Rattle.std.specs.List.{onto_first}
 use Rattle.std.specs.Option.{option_map_or}
 use Rattle.pop_edge.specs.declared.refusal.ReadRefusal.{ReadRefusal}
 use Rattle.pop_edge.specs.declared.refusal.ReadRefusal.TheVariants.{Malformed, Count, EmptyClause, ReadFault, OutOfMemory}
-use Rattle.pop_edge.specs.Lines.{lines_of, ended_lines}
+use Rattle.pop_edge.specs.Lines.{lines_of}
 use Rattle.pop_edge.specs.Words.{begins_with}
 use Rattle.pop_edge.specs.Headers.{header_of}
 use Rattle.pop_edge.specs.Refusals.{Fault, or_else, at_line, first_refusal}
 use Rattle.pop_edge.specs.Refusals.Fault.{Code, Passes}
-use Rattle.pop_edge.specs.Judging.{Judgement, told_lines, text_refusal}
+use Rattle.pop_edge.specs.Judging.{IsUnrefused, Judgement, told_lines, text_refusal}
 use Rattle.dimacs_read.specs.declared.token.Token.{Token}
 use Rattle.dimacs_read.specs.declared.token.Token.TheVariants.{Literal, End}
 use Rattle.dimacs_read.specs.Cnf.{Cnf, first_empty}
@@ -27,9 +27,11 @@ declared words =
     option_and_then (λ h. if bytes_eq h.0 (codes "cnf") then Some (h.1, h.2) else None)
     (header_of words)
 
+-- how many variables a header declares; 0 where it is no header
 abbrev pub variables_in : List (List ℕ) → ℕ
 variables_in header = option_map_or (λ d. d.0) (declared header) 0
 
+-- how many clauses a header declares; 0 where it is no header
 abbrev pub clauses_in : List (List ℕ) → ℕ
 clauses_in header = option_map_or (λ d. d.1) (declared header) 0
 
@@ -120,6 +122,6 @@ AnswersCnf text (Err ReadFault) = ⊤
 AnswersCnf text (Err OutOfMemory) = ⊤
 AnswersCnf text (Err refusal) = cnf_refusal text ≡ Some refusal
 
--- no line whose end was taken is refused
+-- what was taken is within the limit, and no line of it whose end was taken is refused
 abbrev pub HasNoBadLine : List ℕ → Type 0
-HasNoBadLine taken = line_refusal (cnf_lines (ended_lines taken)) ≡ None
+HasNoBadLine taken = IsUnrefused cnf taken

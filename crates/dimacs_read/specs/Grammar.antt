@@ -13,6 +13,7 @@ IsToken variables None = ⊥
 IsToken variables (Some End) = ⊤
 IsToken variables (Some (Literal l)) = nat_abs l ≤ variables
 
+-- each of the words is the end of a clause, or a literal of one of so many variables
 abbrev pub AreTokens : ℕ → List (Option Token) → Type 0
 AreTokens variables [] = ⊤
 AreTokens variables (token ∷ tokens) = IsToken variables token × AreTokens variables tokens

@@ -20,10 +20,12 @@ token_of (b ∷ bs) =
     if b == 45 then option_and_then negated (number_of bs)
     else option_and_then plain (number_of (b ∷ bs))
 
+-- the word is a literal
 abbrev pub is_literal : Option Token → Bool
 is_literal (Some (Literal l)) = true
 is_literal _ = false
 
+-- the word is the end of a clause
 abbrev pub is_clause_end : Option Token → Bool
 is_clause_end (Some End) = true
 is_clause_end _ = false

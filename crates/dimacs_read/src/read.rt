@@ -22,8 +22,8 @@ use std::alloc::Global;
 /// literal and no end, 3 for a literal above V; `Limit` of kind 2 for V above 2^22, 3 for C or the
 /// clauses above 2^22, 4 for more than 2^25 literals, 1 for more than 2^28 bytes. Then comes
 /// `Count` where there aren't C clauses, and then `EmptyClause` with the least number, from 1, of a
-/// clause without literals. `ReadFault` comes only where the source failed and no line is refused
-/// whose end was read.
+/// clause without literals. `ReadFault` comes only where the source failed, no more was read than
+/// the limit, and no line is refused whose end was read.
 pub fn read_formula<S: Source>(alloc: Global, source: &mut S) -> Result<Formula, ReadRefusal>
     ensures text { (text : List ℕ) → S.left source.old ≡ Some text → AnswersCnf text result }
     ensures whole { OnOk result (IsAtEnd (S.left source.new)) }

@@ -30,6 +30,7 @@ cube_of_event rows e (number, row) =
 event_at : List (ℕ × Cube) → ℕ → Event
 event_at rows i = record { unit = i; cube = cube_at rows i }
 
+-- that is so
 is_event_at : (rows : List (ℕ × Cube)) (i : ℕ) → i < length rows → IsEvent (Listed rows) (event_at rows i)
 unfolding event_at
 is_event_at rows i within = (event_number rows i, slice_get-get_or rows i (0, []) within)
@@ -137,6 +138,7 @@ pub record IsPlaceOf (rows : List (ℕ × Cube)) (number : ℕ) (e : Cube) (i : 
   pub number_is : event_number rows i ≡ number
   pub cube_is : cube_at rows i ≡ e
 
+-- a member has its place
 place_of_member : (rows : List (ℕ × Cube)) (number : ℕ) (e : Cube) (has : Contains rows (number, e))
     → IsPlaceOf rows number e has.0
 place_of_member rows number e has =
@@ -151,6 +153,7 @@ pub record ClashingPlaces (rows : List (ℕ × Cube)) (number other : ℕ) : Typ
   pub first : event_number rows i ≡ number
   pub second : event_number rows j ≡ other
 
+-- so they do, in either order
 places_clash : (rows : List (ℕ × Cube)) → AreEvents rows → (number other : ℕ) → AreClashing rows number other
     → ClashingPlaces rows number other
 places_clash rows are number other clashing =

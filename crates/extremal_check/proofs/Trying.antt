@@ -128,6 +128,7 @@ least_is_least rows index i least stamps is within tried none less = record {
       not_below_least rows index i least is within none j clash in omega (arith, le, before);
 }
 
+-- where none was found, none clashes
 pub none_clashes : (rows : List (ℕ × Cube)) (index : List (List ℕ)) (i least : ℕ) → IsIndex rows index
     → i < length rows → NoneBelow rows index i least (length (cube_at rows i))
     → length rows ≤ least → HasNoClash rows i

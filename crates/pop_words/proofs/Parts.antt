@@ -21,6 +21,7 @@ none_read f parts = record { whole = same (all_some f parts) }
     same None = refl
     same (Some ys) = refl
 
+-- the front, before a part and what is read behind it
 step : {Y : Type 0} (front : List Y) (y : Y) (read : Option (List Y))
     → in_front front (cons_some (Some y) read) ≡ in_front (front ++ y ∷ []) read
 step front y None = refl

@@ -1,89 +1,76 @@
 -- The words read once, from left to right, give the job that they ask for or the place of their first bad word. Each
 -- step reads a name or a value: where it finds none, the lemmas of BadPlaces show the place; where it finds one, the
 -- words read so far are those of one option more.
-use Rattle.std.proofs.Common.{inl, inr, ◌≡◌, ◌≢◌, ℕ, suc, ◌+◌, ◌*◌, Bool, true, false, not, ◌&&◌, List, [], ◌∷◌, ◌++◌, length, Option, None, Some, IsSome, is_some, unwrap_or, Result, Ok, Err, refl, sym, ap, subst, ◌∙◌, arith, append_assoc, length-append, if◌then◌else◌}
+use Rattle.std.proofs.Common.{inl, inr, ◌≡◌, ℕ, suc, ◌+◌, ◌*◌, true, false, not, ◌&&◌, List, [], ◌∷◌, ◌++◌, length, Option, None, Some, IsSome, is_some, unwrap_or, Result, Ok, Err, refl, sym, ap, subst, ◌∙◌, arith, append_assoc, length-append, if◌then◌else◌, Contains}
 use Rattle.std.specs.List.{list_all}
+use Rattle.std.proofs.lemmas.Bool.{and_from, and_parts, both_ways, false_from_ne_true, not-true, not_from_false}
 use Rattle.std.proofs.lemmas.List.{append-nil}
 use Rattle.pop_model.proofs.LanguagesLemmas.{regroup}
 use Rattle.pop_words.specs.declared.command.Command.{Command}
-use Rattle.pop_words.specs.declared.option.OptionName.{OptionName}
 use Rattle.pop_words.specs.declared.job.Job.{Job}
-use Rattle.pop_words.specs.Options.{command_word, row, default_job}
-use Rattle.pop_words.specs.CommandLines.{Choice, names_of, words_of, AreOptions, MayFollow, AreCompatible, Asks, IsBadPlace, job_from}
-use Rattle.pop_words.specs.Reading.{option_named, command_named, same_name, compatible, may_follow, option_next, is_complete, read_on, read_from, reading}
+use Rattle.pop_words.specs.Options.{command_word, NamedOption, options, value_of, default_job}
+use Rattle.pop_words.specs.CommandLines.{Choice, options_of, words_of, AreOptions, MayFollow, AreCompatible, Asks, IsBadPlace, job_from}
+use Rattle.pop_words.specs.Reading.{option_named, command_named, same_name, allows, excludes, compatible, may_follow, option_next, is_complete, read_on, read_from, reading}
 use Rattle.pop_words.proofs.ValuesLemmas.{passed, refused}
-use Rattle.pop_words.proofs.OptionFacts.{named, named_again, commanded, commanded_again, same_name_is, is_same_name}
-use Rattle.pop_words.proofs.Chosen.{words-append, names-append, job-append, length-words_of, options_more}
-use Rattle.pop_words.proofs.Completing.{all_at, all_from, complete_from, complete_to}
+use Rattle.pop_words.proofs.ListTests.{all_at, all_from}
+use Rattle.pop_words.proofs.TableFacts.{named, named_again, commanded, commanded_again, same_name_is, is_same_name, allows_from, allows_to, keeps_from, keeps_to}
+use Rattle.pop_words.proofs.ChosenOptions.{are_listed, words-append, options-append, job-append, length-words_of, options_more}
+use Rattle.pop_words.proofs.Completing.{complete_from, complete_to}
 use Rattle.pop_words.proofs.BadPlaces.{bad_command, bad_name, bad_value, missing_value, missing_option}
 
 -- ---- tests
 
--- where both tests pass
-pub both : (a b : Bool) → (a && b) ≡ true → (a ≡ true) × (b ≡ true)
-both true b test = (refl, test)
-both false b test = absurd (cc)
-
-and_true : {a b : Bool} → a ≡ true → b ≡ true → (a && b) ≡ true
-and_true {a} {b} x y = rw x y
-
-not_true : (a : Bool) → not a ≡ true → a ≡ false
-not_true true same = absurd (cc)
-not_true false same = refl
-
-not_false : (a : Bool) → a ≡ false → not a ≡ true
-not_false true same = absurd (cc)
-not_false false same = refl
-
-names_differ : (a b : OptionName) (t : Bool) → same_name a b ≡ t → a ≢ b → t ≡ false
-names_differ a b true test other = absurd (other (same_name_is a b test))
-names_differ a b false test other = refl
-
 -- what the test of two options says
-pub compatible_from : (a b : OptionName) → compatible a b ≡ true → AreCompatible a b
+compatible_from : (a b : NamedOption) → compatible a b ≡ true → AreCompatible a b
 compatible_from a b test =
-    let outer = both (not (same_name a b) && not ((row a).excludes b)) (not ((row b).excludes a)) test in
-    let inner = both (not (same_name a b)) (not ((row a).excludes b)) outer.0 in
+    let outer = and_parts (not (same_name a b) && not (excludes a b.name)) (not (excludes b a.name)) test in
+    let inner = and_parts (not (same_name a b)) (not (excludes a b.name)) outer.0 in
     record {
-      different = λ is. let one = is_same_name a b is in let other = not_true _ inner.0 in cc;
-      keeps = not_true _ inner.1;
-      kept_by = not_true _ outer.1;
+      different = λ is. both_ways (same_name a b) (not-true _ inner.0) (is_same_name a b is);
+      keeps = keeps_from a b.name (not-true _ inner.1);
+      kept_by = keeps_from b a.name (not-true _ outer.1);
     }
 
-compatible_to : (a b : OptionName) → AreCompatible a b → compatible a b ≡ true
+-- two options that may stand together pass it
+compatible_to : (a b : NamedOption) → AreCompatible a b → compatible a b ≡ true
 compatible_to a b are =
-    and_true (and_true (not_false _ (names_differ a b _ refl are.different)) (not_false _ are.keeps))
-    (not_false _ are.kept_by)
+    let apart : same_name a b ≡ false = false_from_ne_true (same_name a b)
+    (λ test. are.different (same_name_is a b test)) in
+    and_from _ _ (and_from _ _ (not_from_false _ apart) (not_from_false _ (keeps_to a b.name are.keeps)))
+    (not_from_false _ (keeps_to b a.name are.kept_by))
 
--- what the test of the next option says
-pub follow_from : (command : Command) (before : List OptionName) (o : OptionName)
+-- what the test of the next option says of an option of the table
+follow_from : (command : Command) (before : List NamedOption) (o : NamedOption) → Contains options o
     → may_follow command before o ≡ true → MayFollow command before o
-follow_from command before o test =
-    let parts = both ((row o).allowed command) (list_all (λ other. compatible other o) before) test in
+follow_from command before o listed test =
+    let parts = and_parts (allows o command) (list_all (λ other. compatible other o) before) test in
     record {
-      allowed = parts.0;
+      listed = listed;
+      allowed = allows_from o command parts.0;
       compatible = λ other among. compatible_from other o (all_at (λ p. compatible p o) before parts.1 other among);
     }
 
-follow_to : (command : Command) (before : List OptionName) (o : OptionName) → MayFollow command before o
+-- an option that may follow passes it
+follow_to : (command : Command) (before : List NamedOption) (o : NamedOption) → MayFollow command before o
     → may_follow command before o ≡ true
 follow_to command before o follows =
-    and_true follows.allowed (all_from (λ p. compatible p o) before
+    and_from _ _ (allows_to o command follows.allowed) (all_from (λ p. compatible p o) before
     (λ other among. compatible_to other o (follows.compatible other among)))
 
 -- the option that may stand next has its name, and may follow
-pub next_is : (command : Command) (before : List OptionName) (name : List ℕ) (o : OptionName)
+pub next_is : (command : Command) (before : List NamedOption) (name : List ℕ) (o : NamedOption)
     → option_next command before name ≡ Some o
-    → ((row o).name ≡ name) × MayFollow command before o
+    → (o.name ≡ name) × MayFollow command before o
 next_is command before name o found =
     let is = passed (may_follow command before) (option_named name) o found in
-    (named name o is.0, follow_from command before o is.1)
+    let row = named name o is.0 in
+    (row.1, follow_from command before o row.0 is.1)
 
 -- where there is none, no option of this name may follow
-none_next : (command : Command) (before : List OptionName) (name : List ℕ) → option_next command before name ≡ None
-    → (o : OptionName) → (row o).name ≡ name → MayFollow command before o → ⊥
+none_next : (command : Command) (before : List NamedOption) (name : List ℕ) → option_next command before name ≡ None
+    → (o : NamedOption) → o.name ≡ name → MayFollow command before o → ⊥
 none_next command before name none o same follows =
-    let found : option_named name ≡ Some o = ap option_named (sym same) ∙ named_again o in
+    let found : option_named name ≡ Some o = ap option_named (sym same) ∙ named_again o follows.listed in
     let may = follow_to command before o follows in
     elim (refused (may_follow command before) (option_named name) none) [
       | inl unnamed ↦ (cc)
@@ -109,9 +96,11 @@ step words place (Some x) next none some = some x refl
 abbrev front : Command → List Choice → List (List ℕ)
 front command chosen = command_word command ∷ words_of chosen
 
+-- the words so far are one, and two for each option
 length-front : (command : Command) (chosen : List Choice) → length (front command chosen) ≡ suc (2 * length chosen)
 length-front command chosen = omega (arith, length-words_of chosen)
 
+-- so long are they with a name behind them
 length-front_name : (command : Command) (chosen : List Choice) (name : List ℕ)
     → length (front command chosen ++ name ∷ []) ≡ suc (2 * length chosen) + 1
 length-front_name command chosen name = omega (
@@ -122,7 +111,7 @@ length-front_name command chosen name = omega (
 )
 
 -- what is read of equal things
-moved : (command : Command) (rest : List (List ℕ)) (l m : List (List ℕ)) (before names : List OptionName)
+moved : (command : Command) (rest : List (List ℕ)) (l m : List (List ℕ)) (before names : List NamedOption)
     (job other : Job) (place at : ℕ)
     → l ≡ m → before ≡ names → job ≡ other → place ≡ at → IsReading l (read_from command before job place rest)
     → IsReading m (read_from command names other at rest)
@@ -132,93 +121,95 @@ moved command rest l m before names job other place at a b c d right =
     (subst (λ x. IsReading l (read_from command before x at rest)) c
     (subst (λ x. IsReading l (read_from command before job x rest)) d right)))
 
+-- a name of no option that may stand next is bad
 bad_name_at : (command : Command) (chosen : List Choice) (name : List ℕ) (rest : List (List ℕ))
     → AreOptions command [] chosen
-    → option_next command (names_of chosen) name ≡ None → IsBadPlace (front command chosen ++ name ∷ rest)
+    → option_next command (options_of chosen) name ≡ None → IsBadPlace (front command chosen ++ name ∷ rest)
     (suc (2 * length chosen) + 1)
 bad_name_at command chosen name rest options none =
     subst (IsBadPlace (front command chosen ++ name ∷ rest)) (omega (arith, length-front command chosen))
-    (bad_name command chosen name rest options (none_next command (names_of chosen) name none))
+    (bad_name command chosen name rest options (none_next command (options_of chosen) name none))
 
-bad_value_at : (command : Command) (chosen : List Choice) (o : OptionName) (word : List ℕ) (rest : List (List ℕ))
+-- a word that is no value of its option is bad
+bad_value_at : (command : Command) (chosen : List Choice) (o : NamedOption) (word : List ℕ) (rest : List (List ℕ))
     → AreOptions command [] chosen
-    → MayFollow command (names_of chosen) o → (row o).value word ≡ None
-    → IsBadPlace (front command chosen ++ (row o).name ∷ word ∷ rest) (suc (2 * length chosen) + 2)
+    → MayFollow command (options_of chosen) o → value_of o.field word ≡ None
+    → IsBadPlace (front command chosen ++ o.name ∷ word ∷ rest) (suc (2 * length chosen) + 2)
 bad_value_at command chosen o word rest options follows none =
     let bad = bad_value command chosen o word rest options follows
-    (λ some. let t : is_some ((row o).value word) ≡ false = ap is_some none in absurd (cc)) in
-    let at : suc (length (front command chosen ++ (row o).name ∷ [])) ≡ suc (2 * length chosen) + 2 =
-    omega (arith, length-front_name command chosen (row o).name) in
+    (λ some. let t : is_some (value_of o.field word) ≡ false = ap is_some none in absurd (cc)) in
+    let at : suc (length (front command chosen ++ o.name ∷ [])) ≡ suc (2 * length chosen) + 2 =
+    omega (arith, length-front_name command chosen o.name) in
     subst (λ l. IsBadPlace l (suc (2 * length chosen) + 2))
-    (sym (regroup (front command chosen) (row o).name (word ∷ rest)))
-    (subst (IsBadPlace ((front command chosen ++ (row o).name ∷ []) ++ word ∷ rest)) at bad)
+    (sym (regroup (front command chosen) o.name (word ∷ rest)))
+    (subst (IsBadPlace ((front command chosen ++ o.name ∷ []) ++ word ∷ rest)) at bad)
 
 -- what is read behind options that were chosen
 pub read_is : (command : Command) (chosen : List Choice) (rest : List (List ℕ)) → AreOptions command [] chosen
-    → IsReading (front command chosen ++ rest) (read_from command (names_of chosen)
+    → IsReading (front command chosen ++ rest) (read_from command (options_of chosen)
     (job_from (default_job command) chosen) (suc (2 * length chosen)) rest)
-read_is command chosen [] options =
-    (elim (is_complete command (names_of chosen)) as (λ b. is_complete command (names_of chosen) ≡ b
+read_is command chosen [] options_are =
+    (elim (is_complete command (options_of chosen)) as (λ b. is_complete command (options_of chosen) ≡ b
     → IsReading (front command chosen ++ []) (if b then Ok (job_from (default_job command) chosen) else Err
     (suc (2 * length chosen) + 1))) [
       | true ↦ λ test. record {
         command = command;
         chosen = chosen;
         words_are = append-nil (front command chosen);
-        options = options;
-        complete = complete_from command (names_of chosen) test;
+        options = options_are;
+        complete = complete_from command (options_of chosen) (are_listed command [] chosen options_are) test;
         job_is = refl;
       }
       | false ↦ λ test.
           subst (λ l. IsBadPlace l (suc (2 * length chosen) + 1)) (sym (append-nil (front command chosen)))
           (subst (IsBadPlace (front command chosen)) (omega (arith, length-front command chosen))
-          (missing_option command chosen options (λ complete. let stands =
-          complete_to command (names_of chosen) complete in absurd (cc))))
+          (missing_option command chosen options_are (λ complete. let stands =
+          complete_to command (options_of chosen) (are_listed command [] chosen options_are) complete in absurd (cc))))
     ]) refl
 read_is command chosen (name ∷ []) options =
     step (front command chosen ++ name ∷ []) (suc (2 * length chosen) + 1)
-    (option_next command (names_of chosen) name) (λ o. Err (suc (2 * length chosen) + 2))
+    (option_next command (options_of chosen) name) (λ o. Err (suc (2 * length chosen) + 2))
     (bad_name_at command chosen name [] options)
     (λ o found.
-    let is = next_is command (names_of chosen) name o found in
-    let at : suc (length (front command chosen ++ (row o).name ∷ [])) ≡ suc (2 * length chosen) + 2 =
-    omega (arith, length-front_name command chosen (row o).name) in
+    let is = next_is command (options_of chosen) name o found in
+    let at : suc (length (front command chosen ++ o.name ∷ [])) ≡ suc (2 * length chosen) + 2 =
+    omega (arith, length-front_name command chosen o.name) in
     subst (λ w. IsBadPlace (front command chosen ++ w ∷ []) (suc (2 * length chosen) + 2)) is.0
-    (subst (IsBadPlace (front command chosen ++ (row o).name ∷ [])) at
+    (subst (IsBadPlace (front command chosen ++ o.name ∷ [])) at
     (missing_value command chosen o options is.1)))
 read_is command chosen (name ∷ word ∷ rest) options =
     step (front command chosen ++ name ∷ word ∷ rest) (suc (2 * length chosen) + 1)
-    (option_next command (names_of chosen) name)
-    (λ o. read_on (suc (2 * length chosen) + 2) ((row o).value word)
-    (λ set. read_from command (names_of chosen ++ o ∷ []) (set (job_from (default_job command) chosen))
+    (option_next command (options_of chosen) name)
+    (λ o. read_on (suc (2 * length chosen) + 2) (value_of o.field word)
+    (λ set. read_from command (options_of chosen ++ o ∷ []) (set (job_from (default_job command) chosen))
     (suc (2 * length chosen) + 2) rest))
     (bad_name_at command chosen name (word ∷ rest) options)
     (λ o found.
-    let is = next_is command (names_of chosen) name o found in
+    let is = next_is command (options_of chosen) name o found in
     subst (λ w. IsReading (front command chosen ++ w ∷ word ∷ rest)
-    (read_on (suc (2 * length chosen) + 2) ((row o).value word)
-    (λ set. read_from command (names_of chosen ++ o ∷ []) (set (job_from (default_job command) chosen))
+    (read_on (suc (2 * length chosen) + 2) (value_of o.field word)
+    (λ set. read_from command (options_of chosen ++ o ∷ []) (set (job_from (default_job command) chosen))
     (suc (2 * length chosen) + 2) rest))) is.0
-    (step (front command chosen ++ (row o).name ∷ word ∷ rest) (suc (2 * length chosen) + 2) ((row o).value word)
-    (λ set. read_from command (names_of chosen ++ o ∷ []) (set (job_from (default_job command) chosen))
+    (step (front command chosen ++ o.name ∷ word ∷ rest) (suc (2 * length chosen) + 2) (value_of o.field word)
+    (λ set. read_from command (options_of chosen ++ o ∷ []) (set (job_from (default_job command) chosen))
     (suc (2 * length chosen) + 2) rest)
     (bad_value_at command chosen o word rest options is.1)
     (λ set read.
     let all = chosen ++ (o, word) ∷ [] in
-    let value : IsSome ((row o).value word) = ap is_some read in
-    let words : front command all ++ rest ≡ front command chosen ++ (row o).name ∷ word ∷ rest =
+    let value : IsSome (value_of o.field word) = ap is_some read in
+    let words : front command all ++ rest ≡ front command chosen ++ o.name ∷ word ∷ rest =
     ap (λ l. command_word command ∷ (l ++ rest)) (words-append chosen ((o, word) ∷ []))
-    ∙ ap (λ l. command_word command ∷ l) (append_assoc (words_of chosen) ((row o).name ∷ word ∷ []) rest) in
+    ∙ ap (λ l. command_word command ∷ l) (append_assoc (words_of chosen) (o.name ∷ word ∷ []) rest) in
     let job : job_from (default_job command) all ≡ set (job_from (default_job command) chosen) =
     job-append (default_job command) chosen ((o, word) ∷ [])
     ∙ ap (λ (v : Option (Job → Job)). unwrap_or v (λ j. j) (job_from (default_job command) chosen)) read in
     let size : suc (2 * length all) ≡ suc (2 * length chosen) + 2 =
     omega (arith, length-append chosen ((o, word) ∷ [])) in
-    moved command rest (front command all ++ rest) (front command chosen ++ (row o).name ∷ word ∷ rest)
-    (names_of all) (names_of chosen ++ o ∷ [])
+    moved command rest (front command all ++ rest) (front command chosen ++ o.name ∷ word ∷ rest)
+    (options_of all) (options_of chosen ++ o ∷ [])
     (job_from (default_job command) all) (set (job_from (default_job command) chosen)) (suc (2 * length all))
     (suc (2 * length chosen) + 2)
-    words (names-append chosen ((o, word) ∷ [])) job size
+    words (options-append chosen ((o, word) ∷ [])) job size
     (read_is command all rest (options_more command chosen o word options is.1 value)))))
 
 -- each list of words is read right

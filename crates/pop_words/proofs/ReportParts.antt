@@ -17,6 +17,7 @@ use Rattle.pop_words.specs.Values.{comma_parts, totals_name, heights_name, is_re
 turned : (a b : List ℕ) → bytes_eq a b ≡ true → bytes_eq b a ≡ true
 turned a b same = (bytes_eq-Decides b a).1 (sym ((bytes_eq-Decides a b).0 same))
 
+-- nor is it where that isn't
 turned_not : (a b : List ℕ) → bytes_eq a b ≡ false → bytes_eq b a ≡ false
 turned_not a b other = false_from_ne_true (bytes_eq b a) (λ same. both_ways (bytes_eq a b) other (turned b a same))
 

@@ -27,6 +27,7 @@ pub too_long : (front : List ℕ) (room y : ℕ) → room ≤ length front → (
     → nat_le (length (front ++ y ∷ ys)) room ≡ false
 too_long front room y full ys = lt-leb (length (front ++ y ∷ ys)) room (omega (arith, length-append front (y ∷ ys)))
 
+-- two tests fail where the second does
 false_both : (a b : Bool) → b ≡ false → (a && b) ≡ false
 false_both true b none = none
 false_both false b none = refl

@@ -2,31 +2,41 @@
 use Rattle.std.proofs.Common.{◌≡◌, ℕ, true, false, List, [], ◌∷◌, ◌++◌, None, Some, refl, codes, replicate}
 use Rattle.hex.proofs.OnLiterals.{hex_on_literals}
 use Rattle.pop_stacks.specs.declared.stack_spec.StackSpec.TheVariants.{Given, Key}
+use Rattle.pop_words.specs.declared.board_kind.BoardKind.TheVariants.{Lock}
+use Rattle.pop_words.specs.declared.command.Command.{Command}
 use Rattle.pop_words.specs.declared.command.Command.TheVariants.{Formula, Orient, Tree, Resample, Check, Make}
-use Rattle.pop_words.specs.Values.{number_between, rows_in, key_in, no_reports, reports_in}
+use Rattle.pop_words.specs.declared.job.Job.{Job}
+use Rattle.pop_words.specs.Values.{number_between, rows_in, key_in, reports_in}
 use Rattle.pop_words.specs.CommandLines.{Asks, IsBadPlace}
 use Rattle.pop_words.proofs.ReadingLemmas.{reading_is}
 
 -- ---- values
 
+-- a height is at least 1, and may begin with zeros
 least_height : number_between 1 2147483647 (codes "0000000001") ≡ Some 1
 least_height = refl
 
+-- 0 is no height
 no_height : number_between 1 2147483647 (codes "0") ≡ None
 no_height = refl
 
+-- 2 ^ 31 is no height
 past_the_greatest_height : number_between 1 2147483647 (codes "2147483648") ≡ None
 past_the_greatest_height = refl
 
+-- no bytes are an empty list of rows
 no_row : rows_in [] ≡ Some []
 no_row = refl
 
+-- `;` parts rows, and `,` the numbers of a row
 two_rows : rows_in (codes "0,01;2") ≡ Some ((0 ∷ 1 ∷ []) ∷ (2 ∷ []) ∷ [])
 two_rows = refl
 
+-- behind a `;` stands a row, which may be empty
 an_empty_row_behind : rows_in (codes "0;") ≡ Some ((0 ∷ []) ∷ [] ∷ [])
 an_empty_row_behind = refl
 
+-- behind a `,` stands a number
 an_empty_number : rows_in (codes "0,;1") ≡ None
 an_empty_number = refl
 
@@ -36,249 +46,223 @@ bytes_of_a_key : key_in (codes "A10000000000000000000000000000000000000000000000
 unfolding hex_on_literals
 bytes_of_a_key = refl
 
+-- 63 digits are no key
 a_digit_too_few : key_in (codes "000000000000000000000000000000000000000000000000000000000000000") ≡ None
 unfolding hex_on_literals
 a_digit_too_few = refl
 
+-- a root is at least 1, and may begin with zeros
 least_root : number_between 1 4294967295 (codes "0000000001") ≡ Some 1
 least_root = refl
 
+-- a root is at most 2 ^ 32 - 1
 greatest_root : number_between 1 4294967295 (codes "4294967295") ≡ Some 4294967295
 greatest_root = refl
 
+-- 0 is no root
 no_root : number_between 1 4294967295 (codes "00") ≡ None
 no_root = refl
 
+-- 2 ^ 32 is no root
 past_the_greatest_root : number_between 1 4294967295 (codes "4294967296") ≡ None
 past_the_greatest_root = refl
 
+-- a grid may have 2048 rows
 greatest_grid : number_between 1 2048 (codes "2048") ≡ Some 2048
 greatest_grid = refl
 
+-- it may have no more
 past_the_greatest_grid : number_between 1 2048 (codes "2049") ≡ None
 past_the_greatest_grid = refl
 
+-- one report is asked for by its name
 totals_alone : reports_in (codes "totals") ≡ Some (record { totals = true; heights = false })
 totals_alone = refl
 
+-- the two reports may be named in either order
 heights_in_front : reports_in (codes "heights,totals") ≡ Some (record { totals = true; heights = true })
 heights_in_front = refl
 
+-- reports have one name at least
 no_name_of_a_report : reports_in [] ≡ None
 no_name_of_a_report = refl
 
+-- behind a `,` stands a name
 an_empty_name_behind : reports_in (codes "totals,") ≡ None
 an_empty_name_behind = refl
 
+-- no report is named twice
 heights_twice : reports_in (codes "heights,totals,heights") ≡ None
 heights_twice = refl
 
 -- ---- jobs
 
+-- the zeros of the default key
 abbrev zeros : List ℕ
 zeros = codes "0000000000000000000000000000000000000000000000000000000000000000"
 
-formula_alone : Asks (codes "formula" ∷ []) (record {
-  command = Formula;
-  stacks =
-      Key (replicate 32 0);
-  height = 1048576;
-  workers = 1;
-  root = 1;
-  witness = None;
-  reports = record { totals = false; heights = false };
-  size = 0;
-})
+-- the job of a command that tells no log, with no option
+abbrev plain : Command → Job
+plain command =
+    record {
+      command = command;
+      stacks = Key (replicate 32 0);
+      height = 1048576;
+      workers = 1;
+      board = Lock;
+      root = 1;
+      log = false;
+      witness = None;
+      reports = record { totals = false; heights = false };
+      size = 0;
+    }
+
+-- `formula` alone is a job with no option
+formula_alone : Asks (codes "formula" ∷ []) (plain Formula)
 formula_alone = reading_is (codes "formula" ∷ [])
 
-check_alone : Asks (codes "check" ∷ []) (record {
-  command = Check;
-  stacks =
-      Key (replicate 32 0);
-  height = 1048576;
-  workers = 1;
-  root = 1;
-  witness = None;
-  reports = record { totals = false; heights = false };
-  size = 0;
-})
+-- `check` alone is a job with no option
+check_alone : Asks (codes "check" ∷ []) (plain Check)
 check_alone = reading_is (codes "check" ∷ [])
 
-orient_alone : Asks (codes "orient" ∷ [])
-    (record {
-      command = Orient;
-      stacks = Key (replicate 32 0);
-      height = 1048576;
-      workers = 1;
-      root = 1;
-      witness = None;
-      reports = no_reports;
-      size = 0;
-    })
+-- `orient` alone is a job with no option
+orient_alone : Asks (codes "orient" ∷ []) (plain Orient)
 orient_alone = reading_is (codes "orient" ∷ [])
 
-tree_alone : Asks (codes "tree" ∷ [])
-    (record {
-      command = Tree;
-      stacks = Key (replicate 32 0);
-      height = 1048576;
-      workers = 1;
-      root = 1;
-      witness = None;
-      reports = no_reports;
-      size = 0;
-    })
+-- `tree` alone is a job with no option
+tree_alone : Asks (codes "tree" ∷ []) (plain Tree)
 tree_alone = reading_is (codes "tree" ∷ [])
 
+-- `resample` alone is a job with no option, which tells its log
+resample_alone : Asks (codes "resample" ∷ []) (record (plain Resample) { log = true })
+resample_alone = reading_is (codes "resample" ∷ [])
+
+-- options stand in any order, and their numbers may begin with zeros
 height_behind_root : Asks (codes "tree" ∷ codes "--root" ∷ codes "03" ∷ codes "--height" ∷ codes "9" ∷ [])
-    (record {
-      command = Tree;
-      stacks = Key (replicate 32 0);
-      height = 9;
-      workers = 1;
-      root = 3;
-      witness = None;
-      reports = no_reports;
-      size = 0;
-    })
+    (record (plain Tree) { height = 9; root = 3 })
 height_behind_root = reading_is (codes "tree" ∷ codes "--root" ∷ codes "03" ∷ codes "--height" ∷ codes "9" ∷ [])
 
+-- a formula may be sampled from given rows
 rows_for_a_formula : Asks (codes "formula" ∷ codes "--stacks" ∷ codes "0,0,1" ∷ [])
-    (record {
-      command = Formula;
-      stacks = Given ((0 ∷ 0 ∷ 1 ∷ []) ∷ []);
-      height = 1048576;
-      workers = 1;
-      root = 1;
-      witness = None;
-      reports = no_reports;
-      size = 0;
-    })
+    (record (plain Formula) { stacks = Given ((0 ∷ 0 ∷ 1 ∷ []) ∷ []) })
 rows_for_a_formula = reading_is (codes "formula" ∷ codes "--stacks" ∷ codes "0,0,1" ∷ [])
 
+-- a key that is given stands in the place of the default one
 key_behind_height : Asks (codes "formula" ∷ codes "--height" ∷ codes "9" ∷ codes "--key" ∷ zeros ∷ [])
-    (record {
-      command = Formula;
-      stacks = Key (replicate 32 0);
-      height = 9;
-      workers = 1;
-      root = 1;
-      witness = None;
-      reports = no_reports;
-      size = 0;
-    })
+    (record (plain Formula) { height = 9 })
 unfolding hex_on_literals
 key_behind_height = reading_is (codes "formula" ∷ codes "--height" ∷ codes "9" ∷ codes "--key" ∷ zeros ∷ [])
 
+-- a resampling may tell both reports, however they are ordered
 both_reports : Asks (codes "resample" ∷ codes "--report" ∷ codes "heights,totals" ∷ [])
-    (record {
-      command = Resample;
-      stacks = Key (replicate 32 0);
-      height = 1048576;
-      workers = 1;
-      root = 1;
-      witness = None;
-      reports = record { totals = true; heights = true };
-      size = 0;
-    })
+    (record (plain Resample) { log = true; reports = record { totals = true; heights = true } })
 both_reports = reading_is (codes "resample" ∷ codes "--report" ∷ codes "heights,totals" ∷ [])
 
+-- the grid that is made may stand behind the options
 grid_behind_key : Asks (codes "make" ∷ codes "--key" ∷ zeros ∷ codes "grid" ∷ codes "2" ∷ [])
-    (record {
-      command = Make;
-      stacks = Key (replicate 32 0);
-      height = 1048576;
-      workers = 1;
-      root = 1;
-      witness = None;
-      reports = no_reports;
-      size = 2;
-    })
+    (record (plain Make) { size = 2 })
 unfolding hex_on_literals
 grid_behind_key = reading_is (codes "make" ∷ codes "--key" ∷ zeros ∷ codes "grid" ∷ codes "2" ∷ [])
 
+-- or before them
 workers_behind_grid : Asks (codes "make" ∷ codes "grid" ∷ codes "2048" ∷ codes "--workers" ∷ codes "2" ∷ [])
-    (record {
-      command = Make;
-      stacks = Key (replicate 32 0);
-      height = 1048576;
-      workers = 2;
-      root = 1;
-      witness = None;
-      reports = no_reports;
-      size = 2048;
-    })
+    (record (plain Make) { workers = 2; size = 2048 })
 workers_behind_grid = reading_is (codes "make" ∷ codes "grid" ∷ codes "2048" ∷ codes "--workers" ∷ codes "2" ∷ [])
 
 -- ---- bad places
 
+-- where there is no word, the first is bad
 no_words : IsBadPlace [] 1
 no_words = reading_is []
 
+-- a first word that is no command
 no_command : IsBadPlace (codes "rounds" ∷ []) 1
 no_command = reading_is (codes "rounds" ∷ [])
 
+-- `--board` is no option
+no_board_yet : IsBadPlace (codes "formula" ∷ codes "--board" ∷ codes "lock" ∷ []) 2
+no_board_yet = reading_is (codes "formula" ∷ codes "--board" ∷ codes "lock" ∷ [])
+
+-- `--speed` is no option
 no_such_option : IsBadPlace (codes "formula" ∷ codes "--speed" ∷ codes "3" ∷ []) 2
 no_such_option = reading_is (codes "formula" ∷ codes "--speed" ∷ codes "3" ∷ [])
 
+-- a check has no height
 an_option_of_check : IsBadPlace (codes "check" ∷ codes "--height" ∷ codes "5" ∷ []) 2
 an_option_of_check = reading_is (codes "check" ∷ codes "--height" ∷ codes "5" ∷ [])
 
+-- an option without its value is bad behind its name
 no_value : IsBadPlace (codes "formula" ∷ codes "--stacks" ∷ []) 3
 no_value = reading_is (codes "formula" ∷ codes "--stacks" ∷ [])
 
+-- a height of 0 is bad at its value
 height_zero : IsBadPlace (codes "formula" ∷ codes "--height" ∷ codes "0" ∷ []) 3
 height_zero = reading_is (codes "formula" ∷ codes "--height" ∷ codes "0" ∷ [])
 
+-- an option that stands twice is bad where it stands again
 key_twice : IsBadPlace (codes "formula" ∷ codes "--key" ∷ zeros ∷ codes "--key" ∷ zeros ∷ []) 4
 unfolding hex_on_literals
 key_twice = reading_is (codes "formula" ∷ codes "--key" ∷ zeros ∷ codes "--key" ∷ zeros ∷ [])
 
+-- given rows have no height
 height_behind_stacks : IsBadPlace (codes "formula" ∷ codes "--stacks" ∷ codes "0" ∷ codes "--height" ∷
     codes "5" ∷ []) 4
 height_behind_stacks = reading_is (codes "formula" ∷ codes "--stacks" ∷ codes "0" ∷ codes "--height" ∷
     codes "5" ∷ [])
 
+-- and none may stand before them
 stacks_behind_height : IsBadPlace (codes "formula" ∷ codes "--height" ∷ codes "5" ∷ codes "--stacks" ∷
     codes "0" ∷ []) 4
 stacks_behind_height = reading_is (codes "formula" ∷ codes "--height" ∷ codes "5" ∷ codes "--stacks" ∷
     codes "0" ∷ [])
 
+-- a root of 0 is bad at its value
 root_zero : IsBadPlace (codes "tree" ∷ codes "--root" ∷ codes "0" ∷ []) 3
 root_zero = reading_is (codes "tree" ∷ codes "--root" ∷ codes "0" ∷ [])
 
+-- an orientation has no root
 a_root_of_orient : IsBadPlace (codes "orient" ∷ codes "--root" ∷ codes "1" ∷ []) 2
 a_root_of_orient = reading_is (codes "orient" ∷ codes "--root" ∷ codes "1" ∷ [])
 
+-- a tree has one root
 root_twice : IsBadPlace (codes "tree" ∷ codes "--root" ∷ codes "1" ∷ codes "--root" ∷ codes "1" ∷ []) 4
 root_twice = reading_is (codes "tree" ∷ codes "--root" ∷ codes "1" ∷ codes "--root" ∷ codes "1" ∷ [])
 
+-- the given rows of a tree have no height either
 height_behind_the_stacks_of_a_tree : IsBadPlace (codes "tree" ∷ codes "--stacks" ∷ codes "0" ∷ codes "--height" ∷
     codes "5" ∷ []) 4
 height_behind_the_stacks_of_a_tree = reading_is (codes "tree" ∷ codes "--stacks" ∷ codes "0" ∷ codes "--height" ∷
     codes "5" ∷ [])
 
+-- what `make` is to make is missing
 make_alone : IsBadPlace (codes "make" ∷ []) 2
 make_alone = reading_is (codes "make" ∷ [])
 
+-- it is missing behind an option, too
 make_without_its_grid : IsBadPlace (codes "make" ∷ codes "--key" ∷ zeros ∷ []) 4
 unfolding hex_on_literals
 make_without_its_grid = reading_is (codes "make" ∷ codes "--key" ∷ zeros ∷ [])
 
+-- a grid of no rows is bad at its number
 grid_of_none : IsBadPlace (codes "make" ∷ codes "grid" ∷ codes "0" ∷ []) 3
 grid_of_none = reading_is (codes "make" ∷ codes "grid" ∷ codes "0" ∷ [])
 
+-- one grid is made
 grid_twice : IsBadPlace (codes "make" ∷ codes "grid" ∷ codes "2" ∷ codes "grid" ∷ codes "2" ∷ []) 4
 grid_twice = reading_is (codes "make" ∷ codes "grid" ∷ codes "2" ∷ codes "grid" ∷ codes "2" ∷ [])
 
+-- a formula has no grid
 a_grid_of_a_formula : IsBadPlace (codes "formula" ∷ codes "grid" ∷ codes "2" ∷ []) 2
 a_grid_of_a_formula = reading_is (codes "formula" ∷ codes "grid" ∷ codes "2" ∷ [])
 
+-- a graph that is made has no root
 a_root_of_make : IsBadPlace (codes "make" ∷ codes "--root" ∷ codes "1" ∷ codes "grid" ∷ codes "2" ∷ []) 2
 a_root_of_make = reading_is (codes "make" ∷ codes "--root" ∷ codes "1" ∷ codes "grid" ∷ codes "2" ∷ [])
 
+-- a tree has no reports
 a_report_of_a_tree : IsBadPlace (codes "tree" ∷ codes "--report" ∷ codes "totals" ∷ []) 2
 a_report_of_a_tree = reading_is (codes "tree" ∷ codes "--report" ∷ codes "totals" ∷ [])
 
+-- a report that is named twice is bad at the names
 totals_twice : IsBadPlace (codes "resample" ∷ codes "--report" ∷ codes "totals,totals" ∷ []) 3
 totals_twice = reading_is (codes "resample" ∷ codes "--report" ∷ codes "totals,totals" ∷ [])

@@ -1,53 +1,54 @@
 -- The command lines: the lists of words that are in the grammar, and the job that each asks for.
-use Rattle.std.specs.Prelude.{◌≡◌, ◌≢◌, ℕ, true, false, List, [], ◌∷◌, ◌++◌, map, flat_map, Contains, IsSome, unwrap_or, ⊤}
+use Rattle.std.specs.Prelude.{◌≡◌, ◌≢◌, ℕ, true, List, [], ◌∷◌, ◌++◌, map, flat_map, Contains, IsSome, unwrap_or, ⊤}
 use Rattle.pop_model.specs.Languages.{IsFirstBad}
 use Rattle.pop_words.specs.declared.command.Command.{Command}
-use Rattle.pop_words.specs.declared.option.OptionName.{OptionName}
 use Rattle.pop_words.specs.declared.job.Job.{Job}
 use Rattle.pop_words.specs.declared.fault.WordFault.{WordFault}
 use Rattle.pop_words.specs.declared.fault.WordFault.TheVariants.{Usage, OutOfMemory}
-use Rattle.pop_words.specs.Options.{command_word, row, default_job}
+use Rattle.pop_words.specs.Options.{command_word, NamedOption, options, value_of, default_job}
 
 -- an option with the word of its value
 abbrev pub Choice : Type 0
-Choice = OptionName × List ℕ
+Choice = NamedOption × List ℕ
 
 -- the options that were chosen
-abbrev pub names_of : List Choice → List OptionName
-names_of chosen = map (λ p. p.0) chosen
+abbrev pub options_of : List Choice → List NamedOption
+options_of chosen = map (λ p. p.0) chosen
 
 -- their words: the name of each, and then its value
 abbrev pub words_of : List Choice → List (List ℕ)
-words_of chosen = flat_map (λ p. (row p.0).name ∷ p.1 ∷ []) chosen
+words_of chosen = flat_map (λ p. p.0.name ∷ p.1 ∷ []) chosen
 
 -- two options may stand in one command line
-pub record AreCompatible (a b : OptionName) : Type 0 where
-  pub different : a ≢ b
-  pub keeps : (row a).excludes b ≡ false
-  pub kept_by : (row b).excludes a ≡ false
+pub record AreCompatible (a b : NamedOption) : Type 0 where
+  pub different : a.name ≢ b.name
+  pub keeps : Contains a.excludes b.name → ⊥
+  pub kept_by : Contains b.excludes a.name → ⊥
 
--- the option may stand behind these
-pub record MayFollow (command : Command) (before : List OptionName) (option : OptionName)
+-- it is an option of the table, and may stand behind these
+pub record MayFollow (command : Command) (before : List NamedOption) (option : NamedOption)
     : Type 0 where
-  pub allowed : (row option).allowed command ≡ true
-  pub compatible : (other : OptionName) → Contains before other → AreCompatible other option
+  pub listed : Contains options option
+  pub allowed : Contains option.commands command
+  pub compatible : (other : NamedOption) → Contains before other → AreCompatible other option
 
 -- behind these, each option may stand where it stands, and its word is a value of it
-abbrev pub AreOptions : Command → List OptionName → List Choice → Type 0
+abbrev pub AreOptions : Command → List NamedOption → List Choice → Type 0
 AreOptions command before [] = ⊤
 AreOptions command before (p ∷ chosen) =
     MayFollow command before p.0
-    × IsSome ((row p.0).value p.1)
+    × IsSome (value_of p.0.field p.1)
     × AreOptions command (before ++ p.0 ∷ []) chosen
 
 -- no needed option is missing
-abbrev pub AreComplete : Command → List OptionName → Type 0
-AreComplete command names = (option : OptionName) → (row option).allowed command ≡ true
-    → (row option).needed ≡ true → Contains names option
+abbrev pub AreComplete : Command → List NamedOption → Type 0
+AreComplete command chosen =
+    (option : NamedOption) → Contains options option → Contains option.commands command
+    → option.needed ≡ true → Contains chosen option
 
 -- the job with an option set
 abbrev pub set_option : Job → Choice → Job
-set_option job p = unwrap_or ((row p.0).value p.1) (λ j. j) job
+set_option job p = unwrap_or (value_of p.0.field p.1) (λ j. j) job
 
 -- the job with options set, one after another
 abbrev pub job_from : Job → List Choice → Job
@@ -60,7 +61,7 @@ pub record Asks (words : List (List ℕ)) (job : Job) : Type 0 where
   pub chosen : List Choice
   pub words_are : words ≡ command_word command ∷ words_of chosen
   pub options : AreOptions command [] chosen
-  pub complete : AreComplete command (names_of chosen)
+  pub complete : AreComplete command (options_of chosen)
   pub job_is : job ≡ job_from (default_job command) chosen
 
 -- the words are a command line

@@ -21,6 +21,11 @@ abbrev pub HeightInRange : Type 0
 HeightInRange = (words : List (List ℕ)) (job : Job) → Asks words job
     → (0 < job.height) × (job.height < 2 ^ 31)
 
+-- the workers that are asked for are from 1 to 64
+abbrev pub WorkersInRange : Type 0
+WorkersInRange = (words : List (List ℕ)) (job : Job) → Asks words job
+    → (0 < job.workers) × (job.workers ≤ 64)
+
 -- a root that is asked for is from 1 on, and fits 32 bits
 abbrev pub RootInRange : Type 0
 RootInRange = (words : List (List ℕ)) (job : Job) → Asks words job

@@ -1,48 +1,71 @@
 -- The words read once, from left to right, as a function on lists. For every list it gives the job
 -- that the words ask for, or the place of their first bad word (proofs/ReadingLemmas.antt).
-use Rattle.std.specs.Prelude.{◌≡◌, ℕ, ◌+◌, Bool, not, ◌&&◌, ◌||◌, List, [], ◌∷◌, ◌++◌, drop, Option, None, Some, Result, Ok, Err, ⊤, if◌then◌else◌}
+use Rattle.std.specs.Prelude.{◌≡◌, ℕ, ◌+◌, Bool, not, ◌&&◌, ◌||◌, List, [], ◌∷◌, ◌++◌, drop, map, Option, None, Some, Result, Ok, Err, ⊤, if◌then◌else◌}
 use Rattle.std.specs.List.{list_all, list_any, find}
 use Rattle.std.specs.Str.{bytes_eq}
 use Rattle.pop_words.specs.declared.command.Command.{Command}
-use Rattle.pop_words.specs.declared.option.OptionName.{OptionName}
+use Rattle.pop_words.specs.declared.option.OptionRow.{OptionRow}
 use Rattle.pop_words.specs.declared.job.Job.{Job}
 use Rattle.pop_words.specs.declared.fault.WordFault.{WordFault}
 use Rattle.pop_words.specs.declared.fault.WordFault.TheVariants.{Usage, OutOfMemory}
 use Rattle.pop_words.specs.Values.{only_if}
-use Rattle.pop_words.specs.Options.{commands, command_word, options, row, default_job}
+use Rattle.pop_words.specs.Options.{commands, command_word, NamedOption, options, value_of, default_job}
 
 -- the command of a word
 abbrev pub command_named : List ℕ → Option Command
 command_named word = find (λ command. bytes_eq (command_word command) word) commands
 
 -- the option of a word
-abbrev pub option_named : List ℕ → Option OptionName
-option_named word = find (λ option. bytes_eq (row option).name word) options
+abbrev pub option_named : List ℕ → Option NamedOption
+option_named word = find (λ option. bytes_eq option.name word) options
+
+-- a row of the code's table, as contracts see it
+abbrev pub seen : OptionRow → NamedOption
+seen row =
+    record {
+      name = row.name.now;
+      field = row.field;
+      commands = row.commands.now;
+      excludes = map (λ name. name.now) row.excludes.now;
+      needed = row.needed;
+    }
 
 -- whether two options have one name
-abbrev pub same_name : OptionName → OptionName → Bool
-same_name a b = bytes_eq (row a).name (row b).name
+abbrev pub same_name : NamedOption → NamedOption → Bool
+same_name a b = bytes_eq a.name b.name
+
+-- whether two commands have one word
+abbrev pub same_word : Command → Command → Bool
+same_word a b = bytes_eq (command_word a) (command_word b)
+
+-- whether a command allows an option
+abbrev pub allows : NamedOption → Command → Bool
+allows option command = list_any (same_word command) option.commands
+
+-- whether an option excludes a name
+abbrev pub excludes : NamedOption → List ℕ → Bool
+excludes option name = list_any (bytes_eq name) option.excludes
 
 -- whether two options may stand in one command line
-abbrev pub compatible : OptionName → OptionName → Bool
-compatible a b = not (same_name a b) && not ((row a).excludes b) && not ((row b).excludes a)
+abbrev pub compatible : NamedOption → NamedOption → Bool
+compatible a b = not (same_name a b) && not (excludes a b.name) && not (excludes b a.name)
 
 -- whether the option may stand behind these
-abbrev pub may_follow : Command → List OptionName → OptionName → Bool
+abbrev pub may_follow : Command → List NamedOption → NamedOption → Bool
 may_follow command before option =
-    (row option).allowed command && list_all (λ other. compatible other option) before
+    allows option command && list_all (λ other. compatible other option) before
 
 -- whether an option stands where it is needed
-abbrev pub stands_if_needed : Command → List OptionName → OptionName → Bool
-stands_if_needed command names option =
-    not ((row option).allowed command && (row option).needed) || list_any (same_name option) names
+abbrev pub stands_if_needed : Command → List NamedOption → NamedOption → Bool
+stands_if_needed command chosen option =
+    not (allows option command && option.needed) || list_any (same_name option) chosen
 
 -- whether no needed option is missing
-abbrev pub is_complete : Command → List OptionName → Bool
-is_complete command names = list_all (stands_if_needed command names) options
+abbrev pub is_complete : Command → List NamedOption → Bool
+is_complete command chosen = list_all (stands_if_needed command chosen) options
 
 -- the option that may stand next under a name
-abbrev pub option_next : Command → List OptionName → List ℕ → Option OptionName
+abbrev pub option_next : Command → List NamedOption → List ℕ → Option NamedOption
 option_next command before name = only_if (may_follow command before) (option_named name)
 
 -- what is read on with what was found; where nothing was found, the place is bad
@@ -51,14 +74,14 @@ read_on place None next = Err place
 read_on place (Some x) next = next x
 
 -- what is read behind so many words, with these options and this job so far
-abbrev pub read_from : Command → List OptionName → Job → ℕ → List (List ℕ) → Result Job ℕ
+abbrev pub read_from : Command → List NamedOption → Job → ℕ → List (List ℕ) → Result Job ℕ
 read_from command before job place [] =
     if is_complete command before then Ok job else Err (place + 1)
 read_from command before job place (name ∷ []) =
     read_on (place + 1) (option_next command before name) (λ option. Err (place + 2))
 read_from command before job place (name ∷ word ∷ rest) =
     read_on (place + 1) (option_next command before name)
-    (λ option. read_on (place + 2) ((row option).value word)
+    (λ option. read_on (place + 2) (value_of option.field word)
     (λ set. read_from command (before ++ option ∷ []) (set job) (place + 2) rest))
 
 -- what is read behind the command word

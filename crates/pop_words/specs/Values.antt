@@ -73,6 +73,7 @@ no_reports = record { totals = false; heights = false }
 abbrev pub totals_name : List ℕ
 totals_name = codes "totals"
 
+-- the name of the report of the heights
 abbrev pub heights_name : List ℕ
 heights_name = codes "heights"
 

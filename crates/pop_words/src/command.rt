@@ -1,6 +1,6 @@
-// The commands.
+// The commands: a table, a row each.
 ghost use Rattle.std.specs.Prelude.{◌≡◌};
-ghost use Rattle.pop_words.specs.Options.{command_word, has_root, makes, samples, tells_log};
+ghost use Rattle.pop_words.specs.Options.{command_row, command_word, input_of};
 ghost use Rattle.pop_words.specs.Reading.{command_named};
 
 /// What is to be done with the formula or the graph on the input, or with a graph that is made.
@@ -12,14 +12,36 @@ pub enum Command {
     Orient,
     /// `tree`: sample a spanning tree of the graph, with its arrows to a root.
     Tree,
-    /// `resample`: sample a valuation as `formula` does, of clauses that may clash, and tell the log of
-    /// the pops.
+    /// `resample`: sample a valuation as `formula` does, of clauses that may clash, and tell the
+    /// log of the pops.
     Resample,
     /// `check`: say whether the clauses of the formula are extremal.
     Check,
     /// `make`: sample a spanning tree of a square grid that is made from a number, and tell it in
     /// short.
     Make,
+}
+
+/// What a command reads.
+#[derive(Clone, Copy, Debug, PartialEq, Eq)]
+pub enum Input {
+    /// A formula.
+    Formula,
+    /// A graph.
+    Graph,
+    /// No byte.
+    Nothing,
+}
+
+// What there is to say of a command.
+#[derive(Clone, Copy)]
+struct CommandRow {
+    // As it is written.
+    word: &'static str,
+    // What it reads.
+    input: Input,
+    // Whether it tells its log.
+    log: bool,
 }
 
 impl Command {
@@ -32,71 +54,42 @@ impl Command {
         Command::Make,
     ];
 
-    // The word that stands for the command.
-    fn word(self) -> &'static str
+    // Its row of the table.
+    fn row(self) -> CommandRow
+        ensures word { result.word.now ≡ (command_row self).word }
+        ensures input { result.input ≡ (command_row self).input }
+        ensures log { result.log ≡ (command_row self).log }
+    {
+        let (word, input, log) = match self {
+            Command::Formula => ("formula", Input::Formula, false),
+            Command::Orient => ("orient", Input::Graph, false),
+            Command::Tree => ("tree", Input::Graph, false),
+            Command::Resample => ("resample", Input::Formula, true),
+            Command::Check => ("check", Input::Formula, false),
+            Command::Make => ("make", Input::Nothing, false),
+        };
+        CommandRow { word, input, log }
+    }
+
+    /// The word that stands for it.
+    pub fn word(self) -> &'static str
         ensures { result.now ≡ command_word self }
     {
-        match self {
-            Command::Formula => "formula",
-            Command::Orient => "orient",
-            Command::Tree => "tree",
-            Command::Resample => "resample",
-            Command::Check => "check",
-            Command::Make => "make",
-        }
+        self.row().word
     }
 
-    // Whether it samples.
-    pub(crate) fn samples(self) -> bool
-        ensures { result ≡ samples self }
+    /// What it reads.
+    pub fn input(self) -> Input
+        ensures { result ≡ input_of self }
     {
-        match self {
-            Command::Formula
-            | Command::Orient
-            | Command::Tree
-            | Command::Resample
-            | Command::Make => true,
-            Command::Check => false,
-        }
+        self.row().input
     }
 
-    // Whether a root may be asked for.
-    pub(crate) fn has_root(self) -> bool
-        ensures { result ≡ has_root self }
+    /// Whether it tells its log.
+    pub fn tells_log(self) -> bool
+        ensures { result ≡ (command_row self).log }
     {
-        match self {
-            Command::Tree => true,
-            Command::Formula
-            | Command::Orient
-            | Command::Resample
-            | Command::Check
-            | Command::Make => false,
-        }
-    }
-
-    // Whether it tells its log.
-    pub(crate) fn tells_log(self) -> bool
-        ensures { result ≡ tells_log self }
-    {
-        match self {
-            Command::Resample => true,
-            Command::Formula | Command::Orient | Command::Tree | Command::Check | Command::Make =>
-                false,
-        }
-    }
-
-    // Whether its graph is made, and not read.
-    pub(crate) fn makes(self) -> bool
-        ensures { result ≡ makes self }
-    {
-        match self {
-            Command::Make => true,
-            Command::Formula
-            | Command::Orient
-            | Command::Tree
-            | Command::Resample
-            | Command::Check => false,
-        }
+        self.row().log
     }
 
     // The command that a word stands for.

@@ -22,7 +22,7 @@ fn read_options(alloc: Global, command: Command, words: &[String]) -> Result<Job
         if place + 1 == words.len() {
             return Err(WordFault::Usage(place as u32 + 2));
         }
-        job = match option.set(alloc, job, words[place + 1].as_bytes())? {
+        job = match option.field.set(alloc, job, words[place + 1].as_bytes())? {
             Some(job) => job,
             None => return Err(WordFault::Usage(place as u32 + 2)),
         };

@@ -1,7 +1,7 @@
 // What the words ask for.
 ghost use Rattle.std.specs.Prelude.{◌≡◌};
 
-use crate::{Command, Reports};
+use crate::{BoardKind, Command, Reports};
 use pop_stacks::StackSpec;
 
 /// What the words ask for. What no option says holds its default.
@@ -16,11 +16,15 @@ pub struct Job {
     pub height: u32,
     /// How many workers share the pops, from 1 to 64: that of `--workers`, which is 1 by default.
     pub workers: u32,
+    /// The board on which the workers meet: that under the lock.
+    pub board: BoardKind,
     /// The vertex to which the arrows of a tree lead, from 1 to 2^32 - 1: that of `--root`, which
     /// is 1 by default.
     pub root: u32,
-    /// The pop whose witness tree is asked for, by the printed name of a variable and the entry that
-    /// the pop used, which counts from 0: those of `--witness`. None by default.
+    /// Whether the log of the pops is told: for `resample` alone.
+    pub log: bool,
+    /// The pop whose witness tree is asked for, by the printed name of a variable and the entry
+    /// that the pop used, which counts from 0: those of `--witness`. None by default.
     pub witness: Option<(u32, u32)>,
     /// The reports of the log that are asked for: those of `--report`. None by default.
     pub reports: Reports,
@@ -41,10 +45,19 @@ impl Job {
             stacks: StackSpec::Key([0; 32]),
             height: 1 << 20,
             workers: 1,
+            board: BoardKind::Lock,
             root: 1,
+            log: command.tells_log(),
             witness: None,
             reports: Reports::none(),
             size: 0,
         }
+    }
+
+    // The job with stacks of this origin.
+    pub(crate) fn with_stacks(self, stacks: StackSpec) -> Job
+        ensures { result ≡ record self { stacks = stacks } }
+    {
+        Job { stacks, ..self }
     }
 }

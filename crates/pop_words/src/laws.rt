@@ -1,6 +1,6 @@
 //! The laws of the grammar: it leaves the reading of words no choice. Each function's contract is
 //! the law.
-ghost use Rattle.pop_words.specs.Laws.{OneJob, OneBadPlace, JobOrBadPlace, HeightInRange, RootInRange, SizeInRange};
+ghost use Rattle.pop_words.specs.Laws.{OneJob, OneBadPlace, JobOrBadPlace, HeightInRange, WorkersInRange, RootInRange, SizeInRange};
 
 /// A list of words asks for at most one job.
 pub fn one_job()
@@ -20,6 +20,11 @@ pub fn job_or_bad_place()
 /// A height that is asked for is from 1 to 2^31 - 1.
 pub fn height_in_range()
     ensures { HeightInRange }
+{}
+
+/// The workers that are asked for are from 1 to 64.
+pub fn workers_in_range()
+    ensures { WorkersInRange }
 {}
 
 /// A root that is asked for is from 1 to 2^32 - 1.

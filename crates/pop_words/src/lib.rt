@@ -2,9 +2,11 @@
 //! words as lists of bytes, and cite the grammar as a set of lists of words, each with its job.
 #![tactic(auto)]
 
+mod board_kind;
 mod command;
 mod command_line;
 mod fault;
+mod field;
 mod job;
 pub mod laws;
 mod option;
@@ -13,8 +15,10 @@ mod reports;
 mod tests;
 mod value;
 
-pub use command::Command;
+pub use board_kind::BoardKind;
+pub use command::{Command, Input};
 pub use command_line::read_words;
 pub use fault::WordFault;
 pub use job::Job;
 pub use reports::Reports;
+pub use value::{key_in, rows_in};

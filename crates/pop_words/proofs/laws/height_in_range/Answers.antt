@@ -1,4 +1,4 @@
-use Rattle.pop_words.proofs.LawLemmas.{asked_height}
+use Rattle.pop_words.proofs.JobsInRange.{asked_height}
 use Rattle.pop_words.proofs.laws.height_in_range.Goals as goal
 
 pub returns : goal.returns

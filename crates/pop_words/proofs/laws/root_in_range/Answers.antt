@@ -1,4 +1,4 @@
-use Rattle.pop_words.proofs.LawLemmas.{asked_root}
+use Rattle.pop_words.proofs.JobsInRange.{asked_root}
 use Rattle.pop_words.proofs.laws.root_in_range.Goals as goal
 
 pub returns : goal.returns
