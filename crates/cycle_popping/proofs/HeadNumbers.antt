@@ -13,7 +13,9 @@ use Rattle.graph_read.specs.Incidence.{edges_at, other_end}
 use Rattle.graph_read.specs.Paths.{IsConnected}
 use Rattle.cycle_popping.specs.Trees.{variable_of, heads_at, heads_of_tree}
 use Rattle.cycle_popping.specs.Numbers.{number_of, numbers_at}
-use Rattle.cycle_popping.proofs.TreeRows.{variable_below, other_end_is, edge_is, edges_known, edges_few, some_slot, all_rows}
+use Rattle.graph_read.proofs.KnownEdges.{edges_known, edges_few}
+use Rattle.graph_read.proofs.VisitedEdges.{other_end_vertex}
+use Rattle.cycle_popping.proofs.TreeRows.{variable_below, edge_is, some_slot, all_rows}
 
 -- a list that was changed twice, where the two changes make one
 pub map_twice : {X Y Z : Type 0} (f : Y → Z) (g : X → Y) (h : X → Z) (xs : List X) → All (λ x. f (g x) ≡ h x) xs
@@ -49,7 +51,7 @@ module _ (g : GraphOf) (root : ℕ) (is : IsGraph g) (at : IsVertex g.vertices r
       let other = other_end (edge_at g i) w in
       if_some (λ v. v < g.vertices - 1) (variable_of root other)
       (λ v leads. variable_below g.vertices root other v at
-      (other_end_is g.vertices (edge_at g i) w (edge_is g i is known)) leads)
+      (other_end_vertex g.vertices w (edge_at g i) (edge_is g i is known)) leads)
 
   -- the numbers of a variable's heads stand for these
   row_back : (v : ℕ) → map (head_of_number (g.vertices - 1)) (numbers_at g root v) ≡ heads_at g root v

@@ -1,6 +1,6 @@
 mod JoinedVertices
-mod TreeRows
+pub mod TreeRows
 mod HeadNumbers
 mod OneWeights
-mod GridRows
+mod NeighbourRows
 mod Vectors

@@ -6,7 +6,7 @@ use Rattle.pop_model.specs.Names.{vertex_of}
 use Rattle.graph_read.specs.Graphs.{GraphOf, IsGraph, edge_at}
 use Rattle.graph_read.specs.Incidence.{edges_at}
 use Rattle.cycle_popping.specs.Trees.{weights_at, weights_of_tree}
-use Rattle.cycle_popping.proofs.TreeRows.{edges_known, edges_few}
+use Rattle.graph_read.proofs.KnownEdges.{edges_known, edges_few}
 use Rattle.cycle_popping.proofs.HeadNumbers.{map_twice}
 
 -- how many slots a variable has

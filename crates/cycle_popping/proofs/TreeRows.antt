@@ -1,20 +1,19 @@
 -- The rows of a tree's arrows and weights: each variable is a vertex but the root, the edges at a vertex are edges of the
 -- graph, and their other ends are vertices.
-use Rattle.std.proofs.Common.{inl, inr, ◌≡◌, ◌≢◌, ℕ, ◌+◌, ◌-◌, ◌<◌, ◌≤◌, ◌^◌, Bool, cond, ltb, ◌==◌, not, ◌&&◌, List, [], ◌∷◌, ◌++◌, length, map, get_or, Option, Some, None, sym, ap, ap₂, subst, ◌∙◌, arith, All}
+use Rattle.std.proofs.Common.{inl, inr, ◌≡◌, ◌≢◌, ℕ, ◌+◌, ◌-◌, ◌<◌, ◌≤◌, ◌^◌, cond, ltb, ◌==◌, List, [], ◌∷◌, ◌++◌, length, map, get_or, Option, Some, None, sym, ap, ap₂, subst, ◌∙◌, arith, All}
 use Rattle.std.specs.List.{range_with_len}
 use Rattle.std.proofs.lemmas.Bool.{cases_Bool, cases_lt, lt-ltb, le-ltb, eqb-false}
 use Rattle.std.proofs.lemmas.Option.{none-some, same_Some}
-use Rattle.std.proofs.lemmas.List.{length-map, get_or-map, get_or_past, get_or_default}
+use Rattle.std.proofs.lemmas.List.{length-map, get_or-map, get_or_past}
 use Rattle.std.proofs.lemmas.List.Elements.{All-map, All-weaker}
 use Rattle.std.proofs.lemmas.List.FromFn.{length-map-range_with_len, get_or-map-range_with_len, map-range_with_len_more}
 use Rattle.pop_model.specs.Names.{vertex_of}
 use Rattle.pop_model.specs.Cycles.{AreArrows}
 use Rattle.pop_stacks.specs.Rows.{AreWeights}
-use Rattle.graph_read.specs.declared.edge.Edge.{Edge}
 use Rattle.graph_read.specs.Graphs.{GraphOf, IsVertex, IsEdge, IsGraph}
-use Rattle.graph_read.specs.Incidence.{is_loop, touches, other_end, edges_at}
-use Rattle.graph_read.proofs.KnownEdges.{edge_known}
-use Rattle.graph_read.proofs.Numbering.{numbered, length-numbered}
+use Rattle.graph_read.specs.Incidence.{other_end, edges_at}
+use Rattle.graph_read.proofs.KnownEdges.{edges_known, edges_few}
+use Rattle.graph_read.proofs.VisitedEdges.{other_end_vertex}
 use Rattle.cycle_popping.specs.Trees.{variable_of, heads_at, weights_at, heads_of_tree, weights_of_tree}
 use Rattle.graph_read.specs.Graphs.{edge_at}
 use Rattle.graph_read.specs.Paths.{IsConnected}
@@ -25,6 +24,7 @@ pub record IsTreeVertex (n root w : ℕ) : Type 0 where
   pub vertex : IsVertex n w
   pub other : w ≢ root
 
+-- so it is: variables pass over the root
 pub vertex_of_is : (n root v : ℕ) → IsVertex n root → v < n - 1 → IsTreeVertex n root (vertex_of root v)
 vertex_of_is n root v at below = elim (cases_lt (v + 1) root) [
   | inl less ↦
@@ -62,30 +62,9 @@ variable_below n root w v at vertex is = elim (cases_Bool (w == root)) [
       ]
 ]
 
--- the edges at a vertex are edges of the graph
-pub edges_known : (g : GraphOf) (w : ℕ) → All (λ i. i < length g.edges) (edges_at g w)
-edges_known g w = λ k d within. edge_known g w k d within
-
 -- an edge of the graph joins vertices
 pub edge_is : (g : GraphOf) (i : ℕ) → IsGraph g → i < length g.edges → IsEdge g.vertices (edge_at g i)
 edge_is g i is below = is.edges_join i (record { u = 0; v = 0; weight = 0 }) below
-
--- its other end is a vertex
-pub other_end_is : (n : ℕ) (e : Edge) (w : ℕ) → IsEdge n e → IsVertex n (other_end e w)
-other_end_is n e w is = elim (cases_Bool (e.u == w)) [
-  | inl same ↦ subst (IsVertex n) (sym (ap (λ b. cond b e.v e.u) same)) is.to
-  | inr differ ↦ subst (IsVertex n) (sym (ap (λ b. cond b e.v e.u) differ)) is.from
-]
-
--- a vertex has at most as many edges as the graph
-pub edges_few : (g : GraphOf) (w : ℕ) → length (edges_at g w) ≤ length g.edges
-edges_few g w =
-    let stands : Edge → Bool = λ e. touches e w && not (is_loop e) in
-    omega (
-      arith,
-      length-map (numbered stands g.edges) (λ (p : ℕ × Edge). p.0),
-      length-numbered stands g.edges,
-    )
 
 -- what holds of each variable's row holds of all rows
 pub all_rows : {X : Type 0} (P : List X → Type 0) (row : ℕ → List X) (n : ℕ) → ((v : ℕ) → v < n → P (row v))
@@ -114,7 +93,7 @@ module _ (g : GraphOf) (root : ℕ) (is : IsGraph g) (at : IsVertex g.vertices r
             let known : i < length g.edges = edges_known g (vertex_of root v) x 0 within in
             let here : head i ≡ Some w = sym (get_or-map head edges x 0 None within) ∙ leads in
             variable_below g.vertices root (other_end (edge_at g i) (vertex_of root v)) w at
-            (other_end_is g.vertices (edge_at g i) (vertex_of root v) (edge_is g i is known)) here
+            (other_end_vertex g.vertices (vertex_of root v) (edge_at g i) (edge_is g i is known)) here
         | inr past ↦ absurd (none-some w (sym (get_or_past (heads_at g root v) x None (omega (arith, size))) ∙ leads))
       ]
 
@@ -192,7 +171,3 @@ pub rows_whole : {X : Type 0} (row : ℕ → X) (n v count : ℕ) (rows : List X
     → rows ≡ map row (range_with_len 0 (n - 1))
 rows_whole row n v count rows are is low high =
     let same : v ≡ n - 1 = omega arith in are ∙ ap (λ m. map row (range_with_len 0 m)) same
-
--- an edge that was read is the one of its number
-pub edge_read : (g : GraphOf) (i : ℕ) (e : Edge) → i < length g.edges → e ≡ get_or g.edges i e → e ≡ edge_at g i
-edge_read g i e below is = is ∙ get_or_default g.edges i e (record { u = 0; v = 0; weight = 0 }) below

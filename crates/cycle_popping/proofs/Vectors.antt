@@ -15,6 +15,7 @@ triangle_heads : heads_of_tree triangle 1 ≡ (None ∷ Some 1 ∷ []) ∷ (Some
 unfolding triangle
 triangle_heads = refl
 
+-- the weights of these edges
 triangle_weights : weights_of_tree triangle 1 ≡ (1 ∷ 7 ∷ []) ∷ (7 ∷ 4 ∷ []) ∷ []
 unfolding triangle
 triangle_weights = refl
@@ -31,10 +32,12 @@ parallel = record {
   edges = record { u = 2; v = 2; weight = 1 } ∷ record { u = 1; v = 2; weight = 5 } ∷ record { u = 1; v = 2; weight = 1 } ∷ [];
 }
 
+-- both edges lead to the root
 parallel_heads : heads_of_tree parallel 1 ≡ (None ∷ None ∷ []) ∷ []
 unfolding parallel
 parallel_heads = refl
 
+-- each has its own weight
 parallel_weights : weights_of_tree parallel 1 ≡ (5 ∷ 1 ∷ []) ∷ []
 unfolding parallel
 parallel_weights = refl

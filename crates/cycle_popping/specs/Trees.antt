@@ -1,6 +1,6 @@
--- The arrows of rooted spanning trees (Propp and Wilson 1998). The variables are the vertices but the
--- root, rising; the slots of a variable are the edges at its vertex that aren't loops, in the order of
--- the graph. Vertices count from 1, and variables, slots and edges from 0.
+-- The arrows of rooted spanning trees (Propp and Wilson 1998). The variables are the vertices but
+-- the root, rising; the slots of a variable are the edges at its vertex that aren't loops, in the
+-- order of the graph. Vertices count from 1, and variables, slots and edges from 0.
 use Rattle.std.specs.Prelude.{ℕ, ◌-◌, ◌==◌, nat_lt, if◌then◌else◌, List, map, Option, None, Some}
 use Rattle.std.specs.List.{range_with_len}
 use Rattle.pop_model.specs.Names.{vertex_of}

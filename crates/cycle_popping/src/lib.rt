@@ -13,6 +13,6 @@ mod walks;
 mod weights;
 
 pub use grids::{grid_arrows, grid_weights};
-pub use heads::{arrows, arrows_by};
+pub use heads::{arrows, arrows_of};
 pub use walks::run_walks;
-pub use weights::{arrow_weights, arrow_weights_by};
+pub use weights::{arrow_weights, weights_of};

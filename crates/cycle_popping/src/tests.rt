@@ -130,8 +130,8 @@ fn a_vertex_in_front_of_a_cycle_keeps_its_arrow(rt: HostRuntime) -> Result<(), F
     ends_with(&rt, alloc, &instance, &want)
 }
 
-// Worked by hand from the key stream: vertex 2 has a loop, which is no slot, and two parallel edges to
-// the root of weights 5 and 1, of which the first entry takes the first.
+// Worked by hand from the key stream: vertex 2 has a loop, which is no slot, and two parallel edges
+// to the root of weights 5 and 1, of which the first entry takes the first.
 #[test]
 fn parallel_edges_are_slots_and_loops_are_none(rt: HostRuntime) -> Result<(), Fail> {
     let alloc = rt.alloc();

@@ -31,18 +31,22 @@ bind_ok (Err e) f y h = absurd (cc)
 pub bind_on : {A B : Type 0} (r : Result A Fault) (f : A → Result B Fault) (x : A) → r ≡ Ok x → (r >>= f) ≡ f x
 bind_on r f x e = ap (λ s. s >>= f) e
 
+-- a value that is there, and is no fault
 some_of : {A : Type 0} (o : Option A) (f : Fault) (x : A) → ok_or o f ≡ Ok x → o ≡ Some x
 some_of None f x h = absurd (cc)
 some_of (Some y) f x h = let e : y ≡ x = cc in ap (λ z. Some z) e
 
+-- a value that passed its test
 passed : {A : Type 0} (t : Bool) (x y : A) (f : Fault) → cond t (Ok x) (Err f) ≡ Ok y → (t ≡ true) × (x ≡ y)
 passed true x y f h = (refl, cc)
 passed false x y f h = absurd (cc)
 
+-- a value that no test stopped
 not_stopped : {A : Type 0} (t : Bool) (x y : A) (f : Fault) → cond t (Err f) (Ok x) ≡ Ok y → (t ≡ false) × (x ≡ y)
 not_stopped true x y f h = absurd (cc)
 not_stopped false x y f h = (refl, cc)
 
+-- a value that is there where its test is passed
 chosen : {A : Type 0} (t : Bool) (x y : A) → cond t (Some x) None ≡ Some y → (t ≡ true) × (x ≡ y)
 chosen true x y h = (refl, cc)
 chosen false x y h = absurd (cc)
@@ -67,6 +71,7 @@ end_is n word u h =
       subst (IsVertex n) t.1 (record { first = leb-true 1 s.0 both.0; last = leb-true s.0 n both.1 }),
     )
 
+-- a word that is the number of a vertex is read as an end
 end_of : (n : ℕ) (word : List ℕ) (u : ℕ) → number_of word ≡ Some u → IsVertex n u → end_in n word ≡ Ok u
 end_of n word u h v =
     let keep : ℕ → Result ℕ Fault = λ a. cond (nat_le 1 a && nat_le a n) (Ok a) (Err (Code 13)) in
@@ -80,6 +85,7 @@ abbrev pub HasWeight : Option (List ℕ) → ℕ → Type 0
 HasWeight None w = w ≡ 1
 HasWeight (Some word) w = number_of word ≡ Some w
 
+-- what was read as a weight
 weight_is : (word : Option (List ℕ)) (w : ℕ) → weight_in word ≡ Ok w → HasWeight word w × (1 ≤ w) × (w < 2 ^ 32)
 weight_is None w h = let one : 1 ≡ w = cc in (sym one, omega arith, omega arith)
 weight_is (Some word) w h =
@@ -90,6 +96,7 @@ weight_is (Some word) w h =
     let some : s.0 ≡ 0 → ⊥ = eqb-false s.0 0 t.0 in
     (number, omega (arith, some, t.1), number_small word w number)
 
+-- a weight that is written, or 1, is read as one
 weight_of : (word : Option (List ℕ)) (w : ℕ) → HasWeight word w → 1 ≤ w → weight_in word ≡ Ok w
 weight_of None w h some = ap (λ a. Ok a) (sym h)
 weight_of (Some word) w h some =
@@ -148,9 +155,11 @@ spelled (e ∷ u ∷ v ∷ x ∷ y ∷ words) edge h = absurd h
 abbrev after_ends : EdgeWords → ℕ → ℕ → Result Edge Fault
 after_ends words u v = weight_in words.2 >>= λ w. Ok (record { u = u; v = v; weight = w })
 
+-- the steps behind the first end
 abbrev after_from : ℕ → EdgeWords → ℕ → Result Edge Fault
 after_from n words u = end_in n words.1 >>= after_ends words u
 
+-- all steps behind the words
 abbrev after_words : ℕ → EdgeWords → Result Edge Fault
 after_words n words = end_in n words.0 >>= after_from n words
 

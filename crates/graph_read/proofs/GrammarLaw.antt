@@ -21,6 +21,7 @@ record Declares (words : List (List ℕ)) : Type 0 where
   is : declared words ≡ Some (vertices_in words)
   fit : vertices_in words ≤ 2 ^ 22
 
+-- a header without a fault declares how many vertices there are, and they fit
 declares : (words : List (List ℕ)) → header_fault words ≡ None → Declares words
 declares words h = by (declared words) refl h
   where
@@ -35,6 +36,7 @@ declares words h = by (declared words) refl h
           fit = omega (arith, is, ltb-false (2 ^ 22) n (chosen_none (nat_lt (2 ^ 22) n) (Passes 2) h));
         }
 
+-- a header that declares so many as fit has no fault
 no_header_fault : (words : List (List ℕ)) (n : ℕ) → declared words ≡ Some n → n ≤ 2 ^ 22 → header_fault words ≡ None
 no_header_fault words n e fit =
     let small : nat_lt (2 ^ 22) n ≡ false = le-ltb (2 ^ 22) n fit in

@@ -1,20 +1,16 @@
 -- A grid is a graph, and each of its edges has weight 1. What holds of the edge from each vertex to its right and of the
 -- one to the vertex below holds of all edges; the places at both their ends are in the grid.
-use Rattle.std.proofs.Common.{◌≡◌, ℕ, ◌+◌, ◌-◌, ◌*◌, ◌^◌, ◌<◌, ◌≤◌, suc, zero, Bool, true, false, nat_lt, List, [], ◌∷◌, length, map, flat_map, replicate, arith, refl, ap, ap₂, ◌∙◌, sym}
+use Rattle.std.proofs.Common.{◌≡◌, ℕ, ◌+◌, ◌-◌, ◌*◌, ◌^◌, ◌<◌, ◌≤◌, suc, zero, Bool, true, false, nat_lt, List, [], flat_map, arith, refl, ap}
 use Rattle.std.specs.Prelude.{All}
 use Rattle.std.specs.List.{range_with_len}
 use Rattle.std.proofs.lemmas.Bool.{ltb-true}
-use Rattle.std.proofs.lemmas.List.{length-map}
-use Rattle.std.proofs.lemmas.List.Elements.{All-append, All-cons, All-filter, All-head, All-tail}
+use Rattle.std.proofs.lemmas.List.Elements.{All-append, All-cons}
 use Rattle.std.proofs.lemmas.Nat.{mul-le}
 use Rattle.std.proofs.Math.Nat.{add-mul}
 use Rattle.graph_read.specs.declared.edge.Edge.{Edge}
-use Rattle.graph_read.specs.Graphs.{IsEdge, IsGraph, IsVertex, edge_at}
+use Rattle.graph_read.specs.Graphs.{IsEdge, IsGraph, IsVertex}
 use Rattle.graph_read.specs.Grids.{IsPlace, IsSide, edge_where, edges_from, grid_of, grid_vertex, row_edges}
-use Rattle.graph_read.specs.Incidence.{edges_at}
-use Rattle.graph_read.proofs.GridIncidence.{at_vertex_by_numbers, standing}
 use Rattle.graph_read.proofs.GridPlaces.{place_below, right_place, rows_few}
-use Rattle.graph_read.proofs.IncidenceLemmas.{stands_at}
 
 -- the edge of weight 1 from a vertex to another
 abbrev step : ℕ → ℕ → Edge
@@ -99,25 +95,6 @@ grid_is_graph side is =
 pub first_vertex : (side : ℕ) → IsSide side → IsVertex (grid_of side).vertices 1
 first_vertex side is = record { first = omega arith; last = omega (arith, mul-le 1 1 side side is.some is.some) }
 
--- what is told of each is told of all
-alike : {X Y : Type 0} (f : X → Y) (y : Y) (xs : List X) → All (λ x. f x ≡ y) xs → map f xs ≡ replicate (length xs) y
-alike f y [] all = refl
-alike {X} f y (x ∷ xs) all =
-    ap₂ (λ z zs. z ∷ zs) (All-head (λ (z : X). f z ≡ y) x xs all)
-    (alike f y xs (All-tail (λ (z : X). f z ≡ y) x xs all))
-
--- each edge at a vertex of a grid has weight 1
-pub ones_at_vertex : (side w : ℕ) → map (λ i. (edge_at (grid_of side) i).weight) (edges_at (grid_of side) w)
-    ≡ replicate (length (edges_at (grid_of side) w)) 1
-ones_at_vertex side w =
-    let g = grid_of side in
-    let weight : Edge → ℕ = λ e. e.weight in
-    let told = at_vertex_by_numbers weight g w in
-    let count : length (standing w g.edges) ≡ length (edges_at g w) =
-    sym (length-map (standing w g.edges) weight) ∙ sym (ap length told)
-    ∙ length-map (edges_at g w) (λ i. weight (edge_at g i)) in
-    told
-    ∙ alike weight 1 (standing w g.edges)
-    (All-filter (λ e. stands_at e w) (λ e. weight e ≡ 1) g.edges
-    (all_edges (λ e. weight e ≡ 1) side (λ r c at less. refl) (λ r c at less. refl)))
-    ∙ ap (λ n. replicate n 1) count
+-- each edge of a grid has weight 1
+pub grid_ones : (side : ℕ) → All (λ e. e.weight ≡ 1) (grid_of side).edges
+grid_ones side = all_edges (λ e. e.weight ≡ 1) side (λ r c at less. refl) (λ r c at less. refl)

@@ -57,6 +57,7 @@ flat_map_few f a (suc n) most h =
 pub row_few : (side r k : ℕ) → length (flat_map (edges_from side r) (range_with_len 1 k)) ≤ k * 2
 row_few side r k = flat_map_few (edges_from side r) 1 k 2 (edges_from_few side r)
 
+-- at most twice a row come from each of the first rows
 pub rows_few : (side k : ℕ) → length (flat_map (row_edges side) (range_with_len 1 k)) ≤ k * (side * 2)
 rows_few side k = flat_map_few (row_edges side) 1 k (side * 2) (λ r. row_few side r side)
 
@@ -71,6 +72,7 @@ pub right_place : (side r c : ℕ) → IsPlace side r c → c < side → IsPlace
 right_place side r c at less =
     record { row = at.row; row_in = at.row_in; column = omega arith; column_in = omega (arith, less) }
 
+-- the place below
 pub place_below : (side r c : ℕ) → IsPlace side r c → r < side → IsPlace side (r + 1) c
 place_below side r c at less =
     record { row = omega arith; row_in = omega (arith, less); column = at.column; column_in = at.column_in }

@@ -18,7 +18,8 @@ use Rattle.graph_read.specs.Graphs.{GraphOf, IsVertex, IsEdge}
 use Rattle.graph_read.specs.Incidence.{is_loop, touches, edges_at, incidence_of, degrees_of}
 use Rattle.graph_read.proofs.IncidenceLemmas.{stands_at, at_from}
 
-abbrev Puts : Type 0
+-- numbers that are put into rows: of each the row, and the number
+abbrev pub Puts : Type 0
 Puts = List (ℕ × ℕ)
 
 -- what an edge puts into rows
@@ -70,8 +71,16 @@ all_ends g i e at =
 plain_ends : (i : ℕ) (e : Edge) → is_loop e ≡ false → ends_at (i, e) ≡ (e.u - 1, i) ∷ (e.v - 1, i) ∷ []
 plain_ends i e apart = ap (λ b. cond b [] ((e.u - 1, i) ∷ (e.v - 1, i) ∷ [])) apart
 
+-- a loop puts none
 loop_ends : (i : ℕ) (e : Edge) → is_loop e ≡ true → ends_at (i, e) ≡ []
 loop_ends i e loop = ap (λ b. cond b [] ((e.u - 1, i) ∷ (e.v - 1, i) ∷ [])) loop
+
+-- with both ends of it one behind the other
+pub two_more : (g : GraphOf) (i : ℕ) (e : Edge) → IsEdgeAt g i e → is_loop e ≡ false
+    → (first_ends g i ++ (e.u - 1, i) ∷ []) ++ (e.v - 1, i) ∷ [] ≡ first_ends g (i + 1)
+two_more g i e at apart =
+    append_assoc (first_ends g i) ((e.u - 1, i) ∷ []) ((e.v - 1, i) ∷ [])
+    ∙ ap (λ ps. first_ends g i ++ ps) (sym (plain_ends i e apart)) ∙ sym (ends_more g i e at)
 
 -- ---- what comes into a row
 
@@ -138,7 +147,7 @@ put_into-ends m w n (e ∷ es) all h =
     by false = refl
 
 -- what comes into row k is what stands at vertex k + 1
-row_stands : (g : GraphOf) (k : ℕ) → All (IsEdge g.vertices) g.edges
+pub row_stands : (g : GraphOf) (k : ℕ) → All (IsEdge g.vertices) g.edges
     → put_into k (ends_from 0 g.edges) ≡ edges_at g (k + 1)
 row_stands g k all =
     ap (λ n. put_into n (ends_from 0 g.edges)) (let place : k ≡ k + 1 - 1 = omega arith in place)
@@ -147,7 +156,7 @@ row_stands g k all =
 -- ---- counting
 
 -- the row of a vertex is there
-row_there : (n u : ℕ) → IsVertex n u → u - 1 < n
+pub row_there : (n u : ℕ) → IsVertex n u → u - 1 < n
 row_there n u v = omega (arith, v.first, v.last)
 
 -- i edges put at most 2 i numbers into rows
@@ -203,16 +212,15 @@ counts_to g i e ds ds' at apart counts second =
     subst (CountPuts g.vertices ((first_ends g i ++ (e.u - 1, i) ∷ []) ++ (e.v - 1, i) ∷ [])) (sym second)
     (counts_more g.vertices (e.v - 1) i (first_ends g i ++ (e.u - 1, i) ∷ []) ds
     (row_there g.vertices e.v at.edge.to) counts) in
-    subst (λ ps. CountPuts g.vertices ps ds')
-    (append_assoc (first_ends g i) ((e.u - 1, i) ∷ []) ((e.v - 1, i) ∷ [])
-    ∙ ap (λ ps. first_ends g i ++ ps) (sym (plain_ends i e apart)) ∙ sym (ends_more g i e at)) two
+    subst (λ ps. CountPuts g.vertices ps ds') (two_more g i e at apart) two
 
 -- a loop puts nothing
-loop_more : (g : GraphOf) (i : ℕ) (e : Edge) → IsEdgeAt g i e → is_loop e ≡ true
+pub loop_more : (g : GraphOf) (i : ℕ) (e : Edge) → IsEdgeAt g i e → is_loop e ≡ true
     → first_ends g i ≡ first_ends g (i + 1)
 loop_more g i e at loop =
     sym (ends_more g i e at ∙ ap (λ ps. first_ends g i ++ ps) (loop_ends i e loop) ∙ append-nil (first_ends g i))
 
+-- so the counts stay behind a loop
 pub counts_loop : (g : GraphOf) (i : ℕ) (e : Edge) (ds : List ℕ) → IsEdgeAt g i e → is_loop e ≡ true
     → CountPuts g.vertices (first_ends g i) ds → CountPuts g.vertices (first_ends g (i + 1)) ds
 counts_loop g i e ds at loop counts = subst (λ ps. CountPuts g.vertices ps ds) (loop_more g i e at loop) counts
@@ -248,6 +256,7 @@ pub record HoldsEdges (g : GraphOf) (i : ℕ) (f : RoomyRows) : Type 0 where
   pub rooms : CountPuts g.vertices (ends_from 0 g.edges) f.rooms
   pub rows : HoldPuts g.vertices (first_ends g i) f.rows
 
+-- before the first edge the rows are empty
 pub holds_no_edge : (g : GraphOf) (f : RoomyRows) (degrees : List ℕ) → All (IsEdge g.vertices) g.edges
     → degrees ≡ degrees_of g → f.rooms ≡ degrees → f.rows ≡ replicate (length degrees) [] → HoldsEdges g 0 f
 holds_no_edge g f degrees edges is rooms rows =
@@ -274,6 +283,7 @@ pub record HoldsHalf (g : GraphOf) (i : ℕ) (e : Edge) (f : RoomyRows) : Type 0
   pub rooms : CountPuts g.vertices (ends_from 0 g.edges) f.rooms
   pub rows : HoldPuts g.vertices (first_ends g i ++ (e.u - 1, i) ∷ []) f.rows
 
+-- behind the first push the rows hold half of the edge
 pub holds_from : (g : GraphOf) (i : ℕ) (e : Edge) (f f' : RoomyRows) → IsEdgeAt g i e → HoldsEdges g i f
     → f'.rows ≡ push_at f.rows (e.u - 1) i → f'.rooms ≡ f.rooms → HoldsHalf g i e f'
 holds_from g i e f f' at h rows rooms =
@@ -301,14 +311,13 @@ pub holds_edge : (g : GraphOf) (i : ℕ) (e : Edge) (f f' : RoomyRows) → IsEdg
 holds_edge g i e f f' at apart h rows rooms =
     record {
       rooms = subst (CountPuts g.vertices (ends_from 0 g.edges)) (sym rooms) h.rooms;
-      rows = subst (λ ps. HoldPuts g.vertices ps f'.rows)
-          (append_assoc (first_ends g i) ((e.u - 1, i) ∷ []) ((e.v - 1, i) ∷ [])
-          ∙ ap (λ ps. first_ends g i ++ ps) (sym (plain_ends i e apart)) ∙ sym (ends_more g i e at))
+      rows = subst (λ ps. HoldPuts g.vertices ps f'.rows) (two_more g i e at apart)
           (subst (HoldPuts g.vertices ((first_ends g i ++ (e.u - 1, i) ∷ []) ++ (e.v - 1, i) ∷ [])) (sym rows)
           (holds_more g.vertices (e.v - 1) i (first_ends g i ++ (e.u - 1, i) ∷ []) f.rows
           (row_there g.vertices e.v at.edge.to) h.rows));
     }
 
+-- and the rows stay behind a loop
 pub holds_loop : (g : GraphOf) (i : ℕ) (e : Edge) (f : RoomyRows) → IsEdgeAt g i e → is_loop e ≡ true
     → HoldsEdges g i f → HoldsEdges g (i + 1) f
 holds_loop g i e f at loop h =

@@ -48,6 +48,7 @@ leads_back e a touch = by (nat_eq e.u a) refl
           ];
         }
 
+-- a path leads back, edge by edge
 path_back : (g : GraphOf) (a : ℕ) (path : List Edge) (b : ℕ) → IsPath g a path b → IsJoined g b a
 path_back g a [] b same = ([], sym same)
 path_back g a (e ∷ path) b p =

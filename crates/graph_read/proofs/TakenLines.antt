@@ -17,6 +17,7 @@ use Rattle.graph_read.specs.GraphText.{graph, is_passed_over, header_fault, vert
 use Rattle.graph_read.specs.Reading.{AddsLine, Knows, TakesLine}
 use Rattle.graph_read.proofs.EdgeLines.{AreEdgeLines, edges_are}
 
+-- lines by their words, each under its number
 abbrev Lines : Type 0
 Lines = List (ℕ × List (List ℕ))
 

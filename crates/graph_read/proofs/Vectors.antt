@@ -1,5 +1,5 @@
 -- Texts worked by hand from the grammar, so that a slip in a definition does not check.
-use Rattle.std.proofs.Common.{◌≡◌, ℕ, List, [], ◌∷◌, ◌++◌, codes, refl, Some, None, flat_map}
+use Rattle.std.proofs.Common.{◌≡◌, ℕ, List, [], ◌∷◌, ◌++◌, codes, refl, Some, None, flat_map, arith}
 use Rattle.pop_model.specs.Text.{line}
 use Rattle.pop_edge.specs.declared.refusal.ReadRefusal.TheVariants.{Malformed, Limit}
 use Rattle.graph_read.specs.declared.edge.Edge.{Edge}
@@ -11,6 +11,7 @@ use Rattle.graph_read.specs.Incidence.{neighbours_of}
 abbrev text : List (List ℕ) → List ℕ
 text ls = flat_map line ls
 
+-- an edge, in short
 abbrev edge : ℕ → ℕ → ℕ → Edge
 edge u v weight = record { u = u; v = v; weight = weight }
 
@@ -23,12 +24,15 @@ Reads bytes vertices edges =
 no_text : graph_refusal [] ≡ Some (Malformed 1 11)
 no_text = refl
 
+-- a comment is no header
 only_a_comment : graph_refusal (text (codes "c" ∷ [])) ≡ Some (Malformed 2 11)
 only_a_comment = refl
 
+-- nor are empty lines
 only_empty_lines : graph_refusal (text ([] ∷ [] ∷ [])) ≡ Some (Malformed 3 11)
 only_empty_lines = refl
 
+-- nor are the descriptors that are passed over
 only_descriptors : graph_refusal (text (codes "n 1 2" ∷ codes "d" ∷ codes "v 1" ∷ codes "x" ∷ []))
     ≡ Some (Malformed 5 11)
 only_descriptors = refl
@@ -37,39 +41,50 @@ only_descriptors = refl
 other_kind : graph_refusal (text (codes "p edges 2 1" ∷ [])) ≡ Some (Malformed 1 11)
 other_kind = refl
 
+-- of another kind
 other_format : graph_refusal (text (codes "p cnf 2 1" ∷ [])) ≡ Some (Malformed 1 11)
 other_format = refl
 
+-- of another first word
 other_first_word : graph_refusal (text (codes "edge edge 2 1" ∷ [])) ≡ Some (Malformed 1 11)
 other_first_word = refl
 
+-- of a first word in upper case
 upper_case : graph_refusal (text (codes "P edge 2 1" ∷ [])) ≡ Some (Malformed 1 11)
 upper_case = refl
 
+-- an edge where the header should stand
 edge_before_the_header : graph_refusal (text (codes "e 1 2" ∷ codes "p edge 2 1" ∷ [])) ≡ Some (Malformed 1 11)
 edge_before_the_header = refl
 
+-- a header that lacks a number
 header_of_three_words : graph_refusal (text (codes "p edge 2" ∷ [])) ≡ Some (Malformed 1 11)
 header_of_three_words = refl
 
+-- a header with a word too many
 header_of_five_words : graph_refusal (text (codes "p edge 2 1 0" ∷ [])) ≡ Some (Malformed 1 11)
 header_of_five_words = refl
 
+-- a header whose first number is none
 no_number_of_vertices : graph_refusal (text (codes "p edge x 1" ∷ [])) ≡ Some (Malformed 1 11)
 no_number_of_vertices = refl
 
+-- a header whose second number is none
 no_number_of_edges : graph_refusal (text (codes "p col 2 -1" ∷ [])) ≡ Some (Malformed 1 11)
 no_number_of_edges = refl
 
+-- a header whose second number is past 32 bits
 large_number_of_edges : graph_refusal (text (codes "p col 2 4294967296" ∷ [])) ≡ Some (Malformed 1 11)
 large_number_of_edges = refl
 
+-- a number of eleven digits
 header_of_eleven_digits : graph_refusal (text (codes "p edge 00000000002 1" ∷ [])) ≡ Some (Malformed 1 11)
 header_of_eleven_digits = refl
 
 bad_header_behind_comments : graph_refusal (text (codes "c x" ∷ [] ∷ codes "p col 2" ∷ [])) ≡ Some (Malformed 3 11)
 bad_header_behind_comments = refl
 
+-- numbers of ten digits
 header_of_ten_digits : Reads (text (codes "p edge 0000000002 4294967295" ∷ [])) 2 []
 header_of_ten_digits = (refl, refl)
 
@@ -78,6 +93,7 @@ header_behind_other_lines : Reads (text (codes "c x" ∷ [] ∷ codes "  col" �
     2 []
 header_behind_other_lines = (refl, refl)
 
+-- a graph may have no vertex
 no_vertices : Reads (text (codes "p edge 0 0" ∷ [])) 0 []
 no_vertices = (refl, refl)
 
@@ -85,6 +101,7 @@ no_vertices = (refl, refl)
 most_vertices : graph_refusal (text (codes "p edge 4194304 0" ∷ [])) ≡ None
 most_vertices = refl
 
+-- one vertex more passes the limit
 too_many_vertices : graph_refusal (text (codes "p edge 4194305 0" ∷ [])) ≡ Some (Limit 2 1)
 too_many_vertices = refl
 
@@ -92,6 +109,7 @@ too_many_vertices_behind_a_comment : graph_refusal (text (codes "c" ∷ codes "p
     ≡ Some (Limit 2 2)
 too_many_vertices_behind_a_comment = refl
 
+-- what is no number is no limit that is passed
 vertices_past_the_numbers : graph_refusal (text (codes "p col 4294967296 0" ∷ [])) ≡ Some (Malformed 1 11)
 vertices_past_the_numbers = refl
 
@@ -235,12 +253,15 @@ loop_and_parallel_edges : Reads (text (codes "p edge 2 3" ∷ codes "e 2 2" ∷ 
     2 (edge 2 2 1 ∷ edge 1 2 5 ∷ edge 1 2 1 ∷ [])
 loop_and_parallel_edges = (refl, refl)
 
+-- numbers may have leading zeros
 leading_zeros : Reads (text (codes "p col 2 1" ∷ codes "e 01 002 0000000003" ∷ [])) 2 (edge 1 2 3 ∷ [])
 leading_zeros = (refl, refl)
 
+-- the greatest weight
 greatest_weight : Reads (text (codes "p edge 2 1" ∷ codes "e 2 1 4294967295" ∷ [])) 2 (edge 2 1 4294967295 ∷ [])
 greatest_weight = (refl, refl)
 
+-- the number of edges in the header says nothing
 fewer_edges_than_declared : Reads (text (codes "p edge 3 9" ∷ codes "e 1 3" ∷ [])) 3 (edge 1 3 1 ∷ [])
 fewer_edges_than_declared = (refl, refl)
 
@@ -249,27 +270,32 @@ tabs_and_carriage_returns : Reads (text ((codes "p edge 2 1" ++ 13 ∷ []) ∷ (
     (edge 1 2 1 ∷ [])
 tabs_and_carriage_returns = (refl, refl)
 
+-- a form feed is no blank
 form_feed : graph_refusal (text (codes "p edge 2 1" ∷ (101 ∷ 32 ∷ 49 ∷ 12 ∷ 50 ∷ []) ∷ [])) ≡ Some (Malformed 2 15)
 form_feed = refl
 
+-- a last line that lacks its end is a line
 last_line_without_end : Reads (codes "p edge 2 1" ++ 10 ∷ codes "e 1 2") 2 (edge 1 2 1 ∷ [])
 last_line_without_end = (refl, refl)
 
+-- and is judged
 bad_line_without_end : graph_refusal (codes "p edge 2 1" ++ 10 ∷ codes "e 1 3") ≡ Some (Malformed 2 13)
 bad_line_without_end = refl
 
+-- the header may be that line
 header_without_end : Reads (codes "p edge 1 0") 1 []
 header_without_end = (refl, refl)
 
 -- a bad word in a line without its end isn't refused yet
 a_line_that_goes_on : HasNoBadLine (codes "p edge 2 1" ++ 10 ∷ codes "e x")
-a_line_that_goes_on = refl
+a_line_that_goes_on = record { short = omega arith; clean = refl }
 
 -- the rows 1 2 and 3 4
 grid_of_two_rows : grid_of 2
     ≡ record { vertices = 4; edges = edge 1 2 1 ∷ edge 1 3 1 ∷ edge 2 4 1 ∷ edge 3 4 1 ∷ [] }
 grid_of_two_rows = refl
 
+-- the grid of one vertex has no edge
 grid_of_one_row : grid_of 1 ≡ record { vertices = 1; edges = [] }
 grid_of_one_row = refl
 

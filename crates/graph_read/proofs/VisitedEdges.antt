@@ -6,16 +6,15 @@ use Rattle.std.specs.Prelude.{All, Contains}
 use Rattle.std.specs.List.{enumerate_from}
 use Rattle.std.proofs.lemmas.List.{get_or_default}
 use Rattle.std.proofs.lemmas.List.Elements.{All-nil, All-cons, All-weaker, All-get_or, Contains-push, Contains-append_left}
-use Rattle.std.proofs.lemmas.List.FromFn.{length-map-range_with_len}
 use Rattle.std.proofs.lemmas.Bool.{cases_Bool, cases_eq, or_cases, eqb-true, and_parts, and_from, not_from_false}
 use Rattle.graph_read.specs.declared.search.Search.{Search}
 use Rattle.graph_read.specs.declared.edge.Edge.{Edge}
 use Rattle.graph_read.specs.Graphs.{GraphOf, IsVertex, IsEdge}
-use Rattle.graph_read.specs.Incidence.{is_loop, touches, other_end, edges_at, incidence_of, at_vertex}
+use Rattle.graph_read.specs.Incidence.{is_loop, touches, other_end, edges_at}
 use Rattle.graph_read.specs.Paths.{IsJoined}
 use Rattle.graph_read.specs.Search.{IsMet, IsSearch, Goes, HasVisited}
 use Rattle.graph_read.proofs.JoinedPaths.{joined_more}
-use Rattle.graph_read.proofs.IncidenceLemmas.{stands_at, at_from, at_from-append, at_from_more, at_vertex-incidence_of}
+use Rattle.graph_read.proofs.IncidenceLemmas.{stands_at, at_from, at_from-append, at_from_more}
 
 -- number i is that of an edge that stands at the vertex, among edges of which the first has the number n
 record StandsIn (w n : ℕ) (es : List Edge) (i : ℕ) : Type 0 where
@@ -23,6 +22,7 @@ record StandsIn (w n : ℕ) (es : List Edge) (i : ℕ) : Type 0 where
   high : i < n + length es
   stands : (e : Edge) → e ≡ get_or es (i - n) e → stands_at e w ≡ true
 
+-- what stands among later edges stands among all
 stands_later : (w n : ℕ) (x : Edge) (es : List Edge) (i : ℕ) → StandsIn w (n + 1) es i → StandsIn w n (x ∷ es) i
 stands_later w n x es i s =
     record {
@@ -62,6 +62,7 @@ pub record IsStanding (g : GraphOf) (v i : ℕ) : Type 0 where
   pub within : i < length g.edges
   pub stands : (e : Edge) → e ≡ get_or g.edges i e → stands_at e v ≡ true
 
+-- the number at a place of the list at a vertex is that of an edge that stands there
 pub standing : (g : GraphOf) (v k : ℕ) → k < length (edges_at g v) → IsStanding g v (get_or (edges_at g v) k 0)
 standing g v k h =
     let s = All-get_or (StandsIn v 0 g.edges) (edges_at g v) k 0 h (all_stand v 0 g.edges) in
@@ -70,16 +71,6 @@ standing g v k h =
       stands = λ e is. s.stands e (is ∙ ap (λ n. get_or g.edges n e)
           (let place : get_or (edges_at g v) k 0 ≡ get_or (edges_at g v) k 0 - 0 = omega arith in place));
     }
-
--- what the incidence has at a vertex, and how many vertices it has
-pub items_are : (g : GraphOf) (v : ℕ) (incidence : List (List ℕ)) (items : List ℕ) → items ≡ at_vertex incidence v
-    → incidence ≡ incidence_of g → IsVertex g.vertices v → items ≡ edges_at g v
-items_are g v incidence items is of vertex =
-    is ∙ ap (λ rows. at_vertex rows v) of ∙ at_vertex-incidence_of g v vertex
-
-pub length-incidence : (g : GraphOf) (incidence : List (List ℕ)) → incidence ≡ incidence_of g
-    → length incidence ≡ g.vertices
-length-incidence g incidence of = ap length of ∙ length-map-range_with_len (edges_at g) 1 g.vertices
 
 -- an edge that stands at a vertex is there in its incidence
 edge_listed : (g : GraphOf) (v i : ℕ) (e : Edge) → i < length g.edges → e ≡ get_or g.edges i e → stands_at e v ≡ true

@@ -7,13 +7,13 @@ use Rattle.std.specs.List.{filter_map}
 use Rattle.std.specs.Result.{result_ok}
 use Rattle.pop_edge.specs.declared.refusal.ReadRefusal.{ReadRefusal}
 use Rattle.pop_edge.specs.declared.refusal.ReadRefusal.TheVariants.{Malformed, ReadFault, OutOfMemory}
-use Rattle.pop_edge.specs.Lines.{lines_of, ended_lines}
+use Rattle.pop_edge.specs.Lines.{lines_of}
 use Rattle.pop_edge.specs.Words.{begins_with}
 use Rattle.pop_edge.specs.Numbers.{number_of}
 use Rattle.pop_edge.specs.Headers.{header_of}
 use Rattle.pop_edge.specs.Refusals.{Fault, or_else, at_line, first_refusal}
 use Rattle.pop_edge.specs.Refusals.Fault.{Code, Passes}
-use Rattle.pop_edge.specs.Judging.{Judgement, told_lines, text_refusal}
+use Rattle.pop_edge.specs.Judging.{IsUnrefused, Judgement, told_lines, text_refusal}
 use Rattle.graph_read.specs.declared.edge.Edge.{Edge}
 use Rattle.graph_read.specs.Graphs.{GraphOf}
 
@@ -39,6 +39,7 @@ declared words =
     then option_and_then (λ h. if is_graph_kind h.0 then Some h.1 else None) (header_of words)
     else None
 
+-- the number of vertices that a header declares; 0 where it declares none
 abbrev pub vertices_in : List (List ℕ) → ℕ
 vertices_in header = option_map_or (λ n. n) (declared header) 0
 
@@ -139,6 +140,6 @@ AnswersGraph text (Err ReadFault) = ⊤
 AnswersGraph text (Err OutOfMemory) = ⊤
 AnswersGraph text (Err refusal) = graph_refusal text ≡ Some refusal
 
--- no line whose end was taken is refused
+-- what was taken is within the limit, and no line of it whose end was taken is refused
 abbrev pub HasNoBadLine : List ℕ → Type 0
-HasNoBadLine taken = line_refusal (graph_lines (ended_lines taken)) ≡ None
+HasNoBadLine taken = IsUnrefused graph taken

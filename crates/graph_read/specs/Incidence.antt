@@ -1,8 +1,8 @@
 -- Which edges stand at a vertex.
-use Rattle.std.specs.Prelude.{ℕ, ◌-◌, Bool, ◌&&◌, ◌||◌, not, ◌==◌, if◌then◌else◌, List, [], length, map, filter, slice_index_or}
+use Rattle.std.specs.Prelude.{◌≡◌, ℕ, ◌+◌, ◌-◌, ◌<◌, Bool, ◌&&◌, ◌||◌, not, ◌==◌, if◌then◌else◌, List, [], length, map, filter, slice_index, slice_index_or}
 use Rattle.std.specs.List.{enumerate_from, range_with_len}
 use Rattle.graph_read.specs.declared.edge.Edge.{Edge}
-use Rattle.graph_read.specs.Graphs.{GraphOf, edge_at}
+use Rattle.graph_read.specs.Graphs.{GraphOf, IsVertex, edge_at}
 
 -- both ends of the edge are one vertex
 abbrev pub is_loop : Edge → Bool
@@ -35,6 +35,13 @@ incidence_of g = map (edges_at g) (range_with_len 1 g.vertices)
 -- how many edges stand at each vertex, loops aside
 abbrev pub degrees_of : GraphOf → List ℕ
 degrees_of g = map (λ w. length (edges_at g w)) (range_with_len 1 g.vertices)
+
+-- For each vertex, from vertex 1 on, the edge at its place among those at it; places count from 1.
+-- Where there is no such place, any number stands for it.
+pub record StandAtPlaces (g : GraphOf) (places edges : List ℕ) : Type 0 where
+  pub count : length edges ≡ g.vertices
+  pub each : (w x : ℕ) → IsVertex g.vertices w → slice_index places (w - 1) ≡ x + 1
+      → x < length (edges_at g w) → slice_index edges (w - 1) ≡ slice_index (edges_at g w) x
 
 -- what stands there at a vertex
 abbrev pub at_vertex : List (List ℕ) → ℕ → List ℕ

@@ -1,5 +1,6 @@
 -- Which vertices of a graph paths join.
-use Rattle.std.specs.Prelude.{◌≡◌, ℕ, true, List, [], ◌∷◌, Contains}
+use Rattle.std.specs.Prelude.{◌≡◌, ℕ, true, List, [], ◌∷◌, Contains, Option, None, Some}
+use Rattle.pop_model.specs.Places.{IsLeast}
 use Rattle.graph_read.specs.declared.edge.Edge.{Edge}
 use Rattle.graph_read.specs.Graphs.{GraphOf, IsVertex}
 use Rattle.graph_read.specs.Incidence.{other_end, touches}
@@ -23,3 +24,8 @@ pub record IsCutOff (g : GraphOf) (root w : ℕ) : Type 0 where
 -- a path joins each vertex to the root
 abbrev pub IsConnected : GraphOf → ℕ → Type 0
 IsConnected g root = (w : ℕ) → IsVertex g.vertices w → IsJoined g root w
+
+-- what a search from the root finds: the least vertex that is cut off, or none where there is none
+abbrev pub IsFirstCutOff : GraphOf → ℕ → Option ℕ → Type 0
+IsFirstCutOff g root None = IsConnected g root
+IsFirstCutOff g root (Some w) = IsLeast (IsCutOff g root) w

@@ -1,50 +1,98 @@
-ghost use Rattle.std.specs.Prelude.{◌≡◌, ◌≤◌, ◌^◌, length, replicate, IfOk};
-ghost use Rattle.graph_read.specs.Incidence.{at_vertex, degrees_of, incidence_of};
+ghost use Rattle.std.specs.Prelude.{◌≡◌, ◌<◌, ◌≤◌, ◌^◌, length, replicate, All, IfOk, OnOk};
+ghost use Rattle.graph_read.specs.Graphs.{IsGraph, IsVertex};
+ghost use Rattle.graph_read.specs.Incidence.{degrees_of, edges_at, incidence_of, neighbours_of};
 
-use crate::Graph;
+use crate::{Adjacency, Graph};
 use pop_rows::{FlatRows, count_at};
 use std::alloc::{AllocError, Global};
 use std::marker::Model;
 
-/// For each vertex of a graph the edges at it that aren't loops, by their numbers, from 0, rising.
+/// A graph with, for each of its vertices, the edges at it that aren't loops, by their numbers,
+/// from 0, rising. Contracts see the graph.
 #[derive(Drop)]
-pub struct Incidence {
+pub struct Incidence<'g> {
+    graph: &'g Graph,
     // The edges at vertex w stand in row w - 1.
     rows: FlatRows,
 }
 
-impl Model for Incidence {
-    ghost use Rattle.std.specs.Prelude.{ℕ, List};
+impl<'g> Model for Incidence<'g> {
+    ghost use Rattle.std.specs.Prelude.{◌≡◌};
+    ghost use Rattle.graph_read.specs.Graphs.{GraphOf};
+    ghost use Rattle.graph_read.specs.Incidence.{incidence_of};
 
-    ghost Value = { List (List ℕ) };
+    ghost Value = { GraphOf };
 
-    ghost view = { λ a. a.rows.rows };
+    ghost view = { λ a. a.graph.now };
+
+    ghost invariant = { λ a. a.rows.rows ≡ incidence_of a.graph.now };
 }
 
-impl Incidence {
+impl<'g> Incidence<'g> {
     /// The incidence of a graph. Time and memory are linear in the vertices and edges.
-    pub fn of(alloc: Global, graph: &Graph) -> Result<Incidence, AllocError>
-        ensures { IfOk result (λ incidence. incidence ≡ incidence_of graph.now) }
+    pub fn of(alloc: Global, graph: &'g Graph) -> Result<Incidence<'g>, AllocError>
+        ensures { IfOk result (λ incidence. incidence ≡ graph.now) }
     {
-        let mut rows = FlatRows::with_rooms(alloc, degrees(alloc, graph)?)?;
-        for i in 0..graph.edges() {
-            let edge = graph.edge(i);
-            if !edge.is_loop() {
-                rows.push(edge.u - 1, i);
-                rows.push(edge.v - 1, i);
-            }
-        }
-        Ok(Incidence { rows })
+        let rows = rows_of(alloc, graph)?;
+        Ok(Incidence { graph, rows })
+    }
+
+    /// The graph.
+    pub fn graph(&self) -> &Graph
+        ensures { result.now ≡ self.now }
+    {
+        self.graph
     }
 
     /// The edges at a vertex, which counts from 1.
     pub fn at(&self, vertex: u32) -> &[u32]
-        requires first { 1 ≤ vertex }
-        requires last { vertex ≤ length self.now }
-        ensures { result.now ≡ at_vertex self.now vertex }
+        requires { IsVertex self.now.vertices vertex }
+        ensures edges { result.now ≡ edges_at self.now vertex }
+        ensures known { All (λ i. i < length self.now.edges) result.now }
     {
         self.rows.row(vertex - 1)
     }
+}
+
+impl<'g> Adjacency for Incidence<'g> {
+    ghost of_graph = { λ a. a };
+
+    fn vertices(&self) -> u32 {
+        self.graph.vertices()
+    }
+
+    fn ends(&self) -> usize {
+        2 * self.graph.edges() as usize
+    }
+
+    fn degree(&self, vertex: u32) -> u32 {
+        // Read for its contract, which says how many edges there are at most.
+        let _edges = self.graph.edges();
+        self.at(vertex).len() as u32
+    }
+
+    fn put_neighbours(&self, neighbours: &mut Vec<u32>, vertex: u32) -> Result<(), AllocError> {
+        neighbours.clear();
+        for i in self.at(vertex) {
+            neighbours.push(self.graph.edge(*i).other_end(vertex))?;
+        }
+        Ok(())
+    }
+}
+
+// For each vertex the edges at it.
+fn rows_of(alloc: Global, graph: &Graph) -> Result<FlatRows, AllocError>
+    ensures { IfOk result (λ rows. rows.rows ≡ incidence_of graph.now) }
+{
+    let mut rows = FlatRows::with_rooms(alloc, degrees(alloc, graph)?)?;
+    for i in 0..graph.edges() {
+        let edge = graph.edge(i);
+        if !edge.is_loop() {
+            rows.push(edge.u - 1, i);
+            rows.push(edge.v - 1, i);
+        }
+    }
+    Ok(rows)
 }
 
 // How many edges stand at each vertex, from vertex 1 on, loops aside.

@@ -22,7 +22,8 @@ use std::alloc::Global;
 /// that is no number, 13 for an end that is no vertex, 14 for the weight 0; `Limit` of kind 2 for N
 /// above 2^22, 5 for more than 2^23 edges, 1 for more than 2^28 bytes. In one line code 15 comes
 /// first, then the words from left to right, then limit 5. `Count` and `EmptyClause` never come.
-/// `ReadFault` comes only where the source failed and no line is refused whose end was read.
+/// `ReadFault` comes only where the source failed, no more was read than the limit, and no line is
+/// refused whose end was read.
 pub fn read_graph<S: Source>(alloc: Global, source: &mut S) -> Result<Graph, ReadRefusal>
     ensures text { (text : List ℕ) → S.left source.old ≡ Some text → AnswersGraph text result }
     ensures whole { OnOk result (IsAtEnd (S.left source.new)) }

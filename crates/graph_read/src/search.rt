@@ -1,8 +1,6 @@
-ghost use Rattle.std.specs.Prelude.{◌≡◌, ◌≤◌, ℕ, not, length, position, OnOk, IfOk, IfSome, IfNone};
-ghost use Rattle.pop_model.specs.Places.{IsLeast};
+ghost use Rattle.std.specs.Prelude.{◌≡◌, ◌≤◌, ℕ, not, length, position, OnOk, IfOk};
 ghost use Rattle.graph_read.specs.Graphs.{IsVertex};
-ghost use Rattle.graph_read.specs.Incidence.{incidence_of};
-ghost use Rattle.graph_read.specs.Paths.{IsConnected, IsCutOff, IsJoined};
+ghost use Rattle.graph_read.specs.Paths.{IsFirstCutOff, IsJoined};
 ghost use Rattle.graph_read.specs.Search.{AreJoined, Goes, HasVisited, IsMet, IsSearch};
 
 use crate::{Graph, Incidence};
@@ -52,45 +50,33 @@ impl Search {
 }
 
 // Comes to the other ends of the edges at a vertex.
-fn visit(
-    search: &mut Search,
-    graph: &Graph,
-    incidence: &Incidence,
-    vertex: u32,
-) -> Result<(), AllocError>
-    requires incidence { incidence.now ≡ incidence_of graph.now }
-    requires vertex { IsVertex graph.now.vertices vertex }
-    requires size { length search.old.met.items ≡ graph.now.vertices }
+fn visit(search: &mut Search, incidence: &Incidence, vertex: u32) -> Result<(), AllocError>
+    requires vertex { IsVertex incidence.now.vertices vertex }
+    requires size { length search.old.met.items ≡ incidence.now.vertices }
     requires met { IsMet search.old.met.items vertex }
     ensures goes { OnOk result (Goes search.old search.new) }
-    ensures visited { OnOk result (HasVisited graph.now search.new vertex) }
-    ensures search { OnOk result ((root : ℕ) → IsSearch graph.now root search.old
-        → IsSearch graph.now root search.new) }
+    ensures visited { OnOk result (HasVisited incidence.now search.new vertex) }
+    ensures search { OnOk result ((root : ℕ) → IsSearch incidence.now root search.old
+        → IsSearch incidence.now root search.new) }
 {
+    let graph = incidence.graph();
     for i in incidence.at(vertex) {
         search.meet(graph.edge(*i).other_end(vertex))?;
     }
     Ok(())
 }
 
-// The vertices that paths join to the root: for each vertex, from vertex 1 on, whether some path
-// does.
-fn reach(
-    alloc: Global,
-    graph: &Graph,
-    incidence: &Incidence,
-    root: u32,
-) -> Result<Vec<bool>, AllocError>
-    requires incidence { incidence.now ≡ incidence_of graph.now }
-    requires root { IsVertex graph.now.vertices root }
-    ensures { IfOk result (λ met. AreJoined graph.now root met.items) }
+// The vertices that paths join to the root: for each vertex, from vertex 1 on, whether a path does.
+fn reach(alloc: Global, incidence: &Incidence, root: u32) -> Result<Vec<bool>, AllocError>
+    requires root { IsVertex incidence.now.vertices root }
+    ensures { IfOk result (λ met. AreJoined incidence.now root met.items) }
 {
-    let mut search = Search::new(alloc, graph.vertices())?;
+    let mut search = Search::new(alloc, incidence.graph().vertices())?;
     search.meet(root)?;
     let mut at = 0;
     while at < search.found.len() {
         let vertex = search.found[at];
-        visit(&mut search, graph, incidence, vertex)?;
+        visit(&mut search, incidence, vertex)?;
         at += 1;
     }
     let Search { met, found: _ } = search;
@@ -103,34 +89,28 @@ fn first_unmet(met: &[bool]) -> Option<usize>
     met.iter().position(|met| !*met)
 }
 
+impl<'g> Incidence<'g> {
+    /// The least vertex that no path joins to the root, or None where a path joins each. The root
+    /// is a vertex.
+    pub fn first_cut_off(&self, alloc: Global, root: u32) -> Result<Option<u32>, AllocError>
+        requires { IsVertex self.now.vertices root }
+        ensures { IfOk result (IsFirstCutOff self.now root) }
+    {
+        // Read for its contract, which says that there are at most 2^22 vertices.
+        let _vertices = self.graph().vertices();
+        let met = reach(alloc, self, root)?;
+        match first_unmet(&met) {
+            None => Ok(None),
+            Some(place) => Ok(Some(place as u32 + 1)),
+        }
+    }
+}
+
 /// The least vertex that no path joins to the root, or None where a path joins each. The root is a
 /// vertex. Time and memory are linear in the vertices and edges.
 pub fn first_cut_off(alloc: Global, graph: &Graph, root: u32) -> Result<Option<u32>, AllocError>
     requires { IsVertex graph.now.vertices root }
-    ensures least { IfOk result (λ vertex. IfSome vertex (IsLeast (IsCutOff graph.now root))) }
-    ensures none { IfOk result (λ vertex. IfNone vertex (IsConnected graph.now root)) }
+    ensures { IfOk result (IsFirstCutOff graph.now root) }
 {
-    let incidence = Incidence::of(alloc, graph)?;
-    first_cut_off_by(alloc, graph, &incidence, root)
-}
-
-/// The vertex that `first_cut_off` finds, by the incidence of the graph.
-pub fn first_cut_off_by(
-    alloc: Global,
-    graph: &Graph,
-    incidence: &Incidence,
-    root: u32,
-) -> Result<Option<u32>, AllocError>
-    requires incidence { incidence.now ≡ incidence_of graph.now }
-    requires root { IsVertex graph.now.vertices root }
-    ensures least { IfOk result (λ vertex. IfSome vertex (IsLeast (IsCutOff graph.now root))) }
-    ensures none { IfOk result (λ vertex. IfNone vertex (IsConnected graph.now root)) }
-{
-    // Read for its contract, which says that there are at most 2^22 vertices.
-    let _vertices = graph.vertices();
-    let met = reach(alloc, graph, incidence, root)?;
-    match first_unmet(&met) {
-        None => Ok(None),
-        Some(place) => Ok(Some(place as u32 + 1)),
-    }
+    Incidence::of(alloc, graph)?.first_cut_off(alloc, root)
 }

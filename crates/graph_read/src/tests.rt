@@ -1,6 +1,8 @@
 ghost use Rattle.std.specs.Prelude.{◌≤◌};
 
-use crate::{Edge, Graph, Incidence, first_cut_off, put_grid_neighbours, read_graph};
+use crate::{
+    Edge, Graph, Incidence, edges_at_places, first_cut_off, put_grid_neighbours, read_graph,
+};
 use pop_edge::{MemSource, ReadRefusal};
 use std::alloc::{AllocError, Global};
 use std::test::Fail;
@@ -120,6 +122,16 @@ fn each_vertex_has_its_edges_but_for_loops(rt: HostRuntime) -> Result<(), Fail> 
     assert_eq!(rt; incidence.at(1), [1, 2, 3].as_slice());
     assert_eq!(rt; incidence.at(2), [1, 3].as_slice());
     assert_eq!(rt; incidence.at(3), [2].as_slice());
+    Ok(())
+}
+
+// At vertex 1 the second edge, at vertex 2 the second, and at vertex 3 the first.
+#[test]
+fn an_edge_is_found_by_its_place_at_a_vertex(rt: HostRuntime) -> Result<(), Fail> {
+    let graph = read(rt.alloc(), BY_HAND, 4096, &[])??;
+    assert_eq!(rt; graph.vertices(), 3);
+    let edges = edges_at_places(rt.alloc(), &graph, vec![in rt.alloc(); 2, 2, 1]?)?;
+    assert_eq!(rt; edges.as_slice(), [2, 3, 2].as_slice());
     Ok(())
 }
 

@@ -1,3 +1,3 @@
-mod SinkCubesLemmas
+pub mod SinkCubesLemmas
 mod GatheredSinks
 pub mod OneDirection

@@ -50,7 +50,7 @@ pub pointing_small : (edge : Edge) (w : ℕ) → pointing_to edge w < 2
 pointing_small edge w = elim (edge.v == w) as (λ b. cond b 0 1 < 2) [ true ↦ omega arith | false ↦ omega arith ]
 
 -- where there is no loop at the vertex, no edge that touches it is one
-touching_is_no_loop : (g : GraphOf) (w i : ℕ) (edge : Edge) → has_loop g w ≡ false → slice_get g.edges i ≡ Some edge
+pub touching_is_no_loop : (g : GraphOf) (w i : ℕ) (edge : Edge) → has_loop g w ≡ false → slice_get g.edges i ≡ Some edge
     → touches edge w ≡ true → is_loop edge ≡ false
 touching_is_no_loop g w i edge none at touched =
     false_from_ne_true (is_loop edge) (λ loop.

@@ -1,6 +1,5 @@
 ghost use Rattle.std.specs.Prelude.{◌≡◌, ℕ, length, IfOk, IfErr, OnOk};
 ghost use Rattle.graph_read.specs.Graphs.{IsVertex};
-ghost use Rattle.graph_read.specs.Incidence.{incidence_of};
 ghost use Rattle.pop_instance.specs.Events.{FitVariables};
 ghost use Rattle.sink_popping.specs.Sinks.{AreSinksOf, IsIsolated, IsSinkFault};
 ghost use Rattle.sink_popping.specs.SinkCubes.{AreLoopMarks, ComesOfVertex};
@@ -31,7 +30,7 @@ pub fn sinks(alloc: Global, graph: &Graph) -> Result<Events, SinkFault>
     let loops = loop_marks(alloc, graph)?;
     let mut rows = Vec::with_capacity(alloc, graph.vertices() as usize)?;
     for w in 1..graph.vertices() + 1 {
-        if let Some(cube) = sink_at(alloc, graph, &incidence, &loops, w)? {
+        if let Some(cube) = sink_at(alloc, &incidence, &loops, w)? {
             rows.push((w, cube))?;
         }
     }
@@ -41,15 +40,13 @@ pub fn sinks(alloc: Global, graph: &Graph) -> Result<Events, SinkFault>
 // The event of a vertex, if it has no loop.
 fn sink_at(
     alloc: Global,
-    graph: &Graph,
     incidence: &Incidence,
     loops: &[bool],
     w: u32,
 ) -> Result<Option<Cube>, SinkFault>
-    requires vertex { IsVertex graph.now.vertices w }
-    requires incidence { incidence.now ≡ incidence_of graph.now }
-    requires loops { AreLoopMarks graph.now loops.now }
-    ensures { ComesOfVertex graph.now w result }
+    requires vertex { IsVertex incidence.now.vertices w }
+    requires loops { AreLoopMarks incidence.now loops.now }
+    ensures { ComesOfVertex incidence.now w result }
 {
     if loops[w as usize] {
         return Ok(None);
@@ -58,5 +55,5 @@ fn sink_at(
     if edges.is_empty() {
         return Err(SinkFault::Isolated(w));
     }
-    Ok(Some(sink_cube(alloc, graph, w, edges)?))
+    Ok(Some(sink_cube(alloc, incidence.graph(), w, edges)?))
 }

@@ -24,8 +24,8 @@ fn below(state: &mut u64, bound: u32) -> u32
     (*state >> 33) as u32 % bound
 }
 
-// The ends of edge i, from 0. The first edges join vertex i + 2 to a vertex before it, so that each is
-// joined to vertex 1; the ends of the others are any vertices.
+// The ends of edge i, from 0. The first edges join vertex i + 2 to a vertex before it, so that each
+// is joined to vertex 1; the ends of the others are any vertices.
 fn ends(state: &mut u64, vertices: u32, i: u32) -> (u32, u32)
     requires { 0 < vertices }
 {

@@ -1,7 +1,9 @@
-use Rattle.std.proofs.Common.{◌≡◌, take}
-use Rattle.cycle_popping.specs.Numbers.{numbers_along}
+use Rattle.std.proofs.Common.{◌≡◌, map, take}
+use Rattle.std.specs.Option.{unwrap_or}
+use Rattle.cycle_popping.specs.Trees.{variable_of}
 use Rattle.cycle_popping.proofs.heads.fill_heads.Given as goal
 
--- the numbers along the edges before here
-abbrev pub invariant-loop-i : goal.invariant-loop-i
-invariant-loop-i l = l.heads.items ≡ numbers_along l.graph l.root l.vertex (take l.i-index l.edges)
+-- the numbers of the vertices before here
+abbrev pub invariant-loop-w : goal.invariant-loop-w
+invariant-loop-w l =
+    l.heads.items ≡ map (λ w. unwrap_or (variable_of l.root w) l.root_number) (take l.w-index l.vertices)

@@ -1,4 +1,4 @@
-use Rattle.std.proofs.Common.{◌+◌, ℕ, length, sym, ap, ◌∙◌, subst, arith, Ok}
+use Rattle.std.proofs.Common.{◌+◌, ℕ, length, sym, ap, ◌∙◌, subst, arith, Ok, Err}
 use Rattle.std.proofs.lemmas.Result.{err_from_is_err_and}
 use Rattle.pop_instance.specs.Events.{FitVariables}
 use Rattle.sink_popping.specs.SinkCubes.{ComesOfVertex}
@@ -10,21 +10,25 @@ pub returns-in_err-cube-clause-fault : goal.returns-in_err-cube-clause-fault
 returns-in_err-cube-clause-fault c =
     let p = err_from_is_err_and c.from_residual-in_err-cube.result c.from_residual-in_err-cube.ensures.1 in
     rw (p.1, p.2) (fault_of_next c.args.graph.now c.loop-w.w c.loop-w.rows.items c.loop-w.invariant
-    c.in_err-cube.field-0.0 c.in_err-cube.ensures)
+    c.in_err-cube.field-0.0
+    (subst (λ g. ComesOfVertex g c.loop-w.w (Err c.in_err-cube.field-0.0)) c.in_ok-incidence.ensures
+    c.in_err-cube.ensures))
 
 pub loop-w-preserved : goal.loop-w-preserved
 loop-w-preserved c =
     let g = c.args.graph.now in
     let w : ℕ = c.loop-w.w in
+    let comes : ComesOfVertex g w (Ok c.in_ok-cube.field-0) =
+    subst (λ f. ComesOfVertex f w (Ok c.in_ok-cube.field-0)) c.in_ok-incidence.ensures c.in_ok-cube.ensures in
     elim c.match-branch-5.branch [
       | in-Some+in_ok-push b ↦
           subst (SinksBelow g (w + 1)) (sym (ap (λ v. v.items) b.rows-is ∙ b.in_ok-push.ensures.items))
           (sinks_more g w c.loop-w.rows.items c.loop-w.invariant b.in-Some.cube
-          (subst (λ o. ComesOfVertex g w (Ok o)) b.in-Some.is c.in_ok-cube.ensures))
+          (subst (λ o. ComesOfVertex g w (Ok o)) b.in-Some.is comes))
       | in_default b ↦
           subst (SinksBelow g (w + 1)) (sym (ap (λ v. v.items) b.rows-is))
           (sinks_same g w c.loop-w.rows.items c.loop-w.invariant
-          (subst (λ o. ComesOfVertex g w (Ok o)) b.in_default.is c.in_ok-cube.ensures))
+          (subst (λ o. ComesOfVertex g w (Ok o)) b.in_default.is comes))
     ]
 
 pub of-requires-2-clause-events : goal.of-requires-2-clause-events

@@ -1,9 +1,0 @@
-use Rattle.std.proofs.Common.{◌≡◌, map, take}
-use Rattle.std.specs.Option.{unwrap_or}
-use Rattle.cycle_popping.specs.Trees.{variable_of}
-use Rattle.cycle_popping.proofs.grids.fill_numbers.Given as goal
-
--- the numbers of the vertices before here
-abbrev pub invariant-loop-w : goal.invariant-loop-w
-invariant-loop-w l =
-    l.heads.items ≡ map (λ w. unwrap_or (variable_of 1 w) l.root_number) (take l.w-index l.vertices)

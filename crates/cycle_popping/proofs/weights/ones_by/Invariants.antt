@@ -1,8 +1,0 @@
-use Rattle.std.proofs.Common.{◌≡◌, map}
-use Rattle.std.specs.List.{range_with_len}
-use Rattle.cycle_popping.proofs.OneWeights.{slots_at}
-use Rattle.cycle_popping.proofs.weights.ones_by.Given as goal
-
--- the numbers of slots of the variables before here
-abbrev pub invariant-loop-v : goal.invariant-loop-v
-invariant-loop-v l = l.lengths.items ≡ map (slots_at l.graph l.root) (range_with_len 0 l.v)
