@@ -14,8 +14,9 @@ use Rattle.pop_model.proofs.Following.{cases_Option, follow_more, follow_none}
 use Rattle.pop_model.proofs.CycleFamily.{Heads, cycles_extremal}
 use Rattle.pop_model.proofs.TreeEnd.{follows_in, never_root}
 use Rattle.confluence_core.specs.CycleTables.{CycleTable}
-use Rattle.lock_board.specs.Attempts.{LeadsInto, IsFoundFrom, IsEventFrom, HasNoneAt}
-use Rattle.lock_board.proofs.PassedTwice.{long_on_cycle}
+use Rattle.confluence_core.specs.ArrowWalks.{LeadsInto}
+use Rattle.confluence_core.proofs.PassedTwice.{long_on_cycle}
+use Rattle.lock_board.specs.Attempts.{IsFoundFrom, IsEventFrom, HasNoneAt}
 
 -- where more steps lead from the unit, once they are on the cycle
 record StaysOn (heads : Heads) (s : StackTable) (c : List ℕ) (unit n : ℕ) (e : Cube) : Type 0 where
@@ -23,6 +24,7 @@ record StaysOn (heads : Heads) (s : StackTable) (c : List ℕ) (unit n : ℕ) (e
   leads : follow (arrow_at heads s c) n unit ≡ Some at
   on : names e at ≡ true
 
+-- current arrows that came to a cycle that occurs stay on it
 stays_on : (heads : Heads) (s : StackTable) (c : List ℕ) (unit j : ℕ) (e : Cube) → IsCycle heads e → Occurs s c e
     → (into : LeadsInto heads s c unit e) → StaysOn heads s c unit (into.0 + j) e
 stays_on heads s c unit j e cycle occurs into =
@@ -42,6 +44,7 @@ no_root heads s c unit e cycle occurs into root =
     let none = follow_none (arrow_at heads s c) root.0 into.0 unit root.1 in
     none-some on.at (sym none ∙ ap (λ n. follow (arrow_at heads s c) n unit) swap ∙ on.leads)
 
+-- a unit of a family has none exactly where no event that is found from there occurs
 none_in : (family : Family) (s : StackTable) → IsFamily family → (c : List ℕ) (unit : ℕ) → unit < units_of family
     → HasNoneAt family s c unit
     ↔ ((e : Event) → IsEvent family e → IsFoundFrom family s c unit e → Occurs s c e.cube → ⊥)
@@ -85,6 +88,7 @@ one_cycle heads s c unit e f is_e is_f from_e from_f = elim (same_event e f) [
       (cycles_extremal heads e f is_e is_f differ (on_e.at, x.0, y.0, x.1, y.1)))
 ]
 
+-- at most one event of a family is found from a unit
 one_in : (family : Family) (s : StackTable) (c : List ℕ) (unit : ℕ) (e f : Event) → IsEvent family e
     → IsEvent family f → IsFoundFrom family s c unit e → IsFoundFrom family s c unit f → e ≡ f
 one_in (Listed rows) s c unit e f is_e is_f from_e from_f =

@@ -1,20 +1,16 @@
 -- What an attempt at a unit may answer, and what it leaves of the book.
-use Rattle.std.specs.Prelude.{◌≡◌, ℕ, true, List, [], ◌∷◌, ◌++◌, Option, Some}
+use Rattle.std.specs.Prelude.{◌≡◌, ℕ, List, [], ◌∷◌, ◌++◌}
 use Rattle.pop_model.specs.Stacks.{StackTable}
-use Rattle.pop_model.specs.Popping.{Cube, Occurs, HasNext, IsPoppable, names, pop}
-use Rattle.pop_model.specs.Cycles.{ReachesRoot, arrow_at, follow}
+use Rattle.pop_model.specs.Popping.{Occurs, HasNext, IsPoppable, pop}
+use Rattle.pop_model.specs.Cycles.{ReachesRoot, arrow_at}
 use Rattle.pop_model.specs.Families.{Event, Family, IsEvent}
 use Rattle.pop_model.specs.Families.Family.{Listed, Cycles}
 use Rattle.pop_model.specs.Instances.{Instance}
 use Rattle.confluence_core.specs.Records.{record_at}
+use Rattle.confluence_core.specs.ArrowWalks.{LeadsInto}
 use Rattle.lock_board.specs.Books.{Progress}
 use Rattle.lock_board.specs.declared.attempt.Attempt.{Attempt}
 use Rattle.lock_board.specs.declared.attempt.Attempt.TheVariants.{Popped, Absent, Stuck, OutOfMemory}
-
--- the current arrows lead from the variable to one that the cube names
-abbrev pub LeadsInto : List (List (Option ℕ)) → StackTable → List ℕ → ℕ → Cube → Type 0
-LeadsInto heads s c start e =
-    (k v : ℕ) × (follow (arrow_at heads s c) k start ≡ Some v) × (names e v ≡ true)
 
 -- the listed event of the unit; or a cycle that occurs, to which the current arrows lead from it
 abbrev pub IsFoundFrom : Family → StackTable → List ℕ → ℕ → Event → Type 0

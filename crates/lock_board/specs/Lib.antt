@@ -1,4 +1,4 @@
 pub mod Books
 pub mod Attempts
-pub mod ArrowWalks
+pub mod ArrowLaps
 pub mod Laws

@@ -2,11 +2,14 @@
 //! takes no memory and no more time than some times the arrows that it passes (Brent 1980).
 ghost use Rattle.std.specs.Prelude.{◌≡◌, ◌<◌, ◌≤◌, length, MatchOption};
 ghost use Rattle.pop_model.specs.Cycles.{ReachesRoot};
+ghost use Rattle.pop_stacks.specs.Readers.{Belongs};
 ghost use Rattle.confluence_core.specs.CycleTables.{current_head, AreCursors};
-ghost use Rattle.lock_board.specs.ArrowWalks.{Laps, LeadsToCycle};
+ghost use Rattle.confluence_core.specs.ArrowWalks.{LeadsToCycle};
+ghost use Rattle.lock_board.specs.ArrowLaps.{Laps};
 
 use confluence_core::CurrentArrows;
 use pop_instance::Cursors;
+use pop_stacks::Reader;
 
 // Where a lap of so many arrows leads.
 enum Lap {
@@ -18,16 +21,23 @@ enum Lap {
 }
 
 // Follows so many arrows from a variable, unless they lead to the root or back to it before.
-fn lap_from(current: &mut CurrentArrows, cursors: &Cursors, start: u32, steps: u32) -> Lap
-    requires known { start < length current.old.heads }
-    requires cursors { AreCursors current.old cursors.now }
-    ensures laps { Laps current.old cursors.now start steps result }
-    ensures same { current.new ≡ current.old }
+fn lap_from(
+    current: &CurrentArrows,
+    reader: &mut Reader,
+    cursors: &Cursors,
+    start: u32,
+    steps: u32,
+) -> Lap
+    requires known { start < length current.now.heads }
+    requires cursors { AreCursors current.now cursors.now }
+    requires belongs { Belongs current.now.stacks reader.old }
+    ensures laps { Laps current.now cursors.now start steps result }
+    ensures reader { reader.new ≡ reader.old }
 {
     let _count = current.count();
     let mut v = start;
     'steps: for _ in 0..steps {
-        let Some(w) = current.head(cursors, v) else {
+        let Some(w) = current.head(reader, cursors, v) else {
             return Lap::Root;
         };
         if w == start {
@@ -38,31 +48,33 @@ fn lap_from(current: &mut CurrentArrows, cursors: &Cursors, start: u32, steps: u
     Lap::On(v)
 }
 
-/// A variable of the cycle to which the current arrows lead from a variable; None exactly where they
-/// lead to the root. A lap as long as there are variables ends on the cycle.
+/// A variable of the cycle to which the current arrows lead from a variable; None exactly where
+/// they lead to the root. A lap as long as there are variables ends on the cycle.
 pub(crate) fn variable_of_cycle(
-    current: &mut CurrentArrows,
+    current: &CurrentArrows,
+    reader: &mut Reader,
     cursors: &Cursors,
     start: u32,
 ) -> Option<u32>
-    requires known { start < length current.old.heads }
-    requires cursors { AreCursors current.old cursors.now }
-    ensures found { MatchOption result (ReachesRoot (current_head current.old cursors.now) start)
-        (LeadsToCycle current.old cursors.now start) }
-    ensures same { current.new ≡ current.old }
+    requires known { start < length current.now.heads }
+    requires cursors { AreCursors current.now cursors.now }
+    requires belongs { Belongs current.now.stacks reader.old }
+    ensures found { MatchOption result (ReachesRoot (current_head current.now cursors.now) start)
+        (LeadsToCycle current.now cursors.now start) }
+    ensures reader { reader.new ≡ reader.old }
 {
     let count = current.count();
     let mut from = start;
     let mut steps = 1;
     'laps: while steps < count {
-        match lap_from(current, cursors, from, steps) {
+        match lap_from(current, reader, cursors, from, steps) {
             Lap::Root => return None,
             Lap::Back => return Some(from),
             Lap::On(v) => from = v,
         }
         steps *= 2;
     }
-    match lap_from(current, cursors, from, count) {
+    match lap_from(current, reader, cursors, from, count) {
         Lap::Root => None,
         Lap::Back => Some(from),
         Lap::On(v) => Some(v),

@@ -1,11 +1,12 @@
-ghost use Rattle.std.specs.Prelude.{◌≡◌, ◌<◌, OnOk, OnErr, IfOk, [], MatchResult};
-ghost use Rattle.pop_model.specs.Popping.{Occurs, IsPoppable};
+ghost use Rattle.std.specs.Prelude.{◌≡◌, ◌<◌, OnOk, OnErr, IfOk, [], length, MatchResult};
+ghost use Rattle.pop_model.specs.Stacks.{variables_of};
+ghost use Rattle.pop_model.specs.Popping.{AreWithin, Occurs, IsPoppable};
 ghost use Rattle.pop_model.specs.Families.{IsEvent, units_of};
 ghost use Rattle.pop_model.specs.Families.Family.{Listed as ListedEvents, Cycles as CycleEvents};
 ghost use Rattle.pop_model.specs.Runs.{start_of};
 ghost use Rattle.pop_stacks.specs.Readers.{Belongs};
-ghost use Rattle.lock_board.specs.Books.{IsBook, HasArrows};
-ghost use Rattle.lock_board.specs.ArrowWalks.{IsFoundAt};
+ghost use Rattle.confluence_core.specs.ArrowWalks.{IsFoundAt};
+ghost use Rattle.lock_board.specs.Books.{IsBook};
 ghost use Rattle.lock_board.specs.Attempts.{IsAnswer, IsAnswerOf, PopsEvent};
 
 use crate::cycle_from::cycle_from;
@@ -17,59 +18,55 @@ use std::alloc::{AllocError, Global};
 use std::marker::{Model, PhantomData};
 
 /// The pops of an instance so far, which workers share under a lock: the cursors and the log. The
-/// instance is that of its site.
+/// instance and the cursors that it opens from are those of its site.
 #[derive(Drop)]
 pub struct Book<'i, N: Site> {
     instance: &'i Instance,
     cursors: Cursors,
     log: Log,
-    // The arrows of cycles, with the values that attempts looked at.
-    current: Option<CurrentArrows<'i>>,
     site: PhantomData<N>,
 }
 
 impl<'i, N: Site> Model for Book<'i, N> {
     ghost use Rattle.std.specs.Prelude.{◌≡◌};
-    ghost use Rattle.lock_board.specs.Books.{Progress, IsBook, HasArrows};
+    ghost use Rattle.lock_board.specs.Books.{Progress, IsBook};
 
     ghost Value = { Progress };
 
     ghost view = { λ a. record { cursors = a.cursors; log = a.log } };
 
     ghost invariant = { λ a. (a.instance.now ≡ N.instance)
-        × IsBook N.instance (record { cursors = a.cursors; log = a.log })
-        × HasArrows N.instance a.current };
-}
-
-// The arrows of an instance of cycles; None for listed events.
-fn current_arrows<'i>(
-    alloc: Global,
-    instance: &'i Instance,
-) -> Result<Option<CurrentArrows<'i>>, AllocError>
-    ensures { IfOk result (HasArrows instance.now) }
-{
-    let _units = instance.units();
-    match instance.family() {
-        Family::Listed(_) => Ok(None),
-        Family::Cycles(arrows) => {
-            let current = CurrentArrows::keeping(alloc, instance.stacks(), arrows)?;
-            Ok(Some(current))
-        }
-    }
+        × IsBook N.instance N.start (record { cursors = a.cursors; log = a.log }) };
 }
 
 impl<'i, N: Site> Book<'i, N> {
-    /// The book before any pop.
+    /// The book before any pop, that opens from zeros.
     pub fn new(alloc: Global, instance: &'i Instance) -> Result<Book<'i, N>, AllocError>
         requires site { instance.now ≡ N.instance }
-        ensures { IfOk result (λ book. book ≡ record { cursors = start_of N.instance; log = [] }) }
+        requires start { N.start ≡ start_of N.instance }
+        ensures { IfOk result (λ book. book ≡ record { cursors = N.start; log = [] }) }
     {
         let _units = instance.units();
+        let zeros = Cursors::zeros(alloc, instance.stacks().count())?;
+        Book::start_at(alloc, instance, &zeros)
+    }
+
+    /// The book before any pop, that opens from these cursors, which are below the heights.
+    pub fn start_at(
+        alloc: Global,
+        instance: &'i Instance,
+        from: &Cursors,
+    ) -> Result<Book<'i, N>, AllocError>
+        requires site { instance.now ≡ N.instance }
+        requires start { from.now ≡ N.start }
+        requires count { variables_of instance.now.stacks ≡ length from.now }
+        requires within { AreWithin instance.now.stacks from.now }
+        ensures { IfOk result (λ book. book ≡ record { cursors = N.start; log = [] }) }
+    {
         Ok(Book {
             instance,
-            cursors: Cursors::zeros(alloc, instance.stacks().count())?,
+            cursors: from.copy(alloc)?,
             log: Log::new(alloc),
-            current: current_arrows(alloc, instance)?,
             site: PhantomData,
         })
     }
@@ -77,7 +74,7 @@ impl<'i, N: Site> Book<'i, N> {
     /// The cursors after all pops of the log.
     pub fn cursors(&self) -> &Cursors
         ensures cursors { result.now ≡ self.now.cursors }
-        ensures book { IsBook N.instance self.now }
+        ensures book { IsBook N.instance N.start self.now }
     {
         &self.cursors
     }
@@ -85,7 +82,7 @@ impl<'i, N: Site> Book<'i, N> {
     /// The records of all pops.
     pub fn log(&self) -> &Log
         ensures log { result.now ≡ self.now.log }
-        ensures book { IsBook N.instance self.now }
+        ensures book { IsBook N.instance N.start self.now }
     {
         &self.log
     }
@@ -94,21 +91,20 @@ impl<'i, N: Site> Book<'i, N> {
     pub fn into_parts(self) -> (Cursors, Log)
         ensures cursors { result.0 ≡ self.entry.cursors }
         ensures log { result.1 ≡ self.entry.log }
-        ensures book { IsBook N.instance self.entry }
+        ensures book { IsBook N.instance N.start self.entry }
     {
         let Book {
             instance: _,
             cursors,
             log,
-            current: _,
             site: _,
         } = self;
         (cursors, log)
     }
 
-    /// Pops the event of a unit, where it is poppable. For a listed family that is the event of this
-    /// place; for a cycle family it is the cycle to which the current arrows lead from this variable.
-    /// All answers but `Popped` leave the book as it was.
+    /// Pops the event of a unit, where it is poppable. For a listed family that is the event of
+    /// this place; for a cycle family it is the cycle to which the current arrows lead from this
+    /// variable. All answers but `Popped` leave the book as it was.
     pub fn attempt(&mut self, alloc: Global, reader: &mut Reader, unit: u32) -> Attempt
         requires known { unit < units_of N.instance.family }
         requires belongs { Belongs N.instance.stacks reader.old }
@@ -147,22 +143,22 @@ impl<'i, N: Site> Book<'i, N> {
 
     // The cycle that occurs to which the arrows lead from a unit.
     fn cycle_at(
-        &mut self,
+        &self,
         alloc: Global,
+        reader: &mut Reader,
         arrows: &Arrows,
         unit: u32,
     ) -> Result<Option<Cube>, AllocError>
         requires family { N.instance.family ≡ CycleEvents arrows.now }
         requires known { unit < units_of N.instance.family }
+        requires belongs { Belongs N.instance.stacks reader.old }
         ensures found { IfOk result (IsFoundAt
-            (record { stacks = N.instance.stacks; heads = arrows.now }) self.old.cursors unit) }
-        ensures same { self.new ≡ self.old }
+            (record { stacks = N.instance.stacks; heads = arrows.now }) self.now.cursors unit) }
+        ensures reader { reader.new ≡ reader.old }
     {
         let _units = self.instance.units();
-        let Some(current) = &mut self.current else {
-            unreachable!()
-        };
-        cycle_from(alloc, current, &self.cursors, unit)
+        let current = CurrentArrows::of(self.instance.stacks(), arrows);
+        cycle_from(alloc, &current, reader, &self.cursors, unit)
     }
 
     // Pops the cycle to which the arrows lead from a unit, where it is poppable.
@@ -180,7 +176,7 @@ impl<'i, N: Site> Book<'i, N> {
         ensures reader { reader.new ≡ reader.old }
     {
         let _units = self.instance.units();
-        match self.cycle_at(alloc, arrows, unit) {
+        match self.cycle_at(alloc, reader, arrows, unit) {
             Ok(Some(cube)) => {
                 let (least, _) = cube.pair(0);
                 self.attempt_event(alloc, reader, least, &cube)

@@ -1,10 +1,14 @@
 use std::marker::Brand;
 
-/// Which instance a book is of. Who calls a function that is generic over it picks this.
+/// Which instance a book is of, and from which cursors it opens. Who calls a function that is
+/// generic over it picks this.
 pub trait Site {
+    ghost use Rattle.std.specs.Prelude.{ℕ, List};
     ghost use Rattle.pop_model.specs.Instances.{Instance};
 
     ghost instance: { Instance };
+
+    ghost start: { List ℕ };
 }
 
 impl Site for Brand {
@@ -16,4 +20,6 @@ impl Site for Brand {
       stacks = record { origin = Given []; weights = [] };
       family = Listed [];
     } };
+
+    ghost start = { [] };
 }

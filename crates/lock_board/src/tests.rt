@@ -1,5 +1,6 @@
 ghost use Rattle.std.specs.Prelude.{◌≡◌, ◌<◌, ◌≤◌, ◌^◌, length, All, IfOk};
 ghost use Rattle.pop_model.specs.Stacks.{variables_of};
+ghost use Rattle.pop_model.specs.Runs.{start_of};
 ghost use Rattle.pop_instance.specs.Arrows.{heads_of};
 
 use crate::{Attempt, Book, Site};
@@ -27,6 +28,7 @@ fn try_units<N: Site>(
     units: &[u32],
 ) -> Result<Tried, Fail>
     requires site { instance.now ≡ N.instance }
+    requires start { N.start ≡ start_of N.instance }
     ensures { IfOk result (λ tried. variables_of instance.now.stacks ≡ length tried.cursors) }
 {
     let mut book = Book::<N>::new(alloc, instance)?;
@@ -97,8 +99,8 @@ fn a_listed_event_is_stuck_at_the_last_entry(rt: HostRuntime) -> Result<(), Fail
     Ok(())
 }
 
-// The heads of so many variables, each with an arrow to the next one and one to the root; the last has
-// one to this variable in place of the next.
+// The heads of so many variables, each with an arrow to the next one and one to the root; the last
+// has one to this variable in place of the next.
 fn heads(alloc: Global, count: u32, back: u32) -> Result<Vec<Vec<Option<u32>>>, AllocError>
     requires few { count < 1000 }
     ensures short { IfOk result (λ heads. length heads.items ≤ count) }

@@ -1,2 +1,1 @@
-pub mod JoinedLogs
 pub mod JoinedRuns

@@ -1,52 +1,34 @@
-ghost use Rattle.std.specs.Prelude.{◌≡◌, ◌++◌, length, IfOk};
+ghost use Rattle.std.specs.Prelude.{◌≡◌, ◌++◌, IfOk};
 ghost use Rattle.std.specs.Option.{option_map};
-ghost use Rattle.pop_model.specs.Stacks.{variables_of};
-ghost use Rattle.pop_model.specs.Popping.{AreWithin};
-ghost use Rattle.pop_model.specs.Extremal.{IsExtremal};
-ghost use Rattle.pop_model.specs.Runs.{IsFirstEnd, start_of};
-ghost use Rattle.pop_stacks.specs.Readers.{Belongs};
 ghost use Rattle.confluence_core.specs.Kept.{keeps_log};
-ghost use Rattle.confluence_core.specs.Runs.{IsRun};
+ghost use Rattle.confluence_core.specs.Runs.{IsRunOf};
 ghost use Rattle.lock_board.specs.Books.{IsBook};
 
 use crate::Outcome;
-use confluence_core::{End, Keep, Log, Units, run_from_by};
+use confluence_core::{End, Keep, Log, Units, run_from};
 use pop_instance::{Cursors, Instance};
-use pop_stacks::Reader;
 use std::alloc::{AllocError, Global};
 
-/// The run that goes on from a book, with all units as suspects; its log stands behind the book's.
-pub(crate) fn finish<'i>(
+/// The run that goes on from a book, which opened from `from`, with all units as suspects; its log
+/// stands behind the book's.
+pub(crate) fn finish(
     alloc: Global,
-    instance: &'i Instance,
-    reader: &mut Reader<'i>,
+    instance: &Instance,
+    from: &Cursors,
     cursors: Cursors,
     log: Log,
     keep: Keep,
 ) -> Result<Outcome, AllocError>
-    requires book { IsBook instance.now (record { cursors = cursors; log = log }) }
-    requires belongs { Belongs instance.now.stacks reader.old }
-    ensures run { IfOk result (λ run. IsRun instance.now (start_of instance.now) (keeps_log keep)
-        run.end.cursors run.end.pops run.end.stuck run.log) }
-    ensures count { IfOk result (λ run. variables_of instance.now.stacks ≡ length run.end.cursors) }
-    ensures within { IfOk result (λ run. AreWithin instance.now.stacks run.end.cursors) }
-    ensures reader { reader.new ≡ reader.old }
+    requires book { IsBook instance.now from.now (record { cursors = cursors; log = log }) }
+    ensures { IfOk result (IsRunOf instance.now from.now (keeps_log keep)) }
 {
+    let _ = from;
     let suspects = Units::all(alloc, instance.units())?;
-    let Outcome { end, log: more } = run_from_by(alloc, instance, reader, cursors, suspects, keep)?;
-    let End {
-        cursors,
-        pops,
-        stuck,
-    } = end;
-    let pops = log.len() + pops;
+    let Outcome { end, log: more } = run_from(alloc, instance, cursors, suspects, keep)?;
+    let pops = log.len() + end.pops;
     let log = append(log, more)?;
     Ok(Outcome {
-        end: End {
-            cursors,
-            pops,
-            stuck,
-        },
+        end: End { pops, ..end },
         log,
     })
 }

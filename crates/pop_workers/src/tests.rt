@@ -1,7 +1,7 @@
 ghost use Rattle.std.specs.Prelude.{◌≡◌, ◌<◌, ◌≤◌, length};
 ghost use Rattle.pop_model.specs.Stacks.{variables_of};
 
-use crate::{NoGate, Outcome, sample_locked};
+use crate::{NoGate, Outcome, sample_locked, zeros_of};
 use confluence_core::{Keep, run_first};
 use pop_instance::Instance;
 use std::alloc::Global;
@@ -22,8 +22,17 @@ fn ends_alike<R: Threads + Wait + Abort + Sync>(
     instance: &Instance,
 ) -> Result<(u64, u64), Fail> {
     let first = run_first(alloc, instance)?;
+    let zeros = zeros_of(alloc, instance)?;
     for workers in [1, 2, 8, 64] {
-        let Outcome { end, log } = sample_locked(rt, alloc, instance, workers, Keep::Log, &NoGate)?;
+        let Outcome { end, log } = sample_locked(
+            rt,
+            alloc,
+            instance,
+            &zeros,
+            workers,
+            Keep::Log,
+            &NoGate,
+        )?;
         for v in 0..instance.stacks().count() {
             assert_eq!(rt;
                 end.cursors.get(v),

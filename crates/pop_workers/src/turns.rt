@@ -1,60 +1,57 @@
-ghost use Rattle.std.specs.Prelude.{◌≡◌, ◌<◌, ◌≤◌};
-ghost use Rattle.pop_model.specs.Families.{units_of};
+ghost use Rattle.std.specs.Prelude.{◌≡◌, ◌<◌, IfSome};
 
-use crate::Gate;
-use lock_board::{Attempt, Book, Site};
-use pop_instance::Instance;
-use pop_stacks::Reader;
-use std::alloc::{AllocError, Global};
-use std::sync::{Mutex, Wait};
-
-// A worker ends after so many turns.
-const MOST_TURNS: u64 = 1 << 32;
-
-/// Which worker it is, from 0, and of how many. Its units are those that leave its number when they
-/// are divided by the number of workers.
+/// Which worker it is, from 0, and of how many.
 #[derive(Clone, Copy)]
 pub(crate) struct Worker {
     pub number: u32,
     pub workers: u32,
 }
 
-/// The turns of a worker: each is one attempt of one unit under the lock. It goes over its units
-/// round after round, and ends after one in which it popped nothing.
-pub(crate) fn work<N: Site, R: Wait, G: Gate>(
-    rt: &R,
-    alloc: Global,
-    instance: &Instance,
-    board: &Mutex<Book<N>>,
+/// Which units a worker tries, turn by turn: those that leave its number when they are divided by
+/// the number of workers, from the least on. It goes over them again and again, until it popped
+/// nothing from the least to the last.
+#[derive(Drop)]
+pub(crate) struct Turns {
     worker: Worker,
-    gate: &G,
-) -> Result<(), AllocError>
-    requires site { instance.now ≡ N.instance }
-    requires some { 0 < worker.workers }
-    requires most { worker.workers ≤ 64 }
-{
-    let units = instance.units();
-    let mut reader = Reader::keeping(alloc, instance.stacks())?;
-    let mut unit = worker.number;
-    let mut popped = false;
-    for turn in 0..MOST_TURNS {
-        gate.at(worker.number, turn);
-        if unit >= units {
-            break;
-        }
-        match board.lock(rt).attempt(alloc, &mut reader, unit) {
-            Attempt::Popped => popped = true,
-            Attempt::Absent | Attempt::Stuck => {}
-            Attempt::OutOfMemory => return Err(AllocError),
-        }
-        unit += worker.workers;
-        if unit >= units {
-            if !popped {
-                break;
-            }
-            unit = worker.number;
-            popped = false;
+    units: u32,
+    next: u32,
+    popped: bool,
+}
+
+impl Turns {
+    /// The turns of this worker, over so many units.
+    pub fn of(worker: Worker, units: u32) -> Turns
+        ensures { result.units ≡ units }
+    {
+        Turns {
+            worker,
+            units,
+            next: worker.number,
+            popped: false,
         }
     }
-    Ok(())
+
+    /// The unit of the next turn; None where the worker ends.
+    pub fn next(&mut self) -> Option<u32>
+        ensures known { IfSome result (λ unit. unit < self.old.units) }
+        ensures units { self.new.units ≡ self.old.units }
+    {
+        if self.next >= self.units && self.popped {
+            self.next = self.worker.number;
+            self.popped = false;
+        }
+        if self.next >= self.units {
+            return None;
+        }
+        let unit = self.next;
+        self.next = unit.saturating_add(self.worker.workers);
+        Some(unit)
+    }
+
+    /// Notes that the unit given last was popped.
+    pub fn note_pop(&mut self)
+        ensures { self.new.units ≡ self.old.units }
+    {
+        self.popped = true;
+    }
 }

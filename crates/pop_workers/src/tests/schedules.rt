@@ -1,5 +1,5 @@
 //! A gate may hold a worker: the log tells which worker popped first.
-use crate::{Gate, sample_locked};
+use crate::{Gate, sample_locked, zeros_of};
 use confluence_core::Keep;
 use pop_instance::{Cube, Events, Family, Instance};
 use pop_stacks::{Rows, StackSpec, Stacks, Weights};
@@ -65,7 +65,8 @@ fn two_clauses(rt: &impl Abort, alloc: Global) -> Result<Instance, Fail> {
     Ok(Instance::new(stacks, Family::Listed(events)).expect(rt, "an instance"))
 }
 
-// The units that two workers pop, where the first is held until the other has come to its second turn.
+// The units that two workers pop, where the first is held until the other has come to its second
+// turn.
 fn popped_units<R: Threads + Wait + Abort + Sync>(
     rt: &R,
     alloc: Global,
@@ -74,7 +75,8 @@ fn popped_units<R: Threads + Wait + Abort + Sync>(
 ) -> Result<(u32, u32), Fail> {
     let instance = two_clauses(rt, alloc)?;
     let gate = Holds::new(held, other);
-    let outcome = sample_locked(rt, alloc, &instance, 2, Keep::Log, &gate)?;
+    let zeros = zeros_of(alloc, &instance)?;
+    let outcome = sample_locked(rt, alloc, &instance, &zeros, 2, Keep::Log, &gate)?;
     assert!(rt; !gate.gave_up.load(SeqCst), "the other worker never came");
     let log = outcome.log.expect(rt, "a log");
     assert!(rt; log.len() == 2);

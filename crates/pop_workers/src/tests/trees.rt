@@ -21,8 +21,8 @@ fn below(state: &mut u64, bound: u32) -> u32
     (*state >> 33) as u32 % bound
 }
 
-// The heads of so many variables. Each has an arrow to a variable before it or to the root, and one to
-// itself or a variable behind it.
+// The heads of so many variables. Each has an arrow to a variable before it or to the root, and one
+// to itself or a variable behind it.
 fn heads(alloc: Global, state: &mut u64, count: u32) -> Result<Vec<Vec<Option<u32>>>, AllocError>
     requires some { 0 < count }
     requires few { count < 1000 }

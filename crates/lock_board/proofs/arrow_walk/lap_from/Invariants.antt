@@ -6,7 +6,7 @@ use Rattle.lock_board.proofs.arrow_walk.lap_from.Given as goal
 -- the steps so far lead to the variable
 abbrev pub invariant-steps : goal.invariant-steps
 invariant-steps l = record {
-  leads : follow (current_head l.fn.current l.cursors) l.counter l.start ≡ Some l.v;
-  below : l.v < length l.fn.current.heads;
-  same : l.current ≡ l.fn.current;
+  leads : follow (current_head l.current l.cursors) l.counter l.start ≡ Some l.v;
+  below : l.v < length l.current.heads;
+  reader : l.reader ≡ l.fn.reader;
 }

@@ -26,7 +26,6 @@ invariant_of-self-2 g c =
     let poppable : IsPoppable i.stacks old.cursors c.args.cube.now =
     subst (λ (b : Progress). IsPoppable i.stacks b.cursors c.args.cube.now) (sym c.self.view_is) c.requires.poppable in (
       c.self.invariant.0,
-      book_pop i old new (record { unit = c.args.unit; cube = c.args.cube.now }) c.self.invariant.1 c.requires.event
+      book_pop i g.N.Site.start old new (record { unit = c.args.unit; cube = c.args.cube.now }) c.self.invariant.1 c.requires.event
           poppable (c.in_ok-push.ensures.pushed ∙ ap (λ r. old.log ++ r ∷ []) c.in_ok-popped.ensures) c.pop.ensures,
-      c.self.invariant.2,
     )
