@@ -1,0 +1,117 @@
+-- What becomes of tickets, entries and marks once the view of a pass changes.
+use Rattle.std.proofs.Common.{◌≡◌, ℕ, ◌+◌, ◌<◌, ◌≢◌, List, get_or, set, sym, ap, ◌∙◌, subst, inl, inr, ⊎_elim, arith, cond, eqb, eq-eqb}
+use mathlib.Core.Logic.{dite}
+use native.Mathlib.Decide.{ℕ_discrete, dec_le}
+use mathlib.Core.Option.{some, some-injective}
+use lib.ListN.{get_elem?}
+use Rattle.atomic_table.specs.Table.{State}
+use Rattle.atomic_table.proofs.Lists.{at_set, set_here, set_else}
+use Rattle.claim_words.specs.declared.view.View.{View}
+use Rattle.claim_words.specs.declared.opening.Opening.{Opening}
+use Rattle.claim_words.specs.Maps.{total, In, below}
+use Rattle.claim_words.specs.Openings.{count, Has, marks}
+use Rattle.claim_words.specs.Steps.{Drawn}
+use Rattle.claim_words.specs.Machine.{Use, used, abstract, Member, History, uses, IsPoppableAt, Tracks, Marked}
+use Rattle.claim_words.proofs.Totals.{inside, total-set, term_le}
+use Rattle.claim_words.proofs.SumsBelow.{below-same, below-only, only, only-same}
+use Rattle.claim_words.proofs.Memberships.{in_le}
+
+-- what is poppable depends on the cursors of variables alone
+pub pops_same : (k : Opening) (a b : ℕ → ℕ) (u : ℕ) → ((v : ℕ) → v < count k → b v ≡ a v)
+    → IsPoppableAt k b u → IsPoppableAt k a u
+pops_same k a b u same r = record {
+  cube = r.cube;
+  event = r.event;
+  ready = λ p i. let t = r.ready p i in let e = same p.0 t.0 in
+      (t.0, subst (λ (x : ℕ). Has k p.0 x p.1) e t.1, omega (arith, t.2, e));
+}
+
+module _ {S : Type 0} (k : Opening) where
+  -- the marks' part stays where no mark and no abstract cursor changes
+  pub same_marks : (s t : State S View) → Marked k s
+      → ((u : ℕ) → u < marks k → get_or t.words (1 + count k + u) 0 ≡ get_or s.words (1 + count k + u) 0)
+      → ((v : ℕ) → v < count k → abstract k t v ≡ abstract k s v)
+      → ((u : ℕ) → Tracks k s u → Tracks k t u) → Marked k t
+  same_marks s t m same abs tracks = record {
+    bits = λ u h. omega (arith, m.bits u h, same u h);
+    covers = λ u h p. ⊎_elim (λ e. inl (same u h ∙ e)) (λ r. inr (tracks u r))
+        (m.covers u h (pops_same k (abstract k s) (abstract k t) u abs p));
+  }
+
+  -- a unit is tracked still where the lists of units stay
+  pub tracks_set : (s : State S View) (ws : List ℕ) (id : ℕ) (d e : View) → get_elem? s.views id ≡ some d
+      → e.taken ≡ d.taken → e.owed ≡ d.owed → (u : ℕ) → Tracks k s u
+      → Tracks k (record { words = ws; homes = s.homes; views = set s.views id e }) u
+  tracks_set s ws id d e me taken owed u r = dite (ℕ_discrete r.0 id)
+      (λ is. let same : r.1 ≡ d = some-injective r.1 d (sym r.2 ∙ ap (get_elem? s.views) is ∙ me) in (
+        id,
+        e,
+        set_here s.views id e (inside s.views id d me),
+        ⊎_elim
+            (λ i. inl (subst (λ (l : List ℕ). In u l) (sym taken) (subst (λ (x : View). In u x.taken) same i)))
+            (λ i. inr (subst (λ (l : List ℕ). In u l) (sym owed) (subst (λ (x : View). In u x.owed) same i))) r.3,
+      ))
+      (λ ne. (r.0, r.1, set_else s.views id r.0 e ne ∙ r.2, r.3))
+
+  -- the histories' part stays where no ticket is drawn and no abstract cursor changes
+  pub same_history : (s t : State S View) → History k s → get_or t.words 0 0 ≡ get_or s.words 0 0
+      → ((v : ℕ) → v < count k → abstract k t v ≡ abstract k s v)
+      → ((g : Drawn → ℕ)
+      → total (λ (d : View). total g d.mine) t.views ≡ total (λ (d : View). total g d.mine) s.views)
+      → ((r : Drawn) → Member k t r → Member k s r) → History k t
+  same_history s t h tick abs mass member = record {
+    tickets = λ f. mass (λ r. f r.0) ∙ h.tickets f ∙ ap (below f) (sym tick);
+    entries = λ v n f. omega (arith, mass (λ r. used f v (uses r.1)), h.entries v n f, ap (below f) (abs v n));
+    popped = λ r m. h.popped r (member r m);
+    order = λ r q m n. h.order r q (member r m) (member q n);
+    low = λ v n. omega (arith, h.low v n, abs v n);
+    few = omega (arith, h.few, tick, below-same (abstract k t) (abstract k s) (count k) abs);
+  }
+
+  -- a sum over all records stays where those of the pass do
+  pub mass_set : (s : State S View) (id : ℕ) (d e : View) → get_elem? s.views id ≡ some d → e.mine ≡ d.mine
+      → (g : Drawn → ℕ)
+      → total (λ (x : View). total g x.mine) (set s.views id e) ≡ total (λ (x : View). total g x.mine) s.views
+  mass_set s id d e me same g =
+      omega (arith, total-set (λ (x : View). total g x.mine) s.views id d e me, ap (total g) same)
+
+  -- no record is new where those of the pass stay
+  pub member_set : (s : State S View) (ws : List ℕ) (id : ℕ) (d e : View) → get_elem? s.views id ≡ some d
+      → e.mine ≡ d.mine → (r : Drawn)
+      → Member k (record { words = ws; homes = s.homes; views = set s.views id e }) r → Member k s r
+  member_set s ws id d e me same r m = ⊎_elim
+      (λ (t : (m.0 ≡ id) × (e ≡ m.1)).
+      (id, d, me, subst (λ (l : List Drawn). In r l) (ap (λ (x : View). x.mine) (sym t.1) ∙ same) m.3))
+      (λ (t : (m.0 ≢ id) × (get_elem? s.views m.0 ≡ some m.1)). (m.0, m.1, t.1, m.3))
+      (at_set s.views id m.0 e m.1 m.2)
+
+  -- every ticket is below the number of word 0
+  pub ticket_low : (s : State S View) → History k s → (r : Drawn) → Member k s r → r.0 < get_or s.words 0 0
+  ticket_low s h r m = dite (dec_le (get_or s.words 0 0) r.0)
+      (λ le. let g : Drawn → ℕ = λ q. only r.0 q.0 in
+      absurd (omega (
+        arith,
+        h.tickets (only r.0),
+        below-only r.0 (get_or s.words 0 0) le,
+        term_le (λ (d : View). total g d.mine) s.views m.0 m.1 m.2,
+        in_le g r m.1.mine m.3,
+        only-same r.0,
+      )))
+      (λ lt. omega arith)
+
+  -- every entry is below the abstract cursor
+  pub entry_low : (s : State S View) → History k s → (r : Drawn) (e : Use) → Member k s r → In e (uses r.1)
+      → (v : ℕ) → v < count k → e.0 ≡ v → e.2 < abstract k s v
+  entry_low s h r e m i v near is = dite (dec_le (abstract k s v) e.2)
+      (λ le. let f : ℕ → ℕ = only e.2 in let g : Drawn → ℕ = λ q. used f v (uses q.1) in
+      let one : Use → ℕ = λ x. cond (eqb x.0 v) (f x.2) 0 in
+      let yes : one e ≡ 1 = ap (λ b. cond b (f e.2) 0) (eq-eqb e.0 v is) ∙ only-same e.2 in
+      absurd (omega (
+        arith,
+        h.entries v near f,
+        below-only e.2 (abstract k s v) le,
+        term_le (λ (d : View). total g d.mine) s.views m.0 m.1 m.2,
+        in_le g r m.1.mine m.3,
+        in_le one e (uses r.1) i,
+      )))
+      (λ lt. omega arith)

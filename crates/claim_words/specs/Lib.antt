@@ -1,0 +1,13 @@
+pub mod Codes
+pub mod Words
+pub mod Maps
+pub mod Openings
+pub mod Steps
+pub mod Conditions
+pub mod Machine
+pub mod TicketLogs
+pub mod Tells
+pub mod KeptLogs
+pub mod Passes
+pub mod Answers
+pub mod Closing

@@ -1,0 +1,191 @@
+//! The close of a board by its sole pass.
+ghost use Rattle.std.specs.Prelude.{if◌then◌else◌, ◌≡◌, ◌==◌, ℕ, ◌+◌, ◌++◌, ◌∷◌, [], ◌<◌, ◌≤◌, length, IfOk, IfErr, slice_index, vec_len, vec_capacity};
+ghost use Rattle.std.specs.Slots.{IsFull, slots_items, slots_len};
+ghost use Rattle.pop_model.specs.Popping.{cursor};
+ghost use Rattle.claim_words.specs.Words.{word_of, cursor_in, is_settled};
+ghost use Rattle.claim_words.specs.KeptLogs.{IsTold};
+ghost use Rattle.claim_words.specs.Closing.{Closes, Leaves, set_marks, unsettled};
+
+use crate::kept_log::KeptLog;
+use crate::layout::{MARKED, TICKETS, cursor_of, is_settled, mark_of, word_of};
+use crate::logging::told_tickets;
+use crate::{Board, Closed, Pass};
+use atomic_table::Closed as Words;
+use confluence_core::{Tickets, Units};
+use pop_instance::Cursors;
+use std::alloc::{AllocError, Global};
+
+impl<'i> Board<'i> {
+    ghost use Rattle.claim_words.specs.Passes.{
+      IsOf,
+      IsIdle,
+      IsSole,
+      view,
+      count_of,
+      opening_of,
+      kept_tickets,
+    };
+
+    /// Ends a board: its cursors, the number of pops, the tickets where a log is kept, and where
+    /// events may still be poppable. The pass must be idle and have all shares. Where memory is
+    /// wanting, both come back as they were.
+    pub fn close(self, pass: Pass) -> Result<Closed, (Board<'i>, Pass, AllocError)>
+        requires pass { IsOf self pass }
+        requires sole { IsSole pass }
+        requires idle { IsIdle pass }
+        ensures count { IfOk result (λ c. length c.cursors ≡ count_of self.entry) }
+        ensures closed { IfOk result
+            (λ c. Closes (opening_of self.entry) (view pass) c.cursors c.pops) }
+        ensures left { IfOk result
+            (λ c. Leaves (opening_of self.entry) (view pass) c.cursors c.suspects) }
+        ensures log { IfOk result (λ c. c.log ≡ kept_tickets self.entry pass) }
+        ensures kept { IfErr result (λ e. (e.0 ≡ self.entry) × (e.1 ≡ pass)) }
+    {
+        let room = match room_for(self.alloc, self.count, self.marks, &pass.log) {
+            Ok(room) => room,
+            Err(failed) => return Err((self, pass, failed)),
+        };
+        let Board {
+            instance: _,
+            table,
+            count,
+            marks,
+            listed,
+            keep: _,
+            alloc: _,
+        } = self;
+        let Pass {
+            seat,
+            held: _,
+            share: _,
+            log: _,
+        } = pass;
+        let Room {
+            cursors,
+            unset,
+            marked,
+            log,
+        } = room;
+        let words = table.close_with(seat);
+        let pops = words.word(TICKETS);
+        let cursors = cursors_of(&words, count, cursors);
+        let unset = unsettled(&words, count, unset);
+        let marked = set_marks(&words, count, marks, marked);
+        words.free();
+        Ok(Closed {
+            cursors,
+            pops,
+            log,
+            suspects: suspects_from(listed, marked, unset),
+        })
+    }
+}
+
+// What is filled once a board is closed.
+#[derive(Drop)]
+struct Room {
+    cursors: Vec<u32>,
+    unset: Vec<u32>,
+    marked: Vec<u32>,
+    log: Option<Tickets>,
+}
+
+// Room for the cursors and suspects of so many words, and the tickets.
+fn room_for(
+    alloc: Global,
+    count: u32,
+    marks: u32,
+    log: &Option<KeptLog>,
+) -> Result<Room, AllocError>
+    ensures cursors { IfOk result
+        (λ r. (length r.cursors.items ≡ 0) × (count ≤ vec_capacity r.cursors)) }
+    ensures unset { IfOk result (λ r. (length r.unset.items ≡ 0) × (count ≤ vec_capacity r.unset)) }
+    ensures marked { IfOk result
+        (λ r. (length r.marked.items ≡ 0) × (marks ≤ vec_capacity r.marked)) }
+    ensures log { IfOk result (λ r. IsTold log.now r.log) }
+{
+    Ok(Room {
+        cursors: Vec::with_capacity(alloc, count as usize)?,
+        unset: Vec::with_capacity(alloc, count as usize)?,
+        marked: Vec::with_capacity(alloc, marks as usize)?,
+        log: told_tickets(alloc, log)?,
+    })
+}
+
+// The cursors of so many variables.
+fn cursors_of(words: &Words<(), Global>, count: u32, mut cursors: Vec<u32>) -> Cursors
+    requires words { IsFull words.now.words × (1 + count ≤ slots_len words.now.words) }
+    requires room { (length cursors.items ≡ 0) × (count ≤ vec_capacity cursors) }
+    ensures count { length result ≡ count }
+    ensures cursors { (v : ℕ) → v < count
+        → cursor result v ≡ cursor_in (slice_index (slots_items words.now.words) (word_of v)) }
+{
+    for v in 0..count {
+        let found = words.word(word_of(v));
+        cursors.push_reserved(cursor_of(found));
+    }
+    Cursors::of(cursors)
+}
+
+// Those of so many variables that are not settled.
+fn unsettled(words: &Words<(), Global>, count: u32, mut unset: Vec<u32>) -> Vec<u32>
+    requires words { IsFull words.now.words × (1 + count ≤ slots_len words.now.words) }
+    requires room { (length unset.items ≡ 0) × (count ≤ vec_capacity unset) }
+    ensures { result.items ≡ unsettled (slots_items words.now.words) count }
+{
+    for v in 0..count {
+        let word = words.word(word_of(v));
+        note_unsettled(&mut unset, word, v);
+    }
+    unset
+}
+
+// Notes a variable whose word is not settled.
+fn note_unsettled(unset: &mut Vec<u32>, word: u64, v: u32)
+    requires { vec_len unset.old < vec_capacity unset.old }
+    ensures items { unset.new.items
+        ≡ (if is_settled word then unset.old.items else unset.old.items ++ v ∷ []) }
+    ensures len { vec_len unset.new ≤ vec_len unset.old + 1 }
+    ensures capacity { vec_capacity unset.new ≡ vec_capacity unset.old }
+{
+    if !is_settled(word) {
+        unset.push_reserved(v);
+    }
+}
+
+// Those of so many units that are marked.
+fn set_marks(words: &Words<(), Global>, count: u32, marks: u32, mut marked: Vec<u32>) -> Vec<u32>
+    requires words { IsFull words.now.words × (1 + count + marks ≤ slots_len words.now.words) }
+    requires room { (length marked.items ≡ 0) × (marks ≤ vec_capacity marked) }
+    ensures { result.items ≡ set_marks (slots_items words.now.words) count marks }
+{
+    for unit in 0..marks {
+        let word = words.word(mark_of(count, unit));
+        note_marked(&mut marked, word, unit);
+    }
+    marked
+}
+
+// Notes a unit whose mark is set.
+fn note_marked(marked: &mut Vec<u32>, word: u64, unit: u32)
+    requires { vec_len marked.old < vec_capacity marked.old }
+    ensures items { marked.new.items
+        ≡ (if word == 1 then marked.old.items ++ unit ∷ [] else marked.old.items) }
+    ensures len { vec_len marked.new ≤ vec_len marked.old + 1 }
+    ensures capacity { vec_capacity marked.new ≡ vec_capacity marked.old }
+{
+    if word == MARKED {
+        marked.push_reserved(unit);
+    }
+}
+
+// The marked units of a listed family, or else the variables that are not settled.
+fn suspects_from(listed: bool, marked: Vec<u32>, unset: Vec<u32>) -> Units
+    ensures { result ≡ (if listed then marked.items else unset.items) }
+{
+    if listed {
+        Units::of(marked)
+    } else {
+        Units::of(unset)
+    }
+}

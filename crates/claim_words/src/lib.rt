@@ -1,0 +1,33 @@
+//! A board of lock-free words, on which passes claim variables and pop events, in callers' own
+//! threads. No call waits.
+//!
+//! Contracts see in a board its instance and its start, and in a pass the parts of its view. The
+//! rule that holds between any two steps of any passes stands in `specs/Machine.antt`.
+#![tactic(auto)]
+
+mod board;
+mod claim;
+mod claiming;
+mod closed;
+mod closing;
+mod held;
+mod kept_log;
+mod layout;
+mod logging;
+mod marking;
+mod opening;
+mod pass;
+mod plays;
+mod popping;
+mod splitting;
+mod steps;
+#[cfg(test)]
+mod tests;
+mod view;
+
+pub use board::Board;
+pub use claim::Claim;
+pub use closed::Closed;
+pub use opening::Opening;
+pub use pass::Pass;
+pub use view::View;

@@ -1,0 +1,148 @@
+//! The rule of a board's table, and what each kind of step tells the pass that makes it.
+ghost use Rattle.std.specs.Prelude.{◌≡◌, ◌≤◌, ◌<◌, ℕ, List, []};
+ghost use Rattle.claim_words.specs.Words.{variable_at, unit_at, cursor_in};
+ghost use Rattle.claim_words.specs.Maps.{In, look};
+ghost use Rattle.claim_words.specs.Openings.{count_in};
+ghost use Rattle.claim_words.specs.Steps.{Drawn, fresh, released_by, settled_by, cut_left, cut_right, drawn_by, advanced_by, taken_by, marked_by, cleared_by};
+ghost use Rattle.claim_words.specs.Conditions.{IsNear};
+ghost use Rattle.claim_words.specs.Machine.{Sound};
+ghost use Rattle.claim_words.specs.Tells.{ClaimTells, SoleTells, SoleKnows, SoleTakes};
+
+use crate::{Opening, View};
+use atomic_table::{Join, Play, Split, TableRule};
+use std::marker::{Brand, PhantomData};
+
+// The rule.
+pub struct Machine;
+
+impl TableRule<(), View, Opening> for Machine {
+    ghost holds = { Sound };
+
+    ghost first = { fresh };
+}
+
+// A claim of a variable.
+pub struct ClaimStep;
+
+impl Play<(), View> for ClaimStep {
+    ghost then = { λ st m r n. ClaimTells m.0 (variable_at st.word) r n.0 × (n.1 ≡ m.1)
+        × SoleTells m.0 (variable_at st.word) r × SoleKnows n.0 };
+}
+
+// A release of a variable.
+pub struct ReleaseStep;
+
+impl Play<(), View> for ReleaseStep {
+    ghost then = { λ st m r n. n ≡ (released_by m.0 (variable_at st.word), m.1) };
+}
+
+// The event that a ticket is for, picked at the call.
+pub trait Chosen {
+    ghost unit: { ℕ };
+
+    ghost cube: { List (ℕ × ℕ) };
+}
+
+impl Chosen for Brand {
+    ghost unit = { 0 };
+
+    ghost cube = { [] };
+}
+
+// A ticket for an event.
+pub struct TicketStep<W> {
+    marker: PhantomData<W>,
+}
+
+impl<W: Chosen> Play<(), View> for TicketStep<W> {
+    ghost then = { λ st m r n. (n ≡ (drawn_by m.0 W.unit W.cube r, m.1))
+        × ((q : Drawn) → In q m.0.mine → q.0 < r) × SoleKnows n.0 × IsNear m.0 W.cube };
+}
+
+// An advance of a variable.
+pub struct AdvanceStep;
+
+impl Play<(), View> for AdvanceStep {
+    ghost then = { λ st m r n. (n ≡ (advanced_by m.0 (variable_at st.word), m.1))
+        × (cursor_in r ≡ look (variable_at st.word) m.0.held) };
+}
+
+// A variable is settled.
+pub struct SettleStep;
+
+impl Play<(), View> for SettleStep {
+    ghost then = { λ st m r n. (n ≡ (settled_by m.0 (variable_at st.word), m.1)) × SoleKnows n.0 };
+}
+
+// A mark is taken.
+pub struct TakeStep;
+
+impl Play<(), View> for TakeStep {
+    ghost then = { λ st m r n.
+        (n ≡ (taken_by m.0 (unit_at (count_in m.0.opening) st.word) r, m.1)) × (r ≤ 1)
+        × SoleTakes m.0 (unit_at (count_in m.0.opening) st.word) r × SoleKnows n.0 };
+}
+
+// A mark is set.
+pub struct MarkStep;
+
+impl Play<(), View> for MarkStep {
+    ghost then = { λ st m r n.
+        n ≡ (marked_by m.0 (unit_at (count_in m.0.opening) st.word), m.1) };
+}
+
+// The unit that is cleared, picked at the call.
+pub trait Cleared {
+    ghost unit: { ℕ };
+}
+
+impl Cleared for Brand {
+    ghost unit = { 0 };
+}
+
+// A look at a variable that rules out the event of a unit.
+pub struct ClearStep<W> {
+    marker: PhantomData<W>,
+}
+
+impl<W: Cleared> Play<(), View> for ClearStep<W> {
+    ghost then = { λ st m r n. n ≡ (cleared_by m.0 W.unit, m.1) };
+}
+
+// The share that a split gives away, picked at the call.
+pub trait Portion {
+    ghost part: { ℕ };
+}
+
+impl Portion for Brand {
+    ghost part = { 0 };
+}
+
+// A split of a pass.
+pub struct Cut<W> {
+    marker: PhantomData<W>,
+}
+
+impl<W: Portion> Split<View> for Cut<W> {
+    ghost left = { λ d. cut_left d W.part };
+
+    ghost right = { λ d. cut_right d W.part };
+}
+
+// A join of two passes.
+pub struct Unite;
+
+impl Join<View> for Unite {
+    ghost use Rattle.claim_words.specs.Steps.{united, spent};
+
+    ghost both = { united };
+
+    ghost spent = { spent };
+}
+
+// What the rule says of every pass.
+pub struct ShareStep;
+
+impl Play<(), View> for ShareStep {
+    ghost then = { λ st m r n. (n ≡ m) × (m.0.share ≤ 64) };
+}

@@ -1,0 +1,93 @@
+//! Passes that are split and joined again.
+ghost use Rattle.std.specs.Prelude.{◌≡◌, ◌<◌, ◌≤◌, OnOk, IfErr};
+ghost use Rattle.claim_words.specs.Steps.{cut_left, cut_right, united};
+
+use crate::logging::{first_log, unite};
+use crate::plays::{Cut, Portion, ShareStep, Unite};
+use crate::{Board, Pass};
+use std::alloc::AllocError;
+use std::marker::Brand;
+
+impl<'i> Board<'i> {
+    ghost use Rattle.claim_words.specs.Passes.{
+      IsOf,
+      IsIdle,
+      SameRoom,
+      view,
+      spare,
+      log_spare,
+    };
+
+    /// Gives a part of the pass's share to a new pass, which is idle and has no room yet. The part
+    /// is at least 1, and less than the pass has. It takes no memory.
+    pub fn split(&self, pass: &mut Pass, share: u32) -> Pass
+        requires pass { IsOf self.now pass.old }
+        requires share { (1 ≤ share) × (share < (view pass.old).share) }
+        ensures pass { IsOf self.now pass.new }
+        ensures made { IsOf self.now result }
+        ensures step { view pass.new ≡ cut_left (view pass.old) share }
+        ensures made_step { view result ≡ cut_right (view pass.old) share }
+        ensures room { SameRoom pass.old pass.new }
+        ensures made_room { (spare result ≡ 0) × (log_spare result ≡ 0) }
+    {
+        self.cut::<Brand>(pass, share)
+    }
+
+    // Splits a pass, where the share was picked.
+    fn cut<W: Portion>(&self, pass: &mut Pass, share: u32) -> Pass
+        requires pass { IsOf self.now pass.old }
+        requires share { (1 ≤ share) × (share < (view pass.old).share) × (share ≡ W.part) }
+        ensures pass { IsOf self.now pass.new }
+        ensures made { IsOf self.now result }
+        ensures step { view pass.new ≡ cut_left (view pass.old) share }
+        ensures made_step { view result ≡ cut_right (view pass.old) share }
+        ensures room { SameRoom pass.old pass.new }
+        ensures made_room { (spare result ≡ 0) × (log_spare result ≡ 0) }
+    {
+        let seat = self.table.shared.split_seat::<Cut<W>>(&mut pass.seat);
+        pass.share -= share;
+        Pass {
+            seat,
+            held: Vec::new(self.alloc),
+            share,
+            log: first_log(self.alloc, self.keep),
+        }
+    }
+
+    /// Takes in another pass of this board, which is idle and ends. Memory is taken only where a
+    /// log is kept; a pass that is refused for want of it comes back as it was.
+    pub fn rejoin(&self, pass: &mut Pass, other: Pass) -> Result<(), (Pass, AllocError)>
+        requires pass { IsOf self.now pass.old }
+        requires other { IsOf self.now other }
+        requires idle { IsIdle other }
+        ensures pass { IsOf self.now pass.new }
+        ensures step { OnOk result (view pass.new ≡ united (view pass.old) (view other)) }
+        ensures room { SameRoom pass.old pass.new }
+        ensures kept { IfErr result (λ e. (view pass.new ≡ view pass.old) × (e.0 ≡ other)) }
+    {
+        let Pass {
+            seat,
+            held,
+            share,
+            log,
+        } = other;
+        if let Err((log, failed)) = unite(&mut pass.log, log) {
+            let other = Pass {
+                seat,
+                held,
+                share,
+                log,
+            };
+            return Err((other, failed));
+        }
+        let both = pass.share + share;
+        self.table.shared.join_seat::<Unite>(&mut pass.seat, seat);
+        // No run comes here, since the shares of all passes sum to 64.
+        if both > 64 {
+            self.table.shared.load::<ShareStep>(&mut pass.seat, 0);
+            unreachable!();
+        }
+        pass.share = both;
+        Ok(())
+    }
+}

@@ -1,0 +1,132 @@
+//! Boards that threads work on together, to the end of the one-thread run.
+ghost use Rattle.std.specs.Prelude.{◌≡◌, ◌+◌, ◌<◌, ◌≤◌, length, All, IfOk, IfSome, OnOk};
+ghost use Rattle.pop_model.specs.Stacks.{variables_of};
+ghost use Rattle.claim_words.specs.Passes.{IsOf, IsIdle, IsHelper, view, instance_of};
+
+use super::instances::{chain, tree};
+use super::working::work;
+use crate::{Board, Closed, Pass};
+use confluence_core::{End, Keep, run_first};
+use pop_instance::{Cursors, Instance};
+use std::alloc::{AllocError, Global};
+use std::process::Abort;
+use std::test::Fail;
+use std::thread;
+use std::thread::Threads;
+
+// How many boards are tried, and how many threads work on each.
+const BOARDS: u32 = 1000;
+
+const THREADS: u32 = 2;
+
+// The most turns of a thread at one board.
+const TURNS: u32 = 10000;
+
+// So many passes of share 1.
+fn hand_out(
+    alloc: Global,
+    board: &Board,
+    pass: &mut Pass,
+    others: u32,
+) -> Result<Vec<Pass>, AllocError>
+    requires pass { IsOf board.now pass.old × IsIdle pass.old }
+    requires share { others < (view pass.old).share }
+    ensures pass { IsOf board.now pass.new × IsIdle pass.new }
+    ensures passes { IfOk result (λ r. All (IsHelper board.now) r.items) }
+    ensures share { IfOk result
+        (λ r. (view pass.new).share + length r.items ≡ (view pass.old).share) }
+{
+    let mut passes = Vec::with_capacity(alloc, others as usize)?;
+    for _ in 0..others {
+        passes.push_reserved(board.split(pass, 1));
+    }
+    Ok(passes)
+}
+
+// The work of one thread: its pass again, or none where memory was wanting.
+fn worked(alloc: Global, board: &Board, mut pass: Pass, instance: &Instance) -> Option<Pass>
+    requires pass { IsHelper board.now pass }
+    requires instance { instance_of board.now ≡ instance.now }
+    ensures { IfSome result (IsHelper board.now) }
+{
+    match work(alloc, board, &mut pass, instance, TURNS) {
+        Ok(_) => Some(pass),
+        Err(_) => None,
+    }
+}
+
+// Takes the passes in again.
+fn take_back(rt: &impl Abort, board: &Board, pass: &mut Pass, passes: Vec<Option<Pass>>)
+    requires pass { IsOf board.now pass.old × IsIdle pass.old }
+    requires passes { All (λ p. IfSome p (IsHelper board.now)) passes.items }
+    ensures pass { IsOf board.now pass.new × IsIdle pass.new }
+{
+    for other in passes {
+        let other = other.expect(rt, "memory");
+        if board.rejoin(pass, other).is_err() {
+            panic!(rt; "out of memory");
+        }
+    }
+}
+
+// Lets the threads work on a board, and then ends it alone.
+fn close_together<R: Threads + Abort + Sync>(
+    rt: &R,
+    alloc: Global,
+    instance: &Instance,
+) -> Result<Closed, Fail>
+    ensures { IfOk result (λ closed. length closed.cursors ≡ variables_of instance.now.stacks) }
+{
+    let _units = instance.units();
+    let from = Cursors::zeros(alloc, instance.stacks().count())?;
+    let (board, mut pass) = Board::start(alloc, instance, &from, Keep::Log)?;
+    let passes = hand_out(alloc, &board, &mut pass, THREADS)?;
+    let back = thread::map_vec(
+        rt,
+        passes,
+        &|pass: Pass| worked(alloc, &board, pass, instance),
+    )?;
+    take_back(rt, &board, &mut pass, back);
+    let at_end = work(alloc, &board, &mut pass, instance, TURNS)?;
+    assert!(rt; at_end);
+    assert_eq!(rt; pass.share(), 64);
+    let Ok(closed) = board.close(pass) else {
+        panic!(rt; "out of memory")
+    };
+    Ok(closed)
+}
+
+// Compares what a board left with the one-thread run: the pops that the threads made.
+fn ends_alike<R: Threads + Abort + Sync>(
+    rt: &R,
+    alloc: Global,
+    instance: &Instance,
+) -> Result<u64, Fail> {
+    let end: End = run_first(alloc, instance)?;
+    let closed = close_together(rt, alloc, instance)?;
+    assert_eq!(rt; closed.pops, end.pops);
+    assert_eq!(rt; closed.log.expect(rt, "a log").len(), end.pops);
+    let count = instance.stacks().count();
+    for v in 0..count {
+        assert_eq!(rt; closed.cursors.get(v), end.cursors.get(v), "variable {v}");
+    }
+    Ok(end.pops)
+}
+
+#[test]
+fn threads_end_alike_on_boards_of_both_families(rt: HostRuntime) -> Result<(), Fail> {
+    let alloc = rt.alloc();
+    let mut state = 2026;
+    let mut pops: u64 = 0;
+    for board in 0..BOARDS {
+        let instance = if board % 2 == 0 {
+            chain(&rt, alloc, &mut state)?
+        } else {
+            tree(&rt, alloc, &mut state)?
+        };
+        let more = ends_alike(&rt, alloc, &instance)?;
+        pops = more.checked_add(pops).expect(&rt, "few pops");
+    }
+    assert!(&rt; pops > 100, "{pops} pops");
+    Ok(())
+}
