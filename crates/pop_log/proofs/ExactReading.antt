@@ -27,27 +27,27 @@ use Rattle.pop_log.specs.Candidates.{NumbersFit}
 use Rattle.pop_log.specs.TextLines.{onto_line, lines_with_ends}
 use Rattle.pop_log.specs.LogTexts.{head_line, record_line, AreLogLines, IsLogText}
 use Rattle.pop_log.specs.Refusals.{IsLogRefusal}
-use Rattle.pop_log.proofs.TextLemmas.{decimal_digits, pairs_text}
+use Rattle.pop_log.proofs.LogTextsLemmas.{decimal_digits, pairs_text}
 use Rattle.pop_log.proofs.PrintedLemmas.{same_record}
-use Rattle.pop_log.proofs.EventLemmas.{event_below}
-use Rattle.pop_log.proofs.EventNumbers.{row_at}
-use Rattle.pop_log.proofs.ProgressLemmas.{may_fits, line_once}
+use Rattle.confluence_core.proofs.EventVariables.{event_below}
+use Rattle.pop_log.proofs.Fronts.{each_append}
+use Rattle.pop_log.proofs.EventNumbers.{row_is}
+use Rattle.pop_log.proofs.ReadRecords.{may_fits, line_once}
 
 -- bytes without a line end
 abbrev IsOther : ℕ → Type 0
 IsOther b = b ≢ 10
 
+-- no byte of these ends a line
 abbrev AreOther : List ℕ → Type 0
 AreOther bs = AllByRecursion IsOther bs
 
-others_append : (a b : List ℕ) → AreOther a → AreOther b → AreOther (a ++ b)
-others_append [] b others others' = others'
-others_append (x ∷ a) b others others' = (others.0, others_append a b others.1 others')
-
+-- no digit does
 digits_other : (ds : List ℕ) → AreDigits ds → AreOther ds
 digits_other [] are = tt
 digits_other (d ∷ ds) are = ((λ is. let low = are.0.0 in omega (arith, is, low)), digits_other ds are.1)
 
+-- nor does a byte of pairs
 pairs_other : (ps : List (ℕ × ℕ)) → AllByRecursion PairFits ps → AreOther (pairs_text ps)
 pairs_other [] fit = tt
 pairs_other (p ∷ ps) fit =
@@ -56,8 +56,8 @@ pairs_other (p ∷ ps) fit =
     let name = digits_other (decimal p.0) (decimal_digits p.0 (omega (arith, one))) in
     let entry = digits_other (decimal p.1) (decimal_digits p.1 (omega (arith, two))) in (
       (λ is. omega (arith, is)),
-      others_append (joined 58 p) (pairs_text ps)
-          (others_append (decimal p.0) (58 ∷ decimal p.1) name ((λ is. omega (arith, is)), entry))
+      each_append IsOther (joined 58 p) (pairs_text ps)
+          (each_append IsOther (decimal p.0) (58 ∷ decimal p.1) name ((λ is. omega (arith, is)), entry))
           (pairs_other ps fit.1),
     )
 
@@ -70,6 +70,7 @@ first_line_is (b ∷ bs) t others =
     test
     ∙ ap (onto_line b) (first_line_is bs t others.1)
 
+-- the lines of the texts of records are those of the records
 record_lines : (ps : List Printed) → AllByRecursion FitsWords ps
     → lines_with_ends (flat_map record_line ps) ≡ map record_line ps
 record_lines [] fit = refl
@@ -84,7 +85,7 @@ record_lines (p ∷ ps) fit =
           (λ is. omega (arith, is)),
           (
             (λ is. omega (arith, is)),
-            others_append (decimal p.number) (pairs_text p.pairs) number (pairs_other p.pairs fit.0.1),
+            each_append IsOther (decimal p.number) (pairs_text p.pairs) number (pairs_other p.pairs fit.0.1),
           ),
         ),
       ),
@@ -92,6 +93,7 @@ record_lines (p ∷ ps) fit =
     first_line_is (codes "pop " ++ record_words p) (flat_map record_line ps) words
     ∙ ap (λ (ls : List (List ℕ)). record_line p ∷ ls) (record_lines ps fit.1)
 
+-- and the first line of a log text is its first
 first_lines : (n : ℕ) (t : List ℕ) → n < 2 ^ 64 → lines_with_ends (head_line n ++ t) ≡ head_line n ∷ lines_with_ends t
 first_lines n t small =
     let words : AreOther (codes "log 1 " ++ decimal n) = (
@@ -139,7 +141,7 @@ event_variables names i e is event = has i.family is.fits event (event_below i e
         → NamesBelow e.cube (variables_of i.stacks)
         → HasVariables names family (number_of names family e.unit) (variables e.cube)
     has (Listed rows) fits (n, at) below =
-        let row = row_at rows e.unit n e.cube at in
+        let row = row_is rows e.unit n e.cube at in
         (e.unit, e.cube, at ∙ ap (λ m. Some (m, e.cube)) (sym row.0), refl)
     has (Cycles heads) fits (cycle, unit) below =
         let size = length-map e.cube (λ (q : ℕ × ℕ). q.0) in
@@ -182,7 +184,8 @@ legal_may names i c r is legal =
           even ∙ legal.entries)) small);
     }
 
-all_may : (names : Names) (i : Instance) (c : List ℕ) (log : List LogRecord) → IsInstance i → IsLegal i c log
+-- so may each record of a legal log
+pub all_may : (names : Names) (i : Instance) (c : List ℕ) (log : List LogRecord) → IsInstance i → IsLegal i c log
     → AllByRecursion (MayBePrinted names i.family) (map (printed names i.family) log)
 all_may names i c [] is legal = tt
 all_may names i c (r ∷ log) is legal = (
@@ -191,7 +194,8 @@ all_may names i c (r ∷ log) is legal = (
       legal.1,
 )
 
-all_fit : (names : Names) (i : Instance) (ps : List Printed) → IsInstance i → NumbersFit i.family
+-- what may be printed has numbers of 32 bits, record by record
+pub all_fit : (names : Names) (i : Instance) (ps : List Printed) → IsInstance i → NumbersFit i.family
     → AllByRecursion (MayBePrinted names i.family) ps
     → AllByRecursion FitsWords ps
 all_fit names i [] is numbers may = tt
@@ -248,6 +252,7 @@ next_legal names i c (q ∷ front) (r ∷ log) p rest is legal legal' same none 
     next_legal names i (pop c q.event.cube) front log p rest is legal.1
     (subst (λ (x : LogRecord). IsLegal i (pop c x.event.cube) log) one legal'.1) later none
 
+-- the text of a legal log is refused for want of memory alone
 pub exact_reading : (names : Names) (i : Instance) → IsInstance i → NumbersFit i.family
     → (text : List ℕ) (log : List LogRecord) → IsLogText names i text log
     → (refusal : LogRefusal) → IsLogRefusal names i text refusal → refusal ≡ OutOfMemory

@@ -15,6 +15,7 @@ use Rattle.pop_log.specs.LogTexts.{log_text, head_line, text_lines, MayStart, Is
 use Rattle.pop_log.specs.Printed.{Printed, name_of}
 use Rattle.pop_log.proofs.LayersLemmas.{layers_are}
 
+-- a pop of a cube under a unit, with these entries
 abbrev pop_of : ℕ → Cube → List ℕ → LogRecord
 pop_of unit cube entries = record { event = record { unit = unit; cube = cube }; entries = entries }
 
@@ -22,6 +23,7 @@ pop_of unit cube entries = record { event = record { unit = unit; cube = cube };
 abbrev three : List LogRecord
 three = pop_of 0 ((0, 0) ∷ []) (0 ∷ []) ∷ pop_of 0 ((0, 0) ∷ []) (1 ∷ []) ∷ pop_of 1 ((1, 0) ∷ []) (0 ∷ []) ∷ []
 
+-- the second waits for the first, and the third for none
 layers_of_three : AreLayers three (1 ∷ 2 ∷ 1 ∷ [])
 layers_of_three = layers_are [] three
 
@@ -31,9 +33,11 @@ chain =
     pop_of 0 ((0, 0) ∷ (1, 0) ∷ []) (0 ∷ 0 ∷ []) ∷ pop_of 1 ((2, 0) ∷ (3, 0) ∷ []) (0 ∷ 0 ∷ [])
     ∷ pop_of 2 ((1, 0) ∷ (2, 0) ∷ []) (1 ∷ 1 ∷ []) ∷ []
 
+-- the third waits for both others
 layers_of_chain : AreLayers chain (1 ∷ 1 ∷ 2 ∷ [])
 layers_of_chain = layers_are [] chain
 
+-- an instance of this family, whose stacks don't matter
 abbrev with_family : Family → Instance
 with_family family = record { stacks = record { origin = Given []; weights = [] }; family = family }
 
@@ -41,6 +45,7 @@ with_family family = record { stacks = record { origin = Given []; weights = [] 
 abbrev two_clauses : Instance
 two_clauses = with_family (Listed ((1, (0, 0) ∷ []) ∷ (3, (1, 0) ∷ []) ∷ []))
 
+-- their text: the second event has number 3
 text_of_three : log_text Plain two_clauses three ≡ codes "log 1 3\npop 1 1:0\npop 1 1:1\npop 3 2:0\n"
 unfolding digits
 text_of_three = refl
@@ -49,11 +54,13 @@ text_of_three = refl
 abbrev triangle : Instance
 triangle = with_family (Cycles [])
 
+-- its text has the names of the vertices
 text_of_cycle : log_text (Tree 1) triangle (pop_of 0 ((0, 1) ∷ (1, 0) ∷ []) (0 ∷ 0 ∷ []) ∷ [])
     ≡ codes "log 1 1\npop 2 2:0 3:0\n"
 unfolding digits
 text_of_cycle = refl
 
+-- the text of no record
 text_of_none : log_text Plain two_clauses [] ≡ codes "log 1 0\n"
 unfolding digits
 text_of_none = refl

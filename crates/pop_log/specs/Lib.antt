@@ -1,4 +1,3 @@
-pub mod Histories
 pub mod Replays
 pub mod Layers
 pub mod LastLayers

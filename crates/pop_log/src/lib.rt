@@ -5,6 +5,8 @@
 
 mod candidates;
 mod decimals;
+#[cfg(test)]
+mod instances;
 pub mod laws;
 mod layering;
 mod legality;

@@ -17,8 +17,8 @@ use pop_instance::{Family, Instance};
 use pop_text::Output;
 use std::alloc::{AllocError, Global};
 
-/// The printed number of an event, by its unit: a listed event has its own, and a cycle has the name
-/// of its least variable.
+/// The printed number of an event, by its unit: a listed event has its own, and a cycle has the
+/// name of its least variable.
 pub fn number_of_event(names: &Names, family: &Family, unit: u32) -> u32
     requires known { unit < units_of (family_of family.now) }
     ensures { result ≡ number_of names.now (family_of family.now) unit }
@@ -36,8 +36,8 @@ pub fn number_of_event(names: &Names, family: &Family, unit: u32) -> u32
 // The name of each variable of a record, with the entry that its pop used.
 fn push_entries(out: &mut Output, names: &Names, popped: &Record) -> Result<(), AllocError>
     requires { NamesBelow popped.now.event.cube (2 ^ 31) }
-    ensures { OnOk result (out.new ≡ out.old ++ spaced (map (joined 58)
-        (zip_lists (map (name_of names.now) (variables popped.now.event.cube)) popped.now.entries))) }
+    ensures { OnOk result (out.new ≡ out.old ++ spaced (map (joined 58) (zip_lists
+        (map (name_of names.now) (variables popped.now.event.cube)) popped.now.entries))) }
 {
     let cube = popped.cube();
     for i in 0..cube.len() {
@@ -81,8 +81,8 @@ fn push_records(
     Ok(())
 }
 
-// About how many bytes the text has: for each record its number, and for each of its pairs a name and
-// an entry, mostly of one or two digits.
+// About how many bytes the text has: for each record its number, and for each of its pairs a name
+// and an entry, mostly of one or two digits.
 fn room_for(count: u32, log: &Log) -> usize {
     let digits = Buffer::new().format(count).len();
     let mut room = 32usize;
@@ -94,8 +94,8 @@ fn room_for(count: u32, log: &Log) -> usize {
 }
 
 /// The text of a legal log: `log 1 P` with the number of records, and a line `pop E V:K V:K ..` for
-/// each, with the number of its event and, for each variable in rising order, its name and the entry
-/// that the pop used.
+/// each, with the number of its event and, for each variable in rising order, its name and the
+/// entry that the pop used.
 pub fn print_log(
     alloc: Global,
     instance: &Instance,
@@ -118,9 +118,8 @@ pub fn print_log(
 #[cfg(test)]
 mod tests {
     use super::*;
+    use crate::instances::listed;
     use confluence_core::{Keep, run_from_zeros};
-    use pop_instance::{Cube, Events};
-    use pop_stacks::{Rows, StackSpec, Stacks, Weights};
     use std::process::Abort;
     use std::test::Fail;
 
@@ -131,19 +130,19 @@ mod tests {
         Ok(print_log(alloc, instance, &Names::Plain, &log)?)
     }
 
-    // Worked by hand: the clauses 1 2 and -1 2, under the numbers 3 and 4. The variables have the
-    // entries 0, 1, 1 and 0, 0, 1.
+    // The variables have the entries 0, 1, 1 and 0, 0, 1.
+    static ROWS: [&[u32]; 2] = [&[0, 1, 1], &[0, 0, 1]];
+
+    // The clauses `1 2` and `-1 2`, under the numbers 3 and 4.
+    static CLAUSES: [(u32, &[(u32, u32)]); 2] = [(3, &[(0, 0), (1, 0)]), (4, &[(0, 1), (1, 0)])];
+
+    // Worked by hand.
     #[test]
     fn a_record_has_the_number_of_its_event_and_the_entries_used(
         rt: HostRuntime,
     ) -> Result<(), Fail> {
         let alloc = rt.alloc();
-        let rows = vec![in alloc; vec![in alloc; 0, 1, 1]?, vec![in alloc; 0, 0, 1]?]?;
-        let stacks = Stacks::new(StackSpec::Given(Rows::of(rows)), Weights::pairs(2), 1)?;
-        let first = Cube::new(vec![in alloc; (0, 0), (1, 0)]?).expect(&rt, "a cube");
-        let second = Cube::new(vec![in alloc; (0, 1), (1, 0)]?).expect(&rt, "a cube");
-        let events = Events::gather(alloc, vec![in alloc; (3, first), (4, second)]?)?;
-        let instance = Instance::new(stacks, Family::Listed(events)).expect(&rt, "known variables");
+        let instance = listed(&rt, alloc, &ROWS, &CLAUSES)?;
         assert_eq!(rt;
             text_of_run(&rt, alloc, &instance)?.as_slice(),
             b"log 1 2\npop 3 1:0 2:0\npop 4 1:1 2:1\n".as_slice()

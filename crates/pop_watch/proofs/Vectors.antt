@@ -10,14 +10,17 @@ use Rattle.pop_watch.specs.Watching.{told, report_text, binary_digits}
 abbrev pop_of : List ℕ → LogRecord
 pop_of entries = record { event = record { unit = 0; cube = (0, 0) ∷ [] }; entries = entries }
 
+-- 0 has no digit
 no_digit : binary_digits 0 ≡ 0
 unfolding count_leading_zeros
 no_digit = refl
 
+-- 1 has one digit
 one_digit : binary_digits 1 ≡ 1
 unfolding count_leading_zeros
 one_digit = refl
 
+-- the greatest number of 32 bits has 32 digits
 all_digits : binary_digits 4294967295 ≡ 32
 unfolding count_leading_zeros
 all_digits = refl
@@ -28,11 +31,13 @@ totals_of_two : report_text 1 (told 1 (0 ∷ 0 ∷ 0 ∷ []) (pop_of (0 ∷ []) 
 unfolding digits
 totals_of_two = refl
 
+-- two pops used an entry of no digit, and one of one digit
 heights_of_two : report_text 2 (told 2 (replicate 33 0) (pop_of (0 ∷ []) ∷ pop_of (1 ∷ []) ∷ []))
     ≡ line (codes "report heights 1 1")
 unfolding digits count_leading_zeros
 heights_of_two = refl
 
+-- without pops no count is told
 heights_of_none : report_text 2 (replicate 33 0) ≡ line (codes "report heights")
 heights_of_none = refl
 
@@ -44,6 +49,7 @@ another_length = refl
 another_kind : told 7 (7 ∷ []) (pop_of (0 ∷ []) ∷ []) ≡ 7 ∷ []
 another_kind = refl
 
+-- a state of such a kind has no report
 no_report : report_text 7 (7 ∷ []) ≡ []
 no_report = refl
 

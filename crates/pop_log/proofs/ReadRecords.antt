@@ -1,12 +1,11 @@
 -- A log text is read record by record: either all records so far are printed of a legal log, or the one behind it is
--- the
--- first that isn't legal. What may be printed has numbers of 32 bits, so each line is that of one record.
+-- the first that isn't legal. What may be printed has numbers of 32 bits, so each line is that of one record.
 use Rattle.std.proofs.Common.{◌≡◌, ℕ, ◌+◌, ◌^◌, ◌<◌, ◌≤◌, Bool, true, false, List, [], ◌∷◌, ◌++◌, length, map, Option, None, Some, MatchOption, get_or, refl, sym, ap, subst, ◌∙◌, arith, append_assoc, length-append, All, inl, inr, codes, decimal, if◌then◌else◌}
 use Rattle.std.specs.List.{AllByRecursion}
 use Rattle.std.proofs.lemmas.Bool.{cases_lt, lt-ltb, le-ltb}
-use Rattle.std.proofs.lemmas.List.{length-map, get_or-map}
+use Rattle.std.proofs.lemmas.List.{length-map, get_or-map, map-append}
 use Rattle.std.proofs.lemmas.List.Elements.{recursion_from_All, All-map}
-use Rattle.pop_model.specs.Stacks.{StackTable, variables_of}
+use Rattle.pop_model.specs.Stacks.{variables_of}
 use Rattle.pop_model.specs.Popping.{Cube, AreWithin, pop}
 use Rattle.pop_model.specs.Families.{Family, units_of}
 use Rattle.pop_model.specs.Families.Family.{Listed, Cycles}
@@ -14,7 +13,7 @@ use Rattle.pop_model.specs.Instances.{Instance, IsInstance, FamilyFits, FitsStac
 use Rattle.pop_model.specs.Logs.{LogRecord, IsLegalAt, IsLegal, replay}
 use Rattle.pop_model.specs.Runs.{start_of}
 use Rattle.pop_model.proofs.Members.{all_at}
-use Rattle.pop_stacks.specs.Readers.{Belongs}
+use Rattle.pop_stacks.specs.Readers.{Belongs, ReaderOf}
 use Rattle.pop_log.specs.declared.names.Names.{Names}
 use Rattle.pop_log.specs.declared.names.Names.TheVariants.{Plain, Tree}
 use Rattle.pop_log.specs.Printed.{Printed, printed, name_of, joined, MayBePrinted, HasVariables}
@@ -23,8 +22,8 @@ use Rattle.pop_log.specs.declared.progress.Progress.{Progress}
 use Rattle.pop_log.specs.PrintedWords.{PairFits, FitsWords}
 use Rattle.pop_log.specs.Candidates.{NumbersFit, IsCandidate}
 use Rattle.pop_log.specs.Reading.{IsReplayed, HasRead, Adds, Takes}
-use Rattle.confluence_core.proofs.SoFar.{legal_push, replay_push}
-use Rattle.pop_log.proofs.TextLemmas.{Fits64, PairFits as PairFits64, pairs_text, records_same}
+use Rattle.confluence_core.proofs.LegalLogs.{legal_push, replay_push}
+use Rattle.pop_log.proofs.LogTextsLemmas.{Fits64, PairFits as PairFits64, pairs_text, records_same}
 
 -- names of variables have 32 bits
 name_small : (names : Names) (v : ℕ) → v < 2 ^ 31 → name_of names v < 2 ^ 32
@@ -79,7 +78,7 @@ may_fits names i is numbers p may =
     )
 
 -- numbers of 32 bits have 64
-fits_wide : (p : Printed) → FitsWords p → Fits64 p
+pub fits_wide : (p : Printed) → FitsWords p → Fits64 p
 fits_wide p fits = ((let small = fits.0 in omega (arith, small)), wide p.pairs fits.1)
   where
     wide : (ps : List (ℕ × ℕ)) → AllByRecursion PairFits ps → AllByRecursion PairFits64 ps
@@ -117,11 +116,6 @@ pub no_record_may : (names : Names) (i : Instance) (l : List ℕ) (q : Printed) 
 no_record_may names i l q is numbers fits line none p may same =
     let one : p ≡ q = line_once p q (may_fits names i is numbers p may) fits (sym same ∙ line) in
     none (subst (MayBePrinted names i.family) one may)
-
--- a record more behind others
-map_push : {X Y : Type 0} (f : X → Y) (xs : List X) (x : X) → map f (xs ++ x ∷ []) ≡ map f xs ++ f x ∷ []
-map_push f [] x = refl
-map_push f (y ∷ xs) x = ap (λ l. f y ∷ l) (map_push f xs x)
 
 -- a record more behind the first that isn't legal
 illegal_more : (names : Names) (i : Instance) (ps : List Printed) (k : ℕ) (p : Printed) → IsFirstIllegal names i ps k
@@ -162,11 +156,11 @@ reads_on names i c p r log new_log false true legal at only adds ps read =
 reads_on names i c p r log new_log false false legal at only adds ps read =
     ap (λ (l : List Printed). l ++ p ∷ []) read
     ∙ ap (λ (q : Printed). map (printed names i.family) log ++ q ∷ []) (sym only.printed_is)
-    ∙ sym (map_push (printed names i.family) log r) ∙ ap (map (printed names i.family)) (sym adds.1)
+    ∙ sym (map-append (printed names i.family) log (r ∷ [])) ∙ ap (map (printed names i.family)) (sym adds.1)
 
 -- a legal record behind a log
 pub replayed_push : (i : Instance) (s : Progress) (r : LogRecord) (log : List LogRecord) (cursors : List ℕ)
-    (reader : StackTable) → IsReplayed i s → IsLegalAt i s.cursors r
+    (reader : ReaderOf) → IsReplayed i s → IsLegalAt i s.cursors r
     → log ≡ s.log ++ r ∷ [] → cursors ≡ pop s.cursors r.event.cube → variables_of i.stacks ≡ length cursors
     → AreWithin i.stacks cursors → reader ≡ s.reader
     → IsReplayed i (record { log = log; cursors = cursors; reader = reader; stopped = s.stopped })

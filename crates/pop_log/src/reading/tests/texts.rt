@@ -1,0 +1,138 @@
+// Log texts and the answers to them, which were worked by hand: the records that are read, or why
+// the text is refused.
+
+// Of the formula. The values at the cursors are 0 0 0, then 1 1 0, 1 1 0 and 1 1 1.
+pub static FORMULA: [(&str, &str); 63] = [
+    (
+        "log 1 3\npop 1 1:0 2:0\npop 2 1:1 3:0\npop 4 3:1\n",
+        "0: 0=0@0 1=0@0;1: 0=1@1 2=0@0;2: 2=0@1;",
+    ),
+    ("log 1 0\n", ""),
+    ("log 1 1\npop 4 3:0\n", "2: 2=0@0;"),
+    // The first line.
+    ("", "malformed 1"),
+    ("\n", "malformed 1"),
+    ("log 1 0", "malformed 1"),
+    ("log 2 0\n", "malformed 1"),
+    ("log 1 00\n", "malformed 1"),
+    ("log 1 \n", "malformed 1"),
+    ("log 1 0 \n", "malformed 1"),
+    ("log 1  0\n", "malformed 1"),
+    ("log 1 0\r\n", "malformed 1"),
+    (" log 1 0\n", "malformed 1"),
+    ("log 1 -0\n", "malformed 1"),
+    ("log 1 +1\npop 4 3:0\n", "malformed 1"),
+    ("log 1 18446744073709551616\n", "malformed 1"),
+    ("pop 4 3:0\n", "malformed 1"),
+    // Lines that are missing or too many.
+    ("log 1 18446744073709551615\n", "malformed 2"),
+    ("log 1 1\n", "malformed 2"),
+    ("log 1 2\npop 4 3:0\n", "malformed 3"),
+    ("log 1 0\npop 4 3:0\n", "malformed 2"),
+    ("log 1 0\n\n", "malformed 2"),
+    ("log 1 1\npop 4 3:0\npop 4 3:1\n", "malformed 3"),
+    ("log 1 1\npop 4 3:0\nx", "malformed 3"),
+    ("log 1 1\npop 4 3:0", "malformed 2"),
+    ("log 1 1\n\npop 4 3:0\n", "malformed 2"),
+    // The form of a record's line.
+    ("log 1 1\nPop 4 3:0\n", "malformed 2"),
+    ("log 1 1\npop  4 3:0\n", "malformed 2"),
+    ("log 1 1\npop 4  3:0\n", "malformed 2"),
+    ("log 1 1\npop 4 3:0 \n", "malformed 2"),
+    ("log 1 1\npop 4 3:0\r\n", "malformed 2"),
+    ("log 1 1\npop 4 3=0\n", "malformed 2"),
+    ("log 1 1\npop 4 3:\n", "malformed 2"),
+    ("log 1 1\npop 4 3\n", "malformed 2"),
+    ("log 1 1\npop 4 3:-0\n", "malformed 2"),
+    ("log 1 1\npop 04 3:0\n", "malformed 2"),
+    ("log 1 1\npop 4 03:0\n", "malformed 2"),
+    ("log 1 1\npop 4 3:00\n", "malformed 2"),
+    ("log 1 1\npop 18446744073709551620 3:0\n", "malformed 2"),
+    ("log 1 1\npop 4 4294967299:0\n", "malformed 2"),
+    ("log 1 1\npop 4 3:4294967296\n", "malformed 2"),
+    ("log 1 1\npop 4 3:18446744073709551616\n", "malformed 2"),
+    ("log 1 1\npop 4\t3:0\n", "malformed 2"),
+    // Events and their variables.
+    ("log 1 1\npop 0 1:0 2:0\n", "malformed 2"),
+    ("log 1 1\npop 3 1:0 2:0\n", "malformed 2"),
+    ("log 1 1\npop 5 3:0\n", "malformed 2"),
+    ("log 1 1\npop 1 2:0 1:0\n", "malformed 2"),
+    ("log 1 1\npop 1 1:0\n", "malformed 2"),
+    ("log 1 1\npop 1\n", "malformed 2"),
+    ("log 1 1\npop 1 1:0 1:0\n", "malformed 2"),
+    ("log 1 1\npop 1 1:0 3:0\n", "malformed 2"),
+    ("log 1 1\npop 1 1:0 2:0 3:0\n", "malformed 2"),
+    // Records that aren't legal.
+    ("log 1 1\npop 4 3:4294967295\n", "not legal 0"),
+    ("log 1 1\npop 4 3:1\n", "not legal 0"),
+    ("log 1 1\npop 2 1:0 3:0\n", "not legal 0"),
+    ("log 1 2\npop 4 3:0\npop 4 3:0\n", "not legal 1"),
+    ("log 1 2\npop 4 3:0\npop 4 3:2\n", "not legal 1"),
+    ("log 1 3\npop 4 3:0\npop 4 3:1\npop 4 3:2\n", "not legal 2"),
+    (
+        "log 1 3\npop 1 1:0 2:0\npop 2 1:1 3:0\npop 2 1:2 3:1\n",
+        "not legal 2",
+    ),
+    (
+        "log 1 3\npop 2 1:0 3:0\npop 4 3:0\npop 4 3:0\n",
+        "not legal 0",
+    ),
+    // A malformed line behind a record that isn't legal.
+    ("log 1 2\npop 4 3:1\npop 4 3:x\n", "malformed 3"),
+    ("log 1 2\npop 4 3:1\n", "malformed 3"),
+    ("log 1 1\npop 4 3:1\npop 4 3:0\n", "malformed 3"),
+];
+
+// Of the sinks. The values at the cursors are 1 0 0, then 0 0 1, 0 1 0 and 1 1 0.
+pub static SINKS: [(&str, &str); 5] = [
+    (
+        "log 1 3\npop 1 1:0 3:0\npop 3 2:0 3:1\npop 2 1:1 2:1\n",
+        "0: 0=1@0 2=0@0;2: 1=0@0 2=1@1;1: 0=0@1 1=1@1;",
+    ),
+    ("log 1 2\npop 1 1:0 3:0\npop 2 1:1 2:0\n", "not legal 1"),
+    (
+        "log 1 4\npop 1 1:0 3:0\npop 3 2:0 3:1\npop 2 1:1 2:1\npop 1 1:2 3:2\n",
+        "not legal 3",
+    ),
+    ("log 1 1\npop 3 1:0 3:0\n", "malformed 2"),
+    ("log 1 1\npop 4 1:0 3:0\n", "malformed 2"),
+];
+
+// Of the trees. Vertices 1 and 3 point to one another at their entries 0 and 1, and to vertex 2 at
+// their entries 2.
+pub static MIDDLE: [(&str, &str); 16] = [
+    (
+        "log 1 2\npop 1 1:0 3:0\npop 1 1:1 3:1\n",
+        "0: 0=1@0 1=1@0;0: 0=1@1 1=1@1;",
+    ),
+    ("log 1 1\npop 3 1:0 3:0\n", "malformed 2"),
+    ("log 1 1\npop 2 1:0 3:0\n", "malformed 2"),
+    ("log 1 1\npop 1 3:0 1:0\n", "malformed 2"),
+    ("log 1 1\npop 3 3:0 1:0\n", "malformed 2"),
+    ("log 1 1\npop 1 1:0 2:0\n", "malformed 2"),
+    ("log 1 1\npop 1 1:0 4:0\n", "malformed 2"),
+    ("log 1 1\npop 0 0:0 1:0\n", "malformed 2"),
+    ("log 1 1\npop 1 1:0 1:0\n", "malformed 2"),
+    ("log 1 1\npop 1\n", "malformed 2"),
+    ("log 1 1\npop 1 1:0 3:4294967296\n", "malformed 2"),
+    ("log 1 1\npop 1 1:0 3:4294967295\n", "not legal 0"),
+    ("log 1 1\npop 1 1:0\n", "not legal 0"),
+    ("log 1 1\npop 3 3:0\n", "not legal 0"),
+    ("log 1 2\npop 1 1:0 3:0\npop 1 1:0 3:0\n", "not legal 1"),
+    (
+        "log 1 3\npop 1 1:0 3:0\npop 1 1:1 3:1\npop 1 1:2 3:2\n",
+        "not legal 2",
+    ),
+];
+
+// The variables of the same trees, named as those of trees to vertex 1.
+pub static FIRST: [(&str, &str); 2] = [
+    ("log 1 1\npop 2 2:0 3:0\n", "0: 0=1@0 1=1@0;"),
+    ("log 1 1\npop 1 1:0 3:0\n", "malformed 2"),
+];
+
+// The same, named as those of trees to vertex 3.
+pub static LAST: [(&str, &str); 2] = [
+    ("log 1 1\npop 1 1:0 2:0\n", "0: 0=1@0 1=1@0;"),
+    ("log 1 1\npop 1 1:0 3:0\n", "malformed 2"),
+];
