@@ -27,6 +27,7 @@ degrees_more g n = sum_by-map-range_with_len_more (λ (d : ℕ). d) (degree g) 0
 abbrev one_if : Bool → ℕ
 one_if b = cond b 1 0
 
+-- it is at most 1
 one_if_le : (b : Bool) → one_if b ≤ 1
 one_if_le true = omega arith
 one_if_le false = omega arith

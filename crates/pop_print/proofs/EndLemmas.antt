@@ -1,12 +1,18 @@
 -- Each event that occurs at an end can be printed: a listed one has a place, and the variables of a cycle have arrows.
-use Rattle.std.proofs.Common.{ℕ, ◌<◌, ◌^◌, List, get_or, All, arith}
+use Rattle.std.proofs.Common.{ℕ, ◌≡◌, ◌<◌, ◌^◌, List, length, get_or, slice_index, All, ap, subst, ◌∙◌, arith}
 use Rattle.std.proofs.lemmas.List.Elements.{Contains-get_or}
 use Rattle.std.proofs.lemmas.Option.{slice_get_within}
+use Rattle.pop_model.specs.Stacks.{variables_of}
+use Rattle.pop_model.specs.Names.{vertex_of}
+use Rattle.pop_model.proofs.ValuesLemmas.{length-values_at}
+use Rattle.graph_read.specs.Graphs.{GraphOf}
+use Rattle.graph_read.specs.Incidence.{edges_at}
 use Rattle.pop_model.specs.Families.{Event, Family, IsEvent, units_of}
 use Rattle.pop_model.specs.Families.Family.{Listed, Cycles}
 use Rattle.pop_model.specs.Instances.{Instance}
 use Rattle.pop_model.specs.Runs.{IsStuckList}
 use Rattle.confluence_core.proofs.CycleVariables.{cycle_names_below}
+use Rattle.pop_print.specs.Ends.{IsOfTree, IsAtEnd}
 use Rattle.pop_print.specs.Stuck.{HasNames}
 
 -- an event of a family of so few units can be printed
@@ -21,3 +27,16 @@ pub stuck_named : (i : Instance) (c : List ℕ) (stuck : List Event) → units_o
 stuck_named i c stuck few list k d below =
     let e = get_or stuck k d in
     event_named i.family e few ((list.exact e).0 (Contains-get_or stuck k d below)).0
+
+-- there are as many values as variables
+pub values_count : (i : Instance) (c : List ℕ) (stuck : List Event) (values : List ℕ) → IsAtEnd i c stuck values
+    → length values ≡ variables_of i.stacks
+values_count i c stuck values end = ap length end.values.are ∙ length-values_at i.stacks c ∙ end.count
+
+-- at an end of a tree the value of a variable is a slot of its vertex
+pub slots_known : (i : Instance) (g : GraphOf) (root : ℕ) (c : List ℕ) (stuck : List Event) (values : List ℕ)
+    → IsOfTree g root i → IsAtEnd i c stuck values → (v : ℕ) → v < length values
+    → slice_index values v < length (edges_at g (vertex_of root v))
+slots_known i g root c stuck values tree end v below =
+    let known : v < variables_of i.stacks = omega (arith, below, values_count i c stuck values end) in
+    subst (λ n. slice_index values v < n) (tree.slots v known) (end.values.within v known)

@@ -1,6 +1,7 @@
 -- The summary of an end, line by line.
 use Rattle.std.proofs.Common.{◌≡◌, ℕ, ◌<◌, List, [], ◌∷◌, ◌++◌, length, codes, ap, ◌∙◌, arith, append_assoc}
 use Rattle.pop_model.specs.Stacks.{StackTable}
+use Rattle.pop_model.specs.Popping.{values_at}
 use Rattle.pop_model.specs.Families.{Event}
 use Rattle.pop_print.specs.Made.{grid_line, count_line, totals_line, sum_line, slot_sum}
 use Rattle.pop_print.specs.Output.{pops_line, summary}
@@ -14,11 +15,11 @@ joined before a b c d e = simp append_assoc
 pub summary_sample : (side pops : ℕ) (s : StackTable) (c : List ℕ) (stuck : List Event)
     (before status grid totals popped out : List ℕ) → length stuck ≡ 0 → status ≡ before ++ codes "s SAMPLE\n"
     → grid ≡ status ++ grid_line side → totals ≡ grid ++ totals_line c → popped ≡ totals ++ pops_line pops
-    → out ≡ popped ++ sum_line (slot_sum s c) → out ≡ before ++ summary side s c pops stuck
+    → out ≡ popped ++ sum_line (slot_sum (values_at s c)) → out ≡ before ++ summary side s c pops stuck
 summary_sample side pops s c [] before status grid totals popped out none e f g h i =
-    i ∙ ap (λ l. l ++ sum_line (slot_sum s c)) (h ∙ ap (λ l. l ++ pops_line pops) (g ∙ ap (λ l. l ++ totals_line c)
+    i ∙ ap (λ l. l ++ sum_line (slot_sum (values_at s c))) (h ∙ ap (λ l. l ++ pops_line pops) (g ∙ ap (λ l. l ++ totals_line c)
     (f ∙ ap (λ l. l ++ grid_line side) e)))
-    ∙ joined before (codes "s SAMPLE\n") (grid_line side) (totals_line c) (pops_line pops) (sum_line (slot_sum s c))
+    ∙ joined before (codes "s SAMPLE\n") (grid_line side) (totals_line c) (pops_line pops) (sum_line (slot_sum (values_at s c)))
 summary_sample side pops s c (stuck ∷ more) before status grid totals popped out none e f g h i = absurd (omega arith)
 
 -- the lines where some event occurs

@@ -9,6 +9,7 @@ use Rattle.graph_read.specs.Graphs.{GraphOf}
 use Rattle.pop_print.specs.declared.facts.Facts.TheVariants.{Formula, Orient, Tree, Made}
 use Rattle.pop_print.specs.Output.{end_text}
 
+-- the given entries of two variables
 abbrev entries : List (List ℕ)
 entries = (0 ∷ 0 ∷ 1 ∷ []) ∷ (1 ∷ 0 ∷ []) ∷ []
 
@@ -20,13 +21,16 @@ two =
       family = Listed ((3, (0, 1) ∷ []) ∷ (7, (1, 0) ∷ []) ∷ []);
     }
 
+-- event 7, in the second place
 abbrev second : Event
 second = record { unit = 1; cube = (1, 0) ∷ [] }
 
+-- no event occurs: the values, where the second variable has 0
 a_sample : end_text (Formula 2) two (2 ∷ 1 ∷ []) 3 [] ≡ codes "s SAMPLE\nv 1 -2 0\nused 2 1\npops 3\n"
 unfolding digits
 a_sample = refl
 
+-- an event is told by its number, and not by its place
 an_event_that_occurs : end_text (Formula 2) two (2 ∷ 1 ∷ []) 3 (second ∷ []) ≡ codes "s EXHAUSTED\nstuck 7\nused 2 1\npops 3\n"
 unfolding digits
 an_event_that_occurs = refl
@@ -51,6 +55,7 @@ abbrev given : List (List ℕ) → List (List ℕ) → List (List (Option ℕ)) 
 given rows weights heads =
     record { stacks = record { origin = Given rows; weights = weights }; family = Cycles heads }
 
+-- two values of weight 1 for each variable
 abbrev two_each : ℕ → List (List ℕ)
 two_each zero = []
 two_each (suc n) = (1 ∷ 1 ∷ []) ∷ two_each n
@@ -59,17 +64,19 @@ two_each (suc n) = (1 ∷ 1 ∷ []) ∷ two_each n
 abbrev to_one : List (List (Option ℕ))
 to_one = (None ∷ Some 1 ∷ []) ∷ (Some 0 ∷ None ∷ []) ∷ []
 
+-- the slots 1 and 0 lead along the edges 1 and 2
 a_tree : end_text (Tree triangle 1) (given ((1 ∷ 0 ∷ []) ∷ (0 ∷ 0 ∷ []) ∷ []) (two_each 2) to_one) (1 ∷ 1 ∷ []) 1 []
     ≡ codes "s SAMPLE\na 2 1 1\na 3 2 2\nused 1 1\npops 1\n"
 unfolding digits
 a_tree = refl
 
 -- the cycle of the vertices 2 and 3
-abbrev round : Event
-round = record { unit = 0; cube = (0, 1) ∷ (1, 0) ∷ [] }
+abbrev of_two_three : Event
+of_two_three = record { unit = 0; cube = (0, 1) ∷ (1, 0) ∷ [] }
 
+-- a cycle is told by its vertices
 a_cycle_that_occurs : end_text (Tree triangle 1) (given ((1 ∷ []) ∷ (0 ∷ []) ∷ []) (two_each 2) to_one) (0 ∷ 0 ∷ []) 0
-    (round ∷ [])
+    (of_two_three ∷ [])
     ≡ codes "s EXHAUSTED\nstuck 2 3\nused 0 0\npops 0\n"
 unfolding digits
 a_cycle_that_occurs = refl
@@ -83,6 +90,7 @@ with_loop =
           ∷ record { u = 1; v = 2; weight = 1 } ∷ [];
     }
 
+-- slot 1 is the second of two parallel edges, behind a loop that is none
 a_parallel_edge : end_text (Tree with_loop 2) (given ((1 ∷ []) ∷ []) ((5 ∷ 1 ∷ []) ∷ []) ((None ∷ None ∷ []) ∷ []))
     (0 ∷ []) 0 []
     ≡ codes "s SAMPLE\na 1 2 3\nused 0\npops 0\n"
@@ -122,6 +130,7 @@ one_vertex = refl
 abbrev to_corner : List (List (Option ℕ))
 to_corner = (None ∷ Some 2 ∷ []) ∷ (None ∷ Some 2 ∷ []) ∷ (Some 0 ∷ Some 1 ∷ []) ∷ []
 
+-- these arrows over given rows
 abbrev over_corner : List (List ℕ) → Instance
 over_corner rows = given rows (two_each 3) to_corner
 

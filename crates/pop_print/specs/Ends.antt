@@ -1,7 +1,7 @@
 -- The ends that can be printed.
 use Rattle.std.specs.Prelude.{◌≡◌, ℕ, ◌+◌, ◌<◌, List, Option, length}
 use Rattle.pop_model.specs.Stacks.{variables_of, domain_of}
-use Rattle.pop_model.specs.Popping.{Cube, AreWithin}
+use Rattle.pop_model.specs.Popping.{Cube, AreWithin, AreValuesAt}
 use Rattle.pop_model.specs.Families.{Event}
 use Rattle.pop_model.specs.Families.Family.{Listed, Cycles}
 use Rattle.pop_model.specs.Instances.{Instance}
@@ -40,8 +40,10 @@ AreFactsOf (Orient g) i = IsOfPairs (length g.edges) i
 AreFactsOf (Tree g root) i = IsOfTree g root i
 AreFactsOf (Made side) i = IsOfGrid side i
 
--- one cursor for each variable, below its height, and the events that occur there
-pub record IsAtEnd (i : Instance) (cursors : List ℕ) (stuck : List Event) : Type 0 where
+-- one cursor for each variable, below its height, the events that occur there, and the values
+pub record IsAtEnd (i : Instance) (cursors : List ℕ) (stuck : List Event) (shown : List ℕ)
+    : Type 0 where
   pub count : length cursors ≡ variables_of i.stacks
   pub within : AreWithin i.stacks cursors
   pub stuck_list : IsStuckList i cursors stuck
+  pub values : AreValuesAt i.stacks cursors shown

@@ -1,5 +1,7 @@
 pub mod Names
 pub mod Made
 pub mod Output
+pub mod Places
 pub mod Ends
 pub mod Stuck
+pub mod Laws

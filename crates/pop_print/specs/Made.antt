@@ -1,7 +1,6 @@
 -- What is told of an end over a made grid: not each arrow, but a few numbers.
 use Rattle.std.specs.Prelude.{ℕ, ◌+◌, ◌*◌, ◌≤◌, List, [], ◌∷◌, ◌++◌, map, sum, sum_by, All, Contains, max, decimal, codes}
 use Rattle.std.specs.List.{enumerate_from}
-use Rattle.pop_model.specs.Stacks.{StackTable, value_at}
 use Rattle.pop_model.specs.Names.{vertex_of}
 use Rattle.pop_model.specs.Text.{line, spaced}
 
@@ -15,14 +14,14 @@ pub record IsGreatest (numbers : List ℕ) (m : ℕ) : Type 0 where
   pub reached : Contains (0 ∷ numbers) m
   pub greatest : All (λ n. n ≤ m) numbers
 
--- the number of a variable's vertex times its slot, from 1, by the variable and its cursor; the
--- root is vertex 1
-abbrev pub slot_term : StackTable → ℕ × ℕ → ℕ
-slot_term stacks p = vertex_of 1 p.0 * (value_at stacks p.0 p.1 + 1)
+-- the number of a variable's vertex times its slot, from 1, by the variable and its value; the root
+-- is vertex 1
+abbrev pub slot_term : ℕ × ℕ → ℕ
+slot_term p = vertex_of 1 p.0 * (p.1 + 1)
 
 -- the sum of these over each vertex but the root (this project's choice)
-abbrev pub slot_sum : StackTable → List ℕ → ℕ
-slot_sum stacks cursors = sum_by (slot_term stacks) (enumerate_from 0 cursors)
+abbrev pub slot_sum : List ℕ → ℕ
+slot_sum values = sum_by slot_term (enumerate_from 0 values)
 
 -- the line of the side of a grid
 abbrev pub grid_line : ℕ → List ℕ

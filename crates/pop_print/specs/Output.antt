@@ -1,15 +1,14 @@
 -- The text of a run's end.
 use Rattle.std.specs.Prelude.{ℕ, ◌+◌, ◌==◌, if◌then◌else◌, List, [], ◌∷◌, ◌++◌, length, map, flat_map, decimal, codes, slice_index}
 use Rattle.std.specs.List.{enumerate_from}
-use Rattle.pop_model.specs.Stacks.{StackTable, value_at}
-use Rattle.pop_model.specs.Popping.{cursor}
+use Rattle.pop_model.specs.Stacks.{StackTable}
+use Rattle.pop_model.specs.Popping.{values_at}
 use Rattle.pop_model.specs.Families.{Event, Family}
 use Rattle.pop_model.specs.Instances.{Instance}
 use Rattle.pop_model.specs.Names.{vertex_of}
 use Rattle.pop_model.specs.Text.{line, spaced}
 use Rattle.graph_read.specs.declared.edge.Edge.{Edge}
 use Rattle.graph_read.specs.Graphs.{GraphOf, edge_at}
-use Rattle.graph_read.specs.Grids.{grid_of}
 use Rattle.graph_read.specs.Incidence.{edges_at, other_end}
 use Rattle.pop_print.specs.declared.facts.Facts.{Facts}
 use Rattle.pop_print.specs.declared.facts.Facts.TheVariants.{Formula, Orient, Tree, Made}
@@ -20,15 +19,13 @@ use Rattle.pop_print.specs.Made.{grid_line, count_line, totals_line, sum_line, s
 abbrev pub literal_of : ℕ → ℕ → List ℕ
 literal_of v x = if x == 0 then 45 ∷ decimal (v + 1) else decimal (v + 1)
 
--- each variable by its value at its cursor
-abbrev pub literals_of : StackTable → List ℕ → List (List ℕ)
-literals_of stacks cursors =
-    map (λ p. literal_of p.0 (value_at stacks p.0 p.1)) (enumerate_from 0 cursors)
+-- each variable by its value
+abbrev pub literals_of : List ℕ → List (List ℕ)
+literals_of values = map (λ p. literal_of p.0 p.1) (enumerate_from 0 values)
 
 -- the line of an assignment: `v`, each variable, and 0
-abbrev pub assignment_line : StackTable → List ℕ → List ℕ
-assignment_line stacks cursors =
-    line (codes "v" ++ spaced (literals_of stacks cursors) ++ codes " 0")
+abbrev pub assignment_line : List ℕ → List ℕ
+assignment_line values = line (codes "v" ++ spaced (literals_of values) ++ codes " 0")
 
 -- the line of an arrow along an edge: its tail, its head, and the number of the edge, from 1
 abbrev pub arrow_line : ℕ → ℕ → ℕ → List ℕ
@@ -39,15 +36,13 @@ abbrev pub oriented_line : Edge → ℕ → ℕ → List ℕ
 oriented_line e number x =
     if x == 0 then arrow_line e.u e.v number else arrow_line e.v e.u number
 
--- an edge under its number, from 0, by its value at its cursor
-abbrev pub edge_line : StackTable → List ℕ → ℕ × Edge → List ℕ
-edge_line stacks cursors p =
-    oriented_line p.1 (p.0 + 1) (value_at stacks p.0 (cursor cursors p.0))
+-- an edge under its number, from 0, by its value
+abbrev pub edge_line : List ℕ → ℕ × Edge → List ℕ
+edge_line values p = oriented_line p.1 (p.0 + 1) (slice_index values p.0)
 
 -- each edge of a graph
-abbrev pub orientation_lines : GraphOf → StackTable → List ℕ → List ℕ
-orientation_lines g stacks cursors =
-    flat_map (edge_line stacks cursors) (enumerate_from 0 g.edges)
+abbrev pub orientation_lines : GraphOf → List ℕ → List ℕ
+orientation_lines g values = flat_map (edge_line values) (enumerate_from 0 g.edges)
 
 -- a vertex by the slot of its arrow, which stands for one of its edges
 abbrev pub slot_line : GraphOf → ℕ → ℕ → List ℕ
@@ -55,21 +50,20 @@ slot_line g w x =
     let i = slice_index (edges_at g w) x in
     arrow_line w (other_end (edge_at g i) w) (i + 1)
 
--- the vertex of a variable by its value at this cursor
-abbrev pub vertex_line : GraphOf → ℕ → StackTable → ℕ × ℕ → List ℕ
-vertex_line g root stacks p = slot_line g (vertex_of root p.0) (value_at stacks p.0 p.1)
+-- the vertex of a variable by its value
+abbrev pub vertex_line : GraphOf → ℕ → ℕ × ℕ → List ℕ
+vertex_line g root p = slot_line g (vertex_of root p.0) p.1
 
 -- each vertex but the root
-abbrev pub tree_lines : GraphOf → ℕ → StackTable → List ℕ → List ℕ
-tree_lines g root stacks cursors =
-    flat_map (vertex_line g root stacks) (enumerate_from 0 cursors)
+abbrev pub tree_lines : GraphOf → ℕ → List ℕ → List ℕ
+tree_lines g root values = flat_map (vertex_line g root) (enumerate_from 0 values)
 
--- the lines of the sample; on a made grid it is a tree to vertex 1
-abbrev pub sample_lines : Facts → StackTable → List ℕ → List ℕ
-sample_lines (Formula n) stacks cursors = assignment_line stacks cursors
-sample_lines (Orient g) stacks cursors = orientation_lines g stacks cursors
-sample_lines (Tree g root) stacks cursors = tree_lines g root stacks cursors
-sample_lines (Made side) stacks cursors = tree_lines (grid_of side) 1 stacks cursors
+-- the lines of the sample, by the values of its variables; of a made grid there are none
+abbrev pub sample_lines : Facts → List ℕ → List ℕ
+sample_lines (Formula n) values = assignment_line values
+sample_lines (Orient g) values = orientation_lines g values
+sample_lines (Tree g root) values = tree_lines g root values
+sample_lines (Made side) values = []
 
 -- the line of an event that occurs
 abbrev pub stuck_line : Facts → Family → Event → List ℕ
@@ -82,7 +76,8 @@ stuck_lines facts family stuck = flat_map (stuck_line facts family) stuck
 
 -- what was found: the sample, or the events that occur
 abbrev pub findings : Facts → Instance → List ℕ → List Event → List ℕ
-findings facts i cursors [] = line (codes "s SAMPLE") ++ sample_lines facts i.stacks cursors
+findings facts i cursors [] =
+    line (codes "s SAMPLE") ++ sample_lines facts (values_at i.stacks cursors)
 findings facts i cursors (e ∷ stuck) =
     line (codes "s EXHAUSTED") ++ stuck_lines facts i.family (e ∷ stuck)
 
@@ -103,7 +98,7 @@ full_text facts i cursors pops stuck =
 abbrev pub summary : ℕ → StackTable → List ℕ → ℕ → List Event → List ℕ
 summary side stacks cursors pops [] =
     line (codes "s SAMPLE") ++ grid_line side ++ totals_line cursors ++ pops_line pops
-    ++ sum_line (slot_sum stacks cursors)
+    ++ sum_line (slot_sum (values_at stacks cursors))
 summary side stacks cursors pops (e ∷ stuck) =
     line (codes "s EXHAUSTED") ++ grid_line side ++ count_line (length (e ∷ stuck))
     ++ totals_line cursors ++ pops_line pops

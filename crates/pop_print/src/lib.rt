@@ -1,11 +1,12 @@
-//! The end of a run as text. Contracts see the text as a function of the facts about the source, the
-//! instance, the cursors, the number of pops and the events that occur.
+//! The end of a run as text. Contracts see the text as a function of the facts about the source,
+//! the instance, the cursors, the number of pops and the events that occur.
 #![tactic(auto)]
 
 mod arrow;
 mod assignment;
 mod counts;
 mod facts;
+pub mod laws;
 mod line;
 mod orientation;
 mod printing;
@@ -17,4 +18,4 @@ mod tests;
 mod tree;
 
 pub use facts::Facts;
-pub use printing::{text, text_by};
+pub use printing::text;

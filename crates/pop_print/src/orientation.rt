@@ -1,14 +1,10 @@
 //! The sample of a graph that is oriented: its edges by their directions.
-ghost use Rattle.std.specs.Prelude.{◌≡◌, ◌+◌, ◌<◌, ◌++◌, length, OnOk};
-ghost use Rattle.pop_model.specs.Stacks.{variables_of};
-ghost use Rattle.pop_model.specs.Popping.{AreWithin};
-ghost use Rattle.pop_stacks.specs.Readers.{Belongs};
+ghost use Rattle.std.specs.Prelude.{◌≡◌, ◌++◌, length, OnOk};
 ghost use Rattle.pop_print.specs.Output.{oriented_line, orientation_lines};
 
 use crate::arrow::push_arrow;
 use graph_read::{Edge, Graph};
-use pop_instance::Cursors;
-use pop_stacks::{Reader, Stacks};
+use pop_instance::Values;
 use pop_text::Output;
 use std::alloc::AllocError;
 
@@ -22,25 +18,13 @@ fn push_oriented(out: &mut Output, edge: Edge, number: u32, x: u32) -> Result<()
     push_arrow(out, edge.v, edge.u, number)
 }
 
-/// A line for each edge.
-pub fn push_orientation(
-    out: &mut Output,
-    graph: &Graph,
-    stacks: &Stacks,
-    reader: &mut Reader,
-    cursors: &Cursors,
-) -> Result<(), AllocError>
-    requires variables { variables_of stacks.now ≡ length graph.now.edges }
-    requires count { length cursors.now ≡ length graph.now.edges }
-    requires within { AreWithin stacks.now cursors.now }
-    requires belongs { Belongs stacks.now reader.old }
-    ensures lines { OnOk result
-        (out.new ≡ out.old ++ orientation_lines graph.now stacks.now cursors.now) }
-    ensures reader { reader.new ≡ reader.old }
+/// A line for each edge, by the values of the edges.
+pub fn push_orientation(out: &mut Output, graph: &Graph, values: &Values) -> Result<(), AllocError>
+    requires { length values.now ≡ length graph.now.edges }
+    ensures { OnOk result (out.new ≡ out.old ++ orientation_lines graph.now values.now) }
 {
     for i in 0..graph.edges() {
-        let x = reader.entry(stacks, i, cursors.get(i));
-        push_oriented(out, graph.edge(i), i + 1, x)?;
+        push_oriented(out, graph.edge(i), i + 1, values.get(i))?;
     }
     Ok(())
 }

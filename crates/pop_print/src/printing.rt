@@ -1,5 +1,4 @@
 ghost use Rattle.std.specs.Prelude.{◌≡◌, ◌++◌, OnOk, IfOk};
-ghost use Rattle.pop_stacks.specs.Readers.{Belongs};
 ghost use Rattle.pop_print.specs.Ends.{AreFactsOf, IsAtEnd};
 ghost use Rattle.pop_print.specs.Output.{findings, full_text, end_text};
 
@@ -12,7 +11,6 @@ use crate::summary::push_summary;
 use confluence_core::End;
 use itoa::Buffer;
 use pop_instance::Instance;
-use pop_stacks::Reader;
 use pop_text::Output;
 use std::alloc::{AllocError, Global};
 
@@ -22,21 +20,18 @@ fn push_findings(
     out: &mut Output,
     facts: &Facts,
     instance: &Instance,
-    reader: &mut Reader,
     end: &End,
 ) -> Result<(), AllocError>
     requires facts { AreFactsOf facts.now instance.now }
-    requires end { IsAtEnd instance.now end.now.cursors end.now.stuck }
-    requires belongs { Belongs instance.now.stacks reader.old }
-    ensures text { OnOk result
+    requires end { IsAtEnd instance.now end.now.cursors end.now.stuck end.now.values }
+    ensures { OnOk result
         (out.new ≡ out.old ++ findings facts.now instance.now end.now.cursors end.now.stuck) }
-    ensures reader { reader.new ≡ reader.old }
 {
     // Read for its contract, which says that the units, and so all names, fit their type.
     let _units = instance.units();
     if end.stuck.len() == 0 {
         out.push(b"s SAMPLE\n")?;
-        push_sample(alloc, out, facts, instance, reader, &end.cursors)
+        push_sample(alloc, out, facts, instance, end)
     } else {
         out.push(b"s EXHAUSTED\n")?;
         push_stuck(out, facts, instance.family(), &end.stuck)
@@ -49,17 +44,14 @@ fn push_full(
     out: &mut Output,
     facts: &Facts,
     instance: &Instance,
-    reader: &mut Reader,
     end: &End,
 ) -> Result<(), AllocError>
     requires facts { AreFactsOf facts.now instance.now }
-    requires end { IsAtEnd instance.now end.now.cursors end.now.stuck }
-    requires belongs { Belongs instance.now.stacks reader.old }
-    ensures text { OnOk result (out.new ≡ out.old ++ full_text facts.now instance.now
+    requires end { IsAtEnd instance.now end.now.cursors end.now.stuck end.now.values }
+    ensures { OnOk result (out.new ≡ out.old ++ full_text facts.now instance.now
         end.now.cursors end.now.pops end.now.stuck) }
-    ensures reader { reader.new ≡ reader.old }
 {
-    push_findings(alloc, out, facts, instance, reader, end)?;
+    push_findings(alloc, out, facts, instance, end)?;
     push_used(out, &end.cursors, instance.stacks().count())?;
     push_line(out, b"pops ", end.pops)
 }
@@ -70,20 +62,17 @@ fn push_text(
     out: &mut Output,
     facts: &Facts,
     instance: &Instance,
-    reader: &mut Reader,
     end: &End,
 ) -> Result<(), AllocError>
     requires facts { AreFactsOf facts.now instance.now }
-    requires end { IsAtEnd instance.now end.now.cursors end.now.stuck }
-    requires belongs { Belongs instance.now.stacks reader.old }
-    ensures text { OnOk result (out.new ≡ out.old ++ end_text facts.now instance.now
+    requires end { IsAtEnd instance.now end.now.cursors end.now.stuck end.now.values }
+    ensures { OnOk result (out.new ≡ out.old ++ end_text facts.now instance.now
         end.now.cursors end.now.pops end.now.stuck) }
-    ensures reader { reader.new ≡ reader.old }
 {
     match facts {
-        Facts::Made(side) => push_summary(out, *side, instance, reader, end),
+        Facts::Made(side) => push_summary(out, *side, instance, end),
         Facts::Formula(_) | Facts::Orient(_) | Facts::Tree(_, _) => {
-            push_full(alloc, out, facts, instance, reader, end)
+            push_full(alloc, out, facts, instance, end)
         }
     }
 }
@@ -106,8 +95,8 @@ fn room_for(facts: &Facts, count: u32) -> usize {
 ///
 /// Of a made grid it is a summary: the status; `grid` and the side; where events occur, `stuck` and
 /// how many do; `used`, the sum of the cursors and the greatest of them; `pops` and their number;
-/// and where no event occurs, `sum` and the sum, over the vertices but the root, of the vertex times
-/// its slot, which counts from 1 here.
+/// and where no event occurs, `sum` and the sum, over the vertices but the root, of the vertex
+/// times its slot, which counts from 1 here.
 pub fn text(
     alloc: Global,
     facts: &Facts,
@@ -115,32 +104,12 @@ pub fn text(
     end: &End,
 ) -> Result<Vec<u8>, AllocError>
     requires facts { AreFactsOf facts.now instance.now }
-    requires end { IsAtEnd instance.now end.now.cursors end.now.stuck }
+    requires end { IsAtEnd instance.now end.now.cursors end.now.stuck end.now.values }
     ensures { IfOk result (λ bytes. bytes.items
         ≡ end_text facts.now instance.now end.now.cursors end.now.pops end.now.stuck) }
 {
-    let mut reader = Reader::new(instance.stacks());
-    text_by(alloc, facts, instance, &mut reader, end)
-}
-
-/// The text of `text`, by a reader of the instance's stacks: that of the run has mostly kept the
-/// values that are printed.
-pub fn text_by(
-    alloc: Global,
-    facts: &Facts,
-    instance: &Instance,
-    reader: &mut Reader,
-    end: &End,
-) -> Result<Vec<u8>, AllocError>
-    requires facts { AreFactsOf facts.now instance.now }
-    requires end { IsAtEnd instance.now end.now.cursors end.now.stuck }
-    requires belongs { Belongs instance.now.stacks reader.old }
-    ensures text { IfOk result (λ bytes. bytes.items
-        ≡ end_text facts.now instance.now end.now.cursors end.now.pops end.now.stuck) }
-    ensures reader { reader.new ≡ reader.old }
-{
     let count = instance.stacks().count();
     let mut out = Output::with_room(alloc, room_for(facts, count))?;
-    push_text(alloc, &mut out, facts, instance, reader, end)?;
+    push_text(alloc, &mut out, facts, instance, end)?;
     Ok(out.into_bytes())
 }

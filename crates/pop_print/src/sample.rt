@@ -1,46 +1,34 @@
 //! The sample, whatever the source.
-ghost use Rattle.std.specs.Prelude.{◌≡◌, ◌++◌, length, OnOk};
-ghost use Rattle.pop_model.specs.Stacks.{variables_of};
-ghost use Rattle.pop_model.specs.Popping.{AreWithin};
-ghost use Rattle.pop_stacks.specs.Readers.{Belongs};
-ghost use Rattle.pop_print.specs.Ends.{AreFactsOf};
+ghost use Rattle.std.specs.Prelude.{◌≡◌, ◌++◌, OnOk};
+ghost use Rattle.pop_print.specs.Ends.{AreFactsOf, IsAtEnd};
 ghost use Rattle.pop_print.specs.Output.{sample_lines};
 
 use crate::Facts;
 use crate::assignment::push_assignment;
 use crate::orientation::push_orientation;
 use crate::tree::push_tree;
-use graph_read::Graph;
-use pop_instance::{Cursors, Instance};
-use pop_stacks::Reader;
+use confluence_core::End;
+use pop_instance::Instance;
 use pop_text::Output;
 use std::alloc::{AllocError, Global};
 
-/// The lines of the sample.
+/// The lines of the sample. A made grid has none: it is told in short.
 pub fn push_sample(
     alloc: Global,
     out: &mut Output,
     facts: &Facts,
     instance: &Instance,
-    reader: &mut Reader,
-    cursors: &Cursors,
+    end: &End,
 ) -> Result<(), AllocError>
     requires facts { AreFactsOf facts.now instance.now }
-    requires count { length cursors.now ≡ variables_of instance.now.stacks }
-    requires within { AreWithin instance.now.stacks cursors.now }
-    requires belongs { Belongs instance.now.stacks reader.old }
-    ensures lines { OnOk result
-        (out.new ≡ out.old ++ sample_lines facts.now instance.now.stacks cursors.now) }
-    ensures reader { reader.new ≡ reader.old }
+    requires end { IsAtEnd instance.now end.now.cursors end.now.stuck end.now.values }
+    ensures { OnOk result (out.new ≡ out.old ++ sample_lines facts.now end.now.values) }
 {
-    let stacks = instance.stacks();
+    let _ = instance;
     match facts {
-        Facts::Formula(count) => push_assignment(out, stacks, reader, cursors, *count),
-        Facts::Orient(graph) => push_orientation(out, graph, stacks, reader, cursors),
-        Facts::Tree(graph, root) => push_tree(alloc, out, graph, *root, stacks, reader, cursors),
-        Facts::Made(side) => {
-            let grid = Graph::grid(alloc, *side)?;
-            push_tree(alloc, out, &grid, 1, stacks, reader, cursors)
-        }
+        Facts::Formula(count) => push_assignment(out, &end.values, *count),
+        Facts::Orient(graph) => push_orientation(out, graph, &end.values),
+        Facts::Tree(graph, root) => push_tree(alloc, out, graph, *root, &end.values),
+        Facts::Made(_) => Ok(()),
     }
 }

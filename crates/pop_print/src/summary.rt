@@ -1,9 +1,6 @@
 //! The summary of an end over a made grid.
-ghost use Rattle.std.specs.Prelude.{◌≡◌, ◌+◌, ◌*◌, ◌<◌, ◌++◌, ℕ, length, OnOk};
-ghost use Rattle.pop_model.specs.Stacks.{variables_of, domain_of};
-ghost use Rattle.pop_model.specs.Popping.{AreWithin};
+ghost use Rattle.std.specs.Prelude.{◌≡◌, ◌+◌, ◌*◌, ◌<◌, ◌++◌, ℕ, length, slice_index, OnOk};
 ghost use Rattle.pop_model.specs.Names.{vertex_of as vertex_named};
-ghost use Rattle.pop_stacks.specs.Readers.{Belongs};
 ghost use Rattle.graph_read.specs.Grids.{IsSide, grid_of};
 ghost use Rattle.graph_read.specs.Incidence.{edges_at};
 ghost use Rattle.pop_print.specs.Ends.{IsOfGrid, IsAtEnd};
@@ -14,28 +11,22 @@ use crate::counts::push_totals;
 use crate::line::push_line;
 use confluence_core::End;
 use graph_read::vertex_of;
-use pop_instance::{Cursors, Instance};
-use pop_stacks::{Reader, Stacks};
+use pop_instance::{Instance, Values};
 use pop_text::Output;
 use std::alloc::AllocError;
 
 // The sum, over the vertices but the root, which is vertex 1, of the vertex times its slot, from 1.
-fn slot_sum(side: u32, stacks: &Stacks, reader: &mut Reader, cursors: &Cursors) -> u64
+fn slot_sum(side: u32, values: &Values) -> u64
     requires side { IsSide side }
-    requires variables { variables_of stacks.now + 1 ≡ side * side }
-    requires count { length cursors.now ≡ variables_of stacks.now }
-    requires within { AreWithin stacks.now cursors.now }
-    requires belongs { Belongs stacks.now reader.old }
-    requires slots { (v : ℕ) → v < variables_of stacks.now
-        → domain_of stacks.now v ≡ length (edges_at (grid_of side) (vertex_named 1 v)) }
-    ensures sum { result ≡ slot_sum_of stacks.now cursors.now }
-    ensures reader { reader.new ≡ reader.old }
+    requires count { length values.now + 1 ≡ side * side }
+    requires slots { (v : ℕ) → v < length values.now
+        → slice_index values.now v < length (edges_at (grid_of side) (vertex_named 1 v)) }
+    ensures { result ≡ slot_sum_of values.now }
 {
     // There are so few vertices and edges that the sum is at most 2^46.
     let mut total = 0;
     for v in 0..side * side - 1 {
-        let x = reader.entry(stacks, v, cursors.get(v));
-        total += u64::from(vertex_of(1, v)) * (u64::from(x) + 1);
+        total += u64::from(vertex_of(1, v)) * (u64::from(values.get(v)) + 1);
     }
     total
 }
@@ -45,28 +36,25 @@ pub fn push_summary(
     out: &mut Output,
     side: u32,
     instance: &Instance,
-    reader: &mut Reader,
     end: &End,
 ) -> Result<(), AllocError>
     requires grid { IsOfGrid side instance.now }
-    requires belongs { Belongs instance.now.stacks reader.old }
-    requires end { IsAtEnd instance.now end.now.cursors end.now.stuck }
-    ensures text { OnOk result (out.new ≡ out.old ++ summary side instance.now.stacks
+    requires end { IsAtEnd instance.now end.now.cursors end.now.stuck end.now.values }
+    ensures { OnOk result (out.new ≡ out.old ++ summary side instance.now.stacks
         end.now.cursors end.now.pops end.now.stuck) }
-    ensures reader { reader.new ≡ reader.old }
 {
-    let stacks = instance.stacks();
+    let count = instance.stacks().count();
     if end.stuck.len() == 0 {
         out.push(b"s SAMPLE\n")?;
         push_line(out, b"grid ", u64::from(side))?;
-        push_totals(out, &end.cursors, stacks.count())?;
+        push_totals(out, &end.cursors, count)?;
         push_line(out, b"pops ", end.pops)?;
-        push_line(out, b"sum ", slot_sum(side, stacks, reader, &end.cursors))
+        push_line(out, b"sum ", slot_sum(side, &end.values))
     } else {
         out.push(b"s EXHAUSTED\n")?;
         push_line(out, b"grid ", u64::from(side))?;
         push_line(out, b"stuck ", end.stuck.len())?;
-        push_totals(out, &end.cursors, stacks.count())?;
+        push_totals(out, &end.cursors, count)?;
         push_line(out, b"pops ", end.pops)
     }
 }

@@ -1,63 +1,68 @@
 //! The sample of a rooted spanning tree: its vertices by their arrows.
-ghost use Rattle.std.specs.Prelude.{◌≡◌, ◌+◌, ◌<◌, ◌++◌, ℕ, length, OnOk};
-ghost use Rattle.pop_model.specs.Stacks.{variables_of, domain_of};
-ghost use Rattle.pop_model.specs.Popping.{AreWithin};
+ghost use Rattle.std.specs.Prelude.{◌≡◌, ◌+◌, ◌<◌, ◌++◌, ◌^◌, ℕ, length, slice_index, IfOk, OnOk};
 ghost use Rattle.pop_model.specs.Names.{vertex_of as vertex_named};
-ghost use Rattle.pop_stacks.specs.Readers.{Belongs};
-ghost use Rattle.graph_read.specs.Graphs.{IsVertex};
-ghost use Rattle.graph_read.specs.Incidence.{edges_at};
-ghost use Rattle.pop_print.specs.Output.{slot_line, tree_lines};
+ghost use Rattle.graph_read.specs.Graphs.{IsVertex, edge_at};
+ghost use Rattle.graph_read.specs.Incidence.{edges_at, other_end};
+ghost use Rattle.pop_print.specs.Output.{arrow_line, tree_lines};
+ghost use Rattle.pop_print.specs.Places.{ArePlaces};
 
 use crate::arrow::push_arrow;
-use graph_read::{Graph, Incidence, vertex_of};
-use pop_instance::Cursors;
-use pop_stacks::{Reader, Stacks};
+use graph_read::{Graph, edges_at_places, vertex_of};
+use pop_instance::Values;
 use pop_text::Output;
 use std::alloc::{AllocError, Global};
 
-// A vertex by the slot of its arrow, which stands for one of these edges.
-fn push_slot(
-    out: &mut Output,
-    graph: &Graph,
-    edges: &[u32],
-    vertex: u32,
-    x: u32,
-) -> Result<(), AllocError>
-    requires edges { edges.now ≡ edges_at graph.now vertex }
-    requires slot { x < length edges.now }
-    ensures { OnOk result (out.new ≡ out.old ++ slot_line graph.now vertex x) }
+// For each of so many vertices its slot, from 1; for the root 0.
+fn places_of(
+    alloc: Global,
+    vertices: u32,
+    root: u32,
+    values: &Values,
+) -> Result<Vec<u32>, AllocError>
+    requires root { IsVertex vertices root }
+    requires count { length values.now + 1 ≡ vertices }
+    requires few { vertices < 2 ^ 31 }
+    requires small { (v : ℕ) → v < length values.now → slice_index values.now v < 2 ^ 31 }
+    ensures { IfOk result (λ places. ArePlaces root values.now places.items) }
 {
+    let mut places = vec![in alloc; 0; vertices as usize]?;
+    for v in 0..vertices - 1 {
+        places[vertex_of(root, v) as usize - 1] = values.get(v) + 1;
+    }
+    Ok(places)
+}
+
+// A vertex by its arrow, which leads along an edge.
+fn push_along(out: &mut Output, graph: &Graph, vertex: u32, i: u32) -> Result<(), AllocError>
+    requires { i < length graph.now.edges }
+    ensures { OnOk result (out.new ≡ out.old
+        ++ arrow_line vertex (other_end (edge_at graph.now i) vertex) (i + 1)) }
+{
+    // Read for its contract, which says how many edges there are at most.
     let _edges = graph.edges();
-    let i = edges[x as usize];
     push_arrow(out, vertex, graph.edge(i).other_end(vertex), i + 1)
 }
 
-/// A line for each vertex but the root.
+/// A line for each vertex but the root, by the values of so many vertices. The edges of the slots
+/// are found in one pass over all edges.
 pub fn push_tree(
     alloc: Global,
     out: &mut Output,
     graph: &Graph,
     root: u32,
-    stacks: &Stacks,
-    reader: &mut Reader,
-    cursors: &Cursors,
+    values: &Values,
 ) -> Result<(), AllocError>
     requires root { IsVertex graph.now.vertices root }
-    requires variables { variables_of stacks.now + 1 ≡ graph.now.vertices }
-    requires count { length cursors.now ≡ variables_of stacks.now }
-    requires within { AreWithin stacks.now cursors.now }
-    requires belongs { Belongs stacks.now reader.old }
-    requires slots { (v : ℕ) → v < variables_of stacks.now
-        → domain_of stacks.now v ≡ length (edges_at graph.now (vertex_named root v)) }
-    ensures lines { OnOk result
-        (out.new ≡ out.old ++ tree_lines graph.now root stacks.now cursors.now) }
-    ensures reader { reader.new ≡ reader.old }
+    requires count { length values.now + 1 ≡ graph.now.vertices }
+    requires slots { (v : ℕ) → v < length values.now
+        → slice_index values.now v < length (edges_at graph.now (vertex_named root v)) }
+    ensures { OnOk result (out.new ≡ out.old ++ tree_lines graph.now root values.now) }
 {
-    let incidence = Incidence::of(alloc, graph)?;
-    for v in 0..stacks.count() {
-        let x = reader.entry(stacks, v, cursors.get(v));
+    let places = places_of(alloc, graph.vertices(), root, values)?;
+    let edges = edges_at_places(alloc, graph, places)?;
+    for v in 0..graph.vertices() - 1 {
         let vertex = vertex_of(root, v);
-        push_slot(out, graph, incidence.at(vertex), vertex, x)?;
+        push_along(out, graph, vertex, edges[vertex as usize - 1])?;
     }
     Ok(())
 }

@@ -1,7 +1,6 @@
 use Rattle.std.proofs.Common.{◌+◌, ◌++◌, ap, ◌∙◌, arith}
 use Rattle.std.specs.List.{enumerate_from}
 use Rattle.std.proofs.lemmas.List.FromFn.{length-enumerate_from}
-use Rattle.pop_model.specs.Stacks.{value_at}
 use Rattle.pop_print.specs.Output.{edge_line, oriented_line}
 use Rattle.pop_text.proofs.PrintedMembers.{member_more, all_members}
 use Rattle.pop_print.proofs.OutputLemmas.{numbered_at}
@@ -12,19 +11,14 @@ loop-i-preserved c =
     let edges = c.args.graph.now.edges in
     let i = c.loop-i.i in
     let size = length-enumerate_from 0 edges in
-    record {
-      belongs = rw c.entry-x.ensures.same c.loop-i.invariant.belongs;
-      text = member_more (edge_line c.args.stacks.now c.args.cursors.now) (enumerate_from 0 edges) i (i, c.edge.result)
-          c.args.out.now c.loop-i.out c.push_oriented.new.out (omega arith)
-          (numbered_at edges i c.edge.result (omega arith) c.edge.ensures.edge) c.loop-i.invariant.text
-          (c.in_ok-push_oriented.ensures
-          ∙ ap (λ x. c.loop-i.out ++ oriented_line c.edge.result (i + 1) x)
-          (c.entry-x.ensures.value ∙ ap (value_at c.args.stacks.now i) c.get.ensures));
-    }
+    member_more (edge_line c.args.values.now) (enumerate_from 0 edges) i (i, c.edge.result)
+    c.args.out.now c.loop-i.out c.push_oriented.new.out (omega arith)
+    (numbered_at edges i c.edge.result (omega arith) c.edge.ensures.edge) c.loop-i.invariant
+    (c.in_ok-push_oriented.ensures ∙ ap (λ x. c.loop-i.out ++ oriented_line c.edge.result (i + 1) x) c.get.ensures)
 
-pub returns-clause-lines : goal.returns-clause-lines
-returns-clause-lines c =
+pub returns : goal.returns
+returns c =
     let edges = c.args.graph.now.edges in
     let size = length-enumerate_from 0 edges in
-    all_members (edge_line c.args.stacks.now c.args.cursors.now) (enumerate_from 0 edges) c.loop-i.i c.args.out.now
-    c.loop-i.out (omega arith) c.loop-i.invariant.text
+    all_members (edge_line c.args.values.now) (enumerate_from 0 edges) c.loop-i.i c.args.out.now
+    c.loop-i.out (omega arith) c.loop-i.invariant

@@ -12,8 +12,8 @@ push_stuck-requires c =
     (stuck_named c.args.instance.now c.args.end.now.cursors c.args.end.now.stuck c.units-units.ensures.instance.units
     c.requires.end.stuck_list)
 
-pub returns-in_ok-push-2-clause-text : goal.returns-in_ok-push-2-clause-text
-returns-in_ok-push-2-clause-text c =
+pub returns-in_ok-push-2 : goal.returns-in_ok-push-2
+returns-in_ok-push-2 c =
     on_ok_weaker c.push_stuck.result
     (λ pushed. findings_some c.args.facts.now c.args.instance.now c.args.end.now.cursors c.args.end.now.stuck
     c.args.out.now c.push-else-len-eq0.new.self c.push_stuck.new.out (omega arith) c.in_ok-push-2.ensures

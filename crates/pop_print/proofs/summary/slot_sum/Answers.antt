@@ -1,5 +1,4 @@
-use Rattle.std.proofs.Common.{◌+◌, ◌*◌, ◌<◌, ◌≤◌, ◌^◌, length, ap, ◌∙◌, arith}
-use Rattle.pop_model.specs.Stacks.{value_at}
+use Rattle.std.proofs.Common.{◌+◌, ◌*◌, ◌<◌, ◌≤◌, ◌^◌, length, ◌∙◌, arith}
 use Rattle.pop_model.specs.Names.{vertex_of}
 use Rattle.graph_read.specs.Grids.{grid_of}
 use Rattle.graph_read.specs.Incidence.{edges_at}
@@ -13,7 +12,6 @@ small : (c : goal.After-from-in-loop-v) → c.loop-v.total + c.from.result * (c.
     ≤ 2 ^ 22 * degrees_below (grid_of c.args.side) (c.loop-v.v + 1)
 small c =
     let slots = c.requires.slots c.loop-v.v (omega arith) in
-    let within = c.entry-x.ensures.within in
     let slot : c.from-in-loop-v.result < length (edges_at (grid_of c.args.side) (vertex_of 1 c.loop-v.v)) = omega arith in
     sum_small (grid_of c.args.side) c.loop-v.v c.from.result c.from-in-loop-v.result c.loop-v.total
     (grid_is_graph c.args.side c.requires.side).vertices_fit (omega arith) (c.from.ensures ∙ c.vertex_of.ensures) slot
@@ -30,15 +28,12 @@ overflow_add-total-in-loop-v c =
 pub loop-v-preserved : goal.loop-v-preserved
 loop-v-preserved c =
     record {
-      belongs = rw c.entry-x.ensures.same c.loop-v.invariant.belongs;
-      is = terms_more c.args.stacks.now c.args.cursors.now c.loop-v.v c.from.result c.from-in-loop-v.result
+      is = terms_more c.args.values.now c.loop-v.v c.from.result c.from-in-loop-v.result
           c.loop-v.total (omega arith) (c.from.ensures ∙ c.vertex_of.ensures)
-          (c.from-in-loop-v.ensures ∙ c.entry-x.ensures.value
-          ∙ ap (value_at c.args.stacks.now c.loop-v.v) c.get.ensures)
-          c.loop-v.invariant.is;
+          (c.from-in-loop-v.ensures ∙ c.get.ensures) c.loop-v.invariant.is;
       small = small c;
     }
 
-pub returns-clause-sum : goal.returns-clause-sum
-returns-clause-sum c =
-    terms_all c.args.stacks.now c.args.cursors.now c.loop-v.v c.loop-v.total (omega arith) c.loop-v.invariant.is
+pub returns : goal.returns
+returns c =
+    terms_all c.args.values.now c.loop-v.v c.loop-v.total (omega arith) c.loop-v.invariant.is
