@@ -1,0 +1,5 @@
+pub mod Arrows
+pub mod Assignments
+pub mod Orientations
+pub mod Stuck
+pub mod Laws

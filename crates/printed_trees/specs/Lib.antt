@@ -1,0 +1,4 @@
+pub mod Trees
+pub mod ArrowCycles
+pub mod Made
+pub mod Laws
