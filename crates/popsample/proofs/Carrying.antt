@@ -1,21 +1,69 @@
--- An answer to a part of the question is the answer to the whole.
-use Rattle.std.proofs.Common.{Result, Ok, Err, IfOk}
+-- An answer to a part of the question, or a refusal of it, is one of the whole.
+use Rattle.std.proofs.Common.{◌≡◌, ℕ, List, Result, Ok, Err, IfOk, ap, subst, sym, ◌∙◌}
+use Rattle.std.specs.Result.{IsErrAnd}
+use Rattle.std.proofs.lemmas.Result.{err_from_is_err_and}
 use Rattle.popsample.specs.declared.answer.Answer.{Answer}
-use Rattle.popsample.specs.Outcomes.{Outcome, Tells, AnswersBy}
+use Rattle.popsample.specs.declared.stop.Stop.TheVariants.{ReadFault, OutOfMemory}
+use Rattle.popsample.specs.declared.refusal.Refusal.{Refusal}
+use Rattle.popsample.specs.declared.refusal.Refusal.TheVariants.{Usage, Malformed, Count, EmptyClause, Limit, Isolated, NoRoot, CutOff, RowCount, EmptyRow, ValueTooLarge, WeightSum, Clashes, Stopped}
+use Rattle.pop_edge.specs.declared.refusal.ReadRefusal.TheVariants.{Malformed as MalformedLine, Count as WrongCount, EmptyClause as NoLiteral, Limit as PassedLimit}
+use Rattle.popsample.specs.Outcomes.{Outcome, AnswersBy}
+use Rattle.popsample.specs.Outcomes.Outcome.{Usage as UsageOf, Unread, Isolated as IsolatedAt, NoRoot as NoRootAt, CutOff as CutOffAt, Unsound, Clashes as ClashesOf}
+use Rattle.popsample.specs.Results.{TellsFault, ComesRefused, IsResultOf}
 
--- an answer that tells an outcome which comes so
-pub told : {E : Type 0} (Comes : Outcome → Type 0) (o : Outcome) (r : Result Answer E) → Comes o
-    → IfOk r (λ a. Tells o a.status a.text.items) → IfOk r (λ a. AnswersBy Comes a.status a.text.items)
-told Comes o (Ok a) comes tells = (o, comes, tells)
-told Comes o (Err e) comes tells = tt
+-- a fault that comes in one way comes in another
+fault_carried : (Comes Goes : Outcome → Type 0) (r : Refusal) → ((o : Outcome) → Comes o → Goes o) → TellsFault Comes r
+    → TellsFault Goes r
+fault_carried Comes Goes r goes (facts, fault, is, comes) = (facts, fault, is, goes (Unsound facts fault) comes)
+
+-- a refusal that comes in one way comes in another
+pub refused : (Comes Goes : Outcome → Type 0) (r : Refusal) → ((o : Outcome) → Comes o → Goes o) → ComesRefused Comes r
+    → ComesRefused Goes r
+refused Comes Goes (Usage p) goes h = goes (UsageOf p) h
+refused Comes Goes (Malformed l c) goes h = goes (Unread (MalformedLine l c)) h
+refused Comes Goes (Count d f) goes h = goes (Unread (WrongCount d f)) h
+refused Comes Goes (EmptyClause n) goes h = goes (Unread (NoLiteral n)) h
+refused Comes Goes (Limit k l) goes h = goes (Unread (PassedLimit k l)) h
+refused Comes Goes (Isolated w) goes h = goes (IsolatedAt w) h
+refused Comes Goes (NoRoot w) goes h = goes (NoRootAt w) h
+refused Comes Goes (CutOff w) goes h = goes (CutOffAt w) h
+refused Comes Goes (RowCount g w) goes h = fault_carried Comes Goes (RowCount g w) goes h
+refused Comes Goes (EmptyRow n) goes h = fault_carried Comes Goes (EmptyRow n) goes h
+refused Comes Goes (ValueTooLarge n k) goes h = fault_carried Comes Goes (ValueTooLarge n k) goes h
+refused Comes Goes (WeightSum n) goes h = fault_carried Comes Goes (WeightSum n) goes h
+refused Comes Goes (Clashes i j) goes h = goes (ClashesOf i j) h
+refused Comes Goes (Stopped s) goes h = h
+
+-- an answer that tells what comes in one way tells what comes in another
+pub answered : (Comes Goes : Outcome → Type 0) (status : ℕ) (out : List ℕ) → ((o : Outcome) → Comes o → Goes o)
+    → AnswersBy Comes status out → AnswersBy Goes status out
+answered Comes Goes status out goes (o, comes, tells) = (o, goes o comes, tells)
 
 -- what comes in one way comes in another
-pub carried : {E : Type 0} (Comes Goes : Outcome → Type 0) (r : Result Answer E) → ((o : Outcome) → Comes o → Goes o)
-    → IfOk r (λ a. AnswersBy Comes a.status a.text.items) → IfOk r (λ a. AnswersBy Goes a.status a.text.items)
-carried Comes Goes (Ok a) goes (o, comes, tells) = (o, goes o comes, tells)
-carried Comes Goes (Err e) goes tells = tt
+pub carried : (Comes Goes : Outcome → Type 0) (r : Result Answer Refusal) → ((o : Outcome) → Comes o → Goes o)
+    → IsResultOf Comes r → IsResultOf Goes r
+carried Comes Goes (Ok a) goes comes = answered Comes Goes a.status a.text.items goes comes
+carried Comes Goes (Err r) goes comes = refused Comes Goes r goes comes
 
 -- what holds of each answer
 pub if_ok : {X E : Type 0} (P Q : X → Type 0) (r : Result X E) → ((x : X) → P x → Q x) → IfOk r P → IfOk r Q
 if_ok P Q (Ok x) f holds = f x holds
 if_ok P Q (Err e) f holds = tt
+
+-- an error that is passed on
+pub passed_on : {T E : Type 0} (r : Result T E) (e : E) → IsErrAnd r (λ x. x ≡ e) → r ≡ Err e
+passed_on r e h = let p = err_from_is_err_and r h in p.1 ∙ ap (λ x. Err x) p.2
+
+-- a refusal that is passed on is the result
+pub refused_result : (Comes : Outcome → Type 0) (r : Result Answer Refusal) (e : Refusal) → IsErrAnd r (λ x. x ≡ e)
+    → ComesRefused Comes e → IsResultOf Comes r
+refused_result Comes r e is comes = subst (IsResultOf Comes) (sym (passed_on r e is)) comes
+
+-- a source that isn't read doesn't fail
+pub unfailing : (Comes : Outcome → Type 0) (r : Result Answer Refusal) → IsResultOf Comes r
+    → r ≡ Err (Stopped ReadFault) → ⊥
+unfailing Comes (Ok a) comes is = absurd (cc)
+unfailing Comes (Err r) comes is =
+    let same : r ≡ Stopped ReadFault = cc in
+    let memory : ReadFault ≡ OutOfMemory = subst (ComesRefused Comes) same comes in
+    absurd (cc)

@@ -10,6 +10,7 @@ use Rattle.std.proofs.lemmas.List.Edits.{map_over_more}
 abbrev pub changed_front : {X : Type 0} → (X → X) → ℕ → List X → List X
 changed_front h i xs = map h (take i xs) ++ drop i xs
 
+-- before the first member none is changed
 pub changed_none : {X : Type 0} (h : X → X) (xs : List X) → xs ≡ changed_front h 0 xs
 changed_none h xs = refl
 
@@ -23,6 +24,7 @@ changed_more f h ws first i b new within size changed old =
     map-set f ws i new ∙ ap (set (map f ws) i) changed
     ∙ map_over_more h (map f first) (map f ws) i x below old (sym (get_or-map f ws i b x within))
 
+-- behind the last all are
 pub changed_all : {A X : Type 0} (f : A → X) (h : X → X) (ws first : List A) (i : ℕ) → length first ≤ i
     → map f ws ≡ changed_front h i (map f first) → map f ws ≡ map h (map f first)
 changed_all f h ws first i past old =

@@ -50,11 +50,12 @@ logged_stuck_list Check job ws text facts i log stuck w b h = absurd h.comes
 logged_stuck_list Make job ws text facts i log stuck w b h = absurd h.1
 
 -- a run with its log whose status is 0 has an empty stuck list
-none_stuck : (stuck : List Event) (w : Witness) → resampled_status stuck w ≡ 0 → end_status stuck ≡ 0
+pub none_stuck : (stuck : List Event) (w : Witness) → resampled_status stuck w ≡ 0 → end_status stuck ≡ 0
 none_stuck stuck Unasked is = is
 none_stuck stuck (Missing name entry c) is = absurd (omega arith)
 none_stuck stuck (Shown tree) is = is
 
+-- at the end of a run with status 0 no event occurs
 pub sample_finished : (words : List (List ℕ)) (ws : List Watcher) (text : List ℕ) (o : Outcome)
     → IsOutcome words ws text o
     → status_of o ≡ 0 → EndsFinished o

@@ -10,10 +10,12 @@ use Rattle.pop_watch.specs.Telling.{Watcher, first_report}
 abbrev first_if : ℕ → Watcher → List Watcher → Bool → Option (List ℕ)
 first_if kind w rest has = option_map (λ v. report_text v.0 v.1) (if has then Some w else find (λ v. v.0 == kind) rest)
 
+-- a first watcher of another kind is passed over
 first_other : (kind : ℕ) (w : Watcher) (rest : List Watcher) → (w.0 ≡ kind → ⊥)
     → first_report kind (w ∷ rest) ≡ first_report kind rest
 first_other kind w rest other = ap (first_if kind w rest) (ne_eqb w.0 kind other)
 
+-- and one of the kind reports
 first_this : (kind : ℕ) (w : Watcher) (rest : List Watcher) → w.0 ≡ kind
     → first_report kind (w ∷ rest) ≡ Some (report_text w.0 w.1)
 first_this kind w rest same = ap (first_if kind w rest) (eq-eqb w.0 kind same)

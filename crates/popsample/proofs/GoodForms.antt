@@ -1,30 +1,48 @@
--- What comes of sampling comes of a graph whose form is good: no vertex is isolated, or each is joined to the root.
-use Rattle.std.proofs.Common.{◌≡◌, ℕ, ◌≤◌, List, Result, IfOk, length, refl, subst}
+-- What comes of sampling, and of a graph whose form is good: no vertex is isolated, or each is joined to the root.
+use Rattle.std.proofs.Common.{◌≡◌, ℕ, ◌≤◌, List, length, refl, subst}
 use Rattle.pop_model.specs.Stacks.{Origin}
 use Rattle.pop_stacks.specs.declared.stack_fault.StackFault.{StackFault}
-use Rattle.pop_stacks.specs.Faults.{IsCause}
+use Rattle.pop_stacks.specs.Faults.{IsSound}
 use Rattle.graph_read.specs.Graphs.{GraphOf}
 use Rattle.graph_read.specs.Paths.{IsConnected}
-use Rattle.sink_popping.specs.Sinks.{IsIsolated}
+use Rattle.pop_model.specs.Popping.{Cube}
+use Rattle.pop_model.specs.Instances.{Instance}
+use Rattle.sink_popping.specs.Sinks.{AreSinksOf, IsIsolated, IsSinkFault}
+use Rattle.sink_popping.specs.declared.sink_fault.SinkFault.{SinkFault}
+use Rattle.sink_popping.specs.declared.sink_fault.SinkFault.TheVariants.{Isolated as IsolatedVertex, OutOfMemory as SinkMemory}
 use Rattle.cycle_popping.specs.Trees.{weights_of_tree}
 use Rattle.pop_print.specs.declared.facts.Facts.{Facts}
 use Rattle.pop_print.specs.declared.facts.Facts.TheVariants.{Orient as OrientFacts, Tree as TreeFacts}
-use Rattle.popsample.specs.declared.answer.Answer.{Answer}
-use Rattle.popsample.specs.Outcomes.{Outcome, Tells, AnswersBy}
+use Rattle.popsample.specs.Outcomes.{Outcome, AnswersBy}
 use Rattle.popsample.specs.Outcomes.Outcome.{Usage, Unread, Isolated, NoRoot, CutOff, Unsound, Clashes, Extremal, Ended, Resampled}
-use Rattle.popsample.specs.Sampling.{pair_weights, IsEndOf, ComesOfSampling}
+use Rattle.popsample.specs.Sampling.{pair_weights, instance_of, IsEndOf, IsFaultOf, ComesOfSampling}
 use Rattle.popsample.specs.Orientations.{EndsOrientation, ComesOfOrienting}
 use Rattle.popsample.specs.Trees.{tree_instance, ComesOfTree}
-use Rattle.popsample.proofs.Carrying.{told}
+use Rattle.popsample.specs.declared.refusal.Refusal.{Refusal}
+use Rattle.popsample.specs.declared.refusal.Refusal.TheVariants.{CutOff as CutOffAt, Stopped}
+use Rattle.popsample.specs.Results.{unoriented, ComesRefused, IsCutOffRefusal}
+use Rattle.popsample.proofs.Carrying.{answered}
 
--- a fault of stacks with these weights comes of sampling
-pub unsound : {E : Type 0} (facts : Facts) (origin : Origin) (weights given : List (List ℕ)) (Runs : Outcome → Type 0)
-    (fault : StackFault) (r : Result Answer E) → given ≡ weights → IsCause origin given fault
-    → IfOk r (λ a. Tells (Unsound facts fault) a.status a.text.items)
-    → IfOk r (λ a. AnswersBy (ComesOfSampling facts origin weights Runs) a.status a.text.items)
-unsound facts origin weights given Runs fault r same cause tells =
-    told (ComesOfSampling facts origin weights Runs) (Unsound facts fault) r
-    (refl, subst (λ w. IsCause origin w fault) same cause) tells
+-- a fault of the stacks comes of sampling
+pub of_fault : (facts : Facts) (origin : Origin) (weights : List (List ℕ)) (Runs : Outcome → Type 0) (o : Outcome)
+    → IsFaultOf facts origin weights o → ComesOfSampling facts origin weights Runs o
+of_fault facts origin weights Runs (Unsound t f) h = h
+of_fault facts origin weights Runs o h = absurd h
+
+-- with sound stacks what comes of the run comes of sampling; no run tells a fault
+pub of_sound : (facts : Facts) (origin : Origin) (weights : List (List ℕ)) (Runs : Outcome → Type 0)
+    → IsSound origin weights → ((t : Facts) (f : StackFault) → Runs (Unsound t f) → ⊥) → (o : Outcome) → Runs o
+    → ComesOfSampling facts origin weights Runs o
+of_sound facts origin weights Runs sound none (Usage p) h = (sound, h)
+of_sound facts origin weights Runs sound none (Unread r) h = (sound, h)
+of_sound facts origin weights Runs sound none (Isolated w) h = (sound, h)
+of_sound facts origin weights Runs sound none (NoRoot r) h = (sound, h)
+of_sound facts origin weights Runs sound none (CutOff w) h = (sound, h)
+of_sound facts origin weights Runs sound none (Clashes i j) h = (sound, h)
+of_sound facts origin weights Runs sound none (Extremal n) h = (sound, h)
+of_sound facts origin weights Runs sound none (Ended t i c n s) h = (sound, h)
+of_sound facts origin weights Runs sound none (Resampled t i l s w b) h = (sound, h)
+of_sound facts origin weights Runs sound none (Unsound t f) h = absurd (none t f h)
 
 -- where no vertex is isolated
 pub of_touched : (origin : Origin) (g : GraphOf) → ((w : ℕ) → IsIsolated g w → ⊥) → (o : Outcome)
@@ -56,3 +74,46 @@ of_connected origin root g last connected (Clashes i j) h = (last, connected, h)
 of_connected origin root g last connected (Extremal n) h = (last, connected, h)
 of_connected origin root g last connected (Ended t i c n s) h = (last, connected, h)
 of_connected origin root g last connected (Resampled t i l s w b) h = (last, connected, h)
+
+-- a vertex that is cut off refuses a graph of which a tree is asked
+pub cut_off_refused : (origin : Origin) (root : ℕ) (g : GraphOf) (r : Refusal) → root ≤ g.vertices
+    → IsCutOffRefusal g root r → ComesRefused (ComesOfTree origin root g) r
+cut_off_refused origin root g (CutOffAt w) last least = (last, least)
+cut_off_refused origin root g (Stopped stop) last memory = memory
+cut_off_refused origin root g r last none = absurd none
+
+-- an isolated vertex refuses a graph that is to be oriented
+pub sink_refused : (origin : Origin) (g : GraphOf) (fault : SinkFault) → IsSinkFault g fault
+    → ComesRefused (ComesOfOrienting origin g) (unoriented fault)
+sink_refused origin g (IsolatedVertex w) least = least
+sink_refused origin g SinkMemory least = refl
+
+-- no run of sinks, and no end, tells a fault
+pub sinks_no_fault : (origin : Origin) (g : GraphOf) (t : Facts) (f : StackFault)
+    → EndsOrientation origin g (Unsound t f) → ⊥
+sinks_no_fault origin g t f h = h.end
+
+-- the answer of the run of a graph's sinks
+pub orient_answers : (origin : Origin) (g : GraphOf) (n : ℕ) (events : List (ℕ × Cube)) (i : Instance) (status : ℕ)
+    (out : List ℕ) → ((w : ℕ) → IsIsolated g w → ⊥) → AreSinksOf g events → n ≡ length g.edges
+    → i ≡ instance_of origin n events → IsSound origin (pair_weights (length g.edges))
+    → AnswersBy (IsEndOf (OrientFacts g) i) status out → AnswersBy (ComesOfOrienting origin g) status out
+orient_answers origin g n events i status out touched of count same sound =
+    answered (IsEndOf (OrientFacts g) i) (ComesOfOrienting origin g) status out
+    (λ o end. of_touched origin g touched o
+    (of_sound (OrientFacts g) origin (pair_weights (length g.edges)) (EndsOrientation origin g) sound
+    (sinks_no_fault origin g) o (record {
+      events = events;
+      of_graph = of;
+      end = subst (λ k. IsEndOf (OrientFacts g) (instance_of origin k events) o) count
+          (subst (λ j. IsEndOf (OrientFacts g) j o) same end);
+    })))
+
+-- the answer of the run of arrows
+pub arrows_answer : (facts : Facts) (origin : Origin) (weights : List (List ℕ)) (i j : Instance) (status : ℕ)
+    (out : List ℕ) → IsSound origin weights → i ≡ j → AnswersBy (IsEndOf facts i) status out
+    → AnswersBy (ComesOfSampling facts origin weights (IsEndOf facts j)) status out
+arrows_answer facts origin weights i j status out sound same =
+    answered (IsEndOf facts i) (ComesOfSampling facts origin weights (IsEndOf facts j)) status out
+    (λ o end. of_sound facts origin weights (IsEndOf facts j) sound (λ t f h. h) o
+    (subst (λ k. IsEndOf facts k o) same end))

@@ -1,23 +1,52 @@
-mod Carrying
-mod ChangedFront
-mod FaultNames
-mod Finished
-mod FirstOfKind
-mod GoodForms
-mod HandedWatchers
-mod Leasts
-mod Lifting
+-- What is sampled. MadeInstances: the instances that are made are the definitions'. ListedEvents: the events of a
+-- formula and of sinks. SubjectFrames: the events and weights fit rows of any heights. FaultNames: a fault of stacks
+-- has a name.
 mod MadeInstances
-mod OneClash
+mod ListedEvents
+mod SubjectFrames
+mod FaultNames
+-- From what comes of a part to what comes of the whole: of a run, of sampling and of a good graph (FormulaRuns,
+-- GoodForms), of a text and of words (Carrying, Lifting, WordResults), and of a sink that holds the answer
+-- (HeldAnswers)
+mod FormulaRuns
+mod GoodForms
+mod Carrying
+mod Lifting
+mod WordResults
+mod HeldAnswers
+-- What is told: refusals, runs with or without their log, witnesses
+mod ToldRefusals
+mod ToldRuns
+mod WitnessResults
+-- Watchers. ChangedFront: each member of a list is changed in turn. ToldLog: all are told a log. FirstOfKind: the one
+-- that is asked for its report.
+mod ChangedFront
+mod ToldLog
+mod FirstOfKind
+-- One answer. Leasts: least numbers are one. OneReading: one refusal, formula or graph of a text. OneFault,
+-- OneSampling: one fault of stacks, or one end. OneClash, OneFormula, OneOrientation, OneTree: one outcome of each
+-- command. OneResampling, OneLog: two runs, and one answer for each log. OneOutcome: all of these.
+mod Leasts
+mod OneReading
 mod OneFault
+mod OneSampling
+mod OneClash
 mod OneFormula
 mod OneOrientation
-mod OneOutcome
-mod OneReading
-mod OneResampling
-mod OneSampling
 mod OneTree
-mod ResampledEnds
+mod OneResampling
+mod OneLog
+mod OneOutcome
+-- Statuses. Statuses: which a text is answered by. Finished: with 0 no event occurs. ShownSamples: with 0 and 1 an
+-- end is shown. Completeness: one of these where nothing stands against words and text. WorkersAgree: for any number
+-- of workers.
 mod Statuses
-mod ToldLog
-mod WitnessLemmas
+mod Finished
+mod ShownSamples
+mod Completeness
+mod WorkersAgree
+-- The exact law of answers. EndedSubjects: a run's end that is told. ExactAnswers: another sample is answered in the
+-- place of the printed one. EverySample: what satisfies a formula, leaves no sink or leads to the root is a sample.
+mod EndedSubjects
+mod ExactAnswers
+mod EverySample

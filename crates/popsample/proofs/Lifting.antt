@@ -1,6 +1,8 @@
 -- From what comes of a formula or a graph to what comes of its text, and from there to what comes of the words.
-use Rattle.std.proofs.Common.{inl, inr, ◌≡◌, ◌⊎◌, ℕ, List, Option, Some, Ok, Err, sym, ap, subst, ◌∙◌}
+use Rattle.std.proofs.Common.{inl, inr, ◌≡◌, ◌⊎◌, ℕ, true, false, List, Option, Some, Result, Ok, refl, sym, ap, subst, ◌∙◌}
+use Rattle.pop_model.specs.Stacks.{Origin}
 use Rattle.pop_edge.specs.declared.refusal.ReadRefusal.{ReadRefusal}
+use Rattle.pop_edge.specs.declared.refusal.ReadRefusal.TheVariants.{Malformed as MalformedLine, Count as WrongCount, EmptyClause as NoLiteral, Limit as PassedLimit}
 use Rattle.dimacs_read.specs.Cnf.{Cnf}
 use Rattle.dimacs_read.specs.CnfText.{AnswersCnf}
 use Rattle.graph_read.specs.Graphs.{GraphOf}
@@ -8,17 +10,27 @@ use Rattle.graph_read.specs.GraphText.{AnswersGraph}
 use Rattle.pop_words.specs.declared.command.Command.{Command}
 use Rattle.pop_words.specs.declared.command.Command.TheVariants.{Formula, Orient, Tree, Resample, Check, Make}
 use Rattle.pop_words.specs.declared.job.Job.{Job}
+use Rattle.pop_words.specs.Options.{command_row}
 use Rattle.pop_words.specs.CommandLines.{Asks}
-use Rattle.pop_words.proofs.LawLemmas.{same_job}
+use Rattle.pop_words.proofs.OneJob.{same_job}
 use Rattle.pop_watch.specs.Telling.{Watcher}
-use Rattle.popsample.specs.Outcomes.{Outcome, AnswersBy}
+use Rattle.pop_print.specs.declared.facts.Facts.TheVariants.{Formula as FormulaFacts}
+use Rattle.popsample.specs.declared.answer.Answer.{Answer}
+use Rattle.popsample.specs.declared.asked.Asked.{Asked}
+use Rattle.popsample.specs.declared.stop.Stop.TheVariants.{ReadFault, OutOfMemory}
+use Rattle.popsample.specs.declared.refusal.Refusal.{Refusal}
+use Rattle.popsample.specs.declared.refusal.Refusal.TheVariants.{Malformed, Count, EmptyClause, Limit, Stopped}
+use Rattle.popsample.specs.Outcomes.{Outcome}
 use Rattle.popsample.specs.Outcomes.Outcome.{Usage, Unread, Isolated, NoRoot, CutOff, Unsound, Clashes, Extremal, Ended, Resampled}
+use Rattle.popsample.specs.Results.{ComesRefused, IsResultOf, IsRefusalOf}
+use Rattle.popsample.specs.Sampling.{pair_weights, ComesOfSampling}
 use Rattle.popsample.specs.Formulas.{ComesOfFormula, ComesOfChecking}
-use Rattle.popsample.specs.Resamplings.{ComesOfResampling}
+use Rattle.popsample.specs.Resamplings.{RunsFormula, ComesOfResampling}
 use Rattle.popsample.specs.Orientations.{ComesOfOrienting}
 use Rattle.popsample.specs.Trees.{ComesOfTree}
 use Rattle.popsample.specs.Grids.{ComesOfGrid}
-use Rattle.popsample.specs.Answers.{ComesOfCnf, ComesOfGraph, origin_for, asked_by, ComesOfCommand, Refuses, ComesOf, IsOutcome, AskForGrid, IsInput, ReadsCnf, ReadsGraph}
+use Rattle.popsample.specs.Answers.{ComesOfCnf, ComesOfGraph, origin_for, asked_by, ComesOfCommand, Refuses, ComesOf, IsOutcome, AskForGrid, IsInput}
+use Rattle.popsample.proofs.Carrying.{carried}
 
 -- no command finds fault with the words
 no_usage : (command : Command) (job : Job) (ws : List Watcher) (text : List ℕ) (place : ℕ)
@@ -70,86 +82,102 @@ of_words words job ws text asks (Extremal n) comes = record { job = job; asks = 
 of_words words job ws text asks (Ended t i c n s) comes = record { job = job; asks = asks; comes = comes }
 of_words words job ws text asks (Resampled t i l s w b) comes = record { job = job; asks = asks; comes = comes }
 
--- a refusal of a formula text is one of the command that reads it
-pub refused_cnf : (command : Command) (text : List ℕ) (r : ReadRefusal) → ReadsCnf command → AnswersCnf text (Err r)
-    → Refuses command text r
-refused_cnf Formula text r reads h = h
-refused_cnf Orient text r reads h = absurd reads
-refused_cnf Tree text r reads h = absurd reads
-refused_cnf Resample text r reads h = h
-refused_cnf Check text r reads h = h
-refused_cnf Make text r reads h = absurd reads
-
--- a refusal of a graph text is one of the command that reads it
-pub refused_graph : (command : Command) (text : List ℕ) (r : ReadRefusal) → ReadsGraph command
-    → AnswersGraph text (Err r) → Refuses command text r
-refused_graph Formula text r reads h = absurd reads
-refused_graph Orient text r reads h = h
-refused_graph Tree text r reads h = h
-refused_graph Resample text r reads h = absurd reads
-refused_graph Check text r reads h = absurd reads
-refused_graph Make text r reads h = absurd reads
-
--- the answer to the formula that a text spells answers the text
-formula_answer : (job : Job) (ws : List Watcher) (text : List ℕ) (f : Cnf) (Comes : Cnf → Outcome → Type 0) (status : ℕ) (out : List ℕ)
-    → ((o : Outcome) → ComesOfCnf Comes text o
-    → ComesOfCommand job.command job ws text o)
-    → AnswersCnf text (Ok f) → AnswersBy (Comes f) status out → AnswersBy (ComesOf job ws text) status out
-formula_answer job ws text f Comes status out lifts spelled (o, comes, tells) =
-    (o, of_command job ws text o (lifts o (record { formula = f; spelled = spelled; comes = comes })), tells)
-
--- the answer to the graph that a text spells answers the text
-graph_answer : (job : Job) (ws : List Watcher) (text : List ℕ) (g : GraphOf) (Comes : GraphOf → Outcome → Type 0) (status : ℕ) (out : List ℕ)
-    → ((o : Outcome) → ComesOfGraph Comes text o
-    → ComesOfCommand job.command job ws text o)
-    → AnswersGraph text (Ok g) → AnswersBy (Comes g) status out → AnswersBy (ComesOf job ws text) status out
-graph_answer job ws text g Comes status out lifts spelled (o, comes, tells) =
-    (o, of_command job ws text o (lifts o (record { graph = g; spelled = spelled; comes = comes })), tells)
-
 -- what a command makes of a text is what the job's command makes
-by_command : (job : Job) (ws : List Watcher) (text : List ℕ) (command : Command) (o : Outcome) → job.command ≡ command
-    → ComesOfCommand command job ws text o
-    → ComesOfCommand job.command job ws text o
-by_command job ws text command o is h =
-    subst (λ k. ComesOfCommand k job ws text o) (sym is) h
+by_command : (job : Job) (ws : List Watcher) (text : List ℕ) (command : Command) → job.command ≡ command → (o : Outcome)
+    → ComesOfCommand command job ws text o → ComesOf job ws text o
+by_command job ws text command is o h =
+    of_command job ws text o (subst (λ k. ComesOfCommand k job ws text o) (sym is) h)
 
-pub lifted_formula : (job : Job) (ws : List Watcher) (text : List ℕ) (f : Cnf) (status : ℕ) (out : List ℕ) → job.command ≡ Formula
-    → AnswersCnf text (Ok f) → AnswersBy (ComesOfFormula (origin_for job) f) status out
-    → AnswersBy (ComesOf job ws text) status out
-lifted_formula job ws text f status out is spelled answers =
-    formula_answer job ws text f (ComesOfFormula (origin_for job)) status out
-    (λ o h. by_command job ws text Formula o is h) spelled answers
+-- the result of the formula that a text spells is that of the job and the text
+of_cnf : (job : Job) (ws : List Watcher) (text : List ℕ) (command : Command) (f : Cnf) (Comes : Cnf → Outcome → Type 0)
+    (r : Result Answer Refusal) → job.command ≡ command
+    → ((o : Outcome) → ComesOfCnf Comes text o → ComesOfCommand command job ws text o) → AnswersCnf text (Ok f)
+    → IsResultOf (Comes f) r → IsResultOf (ComesOf job ws text) r
+of_cnf job ws text command f Comes r is lifts spelled =
+    carried (Comes f) (ComesOf job ws text) r
+    (λ o h. by_command job ws text command is o (lifts o (record { formula = f; spelled = spelled; comes = h })))
 
-pub lifted_resample : (job : Job) (ws : List Watcher) (text : List ℕ) (f : Cnf) (status : ℕ) (out : List ℕ) → job.command ≡ Resample
-    → AnswersCnf text (Ok f) → AnswersBy (ComesOfResampling (origin_for job) (asked_by job) ws f) status out
-    → AnswersBy (ComesOf job ws text) status out
-lifted_resample job ws text f status out is spelled answers =
-    formula_answer job ws text f (ComesOfResampling (origin_for job) (asked_by job) ws) status out
-    (λ o h. by_command job ws text Resample o is h) spelled answers
+-- and that of the graph that it spells
+of_graph : (job : Job) (ws : List Watcher) (text : List ℕ) (command : Command) (g : GraphOf)
+    (Comes : GraphOf → Outcome → Type 0) (r : Result Answer Refusal) → job.command ≡ command
+    → ((o : Outcome) → ComesOfGraph Comes text o → ComesOfCommand command job ws text o) → AnswersGraph text (Ok g)
+    → IsResultOf (Comes g) r → IsResultOf (ComesOf job ws text) r
+of_graph job ws text command g Comes r is lifts spelled =
+    carried (Comes g) (ComesOf job ws text) r
+    (λ o h. by_command job ws text command is o (lifts o (record { graph = g; spelled = spelled; comes = h })))
 
-pub lifted_check : (job : Job) (ws : List Watcher) (text : List ℕ) (f : Cnf) (status : ℕ) (out : List ℕ) → job.command ≡ Check
-    → AnswersCnf text (Ok f) → AnswersBy (ComesOfChecking f) status out → AnswersBy (ComesOf job ws text) status out
-lifted_check job ws text f status out is spelled answers =
-    formula_answer job ws text f ComesOfChecking status out (λ o h. by_command job ws text Check o is h) spelled answers
+-- The results of the commands, with the origin and what is asked for as the job has them.
+pub lifted_formula : (job : Job) (ws : List Watcher) (text : List ℕ) (f : Cnf) (origin : Origin) (asked : Asked)
+    (r : Result Answer Refusal) → job.command ≡ Formula → origin ≡ origin_for job → AnswersCnf text (Ok f)
+    → IsResultOf (ComesOfSampling (FormulaFacts f.variables) origin (pair_weights f.variables)
+    (RunsFormula false origin asked ws f)) r → IsResultOf (ComesOf job ws text) r
+lifted_formula job ws text f origin asked r is from spelled comes =
+    of_cnf job ws text Formula f (ComesOfFormula (origin_for job)) r is (λ o h. h) spelled
+    (subst (λ s. IsResultOf (ComesOfFormula s f) r) from comes)
 
-pub lifted_orient : (job : Job) (ws : List Watcher) (text : List ℕ) (g : GraphOf) (status : ℕ) (out : List ℕ) → job.command ≡ Orient
-    → AnswersGraph text (Ok g) → AnswersBy (ComesOfOrienting (origin_for job) g) status out
-    → AnswersBy (ComesOf job ws text) status out
-lifted_orient job ws text g status out is spelled answers =
-    graph_answer job ws text g (ComesOfOrienting (origin_for job)) status out
-    (λ o h. by_command job ws text Orient o is h) spelled answers
+-- of a formula that is resampled
+pub lifted_resample : (job : Job) (ws : List Watcher) (text : List ℕ) (f : Cnf) (origin : Origin) (asked : Asked)
+    (r : Result Answer Refusal) → job.command ≡ Resample → origin ≡ origin_for job → asked ≡ asked_by job
+    → AnswersCnf text (Ok f)
+    → IsResultOf (ComesOfSampling (FormulaFacts f.variables) origin (pair_weights f.variables)
+    (RunsFormula true origin asked ws f)) r → IsResultOf (ComesOf job ws text) r
+lifted_resample job ws text f origin asked r is from asked_is spelled comes =
+    of_cnf job ws text Resample f (ComesOfResampling (origin_for job) (asked_by job) ws) r is (λ o h. h) spelled
+    (subst (λ s. IsResultOf (ComesOfResampling s (asked_by job) ws f) r) from
+    (subst (λ a. IsResultOf (ComesOfResampling origin a ws f) r) asked_is comes))
 
-pub lifted_tree : (job : Job) (ws : List Watcher) (text : List ℕ) (g : GraphOf) (status : ℕ) (out : List ℕ) → job.command ≡ Tree
-    → AnswersGraph text (Ok g) → AnswersBy (ComesOfTree (origin_for job) job.root g) status out
-    → AnswersBy (ComesOf job ws text) status out
-lifted_tree job ws text g status out is spelled answers =
-    graph_answer job ws text g (ComesOfTree (origin_for job) job.root) status out
-    (λ o h. by_command job ws text Tree o is h) spelled answers
+-- of one that is checked
+pub lifted_check : (job : Job) (ws : List Watcher) (text : List ℕ) (f : Cnf) (r : Result Answer Refusal)
+    → job.command ≡ Check → AnswersCnf text (Ok f) → IsResultOf (ComesOfChecking f) r
+    → IsResultOf (ComesOf job ws text) r
+lifted_check job ws text f r is spelled comes =
+    of_cnf job ws text Check f ComesOfChecking r is (λ o h. h) spelled comes
 
-pub lifted_grid : (job : Job) (ws : List Watcher) (text : List ℕ) (status : ℕ) (out : List ℕ) → job.command ≡ Make
-    → AnswersBy (ComesOfGrid (origin_for job) job.size) status out → AnswersBy (ComesOf job ws text) status out
-lifted_grid job ws text status out is (o, comes, tells) =
-    (o, of_command job ws text o (by_command job ws text Make o is comes), tells)
+-- of a graph that is oriented
+pub lifted_orient : (job : Job) (ws : List Watcher) (text : List ℕ) (g : GraphOf) (origin : Origin)
+    (r : Result Answer Refusal) → job.command ≡ Orient → origin ≡ origin_for job → AnswersGraph text (Ok g)
+    → IsResultOf (ComesOfOrienting origin g) r → IsResultOf (ComesOf job ws text) r
+lifted_orient job ws text g origin r is from spelled comes =
+    of_graph job ws text Orient g (ComesOfOrienting (origin_for job)) r is (λ o h. h) spelled
+    (subst (λ s. IsResultOf (ComesOfOrienting s g) r) from comes)
+
+-- of one of which a tree is asked
+pub lifted_tree : (job : Job) (ws : List Watcher) (text : List ℕ) (g : GraphOf) (origin : Origin)
+    (r : Result Answer Refusal) → job.command ≡ Tree → origin ≡ origin_for job → AnswersGraph text (Ok g)
+    → IsResultOf (ComesOfTree origin job.root g) r → IsResultOf (ComesOf job ws text) r
+lifted_tree job ws text g origin r is from spelled comes =
+    of_graph job ws text Tree g (ComesOfTree (origin_for job) job.root) r is (λ o h. h) spelled
+    (subst (λ s. IsResultOf (ComesOfTree s job.root g) r) from comes)
+
+-- of a grid
+pub lifted_grid : (job : Job) (ws : List Watcher) (text : List ℕ) (origin : Origin) (r : Result Answer Refusal)
+    → job.command ≡ Make → origin ≡ origin_for job → IsResultOf (ComesOfGrid origin job.size) r
+    → IsResultOf (ComesOf job ws text) r
+lifted_grid job ws text origin r is from comes =
+    carried (ComesOfGrid (origin_for job) job.size) (ComesOf job ws text) r (by_command job ws text Make is)
+    (subst (λ s. IsResultOf (ComesOfGrid s job.size) r) from comes)
+
+-- a refusal of a text, which the grammar of a job's command refuses so, comes of the job and the text
+pub read_refused : (job : Job) (ws : List Watcher) (text : List ℕ) (Refused : ReadRefusal → Type 0) (r : Refusal)
+    → ((cause : ReadRefusal) → Refused cause → Refuses job.command text cause) → IsRefusalOf Refused r
+    → (r ≡ Stopped ReadFault → ⊥) → ComesRefused (ComesOf job ws text) r
+read_refused job ws text Refused (Malformed l c) refuses h read = (tt, refuses (MalformedLine l c) h)
+read_refused job ws text Refused (Count d f) refuses h read = (tt, refuses (WrongCount d f) h)
+read_refused job ws text Refused (EmptyClause n) refuses h read = (tt, refuses (NoLiteral n) h)
+read_refused job ws text Refused (Limit k l) refuses h read = (tt, refuses (PassedLimit k l) h)
+read_refused job ws text Refused (Stopped ReadFault) refuses h read = absurd (read refl)
+read_refused job ws text Refused (Stopped OutOfMemory) refuses h read = refl
+read_refused job ws text Refused r refuses h read = absurd h
+
+-- a refusal by the grammar of a command is one by that of a job whose command it is
+pub refuses_as : (job : Job) (command : Command) (text : List ℕ) → job.command ≡ command → (cause : ReadRefusal)
+    → Refuses command text cause → Refuses job.command text cause
+refuses_as job command text is cause h = subst (λ k. Refuses k text cause) (sym is) h
+
+-- whether the log is told goes by the command
+pub log_told_by : (job : Job) (asked : Asked) (command : Command) → asked ≡ asked_by job → job.command ≡ command
+    → asked.log ≡ (command_row command).log
+log_told_by job asked command asked_is is = ap (λ (a : Asked). a.log) asked_is ∙ ap (λ c. (command_row c).log) is
 
 -- The input of words that ask for a job is what the source has left, or the job is that of a grid.
 pub input_of_job : (words : List (List ℕ)) (job : Job) (left : Option (List ℕ)) (text : List ℕ) → Asks words job

@@ -26,7 +26,7 @@ pub count_of_weights : (g : GraphOf) (root : ℕ) → length (weights_of_tree g 
 count_of_weights g root = length-map-range_with_len (weights_at g root) 0 (g.vertices - 1)
 
 -- a variable has a weight for each edge at its vertex
-slots_of_weights : (g : GraphOf) (root v : ℕ) → v < g.vertices - 1
+pub slots_of_weights : (g : GraphOf) (root v : ℕ) → v < g.vertices - 1
     → length (get_or (weights_of_tree g root) v []) ≡ length (edges_at g (vertex_of root v))
 slots_of_weights g root v below =
     ap length (get_or-map-range_with_len (weights_at g root) 0 (g.vertices - 1) v v [] below (zero-add v))
@@ -54,7 +54,7 @@ tree_told origin g root root_is =
     }
 
 -- each variable has a slot for each of its weights
-tree_fits : (s : StackTable) (g : GraphOf) (root : ℕ) → s.weights ≡ weights_of_tree g root
+pub tree_fits : (s : StackTable) (g : GraphOf) (root : ℕ) → s.weights ≡ weights_of_tree g root
     → FamilyFits s (Cycles (heads_of_tree g root))
 tree_fits s g root same =
     let heads = length-map-range_with_len (heads_at g root) 0 (g.vertices - 1) in

@@ -7,6 +7,7 @@ use Rattle.pop_model.specs.Families.Family.{Listed}
 use Rattle.pop_model.specs.Extremal.{IsExtremal}
 use Rattle.extremal_check.specs.Clashes.{AreClashing}
 
+-- an event, by its unit and its cube
 event_at : ℕ → Cube → Event
 event_at unit e = record { unit = unit; cube = e }
 

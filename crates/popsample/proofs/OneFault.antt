@@ -37,12 +37,13 @@ sound_has_none (Given rows) weights (ValueTooLarge v k) sound cause =
     no_large rows weights v k sound.rows.values cause.2
 sound_has_none (Given rows) weights (WeightSum v) sound cause = no_heavy weights v sound.light cause.1
 sound_has_none (Given rows) weights OutOfMemory sound cause = cause
-sound_has_none (Keyed key height) weights (RowCount g w) sound cause = cause
-sound_has_none (Keyed key height) weights (EmptyRow v) sound cause = cause
-sound_has_none (Keyed key height) weights (ValueTooLarge v k) sound cause = cause
-sound_has_none (Keyed key height) weights (WeightSum v) sound cause = no_heavy weights v sound.light cause.1
-sound_has_none (Keyed key height) weights OutOfMemory sound cause = cause
+sound_has_none (Keyed key sample height) weights (RowCount g w) sound cause = cause
+sound_has_none (Keyed key sample height) weights (EmptyRow v) sound cause = cause
+sound_has_none (Keyed key sample height) weights (ValueTooLarge v k) sound cause = cause
+sound_has_none (Keyed key sample height) weights (WeightSum v) sound cause = no_heavy weights v sound.light cause.1
+sound_has_none (Keyed key sample height) weights OutOfMemory sound cause = cause
 
+-- given rows have one first fault
 one_given : (rows weights : List (List ℕ)) (a b : StackFault) → IsCause (Given rows) weights a
     → IsCause (Given rows) weights b → a ≡ b
 one_given rows weights (RowCount g w) (RowCount g' w') h h' = ap₂ RowCount (h.0 ∙ sym h'.0) (h.1 ∙ sym h'.1)
@@ -74,15 +75,16 @@ one_given rows weights (WeightSum v) (WeightSum v') h h' = ap WeightSum (one_lea
 one_given rows weights (WeightSum v) OutOfMemory h h' = absurd h'
 one_given rows weights OutOfMemory b h h' = absurd h
 
-one_keyed : (key : List ℕ) (height : ℕ) (weights : List (List ℕ)) (a b : StackFault)
-    → IsCause (Keyed key height) weights a → IsCause (Keyed key height) weights b → a ≡ b
-one_keyed key height weights (WeightSum v) (WeightSum v') h h' =
+-- and so has what comes of a key
+one_keyed : (key : List ℕ) (sample height : ℕ) (weights : List (List ℕ)) (a b : StackFault)
+    → IsCause (Keyed key sample height) weights a → IsCause (Keyed key sample height) weights b → a ≡ b
+one_keyed key sample height weights (WeightSum v) (WeightSum v') h h' =
     ap WeightSum (one_least (IsTooHeavy weights) v v' h.1 h'.1)
-one_keyed key height weights (WeightSum v) b h h' = absurd h'
-one_keyed key height weights a b h h' = absurd h
+one_keyed key sample height weights (WeightSum v) b h h' = absurd h'
+one_keyed key sample height weights a b h h' = absurd h
 
 -- stacks have one first fault
 pub one_cause : (origin : Origin) (weights : List (List ℕ)) (a b : StackFault)
     → IsCause origin weights a → IsCause origin weights b → a ≡ b
 one_cause (Given rows) weights a b h h' = one_given rows weights a b h h'
-one_cause (Keyed key height) weights a b h h' = one_keyed key height weights a b h h'
+one_cause (Keyed key sample height) weights a b h h' = one_keyed key sample height weights a b h h'

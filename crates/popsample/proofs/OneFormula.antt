@@ -63,6 +63,7 @@ running_cases origin f (Extremal n) h = inr h
 running_cases origin f (Ended t i c n s) h = inr h
 running_cases origin f (Resampled t i l s w b) h = inr h
 
+-- a formula that runs has one outcome
 one_running : (origin : Origin) (f : Cnf) → IsOne (ComesOfRunning origin f)
 one_running origin f o p h h' = elim (running_cases origin f o h) [
   | inl (i, j, o_is, at) ↦ elim (running_cases origin f p h') [

@@ -12,7 +12,7 @@ use Rattle.pop_words.specs.declared.command.Command.TheVariants.{Formula, Orient
 use Rattle.pop_words.specs.declared.job.Job.{Job}
 use Rattle.pop_words.specs.CommandLines.{AreWords, IsBadPlace}
 use Rattle.pop_watch.specs.Telling.{Watcher}
-use Rattle.pop_words.proofs.LawLemmas.{same_job, same_first_bad}
+use Rattle.pop_words.proofs.OneJob.{same_job, same_first_bad}
 use Rattle.pop_print.specs.declared.facts.Facts.{Facts}
 use Rattle.popsample.specs.Outcomes.{Outcome}
 use Rattle.popsample.specs.Outcomes.Outcome.{Usage, Unread, Isolated, NoRoot, CutOff, Unsound, Clashes, Extremal, Ended, Resampled}
@@ -77,11 +77,11 @@ unrefused Check job ws text o r h of refuses = no_cnf_refusal text h.formula r h
 unrefused Make job ws text o r h of refuses = refuses
 
 -- what comes of a job's command and a text
-abbrev Done : Job → List Watcher → List ℕ → Outcome → Type 0
+abbrev pub Done : Job → List Watcher → List ℕ → Outcome → Type 0
 Done job ws text o = ComesOfCommand job.command job ws text o
 
 -- what comes of a job and a text is a refusal of the text, or comes of what it spells
-read_cases : (job : Job) (ws : List Watcher) (text : List ℕ) (o : Outcome) → ComesOf job ws text o
+pub read_cases : (job : Job) (ws : List Watcher) (text : List ℕ) (o : Outcome) → ComesOf job ws text o
     → ((r : ReadRefusal) × (o ≡ Unread r) × IsOfText r × Refuses job.command text r) ⊎ Done job ws text o
 read_cases job ws text (Usage place) h = absurd h
 read_cases job ws text (Unread r) h = inl (r, refl, h.0, h.1)
@@ -111,7 +111,7 @@ alike_read job ws vs text o p h h' =
     ]
 
 -- what comes of words and a text is their first bad word, or comes of their job
-word_cases : (words : List (List ℕ)) (ws : List Watcher) (text : List ℕ) (o : Outcome) → IsOutcome words ws text o
+pub word_cases : (words : List (List ℕ)) (ws : List Watcher) (text : List ℕ) (o : Outcome) → IsOutcome words ws text o
     → ((place : ℕ) × (o ≡ Usage place) × IsBadPlace words place) ⊎ ComesOfJob words ws text o
 word_cases words ws text (Usage place) h = inl (place, refl, h)
 word_cases words ws text (Unread r) h = inr h

@@ -21,6 +21,7 @@ cnf_cases text (Limit k l) of h = inl h
 cnf_cases text ReadFault of h = absurd of
 cnf_cases text OutOfMemory of h = absurd of
 
+-- a text of a formula is refused once
 one_cnf_refusal : (text : List ℕ) (a b : ReadRefusal) → IsOfText a → IsOfText b → AnswersCnf text (Err a)
     → AnswersCnf text (Err b) → a ≡ b
 one_cnf_refusal text a b of of' h h' = elim (cnf_cases text a of h) [
@@ -55,6 +56,7 @@ graph_refused text (Limit k l) of h = h
 graph_refused text ReadFault of h = absurd of
 graph_refused text OutOfMemory of h = absurd of
 
+-- a text of a graph is refused once
 one_graph_refusal : (text : List ℕ) (a b : ReadRefusal) → IsOfText a → IsOfText b → AnswersGraph text (Err a)
     → AnswersGraph text (Err b) → a ≡ b
 one_graph_refusal text a b of of' h h' =

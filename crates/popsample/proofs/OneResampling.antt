@@ -1,5 +1,5 @@
 -- Two outcomes of a formula that is resampled are the same fault of stacks, or two runs of the formula's events.
-use Rattle.std.proofs.Common.{inl, inr, ℕ, List, sym, subst, ◌∙◌}
+use Rattle.std.proofs.Common.{inl, inr, List, sym, subst, ◌∙◌}
 use Rattle.pop_model.specs.Stacks.{Origin}
 use Rattle.pop_model.specs.Instances.{Instance}
 use Rattle.dimacs_read.specs.Cnf.{Cnf}
@@ -37,6 +37,7 @@ two_endings origin asked ws vs f o p h h' =
     subst (λ rows. IsHistoryOf asked ws facts (instance_of origin f.variables rows) o) events h.history in
     inr (two_runs asked ws vs facts (instance_of origin f.variables h'.events) o p history h'.history)
 
+-- a formula that is resampled has one outcome, but for the order of pops
 pub one_resampling : (origin : Origin) (asked : Asked) (ws vs : List Watcher) (f : Cnf) (o p : Outcome)
     → ComesOfResampling origin asked ws f o → ComesOfResampling origin asked vs f p → Agree o p
 one_resampling origin asked ws vs f =

@@ -27,6 +27,7 @@ record IsEnded (facts : Facts) (i : Instance) (o : Outcome) : Type 0 where
   is : o ≡ Ended facts i cursors pops stuck
   end : IsFirstEnd i cursors pops stuck
 
+-- what comes of a run is an end
 ended : (facts : Facts) (i : Instance) (o : Outcome) → IsEndOf facts i o → IsEnded facts i o
 ended facts i (Usage p) h = absurd h
 ended facts i (Unread r) h = absurd h

@@ -30,6 +30,7 @@ data Ways (origin : Origin) (root : ℕ) (g : GraphOf) (o : Outcome) : Type 0 wh
   cut_off : (w : ℕ) → o ≡ CutOff w → root ≤ g.vertices → IsLeast (IsCutOff g root) w → Ways origin root g o
   sampled : Sampled origin root g o → Ways origin root g o
 
+-- what comes of a graph comes in one of these ways
 ways : (origin : Origin) (root : ℕ) (g : GraphOf) (o : Outcome) → ComesOfTree origin root g o → Ways origin root g o
 ways origin root g (Usage p) h = sampled h
 ways origin root g (Unread r) h = sampled h
@@ -42,6 +43,7 @@ ways origin root g (Extremal n) h = sampled h
 ways origin root g (Ended t i c n s) h = sampled h
 ways origin root g (Resampled t i l s w b) h = sampled h
 
+-- two outcomes come in one way, and are one
 one_way : (origin : Origin) (root : ℕ) (g : GraphOf) (o p : Outcome) → Ways origin root g o → Ways origin root g p → o ≡ p
 one_way origin root g o p (no_root o_is above) (no_root p_is above') = o_is ∙ sym p_is
 one_way origin root g o p (no_root o_is above) (cut_off w p_is below' least') = absurd (omega arith)

@@ -1,10 +1,9 @@
--- Which statuses a text is answered by: each up to 6 but that of bad words.
-use Rattle.std.proofs.Common.{◌≤◌, ◌<◌, ℕ, List, [], ◌∷◌, length, sym, subst, arith}
+-- Which statuses a text is answered by: each up to 6 but that of bad words. And no refusal is one of words.
+use Rattle.std.proofs.Common.{◌≤◌, ◌<◌, ℕ, Bool, true, false, List, [], ◌∷◌, length, Result, Ok, Err, sym, subst, arith}
 use Rattle.pop_model.specs.Stacks.{Origin}
 use Rattle.pop_model.specs.Stacks.Origin.{Given, Keyed}
 use Rattle.pop_model.specs.Families.{Event}
 use Rattle.pop_edge.specs.declared.refusal.ReadRefusal.{ReadRefusal}
-use Rattle.pop_edge.specs.declared.refusal.ReadRefusal.TheVariants.{Malformed, Count, EmptyClause, Limit, ReadFault, OutOfMemory}
 use Rattle.pop_stacks.specs.declared.stack_fault.StackFault.{StackFault}
 use Rattle.pop_stacks.specs.declared.stack_fault.StackFault.TheVariants.{RowCount, EmptyRow, ValueTooLarge, WeightSum, OutOfMemory as NoMemory}
 use Rattle.pop_stacks.specs.Faults.{IsCause}
@@ -15,31 +14,26 @@ use Rattle.graph_read.specs.Grids.{grid_of}
 use Rattle.cycle_popping.specs.Trees.{weights_of_tree}
 use Rattle.pop_watch.specs.Telling.{Watcher}
 use Rattle.popsample.specs.declared.asked.Asked.{Asked}
-use Rattle.popsample.specs.Refusals.{reading_status, stacks_status}
-use Rattle.popsample.specs.Outcomes.{Outcome, IsTextStatus, status_of, end_status, resampled_status, AnswersBy}
+use Rattle.popsample.specs.Refusals.{stacks_status}
+use Rattle.popsample.specs.Outcomes.{Outcome, IsTextStatus, status_of, end_status, resampled_status}
 use Rattle.popsample.specs.Outcomes.Outcome.{Usage, Unread, Isolated, NoRoot, CutOff, Unsound, Clashes, Extremal, Ended, Resampled}
 use Rattle.popsample.specs.Witnesses.{Witness}
 use Rattle.popsample.specs.Witnesses.Witness.{Unasked, Missing, Shown}
-use Rattle.popsample.specs.Sampling.{pair_weights}
-use Rattle.popsample.specs.Formulas.{ComesOfFormula, ComesOfChecking}
-use Rattle.popsample.specs.Resamplings.{ComesOfResampling}
+use Rattle.popsample.specs.declared.answer.Answer.{Answer}
+use Rattle.popsample.specs.declared.refusal.Refusal.{Refusal}
+use Rattle.popsample.specs.declared.refusal.Refusal.TheVariants.{Usage as BadWord}
+use Rattle.popsample.specs.Results.{IsResultOf, IsTextResult}
+use Rattle.popsample.specs.Sampling.{pair_weights, ComesOfSampling}
+use Rattle.popsample.specs.Formulas.{ComesOfChecking}
+use Rattle.popsample.specs.Resamplings.{RunsFormula}
 use Rattle.popsample.specs.Orientations.{ComesOfOrienting}
 use Rattle.popsample.specs.Trees.{ComesOfTree}
 use Rattle.popsample.specs.Grids.{ComesOfGrid}
-use Rattle.popsample.specs.Answers.{IsOfText}
 
+-- the status of an end is one of a text
 end_status_is : (stuck : List Event) → IsTextStatus (end_status stuck)
 end_status_is [] = record { low = omega arith; no_usage = λ h. absurd (omega arith) }
 end_status_is (e ∷ stuck) = record { low = omega arith; no_usage = λ h. absurd (omega arith) }
-
--- the status of a refusal of the text itself
-pub refusal_status : (refusal : ReadRefusal) → IsOfText refusal → IsTextStatus (reading_status refusal)
-refusal_status (Malformed l c) h = record { low = omega arith; no_usage = λ h'. absurd (omega arith) }
-refusal_status (Count d f) h = record { low = omega arith; no_usage = λ h'. absurd (omega arith) }
-refusal_status (EmptyClause n) h = record { low = omega arith; no_usage = λ h'. absurd (omega arith) }
-refusal_status (Limit k l) h = record { low = omega arith; no_usage = λ h'. absurd (omega arith) }
-refusal_status ReadFault h = absurd h
-refusal_status OutOfMemory h = absurd h
 
 -- the status of a fault of stacks
 fault_status : (origin : Origin) (weights : List (List ℕ)) (fault : StackFault) → IsCause origin weights fault
@@ -49,7 +43,7 @@ fault_status origin weights (EmptyRow v) h = record { low = omega arith; no_usag
 fault_status origin weights (ValueTooLarge v k) h = record { low = omega arith; no_usage = λ h'. absurd (omega arith) }
 fault_status origin weights (WeightSum v) h = record { low = omega arith; no_usage = λ h'. absurd (omega arith) }
 fault_status (Given rows) weights NoMemory h = absurd h
-fault_status (Keyed key height) weights NoMemory h = absurd h
+fault_status (Keyed key sample height) weights NoMemory h = absurd h
 
 -- a status above 2
 known_status : (n : ℕ) → 2 < n → n ≤ 6 → IsTextStatus n
@@ -80,76 +74,75 @@ told_status Comes told (Extremal n) h = record { low = omega arith; no_usage = �
 told_status Comes told (Ended t i c n s) h = end_status_is s
 told_status Comes told (Resampled t i l s w b) h = resampled_status_is s w
 
--- the status of an answer that tells what comes so
-answer_status : (Comes : Outcome → Type 0) → AreTold Comes → (status : ℕ) (out : List ℕ) → AnswersBy Comes status out
-    → IsTextStatus status
-answer_status Comes told status out (o, comes, tells) =
+-- an answer that tells what comes so, or a refusal that does, is one to a text
+text_result : (Comes : Outcome → Type 0) → AreTold Comes → (r : Result Answer Refusal) → IsResultOf Comes r
+    → IsTextResult r
+text_result Comes told (Ok a) (o, comes, tells) =
     subst IsTextStatus (sym tells.status_is) (told_status Comes told o comes)
+text_result Comes told (Err (BadWord place)) comes = told.no_usage place comes
+text_result Comes told (Err r) comes = tt
 
--- the status of an answer to a formula that is sampled
-pub formula_status : (origin : Origin) (f : Cnf) (status : ℕ) (out : List ℕ)
-    → AnswersBy (ComesOfFormula origin f) status out → IsTextStatus status
-formula_status origin f status out answers =
-    answer_status (ComesOfFormula origin f)
+-- the result of a formula that is sampled, by whether its events may clash
+pub formula_status : (facts : Facts) (origin : Origin) (asked : Asked) (ws : List Watcher) (f : Cnf) (clashing : Bool)
+    (r : Result Answer Refusal)
+    → IsResultOf (ComesOfSampling facts origin (pair_weights f.variables) (RunsFormula clashing origin asked ws f)) r
+    → IsTextResult r
+formula_status facts origin asked ws f false r comes =
+    text_result (ComesOfSampling facts origin (pair_weights f.variables) (RunsFormula false origin asked ws f))
     (record {
       no_usage = λ place h. h.1.end;
       no_refusal = λ refusal h. h.1.end;
       fault = λ facts fault h. fault_status origin (pair_weights f.variables) fault h.1;
     })
-    status out answers
-
--- the status of an answer to a formula that is resampled
-pub resampling_status : (origin : Origin) (asked : Asked) (ws : List Watcher) (f : Cnf) (status : ℕ) (out : List ℕ)
-    → AnswersBy (ComesOfResampling origin asked ws f) status out → IsTextStatus status
-resampling_status origin asked ws f status out answers =
-    answer_status (ComesOfResampling origin asked ws f)
+    r comes
+formula_status facts origin asked ws f true r comes =
+    text_result (ComesOfSampling facts origin (pair_weights f.variables) (RunsFormula true origin asked ws f))
     (record {
       no_usage = λ place h. h.1.history;
       no_refusal = λ refusal h. h.1.history;
       fault = λ facts fault h. fault_status origin (pair_weights f.variables) fault h.1;
     })
-    status out answers
+    r comes
 
--- the status of an answer to a formula that is checked
-pub checking_status : (f : Cnf) (status : ℕ) (out : List ℕ) → AnswersBy (ComesOfChecking f) status out
-    → IsTextStatus status
-checking_status f status out answers =
-    answer_status (ComesOfChecking f)
+-- of a formula that is checked
+pub checking_status : (f : Cnf) (r : Result Answer Refusal) → IsResultOf (ComesOfChecking f) r → IsTextResult r
+checking_status f r comes =
+    text_result (ComesOfChecking f)
     (record { no_usage = λ place h. h; no_refusal = λ refusal h. h; fault = λ facts fault h. absurd h })
-    status out answers
+    r comes
 
--- the status of an answer to a graph that is oriented
-pub orienting_status : (origin : Origin) (g : GraphOf) (status : ℕ) (out : List ℕ)
-    → AnswersBy (ComesOfOrienting origin g) status out → IsTextStatus status
-orienting_status origin g status out answers =
-    answer_status (ComesOfOrienting origin g)
+-- of a graph that is oriented
+pub orienting_status : (origin : Origin) (g : GraphOf) (r : Result Answer Refusal)
+    → IsResultOf (ComesOfOrienting origin g) r → IsTextResult r
+orienting_status origin g r comes =
+    text_result (ComesOfOrienting origin g)
     (record {
       no_usage = λ place h. h.1.1.end;
       no_refusal = λ refusal h. h.1.1.end;
       fault = λ facts fault h. fault_status origin (pair_weights (length g.edges)) fault h.1.1;
     })
-    status out answers
+    r comes
 
--- the status of an answer to a graph of which a tree is asked
-pub tree_status : (origin : Origin) (root : ℕ) (g : GraphOf) (status : ℕ) (out : List ℕ)
-    → AnswersBy (ComesOfTree origin root g) status out → IsTextStatus status
-tree_status origin root g status out answers =
-    answer_status (ComesOfTree origin root g)
+-- of a graph of which a tree is asked
+pub tree_status : (origin : Origin) (root : ℕ) (g : GraphOf) (r : Result Answer Refusal)
+    → IsResultOf (ComesOfTree origin root g) r → IsTextResult r
+tree_status origin root g r comes =
+    text_result (ComesOfTree origin root g)
     (record {
       no_usage = λ place h. h.2.1;
       no_refusal = λ refusal h. h.2.1;
       fault = λ facts fault h. fault_status origin (weights_of_tree g root) fault h.2.1;
     })
-    status out answers
+    r comes
 
--- the status of an answer to a grid of which a tree is asked
-pub grid_status : (origin : Origin) (side : ℕ) (status : ℕ) (out : List ℕ) → AnswersBy (ComesOfGrid origin side) status out
-    → IsTextStatus status
-grid_status origin side status out answers =
-    answer_status (ComesOfGrid origin side)
+-- of a grid of which a tree is asked
+pub grid_status : (origin : Origin) (side : ℕ) (r : Result Answer Refusal)
+    → IsResultOf (ComesOfGrid origin side) r → IsTextResult r
+grid_status origin side r comes =
+    text_result (ComesOfGrid origin side)
     (record {
       no_usage = λ place h. h.1;
       no_refusal = λ refusal h. h.1;
       fault = λ facts fault h. fault_status origin (weights_of_tree (grid_of side) 1) fault h.1;
     })
-    status out answers
+    r comes

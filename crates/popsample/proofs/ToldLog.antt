@@ -29,6 +29,7 @@ told_more f ws first new log t r at old told =
     told ∙ ap (tell_each r) old ∙ log_told-append r (take t log) (map f first)
     ∙ ap (λ l. log_told l (map f first)) (sym next)
 
+-- once they were told all records, they were told the log
 pub told_all : {A : Type 0} (f : A → Watcher) (ws first : List A) (log : List LogRecord) (t : ℕ) → length log ≤ t
     → map f ws ≡ log_told (take t log) (map f first) → map f ws ≡ log_told log (map f first)
 told_all f ws first log t past old = old ∙ ap (λ l. log_told l (map f first)) (take_all t log past)

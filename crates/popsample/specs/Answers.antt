@@ -11,6 +11,7 @@ use Rattle.graph_read.specs.GraphText.{AnswersGraph, HasNoBadLine as HasNoBadGra
 use Rattle.pop_words.specs.declared.command.Command.{Command}
 use Rattle.pop_words.specs.declared.command.Command.TheVariants.{Formula, Orient, Tree, Resample, Check, Make}
 use Rattle.pop_words.specs.declared.job.Job.{Job}
+use Rattle.pop_words.specs.Options.{command_row}
 use Rattle.pop_words.specs.CommandLines.{Asks, IsBadPlace}
 use Rattle.pop_watch.specs.Telling.{Watcher}
 use Rattle.popsample.specs.declared.asked.Asked.{Asked}
@@ -40,16 +41,18 @@ pub record ComesOfGraph (Comes : GraphOf → Outcome → Type 0) (text : List �
 abbrev pub origin_for : Job → Origin
 origin_for job = origin_of job.stacks job.height
 
--- what a job asks to be told behind the log
+-- what a job asks to be told behind the end
 abbrev pub asked_by : Job → Asked
-asked_by job = record { witness = job.witness; reports = job.reports }
+asked_by job =
+    record { log = (command_row job.command).log; witness = job.witness; reports = job.reports }
 
--- What comes of a command, with what the job says beside it, the watchers, and the text that it reads;
--- a grid is made without one.
+-- What comes of a command, with what the job says beside it, the watchers, and the text that it
+-- reads; a grid is made without one.
 abbrev pub ComesOfCommand : Command → Job → List Watcher → List ℕ → Outcome → Type 0
 ComesOfCommand Formula job watchers text o = ComesOfCnf (ComesOfFormula (origin_for job)) text o
 ComesOfCommand Orient job watchers text o = ComesOfGraph (ComesOfOrienting (origin_for job)) text o
-ComesOfCommand Tree job watchers text o = ComesOfGraph (ComesOfTree (origin_for job) job.root) text o
+ComesOfCommand Tree job watchers text o =
+    ComesOfGraph (ComesOfTree (origin_for job) job.root) text o
 ComesOfCommand Resample job watchers text o =
     ComesOfCnf (ComesOfResampling (origin_for job) (asked_by job) watchers) text o
 ComesOfCommand Check job watchers text o = ComesOfCnf ComesOfChecking text o
@@ -77,8 +80,8 @@ ComesOf job watchers text (Unread refusal) = IsOfText refusal × Refuses job.com
 ComesOf job watchers text o = ComesOfCommand job.command job watchers text o
 
 -- the words ask for a job, of which with the watchers and the text this comes
-pub record ComesOfJob (words : List (List ℕ)) (watchers : List Watcher) (text : List ℕ) (o : Outcome)
-    : Type 0 where
+pub record ComesOfJob (words : List (List ℕ)) (watchers : List Watcher) (text : List ℕ)
+    (o : Outcome) : Type 0 where
   pub job : Job
   pub asks : Asks words job
   pub comes : ComesOf job watchers text o
@@ -96,29 +99,13 @@ IsAnswer words watchers text status out = AnswersBy (IsOutcome words watchers te
 abbrev pub AskForGrid : List (List ℕ) → Type 0
 AskForGrid words = (job : Job) × Asks words job × (job.command ≡ Make)
 
--- the text is what the words are answered for: what the source has left, or any where a grid is made
+-- the text is what the words are answered for: what the source has left, or any where a grid is
+-- made
 abbrev pub IsInput : List (List ℕ) → Option (List ℕ) → List ℕ → Type 0
 IsInput words left text = (left ≡ Some text) ⊎ AskForGrid words
 
--- the command reads a formula
-abbrev pub ReadsCnf : Command → Type 0
-ReadsCnf Formula = ⊤
-ReadsCnf Orient = ⊥
-ReadsCnf Tree = ⊥
-ReadsCnf Resample = ⊤
-ReadsCnf Check = ⊤
-ReadsCnf Make = ⊥
-
--- the command reads a graph
-abbrev pub ReadsGraph : Command → Type 0
-ReadsGraph Formula = ⊥
-ReadsGraph Orient = ⊤
-ReadsGraph Tree = ⊤
-ReadsGraph Resample = ⊥
-ReadsGraph Check = ⊥
-ReadsGraph Make = ⊥
-
--- the command reads, and no line whose end was taken is refused by its grammar
+-- the command reads, what was taken is within the limit, and no line of it whose end was taken is
+-- refused by its grammar
 abbrev pub HasNoBadLine : Command → List ℕ → Type 0
 HasNoBadLine Formula taken = HasNoBadCnfLine taken
 HasNoBadLine Orient taken = HasNoBadGraphLine taken

@@ -1,5 +1,5 @@
--- What comes of a grid of which a spanning tree is asked. Its root is vertex 1, to which each vertex is
--- joined (`graph_read::laws::grid_connected`).
+-- What comes of a grid of which a spanning tree is asked. Its root is vertex 1, to which each
+-- vertex is joined (`graph_read::laws::grid_connected`).
 use Rattle.std.specs.Prelude.{ℕ}
 use Rattle.pop_model.specs.Stacks.{Origin}
 use Rattle.graph_read.specs.Grids.{grid_of}

@@ -1,12 +1,12 @@
 -- Laws of answers.
-use Rattle.std.specs.Prelude.{◌≡◌, ◌≢◌, ◌⊎◌, ℕ, List, ⊤}
+use Rattle.std.specs.Prelude.{◌≡◌, ◌≢◌, ◌⊎◌, ℕ, List, Option, None, Some, ⊤}
 use Rattle.pop_words.specs.declared.command.Command.TheVariants.{Resample}
 use Rattle.pop_words.specs.declared.job.Job.{Job}
 use Rattle.pop_words.specs.CommandLines.{Asks}
 use Rattle.pop_watch.specs.Telling.{Watcher}
-use Rattle.pop_model.specs.Logs.{replay}
+use Rattle.pop_model.specs.Logs.{LogRecord, replay}
 use Rattle.pop_model.specs.Runs.{IsFinished, start_of}
-use Rattle.popsample.specs.Outcomes.{Outcome, status_of}
+use Rattle.popsample.specs.Outcomes.{Outcome, status_of, AnswersBy}
 use Rattle.popsample.specs.Outcomes.Outcome.{Ended, Resampled}
 use Rattle.popsample.specs.Resamplings.{LeadsToEnd}
 use Rattle.popsample.specs.Answers.{IsOutcome, IsAnswer}
@@ -36,8 +36,28 @@ Agree o p = (o ≡ p) ⊎ AreHistories o p
 -- Words and a text have one outcome, whatever watchers there are, but for the order of pops and the
 -- reports where a resampling is asked for.
 abbrev pub OneOutcome : Type 0
-OneOutcome = (words : List (List ℕ)) (watchers others : List Watcher) (text : List ℕ) (o p : Outcome)
+OneOutcome = (words : List (List ℕ)) (watchers others : List Watcher) (text : List ℕ)
+    (o p : Outcome)
     → IsOutcome words watchers text o → IsOutcome words others text p → Agree o p
+
+-- the log that an outcome shows, if any
+abbrev pub shown_log : Outcome → Option (List LogRecord)
+shown_log (Resampled facts i log stuck witness reports) = Some log
+shown_log o = None
+
+-- an answer that shows this log, or none
+abbrev pub IsAnswerShowing : List (List ℕ) → List Watcher → List ℕ → Option (List LogRecord) → ℕ
+    → List ℕ → Type 0
+IsAnswerShowing words watchers text log status out =
+    AnswersBy (λ o. IsOutcome words watchers text o × (shown_log o ≡ log)) status out
+
+-- Words, watchers and a text have one answer that shows a log: the order of pops is all that is
+-- free where a resampling is asked for.
+abbrev pub OneLoggedAnswer : Type 0
+OneLoggedAnswer = (words : List (List ℕ)) (watchers : List Watcher) (text : List ℕ)
+    (log : Option (List LogRecord)) (status other : ℕ) (out out' : List ℕ)
+    → IsAnswerShowing words watchers text log status out
+    → IsAnswerShowing words watchers text log other out' → (status ≡ other) × (out ≡ out')
 
 -- no event occurs at the end of a run
 abbrev pub EndsFinished : Outcome → Type 0
@@ -45,8 +65,8 @@ EndsFinished (Ended facts i cursors pops stuck) = IsFinished i cursors
 EndsFinished (Resampled facts i log stuck witness reports) = IsFinished i (replay (start_of i) log)
 EndsFinished o = ⊤
 
--- A run with status 0 is one at whose end no event occurs: each clause is satisfied, each vertex has
--- an edge that leaves it, or the arrows have no cycle.
+-- A run with status 0 is one at whose end no event occurs: each clause is satisfied, each vertex
+-- has an edge that leaves it, or the arrows have no cycle.
 abbrev pub SampleFinished : Type 0
 SampleFinished = (words : List (List ℕ)) (watchers : List Watcher) (text : List ℕ) (o : Outcome)
     → IsOutcome words watchers text o → status_of o ≡ 0 → EndsFinished o

@@ -1,8 +1,10 @@
 pub mod Refusals
 pub mod Stacks
+pub mod Names
 pub mod Witnesses
 pub mod Reports
 pub mod Outcomes
+pub mod Results
 pub mod Sampling
 pub mod Formulas
 pub mod Resamplings
@@ -12,3 +14,9 @@ pub mod Grids
 pub mod Answers
 pub mod TopCall
 pub mod Laws
+pub mod Shown
+pub mod Workers
+pub mod Complete
+pub mod Subjects
+pub mod ExactAnswers
+pub mod EverySample

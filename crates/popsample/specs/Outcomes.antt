@@ -6,11 +6,11 @@ use Rattle.pop_model.specs.Logs.{LogRecord, replay}
 use Rattle.pop_model.specs.Runs.{start_of}
 use Rattle.pop_edge.specs.declared.refusal.ReadRefusal.{ReadRefusal}
 use Rattle.pop_stacks.specs.declared.stack_fault.StackFault.{StackFault}
-use Rattle.pop_log.specs.declared.names.Names.TheVariants.{Plain}
 use Rattle.pop_log.specs.LogTexts.{log_text}
 use Rattle.pop_print.specs.declared.facts.Facts.{Facts}
 use Rattle.pop_print.specs.Names.{name_of}
 use Rattle.pop_print.specs.Output.{end_text}
+use Rattle.popsample.specs.Names.{names_for}
 use Rattle.popsample.specs.Witnesses.{Witness, witness_text, is_missing}
 use Rattle.popsample.specs.Refusals.{usage_line, isolated_line, root_line, cut_off_line, clash_line, extremal_line, reading_line, reading_status, stacks_line, stacks_status}
 
@@ -49,6 +49,7 @@ end_status (e ∷ stuck) = 1
 abbrev pub resampled_status : List Event → Witness → ℕ
 resampled_status stuck witness = if is_missing witness then 6 else end_status stuck
 
+-- the status of an outcome
 abbrev pub status_of : Outcome → ℕ
 status_of (Usage place) = 2
 status_of (Unread refusal) = reading_status refusal
@@ -64,13 +65,16 @@ status_of (Resampled facts i log stuck witness reports) = resampled_status stuck
 -- the text of a run with its log: that of the end to which the log leads, and that of the log
 abbrev pub history_text : Facts → Instance → List LogRecord → List Event → List ℕ
 history_text facts i log stuck =
-    end_text facts i (replay (start_of i) log) (length log) stuck ++ log_text Plain i log
+    end_text facts i (replay (start_of i) log) (length log) stuck
+    ++ log_text (names_for facts) i log
 
 -- and behind it that of the witness, and the reports
-abbrev pub resampled_text : Facts → Instance → List LogRecord → List Event → Witness → List ℕ → List ℕ
+abbrev pub resampled_text : Facts → Instance → List LogRecord → List Event → Witness → List ℕ
+    → List ℕ
 resampled_text facts i log stuck witness reports =
-    history_text facts i log stuck ++ witness_text i.family witness ++ reports
+    history_text facts i log stuck ++ witness_text (names_for facts) i.family witness ++ reports
 
+-- the text of an outcome
 abbrev pub text_of : Outcome → List ℕ
 text_of (Usage place) = usage_line place
 text_of (Unread refusal) = reading_line refusal
@@ -81,7 +85,8 @@ text_of (Unsound facts fault) = stacks_line (name_of facts) fault
 text_of (Clashes i j) = clash_line i j
 text_of (Extremal count) = extremal_line count
 text_of (Ended facts i cursors pops stuck) = end_text facts i cursors pops stuck
-text_of (Resampled facts i log stuck witness reports) = resampled_text facts i log stuck witness reports
+text_of (Resampled facts i log stuck witness reports) =
+    resampled_text facts i log stuck witness reports
 
 -- a status that a text is answered by: none of the words, of a device or of memory
 pub record IsTextStatus (status : ℕ) : Type 0 where

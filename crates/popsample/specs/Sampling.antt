@@ -25,6 +25,11 @@ IsEndOf facts i (Ended told j cursors pops stuck) =
     (told ≡ facts) × (j ≡ i) × IsFirstEnd i cursors pops stuck
 IsEndOf facts i o = ⊥
 
+-- a fault of the stacks of these weights
+abbrev pub IsFaultOf : Facts → Origin → List (List ℕ) → Outcome → Type 0
+IsFaultOf facts origin weights (Unsound told fault) = (told ≡ facts) × IsCause origin weights fault
+IsFaultOf facts origin weights o = ⊥
+
 -- a fault of the stacks of these weights, or with sound stacks what comes of the run
 abbrev pub ComesOfSampling : Facts → Origin → List (List ℕ) → (Outcome → Type 0) → Outcome → Type 0
 ComesOfSampling facts origin weights Runs (Unsound told fault) =

@@ -27,9 +27,10 @@ pub record AnsweredUsage (words : List (List ℕ)) (old new : Option (List ℕ))
   pub bad : IsBadPlace words place
   pub held : Appends old new (usage_line place)
 
--- The source failed: its count rose, the words ask for a job that reads, and no line whose end was
--- taken is refused.
-pub record HasReadFault (words : List (List ℕ)) (left left' : Option (List ℕ)) (faults faults' : ℕ) : Type 0 where
+-- The source failed: its count rose, the words ask for a job that reads, what was taken is within
+-- the limit, and no line of it whose end was taken is refused.
+pub record HasReadFault (words : List (List ℕ)) (left left' : Option (List ℕ))
+    (faults faults' : ℕ) : Type 0 where
   pub rose : Rose faults faults'
   pub job : Job
   pub asks : Asks words job
@@ -48,4 +49,17 @@ pub record IsCutShort (words : List (List ℕ)) (watchers : List Watcher) (text 
     (fault : Type 0) (old new : Option (List ℕ)) : Type 0 where
   pub out : List ℕ
   pub may : MayWrite words watchers text fault out
+  pub held : AppendsFront old new out
+
+-- a text that words outside the grammar are answered by: the line of their first bad word, or that
+-- of want of memory
+abbrev pub MayWriteUsage : List (List ℕ) → List ℕ → Type 0
+MayWriteUsage words out =
+    ((place : ℕ) × IsBadPlace words place × (out ≡ usage_line place))
+    ⊎ (out ≡ reading_line OutOfMemory)
+
+-- the sink holds just a front of such a text more
+pub record IsUsageCutShort (words : List (List ℕ)) (old new : Option (List ℕ)) : Type 0 where
+  pub out : List ℕ
+  pub may : MayWriteUsage words out
   pub held : AppendsFront old new out

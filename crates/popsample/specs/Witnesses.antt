@@ -1,9 +1,10 @@
 -- The witness of a pop that is asked for, by the printed name of a variable and an entry.
-use Rattle.std.specs.Prelude.{◌≡◌, ℕ, zero, suc, ◌+◌, ◌≤◌, Bool, true, false, List, [], Option, None, Some, slice_get, ⊤}
+use Rattle.std.specs.Prelude.{◌≡◌, ◌⊎◌, ℕ, ◌<◌, ◌≤◌, Bool, true, false, List, [], length, Option, None, Some, slice_get, ⊤}
 use Rattle.pop_model.specs.Popping.{cursor}
 use Rattle.pop_model.specs.Families.{Family}
 use Rattle.pop_model.specs.Logs.{LogRecord}
-use Rattle.pop_log.specs.declared.names.Names.TheVariants.{Plain}
+use Rattle.pop_log.specs.declared.names.Names.{Names}
+use Rattle.pop_log.specs.Printed.{name_of}
 use Rattle.witness_trees.specs.Pops.{Uses}
 use Rattle.witness_trees.specs.Vertices.{Vertex}
 use Rattle.witness_trees.specs.Trees.{IsTree}
@@ -18,35 +19,47 @@ pub data Witness : Type 0 where
   -- the tree of the pop that used it, in preorder
   Shown : (tree : List Vertex) → Witness
 
--- the cursor of the variable of a printed name, which counts from 1; 0 where no variable has the name
-abbrev pub cursor_named : List ℕ → ℕ → ℕ
-cursor_named cursors zero = 0
-cursor_named cursors (suc v) = cursor cursors v
+-- a variable has this printed name, and this cursor
+abbrev pub HasCursor : Names → List ℕ → ℕ → ℕ → Type 0
+HasCursor names cursors name c =
+    (v : ℕ) × (v < length cursors) × (name_of names v ≡ name) × (c ≡ cursor cursors v)
+
+-- no variable has this printed name
+abbrev pub IsNoName : Names → List ℕ → ℕ → Type 0
+IsNoName names cursors name = (v : ℕ) → v < length cursors → name_of names v ≡ name → ⊥
+
+-- the cursor of the variable of a printed name; 0 where no variable has the name
+abbrev pub IsCursorNamed : Names → List ℕ → ℕ → ℕ → Type 0
+IsCursorNamed names cursors name c =
+    HasCursor names cursors name c ⊎ (IsNoName names cursors name × (c ≡ 0))
 
 -- the tree of the pop that used this entry of the variable of this name
-pub record IsWitnessTree (log : List LogRecord) (name entry : ℕ) (tree : List Vertex) : Type 0 where
+pub record IsWitnessTree (names : Names) (cursors : List ℕ) (log : List LogRecord) (name entry : ℕ)
+    (tree : List Vertex) : Type 0 where
   pub v : ℕ
-  pub named : name ≡ v + 1
+  pub below : v < length cursors
+  pub named : name_of names v ≡ name
   pub t : ℕ
   pub r : LogRecord
   pub record_is : slice_get log t ≡ Some r
   pub used : Uses r v entry
   pub tree_is : IsTree log t tree
 
--- Where a name and an entry are asked for: the tree of the pop that used the entry; or that there is
--- none, since the variable's cursor at the log's end isn't above the entry.
-abbrev pub IsWitness : Option (ℕ × ℕ) → List ℕ → List LogRecord → Witness → Type 0
-IsWitness None cursors log Unasked = ⊤
-IsWitness (Some asked) cursors log (Missing name entry c) =
-    (name ≡ asked.0) × (entry ≡ asked.1) × (c ≡ cursor_named cursors name) × (c ≤ entry)
-IsWitness (Some asked) cursors log (Shown tree) = IsWitnessTree log asked.0 asked.1 tree
-IsWitness asked cursors log w = ⊥
+-- Where a name and an entry are asked for: the tree of the pop that used the entry; or that there
+-- is none, since the variable's cursor at the log's end isn't above the entry.
+abbrev pub IsWitness : Names → Option (ℕ × ℕ) → List ℕ → List LogRecord → Witness → Type 0
+IsWitness names None cursors log Unasked = ⊤
+IsWitness names (Some asked) cursors log (Missing name entry c) =
+    (name ≡ asked.0) × (entry ≡ asked.1) × IsCursorNamed names cursors name c × (c ≤ entry)
+IsWitness names (Some asked) cursors log (Shown tree) =
+    IsWitnessTree names cursors log asked.0 asked.1 tree
+IsWitness names asked cursors log w = ⊥
 
 -- the text of a witness
-abbrev pub witness_text : Family → Witness → List ℕ
-witness_text family Unasked = []
-witness_text family (Missing name entry c) = no_witness_text name entry c
-witness_text family (Shown tree) = tree_text Plain family tree
+abbrev pub witness_text : Names → Family → Witness → List ℕ
+witness_text names family Unasked = []
+witness_text names family (Missing name entry c) = no_witness_text name entry c
+witness_text names family (Shown tree) = tree_text names family tree
 
 -- the asked pop isn't there
 abbrev pub is_missing : Witness → Bool
@@ -55,9 +68,9 @@ is_missing (Missing name entry c) = true
 is_missing (Shown tree) = false
 
 -- a witness as it is told: whether the asked pop is missing, and the text
-pub record TellsWitness (family : Family) (asked : Option (ℕ × ℕ)) (cursors : List ℕ)
-    (log : List LogRecord) (missing : Bool) (text : List ℕ) : Type 0 where
+pub record TellsWitness (names : Names) (family : Family) (asked : Option (ℕ × ℕ))
+    (cursors : List ℕ) (log : List LogRecord) (missing : Bool) (text : List ℕ) : Type 0 where
   pub witness : Witness
-  pub is : IsWitness asked cursors log witness
+  pub is : IsWitness names asked cursors log witness
   pub missing_is : missing ≡ is_missing witness
-  pub text_is : text ≡ witness_text family witness
+  pub text_is : text ≡ witness_text names family witness

@@ -1,23 +1,29 @@
 //! The answer to command words and a source.
-ghost use Rattle.std.specs.Prelude.{◌≡◌, ◌≢◌, ◌⊎◌, ◌<◌, ◌≤◌, ◌^◌, ℕ, List, Some, map, string_bytes, IfOk, MatchResult, IsErrOf};
+ghost use Rattle.std.specs.Prelude.{◌≡◌, ◌≢◌, ◌⊎◌, ◌<◌, ◌≤◌, ◌^◌, ℕ, List, Some, map, string_bytes, IfOk, IfErr, MatchResult, IsErrOf};
 ghost use Rattle.std.specs.Io.KnownBytes.{IsAtEnd, Consumes};
 ghost use Rattle.pop_model.specs.Faults.{Rose};
 ghost use Rattle.pop_words.specs.CommandLines.{AreWords, IsBadPlace};
 ghost use Rattle.pop_words.specs.declared.command.Command.TheVariants.{Make};
 ghost use Rattle.popsample.specs.TopCall.{HasReadFault};
-ghost use Rattle.popsample.specs.Outcomes.{AnswersBy, IsTextStatus};
-ghost use Rattle.popsample.specs.Answers.{IsAnswer, ComesOf, AskForGrid, IsInput, HasNoBadLine};
+ghost use Rattle.popsample.specs.Answers.{IsAnswer, IsOutcome, ComesOf, AskForGrid, IsInput, HasNoBadLine};
+ghost use Rattle.popsample.specs.Results.{IsResultOf, IsTextResult, IsOfWords};
 ghost use Rattle.popsample.specs.Refusals.{usage_line};
+ghost use Rattle.popsample.specs.declared.refusal.Refusal.TheVariants.{Usage, Stopped};
 ghost use Rattle.popsample.specs.declared.stop.Stop.TheVariants.{ReadFault, OutOfMemory};
 
+use crate::asked::Asked;
+use crate::call::Call;
 use crate::crew::Crew;
-use crate::grid::tree_of_grid;
-use crate::reading::{answer_cnf, answer_graph};
-use crate::refusals::refuse_words;
+use crate::formula::{check_formula, sample_formula};
+use crate::orientation::orient;
+use crate::origin::StackOrigin;
+use crate::reading::{formula_of, graph_of};
+use crate::refusal::Refusal;
 use crate::stop::Stop;
+use crate::tree::{tree, tree_of_grid};
 use pop_edge::Source;
 use pop_watch::Watch;
-use pop_words::{Command, Job, WordFault, read_words};
+use pop_words::{Command, Job, read_words};
 use pop_workers::Gate;
 use std::alloc::Global;
 use std::sync::Wait;
@@ -32,36 +38,80 @@ pub struct Answer {
 
 // The answer to a job. A grid is made without the source, and each other command reads it.
 fn answer_job<S: Source, R: Threads + Wait + Sync, G: Gate + Sync>(
-    alloc: Global,
-    crew: &Crew<R, G>,
+    call: &mut Call<R, G>,
     job: Job,
-    watchers: &mut [Box<dyn Watch>],
     source: &mut S,
-) -> Result<Answer, Stop>
+) -> Result<Answer, Refusal>
     requires some { 0 < job.height }
     requires short { job.height < 2 ^ 31 }
     requires root { 1 ≤ job.root }
     requires side { job.command ≡ Make → (1 ≤ job.size) × (job.size ≤ 2048) }
     ensures answer { (text : List ℕ) → (S.left source.old ≡ Some text) ⊎ (job.command ≡ Make)
-        → IfOk result (λ a. AnswersBy
-        (ComesOf job (map (λ b. (kind b, state b)) watchers.old) text) a.status a.text.items) }
-    ensures status { IfOk result (λ a. IsTextStatus a.status) }
+        → (IsErrOf result (Stopped ReadFault) → ⊥)
+        → IsResultOf (ComesOf job (map (λ b. (kind b, state b)) call.old.watchers.items) text)
+        result }
+    ensures status { IsTextResult result }
     ensures unread { job.command ≡ Make → source.new ≡ source.old }
     ensures whole { IfOk result (λ a.
         a.status ≤ 1 → job.command ≢ Make → IsAtEnd (S.left source.new)) }
-    ensures read_fault { IsErrOf result ReadFault
+    ensures read_fault { IsErrOf result (Stopped ReadFault)
         → Rose (S.faults source.old) (S.faults source.new) }
-    ensures no_bad_line { IsErrOf result ReadFault → (taken : List ℕ)
+    ensures no_bad_line { IsErrOf result (Stopped ReadFault) → (taken : List ℕ)
         × Consumes (S.left source.old) (S.left source.new) taken
         × HasNoBadLine job.command taken }
 {
+    let asked = Asked::of(&job);
+    let origin = StackOrigin::new(job.stacks, job.height);
     match job.command {
-        Command::Formula | Command::Resample | Command::Check => answer_cnf(
-            alloc, crew, job, watchers, source,
-        ),
-        Command::Orient | Command::Tree => answer_graph(alloc, crew, job, source),
-        Command::Make => Ok(tree_of_grid(alloc, crew, job.stacks, job.height, job.size)?),
+        Command::Formula => {
+            sample_formula(call, origin, asked, false, &formula_of(call.alloc, source)?)
+        }
+        Command::Resample => {
+            sample_formula(call, origin, asked, true, &formula_of(call.alloc, source)?)
+        }
+        Command::Check => check_formula(call.alloc, &formula_of(call.alloc, source)?),
+        Command::Orient => orient(call, origin, asked, graph_of(call.alloc, source)?),
+        Command::Tree => tree(call, origin, asked, job.root, graph_of(call.alloc, source)?),
+        Command::Make => tree_of_grid(call, origin, asked, job.size),
     }
+}
+
+// The answer to command words, watchers and the text of a source, or a refusal.
+fn answer_words<S: Source, R: Threads + Wait + Sync, G: Gate + Sync>(
+    rt: &R,
+    alloc: Global,
+    words: &[String],
+    watchers: Vec<Box<dyn Watch>>,
+    gate: &G,
+    source: &mut S,
+) -> Result<Answer, Refusal>
+    ensures answer { (text : List ℕ)
+        → IsInput (map string_bytes words.now) (S.left source.old) text
+        → (IsErrOf result (Stopped ReadFault) → ⊥)
+        → IsResultOf (IsOutcome (map string_bytes words.now)
+        (map (λ b. (kind b, state b)) watchers.items) text) result }
+    ensures status { IfOk result (λ a. a.status ≤ 6) }
+    ensures usage { IfOk result (λ a. a.status ≢ 2) }
+    ensures bad_place { (place : ℕ) → IsErrOf result (Usage place)
+        → IsBadPlace (map string_bytes words.now) place }
+    ensures only_words { (AreWords (map string_bytes words.now) → ⊥)
+        → MatchResult result (λ a. ⊥) IsOfWords }
+    ensures unread { (AreWords (map string_bytes words.now) → ⊥)
+        ⊎ AskForGrid (map string_bytes words.now) → source.new ≡ source.old }
+    ensures whole { IfOk result (λ a. a.status ≤ 1
+        → (AskForGrid (map string_bytes words.now) → ⊥) → IsAtEnd (S.left source.new)) }
+    ensures read_fault { IsErrOf result (Stopped ReadFault)
+        → HasReadFault (map string_bytes words.now) (S.left source.old) (S.left source.new)
+        (S.faults source.old) (S.faults source.new) }
+{
+    let job = read_words(alloc, words)?;
+    let crew = Crew::new(rt, gate, job.workers);
+    let mut call = Call {
+        alloc,
+        crew,
+        watchers,
+    };
+    answer_job(&mut call, job, source)
 }
 
 /// The answer to command words, watchers and the text of a source, or why there is none.
@@ -69,14 +119,14 @@ pub fn answer_to<S: Source, R: Threads + Wait + Sync, G: Gate + Sync>(
     rt: &R,
     alloc: Global,
     words: &[String],
-    watchers: &mut [Box<dyn Watch>],
+    watchers: Vec<Box<dyn Watch>>,
     gate: &G,
     source: &mut S,
 ) -> Result<Answer, Stop>
     ensures answer { (text : List ℕ)
         → IsInput (map string_bytes words.now) (S.left source.old) text
         → IfOk result (λ a. IsAnswer (map string_bytes words.now)
-        (map (λ b. (kind b, state b)) watchers.old) text a.status a.text.items) }
+        (map (λ b. (kind b, state b)) watchers.items) text a.status a.text.items) }
     ensures status { IfOk result (λ a. a.status ≤ 6) }
 
     // Words outside the grammar are told of whatever the source is.
@@ -95,12 +145,8 @@ pub fn answer_to<S: Source, R: Threads + Wait + Sync, G: Gate + Sync>(
         → HasReadFault (map string_bytes words.now) (S.left source.old) (S.left source.new)
         (S.faults source.old) (S.faults source.new) }
 {
-    match read_words(alloc, words) {
-        Err(WordFault::Usage(place)) => Ok(refuse_words(alloc, place)?),
-        Err(WordFault::OutOfMemory) => Err(Stop::OutOfMemory),
-        Ok(job) => {
-            let crew = Crew::new(rt, gate, job.workers);
-            answer_job(alloc, &crew, job, watchers, source)
-        }
+    match answer_words(rt, alloc, words, watchers, gate, source) {
+        Ok(answer) => Ok(answer),
+        Err(refusal) => refusal.told(alloc),
     }
 }

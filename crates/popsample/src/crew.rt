@@ -1,17 +1,12 @@
 //! Who makes a run.
-ghost use Rattle.std.specs.Prelude.{◌≡◌, ◌<◌, ◌≤◌, length, IfOk};
-ghost use Rattle.pop_model.specs.Stacks.{variables_of};
-ghost use Rattle.pop_model.specs.Popping.{AreWithin};
-ghost use Rattle.pop_model.specs.Extremal.{IsExtremal};
-ghost use Rattle.pop_model.specs.Runs.{IsFirstEnd, start_of};
-ghost use Rattle.pop_stacks.specs.Readers.{Belongs};
+ghost use Rattle.std.specs.Prelude.{◌≡◌, ◌<◌, ◌≤◌, IfOk};
+ghost use Rattle.pop_model.specs.Runs.{start_of};
 ghost use Rattle.confluence_core.specs.Kept.{keeps_log};
-ghost use Rattle.confluence_core.specs.Runs.{IsRun};
+ghost use Rattle.confluence_core.specs.Runs.{IsRunOf};
 
 use confluence_core::Keep;
 use pop_instance::Instance;
-use pop_stacks::Reader;
-use pop_workers::{Gate, Outcome, sample_locked_by};
+use pop_workers::{Gate, Outcome, sample_locked, zeros_of};
 use std::alloc::{AllocError, Global};
 use std::marker::Model;
 use std::sync::Wait;
@@ -46,29 +41,16 @@ impl<'a, R: Threads + Wait + Sync, G: Gate + Sync> Crew<'a, R, G> {
         Crew { rt, gate, workers }
     }
 
-    /// A run of the instance from zeros, by a reader of its stacks.
-    pub fn run<'i>(
-        &self,
-        alloc: Global,
-        instance: &'i Instance,
-        reader: &mut Reader<'i>,
-        keep: Keep,
-    ) -> Result<Outcome, AllocError>
-        requires belongs { Belongs instance.now.stacks reader.old }
-        ensures run { IfOk result (λ run. IsRun instance.now (start_of instance.now)
-            (keeps_log keep) run.end.cursors run.end.pops run.end.stuck run.log) }
-        ensures first { IfOk result (λ run. IsExtremal instance.now.family
-            → IsFirstEnd instance.now run.end.cursors run.end.pops run.end.stuck) }
-        ensures count { IfOk result (λ run.
-            variables_of instance.now.stacks ≡ length run.end.cursors) }
-        ensures within { IfOk result (λ run. AreWithin instance.now.stacks run.end.cursors) }
-        ensures reader { reader.new ≡ reader.old }
+    /// A run of the instance from zeros.
+    pub fn run(&self, alloc: Global, instance: &Instance, keep: Keep) -> Result<Outcome, AllocError>
+        ensures { IfOk result (IsRunOf instance.now (start_of instance.now) (keeps_log keep)) }
     {
-        sample_locked_by(
+        let zeros = zeros_of(alloc, instance)?;
+        sample_locked(
             self.rt,
             alloc,
             instance,
-            reader,
+            &zeros,
             self.workers,
             keep,
             self.gate,

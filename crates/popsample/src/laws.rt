@@ -1,5 +1,10 @@
 //! Laws of answers. Each function's contract is the law.
-ghost use Rattle.popsample.specs.Laws.{OneAnswer, OneOutcome, SampleFinished};
+ghost use Rattle.popsample.specs.Laws.{OneAnswer, OneOutcome, OneLoggedAnswer, SampleFinished};
+ghost use Rattle.popsample.specs.Shown.{SampleShown, ExhaustedShown};
+ghost use Rattle.popsample.specs.Workers.{WorkersAgree};
+ghost use Rattle.popsample.specs.Complete.{Complete};
+ghost use Rattle.popsample.specs.ExactAnswers.{ExchangedAnswers, ReachedAnswers};
+ghost use Rattle.popsample.specs.EverySample.{EveryAssignment, EveryOrientation, EveryTree};
 
 /// Words that don't ask for a resampling have with a text one answer: one status and one output. So
 /// the contract of `run` leaves its body no choice where neither a device nor memory fails.
@@ -7,14 +12,69 @@ pub fn one_answer()
     ensures { OneAnswer }
 {}
 
-/// Words and a text have one outcome, but for the order of pops where a resampling is asked for: then
-/// each outcome is a run of the same instance to an end, with its log, which its text determines.
+/// Words and a text have one outcome, but for the order of pops where a resampling is asked for:
+/// then each outcome is a run of the same instance to an end, with its log, which its text
+/// determines.
 pub fn one_outcome()
     ensures { OneOutcome }
+{}
+
+/// Words, watchers and a text have one answer that shows a log, byte for byte: a resampling has no
+/// choice but the order of pops.
+pub fn one_logged_answer()
+    ensures { OneLoggedAnswer }
 {}
 
 /// At the end of a run with status 0 no event occurs: the sample satisfies each clause, leaves no
 /// vertex a sink, or is a tree whose arrows lead to the root (`cycle_popping::laws::tree_end`).
 pub fn sample_finished()
     ensures { SampleFinished }
+{}
+
+/// What an output with status 0 shows: an assignment whose literals satisfy each clause of the
+/// formula that was read, an orientation of the graph in which an arrow leaves each vertex, or a
+/// spanning tree of it whose arrows lead to the root; of a made grid the sum over such a tree.
+pub fn sample_shown()
+    ensures { SampleShown }
+{}
+
+/// What an output with status 1 shows: the clauses that are false, the vertices that no arrow
+/// leaves, or the cycles of the arrows, at the values that the stacks have at the cursors that it
+/// tells; of a made grid how many cycles there are.
+pub fn exhausted_shown()
+    ensures { ExhaustedShown }
+{}
+
+/// Words that don't ask for a resampling and differ only in `--workers` have with a text one
+/// answer. So where neither a device nor memory fails, any number of workers is answered alike.
+pub fn workers_agree()
+    ensures { WorkersAgree }
+{}
+
+/// Where the words are a command line, the text is in its grammar and within the limits, the
+/// graph's form is good, the stacks have no fault, the events are extremal where that is asked, and
+/// the witness that is asked for is there, the status is 0 or 1.
+pub fn complete()
+    ensures { Complete }
+{}
+
+/// Where words over given rows are answered by a sample, any sample may be written in place of its
+/// values: the rows are then answered by that one, with the same cursors and as many pops.
+pub fn exchanged_answers()
+    ensures { ExchangedAnswers }
+{}
+
+/// Each sample of what `formula`, `orient`, `tree` or `make` is asked for is the answer to some
+/// rows, of any heights.
+pub fn reached_answers()
+    ensures { ReachedAnswers }
+{}
+
+/// Samples, in the words of formulas and graphs: each assignment that satisfies a formula, each
+/// orientation of a graph that leaves no vertex a sink, and each spanning tree with its arrows to
+/// the root. So each of these is an answer (`reached_answers`).
+pub fn every_sample()
+    ensures assignments { EveryAssignment }
+    ensures orientations { EveryOrientation }
+    ensures trees { EveryTree }
 {}

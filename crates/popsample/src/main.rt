@@ -1,19 +1,21 @@
-//! The program `popsample`: command words and a text in, a text and a status out. `run` is the whole
-//! of it, over any source and sink; contracts see the words, the bytes that the source has left and
-//! the bytes that the sink holds.
+//! The program `popsample`: command words and a text in, a text and a status out. `run` is the
+//! whole of it, over any source and sink; contracts see the words, the bytes that the source has
+//! left and the bytes that the sink holds.
 #![tactic(auto)]
 
 mod answer;
 mod asked;
+mod call;
 mod crew;
 mod formula;
-mod grid;
+mod instances;
 pub mod laws;
+mod names;
 mod orientation;
+mod origin;
 mod reading;
-mod refusals;
+mod refusal;
 mod reporting;
-mod resampling;
 mod running;
 mod stop;
 mod telling;

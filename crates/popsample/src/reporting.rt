@@ -49,8 +49,8 @@ fn reports_of(
     Ok(text)
 }
 
-/// Tells each record of a log, in order and once, to each watcher, and then answers with the reports
-/// that are asked for, by rising kind, each from the first watcher of its kind.
+/// Tells each record of a log, in order and once, to each watcher, and then answers with the
+/// reports that are asked for, by rising kind, each from the first watcher of its kind.
 pub fn report_log(
     alloc: Global,
     watchers: &mut [Box<dyn Watch>],

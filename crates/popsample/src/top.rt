@@ -7,7 +7,7 @@ ghost use Rattle.pop_edge.specs.declared.refusal.ReadRefusal.TheVariants.{ReadFa
 ghost use Rattle.pop_words.specs.CommandLines.{AreWords};
 ghost use Rattle.popsample.specs.Refusals.{reading_line};
 ghost use Rattle.popsample.specs.Answers.{AskForGrid, IsInput};
-ghost use Rattle.popsample.specs.TopCall.{IsBreak, Answered, AnsweredUsage, HasReadFault, IsCutShort};
+ghost use Rattle.popsample.specs.TopCall.{IsBreak, Answered, AnsweredUsage, HasReadFault, IsCutShort, IsUsageCutShort};
 
 use crate::answer::answer_to;
 use crate::stop::Stop;
@@ -36,18 +36,18 @@ fn deliver<K: Sink>(sink: &mut K, text: &[u8], status: u8) -> u8
 /// sink.
 ///
 /// The status is 0 for a sample or extremal events, 1 where the run ends with an event still
-/// occurring, 2 for words that are no command line, 3 for a malformed text, a wrong number of clauses
-/// or rows that don't fit, 4 where a limit is passed, 5 where two events clash, 6 for an empty clause,
-/// an isolated vertex, a root that is none, a vertex that is cut off from it or a witness of a pop that
-/// isn't there, 7 where reading failed, 8 where writing failed and 9 where memory ran out. The whole
-/// text is made before its first byte is written.
+/// occurring, 2 for words that are no command line, 3 for a malformed text, a wrong number of
+/// clauses or rows that don't fit, 4 where a limit is passed, 5 where two events clash, 6 for an
+/// empty clause, an isolated vertex, a root that is none, a vertex that is cut off from it or a
+/// witness of a pop that isn't there, 7 where reading failed, 8 where writing failed and 9 where
+/// memory ran out. The whole text is made before its first byte is written.
 ///
-/// `resample` tells each watcher each record of its log, in order and once. The report of a kind that
-/// `--report` asks for is that of the first watcher of the kind; where there is none, it has no line.
-/// The watchers are dropped when the call ends.
+/// `resample` tells each watcher each record of its log, in order and once. The report of a kind
+/// that `--report` asks for is that of the first watcher of the kind; where there is none, it has
+/// no line. The watchers are dropped when the call ends.
 ///
-/// Where several workers are asked for they run on threads of `rt`, which are joined, and each passes
-/// the gate before each of its turns; the call may wait for their lock and for them.
+/// Where several workers are asked for they run on threads of `rt`, which are joined, and each
+/// passes the gate before each of its turns; the call may wait for their lock and for them.
 pub fn run<S: Source, K: Sink, R: Threads + Wait + Sync, G: Gate + Sync>(
     rt: &R,
     alloc: Global,
@@ -57,10 +57,10 @@ pub fn run<S: Source, K: Sink, R: Threads + Wait + Sync, G: Gate + Sync>(
     source: &mut S,
     sink: &mut K,
 ) -> u8
-    // An answer is that of the words and the text: of an extremal formula, an orientation, a tree or
-    // the tree of a grid, the end of the run on one thread that always pops the first poppable event,
-    // for any number of workers; of a resampling, that of a legal log to an end, which each watcher
-    // was told. A grid is made whatever the source is.
+    // An answer is that of the words and the text: of an extremal formula, an orientation, a tree
+    // or the tree of a grid, the end of the run on one thread that always pops the first poppable
+    // event, for any number of workers; of a resampling, that of a legal log to an end, which each
+    // watcher was told. A grid is made whatever the source is.
     ensures answer { (text : List ℕ)
         → IsInput (map string_bytes words.now) (S.left source.old) text → (IsBreak result → ⊥)
         → Answered (map string_bytes words.now) (map (λ b. (kind b, state b)) watchers.items) text
@@ -89,6 +89,8 @@ pub fn run<S: Source, K: Sink, R: Threads + Wait + Sync, G: Gate + Sync>(
         (HasReadFault (map string_bytes words.now) (S.left source.old) (S.left source.new)
         (S.faults source.old) (S.faults source.new))
         (K.holds sink.old) (K.holds sink.new) }
+    ensures cut_usage { (AreWords (map string_bytes words.now) → ⊥) → result ≡ 8
+        → IsUsageCutShort (map string_bytes words.now) (K.holds sink.old) (K.holds sink.new) }
     ensures memory { result ≡ 9
         → Appends (K.holds sink.old) (K.holds sink.new) (reading_line OutOfMemory) }
 
@@ -96,8 +98,7 @@ pub fn run<S: Source, K: Sink, R: Threads + Wait + Sync, G: Gate + Sync>(
     ensures whole { result ≤ 1
         → (AskForGrid (map string_bytes words.now) → ⊥) → IsAtEnd (S.left source.new) }
 {
-    let mut watchers = watchers;
-    match answer_to(rt, alloc, words, &mut watchers, gate, source) {
+    match answer_to(rt, alloc, words, watchers, gate, source) {
         Ok(answer) => deliver(sink, &answer.text, answer.status),
         Err(Stop::ReadFault) => deliver(sink, b"s READFAULT\n", 7),
         Err(Stop::OutOfMemory) => deliver(sink, b"s MEMORY\n", 9),

@@ -1,137 +1,108 @@
-//! The command on the spanning trees of a graph: `tree` samples a rooted one.
-ghost use Rattle.std.specs.Prelude.{◌≡◌, ◌<◌, ◌≤◌, ◌^◌, length, IfOk};
+//! The commands on spanning trees: `tree` samples a rooted one of a graph, and `make` of a grid
+//! that is made from a number.
+ghost use Rattle.std.specs.Prelude.{◌≡◌, false, ◌<◌, ◌≤◌, ◌^◌, length, OnOk, IfOk, IfErr};
 ghost use Rattle.pop_model.specs.Families.Family.{Cycles};
 ghost use Rattle.pop_model.specs.Instances.{FamilyFits};
-ghost use Rattle.pop_stacks.specs.Tables.{origin_of, table_of};
 ghost use Rattle.graph_read.specs.Graphs.{IsVertex};
-ghost use Rattle.graph_read.specs.Incidence.{incidence_of};
 ghost use Rattle.graph_read.specs.Paths.{IsConnected};
-ghost use Rattle.cycle_popping.specs.Trees.{weights_of_tree};
+ghost use Rattle.cycle_popping.specs.Trees.{heads_of_tree, weights_of_tree};
 ghost use Rattle.pop_print.specs.Ends.{AreFactsOf};
-ghost use Rattle.pop_print.specs.declared.facts.Facts.TheVariants.{Tree as TreeFacts};
-ghost use Rattle.popsample.specs.Outcomes.{AnswersBy};
+ghost use Rattle.popsample.specs.Results.{IsResultOf, IsCutOffRefusal};
 ghost use Rattle.popsample.specs.Sampling.{IsEndOf, ComesOfSampling};
-ghost use Rattle.popsample.specs.Trees.{cycles_instance, tree_instance, ComesOfTree};
+ghost use Rattle.popsample.specs.Trees.{cycles_instance, ComesOfTree};
+ghost use Rattle.popsample.specs.Grids.{ComesOfGrid};
 
 use crate::answer::Answer;
-use crate::crew::Crew;
-use crate::refusals::{refuse_cut_off, refuse_root, refuse_stacks};
-use crate::running::run_extremal;
-use cycle_popping::{arrow_weights_by, arrows_by};
-use graph_read::{Graph, Incidence, first_cut_off_by};
-use pop_instance::{Arrows, Family, Instance};
+use crate::asked::Asked;
+use crate::call::Call;
+use crate::instances::of_arrows;
+use crate::origin::StackOrigin;
+use crate::refusal::Refusal;
+use crate::running::run_and_tell;
+use cycle_popping::{arrows_of, grid_arrows, grid_weights, weights_of};
+use graph_read::{Graph, Incidence};
+use pop_instance::Arrows;
 use pop_print::Facts;
-use pop_stacks::{StackSpec, Stacks, Weights};
+use pop_stacks::Weights;
 use pop_workers::Gate;
-use std::alloc::{AllocError, Global};
+use std::alloc::Global;
 use std::sync::Wait;
 use std::thread::Threads;
 
-// The run of the cycles of arrows.
-fn run_arrows<R: Threads + Wait + Sync, G: Gate + Sync>(
-    alloc: Global,
-    crew: &Crew<R, G>,
-    facts: &Facts,
-    stacks: Stacks,
-    arrows: Arrows,
-) -> Result<Answer, AllocError>
-    requires fits { FamilyFits stacks (Cycles arrows) }
-    requires facts { AreFactsOf facts.now (record { stacks = stacks; family = Cycles arrows }) }
-    ensures { IfOk result (λ a. AnswersBy
-        (IsEndOf facts.now (record { stacks = stacks; family = Cycles arrows }))
-        a.status a.text.items) }
-{
-    match Instance::new(stacks, Family::Cycles(arrows)) {
-        Some(instance) => run_extremal(alloc, crew, facts, &instance),
-        None => unreachable!(),
-    }
-}
-
-/// Samples the cycles of arrows with these weights, of which the facts tell.
-pub(crate) fn sample_arrows<R: Threads + Wait + Sync, G: Gate + Sync>(
-    alloc: Global,
-    crew: &Crew<R, G>,
-    spec: StackSpec,
-    height: u32,
+// Samples the cycles of arrows with these weights, of which the facts tell.
+fn sample_arrows<R: Threads + Wait + Sync, G: Gate + Sync>(
+    call: &mut Call<R, G>,
+    origin: StackOrigin,
+    asked: Asked,
     facts: &Facts,
     weights: Weights,
     arrows: Arrows,
-) -> Result<Answer, AllocError>
-    requires some { 0 < height }
-    requires short { height < 2 ^ 31 }
+) -> Result<Answer, Refusal>
+    requires quiet { asked.log ≡ false }
     requires few { length weights < 2 ^ 31 }
-    requires fits { FamilyFits (table_of spec height weights) (Cycles arrows) }
-    requires facts { AreFactsOf facts.now
-        (cycles_instance (origin_of spec height) weights arrows) }
-    ensures { IfOk result (λ a. AnswersBy
-        (ComesOfSampling facts.now (origin_of spec height) weights
-        (IsEndOf facts.now (cycles_instance (origin_of spec height) weights arrows)))
-        a.status a.text.items) }
+    requires fits { FamilyFits (record { origin = origin; weights = weights }) (Cycles arrows) }
+    requires facts { AreFactsOf facts.now (cycles_instance origin weights arrows) }
+    ensures { IsResultOf (ComesOfSampling facts.now origin weights
+        (IsEndOf facts.now (cycles_instance origin weights arrows))) result }
 {
-    match Stacks::new(spec, weights, height) {
-        Err(fault) => refuse_stacks(alloc, facts, fault),
-        Ok(stacks) => run_arrows(alloc, crew, facts, stacks, arrows),
-    }
+    let stacks = origin.stacks(facts, weights)?;
+    let instance = of_arrows(stacks, arrows);
+    Ok(run_and_tell(call, facts, &instance, asked)?)
 }
 
-// Samples a tree of a graph of which no vertex is cut off.
-fn sample_tree<R: Threads + Wait + Sync, G: Gate + Sync>(
-    alloc: Global,
-    crew: &Crew<R, G>,
-    spec: StackSpec,
-    height: u32,
-    root: u32,
-    graph: Graph,
-    incidence: Incidence,
-) -> Result<Answer, AllocError>
-    requires some { 0 < height }
-    requires short { height < 2 ^ 31 }
-    requires incidence { incidence ≡ incidence_of graph }
-    requires root { IsVertex graph.vertices root }
-    requires connected { IsConnected graph root }
-    ensures { IfOk result (λ a. AnswersBy
-        (ComesOfSampling (TreeFacts graph root) (origin_of spec height)
-        (weights_of_tree graph root)
-        (IsEndOf (TreeFacts graph root) (tree_instance (origin_of spec height) graph root)))
-        a.status a.text.items) }
+// The arrows of a graph's trees to a root, and their weights; a vertex that is cut off from it is
+// refused. All are found by one incidence, which is let go behind them.
+fn arrows_and_weights(alloc: Global, graph: &Graph, root: u32) -> Result<(Arrows, Weights), Refusal>
+    requires root { IsVertex graph.now.vertices root }
+    ensures connected { OnOk result (IsConnected graph.now root) }
+    ensures arrows { IfOk result (λ parts. parts.0 ≡ heads_of_tree graph.now root) }
+    ensures weights { IfOk result (λ parts. parts.1 ≡ weights_of_tree graph.now root) }
+    ensures refused { IfErr result (IsCutOffRefusal graph.now root) }
 {
-    // Read for its contract, which says that there are few vertices, so that each has a name.
-    let _vertices = graph.vertices();
-    let arrows = arrows_by(alloc, &graph, &incidence, root)?;
-    let weights = arrow_weights_by(alloc, &graph, &incidence, root)?;
-    drop(incidence);
-    sample_arrows(
-        alloc,
-        crew,
-        spec,
-        height,
-        &Facts::Tree(graph, root),
-        weights,
-        arrows,
-    )
+    let incidence = Incidence::of(alloc, graph)?;
+    if let Some(vertex) = incidence.first_cut_off(alloc, root)? {
+        return Err(Refusal::CutOff(vertex));
+    }
+    let arrows = arrows_of(alloc, &incidence, root)?;
+    let weights = weights_of(alloc, &incidence, root)?;
+    Ok((arrows, weights))
 }
 
 /// Samples a spanning tree of the graph with this root, from 1: the answer of `tree`.
 pub fn tree<R: Threads + Wait + Sync, G: Gate + Sync>(
-    alloc: Global,
-    crew: &Crew<R, G>,
-    spec: StackSpec,
-    height: u32,
+    call: &mut Call<R, G>,
+    origin: StackOrigin,
+    asked: Asked,
     root: u32,
     graph: Graph,
-) -> Result<Answer, AllocError>
-    requires some { 0 < height }
-    requires short { height < 2 ^ 31 }
+) -> Result<Answer, Refusal>
+    requires quiet { asked.log ≡ false }
     requires root { 1 ≤ root }
-    ensures { IfOk result (λ a.
-        AnswersBy (ComesOfTree (origin_of spec height) root graph) a.status a.text.items) }
+    ensures { IsResultOf (ComesOfTree origin root graph) result }
 {
+    // It also says that there are few vertices, so that each has a name.
     if root > graph.vertices() {
-        return refuse_root(alloc, root);
+        return Err(Refusal::NoRoot(root));
     }
-    let incidence = Incidence::of(alloc, &graph)?;
-    match first_cut_off_by(alloc, &graph, &incidence, root)? {
-        Some(vertex) => refuse_cut_off(alloc, vertex),
-        None => sample_tree(alloc, crew, spec, height, root, graph, incidence),
-    }
+    let (arrows, weights) = arrows_and_weights(call.alloc, &graph, root)?;
+    let facts = Facts::Tree(graph, root);
+    sample_arrows(call, origin, asked, &facts, weights, arrows)
+}
+
+/// Samples a spanning tree of the grid of so many rows and columns, from 1 to 2048, with its arrows
+/// to vertex 1: the answer of `make`. The graph isn't made; arrows and weights come of the side.
+pub fn tree_of_grid<R: Threads + Wait + Sync, G: Gate + Sync>(
+    call: &mut Call<R, G>,
+    origin: StackOrigin,
+    asked: Asked,
+    side: u32,
+) -> Result<Answer, Refusal>
+    requires quiet { asked.log ≡ false }
+    requires side { (1 ≤ side) × (side ≤ 2048) }
+    ensures { IsResultOf (ComesOfGrid origin side) result }
+{
+    let arrows = grid_arrows(call.alloc, side)?;
+    let weights = grid_weights(call.alloc, side)?;
+    let facts = Facts::Made(side);
+    sample_arrows(call, origin, asked, &facts, weights, arrows)
 }

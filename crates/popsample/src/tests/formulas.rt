@@ -37,7 +37,8 @@ fn runs_end_as_worked_by_hand(rt: HostRuntime) -> Result<(), Fail> {
             0,
             "s SAMPLE\nv 1 2 0\nused 1 1\npops 1\n",
         ),
-        // a comment within a clause, a clause with a variable and its negation, a last clause without its 0
+        // a comment within a clause, a clause with a variable and its negation, a last clause
+        // without its 0
         (
             &["formula", "--stacks", "0;0;1"],
             "c by hand\np cnf 3 2\n1 -2\nc in the middle\n0\n2 3\n%\n0\n",
@@ -100,8 +101,8 @@ fn the_size_of_the_pieces_changes_no_byte(rt: HostRuntime) -> Result<(), Fail> {
     Ok(())
 }
 
-// Clause i asks 2i - 1, 2i and the negation of 2i + 1; it is false exactly where these three stand in the line of
-// the sample with the opposite signs.
+// Clause i asks 2i - 1, 2i and the negation of 2i + 1; it is false exactly where these three stand
+// in the line of the sample with the opposite signs.
 #[test]
 fn the_sample_of_a_chain_satisfies_each_clause(rt: HostRuntime) -> Result<(), Fail> {
     let alloc = rt.alloc();

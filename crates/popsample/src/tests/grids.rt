@@ -8,12 +8,13 @@ use std::sync::Wait;
 use std::test::Fail;
 use std::thread::Threads;
 
-// What is printed of the grid of side 40 under the key of zeros, by a program of the definitions that has
-// nothing of this one.
+// What is printed of the grid of side 40 under the key of zeros, by a program of the definitions
+// that has nothing of this one.
 const GRID_OF_40: &str = "s SAMPLE\ngrid 40\nused 7898 29\npops 2771\nsum 3027508\n";
 
-// Worked by hand: the words behind `make`, the status and the output. The vertices 2, 3 and 4 of the
-// grid of side 2 have the edges to 1 and 4, to 1 and 4, and to 2 and 3, in the order of their slots.
+// Worked by hand: the words behind `make`, the status and the output. The vertices 2, 3 and 4 of
+// the grid of side 2 have the edges to 1 and 4, to 1 and 4, and to 2 and 3, in the order of their
+// slots.
 #[test]
 fn small_grids_are_told_in_short(rt: HostRuntime) -> Result<(), Fail> {
     let rows: [(&[&str], u8, &str); 10] = [

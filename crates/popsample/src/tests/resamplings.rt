@@ -2,8 +2,8 @@
 use super::{ZERO_KEY, answer};
 use std::test::Fail;
 
-// Worked by hand from the definitions, on formulas that leave the order of pops no choice: the words,
-// the text, the status and the output.
+// Worked by hand from the definitions, on formulas that leave the order of pops no choice: the
+// words, the text, the status and the output.
 #[test]
 fn the_log_stands_behind_the_end(rt: HostRuntime) -> Result<(), Fail> {
     let rows: [(&[&str], &str, u8, &str); 8] = [

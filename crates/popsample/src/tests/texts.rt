@@ -1,5 +1,5 @@
-//! Texts that are read, by the verdict of `check` or by their first refusal. Worked by hand from the
-//! format.
+//! Texts that are read, by the verdict of `check` or by their first refusal. Worked by hand from
+//! the format.
 use super::answer;
 use std::alloc::Global;
 use std::process::Abort;

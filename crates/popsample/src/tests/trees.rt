@@ -28,8 +28,8 @@ fn trees_end_as_worked_by_hand(rt: HostRuntime) -> Result<(), Fail> {
             1,
             "s EXHAUSTED\nstuck 2 3\nused 0 0\npops 0\n",
         ),
-        // a loop, a parallel edge, and the weights 5 and 1: of the first entry of the key of zeros the
-        // sixth part up to the fifth is the first slot
+        // a loop, a parallel edge, and the weights 5 and 1: of the first entry of the key of zeros
+        // the sixth part up to the fifth is the first slot
         (
             &["tree", "--key", ZERO_KEY],
             "p edge 2 3\ne 2 2\ne 1 2 5\ne 1 2\n",
@@ -112,8 +112,8 @@ fn head_in(alloc: Global, text: &str, vertex: u64) -> Result<Option<u64>, Fail> 
     Ok(words.split(' ').next().and_then(|word| word.parse().ok()))
 }
 
-// The way from each vertex along the printed arrows comes to the root, in fewer steps than there are
-// vertices.
+// The way from each vertex along the printed arrows comes to the root, in fewer steps than there
+// are vertices.
 #[test]
 fn the_arrows_of_a_sample_lead_to_the_root(rt: HostRuntime) -> Result<(), Fail> {
     let alloc = rt.alloc();

@@ -1,64 +1,33 @@
-use Rattle.std.proofs.Common.{inl, inr, map, string_bytes}
-use Rattle.popsample.specs.Answers.{ComesOf, IsOutcome}
-use Rattle.pop_words.proofs.LawLemmas.{asked_height, asked_root, asked_size, asked_workers}
-use Rattle.popsample.proofs.Carrying.{carried, if_ok}
-use Rattle.popsample.proofs.Lifting.{of_words, input_of_job, grid_job}
+use Rattle.std.proofs.Common.{Err, map, string_bytes, ap}
+use Rattle.popsample.specs.Answers.{IsOutcome}
+use Rattle.popsample.proofs.ToldRefusals.{err_is, told_answer, told_low, told_high, told_usage, told_words, told_fault}
 use Rattle.popsample.proofs.answer.answer_to.Goals as goal
 
--- the words ask for the job, so that what comes of it comes of them
+-- an answer is no fault of the source
 pub returns-in-Ok-clause-answer : goal.returns-in-Ok-clause-answer
-returns-in-Ok-clause-answer g c text input =
-    carried (ComesOf c.in-Ok.job _ text) (IsOutcome (map string_bytes c.args.words.now) _ text) c.answer_job.result
-    (of_words (map string_bytes c.args.words.now) c.in-Ok.job _ text c.in-Ok.ensures.job)
-    (c.answer_job.ensures.answer text
-    (input_of_job (map string_bytes c.args.words.now) c.in-Ok.job _ text c.in-Ok.ensures.job input))
+returns-in-Ok-clause-answer g c text input = c.in-Ok.ensures.answer text input (λ failed. absurd (cc))
 
-pub returns-in-Ok-clause-only_usage : goal.returns-in-Ok-clause-only_usage
-returns-in-Ok-clause-only_usage g c outside = absurd (outside (c.in-Ok.job, c.in-Ok.ensures.job))
+pub returns-in-Err-clause-answer : goal.returns-in-Err-clause-answer
+returns-in-Err-clause-answer g c text input =
+    told_answer (IsOutcome (map string_bytes c.args.words.now) _ text) c.in-Err.refusal c.told.result c.told.ensures.told
+    (λ read. c.in-Err.ensures.answer text input (λ failed. read (err_is _ _ failed)))
 
-pub returns-in-Ok-clause-unread : goal.returns-in-Ok-clause-unread
-returns-in-Ok-clause-unread g c (inl outside) = absurd (outside (c.in-Ok.job, c.in-Ok.ensures.job))
-returns-in-Ok-clause-unread g c (inr grid) =
-    c.answer_job.ensures.unread (grid_job (map string_bytes c.args.words.now) c.in-Ok.job c.in-Ok.ensures.job grid)
+pub returns-in-Err-clause-status : goal.returns-in-Err-clause-status
+returns-in-Err-clause-status g c = told_low c.in-Err.refusal c.told.result c.told.ensures.told
 
-pub returns-in-Ok-clause-whole : goal.returns-in-Ok-clause-whole
-returns-in-Ok-clause-whole g c =
-    if_ok _ _ c.answer_job.result (λ a whole low other. whole low (λ make. other (c.in-Ok.job, c.in-Ok.ensures.job, make)))
-    c.answer_job.ensures.whole
+pub returns-in-Err-clause-usage : goal.returns-in-Err-clause-usage
+returns-in-Err-clause-usage g c =
+    told_usage (map string_bytes c.args.words.now) c.in-Err.refusal c.told.result
+    (λ place is. c.in-Err.ensures.bad_place place (ap (λ r. Err r) is)) c.told.ensures.told
 
-pub returns-in-Ok-clause-read_fault : goal.returns-in-Ok-clause-read_fault
-returns-in-Ok-clause-read_fault g c failed =
-    let front = c.answer_job.ensures.no_bad_line failed in
-    record {
-      rose = c.answer_job.ensures.read_fault failed;
-      job = c.in-Ok.job;
-      asks = c.in-Ok.ensures.job;
-      taken = front.0;
-      consumed = front.1;
-      no_bad_line = front.2;
-    }
+pub returns-in-Err-clause-only_usage : goal.returns-in-Err-clause-only_usage
+returns-in-Err-clause-only_usage g c outside =
+    told_words c.in-Err.refusal c.told.result (c.in-Err.ensures.only_words outside) c.told.ensures.told
+    c.told.ensures.stopped
 
-pub answer_job-requires-clause-some : goal.answer_job-requires-clause-some
-answer_job-requires-clause-some g c κs lives =
-    (asked_height (map string_bytes c.args.words.now) c.in-Ok.job c.in-Ok.ensures.job).0
+pub returns-in-Err-clause-whole : goal.returns-in-Err-clause-whole
+returns-in-Err-clause-whole g c = told_high _ c.in-Err.refusal c.told.result c.told.ensures.told
 
-pub answer_job-requires-clause-short : goal.answer_job-requires-clause-short
-answer_job-requires-clause-short g c κs lives =
-    (asked_height (map string_bytes c.args.words.now) c.in-Ok.job c.in-Ok.ensures.job).1
-
-pub answer_job-requires-clause-root : goal.answer_job-requires-clause-root
-answer_job-requires-clause-root g c κs lives =
-    (asked_root (map string_bytes c.args.words.now) c.in-Ok.job c.in-Ok.ensures.job).0
-
-pub answer_job-requires-clause-side : goal.answer_job-requires-clause-side
-answer_job-requires-clause-side g c κs lives make =
-    let range = asked_size (map string_bytes c.args.words.now) c.in-Ok.job c.in-Ok.ensures.job in (range.1 make, range.0)
-
--- from 1 to 64 workers are asked for
-pub new-crew-requires-clause-one : goal.new-crew-requires-clause-one
-new-crew-requires-clause-one g c κs lives =
-    (asked_workers (map string_bytes c.args.words.now) c.in-Ok.job c.in-Ok.ensures.job).0
-
-pub new-crew-requires-clause-few : goal.new-crew-requires-clause-few
-new-crew-requires-clause-few g c κs lives =
-    (asked_workers (map string_bytes c.args.words.now) c.in-Ok.job c.in-Ok.ensures.job).1
+pub returns-in-Err-clause-read_fault : goal.returns-in-Err-clause-read_fault
+returns-in-Err-clause-read_fault g c failed =
+    c.in-Err.ensures.read_fault (ap (λ r. Err r) (told_fault c.in-Err.refusal c.told.result c.told.ensures.stopped failed))

@@ -1,27 +1,38 @@
-use Rattle.std.proofs.Common.{◌≡◌, ◌∙◌, ap, subst, arith}
-use Rattle.pop_stacks.specs.Tables.{origin_of}
-use Rattle.pop_stacks.specs.Faults.{IsCause}
+use Rattle.std.proofs.Common.{◌≡◌, ◌∙◌, ap, subst}
+use Rattle.pop_model.specs.Stacks.{StackTable}
 use Rattle.pop_print.specs.declared.facts.Facts.TheVariants.{Formula as FormulaFacts}
-use Rattle.popsample.specs.Formulas.{ComesOfFormula}
-use Rattle.popsample.specs.Sampling.{pair_weights}
-use Rattle.popsample.specs.Outcomes.Outcome.{Unsound}
-use Rattle.popsample.proofs.Carrying.{told}
-use Rattle.popsample.proofs.FaultNames.{has_name, pairs_few}
+use Rattle.pop_stacks.specs.Faults.{IsSound}
+use Rattle.popsample.specs.Sampling.{pair_weights, instance_of, ComesOfSampling}
+use Rattle.popsample.specs.Resamplings.{RunsFormula}
+use Rattle.popsample.proofs.Carrying.{refused_result}
+use Rattle.popsample.proofs.FormulaRuns.{clash_refused, run_answers}
 use Rattle.popsample.proofs.formula.sample_formula.Goals as goal
 
-pub refuse_stacks-requires : goal.refuse_stacks-requires
-refuse_stacks-requires g c =
-    has_name (origin_of c.args.spec c.args.height) c.pairs.result c.in-Err.fault
-    (pairs_few c.variables-variables.result c.pairs.result c.pairs.ensures (omega (arith, c.variables-variables.ensures.bound)))
-    c.in-Err.ensures.cause
+-- the events clash
+pub returns-in_err-refuse_clash : goal.returns-in_err-refuse_clash
+returns-in_err-refuse_clash g c =
+    let f = c.args.formula.now in
+    let sound : IsSound c.args.origin (pair_weights f.variables) =
+    subst (IsSound c.args.origin) (c.pairs.ensures ∙ ap pair_weights c.variables-variables.ensures.count)
+    c.in_ok-stacks.ensures.sound in
+    refused_result
+    (ComesOfSampling (FormulaFacts f.variables) c.args.origin (pair_weights f.variables)
+    (RunsFormula c.args.may_clash c.args.origin c.args.asked _ f)) c.from_residual-in_err-refuse_clash.result
+    c.in_err-refuse_clash.field-0.0 c.from_residual-in_err-refuse_clash.ensures.1
+    (clash_refused c.args.may_clash c.args.origin c.args.asked _ f c.in_ok-events.events c.in_err-refuse_clash.field-0.0
+    sound c.in_ok-events.ensures.events c.in_err-refuse_clash.ensures.clash)
 
-pub returns-in-Err : goal.returns-in-Err
-returns-in-Err g c =
+pub returns : goal.returns
+returns g c =
+    let f = c.args.formula.now in
     let n = c.variables-variables.result in
-    let origin = origin_of c.args.spec c.args.height in
-    let count : n ≡ c.args.formula.now.variables = c.variables-variables.ensures.count in
-    told (ComesOfFormula origin c.args.formula.now) (Unsound (FormulaFacts n) c.in-Err.fault) c.refuse_stacks.result (
-      ap (λ k. FormulaFacts k) count,
-      subst (λ w. IsCause origin w c.in-Err.fault) (c.pairs.ensures ∙ ap pair_weights count) c.in-Err.ensures.cause,
-    )
-    c.refuse_stacks.ensures
+    let a = c.in_ok-run_and_tell.field-0 in
+    let sound : IsSound c.args.origin (pair_weights f.variables) =
+    subst (IsSound c.args.origin) (c.pairs.ensures ∙ ap pair_weights c.variables-variables.ensures.count)
+    c.in_ok-stacks.ensures.sound in
+    let same : c.of_events-instance.result ≡ instance_of c.args.origin n c.in_ok-events.events =
+    c.of_events-instance.ensures
+    ∙ ap (λ (s : StackTable). instance_of s.origin n c.in_ok-events.events) c.in_ok-stacks.ensures.made in
+    run_answers c.args.may_clash c.args.origin c.args.asked _ n f c.in_ok-events.events c.of_events-instance.result a.status
+    a.text.items c.variables-variables.ensures.count same c.in_ok-events.ensures.events sound c.requires.told
+    c.in_ok-refuse_clash.ensures.extremal c.in_ok-run_and_tell.ensures.ended c.in_ok-run_and_tell.ensures.history

@@ -3,10 +3,12 @@ use Rattle.pop_model.specs.Families.{Event}
 use Rattle.popsample.specs.Outcomes.{end_status}
 use Rattle.popsample.proofs.running.status_of.Goals as goal
 
+-- at an empty stuck list it is 0
 none : (stuck : List Event) → length stuck ≡ 0 → 0 ≡ end_status stuck
 none [] h = refl
 none (e ∷ stuck) h = absurd (omega arith)
 
+-- and else 1
 some : (stuck : List Event) → 0 < length stuck → 1 ≡ end_status stuck
 some [] h = absurd (omega arith)
 some (e ∷ stuck) h = refl

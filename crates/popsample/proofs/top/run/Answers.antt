@@ -1,16 +1,15 @@
 use Rattle.std.proofs.Common.{inl, inr, Err, map, string_bytes, ap, subst}
 use Rattle.pop_edge.specs.Devices.{AppendsFront}
-use Rattle.popsample.proofs.HandedWatchers.{with_watchers, answered_with}
+use Rattle.popsample.proofs.HeldAnswers.{held_answer}
 use Rattle.popsample.proofs.top.run.Goals as goal
 
 -- the sink took the answer's text
 pub returns-in-Ok-clause-answer : goal.returns-in-Ok-clause-answer
 returns-in-Ok-clause-answer g c text input unbroken = elim c.deliver.ensures.status [
   | inl same ↦
-      answered_with _ c.deref_mut.result.now c.args.watchers.items (map string_bytes c.args.words.now) text
-      c.in-Ok.answer.status c.deliver.result c.in-Ok.answer.text.items c.deref.result.now
-      (g.K.Sink.holds c.args.sink.now) (g.K.Sink.holds c.deliver.new.sink) c.deref_mut.ensures.value same
-      c.deref.ensures.value (c.in-Ok.ensures.answer text input)
+      held_answer (map string_bytes c.args.words.now) _ text c.in-Ok.answer.status c.deliver.result
+      c.in-Ok.answer.text.items c.deref.result.now (g.K.Sink.holds c.args.sink.now)
+      (g.K.Sink.holds c.deliver.new.sink) same c.deref.ensures.value (c.in-Ok.ensures.answer text input)
       (c.deliver.ensures.held (λ failed. unbroken (inr (inl failed))))
   | inr failed ↦ absurd (unbroken (inr (inl failed)))
 ]
@@ -20,12 +19,20 @@ pub returns-in-Ok-clause-cut : goal.returns-in-Ok-clause-cut
 returns-in-Ok-clause-cut g c text known failed =
     record {
       out = c.in-Ok.answer.text.items;
-      may = inl (
-        c.in-Ok.answer.status,
-        with_watchers _ c.deref_mut.result.now c.args.watchers.items (map string_bytes c.args.words.now) text
-            c.in-Ok.answer.status c.in-Ok.answer.text.items c.deref_mut.ensures.value (c.in-Ok.ensures.answer text known),
-      );
-      held = subst (λ bytes. AppendsFront (g.K.Sink.holds c.args.sink.now) (g.K.Sink.holds c.deliver.new.sink) bytes) c.deref.ensures.value (c.deliver.ensures.cut failed);
+      may = inl (c.in-Ok.answer.status, c.in-Ok.ensures.answer text known);
+      held = subst (λ bytes. AppendsFront (g.K.Sink.holds c.args.sink.now) (g.K.Sink.holds c.deliver.new.sink) bytes)
+          c.deref.ensures.value (c.deliver.ensures.cut failed);
+    }
+
+-- what words outside the grammar are told needs no source
+pub returns-in-Ok-clause-cut_usage : goal.returns-in-Ok-clause-cut_usage
+returns-in-Ok-clause-cut_usage g c outside failed =
+    let told = c.in-Ok.ensures.usage (c.in-Ok.ensures.only_usage outside) in
+    record {
+      out = c.in-Ok.answer.text.items;
+      may = inl told;
+      held = subst (λ bytes. AppendsFront (g.K.Sink.holds c.args.sink.now) (g.K.Sink.holds c.deliver.new.sink) bytes)
+          c.deref.ensures.value (c.deliver.ensures.cut failed);
     }
 
 pub returns-in-Err-ReadFault-clause-read_fault : goal.returns-in-Err-ReadFault-clause-read_fault

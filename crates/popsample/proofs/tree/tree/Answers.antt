@@ -1,20 +1,17 @@
-use Rattle.std.proofs.Common.{◌≤◌, subst, arith}
-use Rattle.std.specs.Prelude.{IfSome}
-use Rattle.pop_model.specs.Places.{IsLeast}
-use Rattle.pop_stacks.specs.Tables.{origin_of}
-use Rattle.graph_read.specs.Paths.{IsCutOff}
-use Rattle.popsample.specs.Outcomes.Outcome.{CutOff}
-use Rattle.popsample.specs.Trees.{ComesOfTree}
-use Rattle.popsample.proofs.Carrying.{told}
+use Rattle.std.proofs.Common.{arith}
+use Rattle.popsample.proofs.MadeInstances.{told_tree, fits_tree}
 use Rattle.popsample.proofs.tree.tree.Goals as goal
 
--- the least vertex that is cut off
-pub returns-in-Some : goal.returns-in-Some
-returns-in-Some g c =
-    let root = c.args.root in
-    let graph = c.args.graph in
-    let low : root ≤ graph.vertices = omega (arith, c.if-root-vertices.false, c.vertices.ensures.count) in
-    let least : IsLeast (IsCutOff graph root) c.in-Some.vertex =
-    subst (λ found. IfSome found (IsLeast (IsCutOff graph root))) c.in-Some.is c.in_ok-vertex.ensures.least in
-    told (ComesOfTree (origin_of c.args.spec c.args.height) root graph) (CutOff c.in-Some.vertex) c.refuse_cut_off.result
-    (low, least) c.refuse_cut_off.ensures
+pub sample_arrows-requires-clause-fits : goal.sample_arrows-requires-clause-fits
+sample_arrows-requires-clause-fits g c κs within =
+    fits_tree (record { origin = c.args.origin; weights = c.in_ok-arrows.weights }) c.args.graph c.args.root
+    c.in_ok-arrows.arrows c.in_ok-arrows.ensures.weights c.in_ok-arrows.ensures.arrows
+
+pub sample_arrows-requires-clause-facts : goal.sample_arrows-requires-clause-facts
+sample_arrows-requires-clause-facts g c κs within =
+    told_tree c.args.origin c.args.graph c.args.root c.in_ok-arrows.weights c.in_ok-arrows.arrows
+    (record {
+      first = c.requires.root;
+      last = omega (arith, c.vertices.ensures.count, c.if-root-vertices.false);
+    })
+    c.in_ok-arrows.ensures.weights c.in_ok-arrows.ensures.arrows

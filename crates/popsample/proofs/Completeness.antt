@@ -1,0 +1,189 @@
+-- Where nothing stands against words and a text, each outcome is an end or a verdict, since every other would be
+-- something that stands against them.
+use Rattle.std.proofs.Common.{inl, inr, ◌≡◌, ◌⊎◌, ℕ, ◌≤◌, false, List, [], ◌∷◌, length, Ok, refl, sym, subst, ◌∙◌, arith}
+use Rattle.pop_model.specs.Stacks.{Origin}
+use Rattle.pop_model.specs.Families.{Event}
+use Rattle.pop_stacks.specs.Faults.{IsSound}
+use Rattle.dimacs_read.specs.Cnf.{Cnf}
+use Rattle.dimacs_read.specs.CnfText.{AnswersCnf}
+use Rattle.dimacs_read.proofs.GrammarLaw.{complete}
+use Rattle.graph_read.specs.Graphs.{GraphOf}
+use Rattle.graph_read.proofs.GrammarLaw as graphs
+use Rattle.graph_read.specs.Paths.{IsConnected}
+use Rattle.graph_read.specs.Grids.{grid_of}
+use Rattle.sink_popping.specs.Sinks.{IsIsolated}
+use Rattle.cycle_popping.specs.Trees.{weights_of_tree}
+use Rattle.pop_words.specs.declared.command.Command.{Command}
+use Rattle.pop_words.specs.declared.command.Command.TheVariants.{Formula, Orient, Tree, Resample, Check, Make}
+use Rattle.pop_words.specs.declared.job.Job.{Job}
+use Rattle.pop_words.proofs.OneJob.{same_job}
+use Rattle.pop_watch.specs.Telling.{Watcher}
+use Rattle.pop_edge.specs.declared.refusal.ReadRefusal.{ReadRefusal}
+use Rattle.popsample.specs.declared.asked.Asked.{Asked}
+use Rattle.popsample.specs.Witnesses.{Witness, is_missing}
+use Rattle.popsample.specs.Witnesses.Witness.{Unasked, Missing, Shown}
+use Rattle.popsample.specs.Outcomes.{Outcome, status_of, end_status, resampled_status}
+use Rattle.popsample.specs.Outcomes.Outcome.{Usage, Unread, Isolated, NoRoot, CutOff, Unsound, Clashes, Extremal, Ended, Resampled}
+use Rattle.popsample.specs.Sampling.{pair_weights}
+use Rattle.popsample.specs.Formulas.{ComesOfFormula, ComesOfChecking}
+use Rattle.popsample.specs.Resamplings.{ComesOfResampling}
+use Rattle.popsample.specs.Orientations.{ComesOfOrienting}
+use Rattle.popsample.specs.Trees.{ComesOfTree}
+use Rattle.popsample.specs.Grids.{ComesOfGrid}
+use Rattle.popsample.specs.Answers.{ComesOfCommand, ComesOf, IsOfText, Refuses, origin_for, asked_by}
+use Rattle.popsample.specs.Complete.{Spells, HasExtremalEvents, CanBeDone, HasWitness, Complete}
+use Rattle.popsample.proofs.OneFault.{sound_has_none}
+use Rattle.popsample.proofs.OneClash.{extremal_has_none}
+use Rattle.popsample.proofs.OneReading.{no_cnf_refusal, no_graph_refusal}
+use Rattle.popsample.proofs.OneOutcome.{word_cases, read_cases}
+
+-- the status is that of an end or a verdict
+abbrev IsLow : ℕ → Type 0
+IsLow status = (status ≡ 0) ⊎ (status ≡ 1)
+
+-- that of an end is
+end_low : (stuck : List Event) → IsLow (end_status stuck)
+end_low [] = inl refl
+end_low (e ∷ stuck) = inr refl
+
+-- so is that of a resampling whose witness is there
+resampled_low : (stuck : List Event) (w : Witness) → is_missing w ≡ false → IsLow (resampled_status stuck w)
+resampled_low stuck Unasked has = end_low stuck
+resampled_low stuck (Missing name entry c) has = absurd (cc)
+resampled_low stuck (Shown tree) has = end_low stuck
+
+-- a formula, sound stacks and extremal events
+formula_low : (origin : Origin) (f : Cnf) (o : Outcome) → IsSound origin (pair_weights f.variables)
+    → HasExtremalEvents f
+    → ComesOfFormula origin f o → IsLow (status_of o)
+formula_low origin f (Ended t i c n s) sound extremal h = end_low s
+formula_low origin f (Unsound t r) sound extremal h = absurd
+    (sound_has_none origin (pair_weights f.variables) r sound h.1)
+formula_low origin f (Clashes i j) sound extremal h =
+    absurd (extremal_has_none h.1.events (extremal h.1.events h.1.of_formula) i j h.1.least.holds)
+formula_low origin f (Usage p) sound extremal h = absurd h.1.end
+formula_low origin f (Unread r) sound extremal h = absurd h.1.end
+formula_low origin f (Isolated w) sound extremal h = absurd h.1.end
+formula_low origin f (NoRoot r) sound extremal h = absurd h.1.end
+formula_low origin f (CutOff w) sound extremal h = absurd h.1.end
+formula_low origin f (Extremal n) sound extremal h = absurd h.1.end
+formula_low origin f (Resampled t i l s w b) sound extremal h = absurd h.1.end
+
+-- the same with a log, where the witness is there
+resampling_low : (origin : Origin) (asked : Asked) (ws : List Watcher) (f : Cnf) (o : Outcome)
+    → IsSound origin (pair_weights f.variables) → HasWitness o → ComesOfResampling origin asked ws f o
+    → IsLow (status_of o)
+resampling_low origin asked ws f (Resampled t i l s w b) sound has h = resampled_low s w has
+resampling_low origin asked ws f (Unsound t r) sound has h =
+    absurd (sound_has_none origin (pair_weights f.variables) r sound h.1)
+resampling_low origin asked ws f (Clashes i j) sound has h = absurd h.1.history
+resampling_low origin asked ws f (Usage p) sound has h = absurd h.1.history
+resampling_low origin asked ws f (Unread r) sound has h = absurd h.1.history
+resampling_low origin asked ws f (Isolated w) sound has h = absurd h.1.history
+resampling_low origin asked ws f (NoRoot r) sound has h = absurd h.1.history
+resampling_low origin asked ws f (CutOff w) sound has h = absurd h.1.history
+resampling_low origin asked ws f (Extremal n) sound has h = absurd h.1.history
+resampling_low origin asked ws f (Ended t i c n s) sound has h = absurd h.1.history
+
+-- a formula that is checked
+checking_low : (f : Cnf) (o : Outcome) → HasExtremalEvents f → ComesOfChecking f o → IsLow (status_of o)
+checking_low f (Extremal n) extremal h = inl refl
+checking_low f (Clashes i j) extremal h =
+    absurd (extremal_has_none h.events (extremal h.events h.of_formula) i j h.least.holds)
+checking_low f o extremal h = absurd h
+
+-- a graph without isolated vertices
+orienting_low : (origin : Origin) (g : GraphOf) (o : Outcome) → ((w : ℕ) → IsIsolated g w → ⊥)
+    → IsSound origin (pair_weights (length g.edges)) → ComesOfOrienting origin g o → IsLow (status_of o)
+orienting_low origin g (Ended t i c n s) touched sound h = end_low s
+orienting_low origin g (Isolated w) touched sound h = absurd (touched w h.holds)
+orienting_low origin g (Unsound t r) touched sound h =
+    absurd (sound_has_none origin (pair_weights (length g.edges)) r sound h.1.1)
+orienting_low origin g (Clashes i j) touched sound h = absurd h.1.1.end
+orienting_low origin g (Usage p) touched sound h = absurd h.1.1.end
+orienting_low origin g (Unread r) touched sound h = absurd h.1.1.end
+orienting_low origin g (NoRoot r) touched sound h = absurd h.1.1.end
+orienting_low origin g (CutOff w) touched sound h = absurd h.1.1.end
+orienting_low origin g (Extremal n) touched sound h = absurd h.1.1.end
+orienting_low origin g (Resampled t i l s w b) touched sound h = absurd h.1.1.end
+
+-- a graph each of whose vertices is joined to its root
+tree_low : (origin : Origin) (root : ℕ) (g : GraphOf) (o : Outcome) → root ≤ g.vertices → IsConnected g root
+    → IsSound origin (weights_of_tree g root) → ComesOfTree origin root g o → IsLow (status_of o)
+tree_low origin root g (Ended t i c n s) last joined sound h = end_low s
+tree_low origin root g (NoRoot r) last joined sound h = let above = h.1 in absurd (omega (arith, above, last))
+tree_low origin root g (CutOff w) last joined sound h = absurd (h.1.holds.apart (joined w h.1.holds.vertex))
+tree_low origin root g (Unsound t r) last joined sound h = absurd
+    (sound_has_none origin (weights_of_tree g root) r sound h.2.1)
+tree_low origin root g (Clashes i j) last joined sound h = absurd h.2.1
+tree_low origin root g (Usage p) last joined sound h = absurd h.2.1
+tree_low origin root g (Unread r) last joined sound h = absurd h.2.1
+tree_low origin root g (Isolated w) last joined sound h = absurd h.2.1
+tree_low origin root g (Extremal n) last joined sound h = absurd h.2.1
+tree_low origin root g (Resampled t i l s w b) last joined sound h = absurd h.2.1
+
+-- a grid
+grid_low : (origin : Origin) (side : ℕ) (o : Outcome) → IsSound origin (weights_of_tree (grid_of side) 1)
+    → ComesOfGrid origin side o → IsLow (status_of o)
+grid_low origin side (Ended t i c n s) sound h = end_low s
+grid_low origin side (Unsound t r) sound h = absurd
+    (sound_has_none origin (weights_of_tree (grid_of side) 1) r sound h.1)
+grid_low origin side (NoRoot r) sound h = absurd h.1
+grid_low origin side (CutOff w) sound h = absurd h.1
+grid_low origin side (Clashes i j) sound h = absurd h.1
+grid_low origin side (Usage p) sound h = absurd h.1
+grid_low origin side (Unread r) sound h = absurd h.1
+grid_low origin side (Isolated w) sound h = absurd h.1
+grid_low origin side (Extremal n) sound h = absurd h.1
+grid_low origin side (Resampled t i l s w b) sound h = absurd h.1
+
+-- a text that spells a formula or a graph is answered by it
+spelled : (text : List ℕ) (f : Cnf) → Spells text f → AnswersCnf text (Ok f)
+spelled text f s = let (none, is) = complete text f s.is in (none, is, s.full)
+
+-- what comes of a command against which nothing stands
+command_low : (command : Command) (job : Job) (ws : List Watcher) (text : List ℕ) (o : Outcome)
+    → CanBeDone command job text
+    → HasWitness o → ComesOfCommand command job ws text o → IsLow (status_of o)
+command_low Formula job ws text o (f, spells, sound, extremal) has h =
+    formula_low (origin_for job) f o sound extremal
+    (subst (λ g. ComesOfFormula (origin_for job) g o) (h.spelled.1 ∙ sym (spelled text f spells).1) h.comes)
+command_low Orient job ws text o (g, is, touched, sound) has h =
+    orienting_low (origin_for job) g o touched sound
+    (subst (λ k. ComesOfOrienting (origin_for job) k o) (h.spelled.1 ∙ sym (graphs.complete text g is).1) h.comes)
+command_low Tree job ws text o (g, is, last, joined, sound) has h =
+    tree_low (origin_for job) job.root g o last joined sound
+    (subst (λ k. ComesOfTree (origin_for job) job.root k o) (h.spelled.1 ∙ sym (graphs.complete text g is).1) h.comes)
+command_low Resample job ws text o (f, spells, sound) has h =
+    resampling_low (origin_for job) (asked_by job) ws f o sound has
+    (subst (λ g. ComesOfResampling (origin_for job) (asked_by job) ws g o)
+    (h.spelled.1 ∙ sym (spelled text f spells).1) h.comes)
+command_low Check job ws text o (f, spells, extremal) has h =
+    checking_low f o extremal (subst (λ g. ComesOfChecking g o) (h.spelled.1 ∙ sym (spelled text f spells).1) h.comes)
+command_low Make job ws text o sound has h = grid_low (origin_for job) job.size o sound h
+
+-- and its text isn't refused
+unrefused : (command : Command) (job : Job) (text : List ℕ) (r : ReadRefusal) → CanBeDone command job text → IsOfText r
+    → Refuses command text r → ⊥
+unrefused Formula job text r (f, spells, sound, extremal) of refuses = no_cnf_refusal text f r (spelled text f spells)
+    of refuses
+unrefused Orient job text r (g, is, touched, sound) of refuses = no_graph_refusal text g r (graphs.complete text g is)
+    of refuses
+unrefused Tree job text r (g, is, last, joined, sound) of refuses =
+    no_graph_refusal text g r (graphs.complete text g is) of refuses
+unrefused Resample job text r (f, spells, sound) of refuses = no_cnf_refusal text f r (spelled text f spells) of refuses
+unrefused Check job text r (f, spells, extremal) of refuses = no_cnf_refusal text f r (spelled text f spells) of refuses
+unrefused Make job text r sound of refuses = refuses
+
+-- the law
+pub all_done : Complete
+all_done words ws text job status out asks can (o, (comes, has), tells) =
+    subst IsLow (sym tells.status_is) (elim (word_cases words ws text o comes) [
+      | inl (place, is, bad) ↦ absurd (bad.outside (job, asks))
+      | inr came ↦
+          let same : came.job ≡ job = same_job words came.job job came.asks asks in
+          elim (read_cases job ws text o (subst (λ j. ComesOf j ws text o) same came.comes)) [
+            | inl (r, is, of, refused) ↦ absurd (unrefused job.command job text r can of refused)
+            | inr done ↦ command_low job.command job ws text o can has done
+          ]
+    ])

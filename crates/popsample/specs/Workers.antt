@@ -1,0 +1,29 @@
+-- Words that differ in the number of workers alone.
+use Rattle.std.specs.Prelude.{◌≡◌, ℕ, not, List, filter, bytes_eq, codes}
+use Rattle.pop_words.specs.declared.job.Job.{Job}
+use Rattle.pop_words.specs.CommandLines.{Choice, Asks}
+use Rattle.pop_watch.specs.Telling.{Watcher}
+use Rattle.popsample.specs.Answers.{IsAnswer}
+use Rattle.popsample.specs.Laws.{AskForOneEnd}
+
+-- the options but for `--workers`
+abbrev pub but_workers : List Choice → List Choice
+but_workers chosen = filter (λ p. not (bytes_eq p.0.name (codes "--workers"))) chosen
+
+-- the words are command lines of one command, whose options but for `--workers` are the same, in
+-- the same order
+pub record DifferInWorkers (words others : List (List ℕ)) : Type 0 where
+  pub job : Job
+  pub other : Job
+  pub asks : Asks words job
+  pub asks_other : Asks others other
+  pub command : asks.command ≡ asks_other.command
+  pub options : but_workers asks.chosen ≡ but_workers asks_other.chosen
+
+-- such words have with a text one answer, whatever watchers there are, where they don't ask for a
+-- resampling
+abbrev pub WorkersAgree : Type 0
+WorkersAgree = (words others : List (List ℕ)) (watchers further : List Watcher) (text : List ℕ)
+    (status other : ℕ) (out out' : List ℕ) → DifferInWorkers words others → AskForOneEnd words
+    → IsAnswer words watchers text status out → IsAnswer others further text other out'
+    → (status ≡ other) × (out ≡ out')
