@@ -1,0 +1,44 @@
+#!/usr/bin/env python3
+"""Samples a spanning tree of a graph of networkx, and draws it as an SVG on standard output.
+
+    PYTHONPATH=python python3 examples/draw_networkx.py > families.svg
+    PYTHONPATH=python python3 examples/draw_networkx.py KEY > families.svg
+
+The graph has the families of Florence that married into each other, and the tree leads to the Medici. Without a key
+each call draws another tree, and tells its key in the picture's title. It needs networkx and the module popsample.
+"""
+
+from __future__ import annotations
+
+import sys
+
+import networkx
+import popsample
+
+from draw import MARGIN, RADIUS, circle, picture
+from graph_text import Arrow, Graph
+
+
+def drawing(graph: networkx.Graph, tree: popsample.Tree) -> str:
+    """The picture of a tree of the graph, whose vertices are numbered from 1 as they come."""
+    numbers = {name: number for number, name in enumerate(graph, 1)}
+    edges = [(numbers[first], numbers[second]) for first, second in graph.edges]
+    names = {number: str(name) for name, number in numbers.items()}
+    arrows = [Arrow(numbers[tail], numbers[head], 0) for tail, head in tree.graph.edges]
+    body = [f"<title>{tree.key}</title>", *circle(Graph(len(numbers), edges, names), arrows)]
+    return picture(2 * (RADIUS + MARGIN), iter(body))
+
+
+def main() -> None:
+    if len(sys.argv) > 2:
+        sys.exit("usage: draw_networkx.py [KEY] > SVG")
+    graph = networkx.florentine_families_graph()
+    try:
+        tree = popsample.spanning_tree(graph, root="Medici", key=sys.argv[1] if len(sys.argv) == 2 else None)
+    except popsample.Refusal as error:
+        sys.exit(f"draw_networkx.py: {error}")
+    print(drawing(graph, tree))
+
+
+if __name__ == "__main__":
+    main()

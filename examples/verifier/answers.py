@@ -1,0 +1,105 @@
+"""The answer that belongs to words and an input, and for `resample` to the printed log."""
+
+from __future__ import annotations
+
+from typing import NamedTuple, Union
+
+from .command_line import Job, read_words
+from .formulas import FormulaSetting, read_formula
+from .graphs import grid, read_graph
+from .logs import printed_record, read_log, report_lines
+from .orientations import OrientationSetting
+from .refusals import Refusal
+from .runs import Board
+from .stacks import Stacks
+from .trees import TreeSetting
+from .witnesses import witness_lines
+
+Setting = Union[FormulaSetting, OrientationSetting, TreeSetting]
+
+
+class Answer(NamedTuple):
+    """A status and the printed lines; and the setting, where they have a sample that can be read off them."""
+
+    status: int
+    lines: list[str]
+    setting: Union[Setting, None] = None
+
+
+def setting_of(job: Job, text: bytes) -> Setting:
+    """The names, weights and events of a job's run."""
+    if job.command == "make":
+        return TreeSetting(grid(job.side), 1)
+    if job.command == "tree":
+        return TreeSetting(read_graph(text), job.root)
+    if job.command == "orient":
+        return OrientationSetting(read_graph(text))
+    return FormulaSetting(read_formula(text))
+
+
+def refuse_clash(setting: FormulaSetting) -> None:
+    """Refuses a formula that isn't extremal."""
+    clash = setting.family.least_clash()
+    if clash:
+        raise Refusal(5, "s CLASH {} {}".format(*clash))
+
+
+def end_of(setting: Setting, board: Board, pops: int) -> Answer:
+    """The end of a run."""
+    stuck = board.occurring()
+    used = [" ".join(["used", *map(str, board.cursors)]), f"pops {pops}"]
+    if stuck:
+        return Answer(1, ["s EXHAUSTED", *map(setting.stuck_line, stuck), *used])
+    return Answer(0, ["s SAMPLE", *setting.sample_lines(board.values), *used], setting)
+
+
+def made_end_of(setting: TreeSetting, board: Board, pops: int, side: int) -> Answer:
+    """The end of a run of `make`, in short."""
+    stuck = board.occurring()
+    middle = [f"used {sum(board.cursors)} {max(board.cursors, default=0)}", f"pops {pops}"]
+    if stuck:
+        return Answer(1, ["s EXHAUSTED", f"grid {side}", f"stuck {len(stuck)}", *middle])
+    return Answer(0, ["s SAMPLE", f"grid {side}", *middle, f"sum {setting.made_sum(board.values)}"])
+
+
+def resampled(job: Job, setting: FormulaSetting, board: Board, printed: list[str]) -> Answer:
+    """The answer of `resample` that shows the printed log, which is judged on the way."""
+    records = read_log(board, printed, setting.names)
+    status, lines, sampled = end_of(setting, board, len(records))
+    lines.append(f"log 1 {len(records)}")
+    lines += [printed_record(record, setting.names) for record in records]
+    if job.witness:
+        name, entry = job.witness
+        witness = witness_lines(records, setting.names, name, entry)
+        if witness is None:
+            status = 6
+            cursor = board.cursors[setting.names.index(name)] if name in setting.names else 0
+            witness = [f"witness none {name} {entry} {cursor}"]
+        lines += witness
+    return Answer(status, lines + report_lines(job.reports, records), sampled)
+
+
+def run_of(job: Job, text: bytes, printed: list[str]) -> Answer:
+    """The answer to a job, where nothing refuses it."""
+    setting = setting_of(job, text)
+    if job.command == "check":
+        refuse_clash(setting)
+        return Answer(0, [f"s EXTREMAL {len(setting.family.events)}"])
+    stacks = Stacks(job, setting.names, setting.weights)
+    if job.command == "formula":
+        refuse_clash(setting)
+    board = Board(setting.family, stacks, len(setting.names))
+    if job.command == "resample":
+        return resampled(job, setting, board, printed)
+    pops = board.run_first()
+    if job.command == "make":
+        return made_end_of(setting, board, pops, job.side)
+    return end_of(setting, board, pops)
+
+
+def answer_to(words: list[str], text: bytes, printed: list[str]) -> Answer:
+    """The answer that belongs to command words and an input; of `resample` the one with the printed log."""
+    try:
+        return run_of(read_words(words), text, printed)
+    except Refusal as refusal:
+        return Answer(refusal.status, [refusal.line])

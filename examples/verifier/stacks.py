@@ -1,0 +1,47 @@
+"""The stacks of the variables: given rows, or entries that are drawn by a key."""
+
+from __future__ import annotations
+
+from itertools import accumulate
+
+from .chacha import drawn_number
+from .command_line import Job
+from .refusals import Refusal
+
+
+class Stacks:
+    """The stacks of a job. `weights[v][j]` is the weight of value j of variable v."""
+
+    def __init__(self, job: Job, names: list[int], weights: list[list[int]]) -> None:
+        self.job = job
+        if job.rows is not None:
+            check_rows(job.rows, names, weights)
+        self.sums = [list(accumulate(each)) for each in weights]
+        for name, sums in zip(names, self.sums):
+            if sums and sums[-1] > 4294967295:
+                raise Refusal(4, f"s LIMIT 6 {name}")
+
+    def height(self, variable: int) -> int:
+        """How many entries the stack of a variable has."""
+        return self.job.height if self.job.rows is None else len(self.job.rows[variable])
+
+    def entry(self, variable: int, place: int) -> int:
+        """An entry of a stack, from 0. Variables count from 0."""
+        if self.job.rows is not None:
+            return self.job.rows[variable][place]
+        sums = self.sums[variable]
+        drawn = drawn_number(self.job.key, variable, place) * sums[-1] >> 64
+        return next(value for value, total in enumerate(sums) if total > drawn)
+
+
+def check_rows(rows: list[list[int]], names: list[int], weights: list[list[int]]) -> None:
+    """Refuses rows that don't fit: their number, then an empty one, then an entry that is no value."""
+    if len(rows) != len(names):
+        raise Refusal(3, f"s ROWS {len(rows)} {len(names)}")
+    for name, row in zip(names, rows):
+        if not row:
+            raise Refusal(3, f"s EMPTYROW {name}")
+    for name, row, values in zip(names, rows, weights):
+        for place, entry in enumerate(row):
+            if entry >= len(values):
+                raise Refusal(3, f"s VALUE {name} {place}")

@@ -1,0 +1,107 @@
+#!/usr/bin/env python3
+"""Sees that the checker accepts all examples, and refuses false runs, and each example with a number, a line or
+the status changed.
+
+    python3 verify_refuses.py
+
+One line is printed: how many outputs agree, and how many changed ones are refused; else the first that is
+judged wrong.
+"""
+
+from __future__ import annotations
+
+import re
+import sys
+from typing import Iterator
+
+from verifier.chacha import block
+from verifier.example_files import Example, all_examples
+from verifier.judging import judge
+from verifier.refusals import Difference
+
+# A block of RFC 8439, 2.3.2: its key, stream number, counter and first words.
+STANDARD = (bytes(range(32)), 0x4A000000, 0x0900000000000001)
+STANDARD_WORDS = (0xE4E7F110, 0x15593BD1, 0x1FDD0F50, 0xC47120A3)
+
+# Outputs that are right in themselves, of runs that are wrong: one stops where an event can be popped, one pops
+# what doesn't occur, and one begins at a later entry; two end with what is no sample.
+ONE = b"p cnf 1 1\n1 0\n"
+TRIANGLE = b"p edge 3 3\ne 1 2\ne 2 3\ne 1 3\n"
+FALSE_RUNS = (
+    ("resample --stacks 0,0,1", ONE, b"s EXHAUSTED\nstuck 1\nused 1\npops 1\nlog 1 1\npop 1 1:0\n", 1),
+    ("resample --stacks 1,1", ONE, b"s SAMPLE\nv 1 0\nused 1\npops 1\nlog 1 1\npop 1 1:0\n", 0),
+    ("resample --stacks 0,0,1", ONE, b"s SAMPLE\nv 1 0\nused 2\npops 1\nlog 1 1\npop 1 1:1\n", 0),
+    ("orient --stacks 0,0;1,1;1,1", TRIANGLE, b"s SAMPLE\na 1 2 1\na 3 2 2\na 3 1 3\nused 0 0 0\npops 0\n", 0),
+    ("tree --stacks 1,0;0,0", TRIANGLE, b"s SAMPLE\na 2 3 2\na 3 2 2\nused 0 0\npops 0\n", 0),
+)
+
+
+def changed_numbers(example: Example) -> Iterator[Example]:
+    """The example with one number changed: one more, one less, or a digit more at its end."""
+    for found in re.finditer(rb"[0-9]+", example.printed):
+        number = int(found[0])
+        for other in {number + 1, abs(number - 1), number * 10 + 1}:
+            printed = example.printed[:found.start()] + b"%d" % other + example.printed[found.end():]
+            yield example._replace(printed=printed)
+
+
+def changed_lines(example: Example) -> Iterator[Example]:
+    """The example with a line left out, doubled, or put for its neighbour; and with another status."""
+    lines = example.printed.splitlines(True)
+    for place, line in enumerate(lines):
+        for other in ([], [line, line], [line.upper()], [line[:-1]], [line[:-1] + b" \n"]):
+            printed = b"".join(lines[:place] + other + lines[place + 1:])
+            if printed != example.printed:
+                yield example._replace(printed=printed)
+        turned = lines[:place] + lines[place:place + 2][::-1] + lines[place + 2:]
+        if turned != lines:
+            yield example._replace(printed=b"".join(turned))
+    yield example._replace(status=example.status + 1)
+
+
+def is_accepted(example: Example) -> bool:
+    """Whether the checker accepts the output."""
+    try:
+        judge(example.printed, example.status, example.words, example.text)
+    except Difference:
+        return False
+    return True
+
+
+def judge_false_runs() -> None:
+    """Sees that each false run is refused."""
+    for words, text, printed, status in FALSE_RUNS:
+        if is_accepted(Example("a false run", words.split(), text, printed, status)):
+            raise ValueError(f"accepted for {words}:\n{printed.decode()}")
+
+
+def judge_changed(example: Example) -> int:
+    """Sees that the example is accepted, and each changed one refused; tells how many these are."""
+    if not is_accepted(example):
+        raise ValueError(f"{example.name} is refused")
+    count = 0
+    for changed in (*changed_numbers(example), *changed_lines(example)):
+        count += 1
+        if is_accepted(changed):
+            printed = changed.printed.decode()
+            raise ValueError(f"{example.name} is accepted with status {changed.status} and\n{printed}")
+    return count
+
+
+def main() -> int:
+    """Runs all, and tells the status."""
+    try:
+        if block(*STANDARD)[:4] != STANDARD_WORDS:
+            raise ValueError("the cipher isn't that of RFC 8439")
+        judge_false_runs()
+        counts = [judge_changed(example) for example in all_examples()]
+    except ValueError as error:
+        print(error)
+        return 1
+    print(f"verify: {len(counts)} examples agree, {sum(counts)} changed ones and {len(FALSE_RUNS)} "
+          "false runs are refused")
+    return 0
+
+
+if __name__ == "__main__":
+    sys.exit(main())
