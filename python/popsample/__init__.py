@@ -1,0 +1,80 @@
+"""Sampling by popping: spanning trees, orientations without sinks, and satisfying assignments.
+
+    >>> import popsample
+    >>> tree = popsample.spanning_tree([("Ann", "Bob"), ("Bob", "Cem"), ("Cem", "Ann")], key="0" * 64)
+    >>> tree.parents
+    {'Bob': 'Cem', 'Cem': 'Ann'}
+
+The functions run the program `popsample`, which is what the environment variable POPSAMPLE names, else what the PATH
+has, else what is built in the checkout that this module stands in. A result has the key that it came from: the same
+call with that key gives the same result. What the program refuses is raised as a `Refusal`, whose message says what
+was refused, where, and what to do.
+"""
+
+from .errors import (
+    Clash,
+    Count,
+    CutOff,
+    Empty,
+    EmptyRow,
+    Exhausted,
+    Isolated,
+    Limit,
+    Malformed,
+    Memory,
+    NoAnswer,
+    NoProgram,
+    NoWitness,
+    ReadFault,
+    Refusal,
+    Root,
+    Rows,
+    Usage,
+    Value,
+    WriteFault,
+)
+from .formulas import check, resample, sample_formula
+from .graphs import sink_free_orientation, spanning_tree, spanning_trees
+from .keys import derived_key, draw_key
+from .program import find_program
+from .results import Arrow, Assignment, Orientation, Pop, Resampled, Totals, Tree, WitnessVertex
+
+__all__ = [
+    "Arrow",
+    "Assignment",
+    "Clash",
+    "Count",
+    "CutOff",
+    "Empty",
+    "EmptyRow",
+    "Exhausted",
+    "Isolated",
+    "Limit",
+    "Malformed",
+    "Memory",
+    "NoAnswer",
+    "NoProgram",
+    "NoWitness",
+    "Orientation",
+    "Pop",
+    "ReadFault",
+    "Refusal",
+    "Resampled",
+    "Root",
+    "Rows",
+    "Totals",
+    "Tree",
+    "Usage",
+    "Value",
+    "WitnessVertex",
+    "WriteFault",
+    "check",
+    "derived_key",
+    "draw_key",
+    "find_program",
+    "resample",
+    "sample_formula",
+    "sink_free_orientation",
+    "spanning_tree",
+    "spanning_trees",
+]

@@ -1,0 +1,115 @@
+"""Assignments of formulas in conjunctive normal form."""
+
+from __future__ import annotations
+
+import operator
+import os
+from collections.abc import Iterable, Sequence
+from pathlib import Path
+from typing import Any, Union
+
+from .answer import Answer, read_pairs
+from .program import origin_words
+from .refusing import ask, read_log
+from .results import Assignment, Resampled, Totals, WitnessVertex
+from .subject import Subject
+
+# A list of clauses, each a list of literals, or the path of a DIMACS CNF file.
+Formula = Union[Iterable[Iterable[int]], str, "os.PathLike[str]"]
+Stacks = Iterable[Iterable[int]]
+
+
+def literal(value: Any) -> int:
+    """A literal as a number. Raises TypeError where it is none, and ValueError where it is 0."""
+    if isinstance(value, bool):
+        raise TypeError(f"the literal {value!r} is no whole number")
+    number = operator.index(value)
+    if number == 0:
+        raise ValueError("0 is no literal: variables count from 1")
+    return number
+
+
+def formula_subject(formula: Formula) -> Subject:
+    """The text of a formula: of a file as it stands, and of a list with clause N in line N + 1."""
+    if isinstance(formula, (str, os.PathLike)):
+        return Subject(Path(formula).read_bytes())
+    clauses = [[literal(value) for value in clause] for clause in formula]
+    variables = max((abs(number) for clause in clauses for number in clause), default=0)
+    lines = [" ".join(map(str, [*clause, 0])) for clause in clauses]
+    return Subject("\n".join([f"p cnf {variables} {len(clauses)}", *lines, ""]).encode())
+
+
+def used_of(answer: Answer) -> dict[int, int]:
+    """How many entries of each variable were popped."""
+    return dict(enumerate(answer.numbers("used"), 1))
+
+
+def sample_formula(
+    clauses: Formula,
+    key: str | None = None,
+    workers: int = 1,
+    *,
+    height: int | None = None,
+    stacks: Stacks | None = None,
+) -> Assignment:
+    """Samples a satisfying assignment of an extremal formula: of all stacks that give one, equally many give each.
+
+    A clause is a list of literals: the number of a variable, from 1, or its negative. The formula may be the path of a
+    DIMACS CNF file too. It is extremal where any two clauses that share a variable share one with opposite signs;
+    `Clash` is raised where it isn't.
+
+    `key` has 64 hexadecimal digits, and is drawn from the system's randomness where it is None. `height` is the number
+    of entries of each variable, and `stacks` gives rows of entries in place of a key. `workers` changes no result.
+    """
+    key, words = origin_words(key, workers, height, stacks)
+    answer = ask(["formula", *words], formula_subject(clauses), key)
+    literals = tuple(answer.numbers("v")[:-1])
+    return Assignment(literals, used_of(answer), answer.pops(), key)
+
+
+def resample(
+    clauses: Formula,
+    key: str | None = None,
+    workers: int = 1,
+    *,
+    height: int | None = None,
+    stacks: Stacks | None = None,
+    witness: tuple[int, int] | None = None,
+    reports: Sequence[str] = (),
+) -> Resampled:
+    """Samples a satisfying assignment of any formula, and tells the log of the pops.
+
+    Where the formula isn't extremal, how many stacks give each assignment depends on the order of the pops, which is
+    free: with one worker the result is that of the key, with several it may differ from call to call.
+
+    `witness` is the number of a variable and one of its entries, from 0: the result has the witness tree of the pop
+    that used it, and `NoWitness` is raised where there is none. `reports` names what is reported on the log: `totals`,
+    `heights` or both. The other arguments are those of `sample_formula`.
+    """
+    key, words = origin_words(key, workers, height, stacks)
+    if witness is not None:
+        words += ["--witness", ",".join(map(str, witness))]
+    if reports:
+        words += ["--report", ",".join(reports)]
+    answer = ask(["resample", *words], formula_subject(clauses), key)
+    literals = tuple(answer.numbers("v")[:-1])
+    tree = witness_of(answer) if witness is not None else None
+    return Resampled(literals, used_of(answer), answer.pops(), key, read_log(answer), tree, *reports_of(answer))
+
+
+def witness_of(answer: Answer) -> tuple[WitnessVertex, ...]:
+    """The vertices of the witness tree, in preorder."""
+    return tuple(WitnessVertex(int(row[0]), int(row[1]), read_pairs(row[2:], "=")) for row in answer.rows("wit"))
+
+
+def reports_of(answer: Answer) -> tuple[Totals | None, tuple[int, ...] | None]:
+    """The totals and the heights, each None where it wasn't asked for."""
+    told = {row[0]: [int(word) for word in row[1:]] for row in answer.rows("report")}
+    totals = Totals(*told["totals"]) if "totals" in told else None
+    heights = tuple(told["heights"]) if "heights" in told else None
+    return totals, heights
+
+
+def check(clauses: Formula) -> int:
+    """The number of events of a formula, of which no two clash. Raises `Clash` where two do: it isn't extremal."""
+    return int(ask(["check"], formula_subject(clauses)).row("s")[1])

@@ -1,0 +1,102 @@
+"""From an answer of the program to the exception that tells it."""
+
+from __future__ import annotations
+
+from collections.abc import Callable
+from typing import Any
+
+from . import errors
+from .answer import Answer, read_pairs
+from .errors import Refusal
+from .program import call
+from .results import Pop
+from .subject import Subject
+
+Numbers = list[int]
+
+# For the first line of each refusal that has numbers, what it is raised as.
+REFUSALS: dict[str, Callable[[Numbers, Answer, Subject], Refusal]] = {
+    "USAGE": lambda numbers, answer, _: errors.Usage(numbers[0], word_at(answer, numbers[0])),
+    "MALFORMED": lambda numbers, _, subject: errors.Malformed(numbers[0], numbers[1], subject.line(numbers[0])),
+    "COUNT": lambda numbers, *_: errors.Count(*numbers),
+    "ROWS": lambda numbers, *_: errors.Rows(*numbers),
+    "EMPTYROW": lambda numbers, _, subject: errors.EmptyRow(subject.variable(numbers[0])),
+    "VALUE": lambda numbers, _, subject: errors.Value(subject.variable(numbers[0]), numbers[1]),
+    "LIMIT": lambda numbers, _, subject: limit(numbers, subject),
+    "CLASH": lambda numbers, _, subject: clash(numbers, subject),
+    "EMPTY": lambda numbers, *_: errors.Empty(*numbers),
+    "ISOLATED": lambda numbers, _, subject: errors.Isolated(subject.vertex(numbers[0])),
+    "ROOT": lambda numbers, _, subject: errors.Root(numbers[0] if subject.root is None else subject.root),
+    "CUTOFF": lambda numbers, _, subject: errors.CutOff(subject.vertex(numbers[0])),
+    "READFAULT": lambda *_: errors.ReadFault(),
+    "MEMORY": lambda *_: errors.Memory(),
+}
+
+
+def word_at(answer: Answer, place: int) -> str | None:
+    """The word at a place, from 1; none behind the last one."""
+    return answer.words[place - 1] if place <= len(answer.words) else None
+
+
+def limit(numbers: Numbers, subject: Subject) -> Refusal:
+    """The limit that is passed: of kind 6 at a vertex, else at a line."""
+    kind, place = numbers
+    return errors.Limit(kind, subject.vertex(place) if kind == 6 else place)
+
+
+def clash(numbers: Numbers, subject: Subject) -> Refusal:
+    """The two clauses that clash, with their literals."""
+    first, second = numbers
+    return errors.Clash(first, second, (subject.clause(first), subject.clause(second)))
+
+
+def stuck_events(answer: Answer, subject: Subject) -> list[Any]:
+    """What stands behind each `stuck`: the number of a clause, a vertex, or the vertices of a cycle."""
+    rows = [[int(word) for word in row] for row in answer.rows("stuck")]
+    if answer.words[0] == "orient":
+        return [subject.vertex(row[0]) for row in rows]
+    if answer.words[0] == "tree":
+        return [tuple(map(subject.vertex, row)) for row in rows]
+    return [row[0] for row in rows]
+
+
+def read_log(answer: Answer) -> tuple[Pop, ...]:
+    """The log of the pops; empty where none was printed."""
+    return tuple(Pop(int(row[0]), read_pairs(row[1:], ":")) for row in answer.rows("pop"))
+
+
+def exhausted(answer: Answer, subject: Subject) -> Refusal:
+    """The end of a run that came to the end of a stack."""
+    stuck = stuck_events(answer, subject)
+    if answer.words[0] == "tree":
+        where = f"the cycle of {', '.join(map(repr, stuck[0]))}"
+    else:
+        where = f"{'vertex' if answer.words[0] == 'orient' else 'clause'} {stuck[0]!r}"
+    return errors.Exhausted(where, stuck, answer.numbers("used"), answer.pops(), read_log(answer))
+
+
+def refusal(answer: Answer, subject: Subject) -> Exception:
+    """The exception that tells an answer without a sample."""
+    first = answer.row("s")
+    if answer.status == errors.WriteFault.status:
+        return errors.WriteFault()
+    if answer.status == errors.Memory.status:
+        return errors.Memory()
+    if answer.row("witness")[:1] == ["none"]:
+        return errors.NoWitness(*map(int, answer.row("witness")[1:]))
+    if first == ["EXHAUSTED"]:
+        return exhausted(answer, subject)
+    if first and first[0] in REFUSALS:
+        return REFUSALS[first[0]]([int(word) for word in first[1:]], answer, subject)
+    return errors.NoAnswer(answer.status, " ".join(["s", *first]) if first else "")
+
+
+def ask(words: list[str], subject: Subject, key: str | None = None) -> Answer:
+    """The program's answer with status 0; any other is raised, with the key of the call."""
+    answer = call(words, subject.text)
+    if answer.status == 0:
+        return answer
+    raised = refusal(answer, subject)
+    if isinstance(raised, Refusal):
+        raised.key = key
+    raise raised

@@ -1,0 +1,121 @@
+"""What the functions give back. Each result has the key of which it came, or None where rows were given."""
+
+from __future__ import annotations
+
+from collections.abc import Hashable
+from dataclasses import dataclass
+from typing import Any, NamedTuple
+
+
+# An edge as it is handed in: its two ends, its weight, and what names it.
+Edge = tuple[Hashable, Hashable, Any, Hashable]
+
+
+class Arrow(NamedTuple):
+    """A directed edge: the vertex that it leaves, the vertex to which it points, and which edge it is.
+
+    The edge is a place in an edge list, from 0; of a networkx graph the pair of its ends, or the triple with its key;
+    of an igraph graph its index; of a file its number, from 1.
+    """
+
+    tail: Hashable
+    head: Hashable
+    edge: Any
+
+
+@dataclass(frozen=True)
+class Tree:
+    """A rooted spanning tree.
+
+    `arrows` has an arrow for each vertex but the root, along which the way to the root goes on. `used` tells for each
+    of these vertices how many of its entries were popped, and `pops` how many pops there were. `graph` is the tree as
+    a directed graph of the library whose graph was handed in, and None for an edge list or a file.
+    """
+
+    root: Hashable
+    arrows: tuple[Arrow, ...]
+    used: dict[Hashable, int]
+    pops: int
+    key: str | None
+    graph: Any = None
+
+    @property
+    def parents(self) -> dict[Hashable, Hashable]:
+        """For each vertex but the root the next vertex on the way to the root."""
+        return {arrow.tail: arrow.head for arrow in self.arrows}
+
+    @property
+    def edges(self) -> list[Hashable]:
+        """Which edges are the tree's."""
+        return [arrow.edge for arrow in self.arrows]
+
+
+@dataclass(frozen=True)
+class Orientation:
+    """An orientation in which some edge leaves each vertex.
+
+    `arrows` has the arrow of each edge, in order, and `used` tells for each edge how many of its entries were popped.
+    `pops` and `graph` are as those of a tree.
+    """
+
+    arrows: tuple[Arrow, ...]
+    used: dict[Hashable, int]
+    pops: int
+    key: str | None
+    graph: Any = None
+
+
+@dataclass(frozen=True)
+class Assignment:
+    """An assignment that satisfies each clause.
+
+    `literals` has for each variable, from 1 on, its number where it is true and the negative of its number where it is
+    false. `used` tells how many entries of each variable were popped, and `pops` how many pops there were.
+    """
+
+    literals: tuple[int, ...]
+    used: dict[int, int]
+    pops: int
+    key: str | None
+
+    def __getitem__(self, variable: int) -> bool:
+        """Whether the variable, from 1 on, is true. Raises KeyError where there is no such variable."""
+        if not 1 <= variable <= len(self.literals):
+            raise KeyError(variable)
+        return self.literals[variable - 1] > 0
+
+
+class Pop(NamedTuple):
+    """A pop: the number of the clause that was false, and the entry, from 0, of each of its variables."""
+
+    event: int
+    entries: dict[int, int]
+
+
+class WitnessVertex(NamedTuple):
+    """A vertex of a witness tree: its depth, the number of its clause, and the values that make it false."""
+
+    depth: int
+    event: int
+    values: dict[int, int]
+
+
+class Totals(NamedTuple):
+    """How many records the log has, how many entries they have together, and how many the longest has."""
+
+    records: int
+    entries: int
+    longest: int
+
+
+@dataclass(frozen=True)
+class Resampled(Assignment):
+    """An assignment with the log of its pops, and with the witness tree and the reports that were asked for.
+
+    `heights` tells at each place, from 0, how many of the popped entries' numbers have so many binary digits.
+    """
+
+    log: tuple[Pop, ...] = ()
+    witness: tuple[WitnessVertex, ...] | None = None
+    totals: Totals | None = None
+    heights: tuple[int, ...] | None = None

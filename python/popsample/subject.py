@@ -1,0 +1,46 @@
+"""A text for the program, and what the numbers in its answers stand for."""
+
+from __future__ import annotations
+
+from collections.abc import Hashable, Sequence
+from dataclasses import dataclass
+
+# The names of what is named by its number, from 1. The next number is the greatest of the program, and names nothing.
+NUMBERS: Sequence[Hashable] = range(1, 2**32 - 1)
+
+
+@dataclass(frozen=True)
+class Subject:
+    """A text, the names of its vertices and of the variables, as the program counts them, and the root asked for."""
+
+    text: bytes
+    vertices: Sequence[Hashable] = NUMBERS
+    variables: Sequence[Hashable] = NUMBERS
+    root: Hashable = None
+
+    def vertex(self, number: int) -> Hashable:
+        """The name of a vertex; the number itself where there is none."""
+        return self.vertices[number - 1] if 1 <= number <= len(self.vertices) else number
+
+    def variable(self, number: int) -> Hashable:
+        """The name of a variable; the number itself where there is none."""
+        return self.variables[number - 1] if 1 <= number <= len(self.variables) else number
+
+    def line(self, number: int) -> str | None:
+        """A line, from 1; none behind the last one."""
+        lines = self.text.split(b"\n", number)
+        return lines[number - 1].decode("utf-8", "replace").strip() if number <= len(lines) else None
+
+    def clause(self, number: int) -> str:
+        """The literals of a clause of a formula, from 1."""
+        lines = (line.split() for line in self.text.split(b"\n"))
+        rows = [words for words in lines if words and not words[0].startswith(b"c")]
+        ends, literals = 0, []
+        for word in (word for words in rows[1:] for word in words):
+            if not word.strip(b"0"):
+                ends += 1
+            elif ends == number - 1:
+                literals.append(word.decode("utf-8", "replace"))
+            if ends == number:
+                break
+        return " ".join(literals)

@@ -1,0 +1,48 @@
+"""The completion for bash, which stands beside this folder in the repository, where bash is there."""
+
+import shutil
+import subprocess
+import unittest
+from pathlib import Path
+
+COMPLETION = Path(__file__).resolve().parents[2] / "completion" / "popsample.bash"
+SCRIPT = 'source "$0"; COMP_WORDS=("$@"); COMP_CWORD=$(($# - 1)); _popsample; echo "${COMPREPLY[*]}"'
+EVERYWHERE = ["--stacks", "--key", "--height", "--workers"]
+
+
+def completed(*words: str) -> list[str]:
+    """What the last word may become."""
+    ran = subprocess.run(["bash", "-c", SCRIPT, COMPLETION, "popsample", *words], capture_output=True, text=True)
+    if ran.returncode or ran.stderr:
+        raise AssertionError(ran.stderr)
+    return ran.stdout.split()
+
+
+@unittest.skipUnless(shutil.which("bash") and COMPLETION.exists(), "there is no bash, or no completion")
+class Completion(unittest.TestCase):
+    def test_commands(self):
+        self.assertEqual(completed(""), ["formula", "orient", "tree", "resample", "check", "make"])
+        self.assertEqual(completed("t"), ["tree"])
+        self.assertEqual(completed("x"), [])
+
+    def test_options(self):
+        self.assertEqual(completed("formula", ""), EVERYWHERE)
+        self.assertEqual(completed("orient", ""), EVERYWHERE)
+        self.assertEqual(completed("tree", ""), [*EVERYWHERE, "--root"])
+        self.assertEqual(completed("resample", ""), [*EVERYWHERE, "--witness", "--report"])
+        self.assertEqual(completed("make", ""), [*EVERYWHERE, "grid"])
+        self.assertEqual(completed("check", ""), [])
+        self.assertEqual(completed("tree", "--r"), ["--root"])
+
+    def test_what_stands_or_is_excluded(self):
+        self.assertEqual(completed("tree", "--root", "2", "--"), EVERYWHERE)
+        self.assertEqual(completed("formula", "--stacks", "0", ""), ["--workers"])
+        self.assertEqual(completed("formula", "--key", "00", ""), ["--height", "--workers"])
+
+    def test_values(self):
+        self.assertEqual(completed("resample", "--report", "t"), ["totals", "totals,heights"])
+        self.assertEqual(completed("tree", "--root", ""), [])
+
+
+if __name__ == "__main__":
+    unittest.main()

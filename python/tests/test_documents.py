@@ -1,0 +1,60 @@
+"""What the documents say is what the module says; they stand beside this folder in the repository."""
+
+import doctest
+import unittest
+from pathlib import Path
+
+import popsample
+from popsample import errors
+
+TOP = Path(__file__).resolve().parents[2]
+FORMATS = TOP / "docs" / "FORMATS.md"
+PAGES = [TOP / "README.md", TOP / "python" / "README.md"]
+
+
+def load_tests(loader, tests, pattern):
+    """Adds what the pages and the module show behind '>>>', without the fences of blocks."""
+    for page in filter(Path.exists, PAGES):
+        shown = page.read_text(encoding="utf-8").replace("```", "")
+        tests.addTest(doctest.DocTestCase(doctest.DocTestParser().get_doctest(shown, {}, page.name, str(page), 0)))
+    tests.addTest(doctest.DocTestSuite(popsample))
+    return tests
+
+
+@unittest.skipUnless(FORMATS.exists(), "docs/FORMATS.md isn't there")
+class Formats(unittest.TestCase):
+    @classmethod
+    def setUpClass(cls):
+        cls.text = FORMATS.read_text(encoding="utf-8")
+        table = cls.text.partition("## Answers\n")[2].partition("\n## ")[0]
+        cls.rows = [[cell.strip() for cell in line.split("|")[1:-1]] for line in table.splitlines() if line[:1] == "|"]
+
+    def test_the_table_comes_first(self):
+        self.assertEqual(self.text.partition("\n## ")[2].partition("\n")[0], "Answers")
+
+    def test_each_exception_has_its_row(self):
+        kinds = {kind.__name__: kind for kind in errors.Refusal.__subclasses__()}
+        rows = {row[3].strip("`"): row for row in self.rows if row[3].startswith("`")}
+        self.assertEqual(set(rows), set(kinds))
+        for name, (status, form, sentence, _) in rows.items():
+            with self.subTest(name):
+                self.assertEqual((int(status), sentence), (kinds[name].status, kinds[name].sentence))
+                self.assertIn(f"`{kinds[name].form}`" if kinds[name].form else "none", form)
+
+    def test_each_first_line_has_its_row(self):
+        shown = {row[1].split("`")[1].split()[1] for row in self.rows if "`s " in row[1]}
+        told = {line.split()[1] for line in self.text.splitlines() if line.startswith("s ")}
+        self.assertLessEqual(told, shown)
+
+    def test_reasons_and_limits(self):
+        for code, reason in errors.REASONS.items():
+            self.assertIn(f"\n| {code} | {reason} |", self.text)
+        for kind, limit in errors.LIMITS.items():
+            self.assertIn(f"\n| {kind} | {limit}", self.text)
+
+    def test_all_names_are_told(self):
+        self.assertLessEqual({kind.__name__ for kind in errors.Refusal.__subclasses__()}, set(popsample.__all__))
+
+
+if __name__ == "__main__":
+    unittest.main()

@@ -1,0 +1,109 @@
+"""Assignments of formulas."""
+
+import random
+import unittest
+
+import popsample
+
+from .checks import ZEROS, file_of, satisfies
+
+# Each variable stands in two clauses, with either sign, so the formula is extremal.
+RING = [[1, 2, -3], [3, 4, -5], [5, 6, -1]]
+# Neighbours in a row of masts send on different channels: both channels of a pair of masts are forbidden.
+CHANNELS = [[1, 2], [-1, -2], [2, 3], [-2, -3]]
+
+
+def extremal_clauses(chance: random.Random, clauses: int) -> list[list[int]]:
+    """A random formula in whose clauses each variable stands twice, with either sign, in different clauses."""
+    places: list[list[int]] = [[] for _ in range(clauses)]
+    for variable in range(1, 2 * clauses):
+        first, second = chance.sample(range(clauses), 2)
+        places[first].append(variable)
+        places[second].append(-variable)
+    return [clause for clause in places if len(clause) > 2]
+
+
+class Formulas(unittest.TestCase):
+    def test_rows_that_were_worked_by_hand(self):
+        assignment = popsample.sample_formula([[1, 2], [-1, 2]], stacks=[[0, 1], [0, 1]])
+        self.assertEqual((assignment.literals, assignment.used, assignment.pops), ((1, 2), {1: 1, 2: 1}, 1))
+        self.assertIsNone(assignment.key)
+        self.assertTrue(assignment[1] and assignment[2])
+
+    def test_random_formulas_are_satisfied(self):
+        chance = random.Random(11)
+        for size in range(3, 25):
+            clauses = extremal_clauses(chance, size)
+            assignment = popsample.sample_formula(clauses)
+            self.assertTrue(satisfies(clauses, assignment.literals), (clauses, assignment))
+
+    def test_the_check_sees_what_satisfies_not(self):
+        self.assertTrue(satisfies([[1, -2]], (-1, -2)))
+        self.assertFalse(satisfies([[1, -2]], (-1, 2)))
+        self.assertFalse(satisfies([[1]], (1, -1)))
+
+    def test_values_are_those_of_the_literals(self):
+        assignment = popsample.sample_formula(RING)
+        for variable in range(1, 7):
+            self.assertEqual(assignment[variable], variable in assignment.literals)
+        for variable in (0, -1, 7):
+            with self.assertRaises(KeyError):
+                assignment[variable]
+
+    def test_a_key_gives_the_same_assignment_whatever_the_workers(self):
+        first = popsample.sample_formula(RING)
+        self.assertEqual(first, popsample.sample_formula(RING, first.key, 8))
+
+    def test_files(self):
+        with file_of("c by hand\np cnf 2 2\n1 2 0\n-1 2 0\n") as path:
+            self.assertEqual(popsample.sample_formula(path, stacks=[[1], [1]]).literals, (1, 2))
+            self.assertEqual(popsample.check(str(path)), 2)
+
+    def test_what_is_no_literal(self):
+        for value, kind in ((0, ValueError), (True, TypeError), (1.0, TypeError), ("1", TypeError)):
+            with self.assertRaises(kind, msg=repr(value)):
+                popsample.sample_formula([[value]])
+
+    def test_no_clause(self):
+        self.assertEqual(popsample.sample_formula([]).literals, ())
+
+    def test_check_counts_events(self):
+        # The first two clauses are one event, and the third is never false.
+        self.assertEqual(popsample.check([[1, 2], [2, 1], [1, -1]]), 1)
+
+
+class Resampling(unittest.TestCase):
+    def test_rows_that_were_worked_by_hand(self):
+        told = popsample.resample([[1]], stacks=[[0, 0, 1]], witness=(1, 1), reports=["heights", "totals"])
+        self.assertEqual((told.literals, told.used, told.pops), ((1,), {1: 2}, 2))
+        self.assertEqual(told.log, (popsample.Pop(1, {1: 0}), popsample.Pop(1, {1: 1})))
+        vertices = (popsample.WitnessVertex(0, 1, {1: 0}), popsample.WitnessVertex(1, 1, {1: 0}))
+        self.assertEqual((told.witness, told.totals, told.heights), (vertices, popsample.Totals(2, 2, 1), (1, 1)))
+
+    def test_what_was_not_asked_for_is_none(self):
+        told = popsample.resample([[1]], stacks=[[1]])
+        self.assertEqual((told.log, told.witness, told.totals, told.heights), ((), None, None, None))
+
+    def test_formulas_that_clash_are_satisfied(self):
+        for workers in (1, 4):
+            told = popsample.resample(CHANNELS, workers=workers)
+            self.assertTrue(satisfies(CHANNELS, told.literals), told)
+            self.assertEqual(told.pops, len(told.log))
+
+    def test_the_log_tells_what_was_used(self):
+        told = popsample.resample(CHANNELS, ZEROS)
+        used = dict.fromkeys((1, 2, 3), 0)
+        for pop in told.log:
+            self.assertEqual(list(pop.entries), sorted(abs(literal) for literal in CHANNELS[pop.event - 1]))
+            for variable, entry in pop.entries.items():
+                self.assertEqual(entry, used[variable])
+                used[variable] += 1
+        self.assertEqual(told.used, used)
+
+    def test_one_worker_gives_the_same_again(self):
+        first = popsample.resample(CHANNELS)
+        self.assertEqual(first, popsample.resample(CHANNELS, first.key))
+
+
+if __name__ == "__main__":
+    unittest.main()
