@@ -1,4 +1,5 @@
 mod OtherDemands
 mod Exclusions
+mod LaterPlaces
 mod Trying
 mod RightVerdict

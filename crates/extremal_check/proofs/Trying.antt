@@ -1,9 +1,9 @@
 -- Event i is tried with the later events that share a variable with it, variable by variable. The
--- stamps tell which events were tried, and `least` is the least of these that clashes. A place that
--- is passed over is not below it: it is no later place, or not below `least`, or was tried. So when
--- all variables of event i are done no event that clashes stands below `least`, since an event that
--- clashes shares a variable, and so stands in that variable's row.
-use Rattle.std.proofs.Common.{inl, inr, ◌≡◌, ◌⊎◌, ℕ, ◌+◌, ◌<◌, ◌≤◌, List, [], length, set, slice_get, slice_index, slice_index_or, Contains, Some, refl, sym, ap, subst, ◌∙◌, arith}
+-- stamps tell which events were tried, and `least` is the least of these that clashes. A later place
+-- that is passed over is not below it, or was tried. So when all variables of event i are done no
+-- event that clashes stands below `least`, since an event that clashes is later and shares a
+-- variable, and so stands in that variable's row behind event i.
+use Rattle.std.proofs.Common.{inl, inr, ◌≡◌, ◌⊎◌, ◌↔◌, ℕ, ◌+◌, ◌<◌, ◌≤◌, List, [], length, set, slice_get, slice_index, slice_index_or, Contains, Some, refl, sym, ap, subst, ◌∙◌, arith}
 use Rattle.std.proofs.lemmas.Bool.{cases_eq}
 use Rattle.std.proofs.lemmas.List.{get_or_default, get_or-set_same, get_or-set_other, length-set}
 use Rattle.std.proofs.lemmas.Option.{get_or_from_slice_get, slice_get_within, slice_get_read}
@@ -15,7 +15,7 @@ use Rattle.pop_model.proofs.Members.{variable_at}
 use Rattle.pop_instance.specs.Events.{cube_at}
 use Rattle.pop_instance.specs.Index.{IsIndex}
 use Rattle.extremal_check.specs.Clashes.{ClashAt, HasNoClash}
-use Rattle.extremal_check.specs.Tries.{AreSharing, AreStamped, IsLeastTried}
+use Rattle.extremal_check.specs.Tries.{AreLaterSharing, AreStamped, IsLeastTried}
 
 -- the variable of a pair that was read
 variable_is : (e : Cube) (k : ℕ) (p : ℕ × ℕ) → slice_get e k ≡ Some p → slice_index (variables e) k ≡ p.0
@@ -64,15 +64,18 @@ stamp_it rows i j stamps least lower tried within falls clash not_above = record
   ];
 }
 
--- the places in a row of the index are those of events that share its variable with event i
-pub sharing_row : (rows : List (ℕ × Cube)) (index : List (List ℕ)) (i k : ℕ) (p : ℕ × ℕ) → IsIndex rows index
-    → slice_get (cube_at rows i) k ≡ Some p → p.0 < length index → AreSharing rows i (slice_index_or index p.0 [])
-sharing_row rows index i k p is read below j has =
-    let there = (is.exact p.0 j below).0 has in
+-- the later places in a row of the index are those of events that share its variable with event i
+pub sharing_row : (rows : List (ℕ × Cube)) (index : List (List ℕ)) (i k : ℕ) (p : ℕ × ℕ) (later : List ℕ)
+    → IsIndex rows index → slice_get (cube_at rows i) k ≡ Some p → p.0 < length index
+    → ((j : ℕ) → Contains later j ↔ (Contains (slice_index_or index p.0 []) j × (i < j)))
+    → AreLaterSharing rows i later
+sharing_row rows index i k p later is read below holds j has =
+    let from = (holds j).0 has in
+    let there = (is.exact p.0 j below).0 from.0 in
     let other = named (cube_at rows j) p.0 there.1 in
     let here : Contains (cube_at rows i) p =
     (k, slice_get_within (cube_at rows i) k p read, get_or_from_slice_get (cube_at rows i) k p p read) in
-    (there.0, (p.0, p.1, other.0, here, other.1))
+    (from.1, there.0, (p.0, p.1, other.0, here, other.1))
 
 -- the variables of event i have rows
 pub has_row : (rows : List (ℕ × Cube)) (index : List (List ℕ)) (i k : ℕ) (p : ℕ × ℕ) → IsIndex rows index

@@ -6,10 +6,10 @@ use Rattle.pop_model.specs.Extremal.{Share}
 use Rattle.pop_instance.specs.Events.{cube_at}
 use Rattle.extremal_check.specs.Clashes.{ClashAt}
 
--- these are places of events that share a variable with the event at place i
-abbrev pub AreSharing : List (ℕ × Cube) → ℕ → List ℕ → Type 0
-AreSharing rows i places = (j : ℕ) → Contains places j
-    → (j < length rows) × Share (cube_at rows i) (cube_at rows j)
+-- these are places of later events that share a variable with the event at place i
+abbrev pub AreLaterSharing : List (ℕ × Cube) → ℕ → List ℕ → Type 0
+AreLaterSharing rows i places = (j : ℕ) → Contains places j
+    → (i < j) × (j < length rows) × Share (cube_at rows i) (cube_at rows j)
 
 -- each event has a stamp of at most this
 pub record AreStamped (rows : List (ℕ × Cube)) (most : ℕ) (stamps : List ℕ) : Type 0 where

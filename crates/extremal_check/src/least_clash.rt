@@ -1,11 +1,12 @@
 ghost use Rattle.std.specs.Prelude.{◌≡◌, ◌<◌, ◌≤◌, ◌+◌, ◌↔◌, ℕ, length, Contains, IfOk, IfSome, IfNone};
+ghost use Rattle.std.specs.List.Sorted.{IsStrictlyIncreasing};
 ghost use Rattle.pop_model.specs.Families.Family.{Listed};
 ghost use Rattle.pop_model.specs.Extremal.{IsExtremal, Share};
 ghost use Rattle.pop_model.specs.Places.{IsLeast, IsLeastPair};
 ghost use Rattle.pop_instance.specs.Events.{cube_at};
 ghost use Rattle.pop_instance.specs.Index.{IsIndex};
 ghost use Rattle.extremal_check.specs.Clashes.{ClashAt, HasNoClash};
-ghost use Rattle.extremal_check.specs.Tries.{AreSharing, AreStamped, IsLeastTried};
+ghost use Rattle.extremal_check.specs.Tries.{AreLaterSharing, AreStamped, IsLeastTried};
 ghost use Rattle.extremal_check.specs.Verdicts.{IsVerdict};
 
 use crate::Verdict;
@@ -14,8 +15,8 @@ use pop_instance::{Events, Index};
 use std::alloc::{AllocError, Global};
 
 /// Whether the events are extremal; else the numbers of the least pair that clashes. Of the pairs
-/// of events it looks at those that share a variable, at each once. It takes memory for one number
-/// for each event.
+/// of events it looks at those that share a variable, once for each shared one, and compares each
+/// at most once. It takes memory for one number for each event.
 pub fn check(alloc: Global, events: &Events, index: &Index) -> Result<Verdict, AllocError>
     requires { IsIndex events.now index.now }
     ensures verdict { IfOk result (IsVerdict events.now) }
@@ -59,15 +60,25 @@ fn first_with(events: &Events, index: &Index, stamps: &mut [u32], i: u32) -> Opt
     let mut least = count;
     for k in 0..cube.len() {
         let (v, _) = cube.pair(k);
-        least = least_in_row(events, index.at(v), stamps, i, least);
+        let later = places_after(index.at(v), i);
+        least = least_in_row(events, later, stamps, i, least);
     }
     if least < count { Some(least) } else { None }
 }
 
-// Tries the events of a row with event i, which shares a variable with each of them.
+// The places of a row that come after place i.
+fn places_after(row: &[u32], i: u32) -> &[u32]
+    requires rising { IsStrictlyIncreasing row.now }
+    ensures later { (j : ℕ) → Contains result.now j ↔ (Contains row.now j × (i < j)) }
+{
+    let start = row.partition_point(|j| *j <= i);
+    &row[start..]
+}
+
+// Tries the events of a row, which come after event i and share a variable with it.
 fn least_in_row(events: &Events, row: &[u32], stamps: &mut [u32], i: u32, least: u32) -> u32
     requires within { i < length events.now }
-    requires sharing { AreSharing events.now i row.now }
+    requires sharing { AreLaterSharing events.now i row.now }
     requires tried { IsLeastTried events.now i stamps.old least }
     ensures tried { IsLeastTried events.now i stamps.new result }
     ensures falls { result ≤ least }
@@ -80,19 +91,17 @@ fn least_in_row(events: &Events, row: &[u32], stamps: &mut [u32], i: u32, least:
     lowest
 }
 
-// Tries event j with event i, unless it was tried or is no candidate for the least that clashes.
+// Tries the later event j with event i, unless it was tried or is no candidate for the least that
+// clashes.
 fn try_with(events: &Events, stamps: &mut [u32], i: u32, j: u32, least: u32) -> u32
-    requires first { i < length events.now }
-    requires second { j < length events.now }
+    requires rising { i < j }
+    requires within { j < length events.now }
     requires share { Share (cube_at events.now i) (cube_at events.now j) }
     requires tried { IsLeastTried events.now i stamps.old least }
     ensures tried { IsLeastTried events.now i stamps.new result }
     ensures falls { result ≤ least }
     ensures not_above { ClashAt events.now i j → result ≤ j }
 {
-    if j <= i {
-        return least;
-    }
     if j >= least {
         return least;
     }

@@ -9,17 +9,20 @@ least_in_row-least-requires-clause-sharing c =
     let rows = c.args.events.now in
     let index = c.args.index.now in
     let below = has_row rows index c.args.i c.loop-k.k c.pair-v.result c.requires.index c.requires.within read in
-    rw c.at.ensures (sharing_row rows index c.args.i c.loop-k.k c.pair-v.result c.requires.index read below)
+    let holds = rw c.at.ensures at c.places_after-later.ensures.later in
+    sharing_row rows index c.args.i c.loop-k.k c.pair-v.result c.places_after-later.result.now c.requires.index
+    read below holds
 
 pub loop-k-preserved : goal.loop-k-preserved
 loop-k-preserved c =
     let read = rw c.cube-cube.ensures at c.pair-v.ensures in
-    let here = rw c.at.ensures at c.least_in_row-least.ensures.none_below in
+    let holds = rw c.at.ensures at c.places_after-later.ensures.later in
     record {
       tried = c.least_in_row-least.ensures.tried;
       none_below = one_row_more c.args.events.now c.args.index.now c.args.i c.loop-k.k c.loop-k.least
           c.least_in_row-least.result c.pair-v.result
-          read c.loop-k.invariant.none_below c.least_in_row-least.ensures.falls here;
+          read c.loop-k.invariant.none_below c.least_in_row-least.ensures.falls
+          (λ j has clash. c.least_in_row-least.ensures.none_below j ((holds j).1 (has, clash.rising)) clash);
     }
 
 pub returns-then-least-count-clause-found : goal.returns-then-least-count-clause-found

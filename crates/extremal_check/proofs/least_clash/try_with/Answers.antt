@@ -11,7 +11,7 @@ returns-then-exclude-clause-tried c =
     let none = excluded c.args.events.now c.args.i c.args.j
     (rw (← c.cube.ensures, ← c.cube-2.ensures) (c.exclude.ensures.0 c.if-exclude.true)) in
     stamp_it c.args.events.now c.args.i c.args.j c.args.stamps.now c.args.least c.args.least c.requires.tried
-    c.requires.second
+    c.requires.within
     (omega arith) c.requires.tried.clash (λ clash. absurd (none clash))
 
 pub returns-then-exclude-clause-not_above : goal.returns-then-exclude-clause-not_above
@@ -24,10 +24,10 @@ returns-clause-tried c =
     let agree : Exclude (cube_at c.args.events.now c.args.i) (cube_at c.args.events.now c.args.j) → ⊥ = λ exclude.
     false≢true (sym c.if-exclude.false ∙ c.exclude.ensures.1 (rw (c.cube.ensures, c.cube-2.ensures) exclude)) in
     let clash : ClashAt c.args.events.now c.args.i c.args.j = record {
-      rising = omega arith;
-      within = c.requires.second;
+      rising = c.requires.rising;
+      within = c.requires.within;
       clash = record { share = c.requires.share; agree = agree };
     } in
     stamp_it c.args.events.now c.args.i c.args.j c.args.stamps.now c.args.least c.args.j c.requires.tried
-    c.requires.second
+    c.requires.within
     (omega arith) (λ less. clash) (λ clashes. omega arith)
