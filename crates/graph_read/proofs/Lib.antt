@@ -16,6 +16,7 @@ pub mod ReachedVertices
 -- Grids: their edges by places, their paths, the neighbours of a vertex
 pub mod GridPlaces
 pub mod GridPaths
+mod NumbersInARow
 pub mod GridIncidence
 mod GridDegrees
 pub mod GridGraphs
