@@ -1,9 +1,10 @@
 ghost use Rattle.std.specs.Prelude.{◌≡◌, ◌<◌, ◌^◌, length, IfOk};
+ghost use Rattle.pop_model.specs.Stacks.{variables_of};
 ghost use Rattle.graph_read.specs.Grids.{IsSide};
 ghost use Rattle.cycle_popping.specs.Walks.{AreCycles};
 
 use crate::{arrow_weights, arrows, grid_arrows, grid_weights, run_walks};
-use confluence_core::{End, run_first};
+use confluence_core::{End, Stuck, run_first};
 use graph_read::{Graph, first_cut_off, read_graph};
 use pop_edge::MemSource;
 use pop_instance::{Arrows, Family, Instance};
@@ -52,23 +53,26 @@ struct Want<'a> {
     stuck: &'a [u32],
 }
 
+// Compares the units of the stuck cycles.
+fn are_stuck(rt: &impl Abort, stuck: &Stuck, units: &[u32]) {
+    assert!(rt; stuck.len() == units.len() as u64);
+    for i in 0..stuck.len() {
+        let (unit, _) = stuck.at(i);
+        assert_eq!(rt; unit, units[i as usize], "stuck cycle {i}");
+    }
+}
+
 // Compares an end over so many variables.
 fn is_end(rt: &impl Abort, end: &End, count: u32, want: &Want)
     requires { count ≡ length end.now.cursors }
 {
-    assert_eq!(rt; want.cursors.len(), count as usize);
+    assert!(rt; want.cursors.len() == count as usize);
     for v in 0..count {
-        assert_eq!(rt;
-            end.cursors.get(v),
-            want.cursors[v as usize],
-            "variable {v}"
-        );
+        let cursor = end.cursors.get(v);
+        assert_eq!(rt; cursor, want.cursors[v as usize], "variable {v}");
     }
     assert_eq!(rt; end.pops, want.pops);
-    assert_eq!(rt; end.stuck.len(), want.stuck.len() as u64);
-    for (i, unit) in want.stuck.iter().enumerate() {
-        assert_eq!(rt; end.stuck.at(i as u64).0, *unit, "stuck cycle {i}");
-    }
+    are_stuck(rt, &end.stuck, want.stuck);
 }
 
 // Compares the ends of the walks and of the one-thread run.
@@ -81,53 +85,83 @@ fn ends_with(rt: &impl Abort, alloc: Global, instance: &Instance, want: &Want) -
     Ok(())
 }
 
+// These rows of entries.
+fn given(rt: &impl Abort, alloc: Global, table: &[&[u32]]) -> Result<StackSpec, Fail> {
+    let mut rows = Vec::new(alloc);
+    for row in table {
+        assert!(rt; row.len() < 9);
+        rows.push(Vec::from_slice(alloc, row)?)?;
+    }
+    assert!(rt; rows.len() < 9);
+    Ok(StackSpec::Given(Rows::of(rows)))
+}
+
+// Compares the ends of the runs to the trees of a graph to vertex 1, over these entries.
+fn ends_over(
+    rt: &impl Abort,
+    alloc: Global,
+    text: &[u8],
+    table: &[&[u32]],
+    want: &Want,
+) -> Result<(), Fail> {
+    let spec = given(rt, alloc, table)?;
+    let instance = trees(rt, alloc, text, 1, spec, 1)?;
+    ends_with(rt, alloc, &instance, want)
+}
+
 const TRIANGLE: &[u8] = b"p edge 3 3\ne 1 2\ne 2 3\ne 1 3\n";
 
 // Worked by hand: vertex 2 has the edges to 1 and 3, and vertex 3 those to 2 and 1.
 #[test]
 fn the_cycle_of_two_vertices_is_popped(rt: HostRuntime) -> Result<(), Fail> {
-    let alloc = rt.alloc();
-    let rows = Rows::of(vec![in alloc; vec![in alloc; 1, 0]?, vec![in alloc; 0, 0]?]?);
-    let instance = trees(&rt, alloc, TRIANGLE, 1, StackSpec::Given(rows), 1)?;
     let want = Want {
         cursors: &[1, 1],
         pops: 1,
         stuck: &[],
     };
-    ends_with(&rt, alloc, &instance, &want)
+    ends_over(&rt, rt.alloc(), TRIANGLE, &[&[1, 0], &[0, 0]], &want)
 }
 
 // Worked by hand: the cycle of vertices 2 and 3 occurs at their last entries.
 #[test]
 fn a_cycle_is_stuck_at_the_last_entry(rt: HostRuntime) -> Result<(), Fail> {
-    let alloc = rt.alloc();
-    let rows = Rows::of(vec![in alloc; vec![in alloc; 1]?, vec![in alloc; 0]?]?);
-    let instance = trees(&rt, alloc, TRIANGLE, 1, StackSpec::Given(rows), 1)?;
     let want = Want {
         cursors: &[0, 0],
         pops: 0,
         stuck: &[0],
     };
-    ends_with(&rt, alloc, &instance, &want)
+    ends_over(&rt, rt.alloc(), TRIANGLE, &[&[1], &[0]], &want)
 }
 
 // Worked by hand: the path 2, 3, 4, 1, whose vertices 3 and 4 lead to each other first.
 #[test]
 fn a_vertex_in_front_of_a_cycle_keeps_its_arrow(rt: HostRuntime) -> Result<(), Fail> {
-    let alloc = rt.alloc();
-    let rows = Rows::of(vec![in alloc;
-        vec![in alloc; 0, 0]?,
-        vec![in alloc; 1, 1]?,
-        vec![in alloc; 0, 1]?,
-    ]?);
     let text = b"p edge 4 3\ne 2 3\ne 3 4\ne 4 1\n";
-    let instance = trees(&rt, alloc, text, 1, StackSpec::Given(rows), 1)?;
     let want = Want {
         cursors: &[0, 1, 1],
         pops: 1,
         stuck: &[],
     };
-    ends_with(&rt, alloc, &instance, &want)
+    ends_over(&rt, rt.alloc(), text, &[&[0, 0], &[1, 1], &[0, 1]], &want)
+}
+
+// The first value of a variable.
+fn first_value(rt: &impl Abort, stacks: &Stacks, v: u32) -> u32
+    requires { v < variables_of stacks.now }
+{
+    let height = stacks.height(v);
+    assert!(rt; 0 < height);
+    let mut reader = Reader::new(stacks);
+    reader.entry(stacks, v, 0)
+}
+
+// Compares stacks of one variable, of two values and height 9, whose first value is 0.
+fn has_two_values(rt: &impl Abort, stacks: &Stacks) {
+    assert!(rt; stacks.count() == 1);
+    assert_eq!(rt; stacks.domain(0), 2);
+    assert_eq!(rt; stacks.height(0), 9);
+    let value = first_value(rt, stacks, 0);
+    assert_eq!(rt; value, 0);
 }
 
 // Worked by hand from the key stream: vertex 2 has a loop, which is no slot, and two parallel edges
@@ -143,11 +177,7 @@ fn parallel_edges_are_slots_and_loops_are_none(rt: HostRuntime) -> Result<(), Fa
         stuck: &[],
     };
     ends_with(&rt, alloc, &instance, &want)?;
-    let stacks = instance.stacks();
-    assert!(&rt; stacks.count() == 1);
-    assert_eq!(&rt; stacks.domain(0), 2);
-    assert!(&rt; stacks.height(0) == 9);
-    assert_eq!(&rt; Reader::new(stacks).entry(stacks, 0, 0), 0);
+    has_two_values(&rt, instance.stacks());
     Ok(())
 }
 
@@ -183,12 +213,21 @@ fn same_slots(rt: &impl Abort, made: &Arrows, want: &Arrows, v: u32)
 {
     assert!(rt; made.slots(v) == want.slots(v));
     for slot in 0..made.slots(v) {
-        assert_eq!(rt;
-            made.head(v, slot),
-            want.head(v, slot),
-            "slot {slot} of variable {v}"
-        );
+        let head = made.head(v, slot);
+        let wanted = want.head(v, slot);
+        assert_eq!(rt; head, wanted, "slot {slot} of variable {v}");
     }
+}
+
+// Compares how many values a variable has over two stacks, and its first value.
+fn same_value(rt: &impl Abort, made: &Stacks, want: &Stacks, v: u32)
+    requires made { v < variables_of made.now }
+    requires want { v < variables_of want.now }
+{
+    assert_eq!(rt; made.domain(v), want.domain(v), "variable {v}");
+    let value = first_value(rt, made, v);
+    let wanted = first_value(rt, want, v);
+    assert_eq!(rt; value, wanted, "variable {v}");
 }
 
 // Compares the first values of variables with these weights, under one key.
@@ -197,15 +236,7 @@ fn same_values(rt: &impl Abort, made: Weights, want: Weights) -> Result<(), Fail
     let want = Stacks::new(StackSpec::Key([7; 32]), want, 1)?;
     assert!(rt; made.count() == want.count());
     for v in 0..made.count() {
-        assert_eq!(rt; made.domain(v), want.domain(v), "variable {v}");
-        assert!(rt; 0 < made.height(v));
-        assert!(rt; 0 < want.height(v));
-        let value = Reader::new(&made).entry(&made, v, 0);
-        assert_eq!(rt;
-            value,
-            Reader::new(&want).entry(&want, v, 0),
-            "variable {v}"
-        );
+        same_value(rt, &made, &want, v);
     }
     Ok(())
 }

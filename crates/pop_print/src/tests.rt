@@ -1,5 +1,7 @@
-ghost use Rattle.std.specs.Prelude.{◌≡◌, ◌<◌, ◌^◌, length, map};
+ghost use Rattle.std.specs.Prelude.{◌<◌, ◌^◌, length, map, IfOk};
+ghost use Rattle.std.specs.Bool.{OnTrue};
 ghost use Rattle.std.specs.List.Sorted.{IsStrictlyIncreasing};
+ghost use Rattle.pop_print.specs.Ends.{AreFactsOf};
 
 use crate::arrow::push_arrow;
 use crate::{Facts, text};
@@ -7,18 +9,63 @@ use confluence_core::run_first;
 use pop_instance::{Cube, Events, Family, Instance};
 use pop_stacks::{Rows, StackSpec, Stacks, Weights};
 use pop_text::Output;
-use std::alloc::Global;
+use std::alloc::{AllocError, Global};
 use std::process::Abort;
 use std::test::Fail;
 
 mod made;
 
-// The event of a clause, which occurs where each of these variables has this value.
-fn clause(rt: &impl Abort, number: u32, pairs: Vec<(u32, u32)>) -> (u32, Cube)
-    requires { length pairs.items < 2 ^ 31 }
-    ensures { result.0 ≡ number }
+// These rows of entries.
+fn rows(rt: &impl Abort, alloc: Global, table: &[&[u32]]) -> Result<Rows, Fail> {
+    let mut rows = Vec::new(alloc);
+    for row in table {
+        assert!(rt; row.len() < 9);
+        rows.push(Vec::from_slice(alloc, row)?)?;
+    }
+    assert!(rt; rows.len() < 9);
+    Ok(Rows::of(rows))
+}
+
+// Whether the numbers rise.
+fn are_rising(rows: &[(u32, Cube)]) -> bool
+    ensures { OnTrue result (IsStrictlyIncreasing (map (λ r. r.0) rows.now)) }
 {
-    (number, Cube::new(pairs).expect(rt, "rising variables"))
+    for i in 1..rows.len() {
+        if rows[i - 1].0 >= rows[i].0 {
+            return false;
+        }
+    }
+    true
+}
+
+// The events of clauses by their numbers, which rise. Each occurs where these variables have these
+// values.
+fn clauses(
+    rt: &impl Abort,
+    alloc: Global,
+    table: &[(u32, &[(u32, u32)])],
+) -> Result<Vec<(u32, Cube)>, Fail>
+    ensures rising { IfOk result (λ rows. IsStrictlyIncreasing (map (λ r. r.0) rows.items)) }
+    ensures short { IfOk result (λ rows. length rows.items < 2 ^ 31) }
+{
+    let mut rows = Vec::new(alloc);
+    for (number, pairs) in table {
+        assert!(rt; pairs.len() < 9);
+        let cube = Cube::new(Vec::from_slice(alloc, pairs)?).expect(rt, "rising variables");
+        rows.push((*number, cube))?;
+    }
+    assert!(rt; rows.len() < 9);
+    let rising = are_rising(&rows);
+    assert!(rt; rising);
+    Ok(rows)
+}
+
+// What is printed of the one-thread run of an instance.
+fn text_of_run(alloc: Global, facts: &Facts, instance: &Instance) -> Result<Vec<u8>, AllocError>
+    requires { AreFactsOf facts.now instance.now }
+{
+    let end = run_first(alloc, instance)?;
+    text(alloc, facts, instance, &end)
 }
 
 // What is printed of the one-thread run of clauses over so many variables, with these entries.
@@ -36,70 +83,49 @@ fn printed(
     let stacks = Stacks::new(StackSpec::Given(rows), Weights::pairs(count), 1)?;
     let events = Events::gather(alloc, clauses)?;
     let instance = Instance::new(stacks, Family::Listed(events)).expect(rt, "known variables");
-    let end = run_first(alloc, &instance)?;
-    Ok(text(alloc, &Facts::Formula(count), &instance, &end)?)
+    Ok(text_of_run(alloc, &Facts::Formula(count), &instance)?)
 }
 
+// Compares what is printed of the run of clauses over these entries.
+fn is_printed(
+    rt: &impl Abort,
+    alloc: Global,
+    table: &[&[u32]],
+    events: &[(u32, &[(u32, u32)])],
+    want: &[u8],
+) -> Result<(), Fail> {
+    let rows = rows(rt, alloc, table)?;
+    let count = rows.count();
+    let clauses = clauses(rt, alloc, events)?;
+    let bytes = printed(rt, alloc, rows, count, clauses)?;
+    assert_eq!(rt; bytes.as_slice(), want);
+    Ok(())
+}
+
+// Worked by hand. The clause 1; the clause -1; no clause and no variable; the clauses 1 2 and -1 2.
 #[test]
 fn an_end_without_an_event_prints_the_sample(rt: HostRuntime) -> Result<(), Fail> {
-    // Worked by hand. The clause 1; the clause -1; no clause and no variable; the clauses 1 2 and
-    // -1 2.
     let alloc = rt.alloc();
-    let one = clause(&rt, 1, vec![in alloc; (0, 0)]?);
-    let rows = Rows::of(vec![in alloc; vec![in alloc; 0, 0, 1]?]?);
-    let bytes = printed(&rt, alloc, rows, 1, vec![in alloc; one]?)?;
-    assert_eq!(rt;
-        bytes.as_slice(),
-        b"s SAMPLE\nv 1 0\nused 2\npops 2\n".as_slice()
-    );
-
-    let one = clause(&rt, 1, vec![in alloc; (0, 1)]?);
-    let rows = Rows::of(vec![in alloc; vec![in alloc; 1, 0]?]?);
-    let bytes = printed(&rt, alloc, rows, 1, vec![in alloc; one]?)?;
-    assert_eq!(rt;
-        bytes.as_slice(),
-        b"s SAMPLE\nv -1 0\nused 1\npops 1\n".as_slice()
-    );
-
-    let bytes = printed(&rt, alloc, Rows::of(Vec::new(alloc)), 0, Vec::new(alloc))?;
-    assert_eq!(rt;
-        bytes.as_slice(),
-        b"s SAMPLE\nv 0\nused\npops 0\n".as_slice()
-    );
-
-    let first = clause(&rt, 1, vec![in alloc; (0, 0), (1, 0)]?);
-    let second = clause(&rt, 2, vec![in alloc; (0, 1), (1, 0)]?);
-    let rows = Rows::of(vec![in alloc; vec![in alloc; 0, 1]?, vec![in alloc; 0, 1]?]?);
-    let bytes = printed(&rt, alloc, rows, 2, vec![in alloc; first, second]?)?;
-    assert_eq!(rt;
-        bytes.as_slice(),
-        b"s SAMPLE\nv 1 2 0\nused 1 1\npops 1\n".as_slice()
-    );
-    Ok(())
+    let want = b"s SAMPLE\nv 1 0\nused 2\npops 2\n";
+    is_printed(&rt, alloc, &[&[0, 0, 1]], &[(1, &[(0, 0)])], want)?;
+    let want = b"s SAMPLE\nv -1 0\nused 1\npops 1\n";
+    is_printed(&rt, alloc, &[&[1, 0]], &[(1, &[(0, 1)])], want)?;
+    is_printed(&rt, alloc, &[], &[], b"s SAMPLE\nv 0\nused\npops 0\n")?;
+    let both: [(u32, &[(u32, u32)]); 2] = [(1, &[(0, 0), (1, 0)]), (2, &[(0, 1), (1, 0)])];
+    let want = b"s SAMPLE\nv 1 2 0\nused 1 1\npops 1\n";
+    is_printed(&rt, alloc, &[&[0, 1], &[0, 1]], &both, want)
 }
 
+// Worked by hand. The clause 1; the clauses 1 and 2, of which the first is stuck at once and the
+// second is popped on.
 #[test]
 fn an_end_with_events_prints_their_numbers(rt: HostRuntime) -> Result<(), Fail> {
-    // Worked by hand. The clause 1; the clauses 1 and 2, of which the first is stuck at once and
-    // the second is popped on.
     let alloc = rt.alloc();
-    let one = clause(&rt, 1, vec![in alloc; (0, 0)]?);
-    let rows = Rows::of(vec![in alloc; vec![in alloc; 0, 0]?]?);
-    let bytes = printed(&rt, alloc, rows, 1, vec![in alloc; one]?)?;
-    assert_eq!(rt;
-        bytes.as_slice(),
-        b"s EXHAUSTED\nstuck 1\nused 1\npops 1\n".as_slice()
-    );
-
-    let first = clause(&rt, 1, vec![in alloc; (0, 0)]?);
-    let second = clause(&rt, 2, vec![in alloc; (1, 0)]?);
-    let rows = Rows::of(vec![in alloc; vec![in alloc; 0]?, vec![in alloc; 0, 0, 1]?]?);
-    let bytes = printed(&rt, alloc, rows, 2, vec![in alloc; first, second]?)?;
-    assert_eq!(rt;
-        bytes.as_slice(),
-        b"s EXHAUSTED\nstuck 1\nused 0 2\npops 2\n".as_slice()
-    );
-    Ok(())
+    let want = b"s EXHAUSTED\nstuck 1\nused 1\npops 1\n";
+    is_printed(&rt, alloc, &[&[0, 0]], &[(1, &[(0, 0)])], want)?;
+    let both: [(u32, &[(u32, u32)]); 2] = [(1, &[(0, 0)]), (2, &[(1, 0)])];
+    let want = b"s EXHAUSTED\nstuck 1\nused 0 2\npops 2\n";
+    is_printed(&rt, alloc, &[&[0], &[0, 0, 1]], &both, want)
 }
 
 #[test]

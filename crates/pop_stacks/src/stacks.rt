@@ -193,57 +193,43 @@ impl Stacks {
 #[cfg(test)]
 mod tests {
     use super::*;
-    use crate::Rows;
+    use crate::tables::{rows, weights};
+    use std::process::Abort;
     use std::test::Fail;
 
-    // The fault of given rows, or none.
-    fn fault(rows: Rows, weights: Weights) -> Option<StackFault> {
-        Stacks::new(StackSpec::Given(rows), weights, 1).err()
+    // Compares the fault of rows under weights with the wanted one.
+    fn is_refused(
+        rt: &impl Abort,
+        alloc: Global,
+        table: &[&[u32]],
+        weights: Weights,
+        wanted: StackFault,
+    ) -> Result<(), Fail> {
+        let spec = StackSpec::Given(rows(rt, alloc, table)?);
+        assert_eq!(rt; Stacks::new(spec, weights, 1).err(), Some(wanted));
+        Ok(())
     }
 
     // Each list of rows has later faults too, and a fault at a later place.
     #[test]
     fn the_first_fault_is_named_at_its_least_place(rt: HostRuntime) -> Result<(), Fail> {
         let alloc = rt.alloc();
-        let rows = Rows::of(vec![in alloc; vec![in alloc; 9]?]?);
-        let wrong = fault(rows, Weights::pairs(2));
-        assert_eq!(&rt; wrong, Some(StackFault::RowCount(1, 2)));
-
-        let rows = Rows::of(vec![in alloc; vec![in alloc; 9]?, Vec::new(alloc), Vec::new(alloc)]?);
-        let wrong = fault(rows, Weights::pairs(3));
-        assert_eq!(&rt; wrong, Some(StackFault::EmptyRow(1)));
-
-        let rows = Rows::of(vec![in alloc;
-            vec![in alloc; 0, 1]?,
-            vec![in alloc; 1, 2, 2]?,
-            vec![in alloc; 9]?,
-        ]?);
-        let wrong = fault(rows, Weights::pairs(3));
-        assert_eq!(&rt; wrong, Some(StackFault::ValueTooLarge(1, 1)));
-
-        let rows = Rows::of(vec![in alloc;
-            vec![in alloc; 0]?,
-            vec![in alloc; 1]?,
-            vec![in alloc; 1]?,
-        ]?);
-        let heavy = Rows::of(vec![in alloc;
-            vec![in alloc; u32::MAX]?,
-            vec![in alloc; u32::MAX, 1]?,
-            vec![in alloc; 2, u32::MAX]?,
-        ]?);
-        let wrong = fault(rows, Weights::of(heavy));
-        assert_eq!(&rt; wrong, Some(StackFault::WeightSum(1)));
-        Ok(())
+        let count = StackFault::RowCount(1, 2);
+        is_refused(&rt, alloc, &[&[9]], Weights::pairs(2), count)?;
+        let empty = StackFault::EmptyRow(1);
+        is_refused(&rt, alloc, &[&[9], &[], &[]], Weights::pairs(3), empty)?;
+        let value = StackFault::ValueTooLarge(1, 1);
+        let table: [&[u32]; 3] = [&[0, 1], &[1, 2, 2], &[9]];
+        is_refused(&rt, alloc, &table, Weights::pairs(3), value)?;
+        let heavy = weights(&rt, alloc, &[&[u32::MAX], &[u32::MAX, 1], &[2, u32::MAX]])?;
+        let sum = StackFault::WeightSum(1);
+        is_refused(&rt, alloc, &[&[0], &[1], &[1]], heavy, sum)
     }
 
     #[test]
     fn keyed_stacks_are_refused_for_their_weights_alone(rt: HostRuntime) -> Result<(), Fail> {
-        let alloc = rt.alloc();
-        let heavy = Rows::of(vec![in alloc;
-            vec![in alloc; 1, u32::MAX - 1]?,
-            vec![in alloc; u32::MAX, 1]?,
-        ]?);
-        let wrong = Stacks::new(StackSpec::Key([7; 32]), Weights::of(heavy), 1).err();
+        let heavy = weights(&rt, rt.alloc(), &[&[1, u32::MAX - 1], &[u32::MAX, 1]])?;
+        let wrong = Stacks::new(StackSpec::Key([7; 32]), heavy, 1).err();
         assert_eq!(&rt; wrong, Some(StackFault::WeightSum(1)));
         Ok(())
     }

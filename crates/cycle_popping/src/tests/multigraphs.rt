@@ -1,12 +1,12 @@
 //! Random multigraphs, with loops and parallel edges: the runs to their trees end alike.
-ghost use Rattle.std.specs.Prelude.{◌≡◌, ◌<◌, length, IfOk};
+ghost use Rattle.std.specs.Prelude.{◌≡◌, ◌<◌, ◌^◌, length, IfOk};
 ghost use Rattle.pop_model.specs.Stacks.{variables_of};
 ghost use Rattle.cycle_popping.specs.Walks.{AreCycles};
 
 use super::trees;
 use crate::run_walks;
 use confluence_core::{End, Keep, Run, run_first, run_from_zeros};
-use pop_instance::{Family, Instance};
+use pop_instance::{Cube, Cursors, Family, Instance};
 use pop_stacks::{Reader, StackSpec};
 use std::alloc::{AllocError, Global};
 use std::process::Abort;
@@ -51,22 +51,36 @@ fn connected(alloc: Global, state: &mut u64, vertices: u32) -> Result<String, Al
     Ok(text)
 }
 
+// Adds the cursors of so many variables.
+fn push_cursors(text: &mut String, cursors: &Cursors, count: u32) -> Result<(), AllocError>
+    requires { count ≡ length cursors.now }
+{
+    for v in 0..count {
+        write!(text, " {}", cursors.get(v))?;
+    }
+    Ok(())
+}
+
+// Adds the pairs of a cube.
+fn push_pairs(text: &mut String, cube: &Cube) -> Result<(), AllocError> {
+    for place in 0..cube.len() {
+        let (v, x) = cube.pair(place);
+        write!(text, " {v}={x}")?;
+    }
+    Ok(())
+}
+
 // An end over so many variables as text: its pops, its cursors, and the unit and the pairs of each
 // stuck cycle.
 fn shown(alloc: Global, end: &End, count: u32) -> Result<String, AllocError>
     requires { count ≡ length end.now.cursors }
 {
     let mut text = format!(in alloc; "{} pops to", end.pops)?;
-    for v in 0..count {
-        write!(text, " {}", end.cursors.get(v))?;
-    }
+    push_cursors(&mut text, &end.cursors, count)?;
     for i in 0..end.stuck.len() {
         let (unit, cube) = end.stuck.at(i);
         write!(text, "; {unit}:")?;
-        for place in 0..cube.len() {
-            let (v, x) = cube.pair(place);
-            write!(text, " {v}={x}")?;
-        }
+        push_pairs(&mut text, cube)?;
     }
     Ok(text)
 }
@@ -148,6 +162,50 @@ fn end_of(rt: &impl Abort, alloc: Global, instance: &Instance, name: &str) -> Re
     Ok(first)
 }
 
+// The arrows of so many vertices but the root lead from each to the root.
+fn are_tree(rt: &impl Abort, heads: &[Option<u32>], vertices: u32, name: &str)
+    requires { 0 < vertices }
+{
+    let count = heads.len();
+    assert_eq!(rt; count, vertices as usize - 1, "heads, {name}");
+    let leads = lead_to_root(heads);
+    assert!(rt; leads, "arrows to the root, {name}");
+}
+
+// What a case draws: the root, the byte of its key, and the height.
+#[derive(Clone, Copy)]
+struct Draw {
+    root: u32,
+    key: u8,
+    height: u32,
+}
+
+// Whether the runs to the trees of a connected graph of so many vertices end with a stuck cycle.
+fn is_exhausted(
+    rt: &impl Abort,
+    alloc: Global,
+    text: &str,
+    vertices: u32,
+    draw: Draw,
+) -> Result<bool, Fail>
+    requires some { 0 < vertices }
+    requires height { 0 < draw.height }
+    requires short { draw.height < 2 ^ 31 }
+{
+    let Draw { root, key, height } = draw;
+    let spec = StackSpec::Key([key; 32]);
+    let instance = trees(rt, alloc, text.as_bytes(), root, spec, height)?;
+    let name = format!(in alloc; "root {root}, key {key}, height {height}: {text}")?;
+    let end = end_of(rt, alloc, &instance, name.as_str())?;
+    assert!(rt; height > 1 || end.pops == 0, "an entry has no next, {name}");
+    if end.stuck.len() > 0 {
+        return Ok(true);
+    }
+    let heads = current_heads(rt, alloc, &instance, &end)?;
+    are_tree(rt, &heads, vertices, name.as_str());
+    Ok(false)
+}
+
 #[test]
 fn three_runs_over_random_multigraphs_end_alike(rt: HostRuntime) -> Result<(), Fail> {
     let alloc = rt.alloc();
@@ -160,17 +218,10 @@ fn three_runs_over_random_multigraphs_end_alike(rt: HostRuntime) -> Result<(), F
         let root = 1 + below(&mut state, vertices);
         let key = below(&mut state, 256) as u8;
         let height = if i % 5 == 0 { 5000 } else { i % 5 };
-        let spec = StackSpec::Key([key; 32]);
-        let instance = trees(&rt, alloc, text.as_bytes(), root, spec, height)?;
-        let name = format!(in alloc; "root {root}, key {key}, height {height}: {text}")?;
-        let end = end_of(&rt, alloc, &instance, name.as_str())?;
-        assert!(&rt; height > 1 || end.pops == 0, "an entry has no next, {name}");
-        if end.stuck.len() > 0 {
+        let draw = Draw { root, key, height };
+        if is_exhausted(&rt, alloc, text.as_str(), vertices, draw)? {
             exhausted += 1;
         } else {
-            let heads = current_heads(&rt, alloc, &instance, &end)?;
-            assert_eq!(&rt; heads.len(), vertices as usize - 1, "heads, {name}");
-            assert!(&rt; lead_to_root(&heads), "arrows to the root, {name}");
             samples += 1;
         }
     }

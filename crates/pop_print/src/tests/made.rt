@@ -1,14 +1,14 @@
-ghost use Rattle.std.specs.Prelude.{◌≡◌, ◌<◌, ◌+◌, ◌*◌, ◌^◌, ℕ, length, All};
+ghost use Rattle.std.specs.Prelude.{◌≡◌, ◌<◌, ◌+◌, ◌*◌, ◌^◌, ℕ, length, All, IfOk};
 ghost use Rattle.pop_model.specs.Names.{vertex_of};
 ghost use Rattle.pop_instance.specs.Arrows.{heads_of};
 ghost use Rattle.graph_read.specs.Grids.{IsSide, grid_of};
 ghost use Rattle.graph_read.specs.Incidence.{edges_at};
 
-use crate::{Facts, text};
-use confluence_core::run_first;
+use super::{rows, text_of_run};
+use crate::Facts;
 use pop_instance::{Arrows, Family, Instance};
 use pop_stacks::{Rows, StackSpec, Stacks, Weights};
-use std::alloc::Global;
+use std::alloc::{AllocError, Global};
 use std::process::Abort;
 use std::test::Fail;
 
@@ -31,23 +31,37 @@ fn printed(
     let stacks = Stacks::new(StackSpec::Given(rows), weights, 1)?;
     let arrows = Arrows::new(heads).expect(rt, "heads that are variables or the root");
     let instance = Instance::new(stacks, Family::Cycles(arrows)).expect(rt, "two slots for each");
-    let end = run_first(alloc, &instance)?;
-    Ok(text(alloc, &Facts::Made(side), &instance, &end)?)
+    Ok(text_of_run(alloc, &Facts::Made(side), &instance)?)
 }
 
-// The same of the grid of side 2, by the entries of its vertices 2, 3 and 4. Its edges are 1 2,
-// 1 3, 2 4 and 3 4, so vertices 2 and 3 have slots to 1 and 4, and vertex 4 to 2 and 3.
-fn printed_of_two(rt: &impl Abort, alloc: Global, rows: Rows) -> Result<Vec<u8>, Fail> {
-    let heads = vec![in alloc;
-        vec![in alloc; None, Some(2)]?,
-        vec![in alloc; None, Some(2)]?,
-        vec![in alloc; Some(0), Some(1)]?,
-    ]?;
-    printed(rt, alloc, 2, rows, heads)
+// The heads of a table, which names two for each variable.
+fn heads(alloc: Global, table: &[[Option<u32>; 2]]) -> Result<Vec<Vec<Option<u32>>>, AllocError>
+    ensures { IfOk result (λ heads. All (λ row. length row < 2 ^ 31) (heads_of heads.items)) }
+{
+    let mut heads = Vec::new(alloc);
+    for row in table {
+        heads.push(Vec::from_slice(alloc, row)?)?;
+    }
+    Ok(heads)
+}
+
+// Compares what is printed of the grid of side 2, by the entries of its vertices 2, 3 and 4. Its
+// edges are 1 2, 1 3, 2 4 and 3 4, so vertices 2 and 3 have slots to 1 and 4, and vertex 4 to 2 and
+// 3.
+fn is_printed(rt: &impl Abort, alloc: Global, table: &[&[u32]], want: &[u8]) -> Result<(), Fail> {
+    let heads = heads(
+        alloc,
+        &[[None, Some(2)], [None, Some(2)], [Some(0), Some(1)]],
+    )?;
+    assert!(rt; heads.len() < 9);
+    let rows = rows(rt, alloc, table)?;
+    let bytes = printed(rt, alloc, 2, rows, heads)?;
+    assert_eq!(rt; bytes.as_slice(), want);
+    Ok(())
 }
 
 // Worked by hand: each vertex, times 1 where its arrow is its first edge and 2 where it is its
-// second.
+// second. In the last case the cycle of 2 and 4 is popped, then that of 3 and 4; then 4 leads to 3.
 #[test]
 fn a_sample_of_a_made_grid_is_told_by_sums(rt: HostRuntime) -> Result<(), Fail> {
     let alloc = rt.alloc();
@@ -56,42 +70,15 @@ fn a_sample_of_a_made_grid_is_told_by_sums(rt: HostRuntime) -> Result<(), Fail> 
         bytes.as_slice(),
         b"s SAMPLE\ngrid 1\nused 0 0\npops 0\nsum 0\n".as_slice()
     );
-
-    let rows = Rows::of(vec![in alloc;
-        vec![in alloc; 0]?,
-        vec![in alloc; 0]?,
-        vec![in alloc; 0]?,
-    ]?);
-    assert_eq!(&rt;
-        printed_of_two(&rt, alloc, rows)?.as_slice(),
-        b"s SAMPLE\ngrid 2\nused 0 0\npops 0\nsum 9\n".as_slice()
-    );
-
-    // The cycle of 2 and 4 is popped, then that of 3 and 4; then 4 leads to 3.
-    let rows = Rows::of(vec![in alloc;
-        vec![in alloc; 1, 0]?,
-        vec![in alloc; 1, 0]?,
-        vec![in alloc; 0, 1, 1]?,
-    ]?);
-    assert_eq!(&rt;
-        printed_of_two(&rt, alloc, rows)?.as_slice(),
-        b"s SAMPLE\ngrid 2\nused 4 2\npops 2\nsum 13\n".as_slice()
-    );
-    Ok(())
+    let want = b"s SAMPLE\ngrid 2\nused 0 0\npops 0\nsum 9\n";
+    is_printed(&rt, alloc, &[&[0], &[0], &[0]], want)?;
+    let want = b"s SAMPLE\ngrid 2\nused 4 2\npops 2\nsum 13\n";
+    is_printed(&rt, alloc, &[&[1, 0], &[1, 0], &[0, 1, 1]], want)
 }
 
 // Worked by hand: the cycle of 2 and 4 occurs at their last entries.
 #[test]
 fn a_stuck_end_of_a_made_grid_is_told_by_counts(rt: HostRuntime) -> Result<(), Fail> {
-    let alloc = rt.alloc();
-    let rows = Rows::of(vec![in alloc;
-        vec![in alloc; 1]?,
-        vec![in alloc; 0]?,
-        vec![in alloc; 0]?,
-    ]?);
-    assert_eq!(&rt;
-        printed_of_two(&rt, alloc, rows)?.as_slice(),
-        b"s EXHAUSTED\ngrid 2\nstuck 1\nused 0 0\npops 0\n".as_slice()
-    );
-    Ok(())
+    let want = b"s EXHAUSTED\ngrid 2\nstuck 1\nused 0 0\npops 0\n";
+    is_printed(&rt, rt.alloc(), &[&[1], &[0], &[0]], want)
 }

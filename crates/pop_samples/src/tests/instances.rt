@@ -133,20 +133,21 @@ fn cube(rt: &impl Abort, alloc: Global, which: usize, e: usize) -> Result<Cube, 
     Ok(Cube::new(pairs).expect(rt, "a cube"))
 }
 
-// The arrows of the path: variables 0, 1 and 2 in a row, with the root before and behind them.
-fn path(rt: &impl Abort, alloc: Global) -> Result<Family, Fail> {
-    let heads = vec![in alloc;
-        vec![in alloc; None, Some(1)]?,
-        vec![in alloc; Some(0), Some(2)]?,
-        vec![in alloc; Some(1), None]?,
-    ]?;
-    Ok(Family::Cycles(Arrows::new(heads).expect(rt, "arrows")))
+// Where the arrows of the path lead: variables 0, 1 and 2 in a row, with the root before and behind
+// them.
+static HEADS: [[Option<u32>; 2]; 3] = [[None, Some(1)], [Some(0), Some(2)], [Some(1), None]];
+
+// The arrows of these heads.
+fn arrows_of(rt: &impl Abort, alloc: Global, heads: &[[Option<u32>; 2]]) -> Result<Arrows, Fail> {
+    let mut rows = Vec::new(alloc);
+    for row in heads {
+        rows.push(Vec::from_slice(alloc, row)?)?;
+    }
+    assert!(rt; rows.len() < 9);
+    Ok(Arrows::new(rows).expect(rt, "arrows"))
 }
 
-fn family(rt: &impl Abort, alloc: Global, which: usize) -> Result<Family, Fail> {
-    if which == PATH {
-        return path(rt, alloc);
-    }
+fn listed(rt: &impl Abort, alloc: Global, which: usize) -> Result<Family, Fail> {
     let first = cube(rt, alloc, which, 0)?;
     let second = cube(rt, alloc, which, 1)?;
     let third = cube(rt, alloc, which, 2)?;
@@ -154,24 +155,43 @@ fn family(rt: &impl Abort, alloc: Global, which: usize) -> Result<Family, Fail> 
     Ok(Family::Listed(Events::gather(alloc, events)?))
 }
 
-fn stacks(alloc: Global, n: u32) -> Result<Stacks, Fail> {
-    let rows = Rows::of(vec![in alloc;
-        vec![in alloc; bit(n, 0), bit(n, 1), bit(n, 2)]?,
-        vec![in alloc; bit(n, 3), bit(n, 4), bit(n, 5)]?,
-        vec![in alloc; bit(n, 6), bit(n, 7), bit(n, 8)]?,
-    ]?);
-    let weights = Rows::of(vec![in alloc;
+fn family(rt: &impl Abort, alloc: Global, which: usize) -> Result<Family, Fail> {
+    if which != PATH {
+        return listed(rt, alloc, which);
+    }
+    let arrows = arrows_of(rt, alloc, &HEADS)?;
+    Ok(Family::Cycles(arrows))
+}
+
+// The entries of each variable.
+fn entries(rt: &impl Abort, alloc: Global, n: u32) -> Result<Rows, Fail> {
+    let mut rows = Vec::new(alloc);
+    for v in 0..3 {
+        let row = [bit(n, 3 * v), bit(n, 3 * v + 1), bit(n, 3 * v + 2)];
+        rows.push(Vec::from_slice(alloc, &row)?)?;
+    }
+    assert!(rt; rows.len() < 9);
+    Ok(Rows::of(rows))
+}
+
+fn weights(alloc: Global) -> Result<Weights, AllocError> {
+    Ok(Weights::of(Rows::of(vec![in alloc;
         vec![in alloc; 2, 1]?,
         vec![in alloc; 1, 3]?,
         vec![in alloc; 3, 2]?,
-    ]?);
-    Ok(Stacks::new(StackSpec::Given(rows), Weights::of(weights), 3)?)
+    ]?)))
+}
+
+fn stacks(rt: &impl Abort, alloc: Global, n: u32) -> Result<Stacks, Fail> {
+    let rows = entries(rt, alloc, n)?;
+    let weights = weights(alloc)?;
+    Ok(Stacks::new(StackSpec::Given(rows), weights, 3)?)
 }
 
 // Runs the instance of these rows.
 fn end_of(rt: &impl Abort, alloc: Global, which: usize, rows: u32) -> Result<Finish, Fail> {
     let family = family(rt, alloc, which)?;
-    let instance = Instance::new(stacks(alloc, rows)?, family).expect(rt, "an instance");
+    let instance = Instance::new(stacks(rt, alloc, rows)?, family).expect(rt, "an instance");
     let end = run_first(alloc, &instance)?;
     assert!(rt; instance.stacks().count() == 3);
     let (a, b, c) = (end.cursors.get(0), end.cursors.get(1), end.cursors.get(2));

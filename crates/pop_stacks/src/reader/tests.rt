@@ -2,23 +2,28 @@ ghost use Rattle.std.specs.Prelude.{◌<◌, ◌^◌, length, All};
 ghost use Rattle.pop_stacks.specs.Readers.{Belongs};
 
 use super::*;
-use crate::{Rows, StackSpec, Weights};
+use crate::{Rows, StackSpec, Weights, tables};
 use pop_rows::RowList;
 use std::process::Abort;
 use std::test::Fail;
+
+// Entry k of variable v.
+fn entry_of(rt: &impl Abort, stacks: &Stacks, reader: &mut Reader, v: u32, k: u32) -> u32
+    requires { Belongs stacks.now reader.old }
+    ensures { Belongs stacks.now reader.new }
+{
+    assert!(rt; v < stacks.count());
+    assert!(rt; k < stacks.height(v));
+    reader.entry(stacks, v, k)
+}
 
 // Looks at entry k of variable v, and compares its value.
 fn look(rt: &impl Abort, stacks: &Stacks, reader: &mut Reader, v: u32, k: u32, value: u32)
     requires { Belongs stacks.now reader.old }
     ensures { Belongs stacks.now reader.new }
 {
-    assert!(rt; v < stacks.count());
-    assert!(rt; k < stacks.height(v));
-    assert_eq!(rt;
-        reader.entry(stacks, v, k),
-        value,
-        "entry {k} of variable {v}"
-    );
+    let found = entry_of(rt, stacks, reader, v, k);
+    assert_eq!(rt; found, value, "entry {k} of variable {v}");
 }
 
 // Looks at entries of variable 0 in this order; `values` are the values of the first eight.
@@ -44,7 +49,21 @@ fn reads_values(rt: &impl Abort, stacks: &Stacks, reader: &mut Reader, values: &
     look_along(rt, stacks, reader, &[3, 0, 5], values);
 }
 
-// Compares the first entries of variable 0 under the key of zeros, by a reader of each kind.
+// Compares the first entries of variable 0, by a reader of each kind.
+fn read_by_both(
+    rt: &impl Abort,
+    alloc: Global,
+    stacks: &Stacks,
+    values: &[u32],
+) -> Result<(), Fail> {
+    let mut reader = Reader::new(stacks);
+    reads_values(rt, stacks, &mut reader, values);
+    let mut keeping = Reader::keeping(alloc, stacks)?;
+    reads_values(rt, stacks, &mut keeping, values);
+    Ok(())
+}
+
+// Compares the first entries of variable 0 under the key of zeros.
 fn has_values(
     rt: &impl Abort,
     alloc: Global,
@@ -52,9 +71,7 @@ fn has_values(
     values: &[u32],
 ) -> Result<(), Fail> {
     let stacks = Stacks::new(StackSpec::Key([0; 32]), weights, 64)?;
-    reads_values(rt, &stacks, &mut Reader::new(&stacks), values);
-    reads_values(rt, &stacks, &mut Reader::keeping(alloc, &stacks)?, values);
-    Ok(())
+    read_by_both(rt, alloc, &stacks, values)
 }
 
 // These weights of variable 0, in one array with those of another variable.
@@ -77,16 +94,16 @@ fn a_value_is_the_least_whose_weights_exceed_the_scaled_number(
 ) -> Result<(), Fail> {
     let alloc = rt.alloc();
     has_values(&rt, alloc, Weights::pairs(1), &[1, 0, 0, 1, 1, 0, 0, 1])?;
-    let equal = Rows::of(vec![in alloc; vec![in alloc; 1, 1]?]?);
-    has_values(&rt, alloc, Weights::of(equal), &[1, 0, 0, 1, 1, 0, 0, 1])?;
-    let thirds = Rows::of(vec![in alloc; vec![in alloc; 1, 1, 1]?]?);
-    has_values(&rt, alloc, Weights::of(thirds), &[1, 0, 0, 2, 1, 0, 0, 1])?;
-    let falling = Rows::of(vec![in alloc; vec![in alloc; 2, 1]?]?);
-    has_values(&rt, alloc, Weights::of(falling), &[0, 0, 0, 1, 0, 0, 0, 0])?;
-    let steep = Rows::of(vec![in alloc; vec![in alloc; 5, 1]?]?);
-    has_values(&rt, alloc, Weights::of(steep), &[0, 0, 0, 0, 0, 0, 0, 0])?;
-    let rising = Rows::of(vec![in alloc; vec![in alloc; 1, 5]?]?);
-    has_values(&rt, alloc, Weights::of(rising), &[1, 0, 0, 1, 1, 1, 0, 1])
+    let equal = tables::weights(&rt, alloc, &[&[1, 1]])?;
+    has_values(&rt, alloc, equal, &[1, 0, 0, 1, 1, 0, 0, 1])?;
+    let thirds = tables::weights(&rt, alloc, &[&[1, 1, 1]])?;
+    has_values(&rt, alloc, thirds, &[1, 0, 0, 2, 1, 0, 0, 1])?;
+    let falling = tables::weights(&rt, alloc, &[&[2, 1]])?;
+    has_values(&rt, alloc, falling, &[0, 0, 0, 1, 0, 0, 0, 0])?;
+    let steep = tables::weights(&rt, alloc, &[&[5, 1]])?;
+    has_values(&rt, alloc, steep, &[0, 0, 0, 0, 0, 0, 0, 0])?;
+    let rising = tables::weights(&rt, alloc, &[&[1, 5]])?;
+    has_values(&rt, alloc, rising, &[1, 0, 0, 1, 1, 1, 0, 1])
 }
 
 // The same weights in one array give the same values.
@@ -182,16 +199,12 @@ fn compare_at_height(rt: &impl Abort, alloc: Global, height: u32) -> Result<(), 
     requires { (0 < height) × (height < 2 ^ 31) }
 {
     compare_under(rt, alloc, Weights::pairs(5), height)?;
-    let two = vec![in alloc;
-        vec![in alloc; 9]?,
-        vec![in alloc; 2, 1]?,
-        vec![in alloc; 1, 5]?,
-    ]?;
-    compare_under(rt, alloc, Weights::of(Rows::of(two)), height)?;
-    let four = vec![in alloc; vec![in alloc; 2, 1]?, vec![in alloc; 1, 1, 1, 1]?]?;
-    compare_under(rt, alloc, Weights::of(Rows::of(four)), height)?;
-    let many = vec![in alloc; vec![in alloc; 1, 1, 1]?, vec![in alloc; 3, 1, 4, 1, 5, 9]?]?;
-    compare_under(rt, alloc, Weights::of(Rows::of(many)), height)
+    let two = tables::weights(rt, alloc, &[&[9], &[2, 1], &[1, 5]])?;
+    compare_under(rt, alloc, two, height)?;
+    let four = tables::weights(rt, alloc, &[&[2, 1], &[1, 1, 1, 1]])?;
+    compare_under(rt, alloc, four, height)?;
+    let many = tables::weights(rt, alloc, &[&[1, 1, 1], &[3, 1, 4, 1, 5, 9]])?;
+    compare_under(rt, alloc, many, height)
 }
 
 // A group has 32 entries, and the last of the greatest height is in the last group.
@@ -206,25 +219,41 @@ fn kept_values_are_the_entries_at_any_height(rt: HostRuntime) -> Result<(), Fail
     compare_at_height(&rt, alloc, (1 << 31) - 1)
 }
 
+// Compares the entries of the rows 0, 2, 1 and 1.
+fn reads_rows(rt: &impl Abort, stacks: &Stacks, reader: &mut Reader)
+    requires { Belongs stacks.now reader.old }
+{
+    look_along(rt, stacks, reader, &[2, 0, 1], &[0, 2, 1]);
+    look(rt, stacks, reader, 1, 0, 1);
+}
+
+// Compares the number of entries of a variable, and of its values.
+fn has_room(rt: &impl Abort, stacks: &Stacks, v: u32, height: u32, domain: u32) {
+    assert!(rt; v < stacks.count());
+    assert_eq!(rt; stacks.height(v), height);
+    assert_eq!(rt; stacks.domain(v), domain);
+}
+
 #[test]
 fn given_rows_are_read_as_they_stand(rt: HostRuntime) -> Result<(), Fail> {
     let alloc = rt.alloc();
-    let rows = Rows::of(vec![in alloc; vec![in alloc; 0, 2, 1]?, vec![in alloc; 1]?]?);
-    let weights = Weights::of(Rows::of(vec![in alloc;
-        vec![in alloc; 1, 1, 1]?,
-        vec![in alloc; 1, 3]?,
-    ]?));
+    let rows = tables::rows(&rt, alloc, &[&[0, 2, 1], &[1]])?;
+    let weights = tables::weights(&rt, alloc, &[&[1, 1, 1], &[1, 3]])?;
     let stacks = Stacks::new(StackSpec::Given(rows), weights, 1)?;
     assert_eq!(&rt; stacks.count(), 2);
-    assert_eq!(&rt; (stacks.height(0), stacks.height(1)), (3, 1));
-    assert_eq!(&rt; (stacks.domain(0), stacks.domain(1)), (3, 2));
+    has_room(&rt, &stacks, 0, 3, 3);
+    has_room(&rt, &stacks, 1, 1, 2);
     let mut reader = Reader::new(&stacks);
-    look_along(&rt, &stacks, &mut reader, &[2, 0, 1], &[0, 2, 1]);
-    look(&rt, &stacks, &mut reader, 1, 0, 1);
+    reads_rows(&rt, &stacks, &mut reader);
     let mut keeping = Reader::keeping(alloc, &stacks)?;
-    look_along(&rt, &stacks, &mut keeping, &[2, 0, 1], &[0, 2, 1]);
-    look(&rt, &stacks, &mut keeping, 1, 0, 1);
+    reads_rows(&rt, &stacks, &mut keeping);
     Ok(())
+}
+
+// The stacks of sample 2^25 under the key of zeros.
+fn far_sample(alloc: Global) -> Result<Stacks, Fail> {
+    let first = Stacks::new(StackSpec::Key([0; 32]), Weights::pairs(1), 64)?;
+    Ok(first.for_sample(alloc, 1 << 25)?)
 }
 
 // RFC 8439, A.1, vector 5: the key of zeros, and a nonce whose last word is 2^25. As a stream
@@ -232,13 +261,8 @@ fn given_rows_are_read_as_they_stand(rt: HostRuntime) -> Result<(), Fail> {
 // word chooses.
 #[test]
 fn each_sample_has_streams_of_its_own(rt: HostRuntime) -> Result<(), Fail> {
-    let alloc = rt.alloc();
-    let first = Stacks::new(StackSpec::Key([0; 32]), Weights::pairs(1), 64)?;
-    let stacks = first.for_sample(alloc, 1 << 25)?;
-    let values = &[0, 1, 1, 1, 1, 1, 0, 0];
-    reads_values(&rt, &stacks, &mut Reader::new(&stacks), values);
-    reads_values(&rt, &stacks, &mut Reader::keeping(alloc, &stacks)?, values);
-    Ok(())
+    let stacks = far_sample(rt.alloc())?;
+    read_by_both(&rt, rt.alloc(), &stacks, &[0, 1, 1, 1, 1, 1, 0, 0])
 }
 
 // The values are those of the first test, under the key of zeros.

@@ -36,8 +36,8 @@ told side i heads side_is weights family pairs =
       };
     }
 
-pub text-requires-clause-facts : goal.text-requires-clause-facts
-text-requires-clause-facts g c =
+pub text_of_run-requires : goal.text_of_run-requires
+text_of_run-requires g c =
     let is = rw c.expect-instance.ensures at c.new-3.ensures in
     told c.args.side c.expect-instance.result c.expect-arrows.result c.requires.side
     (ap (λ (i : Instance). i.stacks.weights) is ∙ ap (λ (s : StackTable). s.weights) c.in_ok-stacks.ensures.made
