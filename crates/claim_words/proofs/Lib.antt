@@ -19,6 +19,7 @@ pub mod SettleKeepsRule
 pub mod MarkKeepsRule
 pub mod SplitKeepsRule
 pub mod StartMeetsRule
+pub mod StartIsCounted
 pub mod DueAdvances
 pub mod KeptLogsLemmas
 pub mod KeptPops

@@ -7,6 +7,7 @@ pub mod Conditions
 pub mod Machine
 pub mod TicketLogs
 pub mod Tells
+pub mod Starts
 pub mod KeptLogs
 pub mod Passes
 pub mod Answers

@@ -90,6 +90,7 @@ impl<'i> Board<'i> {
         ensures pass { IsOf self.now pass.new }
         ensures room { IfOk result (λ _. k ≤ spare pass.new) }
         ensures log_room { IfOk result (λ _. HasRoom pass.new.log k) }
+        ensures more { spare pass.old ≤ spare pass.new }
         ensures kept { OnErr result (spare pass.new ≡ spare pass.old) }
         ensures log_kept { OnErr result (log_spare pass.new ≡ log_spare pass.old) }
         ensures view { view pass.new ≡ view pass.old }

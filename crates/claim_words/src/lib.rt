@@ -20,6 +20,7 @@ mod pass;
 mod plays;
 mod popping;
 mod splitting;
+mod starts;
 mod steps;
 #[cfg(test)]
 mod tests;

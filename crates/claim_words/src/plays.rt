@@ -7,6 +7,7 @@ ghost use Rattle.claim_words.specs.Steps.{Drawn, fresh, released_by, settled_by,
 ghost use Rattle.claim_words.specs.Conditions.{IsNear};
 ghost use Rattle.claim_words.specs.Machine.{Sound};
 ghost use Rattle.claim_words.specs.Tells.{ClaimTells, SoleTells, SoleKnows, SoleTakes};
+ghost use Rattle.claim_words.specs.Starts.{IsCounted};
 
 use crate::{Opening, View};
 use atomic_table::{Join, Play, Split, TableRule};
@@ -145,4 +146,11 @@ pub struct ShareStep;
 
 impl Play<(), View> for ShareStep {
     ghost then = { λ st m r n. (n ≡ m) × (m.0.share ≤ 64) };
+}
+
+// What the rule says of the start.
+pub struct StartStep;
+
+impl Play<(), View> for StartStep {
+    ghost then = { λ st m r n. (n ≡ m) × IsCounted m.0 };
 }
