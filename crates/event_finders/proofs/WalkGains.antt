@@ -1,0 +1,91 @@
+-- What a walk gains, round by round, and what its answer says.
+use Rattle.std.proofs.Common.{inr, ◌≡◌, ◌⊎◌, ℕ, ◌+◌, ◌<◌, List, [], ◌∷◌, ◌++◌, length, refl, sym, ap, subst, ◌∙◌, arith, append_assoc, append-nil}
+use Rattle.pop_model.specs.Families.{IsEvent}
+use Rattle.pop_model.specs.Logs.{LogRecord}
+use Rattle.claim_words.specs.Maps.{Pairs, In}
+use Rattle.claim_words.specs.Steps.{Drawn}
+use Rattle.claim_words.specs.declared.opening.Opening.{Opening}
+use Rattle.claim_words.specs.declared.view.View.{View}
+use Rattle.claim_words.proofs.Totals.{each-append}
+use Rattle.event_finders.specs.declared.tried.Tried.{Tried}
+use Rattle.event_finders.specs.declared.tried.Tried.TheVariants.{Popped, Cleared, Stuck, Busy, Idle, OutOfMemory}
+use Rattle.event_finders.specs.Gains.{Stays, Rises}
+use Rattle.event_finders.specs.Walks.{GainsTickets, IsWalkAnswer}
+use Rattle.event_finders.specs.WalkSteps.{Same, PopsLoop, Says, EndsAt}
+use Rattle.event_finders.proofs.TrailLemmas.{long_push}
+
+-- what stays in two turns stays
+pub stays_then : (d e f : View) → Stays d e → Stays e f → Stays d f
+stays_then d e f a b = record {
+  share = b.share ∙ a.share;
+  moves = b.moves ∙ a.moves;
+  taken = b.taken ∙ a.taken;
+  owed = b.owed ∙ a.owed;
+}
+
+-- claims in two turns
+pub same_then : (d e f : View) → Same d e → Same e f → Same d f
+same_then d e f a b = record {
+  stays = stays_then d e f a.stays b.stays;
+  mine = b.mine ∙ a.mine;
+  known = λ p i. b.known p (a.known p i);
+}
+
+-- tickets that rise behind others
+rises_then : (before a b : List Drawn) → Rises before a → Rises (before ++ a) b → Rises before (a ++ b)
+rises_then before [] b one two = subst (λ (l : List Drawn). Rises l b) (append-nil before) two
+rises_then before (r ∷ a) b one two = (
+  one.0,
+  rises_then (before ++ r ∷ []) a b one.1
+      (subst (λ (l : List Drawn). Rises l b) (sym (append_assoc before (r ∷ []) a)) two),
+)
+
+-- nothing was gained
+pub gains_none : (k : Opening) (d f : View) → f.mine ≡ d.mine → GainsTickets k d f []
+gains_none k d f same = record { mine = same ∙ sym (append-nil d.mine); events = tt; rise = tt }
+
+-- the ticket of a popped loop was gained
+pub gains_one : (k : Opening) (d e f g : View) (path : Pairs) (place t : ℕ) → e.mine ≡ d.mine
+    → (p : PopsLoop k e f path place t) → g.mine ≡ f.mine → GainsTickets k d g ((t, p.popped) ∷ [])
+gains_one k d e f g path place t a p is = record {
+  mine = is ∙ p.mine ∙ ap (λ (l : List Drawn). l ++ (t, p.popped) ∷ []) a;
+  events = (p.event, tt);
+  rise = (λ q i. p.newer q (subst (In q) (sym a) i), tt);
+}
+
+-- gains in two turns
+pub gains_then : (k : Opening) (d e f : View) (a b : List Drawn) → GainsTickets k d e a → GainsTickets k e f b
+    → GainsTickets k d f (a ++ b)
+gains_then k d e f a b one two = record {
+  mine = two.mine ∙ ap (λ (l : List Drawn). l ++ b) one.mine ∙ append_assoc d.mine a b;
+  events = each-append (λ (r : Drawn). IsEvent k.instance.value.family r.1.event) a b one.events two.events;
+  rise = rises_then d.mine a b one.rise (subst (λ (l : List Drawn). Rises l b) one.mine two.rise);
+}
+
+-- what was gained in so many rounds; the last ticket
+pub record Gained (k : Opening) (d e : View) (n last : ℕ) : Type 0 where
+  pub added : List Drawn
+  pub gains : GainsTickets k d e added
+  pub many : length added ≡ n
+  pub ends : (n ≡ 0) ⊎ ((before : List Drawn) × (r : LogRecord) × (added ≡ before ++ (last, r) ∷ []))
+
+-- one round more
+pub gained_more : (k : Opening) (d e f : View) (n last t : ℕ) (r : LogRecord) → Gained k d e n last
+    → GainsTickets k e f ((t, r) ∷ []) → Gained k d f (n + 1) t
+gained_more k d e f n last t r g more = record {
+  added = g.added ++ (t, r) ∷ [];
+  gains = gains_then k d e f g.added ((t, r) ∷ []) g.gains more;
+  many = omega (arith, long_push g.added (t, r), g.many);
+  ends = inr (g.added, r, refl);
+}
+
+-- what the last round says of the walk
+pub over_answer : (k : Opening) (n : ℕ) (d e : View) (start pops : ℕ) (answer : Tried) → n < pops
+    → e.share ≡ d.share → Says e start answer → EndsAt k n d e start answer → IsWalkAnswer k d e pops start answer
+over_answer k n d e start pops (Popped t) less share says ends = absurd says
+over_answer k n d e start pops (Cleared u c) less share says ends = says
+over_answer k n d e start pops (Stuck u c) less share says ends = says
+over_answer k n d e start pops (Busy v w) less share says ends =
+    (says.0, inr (n, less, ends), (λ sole. says.1 (share ∙ sole)), says.2)
+over_answer k n d e start pops Idle less share says ends = says
+over_answer k n d e start pops OutOfMemory less share says ends = tt

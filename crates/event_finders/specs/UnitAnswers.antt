@@ -1,0 +1,91 @@
+-- What a try at the event of a unit answers. Throughout d is the view of the pass before the call,
+-- and e the view after it.
+use Rattle.std.specs.Prelude.{◌≡◌, ◌≢◌, ℕ, ◌<◌, ◌≤◌, true, [], ◌∷◌, ◌++◌, ⊤}
+use Rattle.pop_model.specs.Stacks.{value_at}
+use Rattle.pop_model.specs.Popping.{Cube, names}
+use Rattle.pop_model.specs.Families.{IsEvent}
+use Rattle.pop_model.specs.Instances.{Instance}
+use Rattle.pop_model.specs.Places.{IsLeast}
+use Rattle.claim_words.specs.declared.view.View.{View}
+use Rattle.claim_words.specs.declared.opening.Opening.{Opening}
+use Rattle.claim_words.specs.declared.claim.Claim.TheVariants.{Mine, Busy as Refused}
+use Rattle.claim_words.specs.Words.{mark_of}
+use Rattle.claim_words.specs.Maps.{Each, In, times}
+use Rattle.claim_words.specs.Openings.{count_in}
+use Rattle.claim_words.specs.Steps.{Drawn, record_held}
+use Rattle.claim_words.specs.Tells.{SoleKnows, NonePoppable}
+use Rattle.event_finders.specs.Gains.{gained, Entered}
+use Rattle.event_finders.specs.UnitLooks.{found_at, HasMore, IsAtLast}
+use Rattle.event_finders.specs.declared.tried.Tried.{Tried}
+use Rattle.event_finders.specs.declared.tried.Tried.TheVariants.{Popped, Cleared, Stuck, Busy, Idle, OutOfMemory}
+
+-- each variable of the cube was claimed in this call, and at the cursors that were found it occurs
+pub record OccursFound (i : Instance) (d e : View) (cube : Cube) : Type 0 where
+  pub claimed : Each (λ p. Entered (gained d e) p.0 (Mine (found_at e p.0))) cube
+  pub occurs : Each (λ p. value_at i.stacks p.0 (found_at e p.0) ≡ p.1) cube
+
+-- The event was poppable at the cursors that were found. Mine has one record more, that of the
+-- event with these cursors, under a ticket above all that it had.
+pub record Pops (i : Instance) (d e : View) (u : ℕ) (cube : Cube) (t : ℕ) : Type 0 where
+  pub occurs : OccursFound i d e cube
+  pub next : Each (HasMore i e) cube
+  pub mine : e.mine ≡ d.mine ++ (t, record_held u cube e.found) ∷ []
+  pub newer : (q : Drawn) → In q d.mine → q.0 < t
+
+-- v was claimed in this call at cursor c, where the value isn't the event's
+pub record RulesOutAt (i : Instance) (d e : View) (cube : Cube) (v c : ℕ) : Type 0 where
+  pub value : ℕ
+  pub demanded : In (v, value) cube
+  pub claimed : Entered (gained d e) v (Mine c)
+  pub known : 1 ≤ times v e.found
+  pub found : found_at e v ≡ c
+  pub differs : value_at i.stacks v c ≢ value
+
+-- the event occurs at the cursors that were found, and v is its least variable that has its last
+-- entry there, which is entry c
+pub record SticksAt (i : Instance) (d e : View) (cube : Cube) (v c : ℕ) : Type 0 where
+  pub occurs : OccursFound i d e cube
+  pub least : IsLeast (IsAtLast i e cube) v
+  pub found : found_at e v ≡ c
+
+-- v is a variable of the event, and its claim in this call was refused; that never comes to a sole
+-- pass
+pub record IsRefused (d e : View) (cube : Cube) (v w : ℕ) : Type 0 where
+  pub named : names cube v ≡ true
+  pub refused : Entered (gained d e) v (Refused w)
+  pub shared : d.share ≢ 64
+
+-- what the answer says of the event of this cube
+abbrev pub Says : Instance → View → View → ℕ → Cube → Tried → Type 0
+Says i d e u cube (Popped t) = Pops i d e u cube t
+Says i d e u cube (Cleared v c) = RulesOutAt i d e cube v c
+Says i d e u cube (Stuck v c) = SticksAt i d e cube v c
+Says i d e u cube (Busy v w) = IsRefused d e cube v w
+Says i d e u cube Idle = ⊤
+Says i d e u cube OutOfMemory = ⊤
+
+-- what the answer says of the event of the unit
+abbrev pub IsTried : Instance → View → View → ℕ → Tried → Type 0
+IsTried i d e u answer =
+    (cube : Cube) × IsEvent i.family (record { unit = u; cube = cube }) × Says i d e u cube answer
+
+-- the records change by a pop alone
+abbrev pub KeepsRecords : View → View → Tried → Type 0
+KeepsRecords d e (Popped t) = ⊤
+KeepsRecords d e answer = e.mine ≡ d.mine
+
+-- The mark of u was looked at first. Idle says that it was 0, and that nothing else was looked at;
+-- for want of memory nothing was.
+abbrev pub FindsMark : View → View → ℕ → Tried → Type 0
+FindsMark d e u Idle = gained d e ≡ (mark_of (count_in d.opening) u, 0) ∷ []
+FindsMark d e u OutOfMemory = e ≡ d
+FindsMark d e u answer = In (mark_of (count_in d.opening) u, 1) (gained d e)
+
+-- what a sole pass learns: where it pops, its records are a legal log; where it finds the event
+-- cleared, stuck or not marked, that event isn't poppable at its vector
+abbrev pub SoleLearns : Opening → View → ℕ → Tried → Type 0
+SoleLearns k e u (Popped t) = SoleKnows e
+SoleLearns k e u (Cleared v c) = e.share ≡ 64 → NonePoppable k e u
+SoleLearns k e u (Stuck v c) = e.share ≡ 64 → NonePoppable k e u
+SoleLearns k e u Idle = e.share ≡ 64 → NonePoppable k e u
+SoleLearns k e u answer = ⊤

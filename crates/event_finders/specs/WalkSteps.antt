@@ -1,0 +1,156 @@
+-- The parts of a walk.
+use Rattle.std.specs.Prelude.{◌≡◌, ◌≢◌, ⊤, ℕ, zero, suc, ◌+◌, ◌<◌, ◌≤◌, List, [], ◌∷◌, ◌++◌, length, map, take, slice_index}
+use Rattle.pop_model.specs.Stacks.{value_at}
+use Rattle.pop_model.specs.Popping.{variables}
+use Rattle.pop_model.specs.Families.{IsEvent}
+use Rattle.pop_model.specs.Families.Family.{Cycles}
+use Rattle.pop_model.specs.Instances.{IsInstance}
+use Rattle.pop_model.specs.Logs.{LogRecord}
+use Rattle.confluence_core.specs.CycleTables.{CycleTable}
+use Rattle.claim_words.specs.Words.{word_of}
+use Rattle.claim_words.specs.Maps.{Pairs, In, times, times_in, look}
+use Rattle.claim_words.specs.Steps.{Drawn}
+use Rattle.claim_words.specs.Conditions.{MaySettle}
+use Rattle.claim_words.specs.Tells.{SoleKnows}
+use Rattle.claim_words.specs.Passes.{spare}
+use Rattle.claim_words.specs.Answers.{Answers}
+use Rattle.claim_words.specs.declared.opening.Opening.{Opening}
+use Rattle.claim_words.specs.declared.view.View.{View}
+use Rattle.claim_words.specs.declared.pass.Pass.{Pass}
+use Rattle.claim_words.specs.declared.claim.Claim.{Claim}
+use Rattle.claim_words.specs.declared.claim.Claim.TheVariants.{Mine, Busy as Refused, Settled}
+use Rattle.event_finders.specs.declared.tried.Tried.{Tried}
+use Rattle.event_finders.specs.declared.tried.Tried.TheVariants.{Cleared, Busy, OutOfMemory}
+use Rattle.event_finders.specs.declared.walking.Stop.{Stop}
+use Rattle.event_finders.specs.declared.walking.Stop.TheVariants.{Rests, Back, Busy as Met}
+use Rattle.event_finders.specs.declared.walks.Round.{Round}
+use Rattle.event_finders.specs.declared.walks.Round.TheVariants.{Popped as RoundPopped, Over}
+use Rattle.event_finders.specs.Gains.{Stays}
+use Rattle.event_finders.specs.Trails.{Trail, stand, last_of, Goes, Stands}
+use Rattle.event_finders.specs.Walks.{IsBusy, KeepsKnown, Traced, TracedTo, Reaches, GainsTickets}
+
+-- the stacks and the arrows are those of the board
+pub record IsTableOf (k : Opening) (t : CycleTable) : Type 0 where
+  pub stacks : k.instance.value.stacks ≡ t.stacks
+  pub family : k.instance.value.family ≡ Cycles t.heads
+  pub instance : IsInstance k.instance.value
+
+-- the pass has room to claim all variables that the path lacks
+abbrev pub HasSpare : Pass → Trail → Type 0
+HasSpare pass t = t.count ≤ spare pass + length t.path
+
+-- what claims, releases and settling keep
+pub record Same (d e : View) : Type 0 where
+  pub stays : Stays d e
+  pub mine : e.mine ≡ d.mine
+  pub known : KeepsKnown d e
+
+-- the claim of v put it onto the path, or left the path as it was; a sole pass isn't refused
+abbrev pub Puts : View → Trail → Trail → ℕ → Claim → Type 0
+Puts e old new v (Mine c) = new ≡ record old { path = old.path ++ (v, c) ∷ [] }
+Puts e old new v (Refused w) = (new ≡ old) × IsBusy w × (e.share ≢ 64)
+Puts e old new v (Settled c) = (new ≡ old) × In (v, c) e.settled
+
+-- seen gained the entry of a claim of v, and the answer is that of the word found
+abbrev pub Enters : View → View → ℕ → Claim → Type 0
+Enters d e v claim = (w : ℕ) × (e.seen ≡ d.seen ++ (word_of v, w) ∷ []) × Answers w claim
+
+-- the numbers of the words of a path's variables
+abbrev pub words_of : Pairs → List ℕ
+words_of path = map word_of (variables path)
+
+-- seen gained at most one entry for each variable that came onto the path
+pub record SeesMore (d e : View) (old new : Pairs) : Type 0 where
+  pub added : Pairs
+  pub seen : e.seen ≡ d.seen ++ added
+  pub on : (i : ℕ) → times i added + times_in i (words_of old) ≤ times_in i (words_of new)
+
+-- seen gained at most one entry for each word, and none for those of the path
+pub record SeesLast (d e : View) (path : Pairs) : Type 0 where
+  pub added : Pairs
+  pub seen : e.seen ≡ d.seen ++ added
+  pub once : (i : ℕ) → times i added + times_in i (words_of path) ≤ 1
+
+-- why a walk stops
+abbrev pub Stops : Opening → View → Pairs → Stop → Type 0
+Stops k e path Rests = MaySettle k e (last_of path).0
+Stops k e path (Back place) =
+    (place < length path) × Goes k (last_of path) (slice_index (variables path) place)
+Stops k e path (Met v w) = Goes k (last_of path) v × IsBusy w × (e.share ≢ 64)
+
+-- the path is longer by one
+pub record Grows (k : Opening) (e : View) (old new : Trail) : Type 0 where
+  pub stands : Stands k e new
+  pub longer : length new.path ≡ suc (length old.path)
+  pub begins : stand new.path 0 ≡ stand old.path 0
+
+-- the walk stopped where it stood
+pub record Rest (k : Opening) (e : View) (old new : Trail) (stop : Stop) : Type 0 where
+  pub stands : Stands k e new
+  pub same : new ≡ old
+  pub why : Stops k e new.path stop
+
+-- the walk went on and stopped
+pub record Followed (k : Opening) (e : View) (old new : Trail) (stop : Stop) : Type 0 where
+  pub stands : Stands k e new
+  pub some : 0 < length new.path
+  pub begins : stand new.path 0 ≡ stand old.path 0
+  pub why : Stops k e new.path stop
+
+-- how the path was claimed, where a walk stops
+abbrev pub Stopped : ℕ → View → View → Pairs → Stop → Type 0
+Stopped n d e path Rests = Traced n d e path
+Stopped n d e path (Back place) = Traced n d e path
+Stopped n d e path (Met v w) = TracedTo n d e path v w
+
+-- for each variable the cursor that it has on the path
+abbrev pub laid_out : (ℕ → ℕ) → ℕ → List ℕ
+laid_out f zero = []
+laid_out f (suc n) = laid_out f n ++ f n ∷ []
+
+-- the same for a trail
+abbrev pub laid : Trail → List ℕ
+laid t = laid_out (λ v. look v t.path) t.count
+
+-- a variable and the slot at its cursor
+abbrev pub slot_pair : CycleTable → ℕ × ℕ → ℕ × ℕ
+slot_pair t e = (e.0, value_at t.stacks e.0 e.1)
+
+-- The cycle from a place of the path on was popped. What stands before it stays as it was.
+pub record PopsLoop (k : Opening) (d e : View) (path : Pairs) (place t : ℕ) : Type 0 where
+  pub stays : Stays d e
+  pub seen : e.seen ≡ d.seen
+  pub known : e.settled ≡ d.settled
+  pub popped : LogRecord
+  pub mine : e.mine ≡ d.mine ++ (t, popped) ∷ []
+  pub event : IsEvent k.instance.value.family popped.event
+  pub newer : (q : Drawn) → In q d.mine → q.0 < t
+  pub same : variables e.held ≡ variables d.held
+  pub kept : take place e.held ≡ take place d.held
+  pub moved : stand e.held place ≡ ((stand path place).0, (stand path place).1 + 1)
+
+-- what an answer says that ends a walk from v
+abbrev pub Says : View → ℕ → Tried → Type 0
+Says e v (Cleared u c) = (u ≡ v) × In (u, c) e.settled × SoleKnows e
+Says e v (Busy u w) = IsBusy w × (e.share ≢ 64) × SoleKnows e
+Says e v OutOfMemory = ⊤
+Says e v answer = ⊥
+
+-- a cycle was popped, and the walk stands where it closed; or the walk is over, and all was
+-- released or settled
+abbrev pub Rounds : Opening → View → View → Trail → Trail → Round → Type 0
+Rounds k d e old new (RoundPopped t) = (r : LogRecord) × GainsTickets k d e ((t, r) ∷ [])
+    × Stands k e new × (0 < length new.path)
+    × (slice_index (variables new.path) 0 ≡ slice_index (variables old.path) 0) × SoleKnows e
+Rounds k d e old new (Over answer) = GainsTickets k d e [] × (e.held ≡ []) × (new.path ≡ [])
+    × (new.count ≡ old.count) × Says e (slice_index (variables old.path) 0) answer
+
+-- where a walk that ends meets a claimed variable
+abbrev pub EndsAt : Opening → ℕ → View → View → ℕ → Tried → Type 0
+EndsAt k n d e start (Busy v w) = Reaches k n d e start v w
+EndsAt k n d e start answer = ⊤
+
+-- how the path was claimed after a round, where a variable may have been popped once more
+abbrev pub RoundsOn : Opening → ℕ → View → View → ℕ → Pairs → Round → Type 0
+RoundsOn k n d e start path (RoundPopped t) = Traced (n + 1) d e path
+RoundsOn k n d e start path (Over answer) = EndsAt k n d e start answer

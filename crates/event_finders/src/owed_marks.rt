@@ -1,0 +1,38 @@
+//! The marks that a pop owes to the units whose events share a variable with the popped one.
+ghost use Rattle.std.specs.Prelude.{◌≡◌, ◌<◌, [], length, All};
+ghost use Rattle.pop_model.specs.Popping.{NamesBelow};
+ghost use Rattle.claim_words.specs.Passes.{IsOf, view, marks_of, instance_of};
+ghost use Rattle.claim_words.specs.Steps.{sharers};
+ghost use Rattle.event_finders.specs.UnitConditions.{Indexes};
+ghost use Rattle.event_finders.specs.OwedMarks.{marked_with, owing};
+
+use claim_words::{Board, Pass};
+use pop_instance::{Cube, Index};
+
+// Marks these units.
+fn mark_each(board: &Board, pass: &mut Pass, units: &[u32])
+    requires pass { IsOf board.now pass.old }
+    requires known { All (λ u. u < marks_of board.now) units.now }
+    ensures pass { IsOf board.now pass.new }
+    ensures view { view pass.new ≡ marked_with units.now (view pass.old) }
+{
+    for unit in units {
+        board.mark(pass, *unit);
+    }
+}
+
+/// Marks each unit whose event shares a variable with a popped event, so that none is owed.
+pub(crate) fn mark_sharers(board: &Board, pass: &mut Pass, index: &Index, cube: &Cube)
+    requires pass { IsOf board.now pass.old }
+    requires index { Indexes (instance_of board.now) index.now }
+    requires event { NamesBelow cube.now (length index.now) }
+    requires owed { (view pass.old).owed ≡ sharers (view pass.old).opening cube.now }
+    requires taken { (view pass.old).taken ≡ [] }
+    ensures pass { IsOf board.now pass.new }
+    ensures view { view pass.new ≡ owing [] (view pass.old) }
+{
+    for i in 0..cube.len() {
+        let (v, _) = cube.pair(i);
+        mark_each(board, pass, index.at(v));
+    }
+}

@@ -1,0 +1,145 @@
+//! Tries at units of boards of one variable or two.
+ghost use Rattle.std.specs.Prelude.{◌≡◌, length, IfOk};
+ghost use Rattle.pop_model.specs.Stacks.{variables_of};
+ghost use Rattle.pop_stacks.specs.Readers.{Belongs};
+ghost use Rattle.claim_words.specs.Passes.{IsOf, IsIdle, view, instance_of};
+ghost use Rattle.event_finders.specs.UnitConditions.{Indexes};
+
+use super::instances::listed;
+use crate::{Tried, try_unit};
+use claim_words::{Board, Claim, Closed, Pass};
+use confluence_core::Keep;
+use pop_instance::{Cursors, Family, Index, Instance};
+use pop_stacks::Reader;
+use std::alloc::Global;
+use std::process::Abort;
+use std::test::Fail;
+
+// Two variables with the entries 0, 1 each. Unit 0 demands 0 of both, unit 1 demands 1 and 0.
+const TWO_ROWS: [&[u32]; 2] = [&[0, 1], &[0, 1]];
+
+const TWO_EVENTS: [(u32, &[(u32, u32)]); 2] = [(1, &[(0, 0), (1, 0)]), (2, &[(0, 1), (1, 0)])];
+
+// One variable with the entries 0, 0, and an event that demands 0.
+const ONE_ROW: [&[u32]; 1] = [&[0, 0]];
+
+const ONE_EVENT: [(u32, &[(u32, u32)]); 1] = [(1, &[(0, 0)])];
+
+// The index of the events of an instance.
+fn index_of(rt: &impl Abort, alloc: Global, instance: &Instance) -> Result<Index, Fail>
+    ensures { IfOk result (Indexes instance.now) }
+{
+    let _units = instance.units();
+    let Family::Listed(events) = instance.family() else {
+        panic!(rt; "a listed family");
+    };
+    Ok(Index::build(alloc, events, instance.stacks().count())?)
+}
+
+// Tries units one after another, and compares the answers.
+fn try_each(
+    rt: &impl Abort,
+    alloc: Global,
+    board: &Board,
+    pass: &mut Pass,
+    instance: &Instance,
+    table: &[(u32, Tried)],
+) -> Result<(), Fail>
+    requires pass { IsOf board.now pass.old × IsIdle pass.old }
+    requires instance { instance_of board.now ≡ instance.now }
+    ensures pass { IsOf board.now pass.new × IsIdle pass.new }
+    ensures share { (view pass.new).share ≡ (view pass.old).share }
+{
+    let index = index_of(rt, alloc, instance)?;
+    let mut reader = Reader::new(instance.stacks());
+    for (unit, wanted) in table {
+        assert!(rt; *unit < instance.units());
+        let tried = try_unit(board, pass, instance, &index, &mut reader, *unit);
+        assert_eq!(rt; tried, *wanted, "unit {unit}");
+    }
+    Ok(())
+}
+
+// What a board leaves after one pass tried these units.
+fn close_after(
+    rt: &impl Abort,
+    alloc: Global,
+    instance: &Instance,
+    table: &[(u32, Tried)],
+) -> Result<Closed, Fail>
+    ensures { IfOk result (λ closed. length closed.cursors ≡ variables_of instance.now.stacks) }
+{
+    let _units = instance.units();
+    let from = Cursors::zeros(alloc, instance.stacks().count())?;
+    let (board, mut pass) = Board::start(alloc, instance, &from, Keep::Nothing)?;
+    try_each(rt, alloc, &board, &mut pass, instance, table)?;
+    let Ok(closed) = board.close(pass) else {
+        panic!(rt; "out of memory")
+    };
+    Ok(closed)
+}
+
+// Worked by hand. After the pop both variables are at their last entry, whose value is 1.
+static TWO_TRIES: [(u32, Tried); 4] = [
+    (0, Tried::Popped(0)),
+    (1, Tried::Cleared(1, 1)),
+    (1, Tried::Idle),
+    (0, Tried::Cleared(0, 1)),
+];
+
+#[test]
+fn a_cleared_unit_has_no_mark(rt: HostRuntime) -> Result<(), Fail> {
+    let alloc = rt.alloc();
+    let instance = listed(&rt, alloc, &TWO_ROWS, &TWO_EVENTS)?;
+    let closed = close_after(&rt, alloc, &instance, &TWO_TRIES)?;
+    assert_eq!(&rt; closed.pops, 1);
+    assert_eq!(&rt; closed.suspects.len(), 0);
+    Ok(())
+}
+
+// Worked by hand: the second entry of the only variable is its last, and has the event's value.
+static ONE_TRIES: [(u32, Tried); 3] = [
+    (0, Tried::Popped(0)),
+    (0, Tried::Stuck(0, 1)),
+    (0, Tried::Idle),
+];
+
+#[test]
+fn a_stuck_unit_has_no_mark(rt: HostRuntime) -> Result<(), Fail> {
+    let alloc = rt.alloc();
+    let instance = listed(&rt, alloc, &ONE_ROW, &ONE_EVENT)?;
+    let count = instance.stacks().count();
+    assert_eq!(&rt; count, 1);
+    let closed = close_after(&rt, alloc, &instance, &ONE_TRIES)?;
+    assert_eq!(&rt; closed.cursors.get(0), 1);
+    assert_eq!(&rt; closed.pops, 1);
+    assert_eq!(&rt; closed.suspects.len(), 0);
+    Ok(())
+}
+
+// Worked by hand: bit 63 is 9223372036854775808.
+static BUSY_TRIES: [(u32, Tried); 2] = [
+    (0, Tried::Busy(1, 9223372036854775808)),
+    (0, Tried::Busy(1, 9223372036854775808)),
+];
+
+static FREE_TRIES: [(u32, Tried); 2] = [(0, Tried::Popped(0)), (1, Tried::Cleared(1, 1))];
+
+#[test]
+fn a_unit_that_was_refused_is_marked_again(rt: HostRuntime) -> Result<(), Fail> {
+    let alloc = rt.alloc();
+    let instance = listed(&rt, alloc, &TWO_ROWS, &TWO_EVENTS)?;
+    let _units = instance.units();
+    let from = Cursors::zeros(alloc, instance.stacks().count())?;
+    let (board, mut pass) = Board::start(alloc, &instance, &from, Keep::Nothing)?;
+    let mut other = board.split(&mut pass, 1);
+    board.reserve(&mut other, 1)?;
+    assert!(&rt; 1 < instance.stacks().count());
+    let claim = board.try_claim(&mut other, 1);
+    assert_eq!(&rt; claim, Claim::Mine(0));
+    try_each(&rt, alloc, &board, &mut pass, &instance, &BUSY_TRIES)?;
+    if let Claim::Mine(_) = claim {
+        board.release(&mut other, 1);
+    }
+    try_each(&rt, alloc, &board, &mut pass, &instance, &FREE_TRIES)
+}

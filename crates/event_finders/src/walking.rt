@@ -1,0 +1,260 @@
+//! The parts of a walk. What the pass holds is the path.
+ghost use Rattle.std.specs.Prelude.{◌≡◌, ◌≤◌, ◌<◌, ◌+◌, ◌-◌, ◌^◌, ◌++◌, ◌∷◌, [], ℕ, List, length, map, take, slice_index, All, OnOk, IfOk, MatchResult, MatchOption};
+ghost use Rattle.pop_model.specs.Stacks.{height_of};
+ghost use Rattle.pop_model.specs.Popping.{variables};
+ghost use Rattle.pop_stacks.specs.Readers.{Belongs};
+ghost use Rattle.claim_words.specs.Maps.{times_in};
+ghost use Rattle.claim_words.specs.Conditions.{MaySettle};
+ghost use Rattle.claim_words.specs.Tells.{SoleKnows};
+ghost use Rattle.claim_words.specs.Openings.{count};
+ghost use Rattle.claim_words.specs.Passes.{IsOf, view, spare, opening_of};
+ghost use Rattle.claim_words.specs.declared.view.View.{View};
+ghost use Rattle.event_finders.specs.Trails.{stand, last_of, IsTrail, Goes, Stands};
+ghost use Rattle.event_finders.specs.Walks.{Traced};
+ghost use Rattle.event_finders.specs.WalkSteps.{IsTableOf, HasSpare, Same, Puts, Enters, SeesMore, SeesLast, Grows, Rest, Followed, Stopped, PopsLoop, slot_pair};
+
+use crate::walker::Walker;
+use claim_words::{Board, Claim, Pass};
+use confluence_core::CurrentArrows;
+use pop_instance::Cube;
+use pop_stacks::Reader;
+use std::alloc::AllocError;
+
+// Why a walk along arrows stops.
+pub(crate) enum Stop {
+    // The last variable is at its last entry, or its arrow leads to the root or to a settled one.
+    Rests,
+    // The arrow of the last variable leads back to this place of the path.
+    Back(usize),
+    // It leads to a variable that is claimed: its word.
+    Busy(u32, u64),
+}
+
+// Claims a variable, to which the path leads, and puts it onto the path.
+pub(crate) fn claim_on(board: &Board, pass: &mut Pass, walker: &mut Walker, v: u32) -> Claim
+    requires pass { IsOf board.now pass.old }
+    requires stands { Stands (opening_of board.now) (view pass.old) walker.old }
+    requires spare { HasSpare pass.old walker.old }
+    requires known { v < count (opening_of board.now) }
+    requires fresh { times_in v (variables walker.old.path) ≡ 0 }
+    requires leads { (j : ℕ) → length walker.old.path ≡ j + 1
+        → Goes (opening_of board.now) (stand walker.old.path j) v }
+    ensures pass { IsOf board.now pass.new }
+    ensures stands { Stands (opening_of board.now) (view pass.new) walker.new }
+    ensures spare { HasSpare pass.new walker.new }
+    ensures same { Same (view pass.old) (view pass.new) }
+    ensures puts { Puts (view pass.new) walker.old walker.new v result }
+    ensures seen { Enters (view pass.old) (view pass.new) v result }
+    ensures sole { SoleKnows (view pass.new) }
+{
+    let claim = board.try_claim(pass, v);
+    match claim {
+        Claim::Mine(cursor) => walker.push(v, cursor),
+        Claim::Settled(_) => {}
+        Claim::Busy(_) => {}
+    }
+    claim
+}
+
+// Goes a step along the arrows, or says why not.
+fn step(
+    board: &Board,
+    pass: &mut Pass,
+    current: &CurrentArrows,
+    reader: &mut Reader,
+    walker: &mut Walker,
+) -> Option<Stop>
+    requires pass { IsOf board.now pass.old }
+    requires table { IsTableOf (opening_of board.now) current.now }
+    requires belongs { Belongs current.now.stacks reader.old }
+    requires stands { Stands (opening_of board.now) (view pass.old) walker.old }
+    requires spare { HasSpare pass.old walker.old }
+    requires some { 0 < length walker.old.path }
+    requires sole { SoleKnows (view pass.old) }
+    ensures pass { IsOf board.now pass.new }
+    ensures spare { HasSpare pass.new walker.new }
+    ensures same { Same (view pass.old) (view pass.new) }
+    ensures step { MatchOption result
+        (Grows (opening_of board.now) (view pass.new) walker.old walker.new)
+        (Rest (opening_of board.now) (view pass.new) walker.old walker.new) }
+    ensures seen { MatchOption result
+        (SeesMore (view pass.old) (view pass.new) walker.old.path walker.new.path)
+        (λ _. SeesLast (view pass.old) (view pass.new) walker.old.path) }
+    ensures traced { (n : ℕ) (d : View) → Traced n d (view pass.old) walker.old.path
+        → MatchOption result (Traced n d (view pass.new) walker.new.path)
+        (Stopped n d (view pass.new) walker.new.path) }
+    ensures sole { SoleKnows (view pass.new) }
+    ensures reader { reader.new ≡ reader.old }
+{
+    let (v, cursor) = walker.last();
+    if !current.has_next_at(v, cursor) {
+        return Some(Stop::Rests);
+    }
+    let Some(w) = current.head_at(reader, v, cursor) else {
+        return Some(Stop::Rests);
+    };
+    if let Some(place) = walker.place(w) {
+        return Some(Stop::Back(place));
+    }
+    match claim_on(board, pass, walker, w) {
+        Claim::Mine(_) => None,
+        Claim::Settled(_) => Some(Stop::Rests),
+        Claim::Busy(word) => Some(Stop::Busy(w, word)),
+    }
+}
+
+// Goes along the arrows until it must stop.
+pub(crate) fn follow(
+    board: &Board,
+    pass: &mut Pass,
+    current: &CurrentArrows,
+    reader: &mut Reader,
+    walker: &mut Walker,
+) -> Stop
+    requires pass { IsOf board.now pass.old }
+    requires table { IsTableOf (opening_of board.now) current.now }
+    requires belongs { Belongs current.now.stacks reader.old }
+    requires stands { Stands (opening_of board.now) (view pass.old) walker.old }
+    requires spare { HasSpare pass.old walker.old }
+    requires some { 0 < length walker.old.path }
+    requires sole { SoleKnows (view pass.old) }
+    ensures pass { IsOf board.now pass.new }
+    ensures spare { HasSpare pass.new walker.new }
+    ensures same { Same (view pass.old) (view pass.new) }
+    ensures followed { Followed (opening_of board.now) (view pass.new) walker.old walker.new
+        result }
+    ensures seen { SeesLast (view pass.old) (view pass.new) walker.old.path }
+    ensures traced { (n : ℕ) (d : View) → Traced n d (view pass.old) walker.old.path
+        → Stopped n d (view pass.new) walker.new.path result }
+    ensures sole { SoleKnows (view pass.new) }
+    ensures reader { reader.new ≡ reader.old }
+{
+    loop {
+        if let Some(stop) = step(board, pass, current, reader, walker) {
+            return stop;
+        }
+    }
+}
+
+// Releases the path's variables from its end, down to so many.
+pub(crate) fn release_to(board: &Board, pass: &mut Pass, walker: &mut Walker, keep: usize)
+    requires pass { IsOf board.now pass.old }
+    requires tied { variables (view pass.old).held ≡ variables walker.old.path }
+    requires spare { HasSpare pass.old walker.old }
+    requires keep { keep ≤ length walker.old.path }
+    ensures pass { IsOf board.now pass.new }
+    ensures view { view pass.new
+        ≡ record (view pass.old) { held = take keep (view pass.old).held } }
+    ensures walker { walker.new ≡ record walker.old { path = take keep walker.old.path } }
+    ensures trail { IsTrail walker.new.count walker.new.path }
+    ensures spare { HasSpare pass.new walker.new }
+{
+    while walker.len() > keep {
+        let (v, _) = walker.pop();
+        board.release(pass, v);
+    }
+}
+
+// Settles the path's variables from its end.
+pub(crate) fn settle_all(
+    board: &Board,
+    pass: &mut Pass,
+    current: &CurrentArrows,
+    walker: &mut Walker,
+)
+    requires pass { IsOf board.now pass.old }
+    requires table { IsTableOf (opening_of board.now) current.now }
+    requires stands { Stands (opening_of board.now) (view pass.old) walker.old }
+    requires spare { HasSpare pass.old walker.old }
+    requires some { 0 < length walker.old.path }
+    requires may { MaySettle (opening_of board.now) (view pass.old) (last_of walker.old.path).0 }
+    ensures pass { IsOf board.now pass.new }
+    ensures view { view pass.new ≡ record (view pass.old) {
+      held = [];
+      settled = (view pass.old).held ++ (view pass.old).settled;
+    } }
+    ensures walker { walker.new ≡ record walker.old { path = [] } }
+    ensures spare { HasSpare pass.new walker.new }
+    ensures sole { SoleKnows (view pass.new) }
+{
+    while walker.len() > 0 {
+        let (v, _) = walker.pop();
+        board.settle(pass, v);
+    }
+}
+
+// Puts variables, each with the slot at its cursor, into an empty list.
+fn put_pairs(
+    pairs: &mut Vec<(u32, u32)>,
+    current: &CurrentArrows,
+    reader: &mut Reader,
+    path: &[(u32, u32)],
+) -> Result<(), AllocError>
+    requires empty { pairs.old.items ≡ [] }
+    requires known { All (λ e. (e.0 < length current.now.heads)
+        × (e.1 < height_of current.now.stacks e.0)) path.now }
+    requires belongs { Belongs current.now.stacks reader.old }
+    ensures pairs { OnOk result (pairs.new.items ≡ map (slot_pair current.now) path.now) }
+    ensures reader { reader.new ≡ reader.old }
+{
+    for (v, cursor) in path {
+        let slot = current.slot_at(reader, *v, *cursor);
+        pairs.push((*v, slot))?;
+    }
+    Ok(())
+}
+
+// Pops the cycle of the variables from a place on. Its pairs are put together in the walker's list,
+// so that it takes memory for a kept log alone.
+pub(crate) fn pop_loop(
+    board: &Board,
+    pass: &mut Pass,
+    current: &CurrentArrows,
+    reader: &mut Reader,
+    walker: &mut Walker,
+    place: usize,
+) -> Result<u64, AllocError>
+    requires pass { IsOf board.now pass.old }
+    requires table { IsTableOf (opening_of board.now) current.now }
+    requires belongs { Belongs current.now.stacks reader.old }
+    requires stands { Stands (opening_of board.now) (view pass.old) walker.old }
+    requires spare { HasSpare pass.old walker.old }
+    requires place { place < length walker.old.path }
+    requires closes { Goes (opening_of board.now) (last_of walker.old.path)
+        (slice_index (variables walker.old.path) place) }
+    requires sole { SoleKnows (view pass.old) }
+    ensures pass { IsOf board.now pass.new }
+    ensures popped { MatchResult result
+        (PopsLoop (opening_of board.now) (view pass.old) (view pass.new) walker.old.path place)
+        (λ _. view pass.new ≡ view pass.old) }
+    ensures spare { HasSpare pass.new walker.new }
+    ensures sole { SoleKnows (view pass.new) }
+    ensures walker { walker.new ≡ walker.old }
+    ensures reader { reader.new ≡ reader.old }
+{
+    let mut pairs = walker.take_pairs();
+    put_pairs(&mut pairs, current, reader, walker.tail(place))?;
+    pairs.sort_unstable_by_key(|pair| pair.0);
+    let cube = Cube::of(pairs);
+    if let Err(failed) = board.reserve(pass, cube.len()) {
+        walker.keep_pairs(cube.into_pairs());
+        return Err(failed);
+    }
+    let (unit, _) = cube.pair(0);
+    let ticket = board.pop(pass, unit, &cube);
+    walker.keep_pairs(cube.into_pairs());
+    Ok(ticket)
+}
+
+// The cursor of the path's last variable moved on by 1.
+pub(crate) fn move_on(walker: &mut Walker)
+    requires some { 0 < length walker.old.path }
+    requires low { (last_of walker.old.path).1 < 2 ^ 31 }
+    ensures walker { (q : List (ℕ × ℕ)) (e : ℕ × ℕ) → walker.old.path ≡ q ++ e ∷ []
+        → walker.new ≡ record walker.old { path = q ++ (e.0, e.1 + 1) ∷ [] } }
+    ensures trail { IsTrail walker.new.count walker.new.path }
+{
+    let _len = walker.len();
+    let (v, cursor) = walker.pop();
+    walker.push(v, cursor + 1);
+}

@@ -1,0 +1,184 @@
+//! Walks that claim along the arrows, and pop the cycles that they close: loop-erased walks (Wilson
+//! 1996; Propp and Wilson 1998) of several passes on one board.
+ghost use Rattle.std.specs.Prelude.{◌≡◌, ◌≤◌, ◌<◌, ◌+◌, ◌^◌, [], length, false, ℕ, slice_index};
+ghost use Rattle.pop_model.specs.Popping.{variables};
+ghost use Rattle.pop_stacks.specs.Readers.{Belongs};
+ghost use Rattle.claim_words.specs.Openings.{is_listed};
+ghost use Rattle.claim_words.specs.Tells.{SoleKnows};
+ghost use Rattle.claim_words.specs.Passes.{IsOf, IsIdle, view, count_of, opening_of, instance_of};
+ghost use Rattle.claim_words.specs.declared.view.View.{View};
+ghost use Rattle.event_finders.specs.Gains.{SeesWithin, Stays};
+ghost use Rattle.event_finders.specs.Trails.{Stands, resting};
+ghost use Rattle.event_finders.specs.Walks.{KeepsKnown, Traced, PopsCycles, IsWalkAnswer};
+ghost use Rattle.event_finders.specs.WalkSteps.{IsTableOf, HasSpare, SeesLast, Rounds, RoundsOn};
+
+use crate::Tried;
+use crate::walker::Walker;
+use crate::walking::{Stop, claim_on, follow, move_on, pop_loop, release_to, settle_all};
+use claim_words::{Board, Claim, Pass};
+use confluence_core::CurrentArrows;
+use pop_instance::{Family, Instance};
+use pop_stacks::Reader;
+
+// What a walk comes to.
+enum Round {
+    // A cycle was popped, with this ticket, and the walk stands where it closed.
+    Popped(u64),
+    // The walk is over, and all was released or settled.
+    Over(Tried),
+}
+
+/// Claims from a start along the arrows of a cycle family, until the path comes back to itself or
+/// to where it can't go on.
+///
+/// - `Popped`: the path came back to itself, and that cycle was popped; then all is released.
+/// - `Cleared`: the path came to the root, to a settled variable or to one at its last entry, and
+///   all of it was settled from its end; or the start was found settled. The variable is the start.
+/// - `Busy`: the path came to this variable, which is claimed by another pass, or the start is. All
+///   is released. It never comes to a sole pass, one that has all 64 shares.
+/// - `Stuck` and `Idle` never come.
+/// - `OutOfMemory`: there was no room for the claims, and no step was made; or, where a log is
+///   kept, none for the records of a pop, and all is released.
+///
+/// The pass is idle, and is idle again at each answer. The walker is one for the board's variables
+/// (`Walker::new`), and is between walks again.
+pub fn try_walk(
+    board: &Board,
+    pass: &mut Pass,
+    instance: &Instance,
+    reader: &mut Reader,
+    walker: &mut Walker,
+    start: u32,
+) -> Tried
+    requires pass { IsOf board.now pass.old }
+    requires idle { IsIdle pass.old }
+    requires instance { instance_of board.now ≡ instance.now }
+    requires cycles { is_listed instance.now.family ≡ false }
+    requires belongs { Belongs instance.now.stacks reader.old }
+    requires walker { walker.old ≡ resting (count_of board.now) }
+    requires known { start < count_of board.now }
+
+    ensures pass { IsOf board.now pass.new }
+    ensures idle { IsIdle pass.new }
+    ensures stays { Stays (view pass.old) (view pass.new) }
+    ensures seen { SeesWithin 1 (view pass.old) (view pass.new) }
+    ensures settled { KeepsKnown (view pass.old) (view pass.new) }
+    ensures mine { PopsCycles (opening_of board.now) (view pass.old) (view pass.new) 1 result }
+    ensures answer { IsWalkAnswer (opening_of board.now) (view pass.old) (view pass.new) 1 start
+        result }
+    ensures walker { walker.new ≡ walker.old }
+    ensures reader { reader.new ≡ reader.old }
+{
+    walk_on(board, pass, instance, reader, walker, start, 1)
+}
+
+/// The same walk, which goes on until so many cycles were popped, at least one: `Popped` has the
+/// ticket of the last. After each it goes on from the variable where the cycle closed, with the
+/// path up to there still claimed, so that no part of it is walked again. The other answers come as
+/// those of `try_walk`, after fewer pops.
+pub fn walk_on(
+    board: &Board,
+    pass: &mut Pass,
+    instance: &Instance,
+    reader: &mut Reader,
+    walker: &mut Walker,
+    start: u32,
+    pops: u64,
+) -> Tried
+    requires pass { IsOf board.now pass.old }
+    requires idle { IsIdle pass.old }
+    requires instance { instance_of board.now ≡ instance.now }
+    requires cycles { is_listed instance.now.family ≡ false }
+    requires belongs { Belongs instance.now.stacks reader.old }
+    requires walker { walker.old ≡ resting (count_of board.now) }
+    requires known { start < count_of board.now }
+    requires pops { 1 ≤ pops }
+
+    ensures pass { IsOf board.now pass.new }
+    ensures idle { IsIdle pass.new }
+    ensures stays { Stays (view pass.old) (view pass.new) }
+    ensures seen { SeesWithin pops (view pass.old) (view pass.new) }
+    ensures settled { KeepsKnown (view pass.old) (view pass.new) }
+    ensures mine { PopsCycles (opening_of board.now) (view pass.old) (view pass.new) pops result }
+    ensures answer { IsWalkAnswer (opening_of board.now) (view pass.old) (view pass.new) pops start
+        result }
+    ensures walker { walker.new ≡ walker.old }
+    ensures reader { reader.new ≡ reader.old }
+{
+    let _units = instance.units();
+    let Family::Cycles(arrows) = instance.family() else {
+        unreachable!()
+    };
+    let current = CurrentArrows::of(instance.stacks(), arrows);
+    // Room for all variables, and for as many again: a pop asks for room for its cycle while the
+    // path is held, and so takes memory for a kept log alone.
+    let count = current.count();
+    if board.reserve(pass, count + count).is_err() {
+        return Tried::OutOfMemory;
+    }
+    match claim_on(board, pass, walker, start) {
+        Claim::Mine(_) => {}
+        Claim::Settled(cursor) => return Tried::Cleared(start, cursor),
+        Claim::Busy(word) => return Tried::Busy(start, word),
+    }
+    let mut last = 0;
+    for _ in 0..pops {
+        match go_round(board, pass, &current, reader, walker) {
+            Round::Popped(ticket) => last = ticket,
+            Round::Over(answer) => return answer,
+        }
+    }
+    release_to(board, pass, walker, 0);
+    Tried::Popped(last)
+}
+
+// Goes along the arrows until a cycle closes, and pops it; or ends the walk.
+fn go_round(
+    board: &Board,
+    pass: &mut Pass,
+    current: &CurrentArrows,
+    reader: &mut Reader,
+    walker: &mut Walker,
+) -> Round
+    requires pass { IsOf board.now pass.old }
+    requires table { IsTableOf (opening_of board.now) current.now }
+    requires belongs { Belongs current.now.stacks reader.old }
+    requires stands { Stands (opening_of board.now) (view pass.old) walker.old }
+    requires spare { HasSpare pass.old walker.old }
+    requires some { 0 < length walker.old.path }
+    requires sole { SoleKnows (view pass.old) }
+    ensures pass { IsOf board.now pass.new }
+    ensures stays { Stays (view pass.old) (view pass.new) }
+    ensures settled { KeepsKnown (view pass.old) (view pass.new) }
+    ensures spare { HasSpare pass.new walker.new }
+    ensures round { Rounds (opening_of board.now) (view pass.old) (view pass.new) walker.old
+        walker.new result }
+    ensures seen { SeesLast (view pass.old) (view pass.new) walker.old.path }
+    ensures traced { (n : ℕ) (d : View) → Traced n d (view pass.old) walker.old.path
+        → RoundsOn (opening_of board.now) n d (view pass.new)
+        (slice_index (variables walker.old.path) 0) walker.new.path result }
+    ensures reader { reader.new ≡ reader.old }
+{
+    match follow(board, pass, current, reader, walker) {
+        Stop::Rests => {
+            let (start, cursor) = walker.at(0);
+            settle_all(board, pass, current, walker);
+            Round::Over(Tried::Cleared(start, cursor))
+        }
+        Stop::Back(place) => match pop_loop(board, pass, current, reader, walker, place) {
+            Ok(ticket) => {
+                release_to(board, pass, walker, place + 1);
+                move_on(walker);
+                Round::Popped(ticket)
+            }
+            Err(_) => {
+                release_to(board, pass, walker, 0);
+                Round::Over(Tried::OutOfMemory)
+            }
+        },
+        Stop::Busy(v, word) => {
+            release_to(board, pass, walker, 0);
+            Round::Over(Tried::Busy(v, word))
+        }
+    }
+}
