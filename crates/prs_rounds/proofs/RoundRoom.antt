@@ -1,0 +1,93 @@
+-- How many rounds there is room for: each moves a cursor on.
+use Rattle.std.proofs.Common.{inl, inr, ◌≡◌, ℕ, zero, suc, add-zero, ◌+◌, ◌*◌, ◌^◌, ◌<◌, ◌≤◌, List, [], ◌∷◌, length, get_or, refl, sym, subst, arith, All}
+use Rattle.std.proofs.lemmas.Bool.{cases_lt}
+use Rattle.std.proofs.lemmas.List.Elements.{Contains-get_or}
+use Rattle.pop_model.specs.Stacks.{StackTable, variables_of, height_of, IsTable}
+use Rattle.pop_model.specs.Popping.{Cube, cursor}
+use Rattle.pop_model.specs.Families.{AreEvents}
+use Rattle.pop_model.specs.Instances.{FitsStacks}
+use Rattle.pop_model.proofs.Room.{left_from, left_bound}
+use Rattle.pop_model.proofs.Diamond.{names_it}
+use Rattle.pop_instance.specs.Events.{cube_at}
+use Rattle.confluence_core.proofs.Places.{listed, event_at, event_from}
+use Rattle.prs_rounds.specs.Resampling.{IsResampledVariable}
+use Rattle.prs_rounds.specs.Rounds.{IsRound}
+use Rattle.prs_rounds.specs.Grown.{StartsAt}
+use Rattle.prs_rounds.proofs.OnlyOccurring.{occurs_resampled}
+
+-- each number of c is at most that of d (that of `pop_model` doesn't unfold here)
+abbrev Below : List ℕ → List ℕ → Type 0
+Below c d = (w : ℕ) → w < length c → get_or c w 0 ≤ get_or d w 0
+
+-- cursors that are no less leave no more room
+left_falls : (s : StackTable) (v : ℕ) (c d : List ℕ) → length c ≡ length d → Below c d
+    → left_from s v d ≤ left_from s v c
+left_falls s v [] [] e h = omega arith
+left_falls s v [] (y ∷ d) e h = absurd (omega arith)
+left_falls s v (x ∷ c) [] e h = absurd (omega arith)
+left_falls s v (x ∷ c) (y ∷ d) e h =
+    let rest : left_from s (suc v) d ≤ left_from s (suc v) c =
+    left_falls s (suc v) c d (omega arith) (λ w below. h (suc w) (omega arith)) in
+    let head : x ≤ y = h 0 (omega arith) in
+    omega arith
+
+-- and there is less room where one of them is greater
+left_falls_more : (s : StackTable) (v : ℕ) (c d : List ℕ) (at : ℕ) → length c ≡ length d → Below c d → at < length c
+    → get_or c at 0 < get_or d at 0 → get_or c at 0 < height_of s (v + at) → left_from s v d < left_from s v c
+left_falls_more s v [] d at e h within more room = absurd (omega arith)
+left_falls_more s v (x ∷ c) [] at e h within more room = absurd (omega arith)
+left_falls_more s v (x ∷ c) (y ∷ d) zero e h within more room =
+    let rest : left_from s (suc v) d ≤ left_from s (suc v) c =
+    left_falls s (suc v) c d (omega arith) (λ w below. h (suc w) (omega arith)) in
+    let here : x < height_of s v = subst (λ w. x < height_of s w) (add-zero v) room in
+    omega arith
+left_falls_more s v (x ∷ c) (y ∷ d) (suc at) e h within more room =
+    let there : v + suc at ≡ suc v + at = omega arith in
+    let rest : left_from s (suc v) d < left_from s (suc v) c =
+    left_falls_more s (suc v) c d at (omega arith) (λ w below. h (suc w) (omega arith)) (omega arith) more
+    (subst (λ w. get_or c at 0 < height_of s w) there room) in
+    let head : x ≤ y = h zero (omega arith) in
+    omega arith
+
+-- a round takes from the room
+pub round_falls : (s : StackTable) (rows : List (ℕ × Cube)) (c new values found : List ℕ) → AreEvents rows
+    → All (λ r. FitsStacks s r.1) rows → variables_of s ≡ length c → StartsAt s rows c values found → 0 < length found
+    → ((v : ℕ) → cursor c v ≤ cursor new v) → IsRound (listed s rows) c new → left_from s 0 new < left_from s 0 c
+round_falls s rows c new values found events fits count starts some up round =
+    let u : ℕ = get_or found 0 0 in
+    let has = Contains-get_or found 0 0 some in
+    let within : u < length rows = starts.known u has in
+    let occurs = (starts.exact u within).0 has in
+    let p : ℕ × ℕ = get_or (cube_at rows u) 0 (0, 0) in
+    let first : 0 < length (cube_at rows u) = (events.cubes u (0, []) within).some in
+    let in_cube = Contains-get_or (cube_at rows u) 0 (0, 0) first in
+    let variable : IsResampledVariable (listed s rows) c p.0 = (
+      event_at rows u,
+      occurs_resampled (listed s rows) c (event_at rows u)
+          (record { event = event_from rows (event_at rows u) within refl; occurs = occurs }),
+      names_it (cube_at rows u) p in_cube,
+    ) in
+    let below : p.0 < length c = let fit = (fits u (0, []) within 0 (0, 0) first).0 in omega (arith, fit, count) in
+    let moved = round.moved p.0 variable in
+    let room = round.room p.0 variable in
+    let same : p.0 ≡ 0 + p.0 = omega arith in
+    left_falls_more s 0 c new p.0 (sym round.count) (λ w h. up w) below (omega (arith, moved))
+    (subst (λ w. cursor c p.0 < height_of s w) same (omega (arith, room)))
+
+-- there is room for fewer than 2 ^ 62 rounds
+pub rounds_fit : (s : StackTable) (c : List ℕ) → IsTable s → length c ≡ variables_of s → left_from s 0 c < 2 ^ 62
+rounds_fit s c table count =
+    let most : left_from s 0 c ≤ length c * 2 ^ 31 = left_bound s table.heights 0 c in
+    let few = table.count in
+    omega (arith, most, count, few)
+
+-- a round lowers no cursor
+pub round_up : (s : StackTable) (rows : List (ℕ × Cube)) (c new : List ℕ) → IsRound (listed s rows) c new → (v : ℕ)
+    → cursor c v ≤ cursor new v
+round_up s rows c new round v = elim (cases_lt (cursor new v) (cursor c v)) [
+  | inr not_less ↦ not_less
+  | inl less ↦ absurd (
+      let none : IsResampledVariable (listed s rows) c v → ⊥ = λ h. let moved = round.moved v h in
+      omega (arith, moved, less) in
+      let kept = round.kept v none in omega (arith, kept, less))
+]

@@ -1,0 +1,63 @@
+-- The laws of resampling sets and of rounds.
+use Rattle.std.specs.Prelude.{◌≡◌, ◌≢◌, ◌⊎◌, ◌↔◌, ℕ, List, [], Option, None}
+use Rattle.pop_model.specs.Stacks.{StackTable}
+use Rattle.pop_model.specs.Popping.{Cube, Occurs}
+use Rattle.pop_model.specs.Families.{Event, IsEvent}
+use Rattle.pop_model.specs.Families.Family.{Listed}
+use Rattle.pop_model.specs.Instances.{Instance}
+use Rattle.pop_model.specs.Extremal.{IsExtremal}
+use Rattle.pop_model.specs.Runs.{IsFirstEnd}
+use Rattle.prs_rounds.specs.Resampling.{OccursIn, Touches, Differs, IsResampled, IsExcluded}
+use Rattle.prs_rounds.specs.Rounds.{IsRoundsEnd}
+
+-- what the resampling set is, whatever the steps were: it has the events that occur; what shares a
+-- variable with an event of it is in it or excluded; and what is excluded isn't in it, and demands
+-- of a variable of the set another value than the current one
+pub record IsClosed (i : Instance) (c : List ℕ) : Type 0 where
+  pub occurring : (e : Event) → OccursIn i c e → IsResampled i c e
+  pub events : (e : Event) → IsResampled i c e → IsEvent i.family e
+  pub closed : (e : Event) → IsEvent i.family e → Touches (IsResampled i c) e
+      → IsResampled i c e ⊎ IsExcluded i c e
+  pub apart : (e : Event) → IsExcluded i c e → IsResampled i c e → ⊥
+  pub differs : (e : Event) → IsExcluded i c e → Differs i.stacks c (IsResampled i c) e
+  pub outside : (e : Event) → IsEvent i.family e → (IsResampled i c e → ⊥)
+      → Occurs i.stacks c e.cube → ⊥
+
+-- the resampling set of listed events is closed
+abbrev pub ResampledClosed : Type 0
+ResampledClosed = (s : StackTable) (rows : List (ℕ × Cube)) (c : List ℕ)
+    → IsClosed (record { stacks = s; family = Listed rows }) c
+
+-- two results of runs by rounds are the same
+pub record SameRoundsEnd (c d : List ℕ) (n m : ℕ) (s t : List Event) (a b : Option ℕ)
+    : Type 0 where
+  pub cursors : c ≡ d
+  pub rounds : n ≡ m
+  pub stuck : s ≡ t
+  pub short : a ≡ b
+
+-- the run by rounds has one result
+abbrev pub OneRoundsEnd : Type 0
+OneRoundsEnd = (i : Instance) (c d : List ℕ) (n m : ℕ) (s t : List Event) (a b : Option ℕ)
+    → IsRoundsEnd i c n s a → IsRoundsEnd i d m t b → SameRoundsEnd c d n m s t a b
+
+-- on an extremal instance the resampling set has just the events that occur
+abbrev pub ResampledOccur : Type 0
+ResampledOccur = (i : Instance) → IsExtremal i.family → (c : List ℕ) (e : Event)
+    → IsResampled i c e ↔ OccursIn i c e
+
+-- the result of rounds beside the end of the one-thread run: both are exhausted or none, and where
+-- both finish, their cursors are equal
+pub record EndsLikeFirst (cursors firsts : List ℕ) (short : Option ℕ) (stuck : List Event)
+    : Type 0 where
+  pub exhausted : (short ≢ None) ↔ (stuck ≢ [])
+  pub finished : short ≡ None → cursors ≡ firsts
+
+-- on an extremal instance of listed events rounds end as the one-thread run does
+abbrev pub RoundsEndLikeFirst : Type 0
+RoundsEndLikeFirst = (s : StackTable) (rows : List (ℕ × Cube)) → IsExtremal (Listed rows)
+    → (c : List ℕ) (rounds : ℕ) (list : List Event) (short : Option ℕ)
+    → IsRoundsEnd (record { stacks = s; family = Listed rows }) c rounds list short
+    → (firsts : List ℕ) (pops : ℕ) (stuck : List Event)
+    → IsFirstEnd (record { stacks = s; family = Listed rows }) firsts pops stuck
+    → EndsLikeFirst c firsts short stuck

@@ -1,0 +1,36 @@
+-- The run by rounds: in each, every variable of the resampling set moves on by one entry.
+use Rattle.std.specs.Prelude.{◌≡◌, ℕ, zero, suc, ◌+◌, ◌<◌, ◌≤◌, List, length, Option, MatchOption}
+use Rattle.pop_model.specs.Stacks.{height_of}
+use Rattle.pop_model.specs.Popping.{cursor}
+use Rattle.pop_model.specs.Families.{Event}
+use Rattle.pop_model.specs.Instances.{Instance}
+use Rattle.pop_model.specs.Places.{IsLeast}
+use Rattle.pop_model.specs.Runs.{IsFinished, IsStuckList, start_of}
+use Rattle.prs_rounds.specs.Resampling.{IsResampledVariable}
+
+-- some event occurs, each variable of the resampling set has a next entry and moves on to it, and
+-- the others stay
+pub record IsRound (i : Instance) (c new : List ℕ) : Type 0 where
+  pub some : IsFinished i c → ⊥
+  pub room : (v : ℕ) → IsResampledVariable i c v → cursor c v + 1 < height_of i.stacks v
+  pub count : length new ≡ length c
+  pub moved : (v : ℕ) → IsResampledVariable i c v → cursor new v ≡ cursor c v + 1
+  pub kept : (v : ℕ) → (IsResampledVariable i c v → ⊥) → cursor new v ≡ cursor c v
+
+-- so many rounds, one after another, lead from the first cursors to the last
+abbrev pub Rounds : Instance → ℕ → List ℕ → List ℕ → Type 0
+Rounds i zero c end = c ≡ end
+Rounds i (suc n) c end = (next : List ℕ) × IsRound i c next × Rounds i n next end
+
+-- a variable of the resampling set that is at its last entry
+pub record HasNoNext (i : Instance) (c : List ℕ) (v : ℕ) : Type 0 where
+  pub resampled : IsResampledVariable i c v
+  pub last : height_of i.stacks v ≤ cursor c v + 1
+
+-- Rounds from zeros lead to these cursors. No event occurs there, or the short variable is the
+-- least of the resampling set that is at its last entry. The stuck list has all events that occur.
+pub record IsRoundsEnd (i : Instance) (cursors : List ℕ) (rounds : ℕ) (stuck : List Event)
+    (short : Option ℕ) : Type 0 where
+  pub run : Rounds i rounds (start_of i) cursors
+  pub end : MatchOption short (IsFinished i cursors) (IsLeast (HasNoNext i cursors))
+  pub stuck_list : IsStuckList i cursors stuck

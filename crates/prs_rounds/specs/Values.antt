@@ -1,0 +1,39 @@
+-- The current value of each variable, and what it shows of cubes.
+use Rattle.std.specs.Prelude.{◌≡◌, ◌==◌, ℕ, ◌+◌, ◌<◌, Bool, List, [], length, filter, slice_index}
+use Rattle.std.specs.List.{list_all, range_with_len}
+use Rattle.pop_model.specs.Stacks.{StackTable, value_at}
+use Rattle.pop_model.specs.Popping.{Cube, cursor}
+use Rattle.pop_model.specs.Families.{Family}
+use Rattle.pop_model.specs.Families.Family.{Listed, Cycles}
+use Rattle.pop_instance.specs.Events.{cube_at}
+
+-- the current value of a variable
+abbrev pub current : StackTable → List ℕ → ℕ → ℕ
+current s c v = value_at s v (cursor c v)
+
+-- the values of all variables
+pub record AreValues (s : StackTable) (c values : List ℕ) : Type 0 where
+  pub count : length values ≡ length c
+  pub each : (v : ℕ) → v < length c → slice_index values v ≡ current s c v
+
+-- these are the values of the variables from a place of their list on
+abbrev pub AreRead : StackTable → List ℕ → List ℕ → ℕ → List ℕ → Type 0
+AreRead s c variables start values = (k : ℕ) → k < length values
+    → slice_index values k ≡ current s c (slice_index variables (start + k))
+
+-- each variable of the cube has the value that it demands
+abbrev pub shows : List ℕ → Cube → Bool
+shows values e = list_all (λ p. slice_index values p.0 == p.1) e
+
+-- of these places, in their order, those whose events the values show
+abbrev pub shown_among : List ℕ → List (ℕ × Cube) → List ℕ → List ℕ
+shown_among values rows places = filter (λ u. shows values (cube_at rows u)) places
+
+-- the places of all events that the values show, rising
+abbrev pub shown_places : List ℕ → List (ℕ × Cube) → List ℕ
+shown_places values rows = shown_among values rows (range_with_len 0 (length rows))
+
+-- the units of the listed events that the values show, rising
+abbrev pub shown_units : List ℕ → Family → List ℕ
+shown_units values (Listed rows) = shown_places values rows
+shown_units values (Cycles heads) = []

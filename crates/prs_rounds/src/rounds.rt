@@ -1,0 +1,125 @@
+ghost use Rattle.std.specs.Prelude.{◌≡◌, ◌<◌, length, map, All, IfOk};
+ghost use Rattle.pop_model.specs.Stacks.{variables_of};
+ghost use Rattle.pop_model.specs.Popping.{AreWithin, values_at};
+ghost use Rattle.pop_model.specs.Families.Family.{Listed as ListedEvents};
+ghost use Rattle.pop_model.specs.Instances.{FitsStacks};
+ghost use Rattle.pop_model.specs.Runs.{IsStuckList};
+ghost use Rattle.pop_instance.specs.Events.{cube_at};
+ghost use Rattle.pop_instance.specs.Index.{IsIndex};
+ghost use Rattle.prs_rounds.specs.Rounds.{IsRoundsEnd};
+ghost use Rattle.prs_rounds.specs.Units.{IsIndexOf};
+
+use crate::RoundEnd;
+use crate::seen::see_all;
+use crate::state::{start, turn};
+use confluence_core::Stuck;
+use pop_instance::{Cursors, Events, Family, Index, Instance};
+use pop_stacks::Stacks;
+use std::alloc::{AllocError, Global};
+use std::thread::Threads;
+
+/// The run by rounds (Guo, Jerrum and Liu 2019): from zeros, while some event occurs, each variable
+/// of the resampling set moves on to its next entry; where one has none, the run ends exhausted.
+/// The index is that of the instance's listed events.
+///
+/// After the first look only events are looked at that name a variable of the last set. So the time
+/// is linear in the instance and, round by round, in the pairs of the events that share a variable
+/// with a resampled one.
+pub fn run_rounds<R: Threads + Sync>(
+    rt: &R,
+    alloc: Global,
+    instance: &Instance,
+    index: &Index,
+) -> Result<RoundEnd, AllocError>
+    requires index { IsIndexOf instance.now.family index.now }
+    requires variables { length index.now ≡ variables_of instance.now.stacks }
+    ensures end { IfOk result
+        (λ end. IsRoundsEnd instance.now end.cursors end.rounds end.stuck end.short) }
+    ensures count { IfOk result
+        (λ end. length end.cursors ≡ variables_of instance.now.stacks) }
+    ensures within { IfOk result (λ end. AreWithin instance.now.stacks end.cursors) }
+    ensures values { IfOk result
+        (λ end. end.values.items ≡ values_at instance.now.stacks end.cursors) }
+{
+    let _units = instance.units();
+    match instance.family() {
+        Family::Listed(events) => rounds_of(rt, alloc, instance.stacks(), events, index),
+        Family::Cycles(_) => unreachable!(),
+    }
+}
+
+// The events of these places.
+fn copies(alloc: Global, events: &Events, places: &[u32]) -> Result<Stuck, AllocError>
+    requires known { All (λ u. u < length events.now) places.now }
+    ensures { IfOk result (λ stuck.
+        stuck ≡ map (λ u. record { unit = u; cube = cube_at events.now u }) places.now) }
+{
+    let mut stuck = Stuck::new(alloc);
+    for u in places {
+        stuck.push(*u, events.cube(*u).copy(alloc)?)?;
+    }
+    Ok(stuck)
+}
+
+// The events that occur, by rising unit.
+fn stuck_at<R: Threads + Sync>(
+    rt: &R,
+    alloc: Global,
+    stacks: &Stacks,
+    events: &Events,
+    cursors: &Cursors,
+) -> Result<Stuck, AllocError>
+    requires fits { All (λ r. FitsStacks stacks.now r.1) events.now }
+    requires count { variables_of stacks.now ≡ length cursors.now }
+    requires within { AreWithin stacks.now cursors.now }
+    ensures { IfOk result (IsStuckList
+        (record { stacks = stacks.now; family = ListedEvents events.now }) cursors.now) }
+{
+    let seen = see_all(rt, alloc, stacks, events, cursors)?;
+    copies(alloc, events, &seen.found)
+}
+
+// The run of listed events.
+fn rounds_of<R: Threads + Sync>(
+    rt: &R,
+    alloc: Global,
+    stacks: &Stacks,
+    events: &Events,
+    index: &Index,
+) -> Result<RoundEnd, AllocError>
+    requires fits { All (λ r. FitsStacks stacks.now r.1) events.now }
+    requires index { IsIndex events.now index.now }
+    requires variables { length index.now ≡ variables_of stacks.now }
+    ensures end { IfOk result (λ end. IsRoundsEnd
+        (record { stacks = stacks.now; family = ListedEvents events.now })
+        end.cursors end.rounds end.stuck end.short) }
+    ensures count { IfOk result (λ end. length end.cursors ≡ variables_of stacks.now) }
+    ensures within { IfOk result (λ end. AreWithin stacks.now end.cursors) }
+    ensures values { IfOk result
+        (λ end. end.values.items ≡ values_at stacks.now end.cursors) }
+{
+    let _table = stacks.count();
+    let _events = events.count();
+    let mut state = start(rt, alloc, stacks, events)?;
+    let mut rounds: u64 = 0;
+    'rounds: while 0 < state.found.len() {
+        if let Some(v) = turn(rt, alloc, stacks, events, index, &mut state)? {
+            let stuck = stuck_at(rt, alloc, stacks, events, &state.cursors)?;
+            return Ok(RoundEnd {
+                cursors: state.cursors,
+                rounds,
+                stuck,
+                values: state.values,
+                short: Some(v),
+            });
+        }
+        rounds += 1;
+    }
+    Ok(RoundEnd {
+        cursors: state.cursors,
+        rounds,
+        stuck: Stuck::new(alloc),
+        values: state.values,
+        short: None,
+    })
+}

@@ -1,0 +1,87 @@
+ghost use Rattle.std.specs.Prelude.{◌≡◌, ◌<◌, length, replicate, All, IfOk};
+ghost use Rattle.pop_model.specs.Stacks.{variables_of};
+ghost use Rattle.pop_model.specs.Instances.{FitsStacks};
+ghost use Rattle.pop_instance.specs.Index.{IsIndex};
+ghost use Rattle.prs_rounds.specs.States.{IsAt, Turns};
+
+use crate::growth::Growth;
+use crate::moves::{least_short, move_on, refresh};
+use crate::seen::see_all;
+use crate::shown::occurring;
+use pop_instance::{Cursors, Events, Index};
+use pop_stacks::Stacks;
+use std::alloc::{AllocError, Global};
+use std::thread::Threads;
+
+/// Where a run by rounds stands between two rounds.
+#[derive(Drop)]
+pub(crate) struct State {
+    pub cursors: Cursors,
+    /// The current value of each variable.
+    pub values: Vec<u32>,
+    /// The places of the events that occur, in any order.
+    pub found: Vec<u32>,
+    /// The search for the resampling set, in which no event is marked yet.
+    pub growth: Growth,
+}
+
+/// The state before any round. Each variable and each event is looked at.
+pub(crate) fn start<R: Threads + Sync>(
+    rt: &R,
+    alloc: Global,
+    stacks: &Stacks,
+    events: &Events,
+) -> Result<State, AllocError>
+    requires fits { All (λ r. FitsStacks stacks.now r.1) events.now }
+    ensures at { IfOk result (IsAt stacks.now events.now) }
+    ensures zeros { IfOk result (λ state. state.cursors ≡ replicate (variables_of stacks.now) 0) }
+{
+    let cursors = Cursors::zeros(alloc, stacks.count())?;
+    let seen = see_all(rt, alloc, stacks, events, &cursors)?;
+    let growth = Growth::blank(alloc, events.count(), stacks.count())?;
+    Ok(State {
+        cursors,
+        values: seen.values,
+        found: seen.found,
+        growth,
+    })
+}
+
+/// Makes a round, where each variable of the resampling set has a next entry; else names the least
+/// that has none, and the cursors stay. Only events that name a variable of the set are looked at:
+/// no other can have begun or ceased to occur.
+pub(crate) fn turn<R: Threads + Sync>(
+    rt: &R,
+    alloc: Global,
+    stacks: &Stacks,
+    events: &Events,
+    index: &Index,
+    state: &mut State,
+) -> Result<Option<u32>, AllocError>
+    requires fits { All (λ r. FitsStacks stacks.now r.1) events.now }
+    requires index { IsIndex events.now index.now }
+    requires variables { length index.now ≡ variables_of stacks.now }
+    requires at { IsAt stacks.now events.now state.old }
+    requires some { 0 < length state.old.found.items }
+    ensures { IfOk result (Turns stacks.now events.now state.old state.new) }
+{
+    let _table = stacks.count();
+    state
+        .growth
+        .grow(events, index, &state.values, &state.found)?;
+    if let Some(v) = least_short(stacks, &state.cursors, &state.growth.variables) {
+        return Ok(Some(v));
+    }
+    move_on(&mut state.cursors, &state.growth.variables);
+    refresh(
+        rt,
+        alloc,
+        stacks,
+        &state.cursors,
+        &state.growth.variables,
+        &mut state.values,
+    )?;
+    state.found = occurring(rt, alloc, events, &state.values, &state.growth.looked)?;
+    state.growth.clear();
+    Ok(None)
+}
