@@ -59,6 +59,14 @@ impl Record {
         Ok(Record::new(unit, cube.copy(alloc)?, entries))
     }
 
+    /// An equal record.
+    pub fn copy(&self, alloc: Global) -> Result<Record, AllocError>
+        ensures { IfOk result (λ copy. copy ≡ self.now) }
+    {
+        let entries = Vec::from_slice(alloc, &self.entries)?;
+        Ok(Record::new(self.unit, self.cube.copy(alloc)?, entries))
+    }
+
     /// The unit of the event.
     pub fn unit(&self) -> u32
         ensures { result ≡ self.now.event.unit }

@@ -1,272 +1,165 @@
--- The text of a legal log isn't refused. It has the lines of its records, none of which has a line end before its
--- end, and
--- these may be printed, so no line is malformed. Were one of its records not legal, the records before it would be
--- those of
--- the log, since what is printed of legal records determines them, and so would it be the log's next, which is legal.
-use Rattle.std.proofs.Common.{◌≡◌, ◌≢◌, ℕ, ◌^◌, ◌<◌, ◌≤◌, false, List, [], ◌∷◌, ◌++◌, length, map, flat_map, Some, get_or, refl, sym, ap, ap₂, subst, ◌∙◌, arith, length-append, All, eqb, if◌then◌else◌, codes, decimal}
-use Rattle.std.specs.List.{AllByRecursion, zip}
-use Rattle.std.proofs.lemmas.Bool.{ne_eqb}
-use Rattle.std.proofs.lemmas.List.{length-map, get_or-map}
-use Rattle.std.proofs.lemmas.List.Elements.{All-map}
-use Rattle.std.proofs.lemmas.Slice.Zip.{firsts-zip, seconds-zip}
-use Rattle.pop_model.specs.Stacks.{variables_of}
-use Rattle.pop_model.specs.Popping.{Cube, NamesBelow, variables, cursor, pop}
-use Rattle.pop_model.specs.Families.{Event, Family, IsEvent}
-use Rattle.pop_model.specs.Families.Family.{Listed, Cycles}
-use Rattle.pop_model.specs.Instances.{Instance, IsInstance, FamilyFits}
-use Rattle.pop_model.specs.Logs.{LogRecord, IsLegalAt, IsLegal, entries_at, replay}
+-- The text of a legal log isn't refused. It has the lines of its records, which may be written, so no line is
+-- malformed. Were one of its records not legal, the records before it would be those of the log, since what is
+-- printed of legal records determines them, and so would it be the log's next, which is legal. In version 2 the
+-- records with their layers are those that were written, so that none is the first that isn't layered.
+use Rattle.std.proofs.Common.{inl, inr, ◌≡◌, ℕ, ◌^◌, ◌≤◌, List, [], ◌∷◌, ◌++◌, length, map, flat_map, refl, sym, ap, ap₂, subst, ◌∙◌, arith, append_assoc}
+use Rattle.std.specs.List.{AllByRecursion}
+use Rattle.std.proofs.lemmas.List.{length-map, append-nil}
+use Rattle.pop_model.specs.Families.{Family}
+use Rattle.pop_model.specs.Instances.{Instance, IsInstance}
+use Rattle.pop_model.specs.Logs.{LogRecord, IsLegal}
 use Rattle.pop_model.specs.Runs.{start_of}
-use Rattle.pop_model.specs.Text.{line}
 use Rattle.pop_log.specs.declared.names.Names.{Names}
+use Rattle.pop_log.specs.declared.log_version.LogVersion.{LogVersion}
+use Rattle.pop_log.specs.declared.log_version.LogVersion.TheVariants.{Ordered, Layered}
 use Rattle.pop_log.specs.declared.log_refusal.LogRefusal.{LogRefusal}
-use Rattle.pop_log.specs.declared.log_refusal.LogRefusal.TheVariants.{Limit, Malformed, NotLegal, OutOfMemory}
-use Rattle.pop_log.specs.Printed.{Printed, printed, name_of, number_of, joined, record_words, MayBePrinted, HasVariables}
-use Rattle.pop_log.specs.Decimals.{AreDigits}
-use Rattle.pop_log.specs.PrintedWords.{PairFits, FitsWords}
+use Rattle.pop_log.specs.declared.log_refusal.LogRefusal.TheVariants.{Limit, Malformed, NotLegal, Unlayered, OutOfMemory}
+use Rattle.pop_log.specs.Printed.{printed, MayBePrinted}
 use Rattle.pop_log.specs.Candidates.{NumbersFit}
-use Rattle.pop_log.specs.TextLines.{onto_line, lines_with_ends}
-use Rattle.pop_log.specs.LogTexts.{head_line, record_line, AreLogLines, IsLogText}
-use Rattle.pop_log.specs.Refusals.{IsLogRefusal}
-use Rattle.pop_log.proofs.LogTextsLemmas.{decimal_digits, pairs_text}
-use Rattle.pop_log.proofs.PrintedLemmas.{same_record}
-use Rattle.confluence_core.proofs.EventVariables.{event_below}
-use Rattle.pop_log.proofs.Fronts.{each_append}
-use Rattle.pop_log.proofs.EventNumbers.{row_is}
-use Rattle.pop_log.proofs.ReadRecords.{may_fits, line_once}
+use Rattle.pop_log.specs.TextLines.{lines_with_ends}
+use Rattle.pop_log.specs.Layers.{Placed}
+use Rattle.pop_log.specs.Layered.{AreInLayers, FollowsInLayers}
+use Rattle.pop_log.specs.LogTexts.{record_line, IsLogText}
+use Rattle.pop_log.specs.LayeredTexts.{Written, written, IsReadLayered}
+use Rattle.pop_log.specs.LogVersions.{head_of, line_of, MayBeWritten, AreLogLines, IsReadAs}
+use Rattle.pop_log.specs.Refusals.{IsIllegalAt, IsUnlayeredAt, IsLogRefusal}
+use Rattle.pop_log.proofs.PrintedLemmas.{one_reading}
+use Rattle.pop_log.proofs.LayeredTextsLemmas.{map_of_map, written_determines, written_records}
+use Rattle.pop_log.proofs.LegalRecords.{all_may, next_legal, placed_may}
+use Rattle.pop_log.proofs.WrittenLines.{few_written, one_list, one_version, text_lines}
 
--- bytes without a line end
-abbrev IsOther : ℕ → Type 0
-IsOther b = b ≢ 10
+-- the lines of the text are those of these written records, which are printed of the log
+record IsWritten (names : Names) (i : Instance) (text : List ℕ) (log : List LogRecord) (version : LogVersion)
+    (ws : List Written) : Type 0 where
+  short : length text ≤ 2 ^ 28
+  legal : IsLegal i (start_of i) log
+  lines : AreLogLines names i.family version (lines_with_ends text) ws
+  printed_are : map (λ w. w.1) ws ≡ map (printed names i.family) log
 
--- no byte of these ends a line
-abbrev AreOther : List ℕ → Type 0
-AreOther bs = AllByRecursion IsOther bs
+-- a record as it is written in version 1
+abbrev unlayered : Names → Family → LogRecord → Written
+unlayered names family r = (0, printed names family r)
 
--- no digit does
-digits_other : (ds : List ℕ) → AreDigits ds → AreOther ds
-digits_other [] are = tt
-digits_other (d ∷ ds) are = ((λ is. let low = are.0.0 in omega (arith, is, low)), digits_other ds are.1)
+-- the text of a log by what is written in version 1
+by_written : (names : Names) (family : Family) (log : List LogRecord)
+    → flat_map (λ r. record_line (printed names family r)) log
+    ≡ flat_map (line_of Ordered) (map (unlayered names family) log)
+by_written names family [] = refl
+by_written names family (r ∷ log) =
+    ap (λ (l : List ℕ). record_line (printed names family r) ++ l) (by_written names family log)
 
--- nor does a byte of pairs
-pairs_other : (ps : List (ℕ × ℕ)) → AllByRecursion PairFits ps → AreOther (pairs_text ps)
-pairs_other [] fit = tt
-pairs_other (p ∷ ps) fit =
-    let one = fit.0.0 in
-    let two = fit.0.1 in
-    let name = digits_other (decimal p.0) (decimal_digits p.0 (omega (arith, one))) in
-    let entry = digits_other (decimal p.1) (decimal_digits p.1 (omega (arith, two))) in (
-      (λ is. omega (arith, is)),
-      each_append IsOther (joined 58 p) (pairs_text ps)
-          (each_append IsOther (decimal p.0) (58 ∷ decimal p.1) name ((λ is. omega (arith, is)), entry))
-          (pairs_other ps fit.1),
-    )
+-- what may be printed may be written in version 1
+ordered_may : (names : Names) (family : Family) (log : List LogRecord)
+    → AllByRecursion (MayBePrinted names family) (map (printed names family) log)
+    → AllByRecursion (MayBeWritten names family Ordered) (map (unlayered names family) log)
+ordered_may names family [] may = tt
+ordered_may names family (r ∷ log) may =
+    (record { layer = refl; record_is = may.0 }, ordered_may names family log may.1)
 
--- the first of the lines is that of bytes without a line end
-first_line_is : (bs t : List ℕ) → AreOther bs → lines_with_ends (line bs ++ t) ≡ line bs ∷ lines_with_ends t
-first_line_is [] t others = refl
-first_line_is (b ∷ bs) t others =
-    let test : eqb b 10 ≡ false = ne_eqb b 10 others.0 in
-    ap (λ x. if x then (b ∷ []) ∷ lines_with_ends (line bs ++ t) else onto_line b (lines_with_ends (line bs ++ t)))
-    test
-    ∙ ap (onto_line b) (first_line_is bs t others.1)
+module _ (names : Names) (i : Instance) (is : IsInstance i) (numbers : NumbersFit i.family) (text : List ℕ)
+    (log : List LogRecord) where
+  -- a text of version 1
+  ordered_written : IsLogText names i text log
+      → IsWritten names i text log Ordered (map (unlayered names i.family) log)
+  ordered_written of =
+      let ws = map (unlayered names i.family) log in
+      let size = length-map log (unlayered names i.family) in
+      let text_is : text ≡ head_of Ordered (length ws) ++ flat_map (line_of Ordered) ws =
+      of.text_is ∙ ap₂ (λ n (l : List ℕ). head_of Ordered n ++ l) (sym size) (by_written names i.family log) in
+      let may = ordered_may names i.family log (all_may names i (start_of i) log is of.legal) in
+      record {
+        short = of.short;
+        legal = of.legal;
+        lines = text_lines names i Ordered text ws is numbers may (few_written Ordered text ws text_is of.short) text_is;
+        printed_are = map_of_map (unlayered names i.family) (λ (w : Written). w.1) log;
+      }
 
--- the lines of the texts of records are those of the records
-record_lines : (ps : List Printed) → AllByRecursion FitsWords ps
-    → lines_with_ends (flat_map record_line ps) ≡ map record_line ps
-record_lines [] fit = refl
-record_lines (p ∷ ps) fit =
-    let small = fit.0.0 in
-    let number = digits_other (decimal p.number) (decimal_digits p.number (omega (arith, small))) in
-    let words : AreOther (codes "pop " ++ record_words p) = (
-      (λ is. omega (arith, is)),
-      (
-        (λ is. omega (arith, is)),
-        (
-          (λ is. omega (arith, is)),
-          (
-            (λ is. omega (arith, is)),
-            each_append IsOther (decimal p.number) (pairs_text p.pairs) number (pairs_other p.pairs fit.0.1),
-          ),
-        ),
-      ),
-    ) in
-    first_line_is (codes "pop " ++ record_words p) (flat_map record_line ps) words
-    ∙ ap (λ (ls : List (List ℕ)). record_line p ∷ ls) (record_lines ps fit.1)
+  -- a text of version 2
+  layered_written : (of : IsReadLayered names i text log)
+      → IsWritten names i text log Layered (map (written names i.family) of.placed)
+  layered_written of =
+      let f = written names i.family in
+      let ws = map f of.placed in
+      let few = few_written Layered text ws of.text_is of.short in
+      let size = length-map of.placed f in
+      let legal : IsLegal i (start_of i) (map (λ (p : Placed). p.0) of.placed) =
+      subst (IsLegal i (start_of i)) of.records of.legal in
+      let may = placed_may names i (start_of i) of.placed is legal of.in_layers (omega (arith, few, size)) in
+      record {
+        short = of.short;
+        legal = of.legal;
+        lines = text_lines names i Layered text ws is numbers may few of.text_is;
+        printed_are = written_records names i.family of.placed ∙ ap (map (printed names i.family)) (sym of.records);
+      }
 
--- and the first line of a log text is its first
-first_lines : (n : ℕ) (t : List ℕ) → n < 2 ^ 64 → lines_with_ends (head_line n ++ t) ≡ head_line n ∷ lines_with_ends t
-first_lines n t small =
-    let words : AreOther (codes "log 1 " ++ decimal n) = (
-      (λ is. omega (arith, is)),
-      (
-        (λ is. omega (arith, is)),
-        (
-          (λ is. omega (arith, is)),
-          (
-            (λ is. omega (arith, is)),
-            (
-              (λ is. omega (arith, is)),
-              (
-                (λ is. omega (arith, is)),
-                digits_other (decimal n) (decimal_digits n small),
-              ),
-            ),
-          ),
-        ),
-      ),
-    ) in
-    first_line_is (codes "log 1 " ++ decimal n) t words
+  -- no record of a text is the first that isn't legal
+  none_illegal : (version : LogVersion) (ws : List Written) → IsWritten names i text log version ws → (k : ℕ)
+      → IsIllegalAt names i text k → ⊥
+  none_illegal version ws of k illegal =
+      let lines = lines_with_ends text in
+      let one = one_version names i.family version illegal.version lines ws illegal.ws of.lines illegal.lines in
+      let lines' : AreLogLines names i.family version lines illegal.ws =
+      subst (λ v. AreLogLines names i.family v lines illegal.ws) (sym one) illegal.lines in
+      let same = one_list names i version lines ws illegal.ws is numbers of.lines lines' in
+      let first = illegal.first in
+      next_legal names i (start_of i) first.log log first.p first.rest is first.legal of.legal
+      (sym of.printed_are ∙ ap (map (λ (w : Written). w.1)) same ∙ first.records_are) first.illegal
 
--- the text by what is printed of its records
-by_printed : (names : Names) (family : Family) (log : List LogRecord)
-    → flat_map (λ r. record_line (printed names family r)) log ≡ flat_map record_line (map (printed names family) log)
-by_printed names family [] = refl
-by_printed names family (r ∷ log) = ap (λ (l : List ℕ). record_line (printed names family r) ++ l)
-    (by_printed names family log)
+  -- a text of legal records is too long, out of memory or unlayered, if it is refused
+  refused : (version : LogVersion) (ws : List Written) → IsWritten names i text log version ws
+      → ((k : ℕ) → IsUnlayeredAt names i text k → ⊥) → (refusal : LogRefusal) → IsLogRefusal names i text refusal
+      → refusal ≡ OutOfMemory
+  refused version ws of layered Limit long = let short = of.short in absurd (omega (arith, short, long))
+  refused version ws of layered (Malformed l) (short, malformed) = absurd (malformed.outside (version, ws, of.lines))
+  refused version ws of layered (NotLegal k) (short, illegal) = absurd (none_illegal version ws of k illegal)
+  refused version ws of layered (Unlayered k) (short, unlayered) = absurd (layered k unlayered)
+  refused version ws of layered OutOfMemory refusal = refl
 
--- there are no more records than bytes in their lines
-records_few : (ps : List Printed) → length ps ≤ length (flat_map record_line ps)
-records_few [] = omega arith
-records_few (p ∷ ps) =
-    let rest = records_few ps in
-    let sum = length-append (record_line p) (flat_map record_line ps) in
-    omega (arith, rest, sum)
+  -- a record of a log that is layered as it stands follows those before it
+  follows_at : (before front : List Placed) (p : Placed) (rest : List Placed) → AreInLayers before (front ++ p ∷ rest)
+      → FollowsInLayers (before ++ front) p
+  follows_at before [] p rest are = subst (λ l. FollowsInLayers l p) (sym (append-nil before)) are.0
+  follows_at before (q ∷ front) p rest are =
+      subst (λ l. FollowsInLayers l p) (append_assoc before (q ∷ []) front)
+      (follows_at (before ++ q ∷ []) front p rest are.1)
 
--- what stands behind the number of an event
-event_variables : (names : Names) (i : Instance) (e : Event) → IsInstance i → IsEvent i.family e
-    → HasVariables names i.family (number_of names i.family e.unit) (variables e.cube)
-event_variables names i e is event = has i.family is.fits event (event_below i e is.fits event)
-  where
-    has : (family : Family) → FamilyFits i.stacks family → IsEvent family e
-        → NamesBelow e.cube (variables_of i.stacks)
-        → HasVariables names family (number_of names family e.unit) (variables e.cube)
-    has (Listed rows) fits (n, at) below =
-        let row = row_is rows e.unit n e.cube at in
-        (e.unit, e.cube, at ∙ ap (λ m. Some (m, e.cube)) (sym row.0), refl)
-    has (Cycles heads) fits (cycle, unit) below =
-        let size = length-map e.cube (λ (q : ℕ × ℕ). q.0) in
-        let some = cycle.cube.some in
-        let count = fits.0 in (
-          omega (arith, size, some),
-          cycle.cube.rising,
-          All-map (λ v. v < length heads) (λ (q : ℕ × ℕ). q.0) e.cube
-              (λ k d within. let less = below k d within in omega (arith, less, count)),
-          ap (name_of names) unit,
-        )
+  -- what a text is read as is written in it
+  written_in : IsReadAs names i text log → (version : LogVersion) × (ws : List Written)
+      × IsWritten names i text log version ws
+  written_in (inl of) = (Ordered, map (unlayered names i.family) log, ordered_written of)
+  written_in (inr of) = (Layered, map (written names i.family) of.placed, layered_written of)
 
--- what holds of each second part of pairs
-seconds_all : (zs : List (ℕ × ℕ)) → All (λ n. n < 2 ^ 32) (map (λ q. q.1) zs) → All (λ q. q.1 < 2 ^ 32) zs
-seconds_all zs all k d within =
-    let size = length-map zs (λ (q : ℕ × ℕ). q.1) in
-    subst (λ n. n < 2 ^ 32) (get_or-map (λ (q : ℕ × ℕ). q.1) zs k d 0 within) (all k 0 (omega (arith, size, within)))
+  -- the text of a legal log is refused for want of memory alone
+  pub exact_reading : IsReadAs names i text log → (refusal : LogRefusal) → IsLogRefusal names i text refusal
+      → refusal ≡ OutOfMemory
+  exact_reading (inl of) =
+      refused Ordered (map (unlayered names i.family) log) (ordered_written of) (λ k record_k.
+      let one : Ordered ≡ Layered = one_version names i.family Ordered Layered (lines_with_ends text)
+      (map (unlayered names i.family) log) (map (written names i.family) record_k.placed) (ordered_written of).lines
+      record_k.lines in
+      cc (one))
+  exact_reading (inr of) =
+      refused Layered (map (written names i.family) of.placed) (layered_written of) (λ k record_k.
+      let first = record_k.first in
+      let f = written names i.family in
+      let legal : IsLegal i (start_of i) (map (λ (p : Placed). p.0) of.placed) =
+      subst (IsLegal i (start_of i)) of.records of.legal in
+      let same = written_determines names i is (start_of i) of.placed record_k.placed legal record_k.legal
+      (one_list names i Layered (lines_with_ends text) (map f of.placed) (map f record_k.placed) is numbers
+      (layered_written of).lines record_k.lines) in
+      first.unlayered (follows_at [] first.front first.p first.rest
+      (subst (AreInLayers []) (same ∙ first.placed_are) of.in_layers)))
 
--- a legal record may be printed
-legal_may : (names : Names) (i : Instance) (c : List ℕ) (r : LogRecord) → IsInstance i → IsLegalAt i c r
-    → MayBePrinted names i.family (printed names i.family r)
-legal_may names i c r is legal =
-    let e : Cube = r.event.cube in
-    let one = length-map (variables e) (name_of names) in
-    let two = length-map e (λ (q : ℕ × ℕ). q.0) in
-    let three = length-map e (λ (q : ℕ × ℕ). cursor c q.0) in
-    let four = ap length legal.entries in
-    let even : length r.entries ≡ length (map (name_of names) (variables e)) = omega (arith, one, two, three, four) in
-    let small : All (λ n. n < 2 ^ 32) (entries_at c e) =
-    All-map (λ n. n < 2 ^ 32) (λ (q : ℕ × ℕ). cursor c q.0) e (λ k d within.
-    let next = legal.poppable.next k d within in
-    let high = is.table.heights (get_or e k d).0 in
-    omega (arith, next, high)) in
-    record {
-      vs = variables e;
-      variables_are = event_variables names i r.event is legal.event;
-      names_are = firsts-zip (map (name_of names) (variables e)) r.entries even;
-      entries_fit = seconds_all (zip (map (name_of names) (variables e)) r.entries)
-          (subst (All (λ n. n < 2 ^ 32)) (sym (seconds-zip (map (name_of names) (variables e)) r.entries
-          even ∙ legal.entries)) small);
-    }
-
--- so may each record of a legal log
-pub all_may : (names : Names) (i : Instance) (c : List ℕ) (log : List LogRecord) → IsInstance i → IsLegal i c log
-    → AllByRecursion (MayBePrinted names i.family) (map (printed names i.family) log)
-all_may names i c [] is legal = tt
-all_may names i c (r ∷ log) is legal = (
-  legal_may names i c r is legal.0,
-  all_may names i (pop c r.event.cube) log is
-      legal.1,
-)
-
--- what may be printed has numbers of 32 bits, record by record
-pub all_fit : (names : Names) (i : Instance) (ps : List Printed) → IsInstance i → NumbersFit i.family
-    → AllByRecursion (MayBePrinted names i.family) ps
-    → AllByRecursion FitsWords ps
-all_fit names i [] is numbers may = tt
-all_fit names i (p ∷ ps) is numbers may = (may_fits names i is numbers p may.0, all_fit names i ps is numbers may.1)
-
--- lines are those of one list of records
-lines_once : (ps qs : List Printed) → AllByRecursion FitsWords ps → AllByRecursion FitsWords qs
-    → map record_line ps ≡ map record_line qs → ps ≡ qs
-lines_once [] [] fit fit' same = refl
-lines_once [] (q ∷ qs) fit fit' same = absurd (cc)
-lines_once (p ∷ ps) [] fit fit' same = absurd (cc)
-lines_once (p ∷ ps) (q ∷ qs) fit fit' same =
-    let first : record_line p ≡ record_line q = cc in
-    let rest : map record_line ps ≡ map record_line qs = cc in
-    ap₂ (λ (x : Printed) (l : List Printed). x ∷ l) (line_once p q fit.0 fit'.0 first)
-    (lines_once ps qs fit.1 fit'.1 rest)
-
--- the lines of the text of a legal log
-log_lines : (names : Names) (i : Instance) (text : List ℕ) (log : List LogRecord) → IsInstance i → NumbersFit i.family
-    → IsLogText names i text log
-    → AreLogLines names i.family (lines_with_ends text) (map (printed names i.family) log)
-log_lines names i text log is numbers of =
-    let ps : List Printed = map (printed names i.family) log in
-    let may = all_may names i (start_of i) log is of.legal in
-    let size = length-map log (printed names i.family) in
-    let few = records_few ps in
-    let whole = ap length of.text_is in
-    let sum = length-append (head_line (length log)) (flat_map (λ r. record_line (printed names i.family r)) log) in
-    let same = ap length (by_printed names i.family log) in
-    let short = of.short in
-    let small : length ps < 2 ^ 64 = omega (arith, few, whole, sum, same, short) in
-    record {
-      lines_are = ap lines_with_ends of.text_is
-          ∙ ap₂ (λ n l. lines_with_ends (head_line n ++ l)) (sym size) (by_printed names i.family log)
-          ∙ first_lines (length ps) (flat_map record_line ps) small
-          ∙ ap (λ (ls : List (List ℕ)). head_line (length ps) ∷ ls)
-          (record_lines ps (all_fit names i ps is numbers may));
-      count = small;
-      records = may;
-    }
-
--- the record behind a front of a legal log is legal there
-next_legal : (names : Names) (i : Instance) (c : List ℕ) (front log : List LogRecord) (p : Printed)
-    (rest : List Printed) → IsInstance i → IsLegal i c front → IsLegal i c log
-    → map (printed names i.family) log ≡ map (printed names i.family) front ++ p ∷ rest
-    → ((r : LogRecord) → IsLegalAt i (replay c front) r → printed names i.family r ≡ p → ⊥) → ⊥
-next_legal names i c [] [] p rest is legal legal' same none = cc
-next_legal names i c [] (r ∷ log) p rest is legal legal' same none = none r legal'.0 (cc)
-next_legal names i c (q ∷ front) [] p rest is legal legal' same none = cc
-next_legal names i c (q ∷ front) (r ∷ log) p rest is legal legal' same none =
-    let first : printed names i.family r ≡ printed names i.family q = cc in
-    let later : map (printed names i.family) log ≡ map (printed names i.family) front ++ p ∷ rest = cc in
-    let one : r ≡ q = same_record names i is c r q legal'.0 legal.0 first in
-    next_legal names i (pop c q.event.cube) front log p rest is legal.1
-    (subst (λ (x : LogRecord). IsLegal i (pop c x.event.cube) log) one legal'.1) later none
-
--- the text of a legal log is refused for want of memory alone
-pub exact_reading : (names : Names) (i : Instance) → IsInstance i → NumbersFit i.family
-    → (text : List ℕ) (log : List LogRecord) → IsLogText names i text log
-    → (refusal : LogRefusal) → IsLogRefusal names i text refusal → refusal ≡ OutOfMemory
-exact_reading names i is numbers text log of Limit long = let short = of.short in absurd (omega (arith, short, long))
-exact_reading names i is numbers text log of (Malformed l) (short, malformed) =
-    absurd (malformed.outside (map (printed names i.family) log, log_lines names i text log is numbers of))
-exact_reading names i is numbers text log of (NotLegal k) (short, illegal) =
-    let ps : List Printed = map (printed names i.family) log in
-    let lines = log_lines names i text log is numbers of in
-    let both = sym lines.lines_are ∙ illegal.lines.lines_are in
-    let same : map record_line ps ≡ map record_line illegal.ps = cc in
-    let once = lines_once ps illegal.ps (all_fit names i ps is numbers lines.records)
-    (all_fit names i illegal.ps is numbers illegal.lines.records) same in
-    let first = illegal.first in
-    absurd (next_legal names i (start_of i) first.log log first.p first.rest is first.legal of.legal
-    (once ∙ first.records_are) first.illegal)
-exact_reading names i is numbers text log of OutOfMemory refusal = refl
+-- a text is read as one log
+pub read_once : (names : Names) (i : Instance) → IsInstance i → NumbersFit i.family → (text : List ℕ)
+    (log other : List LogRecord) → IsReadAs names i text log → IsReadAs names i text other → log ≡ other
+read_once names i is numbers text log other as_log as_other =
+    let (version, ws, of) = written_in names i is numbers text log as_log in
+    let (version', us, of') = written_in names i is numbers text other as_other in
+    let lines : List (List ℕ) = lines_with_ends text in
+    let one : version ≡ version' = one_version names i.family version version' lines ws us of.lines of'.lines in
+    let lines' : AreLogLines names i.family version lines us =
+    subst (λ v. AreLogLines names i.family v lines us) (sym one) of'.lines in
+    let same = one_list names i version lines ws us is numbers of.lines lines' in
+    one_reading names i is (start_of i) log other of.legal of'.legal
+    (sym of.printed_are ∙ ap (map (λ (w : Written). w.1)) same ∙ of'.printed_are)

@@ -1,29 +1,57 @@
 -- Fronts of lists, and tests
 pub mod Fronts
 pub mod NumberTests
--- Logs: merged from tickets, replayed, in layers
+-- Logs: merged from tickets, replayed. UnitEvents: events of one unit share a variable.
 pub mod SortedTickets
 pub mod ReplaysLemmas
+pub mod UnitEvents
+-- Layers. LastLayersLemmas: how they are told in one pass.
 pub mod LayersLemmas
 pub mod LastLayersLemmas
--- What is printed of records, and the text of a log
+-- Reorderings. Reordering: lists that come from one another by exchanges of neighbours that don't depend on one
+-- another. InOrder: a list in a strict order is determined by its members. Exchanges: what an exchange of neighbours
+-- keeps of a log. OneTrace: runs to an end are reorderings of one another.
+pub mod Reordering
+pub mod InOrder
+pub mod Exchanges
+pub mod OneTrace
+-- The layered log. LayeredLemmas: it is a reordering of the log. LayeredLaws: it is legal, and the same for all runs to
+-- an end. PlacedRecordsLemmas: how it is sorted. SaidLayers: whether the layers that are said are its own.
+pub mod LayeredLemmas
+pub mod LayeredLaws
+mod PlacedRecordsLemmas
+mod SaidLayers
+-- What is printed of records, and the texts of logs
 pub mod PrintedLemmas
 mod PrintedPairs
 pub mod PrintableLemmas
 pub mod LogTextsLemmas
--- Reading: lines, numbers at the front of a text, the record of a line
+mod LayeredTextsLemmas
+mod LayeredPrinting
+-- Reading: lines, numbers at the front of a text, first lines, the layer and the words of a record's line
 pub mod TextLinesLemmas
 pub mod DecimalsLemmas
-pub mod PrintedWordsLemmas
+mod HeadLines
+mod RecordWordsLemmas
+mod PrintedWordsLemmas
 -- The one record that may be legal where a record is printed
 pub mod EventNumbers
 pub mod NamedVariables
 pub mod CandidatesLemmas
--- Reading a whole text, and that it is exact
-pub mod ReadRecords
+-- Reading a whole text. ReadRecords: record by record. MalformedLines, ReadingLemmas: line by line. ReadLogs: what is
+-- answered at the end.
+mod ReadRecords
 pub mod JoinedLines
-pub mod MalformedLines
-pub mod ReadingLemmas
-pub mod ExactReading
+mod MalformedLines
+mod ReadingLemmas
+mod ReadLogs
+-- That reading is exact. LegalRecords: legal records may be written. WrittenLines: the lines of their text. OnePlaced:
+-- a text of version 2 is that of one list. ExactReading: a text is refused for want of memory alone, and read as one
+-- log. ReadBack: a layered text is read as the layered log.
+mod LegalRecords
+mod WrittenLines
+mod OnePlaced
+mod ExactReading
+mod ReadBack
 -- Worked values
 mod Vectors

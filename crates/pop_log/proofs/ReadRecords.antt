@@ -1,5 +1,5 @@
 -- A log text is read record by record: either all records so far are printed of a legal log, or the one behind it is
--- the first that isn't legal. What may be printed has numbers of 32 bits, so each line is that of one record.
+-- the first that isn't legal. What may be printed has numbers of 32 bits, so words are those of one record.
 use Rattle.std.proofs.Common.{◌≡◌, ℕ, ◌+◌, ◌^◌, ◌<◌, ◌≤◌, Bool, true, false, List, [], ◌∷◌, ◌++◌, length, map, Option, None, Some, MatchOption, get_or, refl, sym, ap, subst, ◌∙◌, arith, append_assoc, length-append, All, inl, inr, codes, decimal, if◌then◌else◌}
 use Rattle.std.specs.List.{AllByRecursion}
 use Rattle.std.proofs.lemmas.Bool.{cases_lt, lt-ltb, le-ltb}
@@ -16,8 +16,9 @@ use Rattle.pop_model.proofs.Members.{all_at}
 use Rattle.pop_stacks.specs.Readers.{Belongs, ReaderOf}
 use Rattle.pop_log.specs.declared.names.Names.{Names}
 use Rattle.pop_log.specs.declared.names.Names.TheVariants.{Plain, Tree}
-use Rattle.pop_log.specs.Printed.{Printed, printed, name_of, joined, MayBePrinted, HasVariables}
-use Rattle.pop_log.specs.LogTexts.{record_line, IsFirstIllegal}
+use Rattle.pop_log.specs.Printed.{Printed, printed, name_of, joined, words_line, MayBePrinted, HasVariables}
+use Rattle.pop_log.specs.LogTexts.{record_line}
+use Rattle.pop_log.specs.Refusals.{IsFirstIllegal}
 use Rattle.pop_log.specs.declared.progress.Progress.{Progress}
 use Rattle.pop_log.specs.PrintedWords.{PairFits, FitsWords}
 use Rattle.pop_log.specs.Candidates.{NumbersFit, IsCandidate}
@@ -86,19 +87,20 @@ fits_wide p fits = ((let small = fits.0 in omega (arith, small)), wide p.pairs f
     wide (q ∷ ps) fit = let one = fit.0.0 in let two = fit.0.1 in
         ((omega (arith, one), omega (arith, two)), wide ps fit.1)
 
--- a line is that of one record
-pub line_once : (p q : Printed) → FitsWords p → FitsWords q → record_line p ≡ record_line q → p ≡ q
-line_once p q fits fits' same =
+-- words are those of one record
+pub words_once : (p q : Printed) → FitsWords p → FitsWords q → words_line p ≡ words_line q → p ≡ q
+words_once p q fits fits' same =
+    let lines : record_line p ≡ record_line q = ap (λ (l : List ℕ). codes "pop " ++ l) same in
     let both : p ∷ [] ≡ q ∷ [] = records_same (p ∷ []) (q ∷ []) (fits_wide p fits, tt) (fits_wide q fits', tt)
-    (ap (λ (l : List ℕ). l ++ []) same) in
+    (ap (λ (l : List ℕ). l ++ []) lines) in
     cc
 
--- there are no more pairs than bytes in a line
-pub pairs_few : (l : List ℕ) (p : Printed) → l ≡ record_line p → length p.pairs ≤ length l
+-- there are no more pairs than bytes in the words
+pub pairs_few : (l : List ℕ) (p : Printed) → l ≡ words_line p → length p.pairs ≤ length l
 pairs_few l p is =
     let few = text_long p.pairs in
     let one = ap length is in
-    let two = length-append (codes "pop " ++ (decimal p.number ++ pairs_text p.pairs)) (10 ∷ []) in
+    let two = length-append (decimal p.number ++ pairs_text p.pairs) (10 ∷ []) in
     let three = length-append (decimal p.number) (pairs_text p.pairs) in
     omega (arith, few, one, two, three)
   where
@@ -109,12 +111,12 @@ pairs_few l p is =
         let sum = length-append (joined 58 q) (pairs_text ps) in
         omega (arith, rest, sum)
 
--- the line is no record's, since no record with its numbers may be printed
+-- the words are no record's, since no record with its numbers may be printed
 pub no_record_may : (names : Names) (i : Instance) (l : List ℕ) (q : Printed) → IsInstance i → NumbersFit i.family
-    → FitsWords q → l ≡ record_line q
-    → (MayBePrinted names i.family q → ⊥) → (p : Printed) → MayBePrinted names i.family p → l ≡ record_line p → ⊥
+    → FitsWords q → l ≡ words_line q
+    → (MayBePrinted names i.family q → ⊥) → (p : Printed) → MayBePrinted names i.family p → l ≡ words_line p → ⊥
 no_record_may names i l q is numbers fits line none p may same =
-    let one : p ≡ q = line_once p q (may_fits names i is numbers p may) fits (sym same ∙ line) in
+    let one : p ≡ q = words_once p q (may_fits names i is numbers p may) fits (sym same ∙ line) in
     none (subst (MayBePrinted names i.family) one may)
 
 -- a record more behind the first that isn't legal
@@ -176,34 +178,34 @@ replayed_push i s r log cursors reader old legal pushed popped count within same
       reader = subst (Belongs i.stacks) (sym same) old.reader;
     }
 
--- what a line was read to be
+-- what words were read to be
 abbrev pub WasRead : List ℕ → Option Printed → Type 0
-WasRead l found = MatchOption found ((p : Printed) → FitsWords p → l ≡ record_line p → ⊥)
-    (λ p. FitsWords p × (l ≡ record_line p))
+WasRead l found = MatchOption found ((p : Printed) → FitsWords p → l ≡ words_line p → ⊥)
+    (λ p. FitsWords p × (l ≡ words_line p))
 
 -- what was found where this is printed
 abbrev pub WasFound : Names → Instance → List ℕ → Printed → Option LogRecord → Type 0
 WasFound names i c p found = MatchOption found (MayBePrinted names i.family p → ⊥) (IsCandidate names i c p)
 
--- the line is no record's
+-- the words are no record's
 pub nothing_read : (names : Names) (i : Instance) (l : List ℕ) (found : Option Printed) → IsInstance i
     → NumbersFit i.family → found ≡ None → WasRead l found
-    → (p : Printed) → MayBePrinted names i.family p → l ≡ record_line p → ⊥
+    → (p : Printed) → MayBePrinted names i.family p → l ≡ words_line p → ⊥
 nothing_read names i l found is numbers none read p may same =
     subst (WasRead l) none read p (may_fits names i is numbers p may) same
 
 -- no record may be printed so
 pub nothing_found : (names : Names) (i : Instance) (l c : List ℕ) (q : Printed) (found : Option LogRecord)
     → IsInstance i → NumbersFit i.family
-    → FitsWords q × (l ≡ record_line q) → found ≡ None → WasFound names i c q found → (p : Printed)
-    → MayBePrinted names i.family p → l ≡ record_line p → ⊥
+    → FitsWords q × (l ≡ words_line q) → found ≡ None → WasFound names i c q found → (p : Printed)
+    → MayBePrinted names i.family p → l ≡ words_line p → ⊥
 nothing_found names i l c q found is numbers read none was p may same =
     no_record_may names i l q is numbers read.0 read.1 (subst (WasFound names i c q) none was) p may same
 
--- the line is that of a record, which is added
+-- the words are those of a record, which is added
 pub takes_record : (names : Names) (i : Instance) (l : List ℕ) (s t : Progress) (p : Printed) (r : LogRecord)
     (found : Option LogRecord) → IsReplayed i s
-    → l ≡ record_line p → found ≡ Some r → WasFound names i s.cursors p found
+    → l ≡ words_line p → found ≡ Some r → WasFound names i s.cursors p found
     → Adds i s.cursors r s.log s.stopped t.log t.stopped → Takes names i l s t true
 takes_record names i l s t p r found old line some was adds =
     let only : IsCandidate names i s.cursors p r = subst (WasFound names i s.cursors p) some was in (

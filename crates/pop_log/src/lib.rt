@@ -5,22 +5,29 @@
 
 mod candidates;
 mod decimals;
+mod first_line;
 #[cfg(test)]
 mod instances;
 pub mod laws;
+mod layer_checking;
+mod layered_printing;
 mod layering;
 mod legality;
 mod log_refusal;
+mod log_version;
 mod merging;
 mod names;
 mod printed_record;
 mod printing;
 mod progress;
 mod reading;
+mod record_words;
 mod replay_result;
 mod replaying;
+mod sorting;
 mod text_lines;
 
+pub use layered_printing::print_layered;
 pub use layering::layers;
 pub use log_refusal::LogRefusal;
 pub use merging::merge;
@@ -29,3 +36,4 @@ pub use printing::{number_of_event, print_log};
 pub use reading::read_log;
 pub use replay_result::Replay;
 pub use replaying::replay;
+pub use sorting::layered;

@@ -1,9 +1,8 @@
 ghost use Rattle.std.specs.Prelude.{◌≡◌, ◌<◌, ◌≤◌, ◌^◌, ◌++◌, ℕ, List, length, map, decimal, IfOk, IsTrue, MatchOption, ◌↔◌, ◌∷◌, []};
-ghost use Rattle.pop_log.specs.Printed.{Printed};
-ghost use Rattle.pop_log.specs.LogTexts.{head_line, record_line};
+ghost use Rattle.pop_log.specs.Printed.{Printed, words_line};
 ghost use Rattle.pop_log.specs.PrintedWords.{BeginsWithPair, FitsWords};
 
-use crate::decimals::{front_number, number_behind};
+use crate::decimals::{front_number_32, number_behind};
 use std::alloc::{AllocError, Global};
 use std::marker::Model;
 
@@ -23,14 +22,14 @@ impl Model for PrintedRecord {
 }
 
 impl PrintedRecord {
-    /// The record that a line says. None exactly where it is the line of no record whose numbers
-    /// have 32 bits.
-    pub fn read(alloc: Global, line: &[u8]) -> Result<Option<PrintedRecord>, AllocError>
+    /// The record that words say, up to the end of their line. None exactly where they are those of
+    /// no record whose numbers have 32 bits.
+    pub fn read(alloc: Global, words: &[u8]) -> Result<Option<PrintedRecord>, AllocError>
         ensures { IfOk result (λ found. MatchOption found
-            ((p : Printed) → FitsWords p → line.now ≡ record_line p → ⊥)
-            (λ p. FitsWords p × (line.now ≡ record_line p))) }
+            ((p : Printed) → FitsWords p → words.now ≡ words_line p → ⊥)
+            (λ p. FitsWords p × (words.now ≡ words_line p))) }
     {
-        let Some((number, mut rest)) = number_behind(b"pop ", line) else {
+        let Some((number, mut rest)) = front_number_32(words) else {
             return Ok(None);
         };
         let mut pairs = Vec::new(alloc);
@@ -59,16 +58,6 @@ impl PrintedRecord {
     }
 }
 
-/// The count that the first line of a log text says. None exactly where it is no first line with a
-/// count of 64 bits.
-pub(crate) fn read_head(line: &[u8]) -> Option<u64>
-    ensures { MatchOption result ((n : ℕ) → n < 2 ^ 64 → line.now ≡ head_line n → ⊥)
-        (λ n. (n < 2 ^ 64) × (line.now ≡ head_line n)) }
-{
-    let (count, rest) = front_number(line.strip_prefix(b"log 1 ")?)?;
-    if is_line_end(rest) { Some(count) } else { None }
-}
-
 // A name and an entry at the front of a text, behind a space, and the rest.
 fn front_pair(text: &[u8]) -> Option<(u32, u32, &[u8])>
     ensures { MatchOption result ((q : ℕ × ℕ) (rest : List ℕ) → BeginsWithPair text.now q rest → ⊥)
@@ -79,8 +68,8 @@ fn front_pair(text: &[u8]) -> Option<(u32, u32, &[u8])>
     Some((name, entry, rest))
 }
 
-// Whether the text is the end of a line and no more.
-fn is_line_end(text: &[u8]) -> bool
+/// Whether the text is the end of a line and no more.
+pub(crate) fn is_line_end(text: &[u8]) -> bool
     ensures { IsTrue result ↔ (text.now ≡ 10 ∷ []) }
 {
     text.len() == 1 && text[0] == b'\n'

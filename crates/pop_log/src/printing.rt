@@ -33,8 +33,12 @@ pub fn number_of_event(names: &Names, family: &Family, unit: u32) -> u32
     }
 }
 
-// The name of each variable of a record, with the entry that its pop used.
-fn push_entries(out: &mut Output, names: &Names, popped: &Record) -> Result<(), AllocError>
+/// The name of each variable of a record, with the entry that its pop used.
+pub(crate) fn push_entries(
+    out: &mut Output,
+    names: &Names,
+    popped: &Record,
+) -> Result<(), AllocError>
     requires { NamesBelow popped.now.event.cube (2 ^ 31) }
     ensures { OnOk result (out.new ≡ out.old ++ spaced (map (joined 58) (zip_lists
         (map (name_of names.now) (variables popped.now.event.cube)) popped.now.entries))) }
@@ -81,9 +85,9 @@ fn push_records(
     Ok(())
 }
 
-// About how many bytes the text has: for each record its number, and for each of its pairs a name
-// and an entry, mostly of one or two digits.
-fn room_for(count: u32, log: &Log) -> usize {
+/// About how many bytes the text has: for each record its number, and for each of its pairs a name
+/// and an entry, mostly of one or two digits.
+pub(crate) fn room_for(count: u32, log: &Log) -> usize {
     let digits = Buffer::new().format(count).len();
     let mut room = 32usize;
     for t in 0..log.len() {

@@ -1,4 +1,5 @@
 mod Counted
 mod Digits
 mod UpToLast
+mod LayerSteps
 mod Vectors

@@ -57,3 +57,21 @@ no_report = refl
 a_full_sum : told 1 (18446744073709551615 ∷ 1 ∷ 5 ∷ []) (pop_of (0 ∷ 3 ∷ []) ∷ [])
     ≡ 18446744073709551615 ∷ 3 ∷ 5 ∷ []
 a_full_sum = refl
+
+-- a pop of one variable
+abbrev pop_at : ℕ → LogRecord
+pop_at v = record { event = record { unit = v; cube = (v, 0) ∷ [] }; entries = 0 ∷ [] }
+
+-- two pops of variable 0, between which variable 1 is popped
+layers_of_three : told 3 (0 ∷ []) (pop_at 0 ∷ pop_at 1 ∷ pop_at 0 ∷ []) ≡ 2 ∷ 2 ∷ 1 ∷ []
+layers_of_three = refl
+
+-- the greatest layer, and two variables
+report_of_three : report_text 3 (2 ∷ 2 ∷ 1 ∷ []) ≡ line (codes "report layers 2 2")
+unfolding digits
+report_of_three = refl
+
+-- the empty state has no layer
+report_of_empty : report_text 3 [] ≡ line (codes "report layers 0 0")
+unfolding digits
+report_of_empty = refl

@@ -1,8 +1,9 @@
 -- The states of watchers: what a record makes of them, and their reports.
-use Rattle.std.specs.Prelude.{ℕ, ◌+◌, ◌-◌, ◌^◌, ◌==◌, if◌then◌else◌, List, [], ◌∷◌, ◌++◌, length, map, fold, count_by, min, max, decimal, codes}
-use Rattle.std.specs.List.{enumerate_from}
+use Rattle.std.specs.Prelude.{ℕ, zero, suc, ◌+◌, ◌-◌, ◌^◌, ◌==◌, not, if◌then◌else◌, List, [], ◌∷◌, ◌++◌, length, drop, slice_index, map, fold, count_by, min, max, decimal, codes}
+use Rattle.std.specs.List.{enumerate_from, range_with_len}
 use Rattle.std.specs.Int.{leading_zeros, w32}
 use Rattle.pop_model.specs.Text.{line, spaced}
+use Rattle.pop_model.specs.Popping.{Cube, names}
 use Rattle.pop_model.specs.Logs.{LogRecord}
 
 -- a sum stops at the greatest number of 64 bits
@@ -27,9 +28,32 @@ heights_step s r =
     then map (λ p. plus p.1 (count_by (λ k. binary_digits k == p.0) r.entries)) (enumerate_from 0 s)
     else s
 
--- kind 1 keeps totals, kind 2 heights; any other leaves its state
+-- 1 more than the greatest number at the places of these variables; a missing place counts as 0
+abbrev pub layer_at : List ℕ → Cube → ℕ
+layer_at s e = plus (fold (λ n p. max n (slice_index s (p.0 + 1))) 0 e) 1
+
+-- how many places there are, once each of these variables has one
+abbrev pub places_with : List ℕ → Cube → ℕ
+places_with s e = fold (λ n p. max n (p.0 + 2)) (length s) e
+
+-- what stands at a place behind a record of this layer: at place 0 the greatest layer, and at that
+-- of a variable of the record its layer
+abbrev pub layer_put : List ℕ → Cube → ℕ → ℕ → ℕ
+layer_put s e y zero = max (slice_index s 0) y
+layer_put s e y (suc v) = if names e v then y else slice_index s (suc v)
+
+-- at place 0 the greatest layer, and at place 1 + v the layer of the last record that named variable v
+abbrev pub layers_step : List ℕ → LogRecord → List ℕ
+layers_step s r =
+    map (layer_put s r.event.cube (layer_at s r.event.cube))
+    (range_with_len 0 (places_with s r.event.cube))
+
+-- kind 1 keeps totals, kind 2 heights, kind 3 layers; any other leaves its state
 abbrev pub step : ℕ → List ℕ → LogRecord → List ℕ
-step kind s r = if kind == 1 then totals_step s r else if kind == 2 then heights_step s r else s
+step kind s r =
+    if kind == 1 then totals_step s r
+    else if kind == 2 then heights_step s r
+    else if kind == 3 then layers_step s r else s
 
 -- the state after the records of a log
 abbrev pub told : ℕ → List ℕ → List LogRecord → List ℕ
@@ -57,6 +81,19 @@ heights_text s =
     then line (codes "report heights" ++ spaced (map decimal (up_to_last s)))
     else []
 
--- the report on a state; empty where its length isn't the kind's, and for a kind that has none
+-- how many places behind the first have a number that isn't 0
+abbrev pub used_places : List ℕ → ℕ
+used_places s = count_by (λ n. not (n == 0)) (drop 1 s)
+
+-- the greatest layer, and how many variables have one
+abbrev pub layers_text : List ℕ → List ℕ
+layers_text s =
+    line (codes "report layers" ++ spaced (map decimal (slice_index s 0 ∷ used_places s ∷ [])))
+
+-- the report on a state; for kinds 1 and 2 it is empty where the length isn't the kind's, and so it
+-- is for a kind that has none
 abbrev pub report_text : ℕ → List ℕ → List ℕ
-report_text kind s = if kind == 1 then totals_text s else if kind == 2 then heights_text s else []
+report_text kind s =
+    if kind == 1 then totals_text s
+    else if kind == 2 then heights_text s
+    else if kind == 3 then layers_text s else []

@@ -5,6 +5,7 @@
 #![tactic(auto)]
 
 mod heights;
+mod layers;
 mod numbers;
 #[cfg(test)]
 mod tests;
@@ -12,5 +13,6 @@ mod totals;
 mod watch;
 
 pub use heights::Heights;
+pub use layers::Layers;
 pub use totals::Totals;
 pub use watch::Watch;

@@ -1,4 +1,4 @@
-use crate::{Heights, Totals, Watch};
+use crate::{Heights, Layers, Totals, Watch};
 use confluence_core::Record;
 use pop_instance::Cube;
 use std::alloc::Global;
@@ -60,5 +60,48 @@ fn heights_are_counted_by_binary_digits(rt: HostRuntime) -> Result<(), Fail> {
     }
     wanted.push_str(" 1\n")?;
     assert_eq!(rt; heights.report(alloc)?.as_slice(), wanted.as_bytes());
+    Ok(())
+}
+
+// A pop of these variables.
+fn popped_at(rt: &impl Abort, alloc: Global, variables: &[u32]) -> Result<Record, Fail> {
+    let mut pairs = Vec::new(alloc);
+    for v in variables {
+        pairs.push((*v, 0))?;
+    }
+    assert!(rt; pairs.len() < 9);
+    let cube = Cube::new(pairs).expect(rt, "rising variables");
+    let entries = vec![in alloc; 0; variables.len()]?;
+    assert_eq!(rt; entries.len(), cube.len() as usize);
+    Ok(Record::new(0, cube, entries))
+}
+
+// Pops, and the report behind each, which were worked by hand: the greatest layer so far, and how
+// many variables were named.
+static POPS: [(&[u32], &str); 6] = [
+    (&[0], "report layers 1 1\n"),
+    (&[1], "report layers 1 2\n"),
+    (&[0], "report layers 2 2\n"),
+    (&[7], "report layers 2 3\n"),
+    (&[0, 7], "report layers 3 3\n"),
+    (&[1, 4], "report layers 3 4\n"),
+];
+
+#[test]
+fn layers_tell_the_greatest_and_the_variables_named(rt: HostRuntime) -> Result<(), Fail> {
+    let alloc = rt.alloc();
+    let mut layers = Layers::new(alloc)?;
+    assert_eq!(&rt;
+        layers.report(alloc)?.as_slice(),
+        b"report layers 0 0\n".as_slice()
+    );
+    for (variables, want) in POPS.iter() {
+        layers.tell(&popped_at(&rt, alloc, variables)?)?;
+        assert_eq!(&rt;
+            layers.report(alloc)?.as_slice(),
+            want.as_bytes(),
+            "{variables:?}"
+        );
+    }
     Ok(())
 }

@@ -18,5 +18,10 @@ pub mod OneTree
 -- Which record used an entry
 pub mod Counting
 pub mod OneUse
+-- Exchanges. ExchangedVertices: the vertices of a log with two neighbours exchanged. ExchangedTrees: no record's tree
+-- changes. SameTrees: an entry has the same tree in all runs to ends.
+mod ExchangedVertices
+mod ExchangedTrees
+pub mod SameTrees
 -- Worked values
 mod Vectors

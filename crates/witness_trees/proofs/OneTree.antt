@@ -1,9 +1,9 @@
 -- A record of a log has one witness tree. Its vertices are determined one after another, from the last record to the
 -- first; the children of a vertex rise strictly, so that their members determine them; and so preorder has no choice.
-use Rattle.std.proofs.Common.{inl, inr, ◌≡◌, ℕ, suc, ◌+◌, List, [], ◌∷◌, ◌++◌, take, refl, sym, ap, ap₂, subst, ◌∙◌, arith, Contains, AllPairs}
+use Rattle.std.proofs.Common.{inl, inr, ◌≡◌, ℕ, ◌+◌, List, [], ◌∷◌, ◌++◌, take, refl, sym, ap, ap₂, subst, ◌∙◌, arith}
 use Rattle.pop_model.specs.Families.{Event}
 use Rattle.pop_model.specs.Logs.{LogRecord}
-use Rattle.pop_model.proofs.Rising.{AreMembers, member_cases, head_member, tail_member}
+use Rattle.pop_log.proofs.InOrder.{same_in_order}
 use Rattle.witness_trees.specs.Vertices.{Vertex, IsJoined, AreVertices, at_depth}
 use Rattle.witness_trees.specs.Trees.{IsBelow, AreChildren, InPreorder, IsTree}
 use Rattle.witness_trees.specs.Trees.InPreorder.{none, more}
@@ -13,60 +13,15 @@ use Rattle.witness_trees.proofs.BelowLemmas.{Below-same, Below-trans}
 abbrev Before : Vertex → Vertex → Type 0
 Before v w = IsBelow v.label.cube w.label.cube
 
--- the head is before each member of the tail
-before_members : (v : Vertex) (vs : List Vertex) (w : Vertex) → AllPairs Before (v ∷ vs) → Contains vs w → Before v w
-before_members v vs w rising (k, within, same) =
-    subst (Before v) same (rising 0 (suc k) w (omega arith) (omega (arith, within)))
-
--- labels that rise do so behind the first, too
-tail_rises : (v : Vertex) (vs : List Vertex) → AllPairs Before (v ∷ vs) → AllPairs Before vs
-tail_rises v vs rising i j d less within = rising (suc i) (suc j) d (omega (arith, less)) (omega (arith, within))
-
--- two heads that are each a member of the other list are the same
-same_head : (v : Vertex) (vs : List Vertex) (w : Vertex) (ws : List Vertex) → AllPairs Before (v ∷ vs)
-    → AllPairs Before (w ∷ ws) → Contains (w ∷ ws) v → Contains (v ∷ vs) w → v ≡ w
-same_head v vs w ws rising rising' v_in w_in = elim (member_cases w ws v v_in) [
-  | inl same ↦ sym same
-  | inr v_behind ↦ elim (member_cases v vs w w_in) [
-    | inl same ↦ same
-    | inr w_behind ↦
-        absurd (Below-same v.label.cube (Below-trans v.label.cube w.label.cube v.label.cube
-        (before_members v vs w rising w_behind) (before_members w ws v rising' v_behind)))
-  ]
-]
-
--- behind equal heads, the members of the one tail are members of the other
-tail_members : (v : Vertex) (vs : List Vertex) (w : Vertex) (ws : List Vertex) → AllPairs Before (v ∷ vs) → v ≡ w
-    → AreMembers (v ∷ vs) (w ∷ ws) → AreMembers vs ws
-tail_members v vs w ws rising same members z z_in =
-    elim (member_cases w ws z (members z (tail_member v vs z z_in))) [
-      | inl is ↦
-          absurd (Below-same z.label.cube
-          (subst (λ u. Before u z) (same ∙ is) (before_members v vs z rising z_in)))
-      | inr behind ↦ behind
-    ]
-
--- two lists of vertices whose labels rise, with the same members, are the same
-same_vertices : (vs ws : List Vertex) → AllPairs Before vs → AllPairs Before ws → AreMembers vs ws → AreMembers ws vs
-    → vs ≡ ws
-same_vertices [] [] rising rising' there back = refl
-same_vertices [] (w ∷ ws) rising rising' there back =
-    let found = back w (head_member w ws) in absurd (omega (arith, found.1))
-same_vertices (v ∷ vs) [] rising rising' there back =
-    let found = there v (head_member v vs) in absurd (omega (arith, found.1))
-same_vertices (v ∷ vs) (w ∷ ws) rising rising' there back =
-    let same : v ≡ w =
-    same_head v vs w ws rising rising' (there v (head_member v vs)) (back w (head_member w ws)) in
-    let rest : vs ≡ ws =
-    same_vertices vs ws (tail_rises v vs rising) (tail_rises w ws rising')
-    (tail_members v vs w ws rising same there) (tail_members w ws v vs rising' (sym same) back) in
-    ap₂ (λ (u : Vertex) (us : List Vertex). u ∷ us) same rest
+-- of two labels one alone is below the other
+before_one_way : (v w : Vertex) → Before v w → Before w v → ⊥
+before_one_way v w up down = Below-same v.label.cube (Below-trans v.label.cube w.label.cube v.label.cube up down)
 
 -- a vertex has one list of children
 one_children : (all : List Vertex) (v : Vertex) (cs ds : List Vertex) → AreChildren all v cs → AreChildren all v ds
     → cs ≡ ds
 one_children all v cs ds is is' =
-    same_vertices cs ds is.rising is'.rising (λ w has. (is'.exact w).1 ((is.exact w).0 has))
+    same_in_order Before before_one_way cs ds is.rising is'.rising (λ w has. (is'.exact w).1 ((is.exact w).0 has))
     (λ w has. (is.exact w).1 ((is'.exact w).0 has))
 
 -- what a preorder of siblings is made of

@@ -1,9 +1,11 @@
 -- Laws of witness trees.
-use Rattle.std.specs.Prelude.{◌≡◌, ◌≢◌, ◌<◌, ℕ, List, length, slice_get, Some, All, AllPairs}
-use Rattle.pop_model.specs.Extremal.{Share}
-use Rattle.pop_model.specs.Instances.{Instance}
+use Rattle.std.specs.Prelude.{◌≡◌, ◌≢◌, ◌<◌, ◌+◌, ◌==◌, if◌then◌else◌, ℕ, List, ◌∷◌, ◌++◌, length, slice_get, Some, All, AllPairs}
+use Rattle.pop_model.specs.Extremal.{IsExtremal, Share}
+use Rattle.pop_model.specs.Instances.{Instance, IsInstance}
 use Rattle.pop_model.specs.Logs.{LogRecord, IsLegal}
-use Rattle.witness_trees.specs.Pops.{Uses}
+use Rattle.pop_model.specs.Runs.{start_of}
+use Rattle.confluence_core.specs.Laws.{RunsToEnd}
+use Rattle.witness_trees.specs.Pops.{Uses, HasTree}
 use Rattle.witness_trees.specs.Vertices.{Vertex, AreVertices}
 use Rattle.witness_trees.specs.Trees.{IsParent, IsTree}
 
@@ -24,8 +26,27 @@ abbrev pub OneTree : Type 0
 OneTree = (log : List LogRecord) (t : ℕ) (tree other : List Vertex) → IsTree log t tree
     → IsTree log t other → tree ≡ other
 
+-- where a record stands once the neighbours at places n and n + 1 are exchanged
+abbrev pub exchanged_place : ℕ → ℕ → ℕ
+exchanged_place n t = if t == n then n + 1 else if t == n + 1 then n else t
+
+-- exchanging two neighbours that share no variable changes no record's tree
+abbrev pub SwapKeepsTree : Type 0
+SwapKeepsTree = (front back : List LogRecord) (r q : LogRecord)
+    → (Share r.event.cube q.event.cube → ⊥) → (t : ℕ) (tree : List Vertex)
+    → IsTree (front ++ r ∷ q ∷ back) t tree
+    → IsTree (front ++ q ∷ r ∷ back) (exchanged_place (length front) t) tree
+
 -- an entry of a variable is used by one pop of a legal log at most
 abbrev pub OnePop : Type 0
 OnePop = (i : Instance) (start : List ℕ) (log : List LogRecord) (v : ℕ) → v < length start
     → IsLegal i start log → (t u : ℕ) (r s : LogRecord) (k : ℕ) → slice_get log t ≡ Some r
     → slice_get log u ≡ Some s → Uses r v k → Uses s v k → t ≡ u
+
+-- on an extremal instance the pop of an entry of a variable has one tree, whatever run to an end it
+-- is a part of
+abbrev pub SameTree : Type 0
+SameTree = (i : Instance) → IsInstance i → IsExtremal i.family → (log other : List LogRecord)
+    → RunsToEnd i (start_of i) log → RunsToEnd i (start_of i) other
+    → (v k : ℕ) (tree another : List Vertex) → HasTree log v k tree → HasTree other v k another
+    → tree ≡ another

@@ -2,7 +2,7 @@
 // the text is refused.
 
 // Of the formula. The values at the cursors are 0 0 0, then 1 1 0, 1 1 0 and 1 1 1.
-pub static FORMULA: [(&str, &str); 63] = [
+pub static FORMULA: [(&str, &str); 64] = [
     (
         "log 1 3\npop 1 1:0 2:0\npop 2 1:1 3:0\npop 4 3:1\n",
         "0: 0=0@0 1=0@0;1: 0=1@1 2=0@0;2: 2=0@1;",
@@ -13,7 +13,8 @@ pub static FORMULA: [(&str, &str); 63] = [
     ("", "malformed 1"),
     ("\n", "malformed 1"),
     ("log 1 0", "malformed 1"),
-    ("log 2 0\n", "malformed 1"),
+    ("log 0 0\n", "malformed 1"),
+    ("log 3 0\n", "malformed 1"),
     ("log 1 00\n", "malformed 1"),
     ("log 1 \n", "malformed 1"),
     ("log 1 0 \n", "malformed 1"),
@@ -81,6 +82,44 @@ pub static FORMULA: [(&str, &str); 63] = [
     ("log 1 2\npop 4 3:1\npop 4 3:x\n", "malformed 3"),
     ("log 1 2\npop 4 3:1\n", "malformed 3"),
     ("log 1 1\npop 4 3:1\npop 4 3:0\n", "malformed 3"),
+];
+
+// Of the clause `1`, whose variable has the entries 0, 0 and 1: in both versions.
+pub static ONE_CLAUSE: [(&str, &str); 3] = [
+    ("log 1 2\npop 1 1:0\npop 1 1:1\n", "0: 0=0@0;0: 0=0@1;"),
+    ("log 2 2\npop 1 1 1:0\npop 2 1 1:1\n", "0: 0=0@0;0: 0=0@1;"),
+    ("log 2 2\npop 1 1 1:0\npop 1 1 1:1\n", "unlayered 1"),
+];
+
+// In layers, of the clauses `1` and `2`. The values at the cursors are 0 0, then 0 1 and 1 1.
+pub static LAYERED: [(&str, &str); 18] = [
+    (
+        "log 2 3\npop 1 1 1:0\npop 1 2 2:0\npop 2 1 1:1\n",
+        "0: 0=0@0;1: 1=0@0;0: 0=0@1;",
+    ),
+    ("log 2 0\n", ""),
+    // Layers that aren't those of their records, and records out of order.
+    ("log 2 1\npop 2 1 1:0\n", "unlayered 0"),
+    ("log 2 2\npop 1 2 2:0\npop 1 1 1:0\n", "unlayered 1"),
+    (
+        "log 2 3\npop 1 1 1:0\npop 2 1 1:1\npop 1 2 2:0\n",
+        "unlayered 2",
+    ),
+    ("log 2 1\npop 18446744073709551615 1 1:0\n", "unlayered 0"),
+    // A record that isn't legal behind one in a wrong layer.
+    ("log 2 2\npop 2 1 1:0\npop 1 1 1:0\n", "not legal 1"),
+    ("log 2 1\npop 1 1 1:1\n", "not legal 0"),
+    // The form of a line.
+    ("log 2 1\npop 0 1 1:0\n", "malformed 2"),
+    ("log 2 1\npop 01 1 1:0\n", "malformed 2"),
+    ("log 2 1\npop 18446744073709551616 1 1:0\n", "malformed 2"),
+    ("log 2 1\npop 1 1:0\n", "malformed 2"),
+    ("log 2 1\npop 1  1 1:0\n", "malformed 2"),
+    ("log 2 1\npop 1 1 1:0\n\n", "malformed 3"),
+    ("log 2 2\npop 2 1 1:0\n", "malformed 3"),
+    ("log 2 1\npop 1\n", "malformed 2"),
+    ("log 1 1\npop 1 1 1:0\n", "malformed 2"),
+    ("log 2 01\npop 1 1 1:0\n", "malformed 1"),
 ];
 
 // Of the sinks. The values at the cursors are 1 0 0, then 0 0 1, 0 1 0 and 1 1 0.

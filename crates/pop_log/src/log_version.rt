@@ -1,0 +1,8 @@
+/// The version of a log text.
+#[derive(Clone, Copy)]
+pub(crate) enum LogVersion {
+    /// Version 1: the records in the order of a log.
+    Ordered,
+    /// Version 2: the records in the layered order, each with its layer.
+    Layered,
+}

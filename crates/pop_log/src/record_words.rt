@@ -1,0 +1,42 @@
+ghost use Rattle.std.specs.Prelude.{ℕ, List, MatchOption};
+ghost use Rattle.pop_log.specs.RecordWords.{HasWords, SaysLayer};
+
+use crate::decimals::front_number;
+use crate::log_version::LogVersion;
+
+/// The layer that a line says, 0 in version 1, and the words behind it. None exactly where the line
+/// of no record of this version begins so.
+pub(crate) fn cut_words(version: LogVersion, line: &[u8]) -> Option<(u64, &[u8])>
+    ensures { MatchOption result ((y : ℕ) (words : List ℕ) → HasWords version line.now y words → ⊥)
+        (λ r. HasWords version line.now r.0 r.1.now) }
+{
+    match version {
+        LogVersion::Ordered => {
+            let Some(words) = line.strip_prefix(b"pop ") else {
+                return None;
+            };
+            Some((0, words))
+        }
+        LogVersion::Layered => cut_layer(line),
+    }
+}
+
+// The layer that a line says, from 1 on, and what stands behind it and a space.
+fn cut_layer(line: &[u8]) -> Option<(u64, &[u8])>
+    ensures { MatchOption result ((y : ℕ) (words : List ℕ) → SaysLayer line.now y words → ⊥)
+        (λ r. SaysLayer line.now r.0 r.1.now) }
+{
+    let Some(text) = line.strip_prefix(b"pop ") else {
+        return None;
+    };
+    let Some((layer, behind)) = front_number(text) else {
+        return None;
+    };
+    if layer == 0 {
+        return None;
+    }
+    let Some(words) = behind.strip_prefix(b" ") else {
+        return None;
+    };
+    Some((layer, words))
+}
