@@ -1,6 +1,5 @@
--- A run that goes on from a book, with the book's log in front, is a run from where the book opens.
-use Rattle.std.proofs.Common.{◌≡◌, ℕ, ◌+◌, ◌<◌, ◌^◌, Bool, true, false, cond, List, ◌++◌, length, Option, Some, None, refl, sym, ap, subst, ◌∙◌, arith}
-use Rattle.std.specs.Option.{option_map}
+-- A run that goes on where workers left a board, with their log in front, is a run from where the board opened.
+use Rattle.std.proofs.Common.{◌≡◌, ℕ, ◌+◌, ◌<◌, ◌^◌, Bool, true, false, cond, List, ◌++◌, length, Option, Some, None, refl, sym, ap, ap₂, subst, ◌∙◌, arith}
 use Rattle.std.proofs.Common.{length-append}
 use Rattle.pop_model.specs.Stacks.{variables_of}
 use Rattle.pop_model.specs.Families.{Event}
@@ -8,41 +7,41 @@ use Rattle.pop_model.specs.Instances.{Instance, IsInstance}
 use Rattle.pop_model.specs.Logs.{LogRecord, IsLegal, replay}
 use Rattle.pop_model.proofs.Replays.{length-replay}
 use Rattle.confluence_core.specs.Runs.{IsRun}
-use Rattle.lock_board.specs.Books.{Progress, IsBook}
 use Rattle.confluence_core.proofs.LegalLogs.{replay_append, legal_append}
 use Rattle.confluence_core.proofs.ShortLogs.{legal_short}
+use Rattle.pop_workers.specs.Progressed.{HasProgressed, both_logs}
 
-module _ (i : Instance) (start : List ℕ) (b : Progress) (keeps : Bool) (cursors : List ℕ) (pops : ℕ) (stuck : List Event)
-    (more all : Option (List LogRecord)) (book : IsBook i start b)
-    (run : IsRun i b.cursors keeps cursors pops stuck more) where
+-- logs that are kept behind one another are the log behind the other, kept
+kept_both : (k : Bool) (xs ys : List LogRecord)
+    → both_logs (cond k (Some xs) None) (cond k (Some ys) None) ≡ cond k (Some (xs ++ ys)) None
+kept_both true xs ys = refl
+kept_both false xs ys = refl
+
+module _ (i : Instance) (start : List ℕ) (keeps : Bool) (before : List ℕ) (n : ℕ) (log : Option (List LogRecord))
+    (cursors : List ℕ) (pops : ℕ) (stuck : List Event) (more all : Option (List LogRecord))
+    (left : HasProgressed i start keeps before n log) (run : IsRun i before keeps cursors pops stuck more) where
   -- the logs together are legal
-  joined_legal : IsLegal i start (b.log ++ run.log)
-  joined_legal = legal_append i start b.log run.log book.legal
-      (subst (λ c. IsLegal i c run.log) book.replayed run.legal)
+  joined_legal : IsLegal i start (left.log ++ run.log)
+  joined_legal = legal_append i start left.log run.log left.legal
+      (subst (λ c. IsLegal i c run.log) left.cursors_are run.legal)
 
-  -- the run from the opening cursors
-  pub joined_run : all ≡ option_map (λ (xs : List LogRecord). b.log ++ xs) more
-      → IsRun i start keeps cursors (length b.log + pops) stuck all
+  -- the run from where the board opened
+  pub joined_run : all ≡ both_logs log more → IsRun i start keeps cursors (n + pops) stuck all
   joined_run is = record {
-    log = b.log ++ run.log;
+    log = left.log ++ run.log;
     legal = joined_legal;
-    cursors_are = run.cursors_are ∙ ap (λ c. replay c run.log) book.replayed
-        ∙ sym (replay_append start b.log run.log);
-    pops_are = ap (λ n. length b.log + n) run.pops_are ∙ sym (length-append b.log run.log);
+    cursors_are = run.cursors_are ∙ ap (λ c. replay c run.log) left.cursors_are
+        ∙ sym (replay_append start left.log run.log);
+    pops_are = ap₂ (λ a b. a + b) left.pops_are run.pops_are ∙ sym (length-append left.log run.log);
     end = run.end;
     stuck_list = run.stuck_list;
-    kept_is = is ∙ ap (option_map (λ (xs : List LogRecord). b.log ++ xs)) run.kept_is ∙ either keeps;
+    kept_is = is ∙ ap₂ both_logs left.kept_is run.kept_is ∙ kept_both keeps left.log run.log;
   }
-    where
-      either : (k : Bool) → option_map (λ (xs : List LogRecord). b.log ++ xs) (cond k (Some run.log) None)
-          ≡ cond k (Some (b.log ++ run.log)) None
-      either true = refl
-      either false = refl
 
   -- its pops fit a count
-  pub joined_fits : IsInstance i → length b.log + pops < 2 ^ 62
+  pub joined_fits : IsInstance i → n + pops < 2 ^ 62
   joined_fits instance =
       let count : variables_of i.stacks ≡ length start =
-      book.count ∙ ap length book.replayed ∙ length-replay start b.log in
-      let short = legal_short i start (b.log ++ run.log) instance count joined_legal in
-      omega (arith, short, length-append b.log run.log, run.pops_are)
+      left.count ∙ ap length left.cursors_are ∙ length-replay start left.log in
+      let short = legal_short i start (left.log ++ run.log) instance count joined_legal in
+      omega (arith, short, length-append left.log run.log, left.pops_are, run.pops_are)

@@ -1,1 +1,13 @@
+-- A run that goes on where a board was left
 pub mod JoinedRuns
+-- What a closed board leaves
+mod OneMerged
+mod ClosedBoards
+-- Hints in deques
+mod HintMoves
+-- Rounds of a sole pass over all units
+mod Rounds
+-- What the answers of finders say
+mod Looks
+-- Lists of jobs
+mod JobLists

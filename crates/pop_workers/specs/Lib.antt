@@ -1,0 +1,3 @@
+pub mod Progressed
+pub mod Closings
+pub mod Attempts

@@ -1,31 +1,36 @@
-ghost use Rattle.std.specs.Prelude.{◌≡◌, ◌++◌, IfOk};
-ghost use Rattle.std.specs.Option.{option_map};
+ghost use Rattle.std.specs.Prelude.{◌≡◌, ◌<◌, All, IfOk};
+ghost use Rattle.pop_model.specs.Families.{units_of};
 ghost use Rattle.confluence_core.specs.Kept.{keeps_log};
-ghost use Rattle.confluence_core.specs.Runs.{IsRunOf};
-ghost use Rattle.lock_board.specs.Books.{IsBook};
+ghost use Rattle.confluence_core.specs.Runs.{IsRunOf, MissesNone};
+ghost use Rattle.pop_workers.specs.Progressed.{HasProgressed, both_logs};
 
 use crate::Outcome;
+use crate::progress::Progress;
 use confluence_core::{End, Keep, Log, Units, run_from};
 use pop_instance::{Cursors, Instance};
 use std::alloc::{AllocError, Global};
 
-/// The run that goes on from a book, which opened from `from`, with all units as suspects; its log
-/// stands behind the book's.
+/// The run that goes on where workers left a board that opened from `from`, from these suspects,
+/// which miss no poppable event; its log stands behind theirs.
 pub(crate) fn finish(
     alloc: Global,
     instance: &Instance,
     from: &Cursors,
-    cursors: Cursors,
-    log: Log,
+    left: Progress,
+    suspects: Units,
     keep: Keep,
 ) -> Result<Outcome, AllocError>
-    requires book { IsBook instance.now from.now (record { cursors = cursors; log = log }) }
+    requires left { HasProgressed instance.now from.now (keeps_log keep) left.cursors left.pops
+        left.log }
+    requires units { All (λ u. u < units_of instance.now.family) suspects }
+    requires suspects { MissesNone instance.now left.cursors suspects }
     ensures { IfOk result (IsRunOf instance.now from.now (keeps_log keep)) }
 {
     let _ = from;
-    let suspects = Units::all(alloc, instance.units())?;
+    let _units = instance.units();
+    let Progress { cursors, pops, log } = left;
     let Outcome { end, log: more } = run_from(alloc, instance, cursors, suspects, keep)?;
-    let pops = log.len() + end.pops;
+    let pops = pops + end.pops;
     let log = append(log, more)?;
     Ok(Outcome {
         end: End { pops, ..end },
@@ -33,11 +38,11 @@ pub(crate) fn finish(
     })
 }
 
-// The log with another behind it, where there is one.
-fn append(log: Log, more: Option<Log>) -> Result<Option<Log>, AllocError>
-    ensures { IfOk result (λ all. all ≡ option_map (λ xs. log ++ xs) more) }
+// The log with another behind it, where both are there.
+fn append(log: Option<Log>, more: Option<Log>) -> Result<Option<Log>, AllocError>
+    ensures { IfOk result (λ all. all ≡ both_logs log more) }
 {
-    let Some(more) = more else {
+    let (Some(log), Some(more)) = (log, more) else {
         return Ok(None);
     };
     let mut log = log;

@@ -1,16 +1,31 @@
 //! Workers that share a board of pops, on threads of their own, to the end of the one-thread run.
+//! The board is a book under a lock, or words that they claim.
 #![tactic(auto)]
 
 mod attempts;
+mod claimed;
+mod crew;
 mod finishing;
+mod found;
 mod gate;
+mod hints;
+mod jobs;
 mod locked;
 mod opening;
+mod progress;
+mod rounding;
+mod searching;
+mod shared;
 #[cfg(test)]
 mod tests;
+mod tools;
 mod turns;
+mod words;
+mod working;
 
+pub use claimed::sample_claimed;
 pub use confluence_core::Run as Outcome;
 pub use gate::{Gate, NoGate};
 pub use locked::sample_locked;
 pub use opening::zeros_of;
+pub use words::work_claimed;

@@ -1,4 +1,4 @@
-ghost use Rattle.std.specs.Prelude.{◌≡◌, ◌<◌, ◌≤◌, length, IfOk};
+ghost use Rattle.std.specs.Prelude.{◌≡◌, ◌<◌, ◌≤◌, if◌then◌else◌, length, Some, None, IfOk};
 ghost use Rattle.pop_model.specs.Stacks.{variables_of};
 ghost use Rattle.pop_model.specs.Popping.{AreWithin};
 ghost use Rattle.confluence_core.specs.Kept.{keeps_log};
@@ -7,6 +7,7 @@ ghost use Rattle.lock_board.specs.Books.{IsBook};
 
 use crate::attempts::attempt_in_turns;
 use crate::finishing::finish;
+use crate::progress::Progress;
 use crate::turns::Worker;
 use crate::{Gate, Outcome};
 use confluence_core::{Keep, Log, Units, run_from};
@@ -47,11 +48,17 @@ pub fn sample_locked<R: Threads + Wait + Sync, G: Gate + Sync>(
         return run_alone(alloc, instance, from, keep);
     }
     let (cursors, log) = work_together::<Brand, R, G>(rt, alloc, instance, from, workers, gate)?;
-    finish(alloc, instance, from, cursors, log, keep)
+    let suspects = Units::all(alloc, instance.units())?;
+    let left = Progress {
+        cursors,
+        pops: log.len(),
+        log: kept(log, keep),
+    };
+    finish(alloc, instance, from, left, suspects, keep)
 }
 
-// The run on the calling thread, with all units as suspects.
-fn run_alone(
+/// The run on the calling thread, with all units as suspects.
+pub(crate) fn run_alone(
     alloc: Global,
     instance: &Instance,
     from: &Cursors,
@@ -63,6 +70,16 @@ fn run_alone(
 {
     let suspects = Units::all(alloc, instance.units())?;
     run_from(alloc, instance, from.copy(alloc)?, suspects, keep)
+}
+
+// The log, where it is kept.
+fn kept(log: Log, keep: Keep) -> Option<Log>
+    ensures { result ≡ (if keeps_log keep then Some log else None) }
+{
+    match keep {
+        Keep::Log => Some(log),
+        Keep::Nothing => None,
+    }
 }
 
 // What workers leave of a book that they share: its cursors and its log.

@@ -1,10 +1,10 @@
-ghost use Rattle.std.specs.Prelude.{◌≡◌, ◌<◌, ◌≤◌, length};
+ghost use Rattle.std.specs.Prelude.{◌≡◌, ◌<◌, ◌≤◌, length, IfOk};
 ghost use Rattle.pop_model.specs.Stacks.{variables_of};
 
-use crate::{NoGate, Outcome, sample_locked, zeros_of};
-use confluence_core::{Keep, run_first};
+use crate::{Gate, NoGate, Outcome, sample_claimed, sample_locked, zeros_of};
+use confluence_core::{End, Keep, run_first};
 use pop_instance::Instance;
-use std::alloc::Global;
+use std::alloc::{AllocError, Global};
 use std::process::Abort;
 use std::sync::Wait;
 use std::test::Fail;
@@ -14,35 +14,53 @@ mod chains;
 mod schedules;
 mod trees;
 
-// Runs the instance on one thread and by several numbers of workers, and compares their ends.
-// Returns the pops, and how many events are stuck.
+// The run of so many workers, on claim words or else under a lock.
+fn sample<R: Threads + Wait + Sync, G: Gate + Sync>(
+    rt: &R,
+    alloc: Global,
+    instance: &Instance,
+    claimed: bool,
+    workers: u32,
+    gate: &G,
+) -> Result<Outcome, AllocError>
+    requires { (0 < workers) × (workers ≤ 64) }
+    ensures { IfOk result (λ run. variables_of instance.now.stacks ≡ length run.end.cursors) }
+{
+    let from = zeros_of(alloc, instance)?;
+    if claimed {
+        return sample_claimed(rt, alloc, instance, &from, workers, Keep::Log, gate);
+    }
+    sample_locked(rt, alloc, instance, &from, workers, Keep::Log, gate)
+}
+
+// Compares an end by workers with that of the one-thread run.
+fn is_alike(rt: &impl Abort, outcome: Outcome, first: &End, count: u32)
+    requires { (count ≡ length outcome.end.cursors) × (count ≡ length first.now.cursors) }
+{
+    let Outcome { end, log } = outcome;
+    for v in 0..count {
+        assert_eq!(rt; end.cursors.get(v), first.cursors.get(v), "variable {v}");
+    }
+    assert_eq!(rt; end.pops, first.pops);
+    assert_eq!(rt; end.stuck.len(), first.stuck.len());
+    assert_eq!(rt; log.expect(rt, "a log").len(), end.pops);
+}
+
+// Runs the instance on one thread and by several numbers of workers on both boards, and compares
+// their ends. Returns the pops, and how many events are stuck.
 fn ends_alike<R: Threads + Wait + Abort + Sync>(
     rt: &R,
     alloc: Global,
     instance: &Instance,
 ) -> Result<(u64, u64), Fail> {
+    let _units = instance.units();
     let first = run_first(alloc, instance)?;
-    let zeros = zeros_of(alloc, instance)?;
+    let count = instance.stacks().count();
     for workers in [1, 2, 8, 64] {
-        let Outcome { end, log } = sample_locked(
-            rt,
-            alloc,
-            instance,
-            &zeros,
-            workers,
-            Keep::Log,
-            &NoGate,
-        )?;
-        for v in 0..instance.stacks().count() {
-            assert_eq!(rt;
-                end.cursors.get(v),
-                first.cursors.get(v),
-                "variable {v}, {workers} workers"
-            );
+        for claimed in [false, true] {
+            let outcome = sample(rt, alloc, instance, claimed, workers, &NoGate)?;
+            is_alike(rt, outcome, &first, count);
         }
-        assert_eq!(rt; end.pops, first.pops, "{workers} workers");
-        assert_eq!(rt; end.stuck.len(), first.stuck.len(), "{workers} workers");
-        assert_eq!(rt; log.expect(rt, "a log").len(), end.pops);
     }
     Ok((first.pops, first.stuck.len()))
 }

@@ -1,6 +1,6 @@
 //! A gate may hold a worker: the log tells which worker popped first.
-use crate::{Gate, sample_locked, zeros_of};
-use confluence_core::Keep;
+use super::sample;
+use crate::Gate;
 use pop_instance::{Cube, Events, Family, Instance};
 use pop_stacks::{Rows, StackSpec, Stacks, Weights};
 use std::alloc::Global;
@@ -70,13 +70,13 @@ fn two_clauses(rt: &impl Abort, alloc: Global) -> Result<Instance, Fail> {
 fn popped_units<R: Threads + Wait + Abort + Sync>(
     rt: &R,
     alloc: Global,
+    claimed: bool,
     held: u32,
     other: u32,
 ) -> Result<(u32, u32), Fail> {
     let instance = two_clauses(rt, alloc)?;
     let gate = Holds::new(held, other);
-    let zeros = zeros_of(alloc, &instance)?;
-    let outcome = sample_locked(rt, alloc, &instance, &zeros, 2, Keep::Log, &gate)?;
+    let outcome = sample(rt, alloc, &instance, claimed, 2, &gate)?;
     assert!(rt; !gate.gave_up.load(SeqCst), "the other worker never came");
     let log = outcome.log.expect(rt, "a log");
     assert!(rt; log.len() == 2);
@@ -86,7 +86,9 @@ fn popped_units<R: Threads + Wait + Abort + Sync>(
 #[test]
 fn the_worker_that_is_held_pops_last(rt: HostRuntime) -> Result<(), Fail> {
     let alloc = rt.alloc();
-    assert_eq!(&rt; popped_units(&rt, alloc, 0, 1)?, (1, 0));
-    assert_eq!(&rt; popped_units(&rt, alloc, 1, 0)?, (0, 1));
+    for claimed in [false, true] {
+        assert_eq!(&rt; popped_units(&rt, alloc, claimed, 0, 1)?, (1, 0));
+        assert_eq!(&rt; popped_units(&rt, alloc, claimed, 1, 0)?, (0, 1));
+    }
     Ok(())
 }

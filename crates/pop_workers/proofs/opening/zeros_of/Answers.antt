@@ -1,8 +1,7 @@
-use Rattle.std.proofs.Common.{◌≡◌, ℕ, List, Result, Ok, Err, IfOk, replicate, length, ap, sym, subst, ◌∙◌}
+use Rattle.std.proofs.Common.{ℕ, List, replicate, length, ap, sym, subst, ◌∙◌}
 use Rattle.std.proofs.lemmas.Result.{IfOk-weaker}
 use Rattle.pop_model.specs.Stacks.{variables_of}
 use Rattle.pop_model.specs.Popping.{AreWithin}
-use Rattle.pop_model.specs.Runs.{start_of}
 use Rattle.pop_model.proofs.Replays.{start_count, start_within}
 use Rattle.pop_workers.proofs.opening.zeros_of.Goals as goal
 

@@ -1,0 +1,118 @@
+-- What a closed board leaves is a legal log from its start, and suspects that are units and miss no poppable event.
+use Rattle.std.proofs.Common.{◌≡◌, ℕ, zero, suc, ◌<◌, ◌==◌, Bool, true, false, cond, List, [], ◌∷◌, ◌++◌, length, All, Option, Some, None, IfSome, refl, sym, ap, subst, ◌∙◌, arith}
+use Rattle.std.specs.Prelude.{slice_index, if◌then◌else◌}
+use Rattle.std.proofs.Common.{length-append}
+use Rattle.std.proofs.lemmas.List.Elements.{All-append}
+use Rattle.pop_model.specs.Stacks.{StackTable, variables_of}
+use Rattle.pop_model.specs.Popping.{AreWithin}
+use Rattle.pop_model.specs.Families.{Family, units_of}
+use Rattle.pop_model.specs.Families.Family.{Listed, Cycles}
+use Rattle.pop_model.specs.Instances.{Instance, IsInstance, FamilyFits}
+use Rattle.pop_model.specs.Logs.{LogRecord, IsLegal, replay}
+use Rattle.pop_model.specs.Tickets.{AreNumbered}
+use Rattle.confluence_core.specs.Runs.{MissesNone}
+use Rattle.claim_words.specs.declared.closed.Closed.{Closed}
+use Rattle.claim_words.specs.Words.{mark_of, word_of, is_settled}
+use Rattle.claim_words.specs.Openings.{is_listed, marks_in}
+use Rattle.claim_words.specs.Closing.{set_marks, unsettled}
+use Rattle.claim_words.specs.TicketLogs.{find, log_below, log_of}
+use Rattle.claim_words.specs.Steps.{Drawn}
+use Rattle.pop_workers.specs.Progressed.{HasProgressed}
+use Rattle.pop_workers.specs.Closings.{IsClosed, AreMerged}
+use Rattle.pop_workers.proofs.OneMerged.{one_merged}
+
+-- all that is below n is below n + 1, and so it is with n behind it
+one_more : (n : ℕ) (xs : List ℕ) → All (λ x. x < n) xs → All (λ x. x < suc n) (xs ++ n ∷ [])
+one_more n xs below =
+    All-append (λ x. x < suc n) xs (n ∷ []) (λ k d inside. let low = below k d inside in omega (arith, low))
+    (λ k d inside. last k d inside)
+  where
+    last : All (λ x. x < suc n) (n ∷ [])
+    last zero d inside = omega arith
+    last (suc k) d inside = absurd (omega (arith, inside))
+
+-- the same, whether n is put behind it
+one_more_or_none : (b : Bool) (n : ℕ) (xs : List ℕ) → All (λ x. x < n) xs
+    → All (λ x. x < suc n) (cond b (xs ++ n ∷ []) xs)
+one_more_or_none true n xs below = one_more n xs below
+one_more_or_none false n xs below = λ k d inside. let low = below k d inside in omega (arith, low)
+
+-- the units below n whose mark is set are below n
+marks_below : (ws : List ℕ) (c n : ℕ) → All (λ u. u < n) (set_marks ws c n)
+marks_below ws c zero = λ k d inside. absurd (omega (arith, inside))
+marks_below ws c (suc n) =
+    one_more_or_none (slice_index ws (mark_of c n) == 1) n (set_marks ws c n) (marks_below ws c n)
+
+-- the same, whether n is left out
+none_or_one_more : (b : Bool) (n : ℕ) (xs : List ℕ) → All (λ x. x < n) xs
+    → All (λ x. x < suc n) (cond b xs (xs ++ n ∷ []))
+none_or_one_more true n xs below = λ k d inside. let low = below k d inside in omega (arith, low)
+none_or_one_more false n xs below = one_more n xs below
+
+-- the variables below n that are not settled are below n
+unset_below : (ws : List ℕ) (n : ℕ) → All (λ u. u < n) (unsettled ws n)
+unset_below ws zero = λ k d inside. absurd (omega (arith, inside))
+unset_below ws (suc n) =
+    none_or_one_more (is_settled (slice_index ws (word_of n))) n (unsettled ws n) (unset_below ws n)
+
+-- the suspects that words have are units
+suspects_known : (s : StackTable) (f : Family) (ws : List ℕ) → FamilyFits s f
+    → All (λ u. u < units_of f) (cond (is_listed f) (set_marks ws (variables_of s) (marks_in f)) (unsettled ws (variables_of s)))
+suspects_known s (Listed rows) ws fits = marks_below ws (variables_of s) (length rows)
+suspects_known s (Cycles heads) ws fits =
+    subst (λ n. All (λ u. u < n) (unsettled ws (variables_of s))) (sym fits.0) (unset_below ws (variables_of s))
+
+-- so many records stand in the log of tickets
+pub length-log_below : (mine : List Drawn) (n : ℕ) → length (log_below mine n) ≡ n
+length-log_below mine zero = refl
+length-log_below mine (suc n) =
+    let rest = length-log_below mine n in
+    let more = length-append (log_below mine n) (find n mine ∷ []) in
+    omega (arith, rest, more)
+
+module _ (i : Instance) (start : List ℕ) (keeps : Bool) (closed : Closed) (is : IsClosed i start keeps closed) where
+  -- the tickets that are kept are numbered
+  pub tickets_numbered : IfSome closed.log AreNumbered
+  tickets_numbered = subst (λ t. IfSome t AreNumbered) (sym is.tickets) (kept keeps)
+    where
+      kept : (k : Bool) → IfSome (if k then Some is.view.mine else None) AreNumbered
+      kept true = (log_of is.view.mine, is.closes.merged)
+      kept false = tt
+
+  -- the suspects miss no poppable event
+  pub suspects_miss_none : MissesNone i closed.cursors closed.suspects
+  suspects_miss_none =
+      subst (λ (j : Instance). MissesNone j closed.cursors closed.suspects) is.instance is.leaves.2.missed
+
+  -- the suspects are units
+  pub suspects_are_known : IsInstance i → All (λ u. u < units_of i.family) closed.suspects
+  suspects_are_known instance =
+      let j : Instance = is.opening.instance.value in
+      let whole : IsInstance j = subst IsInstance (sym is.instance) instance in
+      let known = subst (All (λ u. u < units_of j.family)) (sym is.leaves.2.suspects_are)
+      (suspects_known j.stacks j.family is.leaves.0 whole.fits) in
+      subst (λ (x : Instance). All (λ u. u < units_of x.family) closed.suspects) is.instance known
+
+  -- what was popped is a legal log, which is what the tickets are merged into
+  pub has_progressed : (log : Option (List LogRecord)) → AreMerged closed.log log
+      → HasProgressed i start keeps closed.cursors closed.pops log
+  has_progressed log merged =
+      let records : List LogRecord = log_of is.view.mine in
+      let from_start : IsLegal i is.opening.start.value records =
+      subst (λ (x : Instance). IsLegal x is.opening.start.value records) is.instance is.closes.legal in
+      record {
+        log = records;
+        legal = subst (λ c. IsLegal i c records) is.start_is from_start;
+        cursors_are = is.closes.cursors_are ∙ ap (λ c. replay c records) is.start_is;
+        pops_are = is.closes.pops_are ∙ sym (length-log_below is.view.mine (length is.view.mine));
+        kept_is = kept keeps log (subst (λ t. AreMerged t log) is.tickets merged);
+        count = sym (is.count ∙ ap (λ (x : Instance). variables_of x.stacks) is.instance);
+        within = subst (λ (x : Instance). AreWithin x.stacks closed.cursors) is.instance is.closes.whole.low;
+      }
+    where
+      kept : (k : Bool) (l : Option (List LogRecord)) → AreMerged (if k then Some is.view.mine else None) l
+          → l ≡ (if k then Some (log_of is.view.mine) else None)
+      kept true (Some xs) one = ap Some (one_merged is.view.mine xs (log_of is.view.mine) one is.closes.merged)
+      kept true None one = absurd one
+      kept false (Some xs) one = absurd one
+      kept false None one = refl

@@ -1,0 +1,17 @@
+use Rattle.std.proofs.Common.{◌-◌, ◌^◌, ◌≡◌, length}
+use Rattle.pop_model.specs.Instances.{IsInstance}
+use Rattle.claim_words.specs.Passes.{IsOf, IsIdle, IsSole, view, count_of, opening_of}
+use Rattle.pop_workers.specs.Attempts.{AreTools}
+use Rattle.pop_workers.proofs.rounding.round_off.Given as goal
+
+-- how many pops a legal log may still have
+abbrev pub decreases-loop : goal.decreases-loop
+decreases-loop g l = 2 ^ 62 - length (view l.pass).mine
+
+-- the pass stays sole and idle; the board started from a cursor for each variable
+abbrev pub invariant-loop : goal.invariant-loop
+invariant-loop g l =
+    IsInstance l.shared.instance.now × (length (opening_of l.board).start.value ≡ count_of l.board)
+    × IsOf l.board l.pass × IsIdle l.pass × IsSole l.pass
+    × AreTools l.shared.instance.now l.tools.reader l.tools.walker
+    × (l.tools.worker ≡ l.initial.tools.worker)

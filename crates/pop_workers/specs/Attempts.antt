@@ -1,0 +1,61 @@
+-- What looks for events come to. Throughout d is the view of the pass before them, and e the view
+-- after them.
+use Rattle.std.specs.Prelude.{◌≡◌, ℕ, Bool, true, false, ◌<◌, ◌≤◌, List, length, ⊤, Option, Some, None}
+use Rattle.pop_model.specs.Stacks.{variables_of}
+use Rattle.pop_model.specs.Instances.{Instance}
+use Rattle.pop_model.specs.Runs.{IsEnd}
+use Rattle.pop_stacks.specs.Readers.{ReaderOf, Belongs}
+use Rattle.claim_words.specs.declared.opening.Opening.{Opening}
+use Rattle.claim_words.specs.declared.view.View.{View}
+use Rattle.claim_words.specs.Openings.{is_listed}
+use Rattle.claim_words.specs.Tells.{NonePoppable}
+use Rattle.claim_words.specs.TicketLogs.{IsLegalFrom, vector}
+use Rattle.event_finders.specs.Trails.{Trail, resting}
+use Rattle.event_finders.specs.UnitConditions.{Indexes}
+use Rattle.event_finders.specs.declared.tried.Tried.{Tried}
+use Rattle.event_finders.specs.declared.tried.Tried.TheVariants.{Popped as Pops, Cleared, Stuck, Busy, Idle, OutOfMemory}
+use Rattle.pop_workers.specs.declared.found.Found.{Found}
+use Rattle.pop_workers.specs.declared.found.Found.TheVariants.{Popped, Done, Met, NoMemory}
+
+-- the index is that of the events of a listed family, and a cycle family has none
+abbrev pub IsIndexed : Instance → Option (List (List ℕ)) → Type 0
+IsIndexed i (Some index) = Indexes i index
+IsIndexed i None = is_listed i.family ≡ false
+
+-- a walker between walks is there for a cycle family
+abbrev pub IsWalker : Instance → Option Trail → Type 0
+IsWalker i (Some walker) = walker ≡ resting (variables_of i.stacks)
+IsWalker i None = is_listed i.family ≡ true
+
+-- a reader of the instance's stacks, and its walker
+abbrev pub AreTools : Instance → ReaderOf → Option Trail → Type 0
+AreTools i reader walker = Belongs i.stacks reader × IsWalker i walker
+
+-- pops were added, or none, and the share is the same
+pub record Goes (d e : View) : Type 0 where
+  pub share : e.share ≡ d.share
+  pub more : length d.mine ≤ length e.mine
+
+-- what a finder's answer comes to
+abbrev pub found_in : Tried → Found
+found_in (Pops t) = Popped
+found_in (Cleared v c) = Done
+found_in (Stuck v c) = Done
+found_in (Busy v w) = Met
+found_in Idle = Done
+found_in OutOfMemory = NoMemory
+
+-- what a sole pass found at a unit, by walks that pop so many cycles at most
+abbrev pub FindsAlone : Opening → View → View → ℕ → ℕ → Found → Type 0
+FindsAlone k d e unit pops Popped = (length d.mine < length e.mine) × IsLegalFrom k e.mine
+FindsAlone k d e unit pops Done =
+    NonePoppable k e unit × (IsLegalFrom k d.mine → IsLegalFrom k e.mine)
+    × (pops ≡ 1 → e.mine ≡ d.mine)
+FindsAlone k d e unit pops Met = ⊥
+FindsAlone k d e unit pops NoMemory = ⊤
+
+-- a round of a sole pass over all units, and whether it popped nothing: then no event is poppable;
+-- else more was popped, and the records are a legal log
+abbrev pub IsRound : Opening → View → View → Bool → Type 0
+IsRound k d e true = IsEnd k.instance.value (vector k e.mine)
+IsRound k d e false = (length d.mine < length e.mine) × IsLegalFrom k e.mine

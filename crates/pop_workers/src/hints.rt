@@ -1,0 +1,134 @@
+//! Hints: units at which an event may be poppable. Each worker has a deque of its own, and steals
+//! from those of the others where it is empty. A hint that is lost loses no event.
+ghost use Rattle.std.specs.Prelude.{◌≡◌, ℕ, ◌+◌, ◌*◌, ◌/◌, All, ◌<◌, ◌≤◌, IfSome, length};
+
+use crate::turns::Worker;
+use crossbeam_deque::protocol::{Outcome, Protocol};
+use crossbeam_deque::{Steal, Stealer, Worker as Deque};
+use std::alloc::{AllocError, Global};
+use std::marker::{Brand, PhantomData};
+
+/// How many units there are; it is picked where the deques are made.
+pub(crate) trait Range {
+    ghost units: { ℕ };
+}
+
+impl Range for Brand {
+    ghost units = { 0 };
+}
+
+/// The rule of the deques: what lies in them are units.
+pub(crate) struct AreUnits<W> {
+    range: PhantomData<W>,
+}
+
+impl<W: Range> Protocol<u32, ()> for AreUnits<W> {
+    ghost holds = { λ items _. All (λ unit. unit < W.units) items };
+
+    ghost first = { tt };
+
+    ghost guest = { tt };
+}
+
+impl<W: Range> Outcome<u32, ()> for AreUnits<W> {
+    ghost then = { λ _ items _. All (λ unit. unit < W.units) items };
+}
+
+/// The hints of a worker, in its deque, of which it takes the last first.
+pub(crate) type Own<W> = Deque<u32, Global, (), AreUnits<W>>;
+
+/// The same deque, for others.
+pub(crate) type Other<W> = Stealer<u32, Global, (), AreUnits<W>>;
+
+// How often a worker looks again at a deque of which others take at the same time.
+const MOST_LOOKS: u32 = 64;
+
+/// The first hints of a worker: one block of all units, of which it takes the least first.
+pub(crate) fn deal<W: Range>(
+    alloc: Global,
+    worker: Worker,
+    units: u32,
+) -> Result<Own<W>, AllocError>
+    requires range { units ≡ W.units }
+    requires worker { worker.number < worker.workers }
+{
+    let first = block_start(worker.number, worker.workers, units);
+    let end = block_start(worker.number + 1, worker.workers, units);
+    let mut own = Deque::lifo_as(alloc, (end - first) as usize)?;
+    for unit in (first..end).rev() {
+        give(&mut own, unit);
+    }
+    Ok(own)
+}
+
+/// Puts a hint where its worker takes it next. Where no memory is found for it, it is lost.
+pub(crate) fn give<W: Range>(own: &mut Own<W>, unit: u32)
+    requires { unit < W.units }
+{
+    let _ = own.push_as::<AreUnits<W>>(unit);
+}
+
+/// Puts such hints, one behind the other.
+pub(crate) fn give_all<W: Range>(own: &mut Own<W>, units: &[u32])
+    requires { All (λ unit. unit < W.units) units.now }
+{
+    for unit in units {
+        give(own, *unit);
+    }
+}
+
+/// The next hint of a worker: the last that it put; else the first of the deque of another, from
+/// the one behind it on. None where all were empty.
+pub(crate) fn next<W: Range>(own: &mut Own<W>, all: &[Other<W>], worker: u32) -> Option<u32>
+    requires { worker < length all.now }
+    ensures { IfSome result (λ unit. unit < W.units) }
+{
+    let last = own.pop_as::<AreUnits<W>>();
+    if last.is_some() {
+        return last;
+    }
+    let (before, behind) = all.split_at(worker as usize);
+    match steal(behind) {
+        Some(unit) => Some(unit),
+        None => steal(before),
+    }
+}
+
+// Where the block of a worker begins, where all units are cut into so many blocks, as even as can
+// be.
+fn block_start(number: u32, workers: u32, units: u32) -> u32
+    requires some { 0 < workers }
+    requires number { number ≤ workers }
+    ensures start { result ≡ number * units / workers }
+    ensures within { result ≤ units }
+{
+    (number as u64 * units as u64 / workers as u64) as u32
+}
+
+// A hint of the first deque that has one.
+fn steal<W: Range>(others: &[Other<W>]) -> Option<u32>
+    ensures { IfSome result (λ unit. unit < W.units) }
+{
+    for other in others {
+        let stolen = steal_from(other);
+        if stolen.is_some() {
+            return stolen;
+        }
+    }
+    None
+}
+
+// A hint of a deque; None where it was empty, or others were always faster.
+fn steal_from<W: Range>(other: &Other<W>) -> Option<u32>
+    ensures { IfSome result (λ unit. unit < W.units) }
+{
+    let mut pass = other.pass();
+    for _ in 0..MOST_LOOKS {
+        match other.steal_as::<AreUnits<W>>(&mut pass) {
+            Steal::Success(unit) => return Some(unit),
+            Steal::Empty => return None,
+            Steal::Retry => {}
+        }
+    }
+    None
+}

@@ -1,0 +1,155 @@
+//! The workers beside the caller, each with a pass and hints of its own.
+ghost use Rattle.std.specs.Prelude.{◌≡◌, ◌+◌, ◌<◌, length, All, IfOk, OnOk};
+ghost use Rattle.pop_model.specs.Families.{units_of};
+ghost use Rattle.claim_words.specs.Passes.{IsOf, IsIdle, IsHelper, view, instance_of};
+ghost use Rattle.pop_workers.specs.Attempts.{IsIndexed};
+
+use crate::Gate;
+use crate::hints::{Own, Range};
+use crate::shared::Shared;
+use crate::tools::Tools;
+use crate::working::work;
+use claim_words::{Board, Pass};
+use std::alloc::{AllocError, Global};
+use std::thread;
+use std::thread::Threads;
+
+/// What a worker beside the caller has. Their places in a list count from worker 1 on.
+pub(crate) type Job<W> = (Pass, Own<W>);
+
+/// The caller's own deque, and the jobs of the others.
+#[derive(Drop)]
+pub(crate) struct Jobs<W: Range> {
+    pub own: Own<W>,
+    pub others: Vec<Job<W>>,
+}
+
+/// A job for each of these deques. Its pass is split from the caller's, with share 1.
+pub(crate) fn hand_out<W: Range>(
+    alloc: Global,
+    board: &Board,
+    pass: &mut Pass,
+    deques: Vec<Own<W>>,
+) -> Result<Vec<Job<W>>, AllocError>
+    requires pass { IsOf board.now pass.old }
+    requires idle { IsIdle pass.old }
+    requires share { length deques.items < (view pass.old).share }
+    ensures pass { IsOf board.now pass.new }
+    ensures idle { IsIdle pass.new }
+    ensures passes { IfOk result (λ jobs. All (λ job. IsHelper board.now job.0) jobs.items) }
+    ensures len { IfOk result (λ jobs. length jobs.items ≡ length deques.items) }
+    ensures share { IfOk result
+        (λ jobs. (view pass.new).share + length jobs.items ≡ (view pass.old).share) }
+{
+    let mut jobs = Vec::with_capacity(alloc, deques.len())?;
+    for own in deques {
+        jobs.push_reserved(job_for(board, pass, own));
+    }
+    Ok(jobs)
+}
+
+// A job for this deque. Its pass is split from the caller's, with share 1.
+fn job_for<W: Range>(board: &Board, pass: &mut Pass, own: Own<W>) -> Job<W>
+    requires pass { IsOf board.now pass.old }
+    requires idle { IsIdle pass.old }
+    requires share { 1 < (view pass.old).share }
+    ensures pass { IsOf board.now pass.new }
+    ensures idle { IsIdle pass.new }
+    ensures helper { IsHelper board.now result.0 }
+    ensures share { (view pass.new).share + 1 ≡ (view pass.old).share }
+{
+    (board.split(pass, 1), own)
+}
+
+/// Lets the workers of these jobs work, each in a thread of its own where one can be started.
+pub(crate) fn work_beside<'i, W: Range + Sync + Send, R: Threads + Sync, G: Gate + Sync>(
+    rt: &R,
+    board: &Board<'i>,
+    shared: &Shared<'i, W>,
+    jobs: &mut [Job<W>],
+    gate: &G,
+)
+    requires board { instance_of board.now ≡ shared.now.instance.now }
+    requires index { IsIndexed shared.now.instance.now shared.now.index }
+    requires range { units_of shared.now.instance.now.family ≡ W.units }
+    requires passes { All (λ job. IsHelper board.now job.0) jobs.old }
+    requires len { length jobs.old < length shared.now.all.items }
+    requires few { length jobs.old < 64 }
+    ensures passes { All (λ job. IsHelper board.now job.0) jobs.new }
+    ensures len { length jobs.new ≡ length jobs.old }
+{
+    let most = jobs.len().max(1);
+    thread::for_each_mut(
+        rt,
+        jobs,
+        most,
+        &|place: usize, job: &mut Job<W>|
+            requires board { instance_of board.now ≡ shared.now.instance.now }
+            requires index { IsIndexed shared.now.instance.now shared.now.index }
+            requires range { units_of shared.now.instance.now.family ≡ W.units }
+            requires pass { IsHelper board.now job.now.0 }
+            requires place { place + 1 < length shared.now.all.items }
+            requires few { place < 64 }
+            ensures pass { IsHelper board.entry.now job.exit.now.0 }
+        { do_job(board, shared, job, place as u32 + 1, gate) },
+    );
+}
+
+// The work of one job. A worker that finds no memory ends its turns; the others and at last the
+// caller finish what it leaves.
+fn do_job<W: Range, G: Gate>(
+    board: &Board,
+    shared: &Shared<W>,
+    job: &mut Job<W>,
+    worker: u32,
+    gate: &G,
+)
+    requires board { instance_of board.now ≡ shared.now.instance.now }
+    requires index { IsIndexed shared.now.instance.now shared.now.index }
+    requires range { units_of shared.now.instance.now.family ≡ W.units }
+    requires pass { IsHelper board.now job.old.0 }
+    requires worker { worker < length shared.now.all.items }
+    ensures pass { IsHelper board.now job.new.0 }
+{
+    let Ok(mut tools) = Tools::of(shared.alloc, shared.instance, worker) else {
+        return gate.at(worker, 0);
+    };
+    let _ = work(board, &mut job.0, shared, &mut tools, &mut job.1, gate);
+}
+
+/// Takes the passes of all jobs in again. Where a log is kept, memory may be wanting.
+pub(crate) fn take_back<W: Range>(
+    board: &Board,
+    pass: &mut Pass,
+    jobs: Vec<Job<W>>,
+) -> Result<(), AllocError>
+    requires pass { IsOf board.now pass.old }
+    requires idle { IsIdle pass.old }
+    requires passes { All (λ job. IsHelper board.now job.0) jobs.items }
+    ensures pass { IsOf board.now pass.new }
+    ensures idle { IsIdle pass.new }
+    ensures share { OnOk result
+        ((view pass.new).share ≡ (view pass.old).share + length jobs.items) }
+{
+    let mut jobs = jobs;
+    while let Some(job) = jobs.pop() {
+        take_one(board, pass, job)?;
+    }
+    Ok(())
+}
+
+// Takes the pass of one job in again.
+fn take_one<W: Range>(board: &Board, pass: &mut Pass, job: Job<W>) -> Result<(), AllocError>
+    requires pass { IsOf board.now pass.old }
+    requires idle { IsIdle pass.old }
+    requires helper { IsHelper board.now job.0 }
+    ensures pass { IsOf board.now pass.new }
+    ensures idle { IsIdle pass.new }
+    ensures share { OnOk result ((view pass.new).share ≡ (view pass.old).share + 1) }
+{
+    let (other, _) = job;
+    match board.rejoin(pass, other) {
+        Ok(()) => Ok(()),
+        Err((_, failed)) => Err(failed),
+    }
+}

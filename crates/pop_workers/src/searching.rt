@@ -1,0 +1,149 @@
+//! One look of a worker for an event, and the hints behind a pop.
+ghost use Rattle.std.specs.Prelude.{◌≡◌, ℕ, ◌<◌, ◌≤◌, false, All, length};
+ghost use Rattle.pop_model.specs.Popping.{NamesBelow};
+ghost use Rattle.pop_model.specs.Families.{units_of};
+ghost use Rattle.claim_words.specs.Passes.{IsOf, IsIdle, view, instance_of, opening_of};
+ghost use Rattle.claim_words.specs.Openings.{is_listed};
+ghost use Rattle.event_finders.specs.UnitConditions.{Indexes};
+ghost use Rattle.pop_workers.specs.Attempts.{IsIndexed, AreTools, Goes, FindsAlone, found_in};
+
+use crate::found::Found;
+use crate::hints::{Own, Range, give, give_all};
+use crate::shared::Shared;
+use crate::tools::Tools;
+use claim_words::{Board, Pass};
+use event_finders::{Tried, try_unit, walk_on};
+use pop_instance::{Cube, Family, Index, Instance};
+
+/// Looks for an event at a unit, and pops it. Of a cycle family the unit is where a walk starts,
+/// which pops so many cycles at most, and one at least.
+pub(crate) fn search<W: Range>(
+    board: &Board,
+    pass: &mut Pass,
+    shared: &Shared<W>,
+    tools: &mut Tools,
+    unit: u32,
+    pops: u64,
+) -> Found
+    requires board { instance_of board.now ≡ shared.now.instance.now }
+    requires pass { IsOf board.now pass.old }
+    requires idle { IsIdle pass.old }
+    requires index { IsIndexed shared.now.instance.now shared.now.index }
+    requires tools { AreTools shared.now.instance.now tools.old.reader tools.old.walker }
+    requires known { unit < units_of shared.now.instance.now.family }
+    requires pops { 1 ≤ pops }
+    ensures pass { IsOf board.now pass.new }
+    ensures idle { IsIdle pass.new }
+    ensures goes { Goes (view pass.old) (view pass.new) }
+    ensures alone { (view pass.old).share ≡ 64
+        → FindsAlone (opening_of board.now) (view pass.old) (view pass.new) unit pops result }
+    ensures tools { AreTools shared.now.instance.now tools.new.reader tools.new.walker }
+    ensures worker { tools.new.worker ≡ tools.old.worker }
+{
+    match &shared.index {
+        Some(index) => search_unit(board, pass, shared.instance, index, tools, unit),
+        None => search_from(board, pass, shared.instance, tools, unit, pops),
+    }
+}
+
+// Looks at the event of a unit of a listed family.
+fn search_unit(
+    board: &Board,
+    pass: &mut Pass,
+    instance: &Instance,
+    index: &Index,
+    tools: &mut Tools,
+    unit: u32,
+) -> Found
+    requires board { instance_of board.now ≡ instance.now }
+    requires pass { IsOf board.now pass.old }
+    requires idle { IsIdle pass.old }
+    requires index { Indexes instance.now index.now }
+    requires tools { AreTools instance.now tools.old.reader tools.old.walker }
+    requires known { unit < units_of instance.now.family }
+    ensures pass { IsOf board.now pass.new }
+    ensures idle { IsIdle pass.new }
+    ensures goes { Goes (view pass.old) (view pass.new) }
+    ensures alone { (view pass.old).share ≡ 64 → (pops : ℕ)
+        → FindsAlone (opening_of board.now) (view pass.old) (view pass.new) unit pops result }
+    ensures tools { AreTools instance.now tools.new.reader tools.new.walker }
+    ensures worker { tools.new.worker ≡ tools.old.worker }
+{
+    found(try_unit(board, pass, instance, index, &mut tools.reader, unit))
+}
+
+// Walks from a variable along the arrows of a cycle family.
+fn search_from(
+    board: &Board,
+    pass: &mut Pass,
+    instance: &Instance,
+    tools: &mut Tools,
+    start: u32,
+    pops: u64,
+) -> Found
+    requires board { instance_of board.now ≡ instance.now }
+    requires pass { IsOf board.now pass.old }
+    requires idle { IsIdle pass.old }
+    requires cycles { is_listed instance.now.family ≡ false }
+    requires tools { AreTools instance.now tools.old.reader tools.old.walker }
+    requires known { start < units_of instance.now.family }
+    requires pops { 1 ≤ pops }
+    ensures pass { IsOf board.now pass.new }
+    ensures idle { IsIdle pass.new }
+    ensures goes { Goes (view pass.old) (view pass.new) }
+    ensures alone { (view pass.old).share ≡ 64
+        → FindsAlone (opening_of board.now) (view pass.old) (view pass.new) start pops result }
+    ensures tools { AreTools instance.now tools.new.reader tools.new.walker }
+    ensures worker { tools.new.worker ≡ tools.old.worker }
+{
+    let _units = instance.units();
+    let Some(walker) = &mut tools.walker else {
+        unreachable!()
+    };
+    found(walk_on(
+        board,
+        pass,
+        instance,
+        &mut tools.reader,
+        walker,
+        start,
+        pops,
+    ))
+}
+
+// What a finder's answer comes to.
+fn found(tried: Tried) -> Found
+    ensures { result ≡ found_in tried }
+{
+    match tried {
+        Tried::Popped(_) => Found::Popped,
+        Tried::Cleared(..) | Tried::Stuck(..) | Tried::Idle => Found::Done,
+        Tried::Busy(..) => Found::Met,
+        Tried::OutOfMemory => Found::NoMemory,
+    }
+}
+
+/// Puts hints where a pop at this unit may have made events poppable: at each unit whose event
+/// shares a variable with it; for a walk, at its start.
+pub(crate) fn spread<W: Range>(shared: &Shared<W>, own: &mut Own<W>, unit: u32)
+    requires index { IsIndexed shared.now.instance.now shared.now.index }
+    requires range { units_of shared.now.instance.now.family ≡ W.units }
+    requires known { unit < units_of shared.now.instance.now.family }
+{
+    let _units = shared.instance.units();
+    match (&shared.index, shared.instance.family()) {
+        (Some(index), Family::Listed(events)) => give_sharers(own, index, events.cube(unit)),
+        _ => give(own, unit),
+    }
+}
+
+// Puts hints at all units whose event shares a variable with this one.
+fn give_sharers<W: Range>(own: &mut Own<W>, index: &Index, cube: &Cube)
+    requires named { NamesBelow cube.now (length index.now) }
+    requires known { All (λ row. All (λ unit. unit < W.units) row) index.now }
+{
+    for i in 0..cube.len() {
+        let (v, _) = cube.pair(i);
+        give_all(own, index.at(v));
+    }
+}

@@ -1,0 +1,14 @@
+use crate::hints::{Other, Range};
+use pop_instance::{Index, Instance};
+use std::alloc::Global;
+
+/// What all workers on a board of claim words share.
+#[derive(Drop)]
+pub(crate) struct Shared<'s, W: Range> {
+    pub alloc: Global,
+    pub instance: &'s Instance,
+    /// For each variable the events that name it, of a listed family.
+    pub index: Option<Index>,
+    /// The deques of all workers, by their numbers.
+    pub all: Vec<Other<W>>,
+}

@@ -1,0 +1,35 @@
+ghost use Rattle.std.specs.Prelude.{◌≡◌, IfOk};
+ghost use Rattle.pop_workers.specs.Attempts.{AreTools};
+
+use event_finders::Walker;
+use pop_instance::{Family, Instance};
+use pop_stacks::Reader;
+use std::alloc::{AllocError, Global};
+
+/// What a worker searches with: its number, a reader, which keeps what it looked at, and for a
+/// cycle family what is kept of a walk.
+#[derive(Drop)]
+pub(crate) struct Tools {
+    pub worker: u32,
+    pub reader: Reader,
+    pub walker: Option<Walker>,
+}
+
+impl Tools {
+    /// The tools of a worker for the events of an instance.
+    pub fn of(alloc: Global, instance: &Instance, worker: u32) -> Result<Tools, AllocError>
+        ensures tools { IfOk result (λ tools. AreTools instance.now tools.reader tools.walker) }
+        ensures worker { IfOk result (λ tools. tools.worker ≡ worker) }
+    {
+        let _units = instance.units();
+        let walker = match instance.family() {
+            Family::Listed(_) => None,
+            Family::Cycles(_) => Some(Walker::new(alloc, instance.stacks().count())?),
+        };
+        Ok(Tools {
+            worker,
+            reader: Reader::keeping(alloc, instance.stacks())?,
+            walker,
+        })
+    }
+}

@@ -1,0 +1,178 @@
+//! Workers on a board of claim words, to its end.
+ghost use Rattle.std.specs.Prelude.{◌≡◌, ◌<◌, ◌≤◌, length, All, IfOk, OnOk};
+ghost use Rattle.pop_model.specs.Families.{units_of};
+ghost use Rattle.pop_model.specs.Runs.{IsEnd};
+ghost use Rattle.claim_words.specs.Passes.{IsOf, IsIdle, IsHelper, IsSole, view, instance_of, opening_of};
+ghost use Rattle.claim_words.specs.TicketLogs.{vector};
+ghost use Rattle.pop_workers.specs.Attempts.{IsIndexed};
+
+use crate::crew::Crew;
+use crate::hints::{Other, Own, Range, deal};
+use crate::jobs::{Jobs, hand_out, take_back, work_beside};
+use crate::rounding::round_off;
+use crate::shared::Shared;
+use crate::tools::Tools;
+use crate::turns::Worker;
+use crate::working::work;
+use crate::{Gate, NoGate};
+use claim_words::{Board, Pass};
+use pop_instance::{Family, Index, Instance};
+use std::alloc::{AllocError, Global};
+use std::marker::Brand;
+use std::thread::{Threads, join_mut};
+
+/// Lets 1 to 64 workers pop the events of a board, which is one of the instance, until none is
+/// poppable. The pass is idle and has all 64 shares, before and after. It is refused only where the
+/// caller found no memory: then the pass is idle, and may have fewer shares, so that its board
+/// can't be closed.
+///
+/// Worker 0 is the caller, with the pass; each other has a pass of share 1 that is split from it,
+/// and a thread where one can be started. Each begins with one block of the units as its hints.
+/// No call waits for a claim: all end once no deque has a hint, and what they leave the caller
+/// finishes alone.
+pub fn work_claimed<'i, R: Threads + Sync, G: Gate + Sync>(
+    rt: &R,
+    alloc: Global,
+    board: &Board<'i>,
+    pass: &mut Pass,
+    instance: &'i Instance,
+    workers: u32,
+    gate: &G,
+) -> Result<(), AllocError>
+    requires board { instance_of board.now ≡ instance.now }
+    requires pass { IsOf board.now pass.old }
+    requires idle { IsIdle pass.old }
+    requires sole { IsSole pass.old }
+    requires some { 0 < workers }
+    requires most { workers ≤ 64 }
+    ensures pass { IsOf board.now pass.new }
+    ensures idle { IsIdle pass.new }
+    ensures sole { OnOk result (IsSole pass.new) }
+    ensures end { OnOk result
+        (IsEnd instance.now (vector (opening_of board.now) (view pass.new).mine)) }
+{
+    let crew = Crew { rt, gate, workers };
+    work_over::<Brand, R, G>(alloc, crew, board, pass, instance)
+}
+
+// The same, where the number of units was picked.
+fn work_over<'i, W: Range + Send + Sync, R: Threads + Sync, G: Gate + Sync>(
+    alloc: Global,
+    crew: Crew<R, G>,
+    board: &Board<'i>,
+    pass: &mut Pass,
+    instance: &'i Instance,
+) -> Result<(), AllocError>
+    requires board { instance_of board.now ≡ instance.now }
+    requires pass { IsOf board.now pass.old }
+    requires idle { IsIdle pass.old }
+    requires sole { IsSole pass.old }
+    requires some { 0 < crew.workers }
+    requires most { crew.workers ≤ 64 }
+    requires range { units_of instance.now.family ≡ W.units }
+    ensures pass { IsOf board.now pass.new }
+    ensures idle { IsIdle pass.new }
+    ensures sole { OnOk result (IsSole pass.new) }
+    ensures end { OnOk result
+        (IsEnd instance.now (vector (opening_of board.now) (view pass.new).mine)) }
+{
+    let Crew { rt, gate, workers } = crew;
+    let deques: Vec<Own<W>> = deal_all(alloc, workers, instance.units())?;
+    let shared = Shared {
+        alloc,
+        instance,
+        index: index_of(alloc, instance)?,
+        all: for_others(alloc, &deques)?,
+    };
+    work_with(rt, board, pass, &shared, deques, gate)
+}
+
+// The same, with the deques of all workers.
+fn work_with<'i, W: Range + Send + Sync, R: Threads + Sync, G: Gate + Sync>(
+    rt: &R,
+    board: &Board<'i>,
+    pass: &mut Pass,
+    shared: &Shared<'i, W>,
+    deques: Vec<Own<W>>,
+    gate: &G,
+) -> Result<(), AllocError>
+    requires board { instance_of board.now ≡ shared.now.instance.now }
+    requires pass { IsOf board.now pass.old }
+    requires idle { IsIdle pass.old }
+    requires sole { IsSole pass.old }
+    requires index { IsIndexed shared.now.instance.now shared.now.index }
+    requires range { units_of shared.now.instance.now.family ≡ W.units }
+    requires len { length deques.items ≡ length shared.now.all.items }
+    requires some { 0 < length deques.items }
+    requires most { length deques.items ≤ 64 }
+    ensures pass { IsOf board.now pass.new }
+    ensures idle { IsIdle pass.new }
+    ensures sole { OnOk result (IsSole pass.new) }
+    ensures end { OnOk result
+        (IsEnd (instance_of board.now) (vector (opening_of board.now) (view pass.new).mine)) }
+{
+    let mut deques = deques;
+    let first = deques.remove(0);
+    let mut tools = Tools::of(shared.alloc, shared.instance, 0)?;
+    let mut jobs = Jobs {
+        own: first,
+        others: hand_out(shared.alloc, board, pass, deques)?,
+    };
+    let Jobs { own, others } = &mut jobs;
+    let _ = join_mut(
+        rt,
+        &mut || work(board, pass, shared, &mut tools, own, gate),
+        &mut ||
+            requires board { instance_of board.now ≡ shared.now.instance.now }
+            requires index { IsIndexed shared.now.instance.now shared.now.index }
+            requires range { units_of shared.now.instance.now.family ≡ W.units }
+            requires passes { All (λ job. IsHelper board.now job.0) others.now.items }
+            requires len { length others.now.items < length shared.now.all.items }
+            requires few { length others.now.items < 64 }
+            ensures passes { All (λ job. IsHelper board.entry.now job.0) others.exit.now.items }
+            ensures len { length others.exit.now.items ≡ length others.entry.now.items }
+        { work_beside(rt, board, shared, others, gate) },
+    );
+    let Jobs { own, others } = jobs;
+    let mut own = own;
+    take_back(board, pass, others)?;
+    work(board, pass, shared, &mut tools, &mut own, &NoGate)?;
+    round_off(board, pass, shared, &mut tools, &mut own)
+}
+
+// The index of a listed family.
+fn index_of(alloc: Global, instance: &Instance) -> Result<Option<Index>, AllocError>
+    ensures { IfOk result (IsIndexed instance.now) }
+{
+    let _units = instance.units();
+    match instance.family() {
+        Family::Listed(events) => {
+            let index = Index::build(alloc, events, instance.stacks().count())?;
+            Ok(Some(index))
+        }
+        Family::Cycles(_) => Ok(None),
+    }
+}
+
+// The deques of so many workers, with their first hints.
+fn deal_all<W: Range>(alloc: Global, workers: u32, units: u32) -> Result<Vec<Own<W>>, AllocError>
+    requires range { units ≡ W.units }
+    ensures { IfOk result (λ deques. length deques.items ≡ workers) }
+{
+    let mut deques = Vec::with_capacity(alloc, workers as usize)?;
+    for number in 0..workers {
+        deques.push_reserved(deal(alloc, Worker { number, workers }, units)?);
+    }
+    Ok(deques)
+}
+
+// The same deques, for all workers to steal from.
+fn for_others<W: Range>(alloc: Global, deques: &[Own<W>]) -> Result<Vec<Other<W>>, AllocError>
+    ensures { IfOk result (λ all. length all.items ≡ length deques.now) }
+{
+    let mut all = Vec::with_capacity(alloc, deques.len())?;
+    for own in deques {
+        all.push_reserved(own.stealer()?);
+    }
+    Ok(all)
+}

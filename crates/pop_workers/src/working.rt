@@ -1,0 +1,77 @@
+//! The turns of a worker on a board of claim words.
+ghost use Rattle.std.specs.Prelude.{◌≡◌, ◌<◌, length, OnOk};
+ghost use Rattle.pop_model.specs.Families.{units_of};
+ghost use Rattle.claim_words.specs.Passes.{IsOf, IsIdle, view, instance_of, opening_of};
+ghost use Rattle.claim_words.specs.TicketLogs.{IsLegalFrom};
+ghost use Rattle.pop_workers.specs.Attempts.{IsIndexed, AreTools, Goes};
+
+use crate::Gate;
+use crate::found::Found;
+use crate::hints::{Own, Range, give, next};
+use crate::searching::{search, spread};
+use crate::shared::Shared;
+use crate::tools::Tools;
+use claim_words::{Board, Pass};
+use std::alloc::AllocError;
+
+// A worker ends after so many turns.
+const MOST_TURNS: u64 = 1 << 32;
+
+// A worker ends where it met others so many times in a row. Each time a path is thrown away, and
+// where walks are long and cross, the others are faster without it.
+const MOST_MEETINGS: u32 = 100;
+
+// How many cycles a walk pops before its worker looks for the next hint.
+const POPS: u64 = 1 << 32;
+
+/// The turns of a worker: a look at each hint, until there is none. Behind a pop it puts hints
+/// where events may have become poppable, and where it met another it puts the hint back. It is
+/// refused only for want of memory.
+pub(crate) fn work<W: Range, G: Gate>(
+    board: &Board,
+    pass: &mut Pass,
+    shared: &Shared<W>,
+    tools: &mut Tools,
+    own: &mut Own<W>,
+    gate: &G,
+) -> Result<(), AllocError>
+    requires board { instance_of board.now ≡ shared.now.instance.now }
+    requires pass { IsOf board.now pass.old }
+    requires idle { IsIdle pass.old }
+    requires index { IsIndexed shared.now.instance.now shared.now.index }
+    requires range { units_of shared.now.instance.now.family ≡ W.units }
+    requires tools { AreTools shared.now.instance.now tools.old.reader tools.old.walker }
+    requires worker { tools.old.worker < length shared.now.all.items }
+    ensures pass { IsOf board.now pass.new }
+    ensures idle { IsIdle pass.new }
+    ensures goes { Goes (view pass.old) (view pass.new) }
+    ensures legal { (view pass.old).share ≡ 64 → OnOk result
+        (IsLegalFrom (opening_of board.now) (view pass.old).mine
+        → IsLegalFrom (opening_of board.now) (view pass.new).mine) }
+    ensures tools { AreTools shared.now.instance.now tools.new.reader tools.new.walker }
+    ensures worker { tools.new.worker ≡ tools.old.worker }
+{
+    let mut meetings = 0;
+    for turn in 0..MOST_TURNS {
+        gate.at(tools.worker, turn);
+        let Some(unit) = next(own, &shared.all, tools.worker) else {
+            break;
+        };
+        match search(board, pass, shared, tools, unit, POPS) {
+            Found::Popped => {
+                spread(shared, own, unit);
+                meetings = 0;
+            }
+            Found::Done => meetings = 0,
+            Found::Met => {
+                give(own, unit);
+                meetings += 1;
+            }
+            Found::NoMemory => return Err(AllocError),
+        }
+        if meetings >= MOST_MEETINGS {
+            break;
+        }
+    }
+    Ok(())
+}
