@@ -1,5 +1,5 @@
 -- The literal of a variable by its value.
-use Rattle.std.proofs.Common.{◌≡◌, ℕ, suc, ◌+◌, ◌∷◌, decimal, refl, ap, arith}
+use Rattle.std.proofs.Common.{◌≡◌, suc, ◌+◌, ◌∷◌, decimal, refl, ap, arith}
 use Rattle.pop_print.specs.Laws.{SignedLiterals}
 
 -- the law

@@ -8,6 +8,7 @@ use Rattle.pop_model.specs.Instances.{Instance}
 use Rattle.graph_read.specs.Graphs.{GraphOf}
 use Rattle.pop_print.specs.declared.facts.Facts.TheVariants.{Formula, Orient, Tree, Made}
 use Rattle.pop_print.specs.Output.{end_text}
+use Rattle.pop_print.specs.Rounds.{rounds_text}
 
 -- the given entries of two variables
 abbrev entries : List (List ℕ)
@@ -34,6 +35,17 @@ a_sample = refl
 an_event_that_occurs : end_text (Formula 2) two (2 ∷ 1 ∷ []) 3 (second ∷ []) ≡ codes "s EXHAUSTED\nstuck 7\nused 2 1\npops 3\n"
 unfolding digits
 an_event_that_occurs = refl
+
+-- rounds are told in the place of pops
+finished_rounds : rounds_text (Formula 2) two (2 ∷ 1 ∷ []) 3 [] None ≡ codes "s SAMPLE\nv 1 -2 0\nused 2 1\nrounds 3\n"
+unfolding digits
+finished_rounds = refl
+
+-- and behind exhausted ones the variable without a next entry, from 1
+exhausted_rounds : rounds_text (Formula 2) two (2 ∷ 1 ∷ []) 3 (second ∷ []) (Some 1)
+    ≡ codes "s EXHAUSTED\nstuck 7\nused 2 1\nrounds 3\nshort 2\n"
+unfolding digits
+exhausted_rounds = refl
 
 -- no variable: `v 0`, and `used` alone
 nothing : end_text (Formula 0) (record { stacks = record { origin = Given []; weights = [] }; family = Listed [] }) [] 0 []

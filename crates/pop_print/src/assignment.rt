@@ -18,6 +18,18 @@ fn push_literal(out: &mut Output, v: u32, x: u32) -> Result<(), AllocError>
     out.push_number(name)
 }
 
+/// The line of an assignment, by a row of the values of so many variables.
+pub fn push_assignment_of(out: &mut Output, values: &[u32], count: u32) -> Result<(), AllocError>
+    requires { length values.now ≡ count }
+    ensures { OnOk result (out.new ≡ out.old ++ assignment_line values.now) }
+{
+    out.push(b"v")?;
+    for v in 0..count {
+        push_literal(out, v, values[v as usize])?;
+    }
+    out.push(b" 0\n")
+}
+
 /// The line of an assignment, by the values of so many variables.
 pub fn push_assignment(out: &mut Output, values: &Values, count: u32) -> Result<(), AllocError>
     requires { length values.now ≡ count }

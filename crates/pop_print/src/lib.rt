@@ -1,5 +1,5 @@
 //! The end of a run as text. Contracts see the text as a function of the facts about the source,
-//! the instance, the cursors, the number of pops and the events that occur.
+//! the instance, the cursors, the number of pops or of rounds, and the events that occur.
 #![tactic(auto)]
 
 mod arrow;
@@ -10,6 +10,7 @@ pub mod laws;
 mod line;
 mod orientation;
 mod printing;
+mod rounds;
 mod sample;
 mod stuck;
 mod summary;
@@ -19,3 +20,4 @@ mod tree;
 
 pub use facts::Facts;
 pub use printing::text;
+pub use rounds::text_of_rounds;

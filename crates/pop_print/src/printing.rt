@@ -79,7 +79,7 @@ fn push_text(
 
 // About how many bytes the text has: for each variable a cursor, mostly of one digit, and its name
 // with a sign and a space, or a line of three numbers; and a few lines, which are all of a summary.
-fn room_for(facts: &Facts, count: u32) -> usize {
+pub(crate) fn room_for(facts: &Facts, count: u32) -> usize {
     let digits = Buffer::new().format(count).len();
     let of_each = match facts {
         Facts::Formula(_) => digits + 4,

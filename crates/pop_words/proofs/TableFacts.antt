@@ -9,7 +9,7 @@ use Rattle.std.proofs.lemmas.Map.Views.{Contains-from_any}
 use Rattle.std.proofs.lemmas.Slice.Eq.{bytes_eq-Decides}
 use Rattle.hex.proofs.OnLiterals.{hex_on_literals}
 use Rattle.pop_words.specs.declared.command.Command.{Command}
-use Rattle.pop_words.specs.declared.command.Command.TheVariants.{Formula, Orient, Tree, Resample, Check, Make}
+use Rattle.pop_words.specs.declared.command.Command.TheVariants.{Formula, Orient, Tree, Resample, Check, Make, Rounds}
 use Rattle.pop_words.specs.declared.field.Field.{Field}
 use Rattle.pop_words.specs.declared.field.Field.TheVariants.{Stacks, Key, Height, Workers, Root, Witness, Reports, Size}
 use Rattle.pop_words.specs.Values.{are_different}
@@ -29,6 +29,7 @@ commanded_again Tree = refl
 commanded_again Resample = refl
 commanded_again Check = refl
 commanded_again Make = refl
+commanded_again Rounds = refl
 
 -- the names of options
 abbrev names : List NamedOption → List (List ℕ)

@@ -4,7 +4,7 @@ use Rattle.hex.proofs.OnLiterals.{hex_on_literals}
 use Rattle.pop_stacks.specs.declared.stack_spec.StackSpec.TheVariants.{Given, Key}
 use Rattle.pop_words.specs.declared.board_kind.BoardKind.TheVariants.{Lock}
 use Rattle.pop_words.specs.declared.command.Command.{Command}
-use Rattle.pop_words.specs.declared.command.Command.TheVariants.{Formula, Orient, Tree, Resample, Check, Make}
+use Rattle.pop_words.specs.declared.command.Command.TheVariants.{Formula, Orient, Tree, Resample, Check, Make, Rounds}
 use Rattle.pop_words.specs.declared.job.Job.{Job}
 use Rattle.pop_words.specs.Values.{number_between, rows_in, key_in, reports_in}
 use Rattle.pop_words.specs.CommandLines.{Asks, IsBadPlace}
@@ -137,6 +137,10 @@ tree_alone = reading_is (codes "tree" ∷ [])
 resample_alone : Asks (codes "resample" ∷ []) (record (plain Resample) { log = true })
 resample_alone = reading_is (codes "resample" ∷ [])
 
+-- `rounds` alone is a job with no option, which tells no log
+rounds_alone : Asks (codes "rounds" ∷ []) (plain Rounds)
+rounds_alone = reading_is (codes "rounds" ∷ [])
+
 -- options stand in any order, and their numbers may begin with zeros
 height_behind_root : Asks (codes "tree" ∷ codes "--root" ∷ codes "03" ∷ codes "--height" ∷ codes "9" ∷ [])
     (record (plain Tree) { height = 9; root = 3 })
@@ -176,8 +180,12 @@ no_words : IsBadPlace [] 1
 no_words = reading_is []
 
 -- a first word that is no command
-no_command : IsBadPlace (codes "rounds" ∷ []) 1
-no_command = reading_is (codes "rounds" ∷ [])
+no_command : IsBadPlace (codes "round" ∷ []) 1
+no_command = reading_is (codes "round" ∷ [])
+
+-- rounds share no workers
+no_workers_of_rounds : IsBadPlace (codes "rounds" ∷ codes "--workers" ∷ codes "2" ∷ []) 2
+no_workers_of_rounds = reading_is (codes "rounds" ∷ codes "--workers" ∷ codes "2" ∷ [])
 
 -- `--board` is no option
 no_board_yet : IsBadPlace (codes "formula" ∷ codes "--board" ∷ codes "lock" ∷ []) 2

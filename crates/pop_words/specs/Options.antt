@@ -2,7 +2,7 @@
 use Rattle.std.specs.Prelude.{ℕ, ◌-◌, ◌^◌, Bool, true, false, List, [], ◌∷◌, replicate, Option, None, Some, option_map, codes}
 use Rattle.pop_stacks.specs.declared.stack_spec.StackSpec.TheVariants.{Key as KeyedStacks, Given as GivenStacks}
 use Rattle.pop_words.specs.declared.command.Command.{Command}
-use Rattle.pop_words.specs.declared.command.Command.TheVariants.{Formula, Orient, Tree, Resample, Check, Make}
+use Rattle.pop_words.specs.declared.command.Command.TheVariants.{Formula, Orient, Tree, Resample, Check, Make, Rounds}
 use Rattle.pop_words.specs.declared.command.Input.{Input}
 use Rattle.pop_words.specs.declared.command.Input.TheVariants.{Formula as OfFormula, Graph as OfGraph, Nothing as OfNothing}
 use Rattle.pop_words.specs.declared.board_kind.BoardKind.TheVariants.{Lock}
@@ -22,7 +22,7 @@ pub record NamedCommand : Type 0 where
 
 -- every command
 abbrev pub commands : List Command
-commands = Formula ∷ Orient ∷ Tree ∷ Resample ∷ Check ∷ Make ∷ []
+commands = Formula ∷ Orient ∷ Tree ∷ Resample ∷ Check ∷ Make ∷ Rounds ∷ []
 
 -- the table of commands
 abbrev pub command_row : Command → NamedCommand
@@ -32,6 +32,7 @@ command_row Tree = record { word = codes "tree"; input = OfGraph; log = false }
 command_row Resample = record { word = codes "resample"; input = OfFormula; log = true }
 command_row Check = record { word = codes "check"; input = OfFormula; log = false }
 command_row Make = record { word = codes "make"; input = OfNothing; log = false }
+command_row Rounds = record { word = codes "rounds"; input = OfFormula; log = false }
 
 -- the word of a command
 abbrev pub command_word : Command → List ℕ
@@ -88,7 +89,11 @@ pub record NamedOption : Type 0 where
 
 -- the commands that sample
 abbrev pub sampling : List Command
-sampling = Formula ∷ Orient ∷ Tree ∷ Resample ∷ Make ∷ []
+sampling = Formula ∷ Orient ∷ Tree ∷ Resample ∷ Make ∷ Rounds ∷ []
+
+-- the commands whose pops workers may share: all of these but rounds, which pop no event alone
+abbrev pub popping : List Command
+popping = Formula ∷ Orient ∷ Tree ∷ Resample ∷ Make ∷ []
 
 -- an option of these commands that excludes none, and may be left out
 abbrev pub free_option : List ℕ → Field → List Command → NamedOption
@@ -107,7 +112,7 @@ options =
     }
     ∷ free_option (codes "--key") Key sampling
     ∷ free_option (codes "--height") Height sampling
-    ∷ free_option (codes "--workers") Workers sampling
+    ∷ free_option (codes "--workers") Workers popping
     ∷ free_option (codes "--root") Root (Tree ∷ [])
     ∷ free_option (codes "--witness") Witness (Resample ∷ [])
     ∷ free_option (codes "--report") ReportKinds (Resample ∷ [])

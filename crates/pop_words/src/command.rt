@@ -20,6 +20,9 @@ pub enum Command {
     /// `make`: sample a spanning tree of a square grid that is made from a number, and tell it in
     /// short.
     Make,
+    /// `rounds`: sample a valuation as `formula` does, of clauses that may clash, by synchronous
+    /// rounds.
+    Rounds,
 }
 
 /// What a command reads.
@@ -45,13 +48,14 @@ struct CommandRow {
 }
 
 impl Command {
-    const ALL: [Command; 6] = [
+    const ALL: [Command; 7] = [
         Command::Formula,
         Command::Orient,
         Command::Tree,
         Command::Resample,
         Command::Check,
         Command::Make,
+        Command::Rounds,
     ];
 
     // Its row of the table.
@@ -67,6 +71,7 @@ impl Command {
             Command::Resample => ("resample", Input::Formula, true),
             Command::Check => ("check", Input::Formula, false),
             Command::Make => ("make", Input::Nothing, false),
+            Command::Rounds => ("rounds", Input::Formula, false),
         };
         CommandRow { word, input, log }
     }

@@ -29,6 +29,16 @@ const SAMPLING: &[Command] = &[
     Command::Tree,
     Command::Resample,
     Command::Make,
+    Command::Rounds,
+];
+
+// The commands whose pops workers may share: all that sample but rounds, which pop no event alone.
+const POPPING: &[Command] = &[
+    Command::Formula,
+    Command::Orient,
+    Command::Tree,
+    Command::Resample,
+    Command::Make,
 ];
 
 // The options of keyed stacks.
@@ -59,7 +69,7 @@ const OPTIONS: [OptionRow; 8] = [
     OptionRow {
         name: "--workers",
         field: Field::Workers,
-        commands: SAMPLING,
+        commands: POPPING,
         excludes: &[],
         needed: false,
     },

@@ -61,6 +61,20 @@ stuck_printed facts family stuck =
     sym (flat_map-map (λ (numbers : List ℕ). line (codes "stuck" ++ spaced (map decimal numbers)))
     (event_names facts family) stuck)
 
+-- a text of the events that occur, the cursors and more
+pub shows_stuck_then : (facts : Facts) (i : Instance) (c : List ℕ) (e : Event) (stuck : List Event) (more : List ℕ)
+    (Is : List ℕ → List ℕ → Type 0) → AreStuck (Is c) (numbers_of facts i.family (e ∷ stuck))
+    → ShowsStuck Is (((line (codes "s EXHAUSTED") ++ stuck_lines facts i.family (e ∷ stuck)) ++ used_line c) ++ more)
+shows_stuck_then facts i c e stuck more Is are =
+    let head : List ℕ = line (codes "s EXHAUSTED") in
+    record {
+      events = numbers_of facts i.family (e ∷ stuck);
+      used = c;
+      rest = more;
+      out_is = ap (λ l. ((head ++ l) ++ used_line c) ++ more) (stuck_printed facts i.family (e ∷ stuck));
+      stuck = are;
+    }
+
 -- a text of the events that occur, the cursors, the pops and more
 pub shows_stuck : (facts : Facts) (i : Instance) (c : List ℕ) (pops : ℕ) (e : Event) (stuck : List Event)
     (more : List ℕ)
@@ -68,38 +82,24 @@ pub shows_stuck : (facts : Facts) (i : Instance) (c : List ℕ) (pops : ℕ) (e 
     → ShowsStuck Is ((((line (codes "s EXHAUSTED") ++ stuck_lines facts i.family (e ∷ stuck)) ++ used_line c)
     ++ pops_line pops) ++ more)
 shows_stuck facts i c pops e stuck more Is are =
-    let head : List ℕ = line (codes "s EXHAUSTED") in
-    let lines : List ℕ = stuck_lines facts i.family (e ∷ stuck) in
-    record {
-      events = numbers_of facts i.family (e ∷ stuck);
-      used = c;
-      rest = pops_line pops ++ more;
-      out_is = append_assoc ((head ++ lines) ++ used_line c) (pops_line pops) more
-          ∙ ap (λ l. ((head ++ l) ++ used_line c) ++ (pops_line pops ++ more))
-          (stuck_printed facts i.family (e ∷ stuck));
-      stuck = are;
-    }
-
--- a text of a sample, the cursors, the pops and more, behind the sample
-pub sample_rest : (front : List ℕ) (c : List ℕ) (pops : ℕ) (more : List ℕ)
-    → ((front ++ used_line c) ++ pops_line pops) ++ more ≡ front ++ (used_line c ++ (pops_line pops ++ more))
-sample_rest front c pops more =
-    append_assoc (front ++ used_line c) (pops_line pops) more
-    ∙ append_assoc front (used_line c) (pops_line pops ++ more)
+    let front : List ℕ = (line (codes "s EXHAUSTED") ++ stuck_lines facts i.family (e ∷ stuck)) ++ used_line c in
+    subst (ShowsStuck Is) (sym (append_assoc front (pops_line pops) more))
+    (shows_stuck_then facts i c e stuck (pops_line pops ++ more) Is are)
 
 -- the law for formulas
 pub formula_shown : FormulaShown
-formula_shown f events s c pops [] more literals full are size bits list =
+formula_shown f events s c [] more literals full are size bits list =
     record {
       words = words_at s c;
-      rest = used_line c ++ (pops_line pops ++ more);
-      out_is = sample_rest (line (codes "s SAMPLE") ++ sample_lines (Formula f.variables) (values_at s c)) c pops more;
+      rest = used_line c ++ more;
+      out_is = append_assoc (line (codes "s SAMPLE") ++ sample_lines (Formula f.variables) (values_at s c))
+          (used_line c) more;
       literals = subst (λ n. AreLiteralsOf n (words_at s c)) size (are_literals s c);
       satisfied = printed_satisfies f events s c literals full are size bits
           (empty_finished (record { stacks = s; family = Listed events }) c list);
     }
-formula_shown f events s c pops (e ∷ stuck) more literals full are size bits list =
-    shows_stuck (Formula f.variables) (record { stacks = s; family = Listed events }) c pops e stuck more
+formula_shown f events s c (e ∷ stuck) more literals full are size bits list =
+    shows_stuck_then (Formula f.variables) (record { stacks = s; family = Listed events }) c e stuck more
     (λ used numbers. IsFalseClause f (values_at s used) numbers)
     (printed_false f events s c (e ∷ stuck) literals full are size list (omega arith))
 

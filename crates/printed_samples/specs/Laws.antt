@@ -14,7 +14,7 @@ use Rattle.sink_popping.specs.Sinks.{AreSinksOf, IsIsolated}
 use Rattle.pop_print.specs.declared.facts.Facts.{Facts}
 use Rattle.pop_print.specs.declared.facts.Facts.TheVariants.{Formula, Orient}
 use Rattle.pop_print.specs.Names.{event_names}
-use Rattle.pop_print.specs.Output.{literals_of, end_text}
+use Rattle.pop_print.specs.Output.{literals_of, findings, used_line, end_text}
 use Rattle.printed_samples.specs.Assignments.{IsSatisfied, ShowsAssignment}
 use Rattle.printed_samples.specs.Orientations.{arrows_by, IsLeft, ShowsOrientation}
 use Rattle.printed_samples.specs.Stuck.{AreStuck, IsFalseClause, IsUnleft, ShowsFalse, ShowsSinks}
@@ -78,14 +78,15 @@ abbrev pub ShowsFormula : Cnf → StackTable → List Event → List ℕ → Typ
 ShowsFormula f s [] out = ShowsAssignment f out
 ShowsFormula f s (e ∷ stuck) out = ShowsFalse f s out
 
--- the text of an end of a formula shows that, whatever stands behind it
+-- a text of what was found at an end of a formula and of the cursors shows that, whatever stands
+-- behind it
 abbrev pub FormulaShown : Type 0
-FormulaShown = (f : Cnf) (events : List (ℕ × Cube)) (s : StackTable) (c : List ℕ) (pops : ℕ)
+FormulaShown = (f : Cnf) (events : List (ℕ × Cube)) (s : StackTable) (c : List ℕ)
     (stuck : List Event) (more : List ℕ) → AreLiterals f.variables f.clauses → first_empty f ≡ None
     → AreEventsOf f.clauses events → length c ≡ f.variables → HaveBits f.variables s c
     → IsStuckList (instance_over s events) c stuck
     → ShowsFormula f s stuck
-    (end_text (Formula f.variables) (instance_over s events) c pops stuck ++ more)
+    ((findings (Formula f.variables) (instance_over s events) c stuck ++ used_line c) ++ more)
 
 -- what an end of a graph's sinks shows: a sample where none occurs, and else the vertices that no
 -- arrow leaves

@@ -26,7 +26,8 @@ pub fn sound_values()
     ensures { SoundValues }
 {}
 
-/// The text of an end of a formula shows a sample, or the clauses that are false.
+/// A text of what was found at an end of a formula and of the cursors shows a sample, or the
+/// clauses that are false, whatever stands behind it.
 pub fn formula_shown()
     ensures { FormulaShown }
 {}

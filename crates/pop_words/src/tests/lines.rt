@@ -2,7 +2,7 @@
 
 /// Lines of the grammar. A job is told by its command and by what differs from the defaults; `Z`
 /// stands for 64 zeros.
-pub static ACCEPTED: [(&str, &str); 52] = [
+pub static ACCEPTED: [(&str, &str); 55] = [
     ("formula", "formula"),
     ("check", "check"),
     ("formula --stacks 0,0,1", "formula rows [0, 0, 1]"),
@@ -91,10 +91,16 @@ pub static ACCEPTED: [(&str, &str); 52] = [
         "resample --report heights --witness 1,0 --workers 2",
         "resample workers 2 log witness 1 0 heights",
     ),
+    ("rounds", "rounds"),
+    (
+        "rounds --stacks 0,1;0,0;0,0",
+        "rounds rows [0, 1] [0, 0] [0, 0]",
+    ),
+    ("rounds --height 3 --key Z", "rounds height 3"),
 ];
 
 /// Lines outside the grammar: 64 zeros are a key, 63 and 65 aren't. The word `--board` is to come.
-pub static REFUSED: [(&str, u32); 128] = [
+pub static REFUSED: [(&str, u32); 137] = [
     ("", 1),
     ("Formula", 1),
     ("formulas", 1),
@@ -232,6 +238,15 @@ pub static REFUSED: [(&str, u32); 128] = [
     ("resample --report heights,totals,heights", 3),
     ("resample --report totals --report heights", 4),
     ("formula --board lock", 2),
+    ("round", 1),
+    ("rounds --workers 2", 2),
+    ("rounds --root 1", 2),
+    ("rounds --grow 4", 2),
+    ("rounds --witness 1,0", 2),
+    ("rounds --report totals", 2),
+    ("rounds grid 2", 2),
+    ("rounds --key Z --workers 2", 4),
+    ("rounds --stacks 0 --height 1", 4),
 ];
 
 /// Rows at their limits, 2^22 rows and 2^20 numbers in one row and in as many: how the line begins,
