@@ -14,7 +14,7 @@ use Rattle.graph_read.specs.Grids.{grid_of}
 use Rattle.sink_popping.specs.Sinks.{IsIsolated}
 use Rattle.cycle_popping.specs.Trees.{weights_of_tree}
 use Rattle.pop_words.specs.declared.command.Command.{Command}
-use Rattle.pop_words.specs.declared.command.Command.TheVariants.{Formula, Orient, Tree, Resample, Check, Make}
+use Rattle.pop_words.specs.declared.command.Command.TheVariants.{Formula, Orient, Tree, Resample, Check, Make, Rounds}
 use Rattle.pop_words.specs.declared.job.Job.{Job}
 use Rattle.pop_words.proofs.OneJob.{same_job}
 use Rattle.pop_watch.specs.Telling.{Watcher}
@@ -23,10 +23,11 @@ use Rattle.popsample.specs.declared.asked.Asked.{Asked}
 use Rattle.popsample.specs.Witnesses.{Witness, is_missing}
 use Rattle.popsample.specs.Witnesses.Witness.{Unasked, Missing, Shown}
 use Rattle.popsample.specs.Outcomes.{Outcome, status_of, end_status, resampled_status}
-use Rattle.popsample.specs.Outcomes.Outcome.{Usage, Unread, Isolated, NoRoot, CutOff, Unsound, Clashes, Extremal, Ended, Resampled}
+use Rattle.popsample.specs.Outcomes.Outcome.{Usage, Unread, Isolated, NoRoot, CutOff, Unsound, Clashes, Extremal, Ended, Resampled, Rounded}
 use Rattle.popsample.specs.Sampling.{pair_weights}
 use Rattle.popsample.specs.Formulas.{ComesOfFormula, ComesOfChecking}
 use Rattle.popsample.specs.Resamplings.{ComesOfResampling}
+use Rattle.popsample.specs.Rounds.{ComesOfRounds}
 use Rattle.popsample.specs.Orientations.{ComesOfOrienting}
 use Rattle.popsample.specs.Trees.{ComesOfTree}
 use Rattle.popsample.specs.Grids.{ComesOfGrid}
@@ -68,6 +69,7 @@ formula_low origin f (NoRoot r) sound extremal h = absurd h.1.end
 formula_low origin f (CutOff w) sound extremal h = absurd h.1.end
 formula_low origin f (Extremal n) sound extremal h = absurd h.1.end
 formula_low origin f (Resampled t i l s w b) sound extremal h = absurd h.1.end
+formula_low origin f (Rounded t i c n s v) sound extremal h = absurd h.1.end
 
 -- the same with a log, where the witness is there
 resampling_low : (origin : Origin) (asked : Asked) (ws : List Watcher) (f : Cnf) (o : Outcome)
@@ -84,6 +86,23 @@ resampling_low origin asked ws f (NoRoot r) sound has h = absurd h.1.history
 resampling_low origin asked ws f (CutOff w) sound has h = absurd h.1.history
 resampling_low origin asked ws f (Extremal n) sound has h = absurd h.1.history
 resampling_low origin asked ws f (Ended t i c n s) sound has h = absurd h.1.history
+resampling_low origin asked ws f (Rounded t i c n s v) sound has h = absurd h.1.history
+
+-- the same by rounds
+rounds_low : (origin : Origin) (f : Cnf) (o : Outcome) → IsSound origin (pair_weights f.variables)
+    → ComesOfRounds origin f o → IsLow (status_of o)
+rounds_low origin f (Rounded t i c n s v) sound h = end_low s
+rounds_low origin f (Unsound t r) sound h =
+    absurd (sound_has_none origin (pair_weights f.variables) r sound h.1)
+rounds_low origin f (Clashes i j) sound h = absurd h.1.end
+rounds_low origin f (Usage p) sound h = absurd h.1.end
+rounds_low origin f (Unread r) sound h = absurd h.1.end
+rounds_low origin f (Isolated w) sound h = absurd h.1.end
+rounds_low origin f (NoRoot r) sound h = absurd h.1.end
+rounds_low origin f (CutOff w) sound h = absurd h.1.end
+rounds_low origin f (Extremal n) sound h = absurd h.1.end
+rounds_low origin f (Ended t i c n s) sound h = absurd h.1.end
+rounds_low origin f (Resampled t i l s w b) sound h = absurd h.1.end
 
 -- a formula that is checked
 checking_low : (f : Cnf) (o : Outcome) → HasExtremalEvents f → ComesOfChecking f o → IsLow (status_of o)
@@ -106,6 +125,7 @@ orienting_low origin g (NoRoot r) touched sound h = absurd h.1.1.end
 orienting_low origin g (CutOff w) touched sound h = absurd h.1.1.end
 orienting_low origin g (Extremal n) touched sound h = absurd h.1.1.end
 orienting_low origin g (Resampled t i l s w b) touched sound h = absurd h.1.1.end
+orienting_low origin g (Rounded t i c n s v) touched sound h = absurd h.1.1.end
 
 -- a graph each of whose vertices is joined to its root
 tree_low : (origin : Origin) (root : ℕ) (g : GraphOf) (o : Outcome) → root ≤ g.vertices → IsConnected g root
@@ -121,6 +141,7 @@ tree_low origin root g (Unread r) last joined sound h = absurd h.2.1
 tree_low origin root g (Isolated w) last joined sound h = absurd h.2.1
 tree_low origin root g (Extremal n) last joined sound h = absurd h.2.1
 tree_low origin root g (Resampled t i l s w b) last joined sound h = absurd h.2.1
+tree_low origin root g (Rounded t i c n s v) last joined sound h = absurd h.2.1
 
 -- a grid
 grid_low : (origin : Origin) (side : ℕ) (o : Outcome) → IsSound origin (weights_of_tree (grid_of side) 1)
@@ -136,6 +157,7 @@ grid_low origin side (Unread r) sound h = absurd h.1
 grid_low origin side (Isolated w) sound h = absurd h.1
 grid_low origin side (Extremal n) sound h = absurd h.1
 grid_low origin side (Resampled t i l s w b) sound h = absurd h.1
+grid_low origin side (Rounded t i c n s v) sound h = absurd h.1
 
 -- a text that spells a formula or a graph is answered by it
 spelled : (text : List ℕ) (f : Cnf) → Spells text f → AnswersCnf text (Ok f)
@@ -161,6 +183,9 @@ command_low Resample job ws text o (f, spells, sound) has h =
 command_low Check job ws text o (f, spells, extremal) has h =
     checking_low f o extremal (subst (λ g. ComesOfChecking g o) (h.spelled.1 ∙ sym (spelled text f spells).1) h.comes)
 command_low Make job ws text o sound has h = grid_low (origin_for job) job.size o sound h
+command_low Rounds job ws text o (f, spells, sound) has h =
+    rounds_low (origin_for job) f o sound
+    (subst (λ g. ComesOfRounds (origin_for job) g o) (h.spelled.1 ∙ sym (spelled text f spells).1) h.comes)
 
 -- and its text isn't refused
 unrefused : (command : Command) (job : Job) (text : List ℕ) (r : ReadRefusal) → CanBeDone command job text → IsOfText r
@@ -174,6 +199,7 @@ unrefused Tree job text r (g, is, last, joined, sound) of refuses =
 unrefused Resample job text r (f, spells, sound) of refuses = no_cnf_refusal text f r (spelled text f spells) of refuses
 unrefused Check job text r (f, spells, extremal) of refuses = no_cnf_refusal text f r (spelled text f spells) of refuses
 unrefused Make job text r sound of refuses = refuses
+unrefused Rounds job text r (f, spells, sound) of refuses = no_cnf_refusal text f r (spelled text f spells) of refuses
 
 -- the law
 pub all_done : Complete

@@ -1,12 +1,12 @@
 -- A run's end that is told is the end of the one-thread run of what is sampled; and each such end is told.
-use Rattle.std.proofs.Common.{◌≡◌, ℕ, ◌<◌, ◌≤◌, List, refl, sym, subst, ◌∙◌, arith}
+use Rattle.std.proofs.Common.{◌≡◌, ℕ, List, refl, sym, subst, arith}
 use Rattle.pop_model.specs.Families.{Event}
 use Rattle.pop_model.specs.Instances.{Instance}
 use Rattle.pop_model.specs.Runs.{IsFirstEnd}
 use Rattle.pop_stacks.specs.Faults.{IsSound}
 use Rattle.graph_read.specs.Grids.{grid_of}
 use Rattle.pop_words.specs.declared.command.Command.{Command}
-use Rattle.pop_words.specs.declared.command.Command.TheVariants.{Formula, Orient, Tree, Resample, Check, Make}
+use Rattle.pop_words.specs.declared.command.Command.TheVariants.{Formula, Orient, Tree, Resample, Check, Make, Rounds}
 use Rattle.pop_words.specs.declared.job.Job.{Job}
 use Rattle.pop_words.specs.CommandLines.{Asks}
 use Rattle.pop_words.proofs.JobsInRange.{asked_root, asked_size}
@@ -96,6 +96,7 @@ ended_subject words job asks Make by ws text facts i c pops stuck h =
       end = h.1.2;
     }
 ended_subject words job asks Resample by ws text facts i c pops stuck h = absurd h.comes.1.history
+ended_subject words job asks Rounds by ws text facts i c pops stuck h = absurd h.comes.1.end
 ended_subject words job asks Check by ws text facts i c pops stuck h = absurd h.comes
 
 -- the end of the one-thread run of what a job samples comes of it
@@ -161,4 +162,5 @@ subject_ended Make job ws text s is sound c pops stuck end =
       (refl, refl, subst (λ (t : Subject). IsFirstEnd (instance_over (origin_for job) t) c pops stuck) is.is end),
     )
 subject_ended Resample job ws text s is sound c pops stuck end = absurd is
+subject_ended Rounds job ws text s is sound c pops stuck end = absurd is
 subject_ended Check job ws text s is sound c pops stuck end = absurd is

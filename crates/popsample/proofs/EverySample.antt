@@ -1,9 +1,9 @@
 -- What satisfies a formula, leaves no vertex of a graph a sink, or leads to its root is a sample: an event with all its
 -- values there would be a clause that is false, a vertex without a way out, or a cycle.
-use Rattle.std.proofs.Common.{inl, inr, ◌≡◌, ◌≢◌, ◌⊎◌, ℕ, zero, suc, ◌+◌, ◌-◌, ◌<◌, false, true, ℤ, pos, negsuc, List, [], ◌∷◌, length, map, get_or, All, Option, None, Some, slice_index, slice_get, refl, sym, ap, subst, ◌∙◌, arith, Contains}
+use Rattle.std.proofs.Common.{inl, inr, ◌≡◌, ℕ, zero, suc, ◌<◌, ℤ, pos, negsuc, List, [], ◌∷◌, length, map, get_or, All, Option, None, Some, slice_index, refl, sym, ap, subst, ◌∙◌, arith, Contains}
 use Rattle.std.specs.Option.{option_and_then}
 use Rattle.std.proofs.lemmas.Bool.{false≢true}
-use Rattle.std.proofs.lemmas.List.{length-map, length-replicate, get_or-replicate}
+use Rattle.std.proofs.lemmas.List.{length-replicate, get_or-replicate}
 use Rattle.std.proofs.lemmas.List.Elements.{All-contains, All-get_or}
 use Rattle.std.proofs.lemmas.Option.{none-some, slice_get_within, get_or_from_slice_get}
 use Rattle.pop_model.specs.Stacks.{StackTable, row_of}

@@ -1,12 +1,11 @@
 -- The exact law, said of answers. The rows of words that are answered are sound, and make up what is sampled; so the laws
 -- of samples tell the run of the rows with another sample, or of rows that have the sample from the start.
-use Rattle.std.proofs.Common.{◌≡◌, ℕ, zero, suc, ◌+◌, ◌<◌, List, [], ◌∷◌, length, map, get_or, replicate, refl, sym, ap, ap₂, subst, ◌∙◌, arith, zero-add}
+use Rattle.std.proofs.Common.{◌≡◌, ℕ, suc, ◌+◌, ◌<◌, List, [], ◌∷◌, length, map, get_or, replicate, refl, sym, ap, ap₂, subst, ◌∙◌, arith, zero-add}
 use Rattle.std.specs.List.{enumerate_from}
 use Rattle.std.proofs.lemmas.List.{length-map, length-replicate, get_or-map}
 use Rattle.pop_model.specs.Stacks.{row_of, value_from}
 use Rattle.pop_model.specs.Stacks.Origin.{Given as GivenRows}
 use Rattle.pop_model.specs.Popping.{values_at}
-use Rattle.pop_model.specs.Families.{Event}
 use Rattle.pop_model.specs.Instances.{Instance}
 use Rattle.pop_model.specs.Runs.{IsFirstEnd, start_of}
 use Rattle.pop_stacks.specs.Faults.{AreLight, AreSoundRows, IsSound}
@@ -18,16 +17,16 @@ use Rattle.pop_samples.proofs.Finishing.{first_finishes_by, runs_like}
 use Rattle.pop_samples.proofs.FrameRows.{rows_count, some_entry, suits_end}
 use Rattle.pop_samples.proofs.Reached.{reached_samples}
 use Rattle.pop_words.specs.declared.command.Command.{Command}
-use Rattle.pop_words.specs.declared.command.Command.TheVariants.{Formula, Orient, Tree, Resample, Check, Make}
+use Rattle.pop_words.specs.declared.command.Command.TheVariants.{Formula, Orient, Tree, Resample, Check, Make, Rounds}
 use Rattle.pop_words.specs.declared.job.Job.{Job}
 use Rattle.pop_words.specs.CommandLines.{Asks}
 use Rattle.pop_words.proofs.OneJob.{same_job}
 use Rattle.pop_watch.specs.Telling.{Watcher}
 use Rattle.pop_print.specs.declared.facts.Facts.{Facts}
 use Rattle.popsample.specs.Outcomes.Outcome.{Ended}
-use Rattle.popsample.specs.Answers.{ComesOfCommand, IsOutcome, origin_for}
+use Rattle.popsample.specs.Answers.{ComesOfCommand}
 use Rattle.popsample.specs.Subjects.{Subject, instance_over, IsSubjectOf}
-use Rattle.popsample.specs.ExactAnswers.{over_rows, frame_of, frame_over, IsSampledBy, ExchangedAnswers, IsReached, ReachedAnswers}
+use Rattle.popsample.specs.ExactAnswers.{over_rows, frame_of, frame_over, IsSampledBy, ExchangedAnswers, ReachedAnswers}
 use Rattle.popsample.proofs.EndedSubjects.{IsEndOfSubject, ended_subject, subject_ended}
 use Rattle.popsample.proofs.SubjectFrames.{IsSampled, subject_sampled, subject_frame}
 
@@ -86,6 +85,7 @@ of_rows Orient job rows text s h = h
 of_rows Tree job rows text s h = h
 of_rows Make job rows text s h = h
 of_rows Resample job rows text s h = absurd h
+of_rows Rounds job rows text s h = absurd h
 of_rows Check job rows text s h = absurd h
 
 -- a job that samples is answered by the end of the run over these rows

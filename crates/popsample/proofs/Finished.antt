@@ -1,18 +1,18 @@
 -- At the end of a run with status 0 no event occurs: an event that did would stand in the stuck list.
-use Rattle.std.proofs.Common.{◌≡◌, ℕ, List, [], ◌∷◌, sym, subst, arith}
+use Rattle.std.proofs.Common.{◌≡◌, ℕ, List, [], ◌∷◌, Option, sym, subst, arith}
 use Rattle.pop_model.specs.Families.{Event}
 use Rattle.pop_model.specs.Instances.{Instance}
 use Rattle.pop_model.specs.Logs.{LogRecord, replay}
 use Rattle.pop_model.specs.Runs.{IsFinished, IsStuckList, start_of}
 use Rattle.pop_words.specs.declared.command.Command.{Command}
-use Rattle.pop_words.specs.declared.command.Command.TheVariants.{Formula, Orient, Tree, Resample, Check, Make}
+use Rattle.pop_words.specs.declared.command.Command.TheVariants.{Formula, Orient, Tree, Resample, Check, Make, Rounds}
 use Rattle.pop_words.specs.declared.job.Job.{Job}
 use Rattle.pop_watch.specs.Telling.{Watcher}
 use Rattle.pop_print.specs.declared.facts.Facts.{Facts}
 use Rattle.popsample.specs.Witnesses.{Witness}
 use Rattle.popsample.specs.Witnesses.Witness.{Unasked, Missing, Shown}
 use Rattle.popsample.specs.Outcomes.{Outcome, status_of, end_status, resampled_status}
-use Rattle.popsample.specs.Outcomes.Outcome.{Usage, Unread, Isolated, NoRoot, CutOff, Unsound, Clashes, Extremal, Ended, Resampled}
+use Rattle.popsample.specs.Outcomes.Outcome.{Usage, Unread, Isolated, NoRoot, CutOff, Unsound, Clashes, Extremal, Ended, Resampled, Rounded}
 use Rattle.popsample.specs.Answers.{ComesOfCommand, IsOutcome}
 use Rattle.popsample.specs.Laws.{EndsFinished}
 
@@ -35,6 +35,7 @@ stuck_list Resample job ws text facts i c pops stuck h = absurd h.comes.1.histor
 stuck_list Check job ws text facts i c pops stuck h = absurd h.comes
 stuck_list Make job ws text facts i c pops stuck h =
     subst (λ j. IsStuckList j c stuck) (sym h.1.1) h.1.2.stuck_list
+stuck_list Rounds job ws text facts i c pops stuck h = absurd h.comes.1.end
 
 -- that of a run with its log
 logged_stuck_list : (command : Command) (job : Job) (ws : List Watcher) (text : List ℕ) (facts : Facts) (i : Instance)
@@ -48,6 +49,20 @@ logged_stuck_list Resample job ws text facts i log stuck w b h =
     subst (λ j. IsStuckList j (replay (start_of j) log) stuck) (sym history.1) history.2.stuck_list
 logged_stuck_list Check job ws text facts i log stuck w b h = absurd h.comes
 logged_stuck_list Make job ws text facts i log stuck w b h = absurd h.1
+logged_stuck_list Rounds job ws text facts i log stuck w b h = absurd h.comes.1.end
+
+-- that of rounds
+rounds_stuck_list : (command : Command) (job : Job) (ws : List Watcher) (text : List ℕ) (facts : Facts) (i : Instance)
+    (c : List ℕ) (rounds : ℕ) (stuck : List Event) (short : Option ℕ)
+    → ComesOfCommand command job ws text (Rounded facts i c rounds stuck short) → IsStuckList i c stuck
+rounds_stuck_list Formula job ws text facts i c rounds stuck short h = absurd h.comes.1.end
+rounds_stuck_list Orient job ws text facts i c rounds stuck short h = absurd h.comes.1.1.end
+rounds_stuck_list Tree job ws text facts i c rounds stuck short h = absurd h.comes.2.1
+rounds_stuck_list Resample job ws text facts i c rounds stuck short h = absurd h.comes.1.history
+rounds_stuck_list Check job ws text facts i c rounds stuck short h = absurd h.comes
+rounds_stuck_list Make job ws text facts i c rounds stuck short h = absurd h.1
+rounds_stuck_list Rounds job ws text facts i c rounds stuck short h =
+    let end = h.comes.1.end in subst (λ j. IsStuckList j c stuck) (sym end.1) end.2.stuck_list
 
 -- a run with its log whose status is 0 has an empty stuck list
 pub none_stuck : (stuck : List Event) (w : Witness) → resampled_status stuck w ≡ 0 → end_status stuck ≡ 0
@@ -64,6 +79,8 @@ sample_finished words ws text (Ended facts i c pops stuck) h is =
 sample_finished words ws text (Resampled facts i log stuck w b) h is =
     finished i (replay (start_of i) log) stuck
     (logged_stuck_list h.job.command h.job ws text facts i log stuck w b h.comes) (none_stuck stuck w is)
+sample_finished words ws text (Rounded facts i c rounds stuck short) h is =
+    finished i c stuck (rounds_stuck_list h.job.command h.job ws text facts i c rounds stuck short h.comes) is
 sample_finished words ws text (Usage p) h is = tt
 sample_finished words ws text (Unread r) h is = tt
 sample_finished words ws text (Isolated w) h is = tt

@@ -1,4 +1,4 @@
--- The run of a formula's events, and their clash, as what comes of a formula that is sampled.
+-- The run of a formula's events, their clash, and their rounds, as what comes of a formula that is sampled.
 use Rattle.std.proofs.Common.{◌≡◌, ℕ, Bool, true, false, List, refl, sym, ap, subst}
 use Rattle.pop_model.specs.Stacks.{Origin}
 use Rattle.pop_model.specs.Popping.{Cube}
@@ -16,11 +16,12 @@ use Rattle.popsample.specs.declared.asked.Asked.{Asked}
 use Rattle.popsample.specs.declared.refusal.Refusal.{Refusal}
 use Rattle.popsample.specs.declared.refusal.Refusal.TheVariants.{Clashes, Stopped}
 use Rattle.popsample.specs.Outcomes.{Outcome, AnswersBy}
-use Rattle.popsample.specs.Outcomes.Outcome.{Unsound, Usage, Unread, Isolated, NoRoot, CutOff, Extremal, Ended, Resampled, Clashes as ClashesOf}
+use Rattle.popsample.specs.Outcomes.Outcome.{Unsound, Usage, Unread, Isolated, NoRoot, CutOff, Extremal, Ended, Resampled, Rounded, Clashes as ClashesOf}
 use Rattle.popsample.specs.Results.{ComesRefused}
 use Rattle.popsample.specs.Sampling.{pair_weights, instance_of, IsEndOf, ComesOfSampling}
 use Rattle.popsample.specs.Formulas.{EndsFormula, ComesOfRunning, ComesOfChecking}
 use Rattle.popsample.specs.Resamplings.{IsHistoryOf, RunsFormula, IsClashIn}
+use Rattle.popsample.specs.Rounds.{IsRoundsEndOf, EndsRounds, ComesOfRounds}
 use Rattle.popsample.proofs.Carrying.{answered}
 use Rattle.popsample.proofs.GoodForms.{of_sound}
 
@@ -42,6 +43,7 @@ ends origin f (ClashesOf i j) h = absurd h.end
 ends origin f (Extremal n) h = h
 ends origin f (Ended t i c n s) h = h
 ends origin f (Resampled t i l s w b) h = h
+ends origin f (Rounded t i c n s v) h = h
 
 -- a clash of a formula's events refuses it where they may not clash
 pub clash_refused : (clashing : Bool) (origin : Origin) (asked : Asked) (ws : List Watcher) (f : Cnf)
@@ -96,3 +98,18 @@ run_answers true origin asked ws n f events i status out count same of sound tol
           (subst (λ j. IsHistoryOf asked ws (FormulaFacts n) j o) same run);
     }))
     (history told)
+
+-- the answer of the rounds of a formula's instance
+pub rounds_answer : (origin : Origin) (n : ℕ) (f : Cnf) (events : List (ℕ × Cube)) (i : Instance) (status : ℕ)
+    (out : List ℕ) → n ≡ f.variables → i ≡ instance_of origin n events → AreEventsOf f.clauses events
+    → IsSound origin (pair_weights f.variables) → AnswersBy (IsRoundsEndOf (FormulaFacts n) i) status out
+    → AnswersBy (ComesOfRounds origin f) status out
+rounds_answer origin n f events i status out count same of sound =
+    answered (IsRoundsEndOf (FormulaFacts n) i) (ComesOfRounds origin f) status out
+    (λ o end. of_sound (FormulaFacts f.variables) origin (pair_weights f.variables) (EndsRounds origin f) sound
+    (λ t r h. h.end) o (record {
+      events = events;
+      of_formula = of;
+      end = subst (λ k. IsRoundsEndOf (FormulaFacts k) (instance_of origin k events) o) count
+          (subst (λ j. IsRoundsEndOf (FormulaFacts n) j o) same end);
+    }))

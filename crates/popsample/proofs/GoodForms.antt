@@ -14,7 +14,7 @@ use Rattle.cycle_popping.specs.Trees.{weights_of_tree}
 use Rattle.pop_print.specs.declared.facts.Facts.{Facts}
 use Rattle.pop_print.specs.declared.facts.Facts.TheVariants.{Orient as OrientFacts, Tree as TreeFacts}
 use Rattle.popsample.specs.Outcomes.{Outcome, AnswersBy}
-use Rattle.popsample.specs.Outcomes.Outcome.{Usage, Unread, Isolated, NoRoot, CutOff, Unsound, Clashes, Extremal, Ended, Resampled}
+use Rattle.popsample.specs.Outcomes.Outcome.{Usage, Unread, Isolated, NoRoot, CutOff, Unsound, Clashes, Extremal, Ended, Resampled, Rounded}
 use Rattle.popsample.specs.Sampling.{pair_weights, instance_of, IsEndOf, IsFaultOf, ComesOfSampling}
 use Rattle.popsample.specs.Orientations.{EndsOrientation, ComesOfOrienting}
 use Rattle.popsample.specs.Trees.{tree_instance, ComesOfTree}
@@ -42,6 +42,7 @@ of_sound facts origin weights Runs sound none (Clashes i j) h = (sound, h)
 of_sound facts origin weights Runs sound none (Extremal n) h = (sound, h)
 of_sound facts origin weights Runs sound none (Ended t i c n s) h = (sound, h)
 of_sound facts origin weights Runs sound none (Resampled t i l s w b) h = (sound, h)
+of_sound facts origin weights Runs sound none (Rounded t i c n s v) h = (sound, h)
 of_sound facts origin weights Runs sound none (Unsound t f) h = absurd (none t f h)
 
 -- where no vertex is isolated
@@ -58,6 +59,7 @@ of_touched origin g touched (Clashes i j) h = (touched, h)
 of_touched origin g touched (Extremal n) h = (touched, h)
 of_touched origin g touched (Ended t i c n s) h = (touched, h)
 of_touched origin g touched (Resampled t i l s w b) h = (touched, h)
+of_touched origin g touched (Rounded t i c n s v) h = (touched, h)
 
 -- where the root is a vertex, and each vertex is joined to it
 pub of_connected : (origin : Origin) (root : ℕ) (g : GraphOf) → root ≤ g.vertices → IsConnected g root → (o : Outcome)
@@ -74,6 +76,7 @@ of_connected origin root g last connected (Clashes i j) h = (last, connected, h)
 of_connected origin root g last connected (Extremal n) h = (last, connected, h)
 of_connected origin root g last connected (Ended t i c n s) h = (last, connected, h)
 of_connected origin root g last connected (Resampled t i l s w b) h = (last, connected, h)
+of_connected origin root g last connected (Rounded t i c n s v) h = (last, connected, h)
 
 -- a vertex that is cut off refuses a graph of which a tree is asked
 pub cut_off_refused : (origin : Origin) (root : ℕ) (g : GraphOf) (r : Refusal) → root ≤ g.vertices

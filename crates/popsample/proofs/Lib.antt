@@ -25,7 +25,8 @@ mod ToldLog
 mod FirstOfKind
 -- One answer. Leasts: least numbers are one. OneReading: one refusal, formula or graph of a text. OneFault,
 -- OneSampling: one fault of stacks, or one end. OneClash, OneFormula, OneOrientation, OneTree: one outcome of each
--- command. OneResampling, OneLog: two runs, and one answer for each log. OneOutcome: all of these.
+-- command, and OneRounds of rounds. OneResampling, OneLog: two runs, and one answer for each log. OneOutcome: all of
+-- these.
 mod Leasts
 mod OneReading
 mod OneFault
@@ -34,14 +35,17 @@ mod OneClash
 mod OneFormula
 mod OneOrientation
 mod OneTree
+mod OneRounds
 mod OneResampling
 mod OneLog
 mod OneOutcome
 -- Statuses. Statuses: which a text is answered by. Finished: with 0 no event occurs. ShownSamples: with 0 and 1 an
--- end is shown. Completeness: one of these where nothing stands against words and text. WorkersAgree: for any number
--- of workers.
+-- end is shown, of a formula's events (ShownFormulas) and by rounds (ShownRounds) too. Completeness: one of these
+-- where nothing stands against words and text. WorkersAgree: for any number of workers.
 mod Statuses
 mod Finished
+mod ShownFormulas
+mod ShownRounds
 mod ShownSamples
 mod Completeness
 mod WorkersAgree

@@ -8,7 +8,7 @@ use Rattle.dimacs_read.specs.CnfText.{AnswersCnf}
 use Rattle.graph_read.specs.Graphs.{GraphOf}
 use Rattle.graph_read.specs.GraphText.{AnswersGraph}
 use Rattle.pop_words.specs.declared.command.Command.{Command}
-use Rattle.pop_words.specs.declared.command.Command.TheVariants.{Formula, Orient, Tree, Resample, Check, Make}
+use Rattle.pop_words.specs.declared.command.Command.TheVariants.{Formula, Orient, Tree, Resample, Check, Make, Rounds}
 use Rattle.pop_words.specs.declared.job.Job.{Job}
 use Rattle.pop_words.specs.Options.{command_row}
 use Rattle.pop_words.specs.CommandLines.{Asks}
@@ -21,11 +21,12 @@ use Rattle.popsample.specs.declared.stop.Stop.TheVariants.{ReadFault, OutOfMemor
 use Rattle.popsample.specs.declared.refusal.Refusal.{Refusal}
 use Rattle.popsample.specs.declared.refusal.Refusal.TheVariants.{Malformed, Count, EmptyClause, Limit, Stopped}
 use Rattle.popsample.specs.Outcomes.{Outcome}
-use Rattle.popsample.specs.Outcomes.Outcome.{Usage, Unread, Isolated, NoRoot, CutOff, Unsound, Clashes, Extremal, Ended, Resampled}
+use Rattle.popsample.specs.Outcomes.Outcome.{Usage, Unread, Isolated, NoRoot, CutOff, Unsound, Clashes, Extremal, Ended, Resampled, Rounded}
 use Rattle.popsample.specs.Results.{ComesRefused, IsResultOf, IsRefusalOf}
 use Rattle.popsample.specs.Sampling.{pair_weights, ComesOfSampling}
 use Rattle.popsample.specs.Formulas.{ComesOfFormula, ComesOfChecking}
 use Rattle.popsample.specs.Resamplings.{RunsFormula, ComesOfResampling}
+use Rattle.popsample.specs.Rounds.{ComesOfRounds}
 use Rattle.popsample.specs.Orientations.{ComesOfOrienting}
 use Rattle.popsample.specs.Trees.{ComesOfTree}
 use Rattle.popsample.specs.Grids.{ComesOfGrid}
@@ -41,6 +42,7 @@ no_usage Tree job ws text place h = h.comes.2.1
 no_usage Resample job ws text place h = h.comes.1.history
 no_usage Check job ws text place h = h.comes
 no_usage Make job ws text place h = h.1
+no_usage Rounds job ws text place h = h.comes.1.end
 
 -- nor, once the text is read, with the text
 no_refusal : (command : Command) (job : Job) (ws : List Watcher) (text : List ℕ) (refusal : ReadRefusal)
@@ -51,6 +53,7 @@ no_refusal Tree job ws text refusal h = h.comes.2.1
 no_refusal Resample job ws text refusal h = h.comes.1.history
 no_refusal Check job ws text refusal h = h.comes
 no_refusal Make job ws text refusal h = h.1
+no_refusal Rounds job ws text refusal h = h.comes.1.end
 
 -- what a job's command makes of a text comes of the job and the text
 pub of_command : (job : Job) (ws : List Watcher) (text : List ℕ) (o : Outcome)
@@ -67,6 +70,7 @@ of_command job ws text (Clashes i j) h = h
 of_command job ws text (Extremal n) h = h
 of_command job ws text (Ended t i c n s) h = h
 of_command job ws text (Resampled t i l s w b) h = h
+of_command job ws text (Rounded t i c n s v) h = h
 
 -- what comes of a job comes of the words that ask for it
 pub of_words : (words : List (List ℕ)) (job : Job) (ws : List Watcher) (text : List ℕ) → Asks words job → (o : Outcome)
@@ -81,6 +85,7 @@ of_words words job ws text asks (Clashes i j) comes = record { job = job; asks =
 of_words words job ws text asks (Extremal n) comes = record { job = job; asks = asks; comes = comes }
 of_words words job ws text asks (Ended t i c n s) comes = record { job = job; asks = asks; comes = comes }
 of_words words job ws text asks (Resampled t i l s w b) comes = record { job = job; asks = asks; comes = comes }
+of_words words job ws text asks (Rounded t i c n s v) comes = record { job = job; asks = asks; comes = comes }
 
 -- what a command makes of a text is what the job's command makes
 by_command : (job : Job) (ws : List Watcher) (text : List ℕ) (command : Command) → job.command ≡ command → (o : Outcome)
@@ -125,6 +130,14 @@ lifted_resample job ws text f origin asked r is from asked_is spelled comes =
     of_cnf job ws text Resample f (ComesOfResampling (origin_for job) (asked_by job) ws) r is (λ o h. h) spelled
     (subst (λ s. IsResultOf (ComesOfResampling s (asked_by job) ws f) r) from
     (subst (λ a. IsResultOf (ComesOfResampling origin a ws f) r) asked_is comes))
+
+-- of one that is sampled by rounds
+pub lifted_rounds : (job : Job) (ws : List Watcher) (text : List ℕ) (f : Cnf) (origin : Origin)
+    (r : Result Answer Refusal) → job.command ≡ Rounds → origin ≡ origin_for job → AnswersCnf text (Ok f)
+    → IsResultOf (ComesOfRounds origin f) r → IsResultOf (ComesOf job ws text) r
+lifted_rounds job ws text f origin r is from spelled comes =
+    of_cnf job ws text Rounds f (ComesOfRounds (origin_for job)) r is (λ o h. h) spelled
+    (subst (λ s. IsResultOf (ComesOfRounds s f) r) from comes)
 
 -- of one that is checked
 pub lifted_check : (job : Job) (ws : List Watcher) (text : List ℕ) (f : Cnf) (r : Result Answer Refusal)

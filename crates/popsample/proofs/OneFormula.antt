@@ -11,7 +11,7 @@ use Rattle.dimacs_read.specs.Falsifying.{AreEventsOf}
 use Rattle.extremal_check.specs.Clashes.{AreClashing}
 use Rattle.pop_print.specs.declared.facts.Facts.TheVariants.{Formula as FormulaFacts}
 use Rattle.popsample.specs.Outcomes.{Outcome}
-use Rattle.popsample.specs.Outcomes.Outcome.{Usage, Unread, Isolated, NoRoot, CutOff, Unsound, Clashes, Extremal, Ended, Resampled}
+use Rattle.popsample.specs.Outcomes.Outcome.{Usage, Unread, Isolated, NoRoot, CutOff, Unsound, Clashes, Extremal, Ended, Resampled, Rounded}
 use Rattle.popsample.specs.Sampling.{pair_weights, instance_of, IsEndOf}
 use Rattle.popsample.specs.Formulas.{ClashesAt, EndsFormula, ComesOfRunning, ComesOfFormula, ComesOfChecking}
 use Rattle.popsample.proofs.Leasts.{one_least_pair}
@@ -62,6 +62,7 @@ running_cases origin f (Clashes i j) h = inl (i, j, refl, h)
 running_cases origin f (Extremal n) h = inr h
 running_cases origin f (Ended t i c n s) h = inr h
 running_cases origin f (Resampled t i l s w b) h = inr h
+running_cases origin f (Rounded t i c n s v) h = inr h
 
 -- a formula that runs has one outcome
 one_running : (origin : Origin) (f : Cnf) → IsOne (ComesOfRunning origin f)

@@ -16,7 +16,7 @@ use Rattle.witness_trees.specs.Trees.{IsTree}
 use Rattle.witness_trees.proofs.OneTree.{one_tree}
 use Rattle.witness_trees.proofs.OneUse.{one_use, used_below}
 use Rattle.pop_words.specs.declared.command.Command.{Command}
-use Rattle.pop_words.specs.declared.command.Command.TheVariants.{Formula, Orient, Tree, Resample, Check, Make}
+use Rattle.pop_words.specs.declared.command.Command.TheVariants.{Formula, Orient, Tree, Resample, Check, Make, Rounds}
 use Rattle.pop_words.specs.declared.job.Job.{Job}
 use Rattle.pop_words.proofs.OneJob.{same_job}
 use Rattle.pop_watch.specs.Telling.{Watcher, log_told}
@@ -121,6 +121,7 @@ logged Tree job ws text facts i log stuck w b h = absurd h.comes.2.1
 logged Resample job ws text facts i log stuck w b h = of_history job ws _ facts _ i log stuck w b h.comes.1.history
 logged Check job ws text facts i log stuck w b h = absurd h.comes
 logged Make job ws text facts i log stuck w b h = absurd h.1
+logged Rounds job ws text facts i log stuck w b h = absurd h.comes.1.end
 
 -- two such outcomes with one log are the same
 same_logged : (job : Job) (ws : List Watcher) (facts : Facts) (i : Instance) (log : List LogRecord) (s r : List Event)

@@ -9,7 +9,7 @@ use Rattle.sink_popping.specs.Sinks.{AreSinksOf, IsIsolated}
 use Rattle.sink_popping.proofs.OneDirection.{sinks_extremal}
 use Rattle.pop_print.specs.declared.facts.Facts.TheVariants.{Orient as OrientFacts}
 use Rattle.popsample.specs.Outcomes.{Outcome}
-use Rattle.popsample.specs.Outcomes.Outcome.{Usage, Unread, Isolated, NoRoot, CutOff, Unsound, Clashes, Extremal, Ended, Resampled}
+use Rattle.popsample.specs.Outcomes.Outcome.{Usage, Unread, Isolated, NoRoot, CutOff, Unsound, Clashes, Extremal, Ended, Resampled, Rounded}
 use Rattle.popsample.specs.Sampling.{pair_weights, instance_of, IsEndOf, ComesOfSampling}
 use Rattle.popsample.specs.Orientations.{EndsOrientation, ComesOfOrienting}
 use Rattle.popsample.proofs.Leasts.{one_least}
@@ -50,6 +50,7 @@ orienting_cases origin g (Clashes i j) h = inr h
 orienting_cases origin g (Extremal n) h = inr h
 orienting_cases origin g (Ended t i c n s) h = inr h
 orienting_cases origin g (Resampled t i l s w b) h = inr h
+orienting_cases origin g (Rounded t i c n s v) h = inr h
 
 -- a graph that is oriented has one outcome
 pub one_orienting : (origin : Origin) (g : GraphOf) → IsOne (ComesOfOrienting origin g)

@@ -8,17 +8,18 @@ use Rattle.pop_edge.specs.declared.refusal.ReadRefusal.{ReadRefusal}
 use Rattle.dimacs_read.specs.Cnf.{Cnf}
 use Rattle.graph_read.specs.Graphs.{GraphOf}
 use Rattle.pop_words.specs.declared.command.Command.{Command}
-use Rattle.pop_words.specs.declared.command.Command.TheVariants.{Formula, Orient, Tree, Resample, Check, Make}
+use Rattle.pop_words.specs.declared.command.Command.TheVariants.{Formula, Orient, Tree, Resample, Check, Make, Rounds}
 use Rattle.pop_words.specs.declared.job.Job.{Job}
 use Rattle.pop_words.specs.CommandLines.{AreWords, IsBadPlace}
 use Rattle.pop_watch.specs.Telling.{Watcher}
 use Rattle.pop_words.proofs.OneJob.{same_job, same_first_bad}
 use Rattle.pop_print.specs.declared.facts.Facts.{Facts}
 use Rattle.popsample.specs.Outcomes.{Outcome}
-use Rattle.popsample.specs.Outcomes.Outcome.{Usage, Unread, Isolated, NoRoot, CutOff, Unsound, Clashes, Extremal, Ended, Resampled}
+use Rattle.popsample.specs.Outcomes.Outcome.{Usage, Unread, Isolated, NoRoot, CutOff, Unsound, Clashes, Extremal, Ended, Resampled, Rounded}
 use Rattle.popsample.specs.Witnesses.{Witness}
 use Rattle.popsample.specs.Formulas.{ComesOfFormula, ComesOfChecking}
 use Rattle.popsample.specs.Resamplings.{ComesOfResampling}
+use Rattle.popsample.specs.Rounds.{ComesOfRounds}
 use Rattle.popsample.specs.Orientations.{ComesOfOrienting}
 use Rattle.popsample.specs.Trees.{ComesOfTree}
 use Rattle.popsample.specs.Answers.{ComesOfCnf, ComesOfGraph, origin_for, asked_by, ComesOfCommand, IsOfText, Refuses, ComesOf, ComesOfJob, IsOutcome}
@@ -26,6 +27,7 @@ use Rattle.popsample.specs.Laws.{AskForOneEnd, Agree}
 use Rattle.popsample.proofs.OneSampling.{IsOne}
 use Rattle.popsample.proofs.OneFormula.{one_formula, one_checking}
 use Rattle.popsample.proofs.OneResampling.{one_resampling}
+use Rattle.popsample.proofs.OneRounds.{one_rounds}
 use Rattle.popsample.proofs.OneOrientation.{one_orienting}
 use Rattle.popsample.proofs.OneTree.{one_tree, one_grid}
 use Rattle.popsample.proofs.OneReading.{one_refusal, no_cnf_refusal, no_graph_refusal}
@@ -65,6 +67,8 @@ alike_command Resample job ws vs text o p h h' =
     o p h h'
 alike_command Check job ws vs text o p h h' = inl (one_cnf ComesOfChecking text one_checking o p h h')
 alike_command Make job ws vs text o p h h' = inl (one_grid (origin_for job) job.size o p h h')
+alike_command Rounds job ws vs text o p h h' =
+    inl (one_cnf (ComesOfRounds (origin_for job)) text (one_rounds (origin_for job)) o p h h')
 
 -- what a command makes of a text isn't a refusal of the text
 unrefused : (command : Command) (job : Job) (ws : List Watcher) (text : List ℕ) (o : Outcome) (r : ReadRefusal)
@@ -75,6 +79,7 @@ unrefused Tree job ws text o r h of refuses = no_graph_refusal text h.graph r h.
 unrefused Resample job ws text o r h of refuses = no_cnf_refusal text h.formula r h.spelled of refuses
 unrefused Check job ws text o r h of refuses = no_cnf_refusal text h.formula r h.spelled of refuses
 unrefused Make job ws text o r h of refuses = refuses
+unrefused Rounds job ws text o r h of refuses = no_cnf_refusal text h.formula r h.spelled of refuses
 
 -- what comes of a job's command and a text
 abbrev pub Done : Job → List Watcher → List ℕ → Outcome → Type 0
@@ -93,6 +98,7 @@ read_cases job ws text (Clashes i j) h = inr h
 read_cases job ws text (Extremal n) h = inr h
 read_cases job ws text (Ended t i c n s) h = inr h
 read_cases job ws text (Resampled t i l s w b) h = inr h
+read_cases job ws text (Rounded t i c n s v) h = inr h
 
 -- two outcomes of a job and a text
 alike_read : (job : Job) (ws vs : List Watcher) (text : List ℕ) (o p : Outcome) → ComesOf job ws text o
@@ -123,6 +129,7 @@ word_cases words ws text (Clashes i j) h = inr h
 word_cases words ws text (Extremal n) h = inr h
 word_cases words ws text (Ended t i c n s) h = inr h
 word_cases words ws text (Resampled t i l s w b) h = inr h
+word_cases words ws text (Rounded t i c n s v) h = inr h
 
 -- two outcomes of words and a text
 pub one_outcome : (words : List (List ℕ)) (ws vs : List Watcher) (text : List ℕ) (o p : Outcome)
@@ -151,6 +158,7 @@ no_history Tree job ws text facts i log stuck w b other h = h.comes.2.1
 no_history Resample job ws text facts i log stuck w b other h = other refl
 no_history Check job ws text facts i log stuck w b other h = h.comes
 no_history Make job ws text facts i log stuck w b other h = h.1
+no_history Rounds job ws text facts i log stuck w b other h = h.comes.1.end
 
 -- words that don't ask for a resampling have with a text one outcome
 pub only_outcome : (words : List (List ℕ)) (ws : List Watcher) (text : List ℕ) (o p : Outcome) → AskForOneEnd words

@@ -11,7 +11,7 @@ use Rattle.pop_stacks.specs.declared.stack_fault.StackFault.{StackFault}
 use Rattle.pop_stacks.specs.Faults.{IsSound, IsCause}
 use Rattle.pop_print.specs.declared.facts.Facts.{Facts}
 use Rattle.popsample.specs.Outcomes.{Outcome}
-use Rattle.popsample.specs.Outcomes.Outcome.{Usage, Unread, Isolated, NoRoot, CutOff, Unsound, Clashes, Extremal, Ended, Resampled}
+use Rattle.popsample.specs.Outcomes.Outcome.{Usage, Unread, Isolated, NoRoot, CutOff, Unsound, Clashes, Extremal, Ended, Resampled, Rounded}
 use Rattle.popsample.specs.Sampling.{IsEndOf, ComesOfSampling}
 use Rattle.popsample.proofs.OneFault.{one_cause, sound_has_none}
 
@@ -38,6 +38,7 @@ ended facts i (Unsound f r) h = absurd h
 ended facts i (Clashes j k) h = absurd h
 ended facts i (Extremal n) h = absurd h
 ended facts i (Resampled told j l s w b) h = absurd h
+ended facts i (Rounded told j c n s v) h = absurd h
 ended facts i (Ended told j c n s) h =
     record {
       cursors = c;
@@ -76,6 +77,7 @@ sampling_cases facts origin weights Runs (Clashes j k) h = inr h
 sampling_cases facts origin weights Runs (Extremal n) h = inr h
 sampling_cases facts origin weights Runs (Ended told j c n s) h = inr h
 sampling_cases facts origin weights Runs (Resampled told j l s w b) h = inr h
+sampling_cases facts origin weights Runs (Rounded told j c n s v) h = inr h
 
 -- an outcome of sampling and one of sampling with other runs are alike where those of the runs are
 pub alike_sampling : (Alike : Outcome → Outcome → Type 0) → ((o p : Outcome) → o ≡ p → Alike o p) → (facts : Facts)

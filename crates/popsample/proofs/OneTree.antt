@@ -10,7 +10,7 @@ use Rattle.graph_read.specs.Paths.{IsConnected, IsCutOff}
 use Rattle.cycle_popping.specs.Trees.{heads_of_tree, weights_of_tree}
 use Rattle.pop_print.specs.declared.facts.Facts.TheVariants.{Tree as TreeFacts, Made as MadeFacts}
 use Rattle.popsample.specs.Outcomes.{Outcome}
-use Rattle.popsample.specs.Outcomes.Outcome.{Usage, Unread, Isolated, NoRoot, CutOff, Unsound, Clashes, Extremal, Ended, Resampled}
+use Rattle.popsample.specs.Outcomes.Outcome.{Usage, Unread, Isolated, NoRoot, CutOff, Unsound, Clashes, Extremal, Ended, Resampled, Rounded}
 use Rattle.popsample.specs.Sampling.{IsEndOf, ComesOfSampling}
 use Rattle.popsample.specs.Trees.{tree_instance, ComesOfTree}
 use Rattle.popsample.specs.Grids.{ComesOfGrid}
@@ -42,6 +42,7 @@ ways origin root g (Clashes i j) h = sampled h
 ways origin root g (Extremal n) h = sampled h
 ways origin root g (Ended t i c n s) h = sampled h
 ways origin root g (Resampled t i l s w b) h = sampled h
+ways origin root g (Rounded t i c n s v) h = sampled h
 
 -- two outcomes come in one way, and are one
 one_way : (origin : Origin) (root : ℕ) (g : GraphOf) (o p : Outcome) → Ways origin root g o → Ways origin root g p → o ≡ p

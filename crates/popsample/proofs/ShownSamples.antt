@@ -1,15 +1,13 @@
 -- An output with status 0 or 1 is that of an end, and shows the sample, or the events that still occur.
-use Rattle.std.proofs.Common.{◌≡◌, ℕ, ◌-◌, ◌*◌, ◌≤◌, List, [], ◌∷◌, ◌++◌, length, None, refl, sym, ap, subst, ◌∙◌, arith, append_assoc, append-nil}
+use Rattle.std.proofs.Common.{◌≡◌, ℕ, ◌-◌, ◌*◌, ◌≤◌, List, [], ◌∷◌, ◌++◌, length, refl, sym, ap, subst, ◌∙◌, arith, append_assoc}
 use Rattle.std.proofs.lemmas.Nat.{mul-le}
 use Rattle.std.proofs.lemmas.List.{length-replicate}
 use Rattle.std.proofs.lemmas.List.FromFn.{length-map-range_with_len}
 use Rattle.pop_model.specs.Stacks.{Origin, variables_of}
-use Rattle.pop_model.specs.Popping.{Cube}
 use Rattle.pop_model.specs.Families.{Event}
 use Rattle.pop_model.specs.Instances.{Instance}
 use Rattle.pop_model.specs.Logs.{LogRecord, replay}
-use Rattle.pop_model.specs.Runs.{IsFirstEnd, IsStuckList, start_of}
-use Rattle.pop_model.proofs.Replays.{length-replay}
+use Rattle.pop_model.specs.Runs.{IsFirstEnd, start_of}
 use Rattle.pop_edge.specs.declared.refusal.ReadRefusal.{ReadRefusal}
 use Rattle.pop_edge.specs.declared.refusal.ReadRefusal.TheVariants.{Malformed, Count, EmptyClause, Limit, ReadFault, OutOfMemory}
 use Rattle.pop_stacks.specs.declared.stack_fault.StackFault.{StackFault}
@@ -18,14 +16,13 @@ use Rattle.pop_stacks.specs.Faults.{IsSound}
 use Rattle.pop_log.specs.declared.names.Names.TheVariants.{Plain}
 use Rattle.pop_log.specs.LogTexts.{log_text}
 use Rattle.pop_words.specs.declared.command.Command.{Command}
-use Rattle.pop_words.specs.declared.command.Command.TheVariants.{Formula, Orient, Tree, Resample, Check, Make}
+use Rattle.pop_words.specs.declared.command.Command.TheVariants.{Formula, Orient, Tree, Resample, Check, Make, Rounds}
 use Rattle.pop_words.specs.declared.job.Job.{Job}
 use Rattle.pop_words.specs.CommandLines.{Asks}
 use Rattle.pop_words.proofs.JobsInRange.{asked_root, asked_size}
 use Rattle.pop_watch.specs.Telling.{Watcher}
-use Rattle.dimacs_read.specs.Cnf.{Cnf, AreLiterals, first_empty}
-use Rattle.dimacs_read.specs.CnfText.{cnf_refusal, cnf_of}
-use Rattle.dimacs_read.specs.Falsifying.{AreEventsOf}
+use Rattle.dimacs_read.specs.Cnf.{Cnf}
+use Rattle.dimacs_read.specs.CnfText.{cnf_of}
 use Rattle.graph_read.specs.Graphs.{GraphOf, IsGraph, IsVertex}
 use Rattle.graph_read.specs.Grids.{IsSide, grid_of}
 use Rattle.graph_read.specs.Paths.{IsConnected}
@@ -36,9 +33,10 @@ use Rattle.graph_read.proofs.GridPaths.{grid_connected}
 use Rattle.cycle_popping.specs.Trees.{weights_at, weights_of_tree}
 use Rattle.pop_print.specs.declared.facts.Facts.{Facts}
 use Rattle.pop_print.specs.declared.facts.Facts.TheVariants.{Formula as FormulaFacts, Orient as OrientFacts, Tree as TreeFacts, Made as MadeFacts}
-use Rattle.pop_print.specs.Output.{end_text}
+use Rattle.pop_print.specs.Output.{findings, used_line, pops_line, end_text}
+use Rattle.pop_print.specs.Rounds.{rounds_text}
 use Rattle.printed_samples.specs.Laws.{ShowsFormula, ShowsOriented}
-use Rattle.printed_samples.proofs.ShownEnds.{literals_of_text, pair_bits, formula_shown, orientation_shown}
+use Rattle.printed_samples.proofs.ShownEnds.{pair_bits, orientation_shown}
 use Rattle.printed_trees.specs.Laws.{IsTreeState, ShowsTreeEnd, ShowsMadeEnd}
 use Rattle.printed_trees.proofs.SoundSlots.{sound_slots}
 use Rattle.printed_trees.proofs.ShownTrees.{tree_shown, made_shown}
@@ -46,11 +44,13 @@ use Rattle.popsample.specs.Refusals.{reading_status, stacks_status}
 use Rattle.popsample.specs.Witnesses.{Witness, witness_text}
 use Rattle.popsample.specs.Witnesses.Witness.{Unasked, Missing, Shown}
 use Rattle.popsample.specs.Outcomes.{Outcome, status_of, text_of, end_status, resampled_text, resampled_status}
-use Rattle.popsample.specs.Outcomes.Outcome.{Usage, Unread, Isolated, NoRoot, CutOff, Unsound, Clashes, Extremal, Ended, Resampled}
+use Rattle.popsample.specs.Outcomes.Outcome.{Usage, Unread, Isolated, NoRoot, CutOff, Unsound, Clashes, Extremal, Ended, Resampled, Rounded}
 use Rattle.popsample.specs.Sampling.{pair_weights, instance_of}
 use Rattle.popsample.specs.Trees.{tree_instance}
 use Rattle.popsample.specs.Answers.{ComesOfCommand, IsOutcome, origin_for}
 use Rattle.popsample.specs.Shown.{stacks_by, ShowsSample, ShowsExhausted, ShowsEnd, SampleShown, ExhaustedShown}
+use Rattle.popsample.proofs.ShownFormulas.{log_size, formula_end, formula_shows}
+use Rattle.popsample.proofs.ShownRounds.{rounds_show}
 use Rattle.popsample.proofs.Finished.{none_stuck}
 
 -- no refusal has a status below 2
@@ -70,27 +70,10 @@ faulty (ValueTooLarge v k) = omega arith
 faulty (WeightSum v) = omega arith
 faulty NoMemory = omega arith
 
--- as many cursors as variables
-log_size : (i : Instance) (log : List LogRecord) → length (replay (start_of i) log) ≡ variables_of i.stacks
-log_size i log = length-replay (start_of i) log ∙ length-replicate (variables_of i.stacks) 0
-
--- so has the end of the one-thread run
+-- as many cursors as variables at the end of the one-thread run
 end_size : (i : Instance) (c : List ℕ) (pops : ℕ) (stuck : List Event) → IsFirstEnd i c pops stuck
     → length c ≡ variables_of i.stacks
 end_size i c pops stuck end = let (log, run, cursors, count) = end.run in ap length cursors ∙ log_size i log
-
--- the end of a formula's run, and what is behind its text
-formula_end : (text : List ℕ) (f : Cnf) (origin : Origin) (events : List (ℕ × Cube)) (c : List ℕ) (pops : ℕ)
-    (stuck : List Event) (more : List ℕ) → cnf_refusal text ≡ None → f ≡ cnf_of text → first_empty f ≡ None
-    → AreEventsOf f.clauses events → IsSound origin (pair_weights f.variables)
-    → length c ≡ variables_of (instance_of origin f.variables events).stacks
-    → IsStuckList (instance_of origin f.variables events) c stuck
-    → ShowsFormula f (instance_of origin f.variables events).stacks stuck
-    (end_text (FormulaFacts f.variables) (instance_of origin f.variables events) c pops stuck ++ more)
-formula_end text f origin events c pops stuck more none spelled full are is size list =
-    formula_shown f events (instance_of origin f.variables events).stacks c pops stuck more
-    (subst (λ (g : Cnf). AreLiterals g.variables g.clauses) (sym spelled) (literals_of_text text none)) full are
-    (size ∙ length-replicate f.variables (1 ∷ 1 ∷ [])) (pair_bits origin f.variables c is) list
 
 -- the state of a graph's trees at an end
 tree_state : (origin : Origin) (g : GraphOf) (root : ℕ) (c : List ℕ) → IsGraph g → IsVertex g.vertices root
@@ -105,13 +88,6 @@ tree_state origin g root c graph root_is joined sound_stacks size = record {
       omega (arith, size, length-map-range_with_len (weights_at g root) 0 (g.vertices - 1), first, last);
   slots = sound_slots origin g root c graph root_is joined sound_stacks;
 }
-
--- by the stuck list what is shown of a formula is what the commands show that read one
-formula_shows : (job : Job) (text : List ℕ) (stuck : List Event) (out : List ℕ)
-    → ShowsFormula (cnf_of text) (stacks_by job (pair_weights (cnf_of text).variables)) stuck out
-    → ShowsEnd Formula job text stuck out × ShowsEnd Resample job text stuck out
-formula_shows job text [] out h = (h, h)
-formula_shows job text (e ∷ stuck) out h = (h, h)
 
 -- what is shown of an orientation
 oriented_shows : (job : Job) (text : List ℕ) (stuck : List Event) (out : List ℕ)
@@ -147,10 +123,9 @@ ended_shows Formula words job ws text facts i c pops stuck asks command h =
     let (told, same, end) = came.1.end in
     let j : Instance = instance_of (origin_for job) f.variables came.1.events in
     let out : List ℕ = end_text (FormulaFacts f.variables) j c pops stuck in
-    let whole : ShowsFormula f j.stacks stuck (out ++ []) =
-    formula_end text f (origin_for job) came.1.events c pops stuck [] is.0 is.1 is.2 came.1.of_formula came.0
+    let own : ShowsFormula f j.stacks stuck out =
+    formula_end text f (origin_for job) came.1.events c stuck (pops_line pops) is.0 is.1 is.2 came.1.of_formula came.0
     (end_size j c pops stuck end) end.stuck_list in
-    let own : ShowsFormula f j.stacks stuck out = subst (ShowsFormula f j.stacks stuck) (append-nil out) whole in
     let shown : ShowsFormula (cnf_of text) (stacks_by job (pair_weights (cnf_of text).variables)) stuck out =
     subst (λ (g : Cnf). ShowsFormula g (stacks_by job (pair_weights g.variables)) stuck out) is.1 own in
     subst (λ t. ShowsEnd Formula job text stuck (end_text t i c pops stuck)) (sym told)
@@ -195,6 +170,7 @@ ended_shows Tree words job ws text facts i c pops stuck asks command h =
     (tree_shows job text stuck out shown))
 ended_shows Resample words job ws text facts i c pops stuck asks command h = absurd h.comes.1.history
 ended_shows Check words job ws text facts i c pops stuck asks command h = absurd h.comes
+ended_shows Rounds words job ws text facts i c pops stuck asks command h = absurd h.comes.1.end
 ended_shows Make words job ws text facts i c pops stuck asks command h =
     let (told, same, end) = h.1 in
     let range = asked_size words job asks in
@@ -230,15 +206,18 @@ resampled_shows Resample job ws text facts i log stuck w b h =
     let (told, same, leads, witness, reports) = came.1.history in
     let j : Instance = instance_of (origin_for job) f.variables came.1.events in
     let c : List ℕ = replay (start_of j) log in
-    let front : List ℕ = end_text (FormulaFacts f.variables) j c (length log) stuck in
+    let found : List ℕ = findings (FormulaFacts f.variables) j c stuck ++ used_line c in
+    let pops : List ℕ = pops_line (length log) in
+    let front : List ℕ = found ++ pops in
     let told_log : List ℕ = log_text Plain j log in
     let shown_witness : List ℕ = witness_text Plain j.family w in
     let out : List ℕ = ((front ++ told_log) ++ shown_witness) ++ b in
-    let rest : front ++ (told_log ++ (shown_witness ++ b)) ≡ out =
-    sym (append_assoc (front ++ told_log) shown_witness b ∙ append_assoc front told_log (shown_witness ++ b)) in
-    let whole : ShowsFormula f j.stacks stuck (front ++ (told_log ++ (shown_witness ++ b))) =
-    formula_end text f (origin_for job) came.1.events c (length log) stuck (told_log ++ (shown_witness ++ b)) is.0 is.1
-    is.2
+    let told_more : List ℕ = told_log ++ (shown_witness ++ b) in
+    let rest : found ++ (pops ++ told_more) ≡ out =
+    sym (append_assoc (front ++ told_log) shown_witness b ∙ append_assoc front told_log (shown_witness ++ b)
+    ∙ append_assoc found pops told_more) in
+    let whole : ShowsFormula f j.stacks stuck (found ++ (pops ++ told_more)) =
+    formula_end text f (origin_for job) came.1.events c stuck (pops ++ told_more) is.0 is.1 is.2
     came.1.of_formula came.0 (log_size j log) leads.stuck_list in
     let own : ShowsFormula f j.stacks stuck out = subst (ShowsFormula f j.stacks stuck) rest whole in
     let shown : ShowsFormula (cnf_of text) (stacks_by job (pair_weights (cnf_of text).variables)) stuck out =
@@ -247,6 +226,7 @@ resampled_shows Resample job ws text facts i log stuck w b h =
     (subst (λ k. ShowsEnd Resample job text stuck (resampled_text (FormulaFacts f.variables) k log stuck w b))
     (sym same)
     (formula_shows job text stuck out shown).1)
+resampled_shows Rounds job ws text facts i log stuck w b h = absurd h.comes.1.end
 resampled_shows Check job ws text facts i log stuck w b h = absurd h.comes
 resampled_shows Make job ws text facts i log stuck w b h = absurd h.1
 
@@ -277,6 +257,7 @@ verdict_shows Tree job ws text n h = absurd h.comes.2.1
 verdict_shows Resample job ws text n h = absurd h.comes.1.history
 verdict_shows Check job ws text n h = tt
 verdict_shows Make job ws text n h = absurd h.1
+verdict_shows Rounds job ws text n h = absurd h.comes.1.end
 
 -- what comes of words and has status 0
 sample_of : (words : List (List ℕ)) (ws : List Watcher) (text : List ℕ) (o : Outcome) → IsOutcome words ws text o
@@ -295,6 +276,12 @@ sample_of words ws text (Resampled facts i log stuck w b) h is = (
   as_sample h.job.command h.job text stuck (resampled_text facts i log stuck w b)
       (none_stuck stuck w is)
       (resampled_shows h.job.command h.job ws text facts i log stuck w b h.comes),
+)
+sample_of words ws text (Rounded facts i c rounds stuck short) h is = (
+  h.job,
+  h.asks,
+  as_sample h.job.command h.job text stuck (rounds_text facts i c rounds stuck short) is
+      (rounds_show h.job.command h.job ws text facts i c rounds stuck short h.comes),
 )
 sample_of words ws text (Extremal n) h is = (h.job, h.asks, verdict_shows h.job.command h.job ws text n h.comes)
 sample_of words ws text (Isolated w) h is = absurd (omega (arith, is))
@@ -320,6 +307,12 @@ exhausted_of words ws text (Resampled facts i log stuck w b) h is = (
   as_exhausted h.job.command h.job text stuck (resampled_text facts i log stuck w b)
       (some_stuck stuck w is)
       (resampled_shows h.job.command h.job ws text facts i log stuck w b h.comes),
+)
+exhausted_of words ws text (Rounded facts i c rounds stuck short) h is = (
+  h.job,
+  h.asks,
+  as_exhausted h.job.command h.job text stuck (rounds_text facts i c rounds stuck short) is
+      (rounds_show h.job.command h.job ws text facts i c rounds stuck short h.comes),
 )
 exhausted_of words ws text (Extremal n) h is = absurd (omega (arith, is))
 exhausted_of words ws text (Isolated w) h is = absurd (omega (arith, is))

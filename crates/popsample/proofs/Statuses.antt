@@ -16,7 +16,7 @@ use Rattle.pop_watch.specs.Telling.{Watcher}
 use Rattle.popsample.specs.declared.asked.Asked.{Asked}
 use Rattle.popsample.specs.Refusals.{stacks_status}
 use Rattle.popsample.specs.Outcomes.{Outcome, IsTextStatus, status_of, end_status, resampled_status}
-use Rattle.popsample.specs.Outcomes.Outcome.{Usage, Unread, Isolated, NoRoot, CutOff, Unsound, Clashes, Extremal, Ended, Resampled}
+use Rattle.popsample.specs.Outcomes.Outcome.{Usage, Unread, Isolated, NoRoot, CutOff, Unsound, Clashes, Extremal, Ended, Resampled, Rounded}
 use Rattle.popsample.specs.Witnesses.{Witness}
 use Rattle.popsample.specs.Witnesses.Witness.{Unasked, Missing, Shown}
 use Rattle.popsample.specs.declared.answer.Answer.{Answer}
@@ -73,6 +73,7 @@ told_status Comes told (Clashes i j) h = known_status 5 (omega arith) (omega ari
 told_status Comes told (Extremal n) h = record { low = omega arith; no_usage = λ h'. absurd (omega arith) }
 told_status Comes told (Ended t i c n s) h = end_status_is s
 told_status Comes told (Resampled t i l s w b) h = resampled_status_is s w
+told_status Comes told (Rounded t i c n s v) h = end_status_is s
 
 -- an answer that tells what comes so, or a refusal that does, is one to a text
 text_result : (Comes : Outcome → Type 0) → AreTold Comes → (r : Result Answer Refusal) → IsResultOf Comes r

@@ -1,8 +1,7 @@
 -- What is sampled makes a frame for rows of any heights, and is extremal.
-use Rattle.std.proofs.Common.{◌≡◌, ℕ, ◌<◌, List, [], length, map, All, Ok, refl, sym, ap, subst, ◌∙◌, arith}
+use Rattle.std.proofs.Common.{◌≡◌, ℕ, ◌<◌, List, [], length, All, Ok, refl, sym, subst}
 use Rattle.pop_model.specs.Stacks.Origin.{Given}
 use Rattle.pop_model.specs.Families.{IsFamily}
-use Rattle.pop_model.specs.Families.Family.{Cycles}
 use Rattle.pop_model.specs.Instances.{FamilyFits}
 use Rattle.pop_model.specs.Extremal.{IsExtremal}
 use Rattle.pop_model.proofs.CycleFamily.{cycles_extremal}
@@ -21,11 +20,11 @@ use Rattle.sink_popping.proofs.OneDirection.{sinks_extremal}
 use Rattle.cycle_popping.specs.Trees.{heads_of_tree, weights_of_tree}
 use Rattle.cycle_popping.proofs.TreeRows.{tree_arrows}
 use Rattle.pop_words.specs.declared.command.Command.{Command}
-use Rattle.pop_words.specs.declared.command.Command.TheVariants.{Formula, Orient, Tree, Resample, Check, Make}
+use Rattle.pop_words.specs.declared.command.Command.TheVariants.{Formula, Orient, Tree, Resample, Check, Make, Rounds}
 use Rattle.pop_words.specs.declared.job.Job.{Job}
 use Rattle.pop_print.specs.declared.facts.Facts.{Facts}
 use Rattle.pop_samples.specs.Frames.{IsFrame}
-use Rattle.popsample.specs.Subjects.{Subject, assignments, orientations, arrows_to, IsSubjectOf}
+use Rattle.popsample.specs.Subjects.{Subject, arrows_to, IsSubjectOf}
 use Rattle.popsample.specs.ExactAnswers.{frame_over}
 use Rattle.popsample.proofs.MadeInstances.{tree_fits}
 use Rattle.popsample.proofs.ListedEvents.{formula_family, sinks_family, sinks_fit, pairs_fit}
@@ -84,6 +83,7 @@ subject_sampled Make job text s is =
     (arrows_sampled _ (grid_of side) 1 (grid_is_graph side is.side_is) (first_vertex side is.side_is)
     (grid_connected side is.side_is))
 subject_sampled Resample job text s is = absurd is
+subject_sampled Rounds job text s is = absurd is
 subject_sampled Check job text s is = absurd is
 
 -- with a height above 0 for each variable it makes a frame

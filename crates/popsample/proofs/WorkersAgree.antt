@@ -7,7 +7,7 @@ use Rattle.std.specs.List.{list_all}
 use Rattle.std.specs.Str.{bytes_eq}
 use Rattle.std.proofs.lemmas.Bool.{cases_Bool, false≢true}
 use Rattle.pop_words.specs.declared.command.Command.{Command}
-use Rattle.pop_words.specs.declared.command.Command.TheVariants.{Formula, Orient, Tree, Resample, Check, Make}
+use Rattle.pop_words.specs.declared.command.Command.TheVariants.{Formula, Orient, Tree, Resample, Check, Make, Rounds}
 use Rattle.pop_words.specs.declared.field.Field.{Field}
 use Rattle.pop_words.specs.declared.field.Field.TheVariants.{Stacks, Key, Height, Workers, Root, Witness, Reports, Size}
 use Rattle.pop_words.specs.declared.job.Job.{Job}
@@ -19,7 +19,7 @@ use Rattle.pop_words.proofs.OneJob.{same_job}
 use Rattle.pop_watch.specs.Telling.{Watcher}
 use Rattle.pop_stacks.specs.declared.stack_spec.StackSpec.TheVariants.{Key as KeyedStacks, Given as GivenStacks}
 use Rattle.popsample.specs.Outcomes.{Outcome, status_of, text_of}
-use Rattle.popsample.specs.Outcomes.Outcome.{Usage, Unread, Isolated, NoRoot, CutOff, Unsound, Clashes, Extremal, Ended, Resampled}
+use Rattle.popsample.specs.Outcomes.Outcome.{Usage, Unread, Isolated, NoRoot, CutOff, Unsound, Clashes, Extremal, Ended, Resampled, Rounded}
 use Rattle.popsample.specs.Answers.{ComesOfCommand, ComesOf, IsOutcome}
 use Rattle.popsample.specs.Workers.{but_workers, DifferInWorkers, WorkersAgree}
 use Rattle.popsample.proofs.OneOutcome.{word_cases, one_outcome, only_outcome}
@@ -150,6 +150,7 @@ same_command Tree job k ws text o h = h
 same_command Resample job k ws text o h = h
 same_command Check job k ws text o h = h
 same_command Make job k ws text o h = h
+same_command Rounds job k ws text o h = h
 
 -- and what comes of a job
 same_comes : (job : Job) (k : ℕ) (ws : List Watcher) (text : List ℕ) (o : Outcome)
@@ -164,6 +165,7 @@ same_comes job k ws text (Clashes i j) h = same_command job.command job k ws tex
 same_comes job k ws text (Extremal n) h = same_command job.command job k ws text (Extremal n) h
 same_comes job k ws text (Ended t i c n s) h = same_command job.command job k ws text (Ended t i c n s) h
 same_comes job k ws text (Resampled t i l s w b) h = same_command job.command job k ws text (Resampled t i l s w b) h
+same_comes job k ws text (Rounded t i c n s v) h = same_command job.command job k ws text (Rounded t i c n s v) h
 
 -- what comes of a job is an outcome of its words
 of_job : (words : List (List ℕ)) (ws : List Watcher) (text : List ℕ) (job : Job) → Asks words job → (o : Outcome)
@@ -178,6 +180,7 @@ of_job words ws text job asks (Clashes i j) h = record { job = job; asks = asks;
 of_job words ws text job asks (Extremal n) h = record { job = job; asks = asks; comes = h }
 of_job words ws text job asks (Ended t i c n s) h = record { job = job; asks = asks; comes = h }
 of_job words ws text job asks (Resampled t i l s w b) h = record { job = job; asks = asks; comes = h }
+of_job words ws text job asks (Rounded t i c n s v) h = record { job = job; asks = asks; comes = h }
 
 -- what comes of the other words comes of these
 comes_of_words : (words others : List (List ℕ)) (ws : List Watcher) (text : List ℕ) (o : Outcome)

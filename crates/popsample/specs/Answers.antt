@@ -9,7 +9,7 @@ use Rattle.dimacs_read.specs.CnfText.{AnswersCnf, HasNoBadLine as HasNoBadCnfLin
 use Rattle.graph_read.specs.Graphs.{GraphOf}
 use Rattle.graph_read.specs.GraphText.{AnswersGraph, HasNoBadLine as HasNoBadGraphLine}
 use Rattle.pop_words.specs.declared.command.Command.{Command}
-use Rattle.pop_words.specs.declared.command.Command.TheVariants.{Formula, Orient, Tree, Resample, Check, Make}
+use Rattle.pop_words.specs.declared.command.Command.TheVariants.{Formula, Orient, Tree, Resample, Check, Make, Rounds}
 use Rattle.pop_words.specs.declared.job.Job.{Job}
 use Rattle.pop_words.specs.Options.{command_row}
 use Rattle.pop_words.specs.CommandLines.{Asks, IsBadPlace}
@@ -19,6 +19,7 @@ use Rattle.popsample.specs.Outcomes.{Outcome, AnswersBy}
 use Rattle.popsample.specs.Outcomes.Outcome.{Usage, Unread}
 use Rattle.popsample.specs.Formulas.{ComesOfFormula, ComesOfChecking}
 use Rattle.popsample.specs.Resamplings.{ComesOfResampling}
+use Rattle.popsample.specs.Rounds.{ComesOfRounds}
 use Rattle.popsample.specs.Orientations.{ComesOfOrienting}
 use Rattle.popsample.specs.Trees.{ComesOfTree}
 use Rattle.popsample.specs.Grids.{ComesOfGrid}
@@ -57,6 +58,7 @@ ComesOfCommand Resample job watchers text o =
     ComesOfCnf (ComesOfResampling (origin_for job) (asked_by job) watchers) text o
 ComesOfCommand Check job watchers text o = ComesOfCnf ComesOfChecking text o
 ComesOfCommand Make job watchers text o = ComesOfGrid (origin_for job) job.size o
+ComesOfCommand Rounds job watchers text o = ComesOfCnf (ComesOfRounds (origin_for job)) text o
 
 -- a command's grammar refuses the text so
 abbrev pub Refuses : Command → List ℕ → ReadRefusal → Type 0
@@ -66,6 +68,7 @@ Refuses Tree text refusal = AnswersGraph text (Err refusal)
 Refuses Resample text refusal = AnswersCnf text (Err refusal)
 Refuses Check text refusal = AnswersCnf text (Err refusal)
 Refuses Make text refusal = ⊥
+Refuses Rounds text refusal = AnswersCnf text (Err refusal)
 
 -- the refusal is one of the text itself, and not of the source or of memory
 abbrev pub IsOfText : ReadRefusal → Type 0
@@ -113,3 +116,4 @@ HasNoBadLine Tree taken = HasNoBadGraphLine taken
 HasNoBadLine Resample taken = HasNoBadCnfLine taken
 HasNoBadLine Check taken = HasNoBadCnfLine taken
 HasNoBadLine Make taken = ⊥
+HasNoBadLine Rounds taken = HasNoBadCnfLine taken

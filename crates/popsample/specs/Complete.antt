@@ -14,7 +14,7 @@ use Rattle.graph_read.specs.Paths.{IsConnected}
 use Rattle.sink_popping.specs.Sinks.{IsIsolated}
 use Rattle.cycle_popping.specs.Trees.{weights_of_tree}
 use Rattle.pop_words.specs.declared.command.Command.{Command}
-use Rattle.pop_words.specs.declared.command.Command.TheVariants.{Formula, Orient, Tree, Resample, Check, Make}
+use Rattle.pop_words.specs.declared.command.Command.TheVariants.{Formula, Orient, Tree, Resample, Check, Make, Rounds}
 use Rattle.pop_words.specs.declared.job.Job.{Job}
 use Rattle.pop_words.specs.CommandLines.{Asks}
 use Rattle.pop_watch.specs.Telling.{Watcher}
@@ -51,6 +51,8 @@ CanBeDone Resample job text =
     (f : Cnf) × Spells text f × IsSound (origin_for job) (pair_weights f.variables)
 CanBeDone Check job text = (f : Cnf) × Spells text f × HasExtremalEvents f
 CanBeDone Make job text = IsSound (origin_for job) (weights_of_tree (grid_of job.size) 1)
+CanBeDone Rounds job text =
+    (f : Cnf) × Spells text f × IsSound (origin_for job) (pair_weights f.variables)
 
 -- the pop whose witness is asked for is there, where one is asked for
 abbrev pub HasWitness : Outcome → Type 0

@@ -1,6 +1,6 @@
 -- Which values are samples, in the words of formulas and graphs: so each of these is the answer to
 -- some rows (`ExactAnswers.antt`).
-use Rattle.std.specs.Prelude.{◌≡◌, ◌≢◌, ◌⊎◌, ℕ, ◌+◌, ◌-◌, ◌<◌, true, ℤ, pos, negsuc, List, length, slice_index, slice_get, Some, All, Contains}
+use Rattle.std.specs.Prelude.{◌≡◌, ◌≢◌, ◌⊎◌, ℕ, ◌-◌, ◌<◌, true, ℤ, pos, negsuc, List, length, slice_index, slice_get, Some, All, Contains}
 use Rattle.pop_model.specs.Popping.{Cube}
 use Rattle.pop_model.specs.Cycles.{ReachesRoot, head_of}
 use Rattle.pop_model.specs.Names.{vertex_of}

@@ -7,7 +7,7 @@ use Rattle.pop_watch.specs.Telling.{Watcher}
 use Rattle.pop_model.specs.Logs.{LogRecord, replay}
 use Rattle.pop_model.specs.Runs.{IsFinished, start_of}
 use Rattle.popsample.specs.Outcomes.{Outcome, status_of, AnswersBy}
-use Rattle.popsample.specs.Outcomes.Outcome.{Ended, Resampled}
+use Rattle.popsample.specs.Outcomes.Outcome.{Ended, Resampled, Rounded}
 use Rattle.popsample.specs.Resamplings.{LeadsToEnd}
 use Rattle.popsample.specs.Answers.{IsOutcome, IsAnswer}
 
@@ -63,6 +63,7 @@ OneLoggedAnswer = (words : List (List ℕ)) (watchers : List Watcher) (text : Li
 abbrev pub EndsFinished : Outcome → Type 0
 EndsFinished (Ended facts i cursors pops stuck) = IsFinished i cursors
 EndsFinished (Resampled facts i log stuck witness reports) = IsFinished i (replay (start_of i) log)
+EndsFinished (Rounded facts i cursors rounds stuck short) = IsFinished i cursors
 EndsFinished o = ⊤
 
 -- A run with status 0 is one at whose end no event occurs: each clause is satisfied, each vertex

@@ -8,6 +8,7 @@ pub mod Results
 pub mod Sampling
 pub mod Formulas
 pub mod Resamplings
+pub mod Rounds
 pub mod Orientations
 pub mod Trees
 pub mod Grids

@@ -1,5 +1,5 @@
 -- What can come of command words and a text, and how each is told.
-use Rattle.std.specs.Prelude.{◌≡◌, ◌≢◌, ◌≤◌, ℕ, if◌then◌else◌, List, [], ◌∷◌, ◌++◌, length}
+use Rattle.std.specs.Prelude.{◌≡◌, ◌≢◌, ◌≤◌, ℕ, if◌then◌else◌, List, [], ◌∷◌, ◌++◌, length, Option}
 use Rattle.pop_model.specs.Families.{Event}
 use Rattle.pop_model.specs.Instances.{Instance}
 use Rattle.pop_model.specs.Logs.{LogRecord, replay}
@@ -10,6 +10,7 @@ use Rattle.pop_log.specs.LogTexts.{log_text}
 use Rattle.pop_print.specs.declared.facts.Facts.{Facts}
 use Rattle.pop_print.specs.Names.{name_of}
 use Rattle.pop_print.specs.Output.{end_text}
+use Rattle.pop_print.specs.Rounds.{rounds_text}
 use Rattle.popsample.specs.Names.{names_for}
 use Rattle.popsample.specs.Witnesses.{Witness, witness_text, is_missing}
 use Rattle.popsample.specs.Refusals.{usage_line, isolated_line, root_line, cut_off_line, clash_line, extremal_line, reading_line, reading_status, stacks_line, stacks_status}
@@ -39,6 +40,9 @@ pub data Outcome : Type 0 where
   -- what watchers reported of the log
   Resampled : (facts : Facts) (instance : Instance) (log : List LogRecord) (stuck : List Event)
       (witness : Witness) (reports : List ℕ) → Outcome
+  -- the run by rounds came to an end; where it is exhausted, this variable has no next entry
+  Rounded : (facts : Facts) (instance : Instance) (cursors : List ℕ) (rounds : ℕ)
+      (stuck : List Event) (short : Option ℕ) → Outcome
 
 -- a run's status tells whether an event still occurs
 abbrev pub end_status : List Event → ℕ
@@ -61,6 +65,7 @@ status_of (Clashes i j) = 5
 status_of (Extremal count) = 0
 status_of (Ended facts i cursors pops stuck) = end_status stuck
 status_of (Resampled facts i log stuck witness reports) = resampled_status stuck witness
+status_of (Rounded facts i cursors rounds stuck short) = end_status stuck
 
 -- the text of a run with its log: that of the end to which the log leads, and that of the log
 abbrev pub history_text : Facts → Instance → List LogRecord → List Event → List ℕ
@@ -87,6 +92,8 @@ text_of (Extremal count) = extremal_line count
 text_of (Ended facts i cursors pops stuck) = end_text facts i cursors pops stuck
 text_of (Resampled facts i log stuck witness reports) =
     resampled_text facts i log stuck witness reports
+text_of (Rounded facts i cursors rounds stuck short) =
+    rounds_text facts i cursors rounds stuck short
 
 -- a status that a text is answered by: none of the words, of a device or of memory
 pub record IsTextStatus (status : ℕ) : Type 0 where

@@ -8,7 +8,7 @@ use Rattle.graph_read.specs.Grids.{grid_of}
 use Rattle.graph_read.specs.GraphText.{graph_of}
 use Rattle.cycle_popping.specs.Trees.{weights_of_tree}
 use Rattle.pop_words.specs.declared.command.Command.{Command}
-use Rattle.pop_words.specs.declared.command.Command.TheVariants.{Formula, Orient, Tree, Resample, Check, Make}
+use Rattle.pop_words.specs.declared.command.Command.TheVariants.{Formula, Orient, Tree, Resample, Check, Make, Rounds}
 use Rattle.pop_words.specs.declared.job.Job.{Job}
 use Rattle.pop_words.specs.CommandLines.{Asks}
 use Rattle.pop_watch.specs.Telling.{Watcher}
@@ -33,6 +33,7 @@ stacks_of_text Tree job text = stacks_by job (weights_of_tree (graph_of text) jo
 stacks_of_text Resample job text = stacks_by job (pair_weights (cnf_of text).variables)
 stacks_of_text Check job text = stacks_by job []
 stacks_of_text Make job text = stacks_by job (weights_of_tree (grid_of job.size) 1)
+stacks_of_text Rounds job text = stacks_by job (pair_weights (cnf_of text).variables)
 
 -- what an output with status 0 shows; of a verdict nothing
 abbrev pub ShowsSample : Command → Job → List ℕ → List ℕ → Type 0
@@ -42,6 +43,7 @@ ShowsSample Tree job text out = ShowsTree (graph_of text) job.root out
 ShowsSample Resample job text out = ShowsAssignment (cnf_of text) out
 ShowsSample Check job text out = ⊤
 ShowsSample Make job text out = ShowsMade job.size out
+ShowsSample Rounds job text out = ShowsAssignment (cnf_of text) out
 
 -- what an output with status 1 shows; there is no such verdict
 abbrev pub ShowsExhausted : Command → Job → List ℕ → List ℕ → Type 0
@@ -53,6 +55,7 @@ ShowsExhausted Resample job text out = ShowsFalse (cnf_of text) (stacks_of_text 
     out
 ShowsExhausted Check job text out = ⊥
 ShowsExhausted Make job text out = CountsCycles job.size (stacks_of_text Make job text) out
+ShowsExhausted Rounds job text out = ShowsFalse (cnf_of text) (stacks_of_text Rounds job text) out
 
 -- what an output shows whose text is of an end with these events
 abbrev pub ShowsEnd : Command → Job → List ℕ → List Event → List ℕ → Type 0

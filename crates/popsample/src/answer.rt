@@ -19,6 +19,7 @@ use crate::orientation::orient;
 use crate::origin::StackOrigin;
 use crate::reading::{formula_of, graph_of};
 use crate::refusal::Refusal;
+use crate::rounds::sample_rounds;
 use crate::stop::Stop;
 use crate::tree::{tree, tree_of_grid};
 use pop_edge::Source;
@@ -73,6 +74,7 @@ fn answer_job<S: Source, R: Threads + Wait + Sync, G: Gate + Sync>(
         Command::Orient => orient(call, origin, asked, graph_of(call.alloc, source)?),
         Command::Tree => tree(call, origin, asked, job.root, graph_of(call.alloc, source)?),
         Command::Make => tree_of_grid(call, origin, asked, job.size),
+        Command::Rounds => sample_rounds(call, origin, &formula_of(call.alloc, source)?),
     }
 }
 

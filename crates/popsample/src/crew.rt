@@ -1,12 +1,17 @@
 //! Who makes a run.
-ghost use Rattle.std.specs.Prelude.{◌≡◌, ◌<◌, ◌≤◌, IfOk};
+ghost use Rattle.std.specs.Prelude.{◌≡◌, ◌<◌, ◌≤◌, length, IfOk};
+ghost use Rattle.pop_model.specs.Stacks.{variables_of};
 ghost use Rattle.pop_model.specs.Runs.{start_of};
 ghost use Rattle.confluence_core.specs.Kept.{keeps_log};
 ghost use Rattle.confluence_core.specs.Runs.{IsRunOf};
+ghost use Rattle.prs_rounds.specs.Rounds.{IsRoundsEnd};
+ghost use Rattle.prs_rounds.specs.Units.{IsIndexOf};
+ghost use Rattle.pop_print.specs.Rounds.{IsShownAt};
 
-use confluence_core::Keep;
-use pop_instance::Instance;
+use confluence_core::{Keep, run_from_zeros};
+use pop_instance::{Index, Instance};
 use pop_workers::{Gate, Outcome, sample_locked, zeros_of};
+use prs_rounds::{RoundEnd, run_rounds};
 use std::alloc::{AllocError, Global};
 use std::marker::Model;
 use std::sync::Wait;
@@ -41,10 +46,14 @@ impl<'a, R: Threads + Wait + Sync, G: Gate + Sync> Crew<'a, R, G> {
         Crew { rt, gate, workers }
     }
 
-    /// A run of the instance from zeros.
+    /// A run of the instance from zeros. One worker makes it alone, behind the gate.
     pub fn run(&self, alloc: Global, instance: &Instance, keep: Keep) -> Result<Outcome, AllocError>
         ensures { IfOk result (IsRunOf instance.now (start_of instance.now) (keeps_log keep)) }
     {
+        if self.workers == 1 {
+            self.gate.at(0, 0);
+            return run_from_zeros(alloc, instance, keep);
+        }
         let zeros = zeros_of(alloc, instance)?;
         sample_locked(
             self.rt,
@@ -55,5 +64,23 @@ impl<'a, R: Threads + Wait + Sync, G: Gate + Sync> Crew<'a, R, G> {
             keep,
             self.gate,
         )
+    }
+
+    /// The run of the instance by rounds, by the index of its listed events. What they look at is
+    /// looked at on threads of their own, and no worker of the crew shares it.
+    pub fn rounds(
+        &self,
+        alloc: Global,
+        instance: &Instance,
+        index: &Index,
+    ) -> Result<RoundEnd, AllocError>
+        requires index { IsIndexOf instance.now.family index.now }
+        requires variables { length index.now ≡ variables_of instance.now.stacks }
+        ensures end { IfOk result
+            (λ end. IsRoundsEnd instance.now end.cursors end.rounds end.stuck end.short) }
+        ensures shown { IfOk result (λ end. IsShownAt instance.now end.cursors end.stuck
+            end.values.items) }
+    {
+        run_rounds(self.rt, alloc, instance, index)
     }
 }

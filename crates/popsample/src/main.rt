@@ -16,6 +16,7 @@ mod origin;
 mod reading;
 mod refusal;
 mod reporting;
+mod rounds;
 mod running;
 mod stop;
 mod telling;

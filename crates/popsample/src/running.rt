@@ -16,7 +16,7 @@ use crate::call::Call;
 use crate::names::names_of;
 use crate::reporting::report_log;
 use crate::witness::{LogText, witness_of};
-use confluence_core::{End, Log};
+use confluence_core::{End, Log, Stuck};
 use pop_instance::{Cursors, Instance};
 use pop_log::{Names, print_log};
 use pop_print::{Facts, text};
@@ -25,18 +25,18 @@ use std::alloc::{AllocError, Global};
 use std::sync::Wait;
 use std::thread::Threads;
 
-// The status of an end: 1 where an event still occurs.
-fn status_of(end: &End) -> u8
-    ensures { result ≡ end_status end.now.stuck }
+/// The status of a run by the events that occur at its end: 1 where there are any.
+pub fn status_by(stuck: &Stuck) -> u8
+    ensures { result ≡ end_status stuck.now }
 {
-    if end.stuck.len() == 0 { 0 } else { 1 }
+    if stuck.len() == 0 { 0 } else { 1 }
 }
 
 // The status of an end with a witness: where the asked pop is missing, that is told first.
 fn status_with(end: &End, missing: bool) -> u8
     ensures { result ≡ (if missing then 6 else end_status end.now.stuck) }
 {
-    if missing { 6 } else { status_of(end) }
+    if missing { 6 } else { status_by(&end.stuck) }
 }
 
 // What is told of a witness where it is asked for; else nothing.
@@ -110,7 +110,7 @@ pub fn run_and_tell<R: Threads + Wait + Sync, G: Gate + Sync>(
     let mut text = text(call.alloc, facts, instance, &run.end)?;
     match &run.log {
         None => Ok(Answer {
-            status: status_of(&run.end),
+            status: status_by(&run.end.stuck),
             text,
         }),
         Some(log) => {

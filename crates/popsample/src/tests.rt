@@ -15,6 +15,7 @@ mod orientations;
 mod refusals;
 mod reports;
 mod resamplings;
+mod rounds;
 mod texts;
 mod trees;
 mod workers;

@@ -60,7 +60,8 @@ pub fn run<S: Source, K: Sink, R: Threads + Wait + Sync, G: Gate + Sync>(
     // An answer is that of the words and the text: of an extremal formula, an orientation, a tree
     // or the tree of a grid, the end of the run on one thread that always pops the first poppable
     // event, for any number of workers; of a resampling, that of a legal log to an end, which each
-    // watcher was told. A grid is made whatever the source is.
+    // watcher was told; of rounds, the one result of the run by rounds. A grid is made whatever the
+    // source is.
     ensures answer { (text : List ℕ)
         → IsInput (map string_bytes words.now) (S.left source.old) text → (IsBreak result → ⊥)
         → Answered (map string_bytes words.now) (map (λ b. (kind b, state b)) watchers.items) text

@@ -1,6 +1,6 @@
 use Rattle.std.proofs.Common.{inl, inr}
 use Rattle.popsample.proofs.Carrying.{unfailing}
-use Rattle.popsample.proofs.Lifting.{lifted_formula, lifted_resample, lifted_check, lifted_orient, lifted_tree}
+use Rattle.popsample.proofs.Lifting.{lifted_formula, lifted_resample, lifted_check, lifted_orient, lifted_tree, lifted_rounds}
 use Rattle.popsample.proofs.answer.answer_job.Goals as goal
 
 -- What comes of the formula or the graph comes of the text that spells it. Once it is read, no source can fail.
@@ -78,3 +78,12 @@ returns-in-Make-clause-read_fault g c failed =
 pub returns-in-Make-clause-no_bad_line : goal.returns-in-Make-clause-no_bad_line
 returns-in-Make-clause-no_bad_line g c failed =
     absurd (unfailing _ c.tree_of_grid.result c.tree_of_grid.ensures failed)
+
+pub returns-in_ok-formula_of-in-Rounds-clause-answer : goal.returns-in_ok-formula_of-in-Rounds-clause-answer
+returns-in_ok-formula_of-in-Rounds-clause-answer g c text input read = elim input [
+  | inl known ↦
+      lifted_rounds c.args.job _ text c.in_ok-formula_of-in-Rounds.field-0 _ c.sample_rounds-in-Rounds.result
+      c.in-Rounds.is (let seen = c.origin-in-Rounds.view_is in let made = c.new-origin.ensures in cc)
+      (c.in_ok-formula_of-in-Rounds.ensures.text text known) c.sample_rounds-in-Rounds.ensures
+  | inr make ↦ let is = c.in-Rounds.is in absurd (cc)
+]

@@ -10,7 +10,7 @@ returns-in-None-clause-ended g c quiet extremal =
     let end = c.in_ok-run.run'.end in (
       Ended c.args.facts.now c.args.instance.now end.cursors end.pops end.stuck,
       (refl, refl, c.in_ok-run.ensures.first extremal refl),
-      record { status_is = c.status_of.ensures; out_is = c.in_ok-text.ensures },
+      record { status_is = c.status_by.ensures; out_is = c.in_ok-text.ensures },
     )
 
 -- the log stands behind it

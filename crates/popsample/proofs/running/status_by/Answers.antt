@@ -1,7 +1,7 @@
 use Rattle.std.proofs.Common.{◌≡◌, ◌<◌, List, [], ◌∷◌, length, refl, arith}
 use Rattle.pop_model.specs.Families.{Event}
 use Rattle.popsample.specs.Outcomes.{end_status}
-use Rattle.popsample.proofs.running.status_of.Goals as goal
+use Rattle.popsample.proofs.running.status_by.Goals as goal
 
 -- at an empty stuck list it is 0
 none : (stuck : List Event) → length stuck ≡ 0 → 0 ≡ end_status stuck
@@ -14,7 +14,7 @@ some [] h = absurd (omega arith)
 some (e ∷ stuck) h = refl
 
 pub returns-then-len-eq0 : goal.returns-then-len-eq0
-returns-then-len-eq0 c = none c.args.end.now.stuck (omega (arith, c.len.ensures))
+returns-then-len-eq0 c = none c.args.stuck.now (omega (arith, c.len.ensures))
 
 pub returns-else-len-eq0 : goal.returns-else-len-eq0
-returns-else-len-eq0 c = some c.args.end.now.stuck (omega (arith, c.len.ensures))
+returns-else-len-eq0 c = some c.args.stuck.now (omega (arith, c.len.ensures))
