@@ -8,6 +8,7 @@ _popsample_options() {
         tree) echo --stacks --key --height --workers --root ;;
         resample) echo --stacks --key --height --workers --witness --report ;;
         make) echo --stacks --key --height --workers grid ;;
+        rounds) echo --stacks --key --height ;;
     esac
 }
 
@@ -17,7 +18,7 @@ _popsample() {
     local word=${COMP_WORDS[COMP_CWORD]} before=${COMP_WORDS[COMP_CWORD - 1]} standing option choices=""
     standing=" ${COMP_WORDS[*]:2:COMP_CWORD-2} "
     if ((COMP_CWORD == 1)); then
-        choices="formula orient tree resample check make"
+        choices="formula orient tree resample check make rounds"
     elif [[ $before == --report ]]; then
         choices="totals heights totals,heights"
     elif ((COMP_CWORD % 2 == 0)); then

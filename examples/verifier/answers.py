@@ -10,6 +10,7 @@ from .graphs import grid, read_graph
 from .logs import printed_record, read_log, report_lines
 from .orientations import OrientationSetting
 from .refusals import Refusal
+from .rounds import run_rounds
 from .runs import Board
 from .stacks import Stacks
 from .trees import TreeSetting
@@ -44,10 +45,10 @@ def refuse_clash(setting: FormulaSetting) -> None:
         raise Refusal(5, "s CLASH {} {}".format(*clash))
 
 
-def end_of(setting: Setting, board: Board, pops: int) -> Answer:
-    """The end of a run."""
+def end_of(setting: Setting, board: Board, *counted: str) -> Answer:
+    """The end of a run, with the lines of what was counted behind the cursors."""
     stuck = board.occurring()
-    used = [" ".join(["used", *map(str, board.cursors)]), f"pops {pops}"]
+    used = [" ".join(["used", *map(str, board.cursors)]), *counted]
     if stuck:
         return Answer(1, ["s EXHAUSTED", *map(setting.stuck_line, stuck), *used])
     return Answer(0, ["s SAMPLE", *setting.sample_lines(board.values), *used], setting)
@@ -65,7 +66,7 @@ def made_end_of(setting: TreeSetting, board: Board, pops: int, side: int) -> Ans
 def resampled(job: Job, setting: FormulaSetting, board: Board, printed: list[str]) -> Answer:
     """The answer of `resample` that shows the printed log, which is judged on the way."""
     records = read_log(board, printed, setting.names)
-    status, lines, sampled = end_of(setting, board, len(records))
+    status, lines, sampled = end_of(setting, board, f"pops {len(records)}")
     lines.append(f"log 1 {len(records)}")
     lines += [printed_record(record, setting.names) for record in records]
     if job.witness:
@@ -77,6 +78,15 @@ def resampled(job: Job, setting: FormulaSetting, board: Board, printed: list[str
             witness = [f"witness none {name} {entry} {cursor}"]
         lines += witness
     return Answer(status, lines + report_lines(job.reports, records), sampled)
+
+
+def rounded(setting: FormulaSetting, board: Board) -> Answer:
+    """The answer of `rounds`."""
+    rounds, short = run_rounds(board)
+    counted = [f"rounds {rounds}"]
+    if short is not None:
+        counted.append(f"short {setting.names[short]}")
+    return end_of(setting, board, *counted)
 
 
 def run_of(job: Job, text: bytes, printed: list[str]) -> Answer:
@@ -91,10 +101,12 @@ def run_of(job: Job, text: bytes, printed: list[str]) -> Answer:
     board = Board(setting.family, stacks, len(setting.names))
     if job.command == "resample":
         return resampled(job, setting, board, printed)
+    if job.command == "rounds":
+        return rounded(setting, board)
     pops = board.run_first()
     if job.command == "make":
         return made_end_of(setting, board, pops, job.side)
-    return end_of(setting, board, pops)
+    return end_of(setting, board, f"pops {pops}")
 
 
 def answer_to(words: list[str], text: bytes, printed: list[str]) -> Answer:

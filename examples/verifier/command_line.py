@@ -8,7 +8,8 @@ from typing import NamedTuple, NoReturn, Optional
 from .refusals import Refusal
 
 MOST = 4294967295
-SAMPLED = {"--stacks", "--key", "--height", "--workers"}
+STACKED = {"--stacks", "--key", "--height"}
+SAMPLED = STACKED | {"--workers"}
 OPTIONS = {
     "formula": SAMPLED,
     "orient": SAMPLED,
@@ -16,6 +17,7 @@ OPTIONS = {
     "resample": SAMPLED | {"--witness", "--report"},
     "check": set(),
     "make": SAMPLED | {"grid"},
+    "rounds": STACKED,
 }
 EXCLUDED = {"--stacks": {"--key", "--height"}, "--key": {"--stacks"}, "--height": {"--stacks"}}
 

@@ -99,7 +99,7 @@ def random_words(chance: Random, command: str, variables: int) -> list[str]:
     else:
         options.append(["--height", str(chance.choice((1, 2, 3, 8, 40)))])
         options.append(["--key", "".join(chance.choices("0123456789abcdefABCDEF", k=64))])
-    if chance.random() < 0.3:
+    if command != "rounds" and chance.random() < 0.3:
         options.append(["--workers", str(chance.choice((1, 2, 3, 8)))])
     if command == "tree" and chance.random() < 0.5:
         options.append(["--root", str(chance.randint(1, variables + 2))])
@@ -129,7 +129,7 @@ def changed_words(chance: Random, words: list[str]) -> list[str]:
 
 def random_case(chance: Random) -> tuple[list[str], bytes]:
     """Command words and an input."""
-    command = chance.choice("formula orient tree resample check make".split())
+    command = chance.choice("formula orient tree resample check make rounds".split())
     text = graph_text(chance) if command in ("orient", "tree") else formula_text(chance)
     variables = named_variables(text, command)
     if chance.random() < 0.2:

@@ -27,11 +27,15 @@ class Board:
         return self.occurs(cube) and all(
             self.cursors[variable] + 1 < self.stacks.height(variable) for variable, _ in cube)
 
+    def move_on(self, variable: int) -> None:
+        """Moves a variable on to its next entry."""
+        self.cursors[variable] += 1
+        self.values[variable] = self.stacks.entry(variable, self.cursors[variable])
+
     def pop(self, cube: Cube) -> None:
         """Moves each variable of the cube on to its next entry."""
         for variable, _ in cube:
-            self.cursors[variable] += 1
-            self.values[variable] = self.stacks.entry(variable, self.cursors[variable])
+            self.move_on(variable)
 
     def occurring(self) -> list[Event]:
         """The events that occur, by rising unit."""

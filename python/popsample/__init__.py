@@ -33,11 +33,11 @@ from .errors import (
     Value,
     WriteFault,
 )
-from .formulas import check, resample, sample_formula
+from .formulas import check, resample, rounds, sample_formula
 from .graphs import sink_free_orientation, spanning_tree, spanning_trees
 from .keys import derived_key, draw_key
 from .program import find_program
-from .results import Arrow, Assignment, Orientation, Pop, Resampled, Totals, Tree, WitnessVertex
+from .results import Arrow, Assignment, Orientation, Pop, Resampled, Rounded, Totals, Tree, WitnessVertex
 
 __all__ = [
     "Arrow",
@@ -61,6 +61,7 @@ __all__ = [
     "Refusal",
     "Resampled",
     "Root",
+    "Rounded",
     "Rows",
     "Totals",
     "Tree",
@@ -73,6 +74,7 @@ __all__ = [
     "draw_key",
     "find_program",
     "resample",
+    "rounds",
     "sample_formula",
     "sink_free_orientation",
     "spanning_tree",

@@ -31,6 +31,11 @@ class Answer:
         """The number of pops of a run."""
         return int(self.row("pops")[0])
 
+    def number(self, first: str) -> int | None:
+        """The number behind the first word, in its only line, where there is such a line."""
+        row = self.row(first)
+        return int(row[0]) if row else None
+
 
 def read_pairs(words: Sequence[str], sign: str) -> dict[int, int]:
     """The pairs of numbers that are joined by this sign, by their first numbers."""

@@ -66,6 +66,7 @@ class Exhausted(Refusal):
 
     `stuck` has for each of them the number of its clause, its vertex, or the vertices of its cycle. `used` has the
     numbers of popped entries, in the order of the variables, `pops` that of the pops, and `log` those of `resample`.
+    Of rounds `pops` is None, `rounds` tells how many there were, and `short` is the variable that has no next entry.
     """
 
     status = 1
@@ -75,12 +76,23 @@ class Exhausted(Refusal):
         "greater height, and where the default height doesn't do, there is most likely no sample."
     )
 
-    def __init__(self, where: str, stuck: Sequence[Any], used: Sequence[int], pops: int, log: Sequence[Any]) -> None:
+    def __init__(
+        self,
+        where: str,
+        stuck: Sequence[Any],
+        used: Sequence[int],
+        pops: int | None,
+        log: Sequence[Any],
+        rounds: int | None = None,
+        short: int | None = None,
+    ) -> None:
         super().__init__(STUCK=where)
         self.stuck = tuple(stuck)
         self.used = tuple(used)
         self.pops = pops
         self.log = tuple(log)
+        self.rounds = rounds
+        self.short = short
 
 
 class Usage(Refusal):
@@ -195,7 +207,8 @@ class Clash(Refusal):
     form = "s CLASH I J"
     sentence = (
         "Clauses I (FIRST) and J (SECOND) share a variable and can both be false, so the formula isn't extremal: use "
-        "resample, which takes it, but how many stacks give each of its samples depends on the order of the pops."
+        "rounds, or resample, whose log tells the pops, but how many stacks give each of its samples depends on the "
+        "order of the pops."
     )
 
     def __init__(self, first: int, second: int, texts: tuple[str, str]) -> None:

@@ -9,9 +9,9 @@ from pathlib import Path
 from typing import Any, Union
 
 from .answer import Answer, read_pairs
-from .program import origin_words
+from .program import origin_words, stack_words
 from .refusing import ask, read_log
-from .results import Assignment, Resampled, Totals, WitnessVertex
+from .results import Assignment, Resampled, Rounded, Totals, WitnessVertex
 from .subject import Subject
 
 # A list of clauses, each a list of literals, or the path of a DIMACS CNF file.
@@ -95,6 +95,23 @@ def resample(
     literals = tuple(answer.numbers("v")[:-1])
     tree = witness_of(answer) if witness is not None else None
     return Resampled(literals, used_of(answer), answer.pops(), key, read_log(answer), tree, *reports_of(answer))
+
+
+def rounds(
+    clauses: Formula,
+    key: str | None = None,
+    *,
+    height: int | None = None,
+    stacks: Stacks | None = None,
+) -> Rounded:
+    """Samples a satisfying assignment of any formula by synchronous rounds, whose result is that of the key.
+
+    The arguments are those of `sample_formula`. Of an extremal formula the assignment is the same as there.
+    """
+    key, words = stack_words(key, height, stacks)
+    answer = ask(["rounds", *words], formula_subject(clauses), key)
+    literals = tuple(answer.numbers("v")[:-1])
+    return Rounded(literals, used_of(answer), answer.numbers("rounds")[0], key)
 
 
 def witness_of(answer: Answer) -> tuple[WitnessVertex, ...]:

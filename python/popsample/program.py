@@ -35,8 +35,8 @@ def call(words: Sequence[str], text: bytes) -> Answer:
     return read_answer(words, ran.returncode, ran.stdout)
 
 
-def origin_words(
-    key: str | None, workers: int, height: int | None, stacks: Iterable[Iterable[int]] | None
+def stack_words(
+    key: str | None, height: int | None, stacks: Iterable[Iterable[int]] | None
 ) -> tuple[str | None, list[str]]:
     """The key, which is drawn where neither it nor rows are given, and the words that say where entries come from."""
     words = []
@@ -48,4 +48,12 @@ def origin_words(
         words += ["--key", key]
     if height is not None:
         words += ["--height", str(height)]
+    return key, words
+
+
+def origin_words(
+    key: str | None, workers: int, height: int | None, stacks: Iterable[Iterable[int]] | None
+) -> tuple[str | None, list[str]]:
+    """The same, and the words that say how many workers share the pops."""
+    key, words = stack_words(key, height, stacks)
     return key, [*words, "--workers", str(workers)]

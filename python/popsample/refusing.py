@@ -72,7 +72,8 @@ def exhausted(answer: Answer, subject: Subject) -> Refusal:
         where = f"the cycle of {', '.join(map(repr, stuck[0]))}"
     else:
         where = f"{'vertex' if answer.words[0] == 'orient' else 'clause'} {stuck[0]!r}"
-    return errors.Exhausted(where, stuck, answer.numbers("used"), answer.pops(), read_log(answer))
+    counted = (answer.number("pops"), read_log(answer), answer.number("rounds"), answer.number("short"))
+    return errors.Exhausted(where, stuck, answer.numbers("used"), *counted)
 
 
 def refusal(answer: Answer, subject: Subject) -> Exception:

@@ -65,8 +65,20 @@ class Orientation:
     graph: Any = None
 
 
+class Literals:
+    """What has `literals`: for each variable, from 1 on, its number where it is true, else the negative of it."""
+
+    literals: tuple[int, ...]
+
+    def __getitem__(self, variable: int) -> bool:
+        """Whether the variable, from 1 on, is true. Raises KeyError where there is no such variable."""
+        if not 1 <= variable <= len(self.literals):
+            raise KeyError(variable)
+        return self.literals[variable - 1] > 0
+
+
 @dataclass(frozen=True)
-class Assignment:
+class Assignment(Literals):
     """An assignment that satisfies each clause.
 
     `literals` has for each variable, from 1 on, its number where it is true and the negative of its number where it is
@@ -78,11 +90,19 @@ class Assignment:
     pops: int
     key: str | None
 
-    def __getitem__(self, variable: int) -> bool:
-        """Whether the variable, from 1 on, is true. Raises KeyError where there is no such variable."""
-        if not 1 <= variable <= len(self.literals):
-            raise KeyError(variable)
-        return self.literals[variable - 1] > 0
+
+@dataclass(frozen=True)
+class Rounded(Literals):
+    """An assignment that satisfies each clause, of a run by rounds.
+
+    `literals` is as that of an `Assignment`. `used` tells how many entries of each variable were passed, and `rounds`
+    how many rounds there were.
+    """
+
+    literals: tuple[int, ...]
+    used: dict[int, int]
+    rounds: int
+    key: str | None
 
 
 class Pop(NamedTuple):

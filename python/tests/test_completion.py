@@ -21,7 +21,7 @@ def completed(*words: str) -> list[str]:
 @unittest.skipUnless(shutil.which("bash") and COMPLETION.exists(), "there is no bash, or no completion")
 class Completion(unittest.TestCase):
     def test_commands(self):
-        self.assertEqual(completed(""), ["formula", "orient", "tree", "resample", "check", "make"])
+        self.assertEqual(completed(""), ["formula", "orient", "tree", "resample", "check", "make", "rounds"])
         self.assertEqual(completed("t"), ["tree"])
         self.assertEqual(completed("x"), [])
 
@@ -31,6 +31,7 @@ class Completion(unittest.TestCase):
         self.assertEqual(completed("tree", ""), [*EVERYWHERE, "--root"])
         self.assertEqual(completed("resample", ""), [*EVERYWHERE, "--witness", "--report"])
         self.assertEqual(completed("make", ""), [*EVERYWHERE, "grid"])
+        self.assertEqual(completed("rounds", ""), EVERYWHERE[:3])
         self.assertEqual(completed("check", ""), [])
         self.assertEqual(completed("tree", "--r"), ["--root"])
 
@@ -38,6 +39,7 @@ class Completion(unittest.TestCase):
         self.assertEqual(completed("tree", "--root", "2", "--"), EVERYWHERE)
         self.assertEqual(completed("formula", "--stacks", "0", ""), ["--workers"])
         self.assertEqual(completed("formula", "--key", "00", ""), ["--height", "--workers"])
+        self.assertEqual(completed("rounds", "--stacks", "0", ""), [])
 
     def test_values(self):
         self.assertEqual(completed("resample", "--report", "t"), ["totals", "totals,heights"])

@@ -105,5 +105,29 @@ class Resampling(unittest.TestCase):
         self.assertEqual(first, popsample.resample(CHANNELS, first.key))
 
 
+class Rounds(unittest.TestCase):
+    def test_rows_that_were_worked_by_hand(self):
+        # The second event agrees at variable 2, and joins; in the second formula it differs there, and is excluded.
+        told = popsample.rounds([[1, 2], [2, 3]], stacks=[[0, 1], [0, 0], [1, 1]])
+        self.assertEqual((told.literals, told.used, told.rounds), ((1, -2, 3), {1: 1, 2: 1, 3: 1}, 1))
+        told = popsample.rounds([[1, 2], [-2, 3]], stacks=[[0, 1], [0, 0], [0]])
+        self.assertEqual((told.literals, told.used, told.rounds), ((1, -2, -3), {1: 1, 2: 1, 3: 0}, 1))
+        self.assertTrue(told[1] and not told[2])
+        self.assertIsNone(told.key)
+
+    def test_formulas_that_clash_are_satisfied(self):
+        told = popsample.rounds(CHANNELS)
+        self.assertTrue(satisfies(CHANNELS, told.literals), told)
+        self.assertEqual(told, popsample.rounds(CHANNELS, told.key))
+
+    def test_extremal_formulas_have_the_same_assignment(self):
+        chance = random.Random(12)
+        for size in range(3, 25):
+            clauses = extremal_clauses(chance, size)
+            popped = popsample.sample_formula(clauses, ZEROS)
+            told = popsample.rounds(clauses, ZEROS)
+            self.assertEqual((told.literals, told.used), (popped.literals, popped.used), clauses)
+
+
 if __name__ == "__main__":
     unittest.main()

@@ -6,7 +6,7 @@ import unittest
 from unittest import mock
 
 import popsample
-from popsample import check, resample, sample_formula, sink_free_orientation, spanning_tree
+from popsample import check, resample, rounds, sample_formula, sink_free_orientation, spanning_tree
 
 from .checks import ZEROS, Refusing, file_of, program_of
 
@@ -33,6 +33,11 @@ class OfRuns(Refusing):
     def test_exhausted_resampling_has_its_log(self):
         error = self.refused(popsample.Exhausted, resample, [[1]], stacks=[[0, 0]])
         self.assertEqual((error.stuck, error.pops, error.log), ((1,), 1, (popsample.Pop(1, {1: 0}),)))
+
+    def test_exhausted_rounds(self):
+        error = self.refused(popsample.Exhausted, rounds, [[1]], stacks=[[0, 0]])
+        self.assertEqual((error.stuck, error.used, error.pops, error.log), ((1,), (1,), None, ()))
+        self.assertEqual((error.rounds, error.short), (1, 1))
 
     def test_no_witness(self):
         error = self.refused(popsample.NoWitness, resample, [[1]], stacks=[[0, 1]], witness=(1, 1))
