@@ -1,0 +1,56 @@
+#!/usr/bin/env python3
+"""Lets many threads work on many small random boards of claim words, and compares each closed board with the one-thread run.
+
+The test of `claim_words` does so with a few boards and two threads. This runs the same test, on a copy of the crates in
+a temporary folder, with as many boards and threads as are asked for. It is run by hand: `rt test` proves what changed.
+"""
+import argparse
+import os
+import re
+import shutil
+import subprocess
+import sys
+import tempfile
+import time
+
+TEST = os.path.join("crates", "claim_words", "src", "tests", "boards.rt")
+
+
+def arguments():
+    parser = argparse.ArgumentParser(description=__doc__.splitlines()[0])
+    parser.add_argument("--boards", type=int, default=100_000)
+    parser.add_argument("--threads", type=int, default=8)
+    return parser.parse_args()
+
+
+def with_constant(text, name, value):
+    """The text of a test, with another value of a constant of type u32."""
+    changed, count = re.subn(rf"(const {name}: u32 = )[0-9_]+;", rf"\g<1>{value};", text)
+    if count != 1:
+        sys.exit(f"{TEST} has no constant {name}")
+    return changed
+
+
+def main():
+    asked = arguments()
+    top = os.path.dirname(os.path.dirname(os.path.abspath(__file__)))
+    with tempfile.TemporaryDirectory() as folder:
+        copy = os.path.join(folder, "copy")
+        skipped = shutil.ignore_patterns(".git", "out", "python", "examples")
+        shutil.copytree(top, copy, ignore=skipped)
+        path = os.path.join(copy, TEST)
+        with open(path, encoding="utf-8") as file:
+            text = file.read()
+        text = with_constant(text, "BOARDS", asked.boards)
+        text = with_constant(text, "THREADS", asked.threads)
+        with open(path, "w", encoding="utf-8") as file:
+            file.write(text)
+        begun = time.monotonic()
+        ended = subprocess.run(["rt", "test"], cwd=os.path.join(copy, "crates", "claim_words"))
+        seconds = time.monotonic() - begun
+    print(f"{asked.boards} boards, {asked.threads} threads, {seconds:.0f} s with the check: status {ended.returncode}")
+    sys.exit(ended.returncode)
+
+
+if __name__ == "__main__":
+    main()
