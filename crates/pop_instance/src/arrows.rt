@@ -10,6 +10,7 @@ ghost use Rattle.pop_instance.specs.Arrows.{
 
 use crate::kept_heads::KeptHeads;
 use pop_rows::RowList;
+use std::alloc::{AllocError, Global};
 use std::marker::Model;
 
 /// For each variable the heads of its slots: the variable to which a slot leads, or None where it
@@ -64,6 +65,15 @@ impl Arrows {
         }
         Some(Arrows {
             heads: KeptHeads::Flat(rows),
+        })
+    }
+
+    /// Equal arrows.
+    pub fn copy(&self, alloc: Global) -> Result<Arrows, AllocError>
+        ensures { IfOk result (λ arrows. arrows ≡ self.now) }
+    {
+        Ok(Arrows {
+            heads: self.heads.copy(alloc)?,
         })
     }
 
@@ -154,7 +164,6 @@ fn are_head_numbers(rows: &RowList) -> bool
 #[cfg(test)]
 mod tests {
     use super::*;
-    use std::alloc::Global;
     use std::process::Abort;
     use std::test::Fail;
 

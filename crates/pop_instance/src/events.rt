@@ -53,6 +53,15 @@ impl Events {
         Events { rows }
     }
 
+    /// Equal events.
+    pub fn copy(&self, alloc: Global) -> Result<Events, AllocError>
+        ensures { IfOk result (λ events. events ≡ self.now) }
+    {
+        Ok(Events {
+            rows: copy_rows(alloc, &self.rows)?,
+        })
+    }
+
     /// How many events there are: at most 2^31 - 1.
     pub fn count(&self) -> u32
         ensures count { result ≡ length self.now }
@@ -84,6 +93,18 @@ impl Events {
     {
         has_cube(&self.rows, cube)
     }
+}
+
+// Equal rows.
+fn copy_rows(alloc: Global, rows: &[(u32, Cube)]) -> Result<Vec<(u32, Cube)>, AllocError>
+    ensures { IfOk result (λ copies. copies.items ≡ rows.now) }
+{
+    let mut copies = Vec::with_capacity(alloc, rows.len())?;
+    for place in 0..rows.len() {
+        let (number, cube) = &rows[place];
+        copies.push((*number, cube.copy(alloc)?))?;
+    }
+    Ok(copies)
 }
 
 // Whether some row has this cube.

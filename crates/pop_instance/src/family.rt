@@ -1,4 +1,4 @@
-ghost use Rattle.std.specs.Prelude.{◌≡◌, ◌<◌, ◌^◌, ◌↔◌, IsTrue};
+ghost use Rattle.std.specs.Prelude.{◌≡◌, ◌<◌, ◌^◌, ◌↔◌, IsTrue, IfOk};
 ghost use Rattle.pop_model.specs.Stacks.{variables_of, domain_of};
 ghost use Rattle.pop_model.specs.Families.Family.{Listed as ListedEvents, Cycles as CyclesOfHeads};
 ghost use Rattle.pop_model.specs.Families.{IsFamily, units_of};
@@ -7,6 +7,7 @@ ghost use Rattle.pop_model.specs.Instances.{FamilyFits, FitsStacks};
 use crate::cycle::is_cycle;
 use crate::{Arrows, Cube, Events};
 use pop_stacks::Stacks;
+use std::alloc::{AllocError, Global};
 
 /// A family of events. Each has a unit, by which it is found again.
 #[derive(Drop)]
@@ -19,6 +20,16 @@ pub enum Family {
 
 impl Family {
     ghost use Rattle.pop_instance.specs.Family.{family_of, HasEvent};
+
+    /// An equal family. Its time and its memory are those of the whole family.
+    pub fn copy(&self, alloc: Global) -> Result<Family, AllocError>
+        ensures { IfOk result (λ family. family_of family ≡ family_of self.now) }
+    {
+        Ok(match self {
+            Family::Listed(events) => Family::Listed(events.copy(alloc)?),
+            Family::Cycles(arrows) => Family::Cycles(arrows.copy(alloc)?),
+        })
+    }
 
     /// How many units there are: all places, or all variables. At most 2^31 - 1.
     pub fn units(&self) -> u32

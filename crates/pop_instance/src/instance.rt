@@ -1,10 +1,11 @@
-ghost use Rattle.std.specs.Prelude.{◌≡◌, ◌<◌, ◌≤◌, ◌^◌, ◌↔◌, ℕ, IsTrue, MatchOption};
+ghost use Rattle.std.specs.Prelude.{◌≡◌, ◌<◌, ◌≤◌, ◌^◌, ◌↔◌, ℕ, IsTrue, IfOk, MatchOption};
 ghost use Rattle.pop_model.specs.Stacks.{height_of, IsKeyed};
 ghost use Rattle.pop_model.specs.Families.{units_of};
-ghost use Rattle.pop_model.specs.Instances.{IsInstance, FamilyFits, instance_raised};
+ghost use Rattle.pop_model.specs.Instances.{IsInstance, FamilyFits, instance_for, instance_raised};
 
 use crate::{Cube, Family};
 use pop_stacks::Stacks;
+use std::alloc::{AllocError, Global};
 use std::marker::Model;
 
 /// Stacks, and a family of events whose variables and values the stacks have.
@@ -53,6 +54,19 @@ impl Instance {
         &self.stacks
     }
 
+    /// The instance under the same key for sample j, which has streams of its own. It copies the
+    /// family.
+    pub fn for_sample(&self, alloc: Global, j: u32) -> Result<Instance, AllocError>
+        requires keyed { IsKeyed self.now.stacks.origin }
+        ensures { IfOk result (λ i. i ≡ instance_for j self.now) }
+    {
+        let _units = self.units();
+        let stacks = self.stacks.for_sample(alloc, j)?;
+        let _count = stacks.count();
+        let family = self.family.copy(alloc)?;
+        Ok(Instance { stacks, family })
+    }
+
     /// Gives each variable this height, which is at least the present one. It takes no memory, and
     /// a reader of the stacks may go on reading them.
     pub fn raise(&mut self, height: u32)
@@ -93,7 +107,6 @@ mod tests {
     use super::*;
     use crate::Events;
     use pop_stacks::{Rows, StackSpec, Weights};
-    use std::alloc::Global;
     use std::process::Abort;
     use std::test::Fail;
 

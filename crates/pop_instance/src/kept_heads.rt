@@ -1,8 +1,10 @@
-ghost use Rattle.std.specs.Prelude.{◌≡◌, ◌<◌, ◌^◌, [], length, slice_index_or, All};
+ghost use Rattle.std.specs.Prelude.{◌≡◌, ◌<◌, ◌^◌, [], length, slice_index_or, All, IfOk};
 ghost use Rattle.pop_model.specs.Cycles.{head_of};
+ghost use Rattle.pop_instance.specs.Arrows.{heads_of};
 ghost use Rattle.pop_instance.specs.KeptHeads.{heads_kept};
 
 use pop_rows::RowList;
+use std::alloc::{AllocError, Global};
 
 // How the heads of all variables are kept.
 #[derive(Drop)]
@@ -14,6 +16,16 @@ pub(crate) enum KeptHeads {
 }
 
 impl KeptHeads {
+    // Equal heads.
+    pub(crate) fn copy(&self, alloc: Global) -> Result<KeptHeads, AllocError>
+        ensures { IfOk result (λ kept. heads_kept kept ≡ heads_kept self.now) }
+    {
+        Ok(match self {
+            KeptHeads::Nested(rows) => KeptHeads::Nested(copy_lists(alloc, rows)?),
+            KeptHeads::Flat(rows) => KeptHeads::Flat(rows.copy(alloc)?),
+        })
+    }
+
     // How many variables there are.
     #[inline]
     pub(crate) fn count(&self) -> u32
@@ -54,4 +66,15 @@ impl KeptHeads {
             }
         }
     }
+}
+
+// Equal lists.
+fn copy_lists(alloc: Global, rows: &[Vec<Option<u32>>]) -> Result<Vec<Vec<Option<u32>>>, AllocError>
+    ensures { IfOk result (λ lists. heads_of lists.items ≡ heads_of rows.now) }
+{
+    let mut lists = Vec::with_capacity(alloc, rows.len())?;
+    for v in 0..rows.len() {
+        lists.push(Vec::from_slice(alloc, &rows[v])?)?;
+    }
+    Ok(lists)
 }

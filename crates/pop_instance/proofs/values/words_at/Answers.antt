@@ -1,4 +1,4 @@
-use Rattle.std.proofs.Common.{rules, inl, inr, ℕ, ◌≡◌, ◌<◌, ◌≤◌, List, length, get_or, take, ap, sym, subst, ◌∙◌, arith, ◌++◌, ◌∷◌, []}
+use Rattle.std.proofs.Common.{rules, ◌<◌, ◌≤◌, length, ap, ◌∙◌, arith, ◌++◌, ◌∷◌, []}
 use Rattle.std.proofs.lemmas.List.{take_all}
 use Rattle.pop_model.specs.Popping.{values_at}
 use Rattle.pop_model.proofs.ValuesLemmas.{length-values_at, values_more, values_below}
