@@ -3,7 +3,7 @@
 use Rattle.std.proofs.Common.{inl, inr, ◌≡◌, ℕ, List, [], ◌∷◌, ◌++◌, map, zip, sym, subst, arith, Contains, AllPairs}
 use Rattle.std.proofs.lemmas.List.{append_assoc}
 use Rattle.std.proofs.lemmas.List.Elements.{Contains-push}
-use Rattle.pop_model.specs.Instances.{Instance, IsInstance}
+use Rattle.pop_model.specs.Instances.{Instance}
 use Rattle.pop_model.specs.Extremal.{IsExtremal}
 use Rattle.pop_model.specs.Logs.{LogRecord, IsLegal, replay}
 use Rattle.pop_model.proofs.Rising.{member_cases, head_member, tail_member, AreMembers}
@@ -14,8 +14,7 @@ use Rattle.pop_log.proofs.LayersLemmas.{layers_agree}
 use Rattle.pop_log.proofs.Reordering.{IsReordered, keeps, reordered_map, pairs_across}
 use Rattle.pop_log.proofs.InOrder.{same_in_order}
 use Rattle.pop_log.proofs.OneTrace.{one_trace}
-use Rattle.confluence_core.proofs.EventVariables.{event_cube}
-use Rattle.pop_log.proofs.UnitEvents.{self_share, unit_share, legal_event}
+use Rattle.pop_log.proofs.UnitEvents.{HaveCubes, self_share, unit_share, legal_event}
 use Rattle.pop_log.proofs.Exchanges.{legal_reordered, replay_reordered, placed_kept, PlacedBehind, IsPlacedAs, placed_reordered}
 use Rattle.pop_log.proofs.LayeredLemmas.{PlacedDepend, zip_records, zip_placed, sorted_there, sorted_back, sorted_moved, strictly}
 
@@ -50,20 +49,19 @@ in_layers before (p ∷ placed) are rising = (
       (subst (AllPairs ComesBefore) (sym (append_assoc before (p ∷ []) placed)) rising),
 )
 
-module _ (i : Instance) (is : IsInstance i) (c : List ℕ) (log : List LogRecord) (legal : IsLegal i c log)
+module _ (i : Instance) (cubes : HaveCubes i.family) (c : List ℕ) (log : List LogRecord) (legal : IsLegal i c log)
     (placed : List Placed) (sorted : AreSorted log placed) where
   -- a record depends on itself
   selves : (p : Placed) → Contains (zip log sorted.layers) p → PlacedDepend p p
   selves p among =
       self_share p.0.event.cube
-      (event_cube i.family p.0.event is.family
-      (legal_event i c log legal p.0 (zip_member log sorted.layers p among)))
+      (cubes p.0.event (legal_event i c log legal p.0 (zip_member log sorted.layers p among)))
 
   -- records of one unit depend
   one_unit : (p q : Placed) → Contains placed p → Contains placed q → p.0.event.unit ≡ q.0.event.unit
       → PlacedDepend p q
   one_unit p q p_in q_in same =
-      unit_share i.family is.family p.0.event q.0.event
+      unit_share i.family cubes p.0.event q.0.event
       (legal_event i c log legal p.0 (zip_member log sorted.layers p (sorted_back log placed sorted p p_in)))
       (legal_event i c log legal q.0 (zip_member log sorted.layers q (sorted_back log placed sorted q q_in))) same
 
@@ -90,18 +88,19 @@ module _ (i : Instance) (is : IsInstance i) (c : List ℕ) (log : List LogRecord
   placed_in_layers = in_layers [] placed placed_layers placed_rise
 
 -- a layered log is legal, with the same replay
-pub layered_is_legal : (i : Instance) → IsInstance i → (c : List ℕ) (log layered : List LogRecord) → IsLegal i c log
-    → IsLayered log layered → IsLegal i c layered × (replay c layered ≡ replay c log)
-layered_is_legal i is c log layered legal layers =
+pub layered_is_legal : (i : Instance) → HaveCubes i.family → (c : List ℕ) (log layered : List LogRecord)
+    → IsLegal i c log → IsLayered log layered → IsLegal i c layered × (replay c layered ≡ replay c log)
+layered_is_legal i cubes c log layered legal layers =
     let moved : IsReordered Depend log layered =
-    subst (IsReordered Depend log) (sym layers.records) (moved_records i is c log legal layers.placed layers.sorted) in
+    subst (IsReordered Depend log) (sym layers.records)
+    (moved_records i cubes c log legal layers.placed layers.sorted) in
     (legal_reordered i c log layered moved legal, replay_reordered c log layered moved)
 
 -- reorderings of one legal log are sorted to one list
-pub one_sorting : (i : Instance) → IsInstance i → (c : List ℕ) (log other : List LogRecord) → IsLegal i c log
+pub one_sorting : (i : Instance) → HaveCubes i.family → (c : List ℕ) (log other : List LogRecord) → IsLegal i c log
     → IsLegal i c other → IsReordered Depend other log → (placed another : List Placed) → AreSorted log placed
     → AreSorted other another → placed ≡ another
-one_sorting i is c log other legal legal' moved placed another sorted sorted' =
+one_sorting i cubes c log other legal legal' moved placed another sorted sorted' =
     let own : IsPlacedAs [] (zip other sorted'.layers) other =
     record { ys = sorted'.layers; layers = sorted'.are_layers; there = λ z h. h; back = λ z h. h } in
     let again = placed_reordered (zip other sorted'.layers) other log moved own in
@@ -112,13 +111,13 @@ one_sorting i is c log other legal legal' moved placed another sorted sorted' =
     let back : AreMembers another placed = λ z among.
     sorted_there log placed sorted z
     (subst (λ l. Contains (zip log l) z) one (again.back z (sorted_back other another sorted' z among))) in
-    same_in_order ComesBefore comes_one_way placed another (placed_rise i is c log legal placed sorted)
-    (placed_rise i is c other legal' another sorted') there back
+    same_in_order ComesBefore comes_one_way placed another (placed_rise i cubes c log legal placed sorted)
+    (placed_rise i cubes c other legal' another sorted') there back
 
 -- on an extremal instance all legal logs from one vector to ends have one layered log, with one list of layers
-pub one_layered_log : (i : Instance) → IsInstance i → IsExtremal i.family → (c : List ℕ) (log other : List LogRecord)
-    → RunsToEnd i c log → RunsToEnd i c other → (placed another : List Placed) → AreSorted log placed
-    → AreSorted other another → placed ≡ another
-one_layered_log i is extremal c log other run run' placed another sorted sorted' =
-    one_sorting i is c log other run.legal run'.legal
+pub one_layered_log : (i : Instance) → HaveCubes i.family → IsExtremal i.family → (c : List ℕ)
+    (log other : List LogRecord) → RunsToEnd i c log → RunsToEnd i c other → (placed another : List Placed)
+    → AreSorted log placed → AreSorted other another → placed ≡ another
+one_layered_log i cubes extremal c log other run run' placed another sorted sorted' =
+    one_sorting i cubes c log other run.legal run'.legal
     (one_trace i extremal c log other run.legal run'.legal run.end run'.end) placed another sorted sorted'

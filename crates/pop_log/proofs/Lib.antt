@@ -27,7 +27,7 @@ mod PrintedPairs
 pub mod PrintableLemmas
 pub mod LogTextsLemmas
 mod LayeredTextsLemmas
-mod LayeredPrinting
+pub mod LayeredPrinting
 -- Reading: lines, numbers at the front of a text, first lines, the layer and the words of a record's line
 pub mod TextLinesLemmas
 pub mod DecimalsLemmas

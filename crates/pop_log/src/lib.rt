@@ -27,6 +27,7 @@ mod replaying;
 mod sorting;
 mod text_lines;
 
+pub use decimals::number;
 pub use layered_printing::print_layered;
 pub use layering::layers;
 pub use log_refusal::LogRefusal;
@@ -37,3 +38,4 @@ pub use reading::read_log;
 pub use replay_result::Replay;
 pub use replaying::replay;
 pub use sorting::layered;
+pub use text_lines::cut_line;
