@@ -8,8 +8,8 @@ use Rattle.pop_words.specs.declared.command.Command.TheVariants.{Make}
 use Rattle.pop_words.specs.declared.job.Job.{Job}
 use Rattle.pop_edge.specs.Numbers.{number_of}
 use Rattle.pop_words.specs.declared.field.Field.{Field}
-use Rattle.pop_words.specs.declared.field.Field.TheVariants.{Stacks, Key, Height, Workers, Root, Witness, Reports, Size}
-use Rattle.pop_words.specs.Values.{number_between, rows_in, key_in, pair_in, reports_in}
+use Rattle.pop_words.specs.declared.field.Field.TheVariants.{Stacks, Key, Height, Workers, Board, Log, Root, Witness, Reports, Size}
+use Rattle.pop_words.specs.Values.{number_between, rows_in, key_in, board_in, switch_in, pair_in, reports_in}
 use Rattle.pop_words.specs.Options.{default_job, NamedOption, options, value_of}
 use Rattle.pop_words.proofs.ValuesLemmas.{passed}
 use Rattle.pop_words.specs.CommandLines.{Choice, options_of, AreOptions, Asks, job_from, set_option}
@@ -50,6 +50,8 @@ keeps_range command least low f word job set value is = by_field f value
     by_field Workers some = of_map (IsInRange command least) job set _ (number_between 1 64 word)
         (λ n read. let bounds = between 1 64 n word read in
         (is.0, is.1, (omega arith, omega arith), is.3, is.4)) some
+    by_field Board some = of_map (IsInRange command least) job set _ (board_in word) (λ board read. is) some
+    by_field Log some = of_map (IsInRange command least) job set _ (switch_in word) (λ log read. is) some
     by_field Root some = of_map (IsInRange command least) job set _ (number_between 1 (2 ^ 32 - 1) word)
         (λ n read. let bounds = between 1 (2 ^ 32 - 1) n word read in
         (is.0, is.1, is.2, (omega arith, omega arith), is.4)) some
@@ -95,7 +97,7 @@ grid = record { name = codes "grid"; field = Size; commands = Make ∷ []; exclu
 
 -- it is in the table
 grid_listed : Contains options grid
-grid_listed = (7, omega arith, refl)
+grid_listed = (9, omega arith, refl)
 
 -- where `grid` is among the choices, the size is from 1 on
 choices_size : (command : Command) (before : List NamedOption) (job : Job) (chosen : List Choice)

@@ -9,7 +9,7 @@ use Rattle.std.proofs.lemmas.List.{take_more, drop_more, take_all}
 use Rattle.std.proofs.lemmas.List.Folds.{list_all-append, list_any-append}
 use Rattle.std.proofs.lemmas.Slice.Eq.{bytes_eq-Decides}
 use Rattle.pop_words.specs.declared.reports.Reports.{Reports}
-use Rattle.pop_words.specs.Values.{comma_parts, totals_name, heights_name, is_report, are_different, are_reports, reports_among, reports_in}
+use Rattle.pop_words.specs.Values.{comma_parts, totals_name, heights_name, layers_name, is_report, are_different, are_reports, reports_among, reports_in}
 
 -- ---- parts that differ
 
@@ -66,15 +66,28 @@ or_false : (a : Bool) → (a || false) ≡ a
 or_false true = refl
 or_false false = refl
 
+-- a name is among the parts where it stands behind them
+gained : (front : List (List ℕ)) (name : List ℕ) → bytes_eq name name ≡ true
+    → list_any (bytes_eq name) (front ++ name ∷ []) ≡ true
+gained front name same =
+    list_any-append (bytes_eq name) front (name ∷ []) ∙ or_right _ _ (or_left _ _ same)
+
+-- a name that differs from the one behind the parts is among them where it was
+kept : (front : List (List ℕ)) (name other : List ℕ) → bytes_eq other name ≡ false
+    → list_any (bytes_eq other) (front ++ name ∷ []) ≡ list_any (bytes_eq other) front
+kept front name other differs =
+    list_any-append (bytes_eq other) front (name ∷ [])
+    ∙ ap (λ b. list_any (bytes_eq other) front || b) (or_from _ _ differs refl)
+    ∙ or_false (list_any (bytes_eq other) front)
+
 -- `totals` behind others
 totals_behind : (front : List (List ℕ)) → reports_among (front ++ totals_name ∷ [])
     ≡ record (reports_among front) { totals = true }
 totals_behind front =
     rw (
-      list_any-append (bytes_eq totals_name) front (totals_name ∷ []),
-      list_any-append (bytes_eq heights_name) front (totals_name ∷ []),
-      or_right (list_any (bytes_eq totals_name) front) true refl,
-      or_false (list_any (bytes_eq heights_name) front),
+      gained front totals_name refl,
+      kept front totals_name heights_name refl,
+      kept front totals_name layers_name refl,
     ) refl
 
 -- `heights` behind others
@@ -82,10 +95,19 @@ heights_behind : (front : List (List ℕ)) → reports_among (front ++ heights_n
     ≡ record (reports_among front) { heights = true }
 heights_behind front =
     rw (
-      list_any-append (bytes_eq totals_name) front (heights_name ∷ []),
-      list_any-append (bytes_eq heights_name) front (heights_name ∷ []),
-      or_false (list_any (bytes_eq totals_name) front),
-      or_right (list_any (bytes_eq heights_name) front) true refl,
+      kept front heights_name totals_name refl,
+      gained front heights_name refl,
+      kept front heights_name layers_name refl,
+    ) refl
+
+-- `layers` behind others
+layers_behind : (front : List (List ℕ)) → reports_among (front ++ layers_name ∷ [])
+    ≡ record (reports_among front) { layers = true }
+layers_behind front =
+    rw (
+      kept front layers_name totals_name refl,
+      kept front layers_name heights_name refl,
+      gained front layers_name refl,
     ) refl
 
 -- ---- part by part
@@ -127,6 +149,15 @@ heights_more word n reports part has within is same fresh =
     (sym (ap (λ r. r.heights) has.asked) ∙ fresh)
     (ap (λ (r : Reports). record r { heights = true }) has.asked ∙ sym (heights_behind (take n (comma_parts word))))
 
+-- `layers`, where it didn't stand before
+pub layers_more : (word : List ℕ) (n : ℕ) (reports : Reports) (part : List ℕ) → HasNamed word n reports
+    → n < length (comma_parts word) → part ≡ get_or (comma_parts word) n part → bytes_eq part layers_name ≡ true
+    → reports.layers ≡ false → HasNamed word (n + 1) (record reports { layers = true })
+layers_more word n reports part has within is same fresh =
+    named_more word n reports (record reports { layers = true }) part layers_name has within is same refl
+    (sym (ap (λ r. r.layers) has.asked) ∙ fresh)
+    (ap (λ (r : Reports). record r { layers = true }) has.asked ∙ sym (layers_behind (take n (comma_parts word))))
+
 -- all parts are names
 pub all_named : (word : List ℕ) (n : ℕ) (reports : Reports) → HasNamed word n reports
     → length (comma_parts word) ≤ n → reports_in word ≡ Some reports
@@ -154,16 +185,24 @@ refused_at word n part within is cause =
 abbrev pub IsPast : List ℕ → List ℕ → Bool → Type 0
 IsPast part name stood = (bytes_eq part name ≡ false) ⊎ ((bytes_eq part name ≡ true) × (stood ≡ true))
 
+-- a part that is the name of a report that stood before
+named_again : (word : List ℕ) (n : ℕ) (part name : List ℕ) → n < length (comma_parts word)
+    → part ≡ get_or (comma_parts word) n part → bytes_eq part name ≡ true
+    → list_any (bytes_eq name) (take n (comma_parts word)) ≡ true → reports_in word ≡ None
+named_again word n part name within is same stood =
+    refused_at word n part within is (inr (ap (λ p. list_any (bytes_eq p) (take n (comma_parts word)))
+    ((bytes_eq-Decides part name).0 same) ∙ stood))
+
 -- a part that is not the name of a report that is still to be named
 pub not_fresh : (word : List ℕ) (n : ℕ) (reports : Reports) (part : List ℕ) → HasNamed word n reports
     → n < length (comma_parts word) → part ≡ get_or (comma_parts word) n part
     → IsPast part totals_name reports.totals → IsPast part heights_name reports.heights
-    → reports_in word ≡ None
-not_fresh word n reports part has within is (inr (same, stood)) past =
-    refused_at word n part within is (inr (ap (λ p. list_any (bytes_eq p) (take n (comma_parts word)))
-    ((bytes_eq-Decides part totals_name).0 same) ∙ sym (ap (λ r. r.totals) has.asked) ∙ stood))
-not_fresh word n reports part has within is (inl other) (inr (same, stood)) =
-    refused_at word n part within is (inr (ap (λ p. list_any (bytes_eq p) (take n (comma_parts word)))
-    ((bytes_eq-Decides part heights_name).0 same) ∙ sym (ap (λ r. r.heights) has.asked) ∙ stood))
-not_fresh word n reports part has within is (inl other) (inl none) =
-    refused_at word n part within is (inl (or_from _ _ other none))
+    → IsPast part layers_name reports.layers → reports_in word ≡ None
+not_fresh word n reports part has within is (inr (same, stood)) heights layers =
+    named_again word n part totals_name within is same (sym (ap (λ r. r.totals) has.asked) ∙ stood)
+not_fresh word n reports part has within is (inl totals) (inr (same, stood)) layers =
+    named_again word n part heights_name within is same (sym (ap (λ r. r.heights) has.asked) ∙ stood)
+not_fresh word n reports part has within is (inl totals) (inl heights) (inr (same, stood)) =
+    named_again word n part layers_name within is same (sym (ap (λ r. r.layers) has.asked) ∙ stood)
+not_fresh word n reports part has within is (inl totals) (inl heights) (inl layers) =
+    refused_at word n part within is (inl (or_from _ _ totals (or_from _ _ heights (or_from _ _ layers refl))))

@@ -11,7 +11,7 @@ use Rattle.hex.proofs.OnLiterals.{hex_on_literals}
 use Rattle.pop_words.specs.declared.command.Command.{Command}
 use Rattle.pop_words.specs.declared.command.Command.TheVariants.{Formula, Orient, Tree, Resample, Check, Make, Rounds}
 use Rattle.pop_words.specs.declared.field.Field.{Field}
-use Rattle.pop_words.specs.declared.field.Field.TheVariants.{Stacks, Key, Height, Workers, Root, Witness, Reports, Size}
+use Rattle.pop_words.specs.declared.field.Field.TheVariants.{Stacks, Key, Height, Workers, Board, Log, Root, Witness, Reports, Size}
 use Rattle.pop_words.specs.Values.{are_different}
 use Rattle.pop_words.specs.Options.{commands, command_word, NamedOption, options, value_of}
 use Rattle.pop_words.specs.CommandLines.{AreCompatible}
@@ -45,6 +45,8 @@ example Stacks = []
 example Key = codes "0000000000000000000000000000000000000000000000000000000000000000"
 example Height = codes "1"
 example Workers = codes "1"
+example Board = codes "lock"
+example Log = codes "on"
 example Root = codes "1"
 example Witness = codes "1,0"
 example Reports = codes "totals"
@@ -57,6 +59,8 @@ example_is_value Stacks = refl
 example_is_value Key = refl
 example_is_value Height = refl
 example_is_value Workers = refl
+example_is_value Board = refl
+example_is_value Log = refl
 example_is_value Root = refl
 example_is_value Witness = refl
 example_is_value Reports = refl

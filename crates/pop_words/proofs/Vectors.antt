@@ -2,11 +2,11 @@
 use Rattle.std.proofs.Common.{◌≡◌, ℕ, true, false, List, [], ◌∷◌, ◌++◌, None, Some, refl, codes, replicate}
 use Rattle.hex.proofs.OnLiterals.{hex_on_literals}
 use Rattle.pop_stacks.specs.declared.stack_spec.StackSpec.TheVariants.{Given, Key}
-use Rattle.pop_words.specs.declared.board_kind.BoardKind.TheVariants.{Lock}
+use Rattle.pop_words.specs.declared.board_kind.BoardKind.TheVariants.{Lock, Words}
 use Rattle.pop_words.specs.declared.command.Command.{Command}
 use Rattle.pop_words.specs.declared.command.Command.TheVariants.{Formula, Orient, Tree, Resample, Check, Make, Rounds}
 use Rattle.pop_words.specs.declared.job.Job.{Job}
-use Rattle.pop_words.specs.Values.{number_between, rows_in, key_in, reports_in}
+use Rattle.pop_words.specs.Values.{number_between, rows_in, key_in, board_in, switch_in, reports_in}
 use Rattle.pop_words.specs.CommandLines.{Asks, IsBadPlace}
 use Rattle.pop_words.proofs.ReadingLemmas.{reading_is}
 
@@ -75,13 +75,26 @@ greatest_grid = refl
 past_the_greatest_grid : number_between 1 2048 (codes "2049") ≡ None
 past_the_greatest_grid = refl
 
+-- a board is named
+board_of_a_lock : board_in (codes "lock") ≡ Some Lock
+board_of_a_lock = refl
+
+-- no board has another name
+no_name_of_a_board : board_in (codes "word") ≡ None
+no_name_of_a_board = refl
+
 -- one report is asked for by its name
-totals_alone : reports_in (codes "totals") ≡ Some (record { totals = true; heights = false })
+totals_alone : reports_in (codes "totals") ≡ Some (record { totals = true; heights = false; layers = false })
 totals_alone = refl
 
--- the two reports may be named in either order
-heights_in_front : reports_in (codes "heights,totals") ≡ Some (record { totals = true; heights = true })
+-- reports may be named in any order
+heights_in_front : reports_in (codes "heights,totals") ≡ Some (record { totals = true; heights = true; layers = false })
 heights_in_front = refl
+
+-- all three may be asked for
+layers_in_front : reports_in (codes "layers,heights,totals") ≡
+    Some (record { totals = true; heights = true; layers = true })
+layers_in_front = refl
 
 -- reports have one name at least
 no_name_of_a_report : reports_in [] ≡ None
@@ -94,6 +107,14 @@ an_empty_name_behind = refl
 -- no report is named twice
 heights_twice : reports_in (codes "heights,totals,heights") ≡ None
 heights_twice = refl
+
+-- a log is on
+log_on : switch_in (codes "on") ≡ Some true
+log_on = refl
+
+-- or off
+log_off : switch_in (codes "off") ≡ Some false
+log_off = refl
 
 -- ---- jobs
 
@@ -109,11 +130,11 @@ plain command =
       stacks = Key (replicate 32 0);
       height = 1048576;
       workers = 1;
-      board = Lock;
+      board = Words;
       root = 1;
       log = false;
       witness = None;
-      reports = record { totals = false; heights = false };
+      reports = record { totals = false; heights = false; layers = false };
       size = 0;
     }
 
@@ -157,10 +178,33 @@ key_behind_height : Asks (codes "formula" ∷ codes "--height" ∷ codes "9" ∷
 unfolding hex_on_literals
 key_behind_height = reading_is (codes "formula" ∷ codes "--height" ∷ codes "9" ∷ codes "--key" ∷ zeros ∷ [])
 
+-- one worker may pop on a board under a lock
+lock_of_one_worker : Asks (codes "orient" ∷ codes "--board" ∷ codes "lock" ∷ []) (record (plain Orient) { board = Lock })
+lock_of_one_worker = reading_is (codes "orient" ∷ codes "--board" ∷ codes "lock" ∷ [])
+
+-- the board of the claim words is the default one
+words_by_name : Asks (codes "tree" ∷ codes "--board" ∷ codes "words" ∷ codes "--workers" ∷ codes "2" ∷ [])
+    (record (plain Tree) { workers = 2 })
+words_by_name = reading_is (codes "tree" ∷ codes "--board" ∷ codes "words" ∷ codes "--workers" ∷ codes "2" ∷ [])
+
 -- a resampling may tell both reports, however they are ordered
 both_reports : Asks (codes "resample" ∷ codes "--report" ∷ codes "heights,totals" ∷ [])
-    (record (plain Resample) { log = true; reports = record { totals = true; heights = true } })
+    (record (plain Resample) { log = true; reports = record { totals = true; heights = true; layers = false } })
 both_reports = reading_is (codes "resample" ∷ codes "--report" ∷ codes "heights,totals" ∷ [])
+
+-- a formula may tell its log, a witness and reports
+all_told : Asks (codes "formula" ∷ codes "--log" ∷ codes "on" ∷ codes "--witness" ∷ codes "1,5" ∷ codes "--report"
+    ∷ codes "layers" ∷ []) (record (plain Formula) {
+      log = true;
+      witness = Some (1, 5);
+      reports = record { totals = false; heights = false; layers = true };
+    })
+all_told = reading_is (codes "formula" ∷ codes "--log" ∷ codes "on" ∷ codes "--witness" ∷ codes "1,5"
+    ∷ codes "--report" ∷ codes "layers" ∷ [])
+
+-- a tree whose log is off is a tree
+log_off_of_a_tree : Asks (codes "tree" ∷ codes "--log" ∷ codes "off" ∷ []) (plain Tree)
+log_off_of_a_tree = reading_is (codes "tree" ∷ codes "--log" ∷ codes "off" ∷ [])
 
 -- the grid that is made may stand behind the options
 grid_behind_key : Asks (codes "make" ∷ codes "--key" ∷ zeros ∷ codes "grid" ∷ codes "2" ∷ [])
@@ -187,9 +231,13 @@ no_command = reading_is (codes "round" ∷ [])
 no_workers_of_rounds : IsBadPlace (codes "rounds" ∷ codes "--workers" ∷ codes "2" ∷ []) 2
 no_workers_of_rounds = reading_is (codes "rounds" ∷ codes "--workers" ∷ codes "2" ∷ [])
 
--- `--board` is no option
-no_board_yet : IsBadPlace (codes "formula" ∷ codes "--board" ∷ codes "lock" ∷ []) 2
-no_board_yet = reading_is (codes "formula" ∷ codes "--board" ∷ codes "lock" ∷ [])
+-- nor do they meet on a board
+no_board_of_rounds : IsBadPlace (codes "rounds" ∷ codes "--board" ∷ codes "lock" ∷ []) 2
+no_board_of_rounds = reading_is (codes "rounds" ∷ codes "--board" ∷ codes "lock" ∷ [])
+
+-- a board of another name is bad at its name
+no_such_board : IsBadPlace (codes "formula" ∷ codes "--board" ∷ codes "claims" ∷ []) 3
+no_such_board = reading_is (codes "formula" ∷ codes "--board" ∷ codes "claims" ∷ [])
 
 -- `--speed` is no option
 no_such_option : IsBadPlace (codes "formula" ∷ codes "--speed" ∷ codes "3" ∷ []) 2
@@ -267,9 +315,17 @@ a_grid_of_a_formula = reading_is (codes "formula" ∷ codes "grid" ∷ codes "2"
 a_root_of_make : IsBadPlace (codes "make" ∷ codes "--root" ∷ codes "1" ∷ codes "grid" ∷ codes "2" ∷ []) 2
 a_root_of_make = reading_is (codes "make" ∷ codes "--root" ∷ codes "1" ∷ codes "grid" ∷ codes "2" ∷ [])
 
--- a tree has no reports
-a_report_of_a_tree : IsBadPlace (codes "tree" ∷ codes "--report" ∷ codes "totals" ∷ []) 2
-a_report_of_a_tree = reading_is (codes "tree" ∷ codes "--report" ∷ codes "totals" ∷ [])
+-- rounds have no reports
+a_report_of_rounds : IsBadPlace (codes "rounds" ∷ codes "--report" ∷ codes "totals" ∷ []) 2
+a_report_of_rounds = reading_is (codes "rounds" ∷ codes "--report" ∷ codes "totals" ∷ [])
+
+-- a resampling tells its log always
+a_log_of_resample : IsBadPlace (codes "resample" ∷ codes "--log" ∷ codes "on" ∷ []) 2
+a_log_of_resample = reading_is (codes "resample" ∷ codes "--log" ∷ codes "on" ∷ [])
+
+-- a log that is neither on nor off is bad at its value
+log_maybe : IsBadPlace (codes "formula" ∷ codes "--log" ∷ codes "maybe" ∷ []) 3
+log_maybe = reading_is (codes "formula" ∷ codes "--log" ∷ codes "maybe" ∷ [])
 
 -- a report that is named twice is bad at the names
 totals_twice : IsBadPlace (codes "resample" ∷ codes "--report" ∷ codes "totals,totals" ∷ []) 3

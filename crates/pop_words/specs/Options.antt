@@ -5,11 +5,11 @@ use Rattle.pop_words.specs.declared.command.Command.{Command}
 use Rattle.pop_words.specs.declared.command.Command.TheVariants.{Formula, Orient, Tree, Resample, Check, Make, Rounds}
 use Rattle.pop_words.specs.declared.command.Input.{Input}
 use Rattle.pop_words.specs.declared.command.Input.TheVariants.{Formula as OfFormula, Graph as OfGraph, Nothing as OfNothing}
-use Rattle.pop_words.specs.declared.board_kind.BoardKind.TheVariants.{Lock}
+use Rattle.pop_words.specs.declared.board_kind.BoardKind.TheVariants.{Words}
 use Rattle.pop_words.specs.declared.field.Field.{Field}
-use Rattle.pop_words.specs.declared.field.Field.TheVariants.{Stacks, Key, Height, Workers, Root, Witness, Reports as ReportKinds, Size}
+use Rattle.pop_words.specs.declared.field.Field.TheVariants.{Stacks, Key, Height, Workers, Board, Log, Root, Witness, Reports as ReportKinds, Size}
 use Rattle.pop_words.specs.declared.job.Job.{Job}
-use Rattle.pop_words.specs.Values.{number_between, rows_in, key_in, pair_in, no_reports, reports_in}
+use Rattle.pop_words.specs.Values.{number_between, rows_in, key_in, board_in, switch_in, pair_in, no_reports, reports_in}
 
 -- what there is to say of a command
 pub record NamedCommand : Type 0 where
@@ -17,7 +17,7 @@ pub record NamedCommand : Type 0 where
   pub word : List ℕ
   -- what it reads
   pub input : Input
-  -- whether it tells its log
+  -- whether it tells its log unasked
   pub log : Bool
 
 -- every command
@@ -50,7 +50,7 @@ default_job command =
       stacks = KeyedStacks (replicate 32 0);
       height = 1048576;
       workers = 1;
-      board = Lock;
+      board = Words;
       root = 1;
       log = (command_row command).log;
       witness = None;
@@ -67,6 +67,8 @@ value_of Key word = option_map (λ key job. record job { stacks = KeyedStacks ke
 value_of Height word =
     option_map (λ n job. record job { height = n }) (number_between 1 (2 ^ 31 - 1) word)
 value_of Workers word = option_map (λ n job. record job { workers = n }) (number_between 1 64 word)
+value_of Board word = option_map (λ board job. record job { board = board }) (board_in word)
+value_of Log word = option_map (λ log job. record job { log = log }) (switch_in word)
 value_of Root word =
     option_map (λ n job. record job { root = n }) (number_between 1 (2 ^ 32 - 1) word)
 value_of Witness word = option_map (λ pair job. record job { witness = Some pair }) (pair_in word)
@@ -95,6 +97,10 @@ sampling = Formula ∷ Orient ∷ Tree ∷ Resample ∷ Make ∷ Rounds ∷ []
 abbrev pub popping : List Command
 popping = Formula ∷ Orient ∷ Tree ∷ Resample ∷ Make ∷ []
 
+-- the commands that pop, and tell no log unasked
+abbrev pub quiet : List Command
+quiet = Formula ∷ Orient ∷ Tree ∷ Make ∷ []
+
 -- an option of these commands that excludes none, and may be left out
 abbrev pub free_option : List ℕ → Field → List Command → NamedOption
 free_option name field commands =
@@ -113,9 +119,11 @@ options =
     ∷ free_option (codes "--key") Key sampling
     ∷ free_option (codes "--height") Height sampling
     ∷ free_option (codes "--workers") Workers popping
+    ∷ free_option (codes "--board") Board popping
+    ∷ free_option (codes "--log") Log quiet
     ∷ free_option (codes "--root") Root (Tree ∷ [])
-    ∷ free_option (codes "--witness") Witness (Resample ∷ [])
-    ∷ free_option (codes "--report") ReportKinds (Resample ∷ [])
+    ∷ free_option (codes "--witness") Witness popping
+    ∷ free_option (codes "--report") ReportKinds popping
     ∷ record {
       name = codes "grid";
       field = Size;

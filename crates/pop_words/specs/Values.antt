@@ -1,10 +1,12 @@
 -- How the value of an option is read from its word.
-use Rattle.std.specs.Prelude.{ℕ, ◌^◌, Bool, true, false, not, ◌&&◌, ◌||◌, ◌==◌, nat_le, if◌then◌else◌, List, [], ◌∷◌, length, sum_by, Option, None, Some, option_and_then, codes}
-use Rattle.std.specs.List.{list_all, list_any, slice_split}
+use Rattle.std.specs.Prelude.{ℕ, ◌^◌, Bool, true, false, not, ◌&&◌, ◌==◌, nat_le, if◌then◌else◌, List, [], ◌∷◌, length, sum_by, Option, None, Some, option_map, option_and_then, codes}
+use Rattle.std.specs.List.{find, list_all, list_any, slice_split}
 use Rattle.std.specs.Str.{bytes_eq}
 use Rattle.std.specs.Result.{result_ok}
 use Rattle.hex.specs.Hex.{decode_sized}
 use Rattle.pop_edge.specs.Numbers.{number_of}
+use Rattle.pop_words.specs.declared.board_kind.BoardKind.{BoardKind}
+use Rattle.pop_words.specs.declared.board_kind.BoardKind.TheVariants.{Lock, Words}
 use Rattle.pop_words.specs.declared.reports.Reports.{Reports}
 
 -- a value in front of the values that are read behind it
@@ -29,6 +31,18 @@ number_between low high word = only_if (λ n. nat_le low n && nat_le n high) (nu
 -- the 32 bytes of 64 hexadecimal digits, of both cases; the first two digits are byte 0
 abbrev pub key_in : List ℕ → Option (List ℕ)
 key_in word = result_ok (decode_sized word 32)
+
+-- the value that a word names, of values with their names
+abbrev pub named_in : {X : Type 0} → List (List ℕ × X) → List ℕ → Option X
+named_in names word = option_map (λ p. p.1) (find (λ p. bytes_eq word p.0) names)
+
+-- a board by its name
+abbrev pub board_in : List ℕ → Option BoardKind
+board_in word = named_in ((codes "lock", Lock) ∷ (codes "words", Words) ∷ []) word
+
+-- whether something is on, by the word `on` or `off`
+abbrev pub switch_in : List ℕ → Option Bool
+switch_in word = named_in ((codes "on", true) ∷ (codes "off", false) ∷ []) word
 
 -- the parts of a word between its commas
 abbrev pub comma_parts : List ℕ → List (List ℕ)
@@ -67,9 +81,9 @@ pair_in word = option_and_then pair_of (row_in word)
 
 -- no report
 abbrev pub no_reports : Reports
-no_reports = record { totals = false; heights = false }
+no_reports = record { totals = false; heights = false; layers = false }
 
--- the names of the two reports
+-- the name of the report of the totals
 abbrev pub totals_name : List ℕ
 totals_name = codes "totals"
 
@@ -77,9 +91,13 @@ totals_name = codes "totals"
 abbrev pub heights_name : List ℕ
 heights_name = codes "heights"
 
+-- the name of the report of the layers
+abbrev pub layers_name : List ℕ
+layers_name = codes "layers"
+
 -- a part is the name of a report
 abbrev pub is_report : List ℕ → Bool
-is_report part = bytes_eq part totals_name || bytes_eq part heights_name
+is_report part = list_any (bytes_eq part) (totals_name ∷ heights_name ∷ layers_name ∷ [])
 
 -- no part stands twice
 abbrev pub are_different : List (List ℕ) → Bool
@@ -96,6 +114,7 @@ reports_among parts =
     record {
       totals = list_any (bytes_eq totals_name) parts;
       heights = list_any (bytes_eq heights_name) parts;
+      layers = list_any (bytes_eq layers_name) parts;
     }
 
 -- names of reports joined by `,`, each at most once

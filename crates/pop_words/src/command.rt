@@ -43,7 +43,7 @@ struct CommandRow {
     word: &'static str,
     // What it reads.
     input: Input,
-    // Whether it tells its log.
+    // Whether it tells its log unasked.
     log: bool,
 }
 
@@ -90,7 +90,7 @@ impl Command {
         self.row().input
     }
 
-    /// Whether it tells its log.
+    /// Whether it tells its log unasked.
     pub fn tells_log(self) -> bool
         ensures { result ≡ (command_row self).log }
     {

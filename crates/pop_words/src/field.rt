@@ -3,7 +3,7 @@ ghost use Rattle.std.specs.Prelude.{◌≡◌, ℕ, option_map, IfOk};
 ghost use Rattle.pop_words.specs.Options.{value_of};
 
 use crate::Job;
-use crate::value::{key_in, number_between, pair_in, reports_in, rows_in};
+use crate::value::{board_in, key_in, number_between, pair_in, reports_in, rows_in, switch_in};
 use pop_stacks::StackSpec;
 use std::alloc::{AllocError, Global};
 
@@ -23,6 +23,8 @@ pub enum Field {
     Key,
     Height,
     Workers,
+    Board,
+    Log,
     Root,
     Witness,
     Reports,
@@ -34,42 +36,30 @@ impl Field {
     pub fn set(self, alloc: Global, job: Job, word: &[u8]) -> Result<Option<Job>, AllocError>
         ensures { IfOk result (λ set. set ≡ option_map (λ f. f job) (value_of self word.now)) }
     {
-        match self {
-            Field::Stacks => match rows_in(alloc, word)? {
-                Some(rows) => Ok(Some(job.with_stacks(StackSpec::Given(rows)))),
-                None => Ok(None),
-            },
+        Ok(match self {
+            Field::Stacks => {
+                rows_in(alloc, word)?.map(|rows| job.with_stacks(StackSpec::Given(rows)))
+            }
             Field::Key => match key_in(word) {
-                Some(key) => Ok(Some(job.with_stacks(StackSpec::Key(key)))),
-                None => Ok(None),
+                Some(key) => Some(job.with_stacks(StackSpec::Key(key))),
+                None => None,
             },
-            Field::Witness => match pair_in(alloc, word)? {
-                Some(pair) => Ok(Some(Job {
-                    witness: Some(pair),
-                    ..job
-                })),
-                None => Ok(None),
-            },
-            Field::Reports => match reports_in(word) {
-                Some(reports) => Ok(Some(Job { reports, ..job })),
-                None => Ok(None),
-            },
-            Field::Height => match number_between(1, MAX_HEIGHT, word) {
-                Some(height) => Ok(Some(Job { height, ..job })),
-                None => Ok(None),
-            },
-            Field::Workers => match number_between(1, MAX_WORKERS, word) {
-                Some(workers) => Ok(Some(Job { workers, ..job })),
-                None => Ok(None),
-            },
-            Field::Root => match number_between(1, u32::MAX, word) {
-                Some(root) => Ok(Some(Job { root, ..job })),
-                None => Ok(None),
-            },
-            Field::Size => match number_between(1, MAX_SIZE, word) {
-                Some(size) => Ok(Some(Job { size, ..job })),
-                None => Ok(None),
-            },
-        }
+            Field::Board => board_in(word).map(move |board| Job { board, ..job }),
+            Field::Log => switch_in(word).map(move |log| Job { log, ..job }),
+            Field::Witness => pair_in(alloc, word)?.map(move |pair| Job {
+                witness: Some(pair),
+                ..job
+            }),
+            Field::Reports => reports_in(word).map(move |reports| Job { reports, ..job }),
+            Field::Height => number_between(1, MAX_HEIGHT, word).map(move |height| Job {
+                height,
+                ..job
+            }),
+            Field::Workers => {
+                number_between(1, MAX_WORKERS, word).map(move |workers| Job { workers, ..job })
+            }
+            Field::Root => number_between(1, u32::MAX, word).map(move |root| Job { root, ..job }),
+            Field::Size => number_between(1, MAX_SIZE, word).map(move |size| Job { size, ..job }),
+        })
     }
 }

@@ -16,12 +16,12 @@ pub struct Job {
     pub height: u32,
     /// How many workers share the pops, from 1 to 64: that of `--workers`, which is 1 by default.
     pub workers: u32,
-    /// The board on which the workers meet: that under the lock.
+    /// The board on which the workers meet: that of `--board`, which is the claim words by default.
     pub board: BoardKind,
     /// The vertex to which the arrows of a tree lead, from 1 to 2^32 - 1: that of `--root`, which
     /// is 1 by default.
     pub root: u32,
-    /// Whether the log of the pops is told: for `resample` alone.
+    /// Whether the log of the pops is told: for `resample`, and where `--log on` stands.
     pub log: bool,
     /// The pop whose witness tree is asked for, by the printed name of a variable and the entry
     /// that the pop used, which counts from 0: those of `--witness`. None by default.
@@ -45,7 +45,7 @@ impl Job {
             stacks: StackSpec::Key([0; 32]),
             height: 1 << 20,
             workers: 1,
-            board: BoardKind::Lock,
+            board: BoardKind::Words,
             root: 1,
             log: command.tells_log(),
             witness: None,

@@ -41,10 +41,18 @@ const POPPING: &[Command] = &[
     Command::Make,
 ];
 
+// The commands that pop, and tell no log unasked.
+const QUIET: &[Command] = &[
+    Command::Formula,
+    Command::Orient,
+    Command::Tree,
+    Command::Make,
+];
+
 // The options of keyed stacks.
 const KEYED: &[&str] = &["--key", "--height"];
 
-const OPTIONS: [OptionRow; 8] = [
+const OPTIONS: [OptionRow; 10] = [
     OptionRow {
         name: "--stacks",
         field: Field::Stacks,
@@ -74,6 +82,20 @@ const OPTIONS: [OptionRow; 8] = [
         needed: false,
     },
     OptionRow {
+        name: "--board",
+        field: Field::Board,
+        commands: POPPING,
+        excludes: &[],
+        needed: false,
+    },
+    OptionRow {
+        name: "--log",
+        field: Field::Log,
+        commands: QUIET,
+        excludes: &[],
+        needed: false,
+    },
+    OptionRow {
         name: "--root",
         field: Field::Root,
         commands: &[Command::Tree],
@@ -83,14 +105,14 @@ const OPTIONS: [OptionRow; 8] = [
     OptionRow {
         name: "--witness",
         field: Field::Witness,
-        commands: &[Command::Resample],
+        commands: POPPING,
         excludes: &[],
         needed: false,
     },
     OptionRow {
         name: "--report",
         field: Field::Reports,
-        commands: &[Command::Resample],
+        commands: POPPING,
         excludes: &[],
         needed: false,
     },

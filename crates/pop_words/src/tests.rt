@@ -52,13 +52,14 @@ fn shown(alloc: Global, job: &Job) -> Result<String, AllocError> {
     push_number(&mut text, "height", job.height, 1048576)?;
     push_number(&mut text, "root", job.root, 1)?;
     push_number(&mut text, "workers", job.workers, 1)?;
-    push_if(&mut text, job.board != BoardKind::Lock, " words")?;
+    push_if(&mut text, job.board == BoardKind::Lock, " lock")?;
     push_if(&mut text, job.log, " log")?;
     if let Some((name, entry)) = job.witness {
         write!(text, " witness {name} {entry}")?;
     }
     push_if(&mut text, job.reports.totals, " totals")?;
     push_if(&mut text, job.reports.heights, " heights")?;
+    push_if(&mut text, job.reports.layers, " layers")?;
     push_number(&mut text, "grid", job.size, 0)?;
     Ok(text)
 }

@@ -1,8 +1,8 @@
 // Values of options, read from their words.
 ghost use Rattle.std.specs.Prelude.{◌≡◌, ◌∷◌, ◌&&◌, ℕ, List, IfOk, Option, option_map, vec_items};
-ghost use Rattle.pop_words.specs.Values.{number_between as number_between_of, key_in as key_of, row_in as row_of, rows_in as rows_of, pair_in as pair_of, reports_in as reports_of, only_if, fits_in};
+ghost use Rattle.pop_words.specs.Values.{number_between as number_between_of, key_in as key_of, board_in as board_of, switch_in as switch_of, row_in as row_of, rows_in as rows_of, pair_in as pair_of, reports_in as reports_of, only_if, fits_in};
 
-use crate::Reports;
+use crate::{BoardKind, Reports};
 use hex::FromHex;
 use pop_edge::number;
 use pop_stacks::Rows;
@@ -25,6 +25,32 @@ pub fn key_in(word: &[u8]) -> Option<[u8; 32]>
     ensures { result ≡ key_of word.now }
 {
     <[u8; 32] as FromHex>::from_hex(word).ok()
+}
+
+/// A board by its name.
+pub fn board_in(word: &[u8]) -> Option<BoardKind>
+    ensures { result ≡ board_of word.now }
+{
+    if word == "lock".as_bytes() {
+        Some(BoardKind::Lock)
+    } else if word == "words".as_bytes() {
+        Some(BoardKind::Words)
+    } else {
+        None
+    }
+}
+
+/// Whether something is on, by the word `on` or `off`.
+pub fn switch_in(word: &[u8]) -> Option<bool>
+    ensures { result ≡ switch_of word.now }
+{
+    if word == "on".as_bytes() {
+        Some(true)
+    } else if word == "off".as_bytes() {
+        Some(false)
+    } else {
+        None
+    }
 }
 
 // A row of at most `room` numbers.
@@ -94,6 +120,8 @@ pub fn reports_in(word: &[u8]) -> Option<Reports>
             reports.totals = true;
         } else if part == "heights".as_bytes() && !reports.heights {
             reports.heights = true;
+        } else if part == "layers".as_bytes() && !reports.layers {
+            reports.layers = true;
         } else {
             return None;
         }

@@ -2,7 +2,7 @@
 
 /// Lines of the grammar. A job is told by its command and by what differs from the defaults; `Z`
 /// stands for 64 zeros.
-pub static ACCEPTED: [(&str, &str); 55] = [
+pub static ACCEPTED: [(&str, &str); 76] = [
     ("formula", "formula"),
     ("check", "check"),
     ("formula --stacks 0,0,1", "formula rows [0, 0, 1]"),
@@ -91,6 +91,54 @@ pub static ACCEPTED: [(&str, &str); 55] = [
         "resample --report heights --witness 1,0 --workers 2",
         "resample workers 2 log witness 1 0 heights",
     ),
+    ("formula --board lock", "formula lock"),
+    ("formula --board words", "formula"),
+    ("orient --board lock --stacks 0", "orient rows [0] lock"),
+    (
+        "tree --workers 8 --board lock --root 3",
+        "tree root 3 workers 8 lock",
+    ),
+    (
+        "resample --board lock --workers 2",
+        "resample workers 2 lock log",
+    ),
+    ("make grid 2 --board lock", "make lock grid 2"),
+    (
+        "make --board words grid 2 --height 9",
+        "make height 9 grid 2",
+    ),
+    ("formula --log on", "formula log"),
+    ("formula --log off", "formula"),
+    ("orient --log on --workers 2", "orient workers 2 log"),
+    (
+        "tree --log on --witness 3,0 --stacks 1,0;0,0",
+        "tree rows [1, 0] [0, 0] log witness 3 0",
+    ),
+    ("make --log on grid 2", "make log grid 2"),
+    ("formula --witness 1,5", "formula witness 1 5"),
+    (
+        "orient --witness 2,0 --board lock",
+        "orient lock witness 2 0",
+    ),
+    ("make grid 2 --witness 1,1", "make witness 1 1 grid 2"),
+    ("formula --report layers", "formula layers"),
+    ("orient --report totals", "orient totals"),
+    (
+        "tree --report heights,layers --root 2",
+        "tree root 2 heights layers",
+    ),
+    (
+        "make --report layers,totals grid 3",
+        "make totals layers grid 3",
+    ),
+    (
+        "resample --report layers,heights,totals",
+        "resample log totals heights layers",
+    ),
+    (
+        "resample --report totals,layers,heights",
+        "resample log totals heights layers",
+    ),
     ("rounds", "rounds"),
     (
         "rounds --stacks 0,1;0,0;0,0",
@@ -99,8 +147,8 @@ pub static ACCEPTED: [(&str, &str); 55] = [
     ("rounds --height 3 --key Z", "rounds height 3"),
 ];
 
-/// Lines outside the grammar: 64 zeros are a key, 63 and 65 aren't. The word `--board` is to come.
-pub static REFUSED: [(&str, u32); 137] = [
+/// Lines outside the grammar: 64 zeros are a key, 63 and 65 aren't.
+pub static REFUSED: [(&str, u32); 164] = [
     ("", 1),
     ("Formula", 1),
     ("formulas", 1),
@@ -185,7 +233,6 @@ pub static REFUSED: [(&str, u32); 137] = [
     ("tree --workers 2 --workers 2", 4),
     ("resample --root 1", 2),
     ("resamples", 1),
-    ("formula --witness 1,0", 2),
     ("check --witness 1,0", 2),
     ("resample --witness", 3),
     ("resample --witness ", 3),
@@ -205,8 +252,6 @@ pub static REFUSED: [(&str, u32); 137] = [
     ("make 2", 2),
     ("make --grid 2", 2),
     ("make --root 1 grid 2", 2),
-    ("make --witness 1,1 grid 2", 2),
-    ("make --report totals grid 2", 2),
     ("formula grid 2", 2),
     ("check grid 2", 2),
     ("make grid", 3),
@@ -221,9 +266,6 @@ pub static REFUSED: [(&str, u32); 137] = [
     ("make --stacks 0 --height 5 grid 2", 4),
     ("make --key Z --workers 2", 6),
     ("make grid 2 --stacks 0 --key Z", 6),
-    ("formula --report totals", 2),
-    ("orient --report totals", 2),
-    ("tree --report totals", 2),
     ("check --report totals", 2),
     ("resample --reports totals", 2),
     ("resample --report", 3),
@@ -237,7 +279,40 @@ pub static REFUSED: [(&str, u32); 137] = [
     ("resample --report totals,totals", 3),
     ("resample --report heights,totals,heights", 3),
     ("resample --report totals --report heights", 4),
-    ("formula --board lock", 2),
+    ("check --board lock", 2),
+    ("rounds --board words", 2),
+    ("formula --boards lock", 2),
+    ("formula --board", 3),
+    ("formula --board ", 3),
+    ("formula --board lock,words", 3),
+    ("formula --board Lock", 3),
+    ("formula --board word", 3),
+    ("tree --board 1", 3),
+    ("formula --board lock --board lock", 4),
+    ("make grid 2 --board book", 5),
+    ("formula --log maybe", 3),
+    ("resample --log on", 2),
+    ("resample --log off", 2),
+    ("rounds --log on", 2),
+    ("check --log off", 2),
+    ("formula --logs on", 2),
+    ("formula --log", 3),
+    ("orient --log ", 3),
+    ("tree --log On", 3),
+    ("formula --log on,off", 3),
+    ("formula --log 1", 3),
+    ("make --log on", 4),
+    ("make grid 2 --log", 5),
+    ("tree --log on --log off", 4),
+    ("formula --witness 1", 3),
+    ("make --witness 1,1", 4),
+    ("orient --witness 1,0 --witness 1,0", 4),
+    ("tree --report layer", 3),
+    ("formula --report layers,layers", 3),
+    ("formula --report layers,heights,layers", 3),
+    ("orient --report heights,layers,", 3),
+    ("make --report totals;layers grid 2", 3),
+    ("formula --report layers --report totals", 4),
     ("round", 1),
     ("rounds --workers 2", 2),
     ("rounds --root 1", 2),
