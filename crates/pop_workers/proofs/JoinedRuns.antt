@@ -6,10 +6,13 @@ use Rattle.pop_model.specs.Families.{Event}
 use Rattle.pop_model.specs.Instances.{Instance, IsInstance}
 use Rattle.pop_model.specs.Logs.{LogRecord, IsLegal, replay}
 use Rattle.pop_model.proofs.Replays.{length-replay}
-use Rattle.confluence_core.specs.Runs.{IsRun}
+use Rattle.confluence_core.specs.declared.run.Run.{Run}
+use Rattle.confluence_core.specs.Runs.{IsRun, IsRunOf}
 use Rattle.confluence_core.proofs.LegalLogs.{replay_append, legal_append}
 use Rattle.confluence_core.proofs.ShortLogs.{legal_short}
+use Rattle.confluence_core.proofs.SoFar.{first_end_from}
 use Rattle.pop_workers.specs.Progressed.{HasProgressed, both_logs}
+use Rattle.pop_workers.specs.Stages.{behind}
 
 -- logs that are kept behind one another are the log behind the other, kept
 kept_both : (k : Bool) (xs ys : List LogRecord)
@@ -45,3 +48,28 @@ module _ (i : Instance) (start : List ℕ) (keeps : Bool) (before : List ℕ) (n
       left.count ∙ ap length left.cursors_are ∙ length-replay start left.log in
       let short = legal_short i start (left.log ++ run.log) instance count joined_legal in
       omega (arith, short, length-append left.log run.log, left.pops_are, run.pops_are)
+
+-- the whole run that goes on, with what was popped before in front of it
+pub run_behind : (i : Instance) (start : List ℕ) (keeps : Bool) (before : List ℕ) (n : ℕ)
+    (log : Option (List LogRecord)) (run : Run) → HasProgressed i start keeps before n log → IsRunOf i before keeps run
+    → IsRunOf i start keeps (behind n log run)
+run_behind i start keeps before n log run left of =
+    let all = both_logs log run.log in
+    let joined : IsRun i start keeps run.end.cursors (n + run.end.pops) run.end.stuck all =
+    joined_run i start keeps before n log run.end.cursors run.end.pops run.end.stuck run.log all left of.run refl in
+    record {
+      run = joined;
+      count = of.count;
+      within = of.within;
+      values = of.values;
+      first = first_end_from i start keeps run.end.cursors (n + run.end.pops) run.end.stuck all joined;
+    }
+
+-- the pops of a run fit a count twice
+pub few_pops : (i : Instance) (start : List ℕ) (keeps : Bool) (run : Run) → IsInstance i → IsRunOf i start keeps run
+    → run.end.pops < 2 ^ 62
+few_pops i start keeps run instance of =
+    let count : variables_of i.stacks ≡ length start =
+    of.count ∙ ap length of.run.cursors_are ∙ length-replay start of.run.log in
+    let short = legal_short i start of.run.log instance count of.run.legal in
+    omega (arith, short, of.run.pops_are)

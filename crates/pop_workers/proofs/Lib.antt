@@ -11,3 +11,6 @@ mod Rounds
 mod Looks
 -- Lists of jobs
 mod JobLists
+-- Heights that grow: stacks that are raised, and a stage behind others
+pub mod RaisedInstances
+mod StageTurns

@@ -62,7 +62,7 @@ round_pops k d e f g n b round found goes legal =
     (omega (arith, low, found.0, goes.more), legal found.1)
 
 -- the unit of an event is one of the family's
-unit_known : (family : Family) (e : Event) → IsEvent family e → e.unit < units_of family
+pub unit_known : (family : Family) (e : Event) → IsEvent family e → e.unit < units_of family
 unit_known (Listed rows) e (number, is) = slice_get_within rows e.unit (number, e.cube) is
 unit_known (Cycles heads) e (cycle, unit) =
     let below = cycle_below heads e.cube (first_of e.cube) cycle (first_named e.cube cycle.cube) in

@@ -1,3 +1,4 @@
 pub mod Progressed
 pub mod Closings
 pub mod Attempts
+pub mod Stages

@@ -1,8 +1,9 @@
-ghost use Rattle.std.specs.Prelude.{◌≡◌, ◌<◌, All, IfOk};
+ghost use Rattle.std.specs.Prelude.{◌≡◌, ◌<◌, ◌+◌, ◌^◌, All, IfOk};
 ghost use Rattle.pop_model.specs.Families.{units_of};
 ghost use Rattle.confluence_core.specs.Kept.{keeps_log};
 ghost use Rattle.confluence_core.specs.Runs.{IsRunOf, MissesNone};
 ghost use Rattle.pop_workers.specs.Progressed.{HasProgressed, both_logs};
+ghost use Rattle.pop_workers.specs.Stages.{behind};
 
 use crate::Outcome;
 use crate::progress::Progress;
@@ -29,7 +30,16 @@ pub(crate) fn finish(
     let _ = from;
     let _units = instance.units();
     let Progress { cursors, pops, log } = left;
-    let Outcome { end, log: more } = run_from(alloc, instance, cursors, suspects, keep)?;
+    let more = run_from(alloc, instance, cursors, suspects, keep)?;
+    put_behind(pops, log, more)
+}
+
+/// The run, with these pops and this log in front of its own.
+pub(crate) fn put_behind(pops: u64, log: Option<Log>, run: Outcome) -> Result<Outcome, AllocError>
+    requires room { pops + run.end.pops < 2 ^ 64 }
+    ensures { IfOk result (λ all. all ≡ behind pops log run) }
+{
+    let Outcome { end, log: more } = run;
     let pops = pops + end.pops;
     let log = append(log, more)?;
     Ok(Outcome {

@@ -1,5 +1,5 @@
 //! Workers that share a board of pops, on threads of their own, to the end of the one-thread run.
-//! The board is a book under a lock, or words that they claim.
+//! The board is a book under a lock, or words that they claim. Stacks may grow on the way.
 #![tactic(auto)]
 
 mod attempts;
@@ -8,6 +8,7 @@ mod crew;
 mod finishing;
 mod found;
 mod gate;
+mod growing;
 mod hints;
 mod jobs;
 mod locked;
@@ -16,6 +17,7 @@ mod progress;
 mod rounding;
 mod searching;
 mod shared;
+mod stages;
 #[cfg(test)]
 mod tests;
 mod tools;
@@ -26,6 +28,7 @@ mod working;
 pub use claimed::sample_claimed;
 pub use confluence_core::Run as Outcome;
 pub use gate::{Gate, NoGate};
+pub use growing::sample_grown;
 pub use locked::sample_locked;
 pub use opening::zeros_of;
 pub use words::work_claimed;

@@ -22,8 +22,8 @@ use std::thread::Threads;
 /// A run by 1 to 64 workers over a book under a lock, from cursors that are below the heights. Each
 /// worker attempts its units in turn; what they leave, the calling thread pops. The result has a
 /// log exactly where it is kept, and then it is that of all pops; on an extremal instance, from
-/// zeros, its end is that of the one-thread run. It is refused only where memory ran out, of a
-/// worker or of the caller.
+/// zeros, its end is that of the one-thread run. It is refused only where the caller found no
+/// memory: a worker that finds none ends its turns, and what it leaves, the others pop.
 ///
 /// Each worker has a thread of its own, where one can be started; the caller does the work of the
 /// others itself. All threads are joined. With one worker there is no board: after the gate a run
@@ -101,7 +101,8 @@ fn work_together<N: Site + Send + Sync, R: Threads + Wait + Sync, G: Gate + Sync
 {
     let board = Mutex::new(Book::<N>::start_at(alloc, instance, from)?);
     let shared = &board;
-    let ended = thread::map_indices(
+    // A worker that finds no memory has left the book as it was before its attempt.
+    let _ended = thread::map_indices(
         rt,
         alloc,
         workers as usize,
@@ -115,8 +116,5 @@ fn work_together<N: Site + Send + Sync, R: Threads + Wait + Sync, G: Gate + Sync
             attempt_in_turns(rt, alloc, instance, shared, worker, gate)
         },
     )?;
-    for end in ended {
-        end?;
-    }
     Ok(board.into_inner().into_parts())
 }

@@ -1,9 +1,10 @@
-ghost use Rattle.std.specs.Prelude.{◌≡◌, ◌<◌, ◌≤◌, length, IfOk};
-ghost use Rattle.pop_model.specs.Stacks.{variables_of};
+ghost use Rattle.std.specs.Prelude.{◌≡◌, ◌<◌, ◌≤◌, ◌^◌, ℕ, length, IfOk};
+ghost use Rattle.pop_model.specs.Stacks.{variables_of, height_of, IsKeyed};
 
 use crate::{Gate, NoGate, Outcome, sample_claimed, sample_locked, zeros_of};
 use confluence_core::{End, Keep, run_first};
-use pop_instance::Instance;
+use pop_instance::{Family, Instance};
+use pop_stacks::{StackSpec, Stacks, Weights};
 use std::alloc::{AllocError, Global};
 use std::process::Abort;
 use std::sync::Wait;
@@ -11,8 +12,29 @@ use std::test::Fail;
 use std::thread::Threads;
 
 mod chains;
+mod heights;
 mod schedules;
 mod trees;
+
+// Events over so many variables of two values, with stacks of this height under a key of 32 such
+// bytes.
+fn under_key(
+    rt: &impl Abort,
+    count: u32,
+    key: u8,
+    height: u32,
+    family: Family,
+) -> Result<Instance, Fail>
+    ensures keyed { IfOk result (λ i. IsKeyed i.stacks.origin) }
+    ensures height { IfOk result (λ i. (v : ℕ) → height_of i.stacks v ≡ height) }
+{
+    assert!(rt; count < 3000);
+    assert!(rt; 0 < height);
+    assert!(rt; height < 1000);
+    let weights = Weights::pairs(count);
+    let stacks = Stacks::new(StackSpec::Key([key; 32]), weights, height)?;
+    Ok(Instance::new(stacks, family).expect(rt, "an instance"))
+}
 
 // The run of so many workers, on claim words or else under a lock.
 fn sample<R: Threads + Wait + Sync, G: Gate + Sync>(

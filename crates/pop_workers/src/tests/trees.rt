@@ -2,9 +2,8 @@
 ghost use Rattle.std.specs.Prelude.{◌<◌, ◌≤◌, ◌^◌, length, All, IfOk};
 ghost use Rattle.pop_instance.specs.Arrows.{heads_of};
 
-use super::ends_alike;
-use pop_instance::{Arrows, Family, Instance};
-use pop_stacks::{StackSpec, Stacks, Weights};
+use super::{ends_alike, under_key};
+use pop_instance::{Arrows, Family};
 use std::alloc::{AllocError, Global};
 use std::process::Abort;
 use std::test::Fail;
@@ -39,22 +38,17 @@ fn heads(alloc: Global, state: &mut u64, count: u32) -> Result<Vec<Vec<Option<u3
     Ok(heads)
 }
 
-// Such arrows, over stacks of this height under a key of 32 such bytes.
-fn tree(
+// Such arrows.
+pub(super) fn arrows(
     rt: &impl Abort,
     alloc: Global,
     state: &mut u64,
     count: u32,
-    key: u8,
-    height: u32,
-) -> Result<Instance, Fail> {
+) -> Result<Family, Fail> {
     assert!(rt; 0 < count);
     assert!(rt; count < 1000);
-    assert!(rt; 0 < height);
-    assert!(rt; height < 1000);
-    let arrows = Arrows::new(heads(alloc, state, count)?).expect(rt, "arrows");
-    let stacks = Stacks::new(StackSpec::Key([key; 32]), Weights::pairs(count), height)?;
-    Ok(Instance::new(stacks, Family::Cycles(arrows)).expect(rt, "an instance"))
+    let heads = heads(alloc, state, count)?;
+    Ok(Family::Cycles(Arrows::new(heads).expect(rt, "arrows")))
 }
 
 #[test]
@@ -65,8 +59,9 @@ fn random_trees_end_alike_for_each_number_of_workers(rt: HostRuntime) -> Result<
     let mut most_stuck = 0;
     for count in [1, 2, 9, 70] {
         for (key, height) in [(0, 900), (77, 900), (5, 1), (200, 2)] {
-            let tree = tree(&rt, alloc, &mut state, count, key, height)?;
-            let (pops, stuck) = ends_alike(&rt, alloc, &tree)?;
+            let arrows = arrows(&rt, alloc, &mut state, count)?;
+            let instance = under_key(&rt, count, key, height, arrows)?;
+            let (pops, stuck) = ends_alike(&rt, alloc, &instance)?;
             most_pops = most_pops.max(pops);
             most_stuck = most_stuck.max(stuck);
         }

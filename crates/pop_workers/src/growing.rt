@@ -1,0 +1,89 @@
+//! Runs in stages, at heights that grow.
+ghost use Rattle.std.specs.Prelude.{◌≡◌, ◌<◌, ◌≤◌, ◌^◌, ℕ, IfOk, MatchOption};
+ghost use Rattle.pop_model.specs.Stacks.{height_of, IsKeyed};
+ghost use Rattle.pop_model.specs.Instances.{instance_raised};
+ghost use Rattle.pop_model.specs.Runs.{IsStuckList, start_of};
+ghost use Rattle.confluence_core.specs.Kept.{keeps_log};
+ghost use Rattle.confluence_core.specs.Runs.{IsRunOf};
+ghost use Rattle.pop_workers.specs.Stages.{height, AreStages, HasBegun, IsLast, IsToCome};
+
+use crate::stages::{StageCrew, first_stage, next_stage};
+use crate::{Gate, Outcome};
+use confluence_core::{End, Keep};
+use pop_instance::Instance;
+use std::alloc::{AllocError, Global};
+use std::sync::Wait;
+use std::thread::Threads;
+
+/// A run in stages, by 1 to 64 workers that claim words of a board, where `claimed` says so, or
+/// else share a book under a lock. The instance as it is has the height of the first stage, which
+/// is at most `last`; each other stage is twice as high as the one before, and `last` at most. A
+/// stage begins where the one before ended, the first at zeros, and goes on to an end at its
+/// height. None follows one that ended where no event occurs, or one of height `last`.
+///
+/// The pops of all stages are counted, and their log is that of all pops, exactly where it is kept.
+/// So the result is a run at height `last` too: its log is legal there, and leads to its end; on an
+/// extremal instance the end is that of the one-thread run at height `last`. It is refused only
+/// where memory ran out. What changes of the instance is the height: it keeps that of the last
+/// stage that began, also where memory ran out.
+///
+/// A gate's turns begin again at 0 in each stage. With one worker nothing that was drawn is drawn
+/// again, and each other stage begins with the events that occurred when the one before ended.
+pub fn sample_grown<R: Threads + Wait + Sync, G: Gate + Sync>(
+    rt: &R,
+    alloc: Global,
+    instance: &mut Instance,
+    last: u32,
+    claimed: bool,
+    workers: u32,
+    keep: Keep,
+    gate: &G,
+) -> Result<Outcome, AllocError>
+    requires keyed { IsKeyed instance.old.stacks.origin }
+    requires higher { (v : ℕ) → height_of instance.old.stacks v ≤ last }
+    requires short { last < 2 ^ 31 }
+    requires some { 0 < workers }
+    requires most { workers ≤ 64 }
+    ensures run { IfOk result (IsRunOf (instance_raised last instance.old) (start_of instance.old)
+        (keeps_log keep)) }
+
+    // The stages, of which the last began at the height that the instance keeps.
+    ensures stages { IfOk result (AreStages last instance.old (keeps_log keep) instance.new) }
+    ensures last { IfOk result (λ run. IsLast last instance.new run.end.stuck) }
+    ensures begun { HasBegun last instance.old (keeps_log keep) instance.new }
+    ensures raised { instance.new ≡ instance_raised (height instance.new) instance.old }
+    ensures low { height instance.new ≤ last }
+{
+    let crew = StageCrew {
+        rt,
+        gate,
+        workers,
+        claimed,
+        keep,
+    };
+    let (mut reader, mut left) = first_stage(alloc, &crew, instance)?;
+    'stages: while let Some(height) = height_to_come(instance, &left.end, last) {
+        left = next_stage(alloc, &crew, &mut reader, instance, height, left)?;
+    }
+    Ok(left)
+}
+
+// The height of the stage behind one that came to this end, where there is to be one.
+fn height_to_come(instance: &Instance, end: &End, last: u32) -> Option<u32>
+    requires stuck { IsStuckList instance.now end.now.cursors end.now.stuck }
+    requires keyed { IsKeyed instance.now.stacks.origin }
+    requires higher { (v : ℕ) → height_of instance.now.stacks v ≤ last }
+    ensures { MatchOption result (IsLast last instance.now end.now.stuck)
+        (IsToCome last instance.now end.now.stuck) }
+{
+    let stuck = end.stuck.len();
+    if stuck == 0 {
+        return None;
+    }
+    let _units = instance.units();
+    let height = instance.stacks().height(0);
+    if height >= last {
+        return None;
+    }
+    Some((2 * height).min(last))
+}
