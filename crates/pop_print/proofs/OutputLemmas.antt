@@ -3,12 +3,11 @@ use Rattle.std.proofs.Common.{◌≡◌, ℕ, ◌+◌, ◌<◌, ◌≤◌, List,
 use Rattle.std.specs.List.{enumerate_from}
 use Rattle.std.proofs.lemmas.List.{take_all, get_or-map, length-map}
 use Rattle.std.proofs.lemmas.List.FromFn.{get_or-enumerate_from, length-enumerate_from}
-use Rattle.pop_model.specs.Families.{Event}
-use Rattle.pop_model.specs.Instances.{Instance}
+use Rattle.pop_model.specs.Families.{Event, Family}
 use Rattle.pop_model.specs.Text.{spaced}
 use Rattle.pop_text.proofs.PrintedMembers.{flat_map-take}
 use Rattle.pop_print.specs.declared.facts.Facts.{Facts}
-use Rattle.pop_print.specs.Output.{literal_of, literals_of, assignment_line, stuck_lines, findings}
+use Rattle.pop_print.specs.Output.{literal_of, literals_of, assignment_line, stuck_lines, found_lines}
 
 -- a member under its number
 pub numbered_at : {X : Type 0} (xs : List X) (i : ℕ) (x : X) → i < length xs → x ≡ get_or xs i x
@@ -63,10 +62,10 @@ assignment_whole values n before out new all printed pushed =
     (sym (append_assoc text (codes " 0") (codes "\n")))
 
 -- what is found where some event occurs
-pub findings_some : (facts : Facts) (i : Instance) (c : List ℕ) (stuck : List Event) (before out new : List ℕ)
-    → 0 < length stuck → out ≡ before ++ codes "s EXHAUSTED\n" → new ≡ out ++ stuck_lines facts i.family stuck
-    → new ≡ before ++ findings facts i c stuck
-findings_some facts i c [] before out new some first pushed = absurd (omega arith)
-findings_some facts i c (e ∷ stuck) before out new some first pushed =
-    pushed ∙ ap (λ l. l ++ stuck_lines facts i.family (e ∷ stuck)) first
-    ∙ append_assoc before (codes "s EXHAUSTED\n") (stuck_lines facts i.family (e ∷ stuck))
+pub found_some : (facts : Facts) (family : Family) (values : List ℕ) (stuck : List Event) (before out new : List ℕ)
+    → 0 < length stuck → out ≡ before ++ codes "s EXHAUSTED\n" → new ≡ out ++ stuck_lines facts family stuck
+    → new ≡ before ++ found_lines facts family values stuck
+found_some facts family values [] before out new some first pushed = absurd (omega arith)
+found_some facts family values (e ∷ stuck) before out new some first pushed =
+    pushed ∙ ap (λ l. l ++ stuck_lines facts family (e ∷ stuck)) first
+    ∙ append_assoc before (codes "s EXHAUSTED\n") (stuck_lines facts family (e ∷ stuck))

@@ -9,6 +9,7 @@ use Rattle.graph_read.specs.Graphs.{GraphOf}
 use Rattle.pop_print.specs.declared.facts.Facts.TheVariants.{Formula, Orient, Tree, Made}
 use Rattle.pop_print.specs.Output.{end_text}
 use Rattle.pop_print.specs.Rounds.{rounds_text}
+use Rattle.pop_print.specs.Batches.{batch_text}
 
 -- the given entries of two variables
 abbrev entries : List (List ℕ)
@@ -46,6 +47,14 @@ exhausted_rounds : rounds_text (Formula 2) two (2 ∷ 1 ∷ []) 3 (second ∷ []
     ≡ codes "s EXHAUSTED\nstuck 7\nused 2 1\nrounds 3\nshort 2\n"
 unfolding digits
 exhausted_rounds = refl
+
+-- the ends of two samples of the same rows, behind their numbers
+two_samples : batch_text (Formula 2) two
+    (record { cursors = 2 ∷ 1 ∷ []; pops = 3; stuck = []; values = 1 ∷ 0 ∷ [] }
+    ∷ record { cursors = 1 ∷ 1 ∷ []; pops = 2; stuck = second ∷ []; values = 0 ∷ 0 ∷ [] } ∷ [])
+    ≡ codes "batch 2\nsample 0\ns SAMPLE\nv 1 -2 0\nused 2 1\npops 3\nsample 1\ns EXHAUSTED\nstuck 7\nused 1 1\npops 2\n"
+unfolding digits
+two_samples = refl
 
 -- no variable: `v 0`, and `used` alone
 nothing : end_text (Formula 0) (record { stacks = record { origin = Given []; weights = [] }; family = Listed [] }) [] 0 []

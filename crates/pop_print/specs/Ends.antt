@@ -1,5 +1,5 @@
 -- The ends that can be printed.
-use Rattle.std.specs.Prelude.{◌≡◌, ℕ, ◌+◌, ◌<◌, List, Option, length}
+use Rattle.std.specs.Prelude.{◌≡◌, ℕ, ◌+◌, ◌<◌, List, Option, length, slice_index, All}
 use Rattle.pop_model.specs.Stacks.{variables_of, domain_of}
 use Rattle.pop_model.specs.Popping.{Cube, AreWithin, AreValuesAt}
 use Rattle.pop_model.specs.Families.{Event}
@@ -10,6 +10,7 @@ use Rattle.pop_model.specs.Runs.{IsStuckList}
 use Rattle.graph_read.specs.Graphs.{GraphOf, IsVertex}
 use Rattle.graph_read.specs.Grids.{IsSide, grid_of}
 use Rattle.graph_read.specs.Incidence.{edges_at}
+use Rattle.pop_print.specs.Stuck.{HasNames}
 use Rattle.pop_print.specs.declared.facts.Facts.{Facts}
 use Rattle.pop_print.specs.declared.facts.Facts.TheVariants.{Formula, Orient, Tree, Made}
 
@@ -47,3 +48,11 @@ pub record IsAtEnd (i : Instance) (cursors : List ℕ) (stuck : List Event) (sho
   pub within : AreWithin i.stacks cursors
   pub stuck_list : IsStuckList i cursors stuck
   pub values : AreValuesAt i.stacks cursors shown
+
+-- one cursor for each variable and one value that it has, and events that can be printed
+pub record IsPrintable (i : Instance) (cursors : List ℕ) (stuck : List Event) (shown : List ℕ)
+    : Type 0 where
+  pub count : length cursors ≡ variables_of i.stacks
+  pub values : length shown ≡ variables_of i.stacks
+  pub within : (v : ℕ) → v < variables_of i.stacks → slice_index shown v < domain_of i.stacks v
+  pub named : All (HasNames i.family) stuck

@@ -2,6 +2,7 @@ pub mod Names
 pub mod Made
 pub mod Output
 pub mod Rounds
+pub mod Batches
 pub mod Places
 pub mod Ends
 pub mod Stuck

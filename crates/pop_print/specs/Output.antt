@@ -74,12 +74,15 @@ stuck_line facts family e =
 abbrev pub stuck_lines : Facts → Family → List Event → List ℕ
 stuck_lines facts family stuck = flat_map (stuck_line facts family) stuck
 
--- what was found: the sample, or the events that occur
+-- what was found, by the values of the variables: the sample, or the events that occur
+abbrev pub found_lines : Facts → Family → List ℕ → List Event → List ℕ
+found_lines facts family values [] = line (codes "s SAMPLE") ++ sample_lines facts values
+found_lines facts family values (e ∷ stuck) =
+    line (codes "s EXHAUSTED") ++ stuck_lines facts family (e ∷ stuck)
+
+-- what was found at cursors
 abbrev pub findings : Facts → Instance → List ℕ → List Event → List ℕ
-findings facts i cursors [] =
-    line (codes "s SAMPLE") ++ sample_lines facts (values_at i.stacks cursors)
-findings facts i cursors (e ∷ stuck) =
-    line (codes "s EXHAUSTED") ++ stuck_lines facts i.family (e ∷ stuck)
+findings facts i cursors stuck = found_lines facts i.family (values_at i.stacks cursors) stuck
 
 -- the line of the cursors, which say how many entries of each variable were passed
 abbrev pub used_line : List ℕ → List ℕ

@@ -4,6 +4,7 @@
 
 mod arrow;
 mod assignment;
+mod batches;
 mod counts;
 mod facts;
 pub mod laws;
@@ -18,6 +19,7 @@ mod summary;
 mod tests;
 mod tree;
 
+pub use batches::text_of_batch;
 pub use facts::Facts;
 pub use printing::text;
 pub use rounds::text_of_rounds;

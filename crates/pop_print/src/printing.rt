@@ -1,6 +1,6 @@
 ghost use Rattle.std.specs.Prelude.{◌≡◌, ◌++◌, OnOk, IfOk};
-ghost use Rattle.pop_print.specs.Ends.{AreFactsOf, IsAtEnd};
-ghost use Rattle.pop_print.specs.Output.{findings, full_text, end_text};
+ghost use Rattle.pop_print.specs.Ends.{AreFactsOf, IsAtEnd, IsPrintable};
+ghost use Rattle.pop_print.specs.Output.{found_lines, used_line, pops_line, end_text};
 
 use crate::Facts;
 use crate::counts::push_used;
@@ -23,12 +23,10 @@ fn push_findings(
     end: &End,
 ) -> Result<(), AllocError>
     requires facts { AreFactsOf facts.now instance.now }
-    requires end { IsAtEnd instance.now end.now.cursors end.now.stuck end.now.values }
-    ensures { OnOk result
-        (out.new ≡ out.old ++ findings facts.now instance.now end.now.cursors end.now.stuck) }
+    requires end { IsPrintable instance.now end.now.cursors end.now.stuck end.now.values }
+    ensures { OnOk result (out.new ≡ out.old
+        ++ found_lines facts.now instance.now.family end.now.values end.now.stuck) }
 {
-    // Read for its contract, which says that the units, and so all names, fit their type.
-    let _units = instance.units();
     if end.stuck.len() == 0 {
         out.push(b"s SAMPLE\n")?;
         push_sample(alloc, out, facts, instance, end)
@@ -38,8 +36,9 @@ fn push_findings(
     }
 }
 
-// The text of an end in full: what was found, the cursors, the number of pops.
-fn push_full(
+/// The text of an end in full: what was found, the cursors, the number of pops. The entries of the
+/// instance don't matter, since the end has the values.
+pub(crate) fn push_full(
     alloc: Global,
     out: &mut Output,
     facts: &Facts,
@@ -47,9 +46,10 @@ fn push_full(
     end: &End,
 ) -> Result<(), AllocError>
     requires facts { AreFactsOf facts.now instance.now }
-    requires end { IsAtEnd instance.now end.now.cursors end.now.stuck end.now.values }
-    ensures { OnOk result (out.new ≡ out.old ++ full_text facts.now instance.now
-        end.now.cursors end.now.pops end.now.stuck) }
+    requires end { IsPrintable instance.now end.now.cursors end.now.stuck end.now.values }
+    ensures { OnOk result (out.new ≡ out.old
+        ++ (found_lines facts.now instance.now.family end.now.values end.now.stuck
+        ++ used_line end.now.cursors ++ pops_line end.now.pops)) }
 {
     push_findings(alloc, out, facts, instance, end)?;
     push_used(out, &end.cursors, instance.stacks().count())?;
@@ -69,6 +69,8 @@ fn push_text(
     ensures { OnOk result (out.new ≡ out.old ++ end_text facts.now instance.now
         end.now.cursors end.now.pops end.now.stuck) }
 {
+    // Read for its contract, which says that the units, and so all names, fit their type.
+    let _units = instance.units();
     match facts {
         Facts::Made(side) => push_summary(out, *side, instance, end),
         Facts::Formula(_) | Facts::Orient(_) | Facts::Tree(_, _) => {

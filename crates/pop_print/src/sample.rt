@@ -1,6 +1,6 @@
 //! The sample, whatever the source.
 ghost use Rattle.std.specs.Prelude.{◌≡◌, ◌++◌, OnOk};
-ghost use Rattle.pop_print.specs.Ends.{AreFactsOf, IsAtEnd};
+ghost use Rattle.pop_print.specs.Ends.{AreFactsOf, IsPrintable};
 ghost use Rattle.pop_print.specs.Output.{sample_lines};
 
 use crate::Facts;
@@ -21,7 +21,7 @@ pub fn push_sample(
     end: &End,
 ) -> Result<(), AllocError>
     requires facts { AreFactsOf facts.now instance.now }
-    requires end { IsAtEnd instance.now end.now.cursors end.now.stuck end.now.values }
+    requires end { IsPrintable instance.now end.now.cursors end.now.stuck end.now.values }
     ensures { OnOk result (out.new ≡ out.old ++ sample_lines facts.now end.now.values) }
 {
     let _ = instance;

@@ -1,8 +1,10 @@
 ghost use Rattle.std.specs.Prelude.{◌≡◌, ◌<◌, ◌+◌, ◌*◌, ◌^◌, ℕ, length, All, IfOk};
 ghost use Rattle.pop_model.specs.Names.{vertex_of};
+ghost use Rattle.pop_stacks.specs.Tables.{origin_of};
 ghost use Rattle.pop_instance.specs.Arrows.{heads_of};
 ghost use Rattle.graph_read.specs.Grids.{IsSide, grid_of};
 ghost use Rattle.graph_read.specs.Incidence.{edges_at};
+ghost use Rattle.pop_print.specs.Ends.{IsOfGrid};
 
 use super::{rows, text_of_run};
 use crate::Facts;
@@ -12,8 +14,29 @@ use std::alloc::{AllocError, Global};
 use std::process::Abort;
 use std::test::Fail;
 
-// What is printed of the one-thread run over a grid in which each vertex but the root has two
-// edges, with these entries and heads.
+/// The instance over a grid in which each vertex but the root has two edges, with these entries, of
+/// height 9 under a key, and these heads.
+pub fn over_grid(
+    rt: &impl Abort,
+    side: u32,
+    spec: StackSpec,
+    heads: Vec<Vec<Option<u32>>>,
+) -> Result<Instance, Fail>
+    requires side { IsSide side }
+    requires pairs { (v : ℕ) → v + 1 < side * side
+        → length (edges_at (grid_of side) (vertex_of 1 v)) ≡ 2 }
+    requires short { length heads.items < 2 ^ 31 }
+    requires short_rows { All (λ row. length row < 2 ^ 31) (heads_of heads.items) }
+    ensures grid { IfOk result (IsOfGrid side) }
+    ensures origin { IfOk result (λ i. i.stacks.origin ≡ origin_of spec 9) }
+{
+    let stacks = Stacks::new(spec, Weights::pairs(side * side - 1), 9)?;
+    let arrows = Arrows::new(heads).expect(rt, "heads that are variables or the root");
+    let instance = Instance::new(stacks, Family::Cycles(arrows)).expect(rt, "two slots for each");
+    Ok(instance)
+}
+
+// What is printed of the one-thread run over such a grid, with these entries and heads.
 fn printed(
     rt: &impl Abort,
     alloc: Global,
@@ -27,15 +50,12 @@ fn printed(
     requires short { length heads.items < 2 ^ 31 }
     requires short_rows { All (λ row. length row < 2 ^ 31) (heads_of heads.items) }
 {
-    let weights = Weights::pairs(side * side - 1);
-    let stacks = Stacks::new(StackSpec::Given(rows), weights, 1)?;
-    let arrows = Arrows::new(heads).expect(rt, "heads that are variables or the root");
-    let instance = Instance::new(stacks, Family::Cycles(arrows)).expect(rt, "two slots for each");
+    let instance = over_grid(rt, side, StackSpec::Given(rows), heads)?;
     Ok(text_of_run(alloc, &Facts::Made(side), &instance)?)
 }
 
-// The heads of a table, which names two for each variable.
-fn heads(alloc: Global, table: &[[Option<u32>; 2]]) -> Result<Vec<Vec<Option<u32>>>, AllocError>
+/// The heads of a table, which names two for each variable.
+pub fn heads(alloc: Global, table: &[[Option<u32>; 2]]) -> Result<Vec<Vec<Option<u32>>>, AllocError>
     ensures { IfOk result (λ heads. All (λ row. length row < 2 ^ 31) (heads_of heads.items)) }
 {
     let mut heads = Vec::new(alloc);

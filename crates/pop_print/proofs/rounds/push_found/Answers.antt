@@ -2,9 +2,10 @@ use Rattle.std.proofs.Common.{◌++◌, length, All, sym, subst, ap, ◌∙◌, 
 use Rattle.std.proofs.lemmas.Result.{on_ok_weaker}
 use Rattle.pop_model.proofs.ValuesLemmas.{length-values_at}
 use Rattle.pop_print.specs.declared.facts.Facts.TheVariants.{Formula as FormulaFacts}
+use Rattle.pop_model.specs.Popping.{values_at}
 use Rattle.pop_print.specs.Stuck.{HasNames}
 use Rattle.pop_print.specs.Output.{stuck_lines}
-use Rattle.pop_print.proofs.OutputLemmas.{findings_some}
+use Rattle.pop_print.proofs.OutputLemmas.{found_some}
 use Rattle.pop_print.proofs.EndLemmas.{stuck_named}
 use Rattle.pop_print.proofs.rounds.push_found.Goals as goal
 
@@ -26,7 +27,7 @@ pub returns-in_ok-push-2 : goal.returns-in_ok-push-2
 returns-in_ok-push-2 c =
     let facts = FormulaFacts c.args.variables in
     on_ok_weaker c.push_stuck.result
-    (λ pushed. findings_some facts c.args.instance.now c.args.end.now.cursors c.args.end.now.stuck
-    c.args.out.now c.push-else-len-eq0.new.self c.push_stuck.new.out (omega arith) c.in_ok-push-2.ensures
+    (λ pushed. found_some facts c.args.instance.now.family
+    (values_at c.args.instance.now.stacks c.args.end.now.cursors) c.args.end.now.stuck c.args.out.now c.push-else-len-eq0.new.self c.push_stuck.new.out (omega arith) c.in_ok-push-2.ensures
     (pushed ∙ ap (λ f. c.push-else-len-eq0.new.self ++ stuck_lines facts f c.args.end.now.stuck) c.family.ensures))
     c.push_stuck.ensures

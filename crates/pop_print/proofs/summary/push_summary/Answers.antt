@@ -42,4 +42,5 @@ pub slot_sum-requires-clause-slots : goal.slot_sum-requires-clause-slots
 slot_sum-requires-clause-slots c =
     let i = c.args.instance.now in
     let end = c.args.end.now in
-    slots_known i (grid_of c.args.side) 1 end.cursors end.stuck end.values c.requires.grid.tree c.requires.end
+    slots_known i (grid_of c.args.side) 1 end.values c.requires.grid.tree
+    (values_count i end.cursors end.stuck end.values c.requires.end) c.requires.end.values.within

@@ -8,7 +8,7 @@ use Rattle.pop_model.specs.Names.{vertex_of}
 use Rattle.graph_read.specs.Grids.{IsSide, grid_of}
 use Rattle.graph_read.specs.Incidence.{edges_at}
 use Rattle.pop_print.specs.Ends.{IsOfGrid}
-use Rattle.pop_print.proofs.tests.made.printed.Goals as goal
+use Rattle.pop_print.proofs.tests.made.over_grid.Goals as goal
 
 -- two values of weight 1
 abbrev pair : List ℕ
@@ -36,10 +36,10 @@ told side i heads side_is weights family pairs =
       };
     }
 
-pub text_of_run-requires : goal.text_of_run-requires
-text_of_run-requires g c =
+pub returns-clause-grid : goal.returns-clause-grid
+returns-clause-grid g c =
     let is = rw c.expect-instance.ensures at c.new-3.ensures in
     told c.args.side c.expect-instance.result c.expect-arrows.result c.requires.side
     (ap (λ (i : Instance). i.stacks.weights) is ∙ ap (λ (s : StackTable). s.weights) c.in_ok-stacks.ensures.made
-    ∙ c.pairs-weights.ensures)
+    ∙ c.pairs.ensures)
     (ap (λ (i : Instance). i.family) is) c.requires.pairs

@@ -1,0 +1,10 @@
+use Rattle.std.proofs.Common.{sym, ap, subst}
+use Rattle.pop_model.specs.Instances.{Instance}
+use Rattle.pop_model.specs.Extremal.{IsExtremal}
+use Rattle.pop_model.proofs.CycleFamily as family
+use Rattle.pop_batch.proofs.tests.instances.cycles.Goals as goal
+
+pub returns-clause-extremal : goal.returns-clause-extremal
+returns-clause-extremal g c =
+    let is = rw c.expect-instance.ensures at c.new-2.ensures in
+    subst IsExtremal (sym (ap (λ (i : Instance). i.family) is)) (family.cycles_extremal c.expect-arrows.result)

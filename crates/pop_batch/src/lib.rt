@@ -1,0 +1,13 @@
+//! Batches: many samples of one instance under a key, run in parallel, each on one thread.
+//!
+//! Contracts see the ends as a list, in which end j is that of the one-thread run on sample j, so
+//! that no cutting of the work shows.
+#![tactic(auto)]
+
+mod batches;
+mod ends;
+#[cfg(test)]
+mod tests;
+
+pub use batches::batch;
+pub use ends::Ends;

@@ -1,0 +1,226 @@
+ghost use Rattle.std.specs.Prelude.{◌<◌, ℕ};
+ghost use Rattle.pop_model.specs.Stacks.{IsKeyed, variables_of};
+ghost use Rattle.pop_model.specs.Extremal.{IsExtremal};
+ghost use Rattle.confluence_core.specs.Runs.{IsEndOver};
+ghost use Rattle.pop_batch.specs.Batches.{AreEnds};
+
+use crate::{Ends, batch};
+use confluence_core::{End, run_first};
+use instances::{cycles, listed};
+use pop_instance::Instance;
+use pop_stacks::Stacks;
+use std::alloc::Global;
+use std::process::Abort;
+use std::test::Fail;
+use std::thread::Threads;
+
+mod instances;
+
+// The cursor of a variable at an end, and its value there.
+fn shown(stacks: &Stacks, end: &End, v: u32) -> (u32, u32)
+    requires over { IsEndOver stacks.now end.now }
+    requires variable { v < variables_of stacks.now }
+{
+    let _count = stacks.count();
+    (end.cursors.get(v), end.values.get(v))
+}
+
+// Compares the pops and the stuck events of two ends.
+fn are_stuck_alike(rt: &impl Abort, end: &End, other: &End) {
+    assert_eq!(rt; end.pops, other.pops);
+    let stuck = other.stuck.len();
+    assert!(rt; end.stuck.len() == stuck);
+    for i in 0..stuck {
+        let (unit, cube) = end.stuck.at(i);
+        let (other_unit, other_cube) = other.stuck.at(i);
+        assert!(rt;
+            unit == other_unit && *cube == *other_cube,
+            "stuck event {i}"
+        );
+    }
+}
+
+// Compares two ends over the same stacks.
+fn are_alike(rt: &impl Abort, stacks: &Stacks, end: &End, other: &End)
+    requires over { IsEndOver stacks.now end.now }
+    requires other { IsEndOver stacks.now other.now }
+{
+    for v in 0..stacks.count() {
+        let at = shown(stacks, end, v);
+        assert_eq!(rt; at, shown(stacks, other, v), "variable {v}");
+    }
+    are_stuck_alike(rt, end, other);
+}
+
+// Compares the end of sample j with that of the one-thread run on an instance of its own.
+fn is_that_of_first(
+    rt: &impl Abort,
+    alloc: Global,
+    instance: &Instance,
+    ends: &Ends,
+    j: u32,
+) -> Result<(), Fail>
+    requires keyed { IsKeyed instance.now.stacks.origin }
+    requires ends { (count : ℕ) × AreEnds instance.now count ends.now }
+{
+    assert!(rt; j < ends.len());
+    let sample = instance.for_sample(alloc, j)?;
+    let first = run_first(alloc, &sample)?;
+    are_alike(rt, sample.stacks(), ends.at(j), &first);
+    Ok(())
+}
+
+// Compares three samples of an instance with one-thread runs, and returns whether one is stuck.
+fn three_samples<R: Threads + Abort + Sync>(
+    rt: &R,
+    alloc: Global,
+    instance: &Instance,
+) -> Result<bool, Fail>
+    requires keyed { IsKeyed instance.now.stacks.origin }
+    requires extremal { IsExtremal instance.now.family }
+{
+    let ends = batch(rt, alloc, instance, 3)?;
+    assert_eq!(rt; ends.len(), 3);
+    for j in 0..3 {
+        is_that_of_first(rt, alloc, instance, &ends, j)?;
+    }
+    Ok(ends.some_stuck())
+}
+
+// The clauses 1 2, -1 3 and -2 -3: each is an event where its literals are false.
+static FORMULA: [(u32, &'static [(u32, u32)]); 3] = [
+    (1, &[(0, 0), (1, 0)]),
+    (2, &[(0, 1), (2, 0)]),
+    (3, &[(1, 1), (2, 1)]),
+];
+
+// The sinks of the triangle with the edges 1 2, 2 3 and 1 3: value 0 of an edge points to its
+// second vertex.
+static SINKS: [(u32, &'static [(u32, u32)]); 3] = [
+    (1, &[(0, 1), (2, 1)]),
+    (2, &[(0, 0), (1, 1)]),
+    (3, &[(1, 0), (2, 0)]),
+];
+
+// Of a square without diagonals one vertex is the root; the others have arrows both ways round.
+static SQUARE: [[Option<u32>; 2]; 3] = [[None, Some(1)], [Some(0), Some(2)], [Some(1), None]];
+
+// Compares samples of events at this height, and returns whether one is stuck.
+fn are_events_stuck<R: Threads + Abort + Sync>(
+    rt: &R,
+    alloc: Global,
+    height: u32,
+    table: &[(u32, &[(u32, u32)])],
+) -> Result<bool, Fail> {
+    let instance = listed(rt, alloc, 3, height, table)?;
+    three_samples(rt, alloc, &instance)
+}
+
+// Compares samples of the square at this height, and returns whether one is stuck.
+fn is_square_stuck<R: Threads + Abort + Sync>(
+    rt: &R,
+    alloc: Global,
+    height: u32,
+) -> Result<bool, Fail> {
+    let square = cycles(rt, alloc, height, &SQUARE)?;
+    three_samples(rt, alloc, &square)
+}
+
+// Compares samples of the three instances at this height, and returns whether one is stuck.
+fn is_some_stuck<R: Threads + Abort + Sync>(
+    rt: &R,
+    alloc: Global,
+    height: u32,
+) -> Result<bool, Fail> {
+    let formula = are_events_stuck(rt, alloc, height, &FORMULA)?;
+    let sinks = are_events_stuck(rt, alloc, height, &SINKS)?;
+    let square = is_square_stuck(rt, alloc, height)?;
+    Ok(formula || sinks || square)
+}
+
+#[test]
+fn each_sample_ends_as_the_run_on_its_own_stacks(rt: HostRuntime) -> Result<(), Fail> {
+    let alloc = rt.alloc();
+    assert!(&rt; !is_some_stuck(&rt, alloc, 900)?);
+    assert!(&rt; is_some_stuck(&rt, alloc, 1)?);
+    is_some_stuck(&rt, alloc, 2)?;
+    Ok(())
+}
+
+// For each variable the event that it has the value 0.
+static ZEROS: [(u32, &'static [(u32, u32)]); 8] = [
+    (1, &[(0, 0)]),
+    (2, &[(1, 0)]),
+    (3, &[(2, 0)]),
+    (4, &[(3, 0)]),
+    (5, &[(4, 0)]),
+    (6, &[(5, 0)]),
+    (7, &[(6, 0)]),
+    (8, &[(7, 0)]),
+];
+
+// For samples 0 to 3 the first entry of each variable that is 1, by a ChaCha20 of its own
+// (RFC 8439, 2.3): of two equal weights the top bit of the high word chooses, and variable v of
+// sample j has the stream j * 2^32 + v.
+static FIRST_ONES: [[u32; 8]; 4] = [
+    [0, 0, 1, 2, 1, 0, 1, 0],
+    [0, 0, 3, 1, 0, 3, 0, 5],
+    [0, 1, 2, 4, 0, 1, 1, 0],
+    [4, 0, 0, 1, 0, 0, 0, 4],
+];
+
+// Compares the cursors of an end, whose values are 1, with a row.
+fn are_first_ones(rt: &impl Abort, stacks: &Stacks, end: &End, row: &[u32])
+    requires over { IsEndOver stacks.now end.now }
+{
+    assert_eq!(rt; row.len(), stacks.count() as usize);
+    for v in 0..stacks.count() {
+        assert_eq!(rt; shown(stacks, end, v), (row[v as usize], 1), "variable {v}");
+    }
+}
+
+// Compares sample j of the events above with its row.
+fn is_sample_of_ones(
+    rt: &impl Abort,
+    alloc: Global,
+    instance: &Instance,
+    ends: &Ends,
+    j: u32,
+) -> Result<(), Fail>
+    requires keyed { IsKeyed instance.now.stacks.origin }
+    requires ends { (count : ℕ) × AreEnds instance.now count ends.now }
+    requires few { j < 4 }
+{
+    assert!(rt; j < ends.len());
+    let own = instance.stacks().for_sample(alloc, j)?;
+    are_first_ones(rt, &own, ends.at(j), &FIRST_ONES[j as usize]);
+    Ok(())
+}
+
+// The one-thread run on the instance itself is sample 0.
+#[test]
+fn each_sample_has_the_entries_of_its_own_streams(rt: HostRuntime) -> Result<(), Fail> {
+    let alloc = rt.alloc();
+    let instance = listed(&rt, alloc, 8, 64, &ZEROS)?;
+    let first = run_first(alloc, &instance)?;
+    are_first_ones(&rt, instance.stacks(), &first, &FIRST_ONES[0]);
+    let ends = batch(&rt, alloc, &instance, 4)?;
+    assert_eq!(&rt; ends.len(), 4);
+    for j in 0..4 {
+        is_sample_of_ones(&rt, alloc, &instance, &ends, j)?;
+    }
+    Ok(())
+}
+
+// Variable 0 is 1 at its first entry in samples 0 to 2, and stays 0 in sample 3, where it has no
+// second one.
+#[test]
+fn a_batch_with_one_stuck_sample_is_stuck(rt: HostRuntime) -> Result<(), Fail> {
+    let alloc = rt.alloc();
+    let instance = listed(&rt, alloc, 1, 1, &[(1, &[(0, 0)])])?;
+    assert!(&rt; !batch(&rt, alloc, &instance, 3)?.some_stuck());
+    assert!(&rt; batch(&rt, alloc, &instance, 4)?.some_stuck());
+    let none = batch(&rt, alloc, &instance, 0)?;
+    assert!(&rt; none.len() == 0 && !none.some_stuck());
+    Ok(())
+}
