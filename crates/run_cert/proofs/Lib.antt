@@ -1,0 +1,23 @@
+-- Words that are joined. Joined: they can be told apart. JoinedMore: they are written one behind another.
+pub mod Joined
+mod JoinedMore
+-- What a head says. HeadWords: in no word of a head stands a line end. SpelledRows: rows that are written are read again
+-- as they were. HeadLinesLemmas: each line says one thing. OneText: so a text is that of one certificate.
+mod HeadWords
+mod SpelledRows
+mod HeadLinesLemmas
+mod OneText
+-- Refusals. FirstLines: the first bad line, where lines are read one by one. HeadLanguage: lines that are read so are
+-- those of a head. Unrefused: the text of a certificate isn't refused.
+mod FirstLines
+mod HeadLanguage
+mod Unrefused
+-- Jobs. AskedStacks: stacks that words ask for may be written.
+mod AskedStacks
+-- Runs so far. StuckEvents: what the list of events that occur has. LegalReplays: the replay of a legal log doesn't stop.
+-- Resumed: runs that go on come to the end of every run.
+mod StuckEvents
+mod LegalReplays
+pub mod Resumed
+-- Worked values
+mod Vectors

@@ -1,0 +1,150 @@
+-- Rows that are printed are read again as they were: they are split at the signs between them, and each number is read
+-- of its digits.
+use Rattle.std.proofs.Common.{inl, inr, ◌≡◌, ◌≢◌, ℕ, ◌<◌, ◌^◌, Bool, true, false, ◌&&◌, nat_le, nat_lt, if◌then◌else◌, List, [], ◌∷◌, length, map, drop, Option, Some, None, refl, sym, ap, ap₂, subst, ◌∙◌, arith, decimal}
+use Rattle.std.specs.List.{AllByRecursion, join_with_byte, list_all}
+use Rattle.std.specs.Cmp.Derive.{both_true}
+use Rattle.std.specs.Str.Parse.{digits_value}
+use Rattle.std.proofs.lemmas.Bool.{and_parts, le-leb, lt-ltb, ltb-true, ne_eqb}
+use Rattle.std.proofs.lemmas.Fmt.{decimal_is_IsNumeral, decimal_nonempty, length-decimal-le}
+use Rattle.std.proofs.lemmas.List.{length-append}
+use Rattle.pop_edge.specs.Numbers.{is_digit, number_of}
+use Rattle.pop_stacks.specs.declared.stack_spec.StackSpec.TheVariants.{Given}
+use Rattle.pop_words.specs.Values.{cons_some, all_some, only_if, are_within, row_in, rows_in, comma_parts, semicolon_parts}
+use Rattle.pop_words.proofs.ValuesLemmas.{passed}
+use Rattle.pop_words.proofs.RowParts.{row_by_parts, rows_by_parts}
+use Rattle.pop_log.specs.Decimals.{AreDigits}
+use Rattle.pop_log.proofs.LogTextsLemmas.{decimal_digits}
+use Rattle.run_cert.specs.Heads.{row_text, rows_text, MayBeStacks}
+use Rattle.run_cert.proofs.Joined.{split_joined}
+use Rattle.run_cert.proofs.HeadWords.{RowFits, small, numbers_lack, rows_lack}
+
+-- digits pass the test of digits
+digits_pass : (bs : List ℕ) → AreDigits bs → list_all is_digit bs ≡ true
+digits_pass [] are = refl
+digits_pass (b ∷ bs) are =
+    both_true (both_true (le-leb 48 b are.0.0) (le-leb b 57 are.0.1)) (digits_pass bs are.1)
+
+-- a number is read again
+number_again : (n : ℕ) → n < 2 ^ 32 → number_of (decimal n) ≡ Some n
+number_again n fits =
+    let is : digits_value 10 (decimal n) ≡ n = (decimal_is_IsNumeral n (small n fits)).1 in
+    let some : nat_le 1 (length (decimal n)) ≡ true =
+    le-leb 1 (length (decimal n)) (decimal_nonempty n (small n fits)) in
+    let few : nat_le (length (decimal n)) 10 ≡ true =
+    le-leb (length (decimal n)) 10 (length-decimal-le 10 n (omega arith) (omega (arith, fits)) (small n fits)) in
+    let digits = digits_pass (decimal n) (decimal_digits n (small n fits)) in
+    let low : nat_lt (digits_value 10 (decimal n)) (2 ^ 32) ≡ true =
+    lt-ltb (digits_value 10 (decimal n)) (2 ^ 32) (omega (arith, is, fits)) in
+    ap (λ b. if b then Some (digits_value 10 (decimal n)) else None)
+    (both_true (both_true (both_true some few) digits) low) ∙ ap (λ (m : ℕ). Some m) is
+
+-- numbers are read again
+numbers_again : (ns : List ℕ) → RowFits ns → all_some number_of (map decimal ns) ≡ Some ns
+numbers_again [] fits = refl
+numbers_again (n ∷ ns) fits = ap₂ cons_some (number_again n fits.0) (numbers_again ns fits.1)
+
+-- a row that isn't empty has some byte
+row_some : (n : ℕ) (a : List ℕ) → n < 2 ^ 64 → 0 < length (row_text (n ∷ a))
+row_some n [] fits = decimal_nonempty n fits
+row_some n (m ∷ a) fits =
+    let some = decimal_nonempty n fits in
+    let size = length-append (decimal n) (44 ∷ row_text (m ∷ a)) in
+    omega (arith, some, size)
+
+-- a row is read again
+row_again : (row : List ℕ) → RowFits row → row_in (row_text row) ≡ Some row
+row_again [] fits = refl
+row_again (n ∷ ns) fits =
+    let some = row_some n ns (small n fits.0) in
+    row_by_parts (row_text (n ∷ ns))
+    (ne_eqb (length (row_text (n ∷ ns))) 0 (λ none. absurd (omega (arith, some, none))))
+    ∙ ap (all_some number_of) (split_joined 44 (decimal n) (map decimal ns)
+    (numbers_lack 44 (n ∷ ns) (inl (omega arith)) fits))
+    ∙ numbers_again (n ∷ ns) fits
+
+-- each of some rows is read again
+each_again : (rows : List (List ℕ)) → AllByRecursion RowFits rows → all_some row_in (map row_text rows) ≡ Some rows
+each_again [] fits = refl
+each_again (row ∷ rows) fits = ap₂ cons_some (row_again row fits.0) (each_again rows fits.1)
+
+-- rows that aren't one empty row have some byte
+joined_rows_some : (row : List ℕ) (rows : List (List ℕ)) → (◌≢◌ {A = List (List ℕ)} (row ∷ rows) ([] ∷ []))
+    → AllByRecursion RowFits (row ∷ rows) → 0 < length (join_with_byte 59 (map row_text (row ∷ rows)))
+joined_rows_some [] [] differ fits = absurd (differ refl)
+joined_rows_some (n ∷ ns) [] differ fits = row_some n ns (small n fits.0.0)
+joined_rows_some row (r ∷ rows) differ fits =
+    let size = length-append (row_text row) (59 ∷ join_with_byte 59 (map row_text (r ∷ rows))) in omega (arith, size)
+
+-- rows are read again behind what stands before the first
+pub rows_again : (rows : List (List ℕ)) → MayBeStacks (Given rows) → rows_in (drop 1 (rows_text rows)) ≡ Some rows
+rows_again [] may = refl
+rows_again (row ∷ rows) may =
+    let word = join_with_byte 59 (map row_text (row ∷ rows)) in
+    let some = joined_rows_some row rows may.0 may.2 in
+    let apart : ◌≢◌ {A = ℕ} 44 59 = λ h. absurd (omega (arith, h)) in
+    rows_by_parts word (ne_eqb (length word) 0 (λ none. absurd (omega (arith, some, none))))
+    ∙ ap (only_if are_within) (ap (all_some row_in) (split_joined 59 (row_text row) (map row_text rows)
+    (rows_lack 59 (row ∷ rows) (inr (omega arith)) apart may.2)) ∙ each_again (row ∷ rows) may.2)
+    ∙ ap (λ b. if b then Some (row ∷ rows) else None) may.1
+
+-- ---- what is read may be written
+
+-- what is read of a first part and of the others
+pub cons_parts : {Y : Type 0} (a : Option Y) (b : Option (List Y)) (ys : List Y) → cons_some a b ≡ Some ys
+    → (y : Y) × (zs : List Y) × (a ≡ Some y) × (b ≡ Some zs) × (y ∷ zs ≡ ys)
+cons_parts None b ys same = absurd (cc)
+cons_parts (Some y) None ys same = absurd (cc)
+cons_parts (Some y) (Some zs) ys same = (y, zs, refl, refl, cc)
+
+-- where each part gives such a value, all values are such
+all_give : {X Y : Type 0} (f : X → Option Y) (P : Y → Type 0) → ((x : X) (y : Y) → f x ≡ Some y → P y)
+    → (xs : List X) (ys : List Y) → all_some f xs ≡ Some ys → AllByRecursion P ys
+all_give {X} {Y} f P gives [] ys same = let none : ◌≡◌ {A = List Y} [] ys = cc in subst (AllByRecursion P) none tt
+all_give {X} {Y} f P gives (x ∷ xs) ys same =
+    let parts = cons_parts (f x) (all_some f xs) ys same in
+    subst (AllByRecursion P) parts.4 (gives x parts.0 parts.2, all_give f P gives xs parts.1 parts.3)
+
+-- a value that is given under a test
+chosen : (b : Bool) (v n : ℕ) → (if b then Some v else None) ≡ Some n → (b ≡ true) × (v ≡ n)
+chosen true v n same = (refl, cc)
+chosen false v n same = absurd (cc)
+
+-- a number that is read has 32 bits
+number_small : (w : List ℕ) (n : ℕ) → number_of w ≡ Some n → n < 2 ^ 32
+number_small w n same =
+    let digits : Bool = nat_le 1 (length w) && nat_le (length w) 10 && list_all is_digit w in
+    let few : Bool = nat_lt (digits_value 10 w) (2 ^ 32) in
+    let taken = chosen (digits && few) (digits_value 10 w) n same in
+    let tests : (digits ≡ true) × (few ≡ true) = and_parts digits few taken.0 in
+    let low : digits_value 10 w < 2 ^ 32 = ltb-true (digits_value 10 w) (2 ^ 32) tests.1 in
+    let is : digits_value 10 w ≡ n = taken.1 in
+    omega (arith, low, is)
+
+-- so have those of a row
+row_small : (w row : List ℕ) → row_in w ≡ Some row → RowFits row
+row_small [] row same = let none : ◌≡◌ {A = List ℕ} [] row = cc in subst RowFits none tt
+row_small (b ∷ bs) row same = all_give number_of (λ n. n < 2 ^ 32) number_small (comma_parts (b ∷ bs)) row same
+
+-- and those of rows, which are within the limits
+pub rows_small : (w : List ℕ) (rows : List (List ℕ)) → rows_in w ≡ Some rows
+    → (are_within rows ≡ true) × AllByRecursion RowFits rows
+rows_small [] rows same =
+    let none : ◌≡◌ {A = List (List ℕ)} [] rows = cc in
+    subst (λ r. (are_within r ≡ true) × AllByRecursion RowFits r) none (refl, tt)
+rows_small (b ∷ bs) rows same =
+    let read = passed are_within (all_some row_in (semicolon_parts (b ∷ bs))) rows same in
+    (read.1, all_give row_in RowFits row_small (semicolon_parts (b ∷ bs)) rows read.0)
+
+-- what is read behind the first byte, and spelled so, may stand there
+pub rows_may : (text : List ℕ) (rows : List (List ℕ)) → rows_in (drop 1 text) ≡ Some rows → text ≡ rows_text rows
+    → MayBeStacks (Given rows)
+rows_may text rows read is =
+    let small' = rows_small (drop 1 text) rows read in (
+      λ empty.
+          let none : rows_in (drop 1 text) ≡ Some [] = ap (λ t. rows_in (drop 1 t)) (is ∙ ap rows_text empty) in
+          let nothing : ◌≡◌ {A = Option (List (List ℕ))} (Some []) (Some ([] ∷ [])) =
+          sym none ∙ read ∙ ap (λ (r : List (List ℕ)). Some r) empty in
+          absurd (cc),
+      small'.0,
+      small'.1,
+    )

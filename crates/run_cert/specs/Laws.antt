@@ -1,0 +1,44 @@
+-- The laws of certificates, and of runs that are stopped and go on.
+use Rattle.std.specs.Prelude.{◌≡◌, ◌+◌, ◌<◌, ◌^◌, ℕ, List, length, Contains}
+use Rattle.pop_model.specs.Instances.{Instance}
+use Rattle.pop_model.specs.Extremal.{IsExtremal}
+use Rattle.pop_model.specs.Logs.{LogRecord, IsLegal, replay}
+use Rattle.confluence_core.specs.Laws.{RunsToEnd}
+use Rattle.pop_words.specs.declared.job.Job.{Job}
+use Rattle.pop_words.specs.CommandLines.{Asks}
+use Rattle.run_cert.specs.declared.cert_refusal.CertRefusal.{CertRefusal}
+use Rattle.run_cert.specs.declared.cert_refusal.CertRefusal.TheVariants.{OutOfMemory}
+use Rattle.run_cert.specs.Heads.{certified}
+use Rattle.run_cert.specs.Certificates.{Certificate, IsCertOf, cert_of, cert_text}
+use Rattle.run_cert.specs.Looks.{HasPoppable}
+use Rattle.run_cert.specs.Refusals.{IsCertRefusal}
+
+-- bytes are the text of at most one certificate
+abbrev pub OneCertificate : Type 0
+OneCertificate = (bytes : List ℕ) (cert other : Certificate) → IsCertOf bytes cert
+    → IsCertOf bytes other → cert ≡ other
+
+-- the text of a certificate is refused for want of memory alone
+abbrev pub NotRefused : Type 0
+NotRefused = (bytes : List ℕ) (cert : Certificate) → IsCertOf bytes cert
+    → (refusal : CertRefusal) → IsCertRefusal bytes refusal → refusal ≡ OutOfMemory
+
+-- what is printed of a job that words ask for is the text of its certificate
+abbrev pub PrintedIsRead : Type 0
+PrintedIsRead = (words : List (List ℕ)) (job : Job) (input log_text : List ℕ) → Asks words job
+    → Contains certified job.command → length input < 2 ^ 32
+    → IsCertOf (cert_text (cert_of job input log_text)) (cert_of job input log_text)
+
+-- on an extremal instance a run that goes on from the replay of a legal log comes to the end of
+-- every run, with as many pops in both parts together
+abbrev pub ResumedRun : Type 0
+ResumedRun = (i : Instance) → IsExtremal i.family → (c : List ℕ) (log rest other : List LogRecord)
+    → IsLegal i c log → RunsToEnd i (replay c log) rest → RunsToEnd i c other
+    → (replay (replay c log) rest ≡ replay c other) × (length log + length rest ≡ length other)
+
+-- on an extremal instance a legal log at whose replay an event is poppable is shorter than every
+-- run to an end
+abbrev pub OpenShorter : Type 0
+OpenShorter = (i : Instance) → IsExtremal i.family → (c : List ℕ) (log other : List LogRecord)
+    → IsLegal i c log → RunsToEnd i c other → HasPoppable i (replay c log)
+    → length log < length other

@@ -1,0 +1,168 @@
+//! What a line of a head says. A line is read loosely and then spelled again, so that it is
+//! accepted only as it is printed.
+ghost use Rattle.std.specs.Prelude.{◌≡◌, ◌<◌, ◌≤◌, ◌^◌, ◌++◌, ◌↔◌, ℕ, List, drop, slice_index, true, decimal, IfOk, IsTrue, MatchOption};
+ghost use Rattle.std.specs.List.{find};
+ghost use Rattle.std.specs.Str.{bytes_eq};
+ghost use Rattle.pop_model.specs.Text.{line as line_of};
+ghost use Rattle.hex.specs.Hex.{encode_lower};
+ghost use Rattle.pop_stacks.specs.declared.stack_spec.StackSpec.TheVariants.{Key, Given};
+ghost use Rattle.pop_words.specs.Options.{command_word};
+ghost use Rattle.run_cert.specs.Heads.{certified, command_line, height_line, input_line, root_line, rows_text, stacks_line, MayBeRoot, MayBeSize, MayBeStacks};
+ghost use Rattle.run_cert.specs.HeadLines.{IsHeight, MayBeCommand, Says};
+
+use crate::rows_text::push_rows;
+use pop_log::number;
+use pop_stacks::{Rows, StackSpec};
+use pop_text::Output;
+use pop_words::{Command, key_in, rows_in};
+use std::alloc::{AllocError, Global};
+
+// The commands that a certificate may have.
+const CERTIFIED: [Command; 4] = [
+    Command::Formula,
+    Command::Orient,
+    Command::Tree,
+    Command::Resample,
+];
+
+// The bytes between a label at the front of a line and its end.
+fn behind<'a>(label: &[u8], line: &'a [u8]) -> Option<&'a [u8]>
+    ensures { MatchOption result ((body : List ℕ) → line.now ≡ line_of (label.now ++ body) → ⊥)
+        (λ body. line.now ≡ line_of (label.now ++ body.now)) }
+{
+    let Some(rest) = line.strip_prefix(label) else {
+        return None;
+    };
+    rest.strip_suffix(b"\n")
+}
+
+fn is_between(n: u64, low: u32, high: u32) -> bool
+    ensures { IsTrue result ↔ ((low ≤ n) × (n ≤ high)) }
+{
+    u64::from(low) <= n && n <= u64::from(high)
+}
+
+// The number behind a label, if it is from `low` to `high`.
+fn labeled(label: &[u8], line: &[u8], low: u32, high: u32) -> Option<u32>
+    ensures { Says (λ n. (low ≤ n) × (n ≤ high)) (λ n. line_of (label.now ++ decimal n))
+        line.now result }
+{
+    let Some(digits) = behind(label, line) else {
+        return None;
+    };
+    let Some(n) = number(digits) else {
+        return None;
+    };
+    if !is_between(n, low, high) {
+        return None;
+    }
+    Some(n as u32)
+}
+
+/// The height that a line says.
+pub(crate) fn height_in(line: &[u8]) -> Option<u32>
+    ensures { Says IsHeight height_line line.now result }
+{
+    labeled(b"height ", line, 1, (1 << 31) - 1)
+}
+
+/// The root of a tree that a line says.
+pub(crate) fn root_in(line: &[u8]) -> Option<u32>
+    ensures { Says (MayBeRoot true) root_line line.now result }
+{
+    labeled(b"root ", line, 1, u32::MAX)
+}
+
+/// How many bytes of input a line says.
+pub(crate) fn size_in(line: &[u8]) -> Option<u32>
+    ensures { Says MayBeSize input_line line.now result }
+{
+    labeled(b"input ", line, 0, u32::MAX)
+}
+
+// The command of a word, if a certificate may have it.
+fn certified_named(word: &[u8]) -> Option<Command>
+    ensures { result ≡ find (λ command. bytes_eq (command_word command) word.now) certified }
+{
+    CERTIFIED
+        .iter()
+        .find(|command| command.word().as_bytes() == word)
+        .copied()
+}
+
+/// The command that the first line says.
+pub(crate) fn command_in(line: &[u8]) -> Option<Command>
+    ensures { Says MayBeCommand command_line line.now result }
+{
+    let Some(word) = behind(b"cert 1 ", line) else {
+        return None;
+    };
+    certified_named(word)
+}
+
+fn are_same(a: &[u8], b: &[u8]) -> bool
+    ensures { IsTrue result ↔ (a.now ≡ b.now) }
+{
+    a == b
+}
+
+// Says of bytes that they are below 256.
+fn are_bytes(bytes: &[u8])
+    ensures { (i : ℕ) → slice_index bytes.now i < 256 }
+{}
+
+// The bytes of a key that these digits are.
+fn key_of(alloc: Global, digits: &[u8]) -> Result<Option<[u8; 32]>, AllocError>
+    ensures { IfOk result (Says (λ key. MayBeStacks (Key key)) encode_lower digits.now) }
+{
+    let Some(key) = key_in(digits) else {
+        return Ok(None);
+    };
+    are_bytes(&key);
+    let again = hex::encode(alloc, &key)?;
+    if !are_same(again.as_bytes(), digits) {
+        return Ok(None);
+    }
+    Ok(Some(key))
+}
+
+// The bytes behind the first.
+fn behind_first(text: &[u8]) -> &[u8]
+    ensures { result.now ≡ drop 1 text.now }
+{
+    if text.is_empty() {
+        return text;
+    }
+    &text[1..]
+}
+
+// The rows that this text is, as they are printed.
+fn rows_of(alloc: Global, text: &[u8]) -> Result<Option<Rows>, AllocError>
+    ensures { IfOk result (Says (λ rows. MayBeStacks (Given rows)) rows_text text.now) }
+{
+    let Some(rows) = rows_in(alloc, behind_first(text))? else {
+        return Ok(None);
+    };
+    let mut out = Output::with_room(alloc, text.len())?;
+    push_rows(&mut out, &rows)?;
+    let again = out.into_bytes();
+    if !are_same(&again, text) {
+        return Ok(None);
+    }
+    Ok(Some(rows))
+}
+
+/// The stacks that a line says.
+pub(crate) fn stacks_in(alloc: Global, line: &[u8]) -> Result<Option<StackSpec>, AllocError>
+    ensures { IfOk result (Says MayBeStacks stacks_line line.now) }
+{
+    if let Some(digits) = behind(b"key ", line) {
+        let key = key_of(alloc, digits)?;
+        return Ok(key.map(StackSpec::Key));
+    }
+    let Some(text) = behind(b"stacks", line) else {
+        return Ok(None);
+    };
+    let rows = rows_of(alloc, text)?;
+    Ok(rows.map(StackSpec::Given))
+}

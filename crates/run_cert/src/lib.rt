@@ -1,0 +1,31 @@
+//! Certificates: one text that holds a command, its stacks, its input and the text of a log. And
+//! runs that are stopped after so many pops, with what is seen at their cursors.
+//!
+//! Contracts see a certificate as its head, its input and its log text.
+#![tactic(auto)]
+
+mod cert;
+mod cert_refusal;
+mod head_lines;
+pub mod laws;
+mod look_kind;
+mod looking;
+mod part;
+mod printing;
+mod reading;
+mod replayed;
+mod rows_text;
+mod seen;
+mod tail;
+#[cfg(test)]
+mod tests;
+
+pub use cert::Cert;
+pub use cert_refusal::CertRefusal;
+pub use look_kind::Look;
+pub use looking::{look, run_part};
+pub use part::Part;
+pub use printing::print_cert;
+pub use reading::read_cert;
+pub use replayed::read_part;
+pub use seen::Seen;

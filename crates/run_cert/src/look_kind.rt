@@ -1,0 +1,10 @@
+/// How a run stands at its cursors.
+#[derive(Clone, Copy, Debug, PartialEq, Eq)]
+pub enum Look {
+    /// No event occurs.
+    Finished,
+    /// Some event occurs, and none is poppable.
+    Exhausted,
+    /// Some event is poppable.
+    Open,
+}

@@ -1,0 +1,96 @@
+//! What is seen at cursors, and runs that are stopped after so many pops.
+ghost use Rattle.std.specs.Prelude.{◌≡◌, ◌↔◌, length, true, IfOk, IsTrue};
+ghost use Rattle.pop_model.specs.Stacks.{variables_of};
+ghost use Rattle.pop_model.specs.Popping.{AreWithin};
+ghost use Rattle.pop_model.specs.Runs.{IsStuckList, start_of};
+ghost use Rattle.pop_stacks.specs.Readers.{Belongs};
+ghost use Rattle.confluence_core.specs.Runs.{IsPartOf};
+ghost use Rattle.run_cert.specs.Looks.{HasPoppable, IsLook, IsSeen, IsStopped};
+
+use crate::{Look, Part, Seen};
+use confluence_core::{End, Keep, Run, Stuck, Terms, Units, occurring, run_until};
+use pop_instance::{Cursors, Instance};
+use pop_stacks::Reader;
+use std::alloc::{AllocError, Global};
+
+// Whether some of these events, which are those that occur, is poppable.
+fn is_open(instance: &Instance, reader: &mut Reader, cursors: &Cursors, stuck: &Stuck) -> bool
+    requires count { variables_of instance.now.stacks ≡ length cursors.now }
+    requires within { AreWithin instance.now.stacks cursors.now }
+    requires belongs { Belongs instance.now.stacks reader.old }
+    requires stuck_list { IsStuckList instance.now cursors.now stuck.now }
+    ensures { IsTrue result ↔ HasPoppable instance.now cursors.now }
+{
+    let _units = instance.units();
+    let stacks = instance.stacks();
+    for i in 0..stuck.len() {
+        let (_, cube) = stuck.at(i);
+        if cursors.poppable(stacks, reader, cube) {
+            return true;
+        }
+    }
+    false
+}
+
+// How a run stands where these are the events that occur.
+fn look_of(instance: &Instance, reader: &mut Reader, cursors: &Cursors, stuck: &Stuck) -> Look
+    requires count { variables_of instance.now.stacks ≡ length cursors.now }
+    requires within { AreWithin instance.now.stacks cursors.now }
+    requires belongs { Belongs instance.now.stacks reader.old }
+    requires stuck_list { IsStuckList instance.now cursors.now stuck.now }
+    ensures { IsLook instance.now cursors.now result }
+{
+    if stuck.len() == 0 {
+        return Look::Finished;
+    }
+    if is_open(instance, reader, cursors, stuck) {
+        return Look::Open;
+    }
+    Look::Exhausted
+}
+
+/// What is seen at cursors that are below the heights. Its time is linear in the instance.
+pub fn look(alloc: Global, instance: &Instance, cursors: &Cursors) -> Result<Seen, AllocError>
+    requires count { variables_of instance.now.stacks ≡ length cursors.now }
+    requires within { AreWithin instance.now.stacks cursors.now }
+    ensures seen { IfOk result (IsSeen instance.now cursors.now) }
+{
+    let mut reader = Reader::keeping(alloc, instance.stacks())?;
+    let stuck = occurring(alloc, instance, &mut reader, cursors)?;
+    let look = look_of(instance, &mut reader, cursors, &stuck);
+    Ok(Seen { look, stuck })
+}
+
+// The run from zeros, to an end or to so many pops, with its log.
+fn run_logged(
+    alloc: Global,
+    instance: &Instance,
+    reader: &mut Reader,
+    limit: u64,
+) -> Result<Run, AllocError>
+    requires belongs { Belongs instance.now.stacks reader.old }
+    ensures run { IfOk result (IsPartOf instance.now (start_of instance.now) limit true) }
+    ensures reader { reader.new ≡ reader.old }
+{
+    let cursors = Cursors::zeros(alloc, instance.stacks().count())?;
+    let suspects = Units::all(alloc, instance.units())?;
+    let keep = Keep::Log;
+    let terms = Terms { limit, keep };
+    run_until(alloc, instance, reader, cursors, suspects, terms)
+}
+
+/// The run from zeros on one thread, to an end or to so many pops.
+pub fn run_part(alloc: Global, instance: &Instance, limit: u64) -> Result<Part, AllocError>
+    ensures part { IfOk result (IsStopped instance.now limit) }
+    ensures count { IfOk result (λ part. variables_of instance.now.stacks ≡ length part.cursors) }
+    ensures within { IfOk result (λ part. AreWithin instance.now.stacks part.cursors) }
+{
+    let mut reader = Reader::keeping(alloc, instance.stacks())?;
+    let run = run_logged(alloc, instance, &mut reader, limit)?;
+    let Run { end, log } = run;
+    let End { cursors, stuck, .. } = end;
+    let Some(log) = log else { unreachable!() };
+    let look = look_of(instance, &mut reader, &cursors, &stuck);
+    let seen = Seen { look, stuck };
+    Ok(Part { cursors, log, seen })
+}

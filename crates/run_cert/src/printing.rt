@@ -1,0 +1,121 @@
+//! The text of a certificate.
+ghost use Rattle.std.specs.Prelude.{◌≡◌, ◌<◌, ◌^◌, ◌++◌, length, decimal, IfOk, OnOk};
+ghost use Rattle.std.specs.List.{concat};
+ghost use Rattle.pop_model.specs.Text.{line};
+ghost use Rattle.pop_stacks.specs.declared.stack_spec.StackSpec.TheVariants.{Key, Given};
+ghost use Rattle.run_cert.specs.Heads.{command_line, has_root as has_root_of, head_lines, height_line, stacks_line, stacks_lines, tail_lines};
+ghost use Rattle.run_cert.specs.Certificates.{cert_of, cert_text, head_of, height_said, root_said};
+
+use crate::rows_text::push_rows;
+use pop_stacks::{Rows, StackSpec};
+use pop_text::Output;
+use pop_words::{Command, Job};
+use std::alloc::{AllocError, Global};
+
+// The room for a head without rows.
+const HEAD_ROOM: usize = 256;
+
+/// Whether the head of a command has a root.
+pub(crate) fn has_root(command: Command) -> bool
+    ensures { result ≡ has_root_of command }
+{
+    command == Command::Tree
+}
+
+// A label and a number on a line.
+fn push_labeled(out: &mut Output, label: &[u8], number: u64) -> Result<(), AllocError>
+    ensures { OnOk result (out.new ≡ out.old ++ line (label.now ++ decimal number)) }
+{
+    out.push(label)?;
+    out.push_number(number)?;
+    out.push(b"\n")
+}
+
+// The line of a command.
+fn push_command(out: &mut Output, command: Command) -> Result<(), AllocError>
+    ensures { OnOk result (out.new ≡ out.old ++ command_line command) }
+{
+    out.push(b"cert 1 ")?;
+    out.push(command.word().as_bytes())?;
+    out.push(b"\n")
+}
+
+// The lines of a key and a height.
+fn push_key(alloc: Global, out: &mut Output, key: &[u8], height: u32) -> Result<(), AllocError>
+    ensures { OnOk result (out.new
+        ≡ out.old ++ (stacks_line (Key key.now) ++ height_line height)) }
+{
+    let digits = hex::encode(alloc, key)?;
+    out.push(b"key ")?;
+    out.push(digits.as_bytes())?;
+    out.push(b"\n")?;
+    push_labeled(out, b"height ", u64::from(height))
+}
+
+// The line of given rows.
+fn push_given(out: &mut Output, rows: &Rows) -> Result<(), AllocError>
+    ensures { OnOk result (out.new ≡ out.old ++ stacks_line (Given rows.now)) }
+{
+    out.push(b"stacks")?;
+    push_rows(out, rows)?;
+    out.push(b"\n")
+}
+
+// The lines of the stacks.
+fn push_stacks(
+    alloc: Global,
+    out: &mut Output,
+    stacks: &StackSpec,
+    height: u32,
+) -> Result<(), AllocError>
+    ensures { OnOk result (out.new
+        ≡ out.old ++ concat (stacks_lines stacks.now (height_said stacks.now height))) }
+{
+    match stacks {
+        StackSpec::Key(key) => push_key(alloc, out, key, height),
+        StackSpec::Given(rows) => push_given(out, rows),
+    }
+}
+
+// The line of the root, where there is one, and that of the input.
+fn push_tail(out: &mut Output, rooted: bool, root: u32, size: u64) -> Result<(), AllocError>
+    ensures { OnOk result (out.new
+        ≡ out.old ++ concat (tail_lines rooted (root_said rooted root) size)) }
+{
+    if rooted {
+        push_labeled(out, b"root ", u64::from(root))?;
+    }
+    push_labeled(out, b"input ", size)
+}
+
+// The head of a job, with so many bytes of input.
+fn head_text(alloc: Global, job: &Job, size: u64) -> Result<Vec<u8>, AllocError>
+    ensures { IfOk result (λ head. head.items ≡ concat (head_lines (head_of job.now size))) }
+{
+    let mut out = Output::with_room(alloc, HEAD_ROOM)?;
+    push_command(&mut out, job.command)?;
+    push_stacks(alloc, &mut out, &job.stacks, job.height)?;
+    push_tail(&mut out, has_root(job.command), job.root, size)?;
+    Ok(out.into_bytes())
+}
+
+/// The text of a certificate: the job's command, stacks, height and root, the input, which has
+/// fewer than 2^32 bytes, and a log text.
+pub fn print_cert(
+    alloc: Global,
+    job: &Job,
+    input: &[u8],
+    log_text: &[u8],
+) -> Result<Vec<u8>, AllocError>
+    requires short { length input.now < 2 ^ 32 }
+    ensures text { IfOk result (λ bytes.
+        bytes.items ≡ cert_text (cert_of job.now input.now log_text.now)) }
+{
+    let head = head_text(alloc, job, input.len() as u64)?;
+    let room = head.len().saturating_add(input.len());
+    let mut out = Output::with_room(alloc, room.saturating_add(log_text.len()))?;
+    out.push(&head)?;
+    out.push(input)?;
+    out.push(log_text)?;
+    Ok(out.into_bytes())
+}

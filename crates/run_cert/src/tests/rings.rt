@@ -1,0 +1,130 @@
+//! Rings of variables, each with an arrow to the next one and an arrow to the variable before it,
+//! whose runs are stopped at every limit and compared with the run of first events.
+ghost use Rattle.std.specs.Prelude.{◌≡◌, length};
+ghost use Rattle.pop_model.specs.Stacks.{variables_of};
+
+use super::*;
+use confluence_core::{End, run_first};
+use pop_instance::{Arrows, Family, Instance};
+use pop_stacks::{StackSpec, Stacks, Weights};
+use std::alloc::{AllocError, Global};
+use std::process::Abort;
+use std::test::Fail;
+
+// The two heads of each of so many variables in a ring: the next one, and the one before it;
+// variable 0 leads to the root.
+fn heads(alloc: Global, count: u32) -> Result<Vec<[Option<u32>; 2]>, AllocError> {
+    let mut heads = Vec::new(alloc);
+    for v in 0..count {
+        let next = if v + 1 == count { 0 } else { v + 1 };
+        heads.push([Some(next), v.checked_sub(1)])?;
+    }
+    Ok(heads)
+}
+
+// The arrows of these heads.
+fn arrows_of(rt: &impl Abort, alloc: Global, heads: &[[Option<u32>; 2]]) -> Result<Arrows, Fail> {
+    let mut rows = Vec::new(alloc);
+    for row in heads {
+        rows.push(Vec::from_slice(alloc, row)?)?;
+    }
+    assert!(rt; rows.len() < 1000);
+    Ok(Arrows::new(rows).expect(rt, "arrows"))
+}
+
+// A ring of so many variables, over stacks of this height under a key of 32 such bytes.
+fn ring(
+    rt: &impl Abort,
+    alloc: Global,
+    count: u32,
+    key: u8,
+    height: u32,
+) -> Result<Instance, Fail> {
+    assert!(rt; count < 1000);
+    assert!(rt; 0 < height);
+    assert!(rt; height < 1000);
+    let heads = heads(alloc, count)?;
+    let arrows = arrows_of(rt, alloc, &heads)?;
+    let stacks = Stacks::new(StackSpec::Key([key; 32]), Weights::pairs(count), height)?;
+    Ok(Instance::new(stacks, Family::Cycles(arrows)).expect(rt, "an instance"))
+}
+
+// Compares what a run to a limit leaves with the end of the run of first events: as many records as
+// the limit says, or as many as the end has pops; open exactly where there are fewer.
+fn is_stopped(rt: &impl Abort, part: &Part, limit: u64, end: &End) {
+    assert_eq!(rt; part.log.len(), limit.min(end.pops), "limit {limit}");
+    let is_open = part.seen.look == Look::Open;
+    assert!(rt; is_open == (limit < end.pops), "limit {limit}");
+    let is_finished = part.seen.look == Look::Finished;
+    assert!(rt;
+        is_finished == (part.seen.stuck.len() == 0),
+        "limit {limit}"
+    );
+}
+
+// Compares what a run that wasn't stopped leaves with the end of the run of first events.
+fn is_end(rt: &impl Abort, count: u32, part: &Part, end: &End)
+    requires part { count ≡ length part.now.cursors }
+    requires end { count ≡ length end.now.cursors }
+{
+    for v in 0..count {
+        assert_eq!(rt; part.cursors.get(v), end.cursors.get(v), "variable {v}");
+    }
+    assert_eq!(rt; part.seen.stuck.len(), end.stuck.len());
+}
+
+// Stops the run of an instance at a limit, and looks at what it leaves.
+fn stop(
+    rt: &impl Abort,
+    alloc: Global,
+    instance: &Instance,
+    limit: u64,
+    end: &End,
+) -> Result<(), Fail>
+    requires count { variables_of instance.now.stacks ≡ length end.now.cursors }
+{
+    let part = run_part(alloc, instance, limit)?;
+    is_stopped(rt, &part, limit, end);
+    if limit >= end.pops {
+        is_end(rt, instance.stacks().count(), &part, end);
+    }
+    let seen = look(alloc, instance, &part.cursors)?;
+    assert!(rt; seen.look == part.seen.look, "limit {limit}");
+    assert_eq!(rt; seen.stuck.len(), part.seen.stuck.len(), "limit {limit}");
+    Ok(())
+}
+
+// Stops the run of an instance at each limit, up to two more than its pops. Returns the pops.
+fn stop_at_each(rt: &impl Abort, alloc: Global, instance: &Instance) -> Result<u64, Fail> {
+    let end = run_first(alloc, instance)?;
+    assert!(rt; end.pops < 100000);
+    for limit in 0..end.pops + 3 {
+        stop(rt, alloc, instance, limit, &end)?;
+    }
+    Ok(end.pops)
+}
+
+// How many variables there are, the byte of the key, and the height.
+static RINGS: [(u32, u8, u32); 8] = [
+    (1, 0, 5),
+    (2, 0, 5),
+    (5, 3, 1),
+    (5, 3, 9),
+    (7, 5, 2),
+    (9, 77, 900),
+    (30, 200, 3),
+    (30, 77, 900),
+];
+
+#[test]
+fn rings_stop_at_every_limit(rt: HostRuntime) -> Result<(), Fail> {
+    let alloc = rt.alloc();
+    let mut most = 0;
+    for (count, key, height) in RINGS.iter() {
+        let ring = ring(&rt, alloc, *count, *key, *height)?;
+        let pops = stop_at_each(&rt, alloc, &ring)?;
+        most = most.max(pops);
+    }
+    assert!(&rt; most > 5);
+    Ok(())
+}
