@@ -54,28 +54,28 @@ resampled_low stuck (Missing name entry c) has = absurd (cc)
 resampled_low stuck (Shown tree) has = end_low stuck
 
 -- a formula, sound stacks and extremal events
-formula_low : (origin : Origin) (f : Cnf) (o : Outcome) → IsSound origin (pair_weights f.variables)
-    → HasExtremalEvents f
-    → ComesOfFormula origin f o → IsLow (status_of o)
-formula_low origin f (Ended t i c n s) sound extremal h = end_low s
-formula_low origin f (Unsound t r) sound extremal h = absurd
+formula_low : (origin : Origin) (asked : Asked) (ws : List Watcher) (f : Cnf) (o : Outcome)
+    → IsSound origin (pair_weights f.variables) → HasExtremalEvents f → ComesOfFormula origin asked ws f o
+    → IsLow (status_of o)
+formula_low origin asked ws f (Ended t i c n s a) sound extremal h = end_low s
+formula_low origin asked ws f (Unsound t r) sound extremal h = absurd
     (sound_has_none origin (pair_weights f.variables) r sound h.1)
-formula_low origin f (Clashes i j) sound extremal h =
+formula_low origin asked ws f (Clashes i j) sound extremal h =
     absurd (extremal_has_none h.1.events (extremal h.1.events h.1.of_formula) i j h.1.least.holds)
-formula_low origin f (Usage p) sound extremal h = absurd h.1.end
-formula_low origin f (Unread r) sound extremal h = absurd h.1.end
-formula_low origin f (Isolated w) sound extremal h = absurd h.1.end
-formula_low origin f (NoRoot r) sound extremal h = absurd h.1.end
-formula_low origin f (CutOff w) sound extremal h = absurd h.1.end
-formula_low origin f (Extremal n) sound extremal h = absurd h.1.end
-formula_low origin f (Resampled t i l s w b) sound extremal h = absurd h.1.end
-formula_low origin f (Rounded t i c n s v) sound extremal h = absurd h.1.end
+formula_low origin asked ws f (Usage p) sound extremal h = absurd h.1.end
+formula_low origin asked ws f (Unread r) sound extremal h = absurd h.1.end
+formula_low origin asked ws f (Isolated w) sound extremal h = absurd h.1.end
+formula_low origin asked ws f (NoRoot r) sound extremal h = absurd h.1.end
+formula_low origin asked ws f (CutOff w) sound extremal h = absurd h.1.end
+formula_low origin asked ws f (Extremal n) sound extremal h = absurd h.1.end
+formula_low origin asked ws f (Resampled t i l s a) sound extremal h = absurd h.1.end
+formula_low origin asked ws f (Rounded t i c n s v) sound extremal h = absurd h.1.end
 
 -- the same with a log, where the witness is there
 resampling_low : (origin : Origin) (asked : Asked) (ws : List Watcher) (f : Cnf) (o : Outcome)
     → IsSound origin (pair_weights f.variables) → HasWitness o → ComesOfResampling origin asked ws f o
     → IsLow (status_of o)
-resampling_low origin asked ws f (Resampled t i l s w b) sound has h = resampled_low s w has
+resampling_low origin asked ws f (Resampled t i l s a) sound has h = resampled_low s a.witness has
 resampling_low origin asked ws f (Unsound t r) sound has h =
     absurd (sound_has_none origin (pair_weights f.variables) r sound h.1)
 resampling_low origin asked ws f (Clashes i j) sound has h = absurd h.1.history
@@ -85,7 +85,7 @@ resampling_low origin asked ws f (Isolated w) sound has h = absurd h.1.history
 resampling_low origin asked ws f (NoRoot r) sound has h = absurd h.1.history
 resampling_low origin asked ws f (CutOff w) sound has h = absurd h.1.history
 resampling_low origin asked ws f (Extremal n) sound has h = absurd h.1.history
-resampling_low origin asked ws f (Ended t i c n s) sound has h = absurd h.1.history
+resampling_low origin asked ws f (Ended t i c n s a) sound has h = absurd h.1.history
 resampling_low origin asked ws f (Rounded t i c n s v) sound has h = absurd h.1.history
 
 -- the same by rounds
@@ -101,8 +101,8 @@ rounds_low origin f (Isolated w) sound h = absurd h.1.end
 rounds_low origin f (NoRoot r) sound h = absurd h.1.end
 rounds_low origin f (CutOff w) sound h = absurd h.1.end
 rounds_low origin f (Extremal n) sound h = absurd h.1.end
-rounds_low origin f (Ended t i c n s) sound h = absurd h.1.end
-rounds_low origin f (Resampled t i l s w b) sound h = absurd h.1.end
+rounds_low origin f (Ended t i c n s a) sound h = absurd h.1.end
+rounds_low origin f (Resampled t i l s a) sound h = absurd h.1.end
 
 -- a formula that is checked
 checking_low : (f : Cnf) (o : Outcome) → HasExtremalEvents f → ComesOfChecking f o → IsLow (status_of o)
@@ -112,52 +112,54 @@ checking_low f (Clashes i j) extremal h =
 checking_low f o extremal h = absurd h
 
 -- a graph without isolated vertices
-orienting_low : (origin : Origin) (g : GraphOf) (o : Outcome) → ((w : ℕ) → IsIsolated g w → ⊥)
-    → IsSound origin (pair_weights (length g.edges)) → ComesOfOrienting origin g o → IsLow (status_of o)
-orienting_low origin g (Ended t i c n s) touched sound h = end_low s
-orienting_low origin g (Isolated w) touched sound h = absurd (touched w h.holds)
-orienting_low origin g (Unsound t r) touched sound h =
+orienting_low : (origin : Origin) (asked : Asked) (ws : List Watcher) (g : GraphOf) (o : Outcome)
+    → ((w : ℕ) → IsIsolated g w → ⊥) → IsSound origin (pair_weights (length g.edges))
+    → ComesOfOrienting origin asked ws g o → IsLow (status_of o)
+orienting_low origin asked ws g (Ended t i c n s a) touched sound h = end_low s
+orienting_low origin asked ws g (Isolated w) touched sound h = absurd (touched w h.holds)
+orienting_low origin asked ws g (Unsound t r) touched sound h =
     absurd (sound_has_none origin (pair_weights (length g.edges)) r sound h.1.1)
-orienting_low origin g (Clashes i j) touched sound h = absurd h.1.1.end
-orienting_low origin g (Usage p) touched sound h = absurd h.1.1.end
-orienting_low origin g (Unread r) touched sound h = absurd h.1.1.end
-orienting_low origin g (NoRoot r) touched sound h = absurd h.1.1.end
-orienting_low origin g (CutOff w) touched sound h = absurd h.1.1.end
-orienting_low origin g (Extremal n) touched sound h = absurd h.1.1.end
-orienting_low origin g (Resampled t i l s w b) touched sound h = absurd h.1.1.end
-orienting_low origin g (Rounded t i c n s v) touched sound h = absurd h.1.1.end
+orienting_low origin asked ws g (Clashes i j) touched sound h = absurd h.1.1.end
+orienting_low origin asked ws g (Usage p) touched sound h = absurd h.1.1.end
+orienting_low origin asked ws g (Unread r) touched sound h = absurd h.1.1.end
+orienting_low origin asked ws g (NoRoot r) touched sound h = absurd h.1.1.end
+orienting_low origin asked ws g (CutOff w) touched sound h = absurd h.1.1.end
+orienting_low origin asked ws g (Extremal n) touched sound h = absurd h.1.1.end
+orienting_low origin asked ws g (Resampled t i l s a) touched sound h = absurd h.1.1.end
+orienting_low origin asked ws g (Rounded t i c n s v) touched sound h = absurd h.1.1.end
 
 -- a graph each of whose vertices is joined to its root
-tree_low : (origin : Origin) (root : ℕ) (g : GraphOf) (o : Outcome) → root ≤ g.vertices → IsConnected g root
-    → IsSound origin (weights_of_tree g root) → ComesOfTree origin root g o → IsLow (status_of o)
-tree_low origin root g (Ended t i c n s) last joined sound h = end_low s
-tree_low origin root g (NoRoot r) last joined sound h = let above = h.1 in absurd (omega (arith, above, last))
-tree_low origin root g (CutOff w) last joined sound h = absurd (h.1.holds.apart (joined w h.1.holds.vertex))
-tree_low origin root g (Unsound t r) last joined sound h = absurd
+tree_low : (origin : Origin) (asked : Asked) (ws : List Watcher) (root : ℕ) (g : GraphOf) (o : Outcome)
+    → root ≤ g.vertices → IsConnected g root → IsSound origin (weights_of_tree g root)
+    → ComesOfTree origin asked ws root g o → IsLow (status_of o)
+tree_low origin asked ws root g (Ended t i c n s a) last joined sound h = end_low s
+tree_low origin asked ws root g (NoRoot r) last joined sound h = let above = h.1 in absurd (omega (arith, above, last))
+tree_low origin asked ws root g (CutOff w) last joined sound h = absurd (h.1.holds.apart (joined w h.1.holds.vertex))
+tree_low origin asked ws root g (Unsound t r) last joined sound h = absurd
     (sound_has_none origin (weights_of_tree g root) r sound h.2.1)
-tree_low origin root g (Clashes i j) last joined sound h = absurd h.2.1
-tree_low origin root g (Usage p) last joined sound h = absurd h.2.1
-tree_low origin root g (Unread r) last joined sound h = absurd h.2.1
-tree_low origin root g (Isolated w) last joined sound h = absurd h.2.1
-tree_low origin root g (Extremal n) last joined sound h = absurd h.2.1
-tree_low origin root g (Resampled t i l s w b) last joined sound h = absurd h.2.1
-tree_low origin root g (Rounded t i c n s v) last joined sound h = absurd h.2.1
+tree_low origin asked ws root g (Clashes i j) last joined sound h = absurd h.2.1
+tree_low origin asked ws root g (Usage p) last joined sound h = absurd h.2.1
+tree_low origin asked ws root g (Unread r) last joined sound h = absurd h.2.1
+tree_low origin asked ws root g (Isolated w) last joined sound h = absurd h.2.1
+tree_low origin asked ws root g (Extremal n) last joined sound h = absurd h.2.1
+tree_low origin asked ws root g (Resampled t i l s a) last joined sound h = absurd h.2.1
+tree_low origin asked ws root g (Rounded t i c n s v) last joined sound h = absurd h.2.1
 
 -- a grid
-grid_low : (origin : Origin) (side : ℕ) (o : Outcome) → IsSound origin (weights_of_tree (grid_of side) 1)
-    → ComesOfGrid origin side o → IsLow (status_of o)
-grid_low origin side (Ended t i c n s) sound h = end_low s
-grid_low origin side (Unsound t r) sound h = absurd
+grid_low : (origin : Origin) (asked : Asked) (ws : List Watcher) (side : ℕ) (o : Outcome)
+    → IsSound origin (weights_of_tree (grid_of side) 1) → ComesOfGrid origin asked ws side o → IsLow (status_of o)
+grid_low origin asked ws side (Ended t i c n s a) sound h = end_low s
+grid_low origin asked ws side (Unsound t r) sound h = absurd
     (sound_has_none origin (weights_of_tree (grid_of side) 1) r sound h.1)
-grid_low origin side (NoRoot r) sound h = absurd h.1
-grid_low origin side (CutOff w) sound h = absurd h.1
-grid_low origin side (Clashes i j) sound h = absurd h.1
-grid_low origin side (Usage p) sound h = absurd h.1
-grid_low origin side (Unread r) sound h = absurd h.1
-grid_low origin side (Isolated w) sound h = absurd h.1
-grid_low origin side (Extremal n) sound h = absurd h.1
-grid_low origin side (Resampled t i l s w b) sound h = absurd h.1
-grid_low origin side (Rounded t i c n s v) sound h = absurd h.1
+grid_low origin asked ws side (NoRoot r) sound h = absurd h.1
+grid_low origin asked ws side (CutOff w) sound h = absurd h.1
+grid_low origin asked ws side (Clashes i j) sound h = absurd h.1
+grid_low origin asked ws side (Usage p) sound h = absurd h.1
+grid_low origin asked ws side (Unread r) sound h = absurd h.1
+grid_low origin asked ws side (Isolated w) sound h = absurd h.1
+grid_low origin asked ws side (Extremal n) sound h = absurd h.1
+grid_low origin asked ws side (Resampled t i l s a) sound h = absurd h.1
+grid_low origin asked ws side (Rounded t i c n s v) sound h = absurd h.1
 
 -- a text that spells a formula or a graph is answered by it
 spelled : (text : List ℕ) (f : Cnf) → Spells text f → AnswersCnf text (Ok f)
@@ -168,21 +170,23 @@ command_low : (command : Command) (job : Job) (ws : List Watcher) (text : List �
     → CanBeDone command job text
     → HasWitness o → ComesOfCommand command job ws text o → IsLow (status_of o)
 command_low Formula job ws text o (f, spells, sound, extremal) has h =
-    formula_low (origin_for job) f o sound extremal
-    (subst (λ g. ComesOfFormula (origin_for job) g o) (h.spelled.1 ∙ sym (spelled text f spells).1) h.comes)
+    formula_low (origin_for job) (asked_by job) ws f o sound extremal
+    (subst (λ g. ComesOfFormula (origin_for job) (asked_by job) ws g o) (h.spelled.1 ∙ sym (spelled text f spells).1) h.comes)
 command_low Orient job ws text o (g, is, touched, sound) has h =
-    orienting_low (origin_for job) g o touched sound
-    (subst (λ k. ComesOfOrienting (origin_for job) k o) (h.spelled.1 ∙ sym (graphs.complete text g is).1) h.comes)
+    orienting_low (origin_for job) (asked_by job) ws g o touched sound
+    (subst (λ k. ComesOfOrienting (origin_for job) (asked_by job) ws k o)
+    (h.spelled.1 ∙ sym (graphs.complete text g is).1) h.comes)
 command_low Tree job ws text o (g, is, last, joined, sound) has h =
-    tree_low (origin_for job) job.root g o last joined sound
-    (subst (λ k. ComesOfTree (origin_for job) job.root k o) (h.spelled.1 ∙ sym (graphs.complete text g is).1) h.comes)
+    tree_low (origin_for job) (asked_by job) ws job.root g o last joined sound
+    (subst (λ k. ComesOfTree (origin_for job) (asked_by job) ws job.root k o)
+    (h.spelled.1 ∙ sym (graphs.complete text g is).1) h.comes)
 command_low Resample job ws text o (f, spells, sound) has h =
     resampling_low (origin_for job) (asked_by job) ws f o sound has
     (subst (λ g. ComesOfResampling (origin_for job) (asked_by job) ws g o)
     (h.spelled.1 ∙ sym (spelled text f spells).1) h.comes)
 command_low Check job ws text o (f, spells, extremal) has h =
     checking_low f o extremal (subst (λ g. ComesOfChecking g o) (h.spelled.1 ∙ sym (spelled text f spells).1) h.comes)
-command_low Make job ws text o sound has h = grid_low (origin_for job) job.size o sound h
+command_low Make job ws text o sound has h = grid_low (origin_for job) (asked_by job) ws job.size o sound h
 command_low Rounds job ws text o (f, spells, sound) has h =
     rounds_low (origin_for job) f o sound
     (subst (λ g. ComesOfRounds (origin_for job) g o) (h.spelled.1 ∙ sym (spelled text f spells).1) h.comes)

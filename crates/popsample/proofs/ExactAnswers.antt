@@ -7,13 +7,20 @@ use Rattle.pop_model.specs.Stacks.{row_of, value_from}
 use Rattle.pop_model.specs.Stacks.Origin.{Given as GivenRows}
 use Rattle.pop_model.specs.Popping.{values_at}
 use Rattle.pop_model.specs.Instances.{Instance}
+use Rattle.pop_model.specs.Extremal.{IsExtremal}
+use Rattle.pop_model.specs.Logs.{LogRecord}
 use Rattle.pop_model.specs.Runs.{IsFirstEnd, start_of}
+use Rattle.confluence_core.specs.Laws.{RunsToEnd}
+use Rattle.pop_log.specs.declared.names.Names.{Names}
+use Rattle.pop_log.specs.Layered.{AreSorted}
+use Rattle.pop_log.proofs.UnitEvents.{HaveCubes, family_cubes}
 use Rattle.pop_stacks.specs.Faults.{AreLight, AreSoundRows, IsSound}
 use Rattle.pop_samples.specs.Frames.{AreRows, Frame, IsFrame, IsSampleOf, Rows, over}
 use Rattle.pop_samples.specs.Exchange.{SamplesAt, entries_under, exchange}
 use Rattle.pop_samples.specs.ExactLaws.{KeepsEnd}
+use Rattle.pop_samples.specs.Finishing.{FinishesBy}
 use Rattle.pop_samples.proofs.ExchangedSamples.{exchanged_ends, exchange_leaves}
-use Rattle.pop_samples.proofs.Finishing.{first_finishes_by, runs_like}
+use Rattle.pop_samples.proofs.Finishing.{finished_ends, first_finishes_by, runs_like}
 use Rattle.pop_samples.proofs.FrameRows.{rows_count, some_entry, suits_end}
 use Rattle.pop_samples.proofs.Reached.{reached_samples}
 use Rattle.pop_words.specs.declared.command.Command.{Command}
@@ -23,11 +30,17 @@ use Rattle.pop_words.specs.CommandLines.{Asks}
 use Rattle.pop_words.proofs.OneJob.{same_job}
 use Rattle.pop_watch.specs.Telling.{Watcher}
 use Rattle.pop_print.specs.declared.facts.Facts.{Facts}
+use Rattle.popsample.specs.declared.asked.Asked.{Asked}
+use Rattle.popsample.specs.Names.{names_for}
+use Rattle.popsample.specs.Tellings.{Telling}
 use Rattle.popsample.specs.Outcomes.Outcome.{Ended}
-use Rattle.popsample.specs.Answers.{ComesOfCommand}
+use Rattle.popsample.specs.Sampling.{IsToldOfFirst}
+use Rattle.popsample.specs.Answers.{ComesOfCommand, asked_by}
 use Rattle.popsample.specs.Subjects.{Subject, instance_over, IsSubjectOf}
 use Rattle.popsample.specs.ExactAnswers.{over_rows, frame_of, frame_over, IsSampledBy, ExchangedAnswers, ReachedAnswers}
 use Rattle.popsample.proofs.EndedSubjects.{IsEndOfSubject, ended_subject, subject_ended}
+use Rattle.popsample.proofs.OneTelling.{first_runs, sorted_first, told_of_first}
+use Rattle.popsample.proofs.ToldAtStart.{told_at_start}
 use Rattle.popsample.proofs.SubjectFrames.{IsSampled, subject_sampled, subject_frame}
 
 -- the values of rows at cursors, from variable n on, are the entries under the cursors
@@ -90,31 +103,54 @@ of_rows Check job rows text s h = absurd h
 
 -- a job that samples is answered by the end of the run over these rows
 sampled_by : (words : List (List ℕ)) (watchers : List Watcher) (text : List ℕ) (job : Job) (rows : Rows) (s : Subject)
-    (x c : List ℕ) (pops : ℕ) → Asks words (over_rows job rows) → IsSubjectOf job.command job text s
+    (x c : List ℕ) (pops : ℕ) (a : Telling) → Asks words (over_rows job rows) → IsSubjectOf job.command job text s
     → IsSound (GivenRows rows) s.weights → IsFirstEnd (instance_over (GivenRows rows) s) c pops []
+    → IsToldOfFirst (asked_by job) watchers (names_for s.facts) (instance_over (GivenRows rows) s) a
     → length c ≡ length rows → entries_under rows c ≡ x
-    → IsSampledBy words watchers text s.facts x c pops
-sampled_by words watchers text job rows s x c pops asks is sound end size entries =
+    → IsSampledBy words watchers text s.facts x c pops a
+sampled_by words watchers text job rows s x c pops a asks is sound end told size entries =
     let mine : Job = over_rows job rows in
     record {
       instance = instance_over (GivenRows rows) s;
       outcome = record {
         job = mine;
         asks = asks;
-        comes = subject_ended job.command mine watchers text s (of_rows job.command job rows text s is) sound c pops [] end;
+        comes = subject_ended job.command mine watchers text s (of_rows job.command job rows text s is) sound c pops [] a
+            (end, told);
       };
       sample = values_are s.weights rows c size ∙ entries;
     }
 
+-- what is told of the run of rows is told of the rows with another sample in place of its own
+moved_telling : (f : Frame) → HaveCubes f.family → IsExtremal f.family → (asked : Asked) (ws : List Watcher)
+    (names : Names) (rows others : Rows) (c : List ℕ) (pops : ℕ) (a : Telling) → IsFirstEnd (over f rows) c pops []
+    → IsToldOfFirst asked ws names (over f rows) a
+    → ((log : List LogRecord) → FinishesBy (over f rows) log c → FinishesBy (over f others) log c)
+    → IsFirstEnd (over f others) c pops [] → IsToldOfFirst asked ws names (over f others) a
+moved_telling f cubes extremal asked ws names rows others c pops a end told same other =
+    let log : List LogRecord = end.run.0 in
+    let sorted : AreSorted log told.placed =
+    sorted_first (over f rows) cubes extremal told.log log (first_runs (over f rows) told.log told.run) end.run.1
+    told.placed told.sorted in
+    let by : FinishesBy (over f others) log c = same log (first_finishes_by (over f rows) c pops end) in
+    let runs : RunsToEnd (over f others) (start_of (over f others)) log =
+    record { legal = by.legal; end = finished_ends (over f others) log c by } in
+    told_of_first asked ws names (over f others) cubes extremal log other.run.0 runs other.run.1 told.placed sorted a
+    (record {
+      log_is = told.told.log_is;
+      witness_is = told.told.witness_is;
+      reports_are = told.told.reports_are;
+    })
+
 -- the law of another sample
 pub exchanged_answers : ExchangedAnswers
-exchanged_answers job rows words others watchers text facts i c pops x asks asks' h sample =
+exchanged_answers job rows words others watchers text facts i c pops a x asks asks' h sample =
     let mine : Job = over_rows job rows in
     let same : h.job ≡ mine = same_job words h.job mine h.asks asks in
-    let comes : ComesOfCommand job.command mine watchers text (Ended facts i c pops []) =
-    subst (λ (j : Job). ComesOfCommand j.command j watchers text (Ended facts i c pops [])) same h.comes in
-    let of : IsEndOfSubject job.command mine text facts i c pops [] =
-    ended_subject words mine asks job.command refl watchers text facts i c pops [] comes in
+    let comes : ComesOfCommand job.command mine watchers text (Ended facts i c pops [] a) =
+    subst (λ (j : Job). ComesOfCommand j.command j watchers text (Ended facts i c pops [] a)) same h.comes in
+    let of : IsEndOfSubject job.command mine watchers text facts i c pops [] a =
+    ended_subject words mine asks job.command refl watchers text facts i c pops [] a comes in
     let s : Subject = of.subject in
     let f : Frame = frame_over s (map length rows) in
     let sound : AreSoundRows rows s.weights = of.sound.rows in
@@ -133,9 +169,12 @@ exchanged_answers job rows words others watchers text facts i c pops x asks asks
     let new : Rows = exchange rows c x in
     let kept : KeepsEnd f x c pops rows = exchanged_ends f frame sampled.extremal x c pops rows shape of.end is in
     let size : length c ≡ length new = (suits_end f frame new to.samples.shape c to.samples.finishes).size in
-    subst (λ (t : Facts). IsSampledBy others watchers text t x c pops) (sym of.facts_are)
-    (sampled_by others watchers text mine new s x c pops asks' of.is
-    (sound_rows f frame new to.samples.shape of.sound.light) kept.end size kept.entries)
+    let told : IsToldOfFirst (asked_by job) watchers (names_for s.facts) (over f new) a =
+    moved_telling f (family_cubes f.family sampled.family) sampled.extremal (asked_by job) watchers (names_for s.facts)
+    rows new c pops a of.end of.told to.same_log kept.end in
+    subst (λ (t : Facts). IsSampledBy others watchers text t x c pops a) (sym of.facts_are)
+    (sampled_by others watchers text mine new s x c pops a asks' of.is
+    (sound_rows f frame new to.samples.shape of.sound.light) kept.end told size kept.entries)
 
 -- the law of each sample
 pub reached_answers : ReachedAnswers
@@ -146,11 +185,11 @@ reached_answers job text s heights x is light count some sample =
     let reached = reached_samples f frame x sample in
     let rows : Rows = reached.0 in
     let at = reached.1 in
-    let zeros : start_of (over f rows) ≡ replicate (length x) 0 =
-    ap (λ n. replicate n 0) (sym sample.count) in
-    let first : IsFirstEnd (over f rows) (start_of (over f rows)) 0 [] =
-    (runs_like (over f rows) sampled.extremal [] (start_of (over f rows))
-    (record { legal = tt; leads = refl; finished = at.finishes.1.finished })).first in
+    let start : List ℕ = start_of (over f rows) in
+    let zeros : start ≡ replicate (length x) 0 = ap (λ n. replicate n 0) (sym sample.count) in
+    let by : FinishesBy (over f rows) [] start =
+    record { legal = tt; leads = refl; finished = at.finishes.1.finished } in
+    let first : IsFirstEnd (over f rows) start 0 [] = (runs_like (over f rows) sampled.extremal [] start by).first in
     let c : List ℕ = replicate (length x) 0 in
     let end : IsFirstEnd (over f rows) c 0 [] = subst (λ (d : List ℕ). IsFirstEnd (over f rows) d 0 []) zeros first in
     let size : length c ≡ length rows =
@@ -160,5 +199,10 @@ reached_answers job text s heights x is light count some sample =
       rows = rows;
       lengths = at.shape.lengths;
       answers = λ words watchers asks.
-          sampled_by words watchers text job rows s x c 0 asks is (sound_rows f frame rows at.shape light) end size entries;
+          let told = told_at_start (asked_by job) watchers (names_for s.facts) (over f rows)
+          (finished_ends (over f rows) [] start by) in (
+            told.0,
+            sampled_by words watchers text job rows s x c 0 told.0 asks is (sound_rows f frame rows at.shape light) end
+                told.1 size entries,
+          );
     }

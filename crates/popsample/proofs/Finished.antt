@@ -2,8 +2,9 @@
 use Rattle.std.proofs.Common.{◌≡◌, ℕ, List, [], ◌∷◌, Option, sym, subst, arith}
 use Rattle.pop_model.specs.Families.{Event}
 use Rattle.pop_model.specs.Instances.{Instance}
-use Rattle.pop_model.specs.Logs.{LogRecord, replay}
+use Rattle.pop_model.specs.Logs.{replay}
 use Rattle.pop_model.specs.Runs.{IsFinished, IsStuckList, start_of}
+use Rattle.pop_log.specs.Layers.{Placed}
 use Rattle.pop_words.specs.declared.command.Command.{Command}
 use Rattle.pop_words.specs.declared.command.Command.TheVariants.{Formula, Orient, Tree, Resample, Check, Make, Rounds}
 use Rattle.pop_words.specs.declared.job.Job.{Job}
@@ -11,6 +12,7 @@ use Rattle.pop_watch.specs.Telling.{Watcher}
 use Rattle.pop_print.specs.declared.facts.Facts.{Facts}
 use Rattle.popsample.specs.Witnesses.{Witness}
 use Rattle.popsample.specs.Witnesses.Witness.{Unasked, Missing, Shown}
+use Rattle.popsample.specs.Tellings.{Telling, records_of}
 use Rattle.popsample.specs.Outcomes.{Outcome, status_of, end_status, resampled_status}
 use Rattle.popsample.specs.Outcomes.Outcome.{Usage, Unread, Isolated, NoRoot, CutOff, Unsound, Clashes, Extremal, Ended, Resampled, Rounded}
 use Rattle.popsample.specs.Answers.{ComesOfCommand, IsOutcome}
@@ -23,33 +25,35 @@ finished i c [] list none =
 finished i c (e ∷ stuck) list none = absurd (omega arith)
 
 -- the stuck list of a run's end
-stuck_list : (command : Command) (job : Job) (ws : List Watcher) (text : List ℕ) (facts : Facts) (i : Instance) (c : List ℕ) (pops : ℕ)
-    (stuck : List Event) → ComesOfCommand command job ws text (Ended facts i c pops stuck) → IsStuckList i c stuck
-stuck_list Formula job ws text facts i c pops stuck h =
+stuck_list : (command : Command) (job : Job) (ws : List Watcher) (text : List ℕ) (facts : Facts) (i : Instance) (c : List ℕ)
+    (pops : ℕ) (stuck : List Event) (a : Telling) → ComesOfCommand command job ws text (Ended facts i c pops stuck a)
+    → IsStuckList i c stuck
+stuck_list Formula job ws text facts i c pops stuck a h =
     let end = h.comes.1.end in subst (λ j. IsStuckList j c stuck) (sym end.1) end.2.stuck_list
-stuck_list Orient job ws text facts i c pops stuck h =
+stuck_list Orient job ws text facts i c pops stuck a h =
     let end = h.comes.1.1.end in subst (λ j. IsStuckList j c stuck) (sym end.1) end.2.stuck_list
-stuck_list Tree job ws text facts i c pops stuck h =
+stuck_list Tree job ws text facts i c pops stuck a h =
     let end = h.comes.2.1 in subst (λ j. IsStuckList j c stuck) (sym end.1) end.2.stuck_list
-stuck_list Resample job ws text facts i c pops stuck h = absurd h.comes.1.history
-stuck_list Check job ws text facts i c pops stuck h = absurd h.comes
-stuck_list Make job ws text facts i c pops stuck h =
+stuck_list Resample job ws text facts i c pops stuck a h = absurd h.comes.1.history
+stuck_list Check job ws text facts i c pops stuck a h = absurd h.comes
+stuck_list Make job ws text facts i c pops stuck a h =
     subst (λ j. IsStuckList j c stuck) (sym h.1.1) h.1.2.stuck_list
-stuck_list Rounds job ws text facts i c pops stuck h = absurd h.comes.1.end
+stuck_list Rounds job ws text facts i c pops stuck a h = absurd h.comes.1.end
 
 -- that of a run with its log
 logged_stuck_list : (command : Command) (job : Job) (ws : List Watcher) (text : List ℕ) (facts : Facts) (i : Instance)
-    (log : List LogRecord) (stuck : List Event) (w : Witness) (b : List ℕ) → ComesOfCommand command job ws text (Resampled facts i log stuck w b)
-    → IsStuckList i (replay (start_of i) log) stuck
-logged_stuck_list Formula job ws text facts i log stuck w b h = absurd h.comes.1.end
-logged_stuck_list Orient job ws text facts i log stuck w b h = absurd h.comes.1.1.end
-logged_stuck_list Tree job ws text facts i log stuck w b h = absurd h.comes.2.1
-logged_stuck_list Resample job ws text facts i log stuck w b h =
+    (placed : List Placed) (stuck : List Event) (a : Telling)
+    → ComesOfCommand command job ws text (Resampled facts i placed stuck a)
+    → IsStuckList i (replay (start_of i) (records_of placed)) stuck
+logged_stuck_list Formula job ws text facts i placed stuck a h = absurd h.comes.1.end
+logged_stuck_list Orient job ws text facts i placed stuck a h = absurd h.comes.1.1.end
+logged_stuck_list Tree job ws text facts i placed stuck a h = absurd h.comes.2.1
+logged_stuck_list Resample job ws text facts i placed stuck a h =
     let history = h.comes.1.history in
-    subst (λ j. IsStuckList j (replay (start_of j) log) stuck) (sym history.1) history.2.stuck_list
-logged_stuck_list Check job ws text facts i log stuck w b h = absurd h.comes
-logged_stuck_list Make job ws text facts i log stuck w b h = absurd h.1
-logged_stuck_list Rounds job ws text facts i log stuck w b h = absurd h.comes.1.end
+    subst (λ j. IsStuckList j (replay (start_of j) (records_of placed)) stuck) (sym history.1) history.2.stuck_list
+logged_stuck_list Check job ws text facts i placed stuck a h = absurd h.comes
+logged_stuck_list Make job ws text facts i placed stuck a h = absurd h.1
+logged_stuck_list Rounds job ws text facts i placed stuck a h = absurd h.comes.1.end
 
 -- that of rounds
 rounds_stuck_list : (command : Command) (job : Job) (ws : List Watcher) (text : List ℕ) (facts : Facts) (i : Instance)
@@ -74,11 +78,11 @@ none_stuck stuck (Shown tree) is = is
 pub sample_finished : (words : List (List ℕ)) (ws : List Watcher) (text : List ℕ) (o : Outcome)
     → IsOutcome words ws text o
     → status_of o ≡ 0 → EndsFinished o
-sample_finished words ws text (Ended facts i c pops stuck) h is =
-    finished i c stuck (stuck_list h.job.command h.job ws text facts i c pops stuck h.comes) is
-sample_finished words ws text (Resampled facts i log stuck w b) h is =
-    finished i (replay (start_of i) log) stuck
-    (logged_stuck_list h.job.command h.job ws text facts i log stuck w b h.comes) (none_stuck stuck w is)
+sample_finished words ws text (Ended facts i c pops stuck a) h is =
+    finished i c stuck (stuck_list h.job.command h.job ws text facts i c pops stuck a h.comes) is
+sample_finished words ws text (Resampled facts i placed stuck a) h is =
+    finished i (replay (start_of i) (records_of placed)) stuck
+    (logged_stuck_list h.job.command h.job ws text facts i placed stuck a h.comes) (none_stuck stuck a.witness is)
 sample_finished words ws text (Rounded facts i c rounds stuck short) h is =
     finished i c stuck (rounds_stuck_list h.job.command h.job ws text facts i c rounds stuck short h.comes) is
 sample_finished words ws text (Usage p) h is = tt

@@ -32,18 +32,19 @@ no_fault false origin asked ws f t fault h = h.end
 no_fault true origin asked ws f t fault h = h.history
 
 -- an end is no clash
-ends : (origin : Origin) (f : Cnf) (o : Outcome) → EndsFormula origin f o → ComesOfRunning origin f o
-ends origin f (Usage p) h = h
-ends origin f (Unread r) h = h
-ends origin f (Isolated w) h = h
-ends origin f (NoRoot r) h = h
-ends origin f (CutOff w) h = h
-ends origin f (Unsound t r) h = h
-ends origin f (ClashesOf i j) h = absurd h.end
-ends origin f (Extremal n) h = h
-ends origin f (Ended t i c n s) h = h
-ends origin f (Resampled t i l s w b) h = h
-ends origin f (Rounded t i c n s v) h = h
+ends : (origin : Origin) (asked : Asked) (ws : List Watcher) (f : Cnf) (o : Outcome) → EndsFormula origin asked ws f o
+    → ComesOfRunning origin asked ws f o
+ends origin asked ws f (Usage p) h = h
+ends origin asked ws f (Unread r) h = h
+ends origin asked ws f (Isolated w) h = h
+ends origin asked ws f (NoRoot r) h = h
+ends origin asked ws f (CutOff w) h = h
+ends origin asked ws f (Unsound t r) h = h
+ends origin asked ws f (ClashesOf i j) h = absurd h.end
+ends origin asked ws f (Extremal n) h = h
+ends origin asked ws f (Ended t i c n s a) h = h
+ends origin asked ws f (Resampled t i l s a) h = h
+ends origin asked ws f (Rounded t i c n s v) h = h
 
 -- a clash of a formula's events refuses it where they may not clash
 pub clash_refused : (clashing : Bool) (origin : Origin) (asked : Asked) (ws : List Watcher) (f : Cnf)
@@ -68,22 +69,22 @@ clash_checked f events r of clash = absurd clash
 pub run_answers : (clashing : Bool) (origin : Origin) (asked : Asked) (ws : List Watcher) (n : ℕ) (f : Cnf)
     (events : List (ℕ × Cube)) (i : Instance) (status : ℕ) (out : List ℕ) → n ≡ f.variables
     → i ≡ instance_of origin n events → AreEventsOf f.clauses events → IsSound origin (pair_weights f.variables)
-    → asked.log ≡ clashing → (clashing ≡ false → IsExtremal (Listed events))
-    → (asked.log ≡ false → IsExtremal i.family → AnswersBy (IsEndOf (FormulaFacts n) i) status out)
-    → (asked.log ≡ true → AnswersBy (IsHistoryOf asked ws (FormulaFacts n) i) status out)
+    → asked.free ≡ clashing → (clashing ≡ false → IsExtremal (Listed events))
+    → (asked.free ≡ false → IsExtremal i.family → AnswersBy (IsEndOf asked ws (FormulaFacts n) i) status out)
+    → (asked.free ≡ true → AnswersBy (IsHistoryOf asked ws (FormulaFacts n) i) status out)
     → AnswersBy (ComesOfSampling (FormulaFacts f.variables) origin (pair_weights f.variables)
     (RunsFormula clashing origin asked ws f)) status out
 run_answers false origin asked ws n f events i status out count same of sound told extremal ended history =
-    answered (IsEndOf (FormulaFacts n) i)
+    answered (IsEndOf asked ws (FormulaFacts n) i)
     (ComesOfSampling (FormulaFacts f.variables) origin (pair_weights f.variables) (RunsFormula false origin asked ws f))
     status out
     (λ o end. of_sound (FormulaFacts f.variables) origin (pair_weights f.variables) (RunsFormula false origin asked ws f)
-    sound (no_fault false origin asked ws f) o (ends origin f o (record {
+    sound (no_fault false origin asked ws f) o (ends origin asked ws f o (record {
       events = events;
       of_formula = of;
       extremal = extremal refl;
-      end = subst (λ k. IsEndOf (FormulaFacts k) (instance_of origin k events) o) count
-          (subst (λ j. IsEndOf (FormulaFacts n) j o) same end);
+      end = subst (λ k. IsEndOf asked ws (FormulaFacts k) (instance_of origin k events) o) count
+          (subst (λ j. IsEndOf asked ws (FormulaFacts n) j o) same end);
     })))
     (ended told (subst IsExtremal (sym (ap (λ (j : Instance). j.family) same)) (extremal refl)))
 run_answers true origin asked ws n f events i status out count same of sound told extremal ended history =

@@ -14,10 +14,16 @@ mod Carrying
 mod Lifting
 mod WordResults
 mod HeldAnswers
--- What is told: refusals, runs with or without their log, witnesses
+-- What is told: refusals, witnesses, runs and what is asked for of their logs. LayeredOrders: each log has a layered
+-- order. OneWitness, OneTelling: one thing is told of a layered log, and of all runs to an end. ToldAtStart: what is told
+-- before any pop.
 mod ToldRefusals
-mod ToldRuns
 mod WitnessResults
+mod LayeredOrders
+mod OneWitness
+mod OneTelling
+mod ToldAtStart
+mod ToldRuns
 -- Watchers. ChangedFront: each member of a list is changed in turn. ToldLog: all are told a log. FirstOfKind: the one
 -- that is asked for its report.
 mod ChangedFront
@@ -40,11 +46,13 @@ mod OneResampling
 mod OneLog
 mod OneOutcome
 -- Statuses. Statuses: which a text is answered by. Finished: with 0 no event occurs. ShownSamples: with 0 and 1 an
--- end is shown, of a formula's events (ShownFormulas) and by rounds (ShownRounds) too. Completeness: one of these
+-- end is shown, of a formula's events (ShownFormulas) and by rounds (ShownRounds) too, whatever stands behind it
+-- (ShownBehind). Completeness: one of these
 -- where nothing stands against words and text. WorkersAgree: for any number of workers.
 mod Statuses
 mod Finished
 mod ShownFormulas
+mod ShownBehind
 mod ShownRounds
 mod ShownSamples
 mod Completeness

@@ -10,7 +10,6 @@ use Rattle.graph_read.specs.GraphText.{AnswersGraph}
 use Rattle.pop_words.specs.declared.command.Command.{Command}
 use Rattle.pop_words.specs.declared.command.Command.TheVariants.{Formula, Orient, Tree, Resample, Check, Make, Rounds}
 use Rattle.pop_words.specs.declared.job.Job.{Job}
-use Rattle.pop_words.specs.Options.{command_row}
 use Rattle.pop_words.specs.CommandLines.{Asks}
 use Rattle.pop_words.proofs.OneJob.{same_job}
 use Rattle.pop_watch.specs.Telling.{Watcher}
@@ -30,7 +29,7 @@ use Rattle.popsample.specs.Rounds.{ComesOfRounds}
 use Rattle.popsample.specs.Orientations.{ComesOfOrienting}
 use Rattle.popsample.specs.Trees.{ComesOfTree}
 use Rattle.popsample.specs.Grids.{ComesOfGrid}
-use Rattle.popsample.specs.Answers.{ComesOfCnf, ComesOfGraph, origin_for, asked_by, ComesOfCommand, Refuses, ComesOf, IsOutcome, AskForGrid, IsInput}
+use Rattle.popsample.specs.Answers.{ComesOfCnf, ComesOfGraph, origin_for, has_free_order, asked_by, ComesOfCommand, Refuses, ComesOf, IsOutcome, AskForGrid, IsInput}
 use Rattle.popsample.proofs.Carrying.{carried}
 
 -- no command finds fault with the words
@@ -68,8 +67,8 @@ of_command job ws text (CutOff w) h = h
 of_command job ws text (Unsound t f) h = h
 of_command job ws text (Clashes i j) h = h
 of_command job ws text (Extremal n) h = h
-of_command job ws text (Ended t i c n s) h = h
-of_command job ws text (Resampled t i l s w b) h = h
+of_command job ws text (Ended t i c n s a) h = h
+of_command job ws text (Resampled t i l s a) h = h
 of_command job ws text (Rounded t i c n s v) h = h
 
 -- what comes of a job comes of the words that ask for it
@@ -83,8 +82,8 @@ of_words words job ws text asks (CutOff w) comes = record { job = job; asks = as
 of_words words job ws text asks (Unsound t f) comes = record { job = job; asks = asks; comes = comes }
 of_words words job ws text asks (Clashes i j) comes = record { job = job; asks = asks; comes = comes }
 of_words words job ws text asks (Extremal n) comes = record { job = job; asks = asks; comes = comes }
-of_words words job ws text asks (Ended t i c n s) comes = record { job = job; asks = asks; comes = comes }
-of_words words job ws text asks (Resampled t i l s w b) comes = record { job = job; asks = asks; comes = comes }
+of_words words job ws text asks (Ended t i c n s a) comes = record { job = job; asks = asks; comes = comes }
+of_words words job ws text asks (Resampled t i l s a) comes = record { job = job; asks = asks; comes = comes }
 of_words words job ws text asks (Rounded t i c n s v) comes = record { job = job; asks = asks; comes = comes }
 
 -- what a command makes of a text is what the job's command makes
@@ -113,12 +112,14 @@ of_graph job ws text command g Comes r is lifts spelled =
 
 -- The results of the commands, with the origin and what is asked for as the job has them.
 pub lifted_formula : (job : Job) (ws : List Watcher) (text : List ℕ) (f : Cnf) (origin : Origin) (asked : Asked)
-    (r : Result Answer Refusal) → job.command ≡ Formula → origin ≡ origin_for job → AnswersCnf text (Ok f)
+    (r : Result Answer Refusal) → job.command ≡ Formula → origin ≡ origin_for job → asked ≡ asked_by job
+    → AnswersCnf text (Ok f)
     → IsResultOf (ComesOfSampling (FormulaFacts f.variables) origin (pair_weights f.variables)
     (RunsFormula false origin asked ws f)) r → IsResultOf (ComesOf job ws text) r
-lifted_formula job ws text f origin asked r is from spelled comes =
-    of_cnf job ws text Formula f (ComesOfFormula (origin_for job)) r is (λ o h. h) spelled
-    (subst (λ s. IsResultOf (ComesOfFormula s f) r) from comes)
+lifted_formula job ws text f origin asked r is from asked_is spelled comes =
+    of_cnf job ws text Formula f (ComesOfFormula (origin_for job) (asked_by job) ws) r is (λ o h. h) spelled
+    (subst (λ s. IsResultOf (ComesOfFormula s (asked_by job) ws f) r) from
+    (subst (λ a. IsResultOf (ComesOfFormula origin a ws f) r) asked_is comes))
 
 -- of a formula that is resampled
 pub lifted_resample : (job : Job) (ws : List Watcher) (text : List ℕ) (f : Cnf) (origin : Origin) (asked : Asked)
@@ -147,28 +148,33 @@ lifted_check job ws text f r is spelled comes =
     of_cnf job ws text Check f ComesOfChecking r is (λ o h. h) spelled comes
 
 -- of a graph that is oriented
-pub lifted_orient : (job : Job) (ws : List Watcher) (text : List ℕ) (g : GraphOf) (origin : Origin)
-    (r : Result Answer Refusal) → job.command ≡ Orient → origin ≡ origin_for job → AnswersGraph text (Ok g)
-    → IsResultOf (ComesOfOrienting origin g) r → IsResultOf (ComesOf job ws text) r
-lifted_orient job ws text g origin r is from spelled comes =
-    of_graph job ws text Orient g (ComesOfOrienting (origin_for job)) r is (λ o h. h) spelled
-    (subst (λ s. IsResultOf (ComesOfOrienting s g) r) from comes)
+pub lifted_orient : (job : Job) (ws : List Watcher) (text : List ℕ) (g : GraphOf) (origin : Origin) (asked : Asked)
+    (r : Result Answer Refusal) → job.command ≡ Orient → origin ≡ origin_for job → asked ≡ asked_by job
+    → AnswersGraph text (Ok g) → IsResultOf (ComesOfOrienting origin asked ws g) r → IsResultOf (ComesOf job ws text) r
+lifted_orient job ws text g origin asked r is from asked_is spelled comes =
+    of_graph job ws text Orient g (ComesOfOrienting (origin_for job) (asked_by job) ws) r is (λ o h. h) spelled
+    (subst (λ s. IsResultOf (ComesOfOrienting s (asked_by job) ws g) r) from
+    (subst (λ a. IsResultOf (ComesOfOrienting origin a ws g) r) asked_is comes))
 
 -- of one of which a tree is asked
-pub lifted_tree : (job : Job) (ws : List Watcher) (text : List ℕ) (g : GraphOf) (origin : Origin)
-    (r : Result Answer Refusal) → job.command ≡ Tree → origin ≡ origin_for job → AnswersGraph text (Ok g)
-    → IsResultOf (ComesOfTree origin job.root g) r → IsResultOf (ComesOf job ws text) r
-lifted_tree job ws text g origin r is from spelled comes =
-    of_graph job ws text Tree g (ComesOfTree (origin_for job) job.root) r is (λ o h. h) spelled
-    (subst (λ s. IsResultOf (ComesOfTree s job.root g) r) from comes)
+pub lifted_tree : (job : Job) (ws : List Watcher) (text : List ℕ) (g : GraphOf) (origin : Origin) (asked : Asked)
+    (r : Result Answer Refusal) → job.command ≡ Tree → origin ≡ origin_for job → asked ≡ asked_by job
+    → AnswersGraph text (Ok g) → IsResultOf (ComesOfTree origin asked ws job.root g) r
+    → IsResultOf (ComesOf job ws text) r
+lifted_tree job ws text g origin asked r is from asked_is spelled comes =
+    of_graph job ws text Tree g (ComesOfTree (origin_for job) (asked_by job) ws job.root) r is (λ o h. h) spelled
+    (subst (λ s. IsResultOf (ComesOfTree s (asked_by job) ws job.root g) r) from
+    (subst (λ a. IsResultOf (ComesOfTree origin a ws job.root g) r) asked_is comes))
 
 -- of a grid
-pub lifted_grid : (job : Job) (ws : List Watcher) (text : List ℕ) (origin : Origin) (r : Result Answer Refusal)
-    → job.command ≡ Make → origin ≡ origin_for job → IsResultOf (ComesOfGrid origin job.size) r
-    → IsResultOf (ComesOf job ws text) r
-lifted_grid job ws text origin r is from comes =
-    carried (ComesOfGrid (origin_for job) job.size) (ComesOf job ws text) r (by_command job ws text Make is)
-    (subst (λ s. IsResultOf (ComesOfGrid s job.size) r) from comes)
+pub lifted_grid : (job : Job) (ws : List Watcher) (text : List ℕ) (origin : Origin) (asked : Asked)
+    (r : Result Answer Refusal) → job.command ≡ Make → origin ≡ origin_for job → asked ≡ asked_by job
+    → IsResultOf (ComesOfGrid origin asked ws job.size) r → IsResultOf (ComesOf job ws text) r
+lifted_grid job ws text origin asked r is from asked_is comes =
+    carried (ComesOfGrid (origin_for job) (asked_by job) ws job.size) (ComesOf job ws text) r
+    (by_command job ws text Make is)
+    (subst (λ s. IsResultOf (ComesOfGrid s (asked_by job) ws job.size) r) from
+    (subst (λ a. IsResultOf (ComesOfGrid origin a ws job.size) r) asked_is comes))
 
 -- a refusal of a text, which the grammar of a job's command refuses so, comes of the job and the text
 pub read_refused : (job : Job) (ws : List Watcher) (text : List ℕ) (Refused : ReadRefusal → Type 0) (r : Refusal)
@@ -187,10 +193,10 @@ pub refuses_as : (job : Job) (command : Command) (text : List ℕ) → job.comma
     → Refuses command text cause → Refuses job.command text cause
 refuses_as job command text is cause h = subst (λ k. Refuses k text cause) (sym is) h
 
--- whether the log is told goes by the command
-pub log_told_by : (job : Job) (asked : Asked) (command : Command) → asked ≡ asked_by job → job.command ≡ command
-    → asked.log ≡ (command_row command).log
-log_told_by job asked command asked_is is = ap (λ (a : Asked). a.log) asked_is ∙ ap (λ c. (command_row c).log) is
+-- whether the order of pops is free goes by the command
+pub free_by : (job : Job) (asked : Asked) (command : Command) → asked ≡ asked_by job → job.command ≡ command
+    → asked.free ≡ has_free_order command
+free_by job asked command asked_is is = ap (λ (a : Asked). a.free) asked_is ∙ ap has_free_order is
 
 -- The input of words that ask for a job is what the source has left, or the job is that of a grid.
 pub input_of_job : (words : List (List ℕ)) (job : Job) (left : Option (List ℕ)) (text : List ℕ) → Asks words job

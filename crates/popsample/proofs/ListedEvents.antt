@@ -1,17 +1,18 @@
 -- Events of a formula and of sinks: cubes that differ, over variables of two values.
-use Rattle.std.proofs.Common.{◌≡◌, ◌≢◌, ℕ, ◌<◌, List, [], ◌∷◌, length, map, get_or, sym, ap, subst, ◌∙◌, arith, Contains}
+use Rattle.std.proofs.Common.{◌≡◌, ◌≢◌, ℕ, ◌<◌, List, [], ◌∷◌, Option, length, map, get_or, sym, ap, subst, ◌∙◌, arith, Contains}
 use Rattle.std.specs.List.Sorted.{IsStrictlyIncreasing}
 use Rattle.std.proofs.lemmas.List.{length-replicate, get_or-replicate}
 use Rattle.std.proofs.lemmas.List.Elements.{Contains-get_or}
-use Rattle.std.proofs.lemmas.Option.{same_Some, slice_get-get_or, slice_get_within}
+use Rattle.std.proofs.lemmas.Option.{same_Some, slice_get-get_or, slice_get_within, get_or_from_slice_get}
 use Rattle.pop_model.specs.Stacks.{Origin}
 use Rattle.pop_model.specs.Popping.{Cube, IsCube}
 use Rattle.pop_model.specs.Families.{Event, IsEvent, AreEvents}
-use Rattle.pop_model.specs.Families.Family.{Listed}
+use Rattle.pop_model.specs.Families.Family.{Listed, Cycles}
 use Rattle.pop_model.specs.Instances.{FamilyFits}
 use Rattle.pop_model.specs.Extremal.{IsExtremal, Exclude}
 use Rattle.pop_model.proofs.Following.{rising_demand}
 use Rattle.pop_instance.specs.Events.{FitVariables}
+use Rattle.pop_log.proofs.UnitEvents.{HaveCubes}
 use Rattle.dimacs_read.specs.Cnf.{Cnf}
 use Rattle.dimacs_read.specs.Falsifying.{AreEventsOf}
 use Rattle.graph_read.specs.Graphs.{GraphOf}
@@ -46,6 +47,24 @@ different_cubes rows rising cubes extremal = record {
       alike r.1 cube (subst (λ (c : Cube). Exclude r.1 c) (sym same) exclude);
   cubes = λ k d within. cubes (get_or rows k d) (Contains-get_or rows k d within);
 }
+
+-- events whose rows are cubes
+listed_cubes : (rows : List (ℕ × Cube)) → ((r : ℕ × Cube) → Contains rows r → IsCube r.1) → HaveCubes (Listed rows)
+listed_cubes rows cubes e (number, at) =
+    let r : ℕ × Cube = (number, e.cube) in
+    cubes r (e.unit, slice_get_within rows e.unit r at, get_or_from_slice_get rows e.unit r r at)
+
+-- those of a formula
+pub formula_cubes : (f : Cnf) (rows : List (ℕ × Cube)) → AreEventsOf f.clauses rows → HaveCubes (Listed rows)
+formula_cubes f rows are = listed_cubes rows (λ r has. ((are.exact r.0 r.1).0 has).0.4.cube)
+
+-- those of sinks
+pub sinks_cubes : (g : GraphOf) (rows : List (ℕ × Cube)) → AreSinksOf g rows → HaveCubes (Listed rows)
+sinks_cubes g rows are = listed_cubes rows (λ r has. ((are.exact r.0 r.1).0 has).sink.cube)
+
+-- and cycles
+pub cycles_cubes : (heads : List (List (Option ℕ))) → HaveCubes (Cycles heads)
+cycles_cubes heads e event = event.0.cube
 
 -- the events of an extremal formula
 pub formula_family : (f : Cnf) (rows : List (ℕ × Cube)) → AreEventsOf f.clauses rows → IsExtremal (Listed rows)

@@ -9,14 +9,18 @@ use Rattle.pop_model.proofs.Rising.{same_rising}
 use Rattle.dimacs_read.specs.Cnf.{Cnf}
 use Rattle.dimacs_read.specs.Falsifying.{AreEventsOf}
 use Rattle.extremal_check.specs.Clashes.{AreClashing}
+use Rattle.pop_watch.specs.Telling.{Watcher}
 use Rattle.pop_print.specs.declared.facts.Facts.TheVariants.{Formula as FormulaFacts}
+use Rattle.popsample.specs.declared.asked.Asked.{Asked}
 use Rattle.popsample.specs.Outcomes.{Outcome}
 use Rattle.popsample.specs.Outcomes.Outcome.{Usage, Unread, Isolated, NoRoot, CutOff, Unsound, Clashes, Extremal, Ended, Resampled, Rounded}
 use Rattle.popsample.specs.Sampling.{pair_weights, instance_of, IsEndOf}
 use Rattle.popsample.specs.Formulas.{ClashesAt, EndsFormula, ComesOfRunning, ComesOfFormula, ComesOfChecking}
+use Rattle.popsample.specs.Laws.{ReportAlike}
 use Rattle.popsample.proofs.Leasts.{one_least_pair}
 use Rattle.popsample.proofs.OneClash.{extremal_has_none}
-use Rattle.popsample.proofs.OneSampling.{IsOne, one_end, one_sampling}
+use Rattle.popsample.proofs.OneSampling.{AreOne, IsOne, one_end, same_sampling}
+use Rattle.popsample.proofs.ListedEvents.{formula_cubes}
 
 -- clauses have one list of events
 pub one_events : (clauses : List (List ℤ)) (a b : List (ℕ × Cube)) → AreEventsOf clauses a → AreEventsOf clauses b → a ≡ b
@@ -41,47 +45,52 @@ no_clash f i j at events are extremal =
     extremal_has_none events extremal i j (subst (λ rows. AreClashing rows i j) same at.least.holds)
 
 -- the run of a formula has one end
-one_ending : (origin : Origin) (f : Cnf) → IsOne (EndsFormula origin f)
-one_ending origin f o p h h' =
+one_ending : (origin : Origin) (asked : Asked) (ws vs : List Watcher) (f : Cnf) → ReportAlike asked.reports ws vs
+    → AreOne (EndsFormula origin asked ws f) (EndsFormula origin asked vs f)
+one_ending origin asked ws vs f alike o p h h' =
     let facts = FormulaFacts f.variables in
     let events = one_events f.clauses h.events h'.events h.of_formula h'.of_formula in
-    let end : IsEndOf facts (instance_of origin f.variables h'.events) o =
-    subst (λ rows. IsEndOf facts (instance_of origin f.variables rows) o) events h.end in
-    one_end facts (instance_of origin f.variables h'.events) h'.extremal o p end h'.end
+    let end : IsEndOf asked ws facts (instance_of origin f.variables h'.events) o =
+    subst (λ rows. IsEndOf asked ws facts (instance_of origin f.variables rows) o) events h.end in
+    one_end asked ws vs facts (instance_of origin f.variables h'.events) alike
+    (formula_cubes f h'.events h'.of_formula) h'.extremal o p end h'.end
 
 -- what comes of the run is a clash or an end
-running_cases : (origin : Origin) (f : Cnf) (o : Outcome) → ComesOfRunning origin f o
-    → ((i : ℕ) × (j : ℕ) × (o ≡ Clashes i j) × ClashesAt f i j) ⊎ EndsFormula origin f o
-running_cases origin f (Usage p) h = inr h
-running_cases origin f (Unread r) h = inr h
-running_cases origin f (Isolated w) h = inr h
-running_cases origin f (NoRoot r) h = inr h
-running_cases origin f (CutOff w) h = inr h
-running_cases origin f (Unsound t r) h = inr h
-running_cases origin f (Clashes i j) h = inl (i, j, refl, h)
-running_cases origin f (Extremal n) h = inr h
-running_cases origin f (Ended t i c n s) h = inr h
-running_cases origin f (Resampled t i l s w b) h = inr h
-running_cases origin f (Rounded t i c n s v) h = inr h
+running_cases : (origin : Origin) (asked : Asked) (ws : List Watcher) (f : Cnf) (o : Outcome)
+    → ComesOfRunning origin asked ws f o
+    → ((i : ℕ) × (j : ℕ) × (o ≡ Clashes i j) × ClashesAt f i j) ⊎ EndsFormula origin asked ws f o
+running_cases origin asked ws f (Usage p) h = inr h
+running_cases origin asked ws f (Unread r) h = inr h
+running_cases origin asked ws f (Isolated w) h = inr h
+running_cases origin asked ws f (NoRoot r) h = inr h
+running_cases origin asked ws f (CutOff w) h = inr h
+running_cases origin asked ws f (Unsound t r) h = inr h
+running_cases origin asked ws f (Clashes i j) h = inl (i, j, refl, h)
+running_cases origin asked ws f (Extremal n) h = inr h
+running_cases origin asked ws f (Ended t i c n s a) h = inr h
+running_cases origin asked ws f (Resampled t i l s a) h = inr h
+running_cases origin asked ws f (Rounded t i c n s v) h = inr h
 
 -- a formula that runs has one outcome
-one_running : (origin : Origin) (f : Cnf) → IsOne (ComesOfRunning origin f)
-one_running origin f o p h h' = elim (running_cases origin f o h) [
-  | inl (i, j, o_is, at) ↦ elim (running_cases origin f p h') [
+one_running : (origin : Origin) (asked : Asked) (ws vs : List Watcher) (f : Cnf) → ReportAlike asked.reports ws vs
+    → AreOne (ComesOfRunning origin asked ws f) (ComesOfRunning origin asked vs f)
+one_running origin asked ws vs f alike o p h h' = elim (running_cases origin asked ws f o h) [
+  | inl (i, j, o_is, at) ↦ elim (running_cases origin asked vs f p h') [
     | inl (k, l, p_is, at') ↦ o_is ∙ same_clash f i j k l at at' ∙ sym p_is
     | inr end' ↦ absurd (no_clash f i j at end'.events end'.of_formula end'.extremal)
   ]
-  | inr end ↦ elim (running_cases origin f p h') [
+  | inr end ↦ elim (running_cases origin asked vs f p h') [
     | inl (k, l, p_is, at') ↦ absurd (no_clash f k l at' end.events end.of_formula end.extremal)
-    | inr end' ↦ one_ending origin f o p end end'
+    | inr end' ↦ one_ending origin asked ws vs f alike o p end end'
   ]
 ]
 
 -- a formula that is sampled has one outcome
-pub one_formula : (origin : Origin) (f : Cnf) → IsOne (ComesOfFormula origin f)
-one_formula origin f o p h h' =
-    one_sampling (FormulaFacts f.variables) origin (pair_weights f.variables) (ComesOfRunning origin f)
-    (one_running origin f) o p h h'
+pub one_formula : (origin : Origin) (asked : Asked) (ws vs : List Watcher) (f : Cnf) → ReportAlike asked.reports ws vs
+    → AreOne (ComesOfFormula origin asked ws f) (ComesOfFormula origin asked vs f)
+one_formula origin asked ws vs f alike =
+    same_sampling (FormulaFacts f.variables) origin (pair_weights f.variables) (ComesOfRunning origin asked ws f)
+    (ComesOfRunning origin asked vs f) (one_running origin asked ws vs f alike)
 
 -- a formula that is checked has one outcome
 pub one_checking : (f : Cnf) → IsOne (ComesOfChecking f)

@@ -10,7 +10,8 @@ use Rattle.popsample.specs.declared.asked.Asked.{Asked}
 use Rattle.popsample.specs.Outcomes.{Outcome}
 use Rattle.popsample.specs.Outcomes.Outcome.{Resampled}
 use Rattle.popsample.specs.Sampling.{pair_weights, instance_of}
-use Rattle.popsample.specs.Resamplings.{LeadsToEnd, IsHistoryOf, EndsResampling, ComesOfResampling}
+use Rattle.popsample.specs.Tellings.{records_of, LeadsToEnd}
+use Rattle.popsample.specs.Resamplings.{IsHistoryOf, EndsResampling, ComesOfResampling}
 use Rattle.popsample.specs.Laws.{AreHistories, Agree}
 use Rattle.popsample.proofs.OneFormula.{one_events}
 use Rattle.popsample.proofs.OneSampling.{alike_sampling}
@@ -18,13 +19,13 @@ use Rattle.popsample.proofs.OneSampling.{alike_sampling}
 -- two runs of one instance
 two_runs : (asked : Asked) (ws vs : List Watcher) (facts : Facts) (i : Instance) (o p : Outcome)
     → IsHistoryOf asked ws facts i o → IsHistoryOf asked vs facts i p → AreHistories o p
-two_runs asked ws vs facts i (Resampled t j l s w b) (Resampled u k m r x c) h h' = (
+two_runs asked ws vs facts i (Resampled t j l s a) (Resampled u k m r b) h h' = (
   h.0 ∙ sym h'.0,
   h.1 ∙ sym h'.1,
-  subst (λ n. LeadsToEnd n l s) (sym h.1) h.2,
-  subst (λ n. LeadsToEnd n m r) (sym h.1) h'.2,
+  subst (λ n. LeadsToEnd n (records_of l) s) (sym h.1) h.2,
+  subst (λ n. LeadsToEnd n (records_of m) r) (sym h.1) h'.2,
 )
-two_runs asked ws vs facts i (Resampled t j l s w b) p h h' = absurd h'
+two_runs asked ws vs facts i (Resampled t j l s a) p h h' = absurd h'
 two_runs asked ws vs facts i o p h h' = absurd h
 
 -- two runs of a formula

@@ -14,7 +14,7 @@ use Rattle.popsample.specs.Outcomes.Outcome.{Usage, Unread, Isolated, NoRoot, Cu
 use Rattle.popsample.specs.Sampling.{pair_weights, instance_of}
 use Rattle.popsample.specs.Rounds.{IsRoundsEndOf, EndsRounds, ComesOfRounds}
 use Rattle.popsample.proofs.OneFormula.{one_events}
-use Rattle.popsample.proofs.OneSampling.{IsOne, one_sampling}
+use Rattle.popsample.proofs.OneSampling.{IsOne, same_sampling}
 
 -- the result that an outcome tells
 record IsRounded (facts : Facts) (i : Instance) (o : Outcome) : Type 0 where
@@ -35,8 +35,8 @@ rounded facts i (CutOff w) h = absurd h
 rounded facts i (Unsound f r) h = absurd h
 rounded facts i (Clashes j k) h = absurd h
 rounded facts i (Extremal n) h = absurd h
-rounded facts i (Ended told j c n s) h = absurd h
-rounded facts i (Resampled told j l s w b) h = absurd h
+rounded facts i (Ended told j c n s a) h = absurd h
+rounded facts i (Resampled told j l s a) h = absurd h
 rounded facts i (Rounded told j c n s v) h =
     record {
       cursors = c;
@@ -74,5 +74,5 @@ one_ending origin f o p h h' =
 -- a formula that is sampled by rounds has one outcome
 pub one_rounds : (origin : Origin) (f : Cnf) → IsOne (ComesOfRounds origin f)
 one_rounds origin f =
-    one_sampling (FormulaFacts f.variables) origin (pair_weights f.variables) (EndsRounds origin f)
-    (one_ending origin f)
+    same_sampling (FormulaFacts f.variables) origin (pair_weights f.variables) (EndsRounds origin f)
+    (EndsRounds origin f) (one_ending origin f)

@@ -1,5 +1,5 @@
 -- An output with status 0 or 1 is that of an end, and shows the sample, or the events that still occur.
-use Rattle.std.proofs.Common.{◌≡◌, ℕ, ◌-◌, ◌*◌, ◌≤◌, List, [], ◌∷◌, ◌++◌, length, refl, sym, ap, subst, ◌∙◌, arith, append_assoc}
+use Rattle.std.proofs.Common.{◌≡◌, ℕ, ◌-◌, ◌*◌, ◌≤◌, List, [], ◌∷◌, length, refl, sym, ap, subst, ◌∙◌, arith, append-nil}
 use Rattle.std.proofs.lemmas.Nat.{mul-le}
 use Rattle.std.proofs.lemmas.List.{length-replicate}
 use Rattle.std.proofs.lemmas.List.FromFn.{length-map-range_with_len}
@@ -13,8 +13,7 @@ use Rattle.pop_edge.specs.declared.refusal.ReadRefusal.TheVariants.{Malformed, C
 use Rattle.pop_stacks.specs.declared.stack_fault.StackFault.{StackFault}
 use Rattle.pop_stacks.specs.declared.stack_fault.StackFault.TheVariants.{RowCount, EmptyRow, ValueTooLarge, WeightSum, OutOfMemory as NoMemory}
 use Rattle.pop_stacks.specs.Faults.{IsSound}
-use Rattle.pop_log.specs.declared.names.Names.TheVariants.{Plain}
-use Rattle.pop_log.specs.LogTexts.{log_text}
+use Rattle.pop_log.specs.Layers.{Placed}
 use Rattle.pop_words.specs.declared.command.Command.{Command}
 use Rattle.pop_words.specs.declared.command.Command.TheVariants.{Formula, Orient, Tree, Resample, Check, Make, Rounds}
 use Rattle.pop_words.specs.declared.job.Job.{Job}
@@ -33,7 +32,7 @@ use Rattle.graph_read.proofs.GridPaths.{grid_connected}
 use Rattle.cycle_popping.specs.Trees.{weights_at, weights_of_tree}
 use Rattle.pop_print.specs.declared.facts.Facts.{Facts}
 use Rattle.pop_print.specs.declared.facts.Facts.TheVariants.{Formula as FormulaFacts, Orient as OrientFacts, Tree as TreeFacts, Made as MadeFacts}
-use Rattle.pop_print.specs.Output.{findings, used_line, pops_line, end_text}
+use Rattle.pop_print.specs.Output.{pops_line, end_text}
 use Rattle.pop_print.specs.Rounds.{rounds_text}
 use Rattle.printed_samples.specs.Laws.{ShowsFormula, ShowsOriented}
 use Rattle.printed_samples.proofs.ShownEnds.{pair_bits, orientation_shown}
@@ -41,9 +40,11 @@ use Rattle.printed_trees.specs.Laws.{IsTreeState, ShowsTreeEnd, ShowsMadeEnd}
 use Rattle.printed_trees.proofs.SoundSlots.{sound_slots}
 use Rattle.printed_trees.proofs.ShownTrees.{tree_shown, made_shown}
 use Rattle.popsample.specs.Refusals.{reading_status, stacks_status}
-use Rattle.popsample.specs.Witnesses.{Witness, witness_text}
+use Rattle.popsample.specs.Names.{names_for}
+use Rattle.popsample.specs.Witnesses.{Witness}
 use Rattle.popsample.specs.Witnesses.Witness.{Unasked, Missing, Shown}
-use Rattle.popsample.specs.Outcomes.{Outcome, status_of, text_of, end_status, resampled_text, resampled_status}
+use Rattle.popsample.specs.Tellings.{Telling, records_of, telling_text}
+use Rattle.popsample.specs.Outcomes.{Outcome, status_of, text_of, end_status, run_text, resampled_text, resampled_status}
 use Rattle.popsample.specs.Outcomes.Outcome.{Usage, Unread, Isolated, NoRoot, CutOff, Unsound, Clashes, Extremal, Ended, Resampled, Rounded}
 use Rattle.popsample.specs.Sampling.{pair_weights, instance_of}
 use Rattle.popsample.specs.Trees.{tree_instance}
@@ -51,6 +52,7 @@ use Rattle.popsample.specs.Answers.{ComesOfCommand, IsOutcome, origin_for}
 use Rattle.popsample.specs.Shown.{stacks_by, ShowsSample, ShowsExhausted, ShowsEnd, SampleShown, ExhaustedShown}
 use Rattle.popsample.proofs.ShownFormulas.{log_size, formula_end, formula_shows}
 use Rattle.popsample.proofs.ShownRounds.{rounds_show}
+use Rattle.popsample.proofs.ShownBehind.{end_more}
 use Rattle.popsample.proofs.Finished.{none_stuck}
 
 -- no refusal has a status below 2
@@ -107,20 +109,19 @@ tree_shows job text (e ∷ stuck) out h = h
 made_shows : (job : Job) (text : List ℕ) (stuck : List Event) (out : List ℕ)
     → ShowsMadeEnd job.size (stacks_by job (weights_of_tree (grid_of job.size) 1)) stuck out
     → ShowsEnd Make job text stuck out
-made_shows job text [] out h = h
-made_shows job text (e ∷ stuck) out h = h
+made_shows job text [] out h = (out, [], sym (append-nil out), h)
+made_shows job text (e ∷ stuck) out h = (out, [], sym (append-nil out), h)
 
--- what the end of a command's run shows
-ended_shows : (command : Command) (words : List (List ℕ)) (job : Job) (ws : List Watcher) (text : List ℕ)
-    (facts : Facts)
-    (i : Instance) (c : List ℕ) (pops : ℕ) (stuck : List Event) → Asks words job → job.command ≡ command
-    → ComesOfCommand command job ws text (Ended facts i c pops stuck)
+-- what the text of the end of a command's run shows
+end_shows : (command : Command) (words : List (List ℕ)) (job : Job) (ws : List Watcher) (text : List ℕ)
+    (facts : Facts) (i : Instance) (c : List ℕ) (pops : ℕ) (stuck : List Event) (a : Telling) → Asks words job
+    → job.command ≡ command → ComesOfCommand command job ws text (Ended facts i c pops stuck a)
     → ShowsEnd command job text stuck (end_text facts i c pops stuck)
-ended_shows Formula words job ws text facts i c pops stuck asks command h =
+end_shows Formula words job ws text facts i c pops stuck a asks command h =
     let f : Cnf = h.formula in
     let is = h.spelled in
     let came = h.comes in
-    let (told, same, end) = came.1.end in
+    let (told, same, end, first) = came.1.end in
     let j : Instance = instance_of (origin_for job) f.variables came.1.events in
     let out : List ℕ = end_text (FormulaFacts f.variables) j c pops stuck in
     let own : ShowsFormula f j.stacks stuck out =
@@ -131,11 +132,11 @@ ended_shows Formula words job ws text facts i c pops stuck asks command h =
     subst (λ t. ShowsEnd Formula job text stuck (end_text t i c pops stuck)) (sym told)
     (subst (λ k. ShowsEnd Formula job text stuck (end_text (FormulaFacts f.variables) k c pops stuck)) (sym same)
     (formula_shows job text stuck out shown).0)
-ended_shows Orient words job ws text facts i c pops stuck asks command h =
+end_shows Orient words job ws text facts i c pops stuck a asks command h =
     let g : GraphOf = h.graph in
     let came = h.comes in
     let ends = came.1.1 in
-    let (told, same, end) = ends.end in
+    let (told, same, end, first) = ends.end in
     let j : Instance = instance_of (origin_for job) (length g.edges) ends.events in
     let out : List ℕ = end_text (OrientFacts g) j c pops stuck in
     let own : ShowsOriented g j.stacks stuck out =
@@ -148,10 +149,10 @@ ended_shows Orient words job ws text facts i c pops stuck asks command h =
     subst (λ t. ShowsEnd Orient job text stuck (end_text t i c pops stuck)) (sym told)
     (subst (λ k. ShowsEnd Orient job text stuck (end_text (OrientFacts g) k c pops stuck)) (sym same)
     (oriented_shows job text stuck out shown))
-ended_shows Tree words job ws text facts i c pops stuck asks command h =
+end_shows Tree words job ws text facts i c pops stuck a asks command h =
     let g : GraphOf = h.graph in
     let came = h.comes in
-    let (told, same, end) = came.2.1 in
+    let (told, same, end, first) = came.2.1 in
     let j : Instance = tree_instance (origin_for job) g job.root in
     let out : List ℕ = end_text (TreeFacts g job.root) j c pops stuck in
     let graph : IsGraph g = subst IsGraph (sym h.spelled.1) (sound text h.spelled.0).graph in
@@ -168,11 +169,11 @@ ended_shows Tree words job ws text facts i c pops stuck asks command h =
     subst (λ t. ShowsEnd Tree job text stuck (end_text t i c pops stuck)) (sym told)
     (subst (λ k. ShowsEnd Tree job text stuck (end_text (TreeFacts g job.root) k c pops stuck)) (sym same)
     (tree_shows job text stuck out shown))
-ended_shows Resample words job ws text facts i c pops stuck asks command h = absurd h.comes.1.history
-ended_shows Check words job ws text facts i c pops stuck asks command h = absurd h.comes
-ended_shows Rounds words job ws text facts i c pops stuck asks command h = absurd h.comes.1.end
-ended_shows Make words job ws text facts i c pops stuck asks command h =
-    let (told, same, end) = h.1 in
+end_shows Resample words job ws text facts i c pops stuck a asks command h = absurd h.comes.1.history
+end_shows Check words job ws text facts i c pops stuck a asks command h = absurd h.comes
+end_shows Rounds words job ws text facts i c pops stuck a asks command h = absurd h.comes.1.end
+end_shows Make words job ws text facts i c pops stuck a asks command h =
+    let (told, same, end, first) = h.1 in
     let range = asked_size words job asks in
     let side : IsSide job.size = record { some = range.1 command; few = range.0 } in
     let g : GraphOf = grid_of job.size in
@@ -191,44 +192,48 @@ ended_shows Make words job ws text facts i c pops stuck asks command h =
     grid_root : (side : ℕ) → IsSide side → IsVertex (side * side) 1
     grid_root side is = record { first = omega arith; last = mul-le 1 1 side side is.some is.some }
 
+-- and the whole text, whatever is told behind it
+ended_shows : (command : Command) (words : List (List ℕ)) (job : Job) (ws : List Watcher) (text : List ℕ)
+    (facts : Facts) (i : Instance) (c : List ℕ) (pops : ℕ) (stuck : List Event) (a : Telling) → Asks words job
+    → job.command ≡ command → ComesOfCommand command job ws text (Ended facts i c pops stuck a)
+    → ShowsEnd command job text stuck (run_text facts i c pops stuck a)
+ended_shows command words job ws text facts i c pops stuck a asks is h =
+    end_more command job text stuck (end_text facts i c pops stuck) (telling_text (names_for facts) i a)
+    (end_shows command words job ws text facts i c pops stuck a asks is h)
+
 -- what the end of a resampling shows, whatever is told behind it
 resampled_shows : (command : Command) (job : Job) (ws : List Watcher) (text : List ℕ) (facts : Facts) (i : Instance)
-    (log : List LogRecord) (stuck : List Event) (w : Witness) (b : List ℕ)
-    → ComesOfCommand command job ws text (Resampled facts i log stuck w b)
-    → ShowsEnd command job text stuck (resampled_text facts i log stuck w b)
-resampled_shows Formula job ws text facts i log stuck w b h = absurd h.comes.1.end
-resampled_shows Orient job ws text facts i log stuck w b h = absurd h.comes.1.1.end
-resampled_shows Tree job ws text facts i log stuck w b h = absurd h.comes.2.1
-resampled_shows Resample job ws text facts i log stuck w b h =
+    (placed : List Placed) (stuck : List Event) (a : Telling)
+    → ComesOfCommand command job ws text (Resampled facts i placed stuck a)
+    → ShowsEnd command job text stuck (resampled_text facts i placed stuck a)
+resampled_shows Formula job ws text facts i placed stuck a h = absurd h.comes.1.end
+resampled_shows Orient job ws text facts i placed stuck a h = absurd h.comes.1.1.end
+resampled_shows Tree job ws text facts i placed stuck a h = absurd h.comes.2.1
+resampled_shows Resample job ws text facts i placed stuck a h =
     let f : Cnf = h.formula in
     let is = h.spelled in
     let came = h.comes in
-    let (told, same, leads, witness, reports) = came.1.history in
+    let (told, same, leads, layered, of) = came.1.history in
     let j : Instance = instance_of (origin_for job) f.variables came.1.events in
+    let log : List LogRecord = records_of placed in
+    let n : ℕ = length placed in
     let c : List ℕ = replay (start_of j) log in
-    let found : List ℕ = findings (FormulaFacts f.variables) j c stuck ++ used_line c in
-    let pops : List ℕ = pops_line (length log) in
-    let front : List ℕ = found ++ pops in
-    let told_log : List ℕ = log_text Plain j log in
-    let shown_witness : List ℕ = witness_text Plain j.family w in
-    let out : List ℕ = ((front ++ told_log) ++ shown_witness) ++ b in
-    let told_more : List ℕ = told_log ++ (shown_witness ++ b) in
-    let rest : found ++ (pops ++ told_more) ≡ out =
-    sym (append_assoc (front ++ told_log) shown_witness b ∙ append_assoc front told_log (shown_witness ++ b)
-    ∙ append_assoc found pops told_more) in
-    let whole : ShowsFormula f j.stacks stuck (found ++ (pops ++ told_more)) =
-    formula_end text f (origin_for job) came.1.events c stuck (pops ++ told_more) is.0 is.1 is.2
-    came.1.of_formula came.0 (log_size j log) leads.stuck_list in
-    let own : ShowsFormula f j.stacks stuck out = subst (ShowsFormula f j.stacks stuck) rest whole in
+    let out : List ℕ = end_text (FormulaFacts f.variables) j c n stuck in
+    let own : ShowsFormula f j.stacks stuck out =
+    formula_end text f (origin_for job) came.1.events c stuck (pops_line n) is.0 is.1 is.2 came.1.of_formula came.0
+    (log_size j log) leads.stuck_list in
     let shown : ShowsFormula (cnf_of text) (stacks_by job (pair_weights (cnf_of text).variables)) stuck out =
     subst (λ (g : Cnf). ShowsFormula g (stacks_by job (pair_weights g.variables)) stuck out) is.1 own in
-    subst (λ t. ShowsEnd Resample job text stuck (resampled_text t i log stuck w b)) (sym told)
-    (subst (λ k. ShowsEnd Resample job text stuck (resampled_text (FormulaFacts f.variables) k log stuck w b))
-    (sym same)
-    (formula_shows job text stuck out shown).1)
-resampled_shows Rounds job ws text facts i log stuck w b h = absurd h.comes.1.end
-resampled_shows Check job ws text facts i log stuck w b h = absurd h.comes
-resampled_shows Make job ws text facts i log stuck w b h = absurd h.1
+    let end : ShowsEnd Resample job text stuck (end_text facts i (replay (start_of i) log) n stuck) =
+    subst (λ t. ShowsEnd Resample job text stuck (end_text t i (replay (start_of i) log) n stuck)) (sym told)
+    (subst (λ (k : Instance). ShowsEnd Resample job text stuck
+    (end_text (FormulaFacts f.variables) k (replay (start_of k) log) n stuck)) (sym same)
+    (formula_shows job text stuck out shown).1) in
+    end_more Resample job text stuck (end_text facts i (replay (start_of i) log) n stuck)
+    (telling_text (names_for facts) i a) end
+resampled_shows Rounds job ws text facts i placed stuck a h = absurd h.comes.1.end
+resampled_shows Check job ws text facts i placed stuck a h = absurd h.comes
+resampled_shows Make job ws text facts i placed stuck a h = absurd h.1
 
 -- an end with status 0 has no event
 as_sample : (command : Command) (job : Job) (text : List ℕ) (stuck : List Event) (out : List ℕ) → end_status stuck ≡ 0
@@ -264,18 +269,18 @@ sample_of : (words : List (List ℕ)) (ws : List Watcher) (text : List ℕ) (o :
     → status_of o ≡ 0 → (job : Job) × Asks words job × ShowsSample job.command job text (text_of o)
 sample_of words ws text (Usage p) h is = absurd (omega (arith, is))
 sample_of words ws text (Unread r) h is = absurd (omega (arith, is, refused r))
-sample_of words ws text (Ended facts i c pops stuck) h is = (
+sample_of words ws text (Ended facts i c pops stuck a) h is = (
   h.job,
   h.asks,
-  as_sample h.job.command h.job text stuck (end_text facts i c pops stuck) is
-      (ended_shows h.job.command words h.job ws text facts i c pops stuck h.asks refl h.comes),
+  as_sample h.job.command h.job text stuck (run_text facts i c pops stuck a) is
+      (ended_shows h.job.command words h.job ws text facts i c pops stuck a h.asks refl h.comes),
 )
-sample_of words ws text (Resampled facts i log stuck w b) h is = (
+sample_of words ws text (Resampled facts i placed stuck a) h is = (
   h.job,
   h.asks,
-  as_sample h.job.command h.job text stuck (resampled_text facts i log stuck w b)
-      (none_stuck stuck w is)
-      (resampled_shows h.job.command h.job ws text facts i log stuck w b h.comes),
+  as_sample h.job.command h.job text stuck (resampled_text facts i placed stuck a)
+      (none_stuck stuck a.witness is)
+      (resampled_shows h.job.command h.job ws text facts i placed stuck a h.comes),
 )
 sample_of words ws text (Rounded facts i c rounds stuck short) h is = (
   h.job,
@@ -295,18 +300,18 @@ exhausted_of : (words : List (List ℕ)) (ws : List Watcher) (text : List ℕ) (
     → status_of o ≡ 1 → (job : Job) × Asks words job × ShowsExhausted job.command job text (text_of o)
 exhausted_of words ws text (Usage p) h is = absurd (omega (arith, is))
 exhausted_of words ws text (Unread r) h is = absurd (omega (arith, is, refused r))
-exhausted_of words ws text (Ended facts i c pops stuck) h is = (
+exhausted_of words ws text (Ended facts i c pops stuck a) h is = (
   h.job,
   h.asks,
-  as_exhausted h.job.command h.job text stuck (end_text facts i c pops stuck) is
-      (ended_shows h.job.command words h.job ws text facts i c pops stuck h.asks refl h.comes),
+  as_exhausted h.job.command h.job text stuck (run_text facts i c pops stuck a) is
+      (ended_shows h.job.command words h.job ws text facts i c pops stuck a h.asks refl h.comes),
 )
-exhausted_of words ws text (Resampled facts i log stuck w b) h is = (
+exhausted_of words ws text (Resampled facts i placed stuck a) h is = (
   h.job,
   h.asks,
-  as_exhausted h.job.command h.job text stuck (resampled_text facts i log stuck w b)
-      (some_stuck stuck w is)
-      (resampled_shows h.job.command h.job ws text facts i log stuck w b h.comes),
+  as_exhausted h.job.command h.job text stuck (resampled_text facts i placed stuck a)
+      (some_stuck stuck a.witness is)
+      (resampled_shows h.job.command h.job ws text facts i placed stuck a h.comes),
 )
 exhausted_of words ws text (Rounded facts i c rounds stuck short) h is = (
   h.job,

@@ -71,8 +71,8 @@ told_status Comes told (CutOff w) h = known_status 6 (omega arith) (omega arith)
 told_status Comes told (Unsound t f) h = told.fault t f h
 told_status Comes told (Clashes i j) h = known_status 5 (omega arith) (omega arith)
 told_status Comes told (Extremal n) h = record { low = omega arith; no_usage = λ h'. absurd (omega arith) }
-told_status Comes told (Ended t i c n s) h = end_status_is s
-told_status Comes told (Resampled t i l s w b) h = resampled_status_is s w
+told_status Comes told (Ended t i c n s a) h = end_status_is s
+told_status Comes told (Resampled t i l s a) h = resampled_status_is s a.witness
 told_status Comes told (Rounded t i c n s v) h = end_status_is s
 
 -- an answer that tells what comes so, or a refusal that does, is one to a text
@@ -113,10 +113,10 @@ checking_status f r comes =
     r comes
 
 -- of a graph that is oriented
-pub orienting_status : (origin : Origin) (g : GraphOf) (r : Result Answer Refusal)
-    → IsResultOf (ComesOfOrienting origin g) r → IsTextResult r
-orienting_status origin g r comes =
-    text_result (ComesOfOrienting origin g)
+pub orienting_status : (origin : Origin) (asked : Asked) (ws : List Watcher) (g : GraphOf)
+    (r : Result Answer Refusal) → IsResultOf (ComesOfOrienting origin asked ws g) r → IsTextResult r
+orienting_status origin asked ws g r comes =
+    text_result (ComesOfOrienting origin asked ws g)
     (record {
       no_usage = λ place h. h.1.1.end;
       no_refusal = λ refusal h. h.1.1.end;
@@ -125,10 +125,10 @@ orienting_status origin g r comes =
     r comes
 
 -- of a graph of which a tree is asked
-pub tree_status : (origin : Origin) (root : ℕ) (g : GraphOf) (r : Result Answer Refusal)
-    → IsResultOf (ComesOfTree origin root g) r → IsTextResult r
-tree_status origin root g r comes =
-    text_result (ComesOfTree origin root g)
+pub tree_status : (origin : Origin) (asked : Asked) (ws : List Watcher) (root : ℕ) (g : GraphOf)
+    (r : Result Answer Refusal) → IsResultOf (ComesOfTree origin asked ws root g) r → IsTextResult r
+tree_status origin asked ws root g r comes =
+    text_result (ComesOfTree origin asked ws root g)
     (record {
       no_usage = λ place h. h.2.1;
       no_refusal = λ refusal h. h.2.1;
@@ -137,10 +137,10 @@ tree_status origin root g r comes =
     r comes
 
 -- of a grid of which a tree is asked
-pub grid_status : (origin : Origin) (side : ℕ) (r : Result Answer Refusal)
-    → IsResultOf (ComesOfGrid origin side) r → IsTextResult r
-grid_status origin side r comes =
-    text_result (ComesOfGrid origin side)
+pub grid_status : (origin : Origin) (asked : Asked) (ws : List Watcher) (side : ℕ) (r : Result Answer Refusal)
+    → IsResultOf (ComesOfGrid origin asked ws side) r → IsTextResult r
+grid_status origin asked ws side r comes =
+    text_result (ComesOfGrid origin asked ws side)
     (record {
       no_usage = λ place h. h.1;
       no_refusal = λ refusal h. h.1;

@@ -1,22 +1,40 @@
--- A run as it is told: its end alone, or with its log.
-use Rattle.std.proofs.Common.{◌≡◌, ℕ, ◌++◌, Bool, true, false, if◌then◌else◌, List, Option, Some, length, refl, sym, ap, ap₂, subst, ◌∙◌, append_assoc}
+-- A run as it is told: its end, and behind it what is asked for of its log, by the layered log.
+use Rattle.std.proofs.Common.{◌≡◌, ℕ, ◌++◌, Bool, true, false, ◌&&◌, ◌||◌, if◌then◌else◌, List, [], Option, None, Some, is_some, Result, Ok, Err, IfOk, length, zip, refl, sym, ap, ap₂, subst, ◌∙◌, append_assoc, true≢false}
+use Rattle.std.proofs.lemmas.Bool.{or_parts}
+use Rattle.std.proofs.lemmas.List.{length-map}
+use Rattle.std.proofs.lemmas.List.Sorted.{length_permutation}
 use Rattle.pop_model.specs.Families.{Event}
-use Rattle.pop_model.specs.Instances.{Instance}
+use Rattle.pop_model.specs.Instances.{Instance, IsInstance}
+use Rattle.pop_model.specs.Extremal.{IsExtremal}
 use Rattle.pop_model.specs.Logs.{LogRecord, IsLegal, replay}
-use Rattle.pop_model.specs.Runs.{IsEnd, IsStuckList, start_of}
+use Rattle.pop_model.specs.Runs.{IsEnd, IsStuckList, IsFirstEnd, start_of}
+use Rattle.confluence_core.specs.Laws.{RunsToEnd}
 use Rattle.confluence_core.specs.Runs.{IsRun}
 use Rattle.pop_log.specs.declared.names.Names.{Names}
-use Rattle.pop_log.specs.LogTexts.{log_text}
+use Rattle.pop_log.specs.Layers.{Placed}
+use Rattle.pop_log.specs.Layered.{AreSorted, IsLayered, AreInLayers}
+use Rattle.pop_log.specs.LayeredTexts.{IsLayeredText}
+use Rattle.pop_log.proofs.Reordering.IsReordered.{same as same_order}
+use Rattle.pop_log.proofs.UnitEvents.{HaveCubes, family_cubes}
+use Rattle.pop_log.proofs.LayeredLemmas.{zip_records}
+use Rattle.pop_log.proofs.LayeredLaws.{layered_is_legal, one_sorting, placed_in_layers}
+use Rattle.pop_words.specs.declared.reports.Reports.{Reports}
 use Rattle.pop_watch.specs.Telling.{Watcher, log_told}
 use Rattle.pop_print.specs.declared.facts.Facts.{Facts}
 use Rattle.pop_print.specs.Output.{end_text}
 use Rattle.popsample.specs.declared.asked.Asked.{Asked}
+use Rattle.popsample.specs.declared.witness.LogText.{LogText}
 use Rattle.popsample.specs.Names.{names_for}
-use Rattle.popsample.specs.Reports.{reports_text}
+use Rattle.popsample.specs.Reports.{reports_text, report_if, asks_report}
 use Rattle.popsample.specs.Witnesses.{IsWitness, witness_text}
+use Rattle.popsample.specs.Witnesses.Witness.{Unasked}
+use Rattle.popsample.specs.Tellings.{records_of, IsToldOf, layered_text, telling_text, LeadsToEnd, IsShownText, TellsRecords, TellsLog, TellsRun, tells_watchers, looks_at_records, asks_for_log}
 use Rattle.popsample.specs.Outcomes.{AnswersBy, end_status}
-use Rattle.popsample.specs.Outcomes.Outcome.{Resampled}
-use Rattle.popsample.specs.Resamplings.{LeadsToEnd, IsHistoryOf, TellsLog}
+use Rattle.popsample.specs.Outcomes.Outcome.{Ended, Resampled}
+use Rattle.popsample.specs.Sampling.{IsToldOfFirst, IsEndOf}
+use Rattle.popsample.specs.Resamplings.{IsHistoryOf}
+use Rattle.popsample.proofs.LayeredOrders.{layered_order}
+use Rattle.popsample.proofs.OneTelling.{told_of_first}
 
 -- a log that leads to these cursors in so many pops, and to an end with this stuck list
 record IsLogTo (i : Instance) (log : List LogRecord) (cursors : List ℕ) (pops : ℕ) (stuck : List Event) : Type 0 where
@@ -50,36 +68,229 @@ kept_log i true cursors pops stuck kept log is run =
     log_to i run.log log cursors pops stuck same run.legal run.cursors_are run.pops_are run.end run.stuck_list
 kept_log i false cursors pops stuck kept log is run = let kept_is = run.kept_is in absurd (cc)
 
--- the parts of a text behind one another
-regroup : (e l w r : List ℕ) → e ++ ((l ++ w) ++ r) ≡ ((e ++ l) ++ w) ++ r
-regroup e l w r =
-    ap (λ x. e ++ x) (append_assoc l w r) ∙ sym (append_assoc e l (w ++ r)) ∙ sym (append_assoc (e ++ l) w r)
+-- where no witness is asked for, none is told
+unasked : (w : Option (ℕ × ℕ)) → is_some w ≡ false → (names : Names) (cursors : List ℕ) (log : List LogRecord)
+    → IsWitness names w cursors log Unasked
+unasked None none names cursors log = tt
+unasked (Some asked) none names cursors log = absurd (true≢false none)
 
--- the text of an end, and behind it what is told of its log
-pub told_history : (asked : Asked) (ws : List Watcher) (facts : Facts) (i : Instance) (names : Names) (keeps : Bool)
-    (cursors : List ℕ) (pops : ℕ) (stuck : List Event) (kept : Option (List LogRecord)) (log : List LogRecord)
-    (missing : Bool) (status : ℕ) (text told out : List ℕ) → kept ≡ Some log
-    → IsRun i (start_of i) keeps cursors pops stuck kept → names ≡ names_for facts
-    → TellsLog asked ws names i cursors log missing told → status ≡ (if missing then 6 else end_status stuck)
-    → text ≡ end_text facts i cursors pops stuck → out ≡ text ++ told
-    → AnswersBy (IsHistoryOf asked ws facts i) status out
-told_history asked ws facts i names keeps cursors pops stuck kept log missing status text told out is run names_are t
-    status_is text_is out_is =
+-- where no report is asked for, there is none
+unreported : (asked : Reports) → asks_report asked ≡ false → (ws : List Watcher) → reports_text asked ws ≡ []
+unreported asked none ws =
+    let parts = or_parts asked.totals (asked.heights || asked.layers) none in
+    let others = or_parts asked.heights asked.layers parts.1 in
+    ap (λ a. (report_if a 1 ws ++ report_if asked.heights 2 ws) ++ report_if asked.layers 3 ws) parts.0
+    ∙ ap₂ (λ a b. report_if a 2 ws ++ report_if b 3 ws) others.0 others.1
+
+-- and so it is where the watchers aren't told
+pub untold : (asked : Asked) → tells_watchers asked ≡ false → (ws : List Watcher) → reports_text asked.reports ws ≡ []
+untold asked none ws = unreported asked.reports (or_parts asked.free (asks_report asked.reports) none).1 ws
+
+-- where its records aren't looked at, nothing is told of a layered log behind its text
+pub nothing_of_records : (asked : Asked) → looks_at_records asked ≡ false → (ws : List Watcher) (names : Names)
+    (i : Instance) (log : List LogRecord) (missing : Bool) (text : List ℕ) → missing ≡ false → text ≡ []
+    → TellsRecords asked ws names i log missing text
+nothing_of_records asked none ws names i log missing text there empty =
+    let parts = or_parts (is_some asked.witness) (tells_watchers asked) none in
+    record {
+      witness = Unasked;
+      is = unasked asked.witness parts.0 names (replay (start_of i) log) log;
+      missing_is = there;
+      text_is = empty ∙ sym (untold asked parts.1 (log_told log ws));
+    }
+
+-- so the layered log of any log tells nothing then
+pub nothing_in_layers : (asked : Asked) → looks_at_records asked ≡ false → (ws : List Watcher) (names : Names)
+    (i : Instance) (log : List LogRecord) (missing : Bool) (text : List ℕ) → missing ≡ false → text ≡ []
+    → (layered : List LogRecord) × IsLayered log layered × TellsRecords asked ws names i layered missing text
+nothing_in_layers asked none ws names i log missing text there empty =
+    let order = layered_order log in
+    let layered : List LogRecord = records_of order.0 in (
+      layered,
+      record { placed = order.0; sorted = order.1; records = refl },
+      nothing_of_records asked none ws names i layered missing text there empty,
+    )
+
+-- the text of a log that isn't printed
+pub unprinted : (names : Names) (i : Instance) (log : List LogRecord) (printed : Bool) (text : List ℕ)
+    → printed ≡ false → text ≡ [] → IsShownText names i log printed text
+unprinted names i log printed text hidden empty =
+    let order = layered_order log in
+    record {
+      placed = order.0;
+      sorted = order.1;
+      text_is = empty ∙ ap (λ b. layered_text names i (if b then Some (order.0) else None)) (sym hidden);
+    }
+
+-- and of one that is
+pub printed_result : {X E : Type 0} (items : X → List ℕ) (names : Names) (i : Instance) (log : List LogRecord)
+    (printed : Bool) (r : Result X E) → printed ≡ true → IfOk r (λ b. IsLayeredText names i log (items b))
+    → IfOk r (λ b. IsShownText names i log printed (items b))
+printed_result items names i log printed (Ok b) shown h = record {
+  placed = h.placed;
+  sorted = h.sorted;
+  text_is = h.text_is ∙ ap (λ c. layered_text names i (if c then Some (h.placed) else None)) (sym shown);
+}
+printed_result items names i log printed (Err e) shown h = tt
+
+-- what is told of a log by its text and by what is told of its layered log
+pub told_log : (asked : Asked) (ws : List Watcher) (names : Names) (i : Instance) → IsInstance i
+    → (log layered : List LogRecord) (missing : Bool) (shown rest text : List ℕ) → IsLegal i (start_of i) log
+    → IsShownText names i log asked.log shown → IsLayered log layered
+    → TellsRecords asked ws names i layered missing rest → text ≡ shown ++ rest
+    → TellsLog asked ws names i log missing text
+told_log asked ws names i is log layered missing shown rest text legal by of t text_is =
+    let one : by.placed ≡ of.placed =
+    one_sorting i (family_cubes i.family is.family) (start_of i) log log legal legal (same_order log) by.placed of.placed
+    by.sorted of.sorted in
+    let records : layered ≡ records_of of.placed = of.records in
+    let kept : Option (List Placed) = if asked.log then Some (of.placed) else None in
+    let reports : List ℕ = reports_text asked.reports (log_told (records_of of.placed) ws) in
+    let witness : List ℕ = witness_text names i.family t.witness in
+    let front : shown ≡ layered_text names i kept =
+    by.text_is ∙ ap (λ (l : List Placed). layered_text names i (if asked.log then Some l else None)) one in
+    let back : rest ≡ witness ++ reports =
+    t.text_is ∙ ap (λ l. witness ++ reports_text asked.reports (log_told l ws)) records in
+    record {
+      placed = of.placed;
+      sorted = of.sorted;
+      telling = record { log = kept; witness = t.witness; reports = reports };
+      is = record {
+        log_is = refl;
+        witness_is = subst (λ l. IsWitness names asked.witness (replay (start_of i) l) l t.witness) records t.is;
+        reports_are = refl;
+      };
+      missing_is = t.missing_is;
+      text_is = text_is ∙ ap₂ (λ (a b : List ℕ). a ++ b) front back
+          ∙ sym (append_assoc (layered_text names i kept) witness reports);
+    }
+
+-- what is told of the log that a run kept
+pub told_kept : (asked : Asked) (ws : List Watcher) (names : Names) (i : Instance) (keeps : Bool) (cursors : List ℕ)
+    (pops : ℕ) (stuck : List Event) (kept : Option (List LogRecord)) (log : List LogRecord) (missing : Bool)
+    (text : List ℕ) → kept ≡ Some log → IsRun i (start_of i) keeps cursors pops stuck kept
+    → TellsLog asked ws names i log missing text → TellsRun asked ws names i cursors pops stuck missing text
+told_kept asked ws names i keeps cursors pops stuck kept log missing text is run told =
     let to = kept_log i keeps cursors pops stuck kept log is run in
-    let reports : List ℕ = reports_text asked.reports (log_told log ws) in
-    let witness : IsWitness (names_for facts) asked.witness (replay (start_of i) log) log t.witness =
-    subst (λ c. IsWitness (names_for facts) asked.witness c log t.witness) to.there
-    (subst (λ n. IsWitness n asked.witness cursors log t.witness) names_are t.is) in
-    let end : text ≡ end_text facts i (replay (start_of i) log) (length log) stuck =
-    text_is ∙ ap₂ (λ c n. end_text facts i c n stuck) to.there to.size in
-    let behind : told ≡ (log_text (names_for facts) i log ++ witness_text (names_for facts) i.family t.witness) ++ reports =
-    t.text_is ∙ ap (λ n. (log_text n i log ++ witness_text n i.family t.witness) ++ reports) names_are in (
-      Resampled facts i log stuck t.witness reports,
-      (refl, refl, to.leads, witness, refl),
+    record { log = log; leads = to.leads; cursors_are = to.there; pops_are = to.size; told = told }
+
+-- and of one that it didn't keep, since nothing of it is asked for
+pub told_unkept : (asked : Asked) (ws : List Watcher) (names : Names) (i : Instance) (keeps : Bool) (cursors : List ℕ)
+    (pops : ℕ) (stuck : List Event) (kept : Option (List LogRecord)) (missing : Bool) (text : List ℕ)
+    → kept ≡ None → keeps ≡ asks_for_log asked → IsInstance i → IsRun i (start_of i) keeps cursors pops stuck kept
+    → missing ≡ false → text ≡ [] → TellsRun asked ws names i cursors pops stuck missing text
+told_unkept asked ws names i true cursors pops stuck kept missing text is asks instance run there empty =
+    let kept_is = run.kept_is in absurd (cc)
+told_unkept asked ws names i false cursors pops stuck kept missing text is asks instance run there empty =
+    let log : List LogRecord = run.log in
+    let parts = or_parts asked.log (looks_at_records asked) (sym asks) in
+    let of = nothing_in_layers asked parts.1 ws names i log missing text there empty in
+    let to = log_to i log log cursors pops stuck refl run.legal run.cursors_are run.pops_are run.end run.stuck_list in
+    record {
+      log = log;
+      leads = to.leads;
+      cursors_are = to.there;
+      pops_are = to.size;
+      told = told_log asked ws names i instance log of.0 missing [] text text run.legal
+          (unprinted names i log asked.log [] parts.0 refl) of.1 of.2 refl;
+    }
+
+-- the same of results
+pub kept_result : {E : Type 0} (asked : Asked) (ws : List Watcher) (names : Names) (i : Instance) (keeps : Bool)
+    (cursors : List ℕ) (pops : ℕ) (stuck : List Event) (kept : Option (List LogRecord)) (log : List LogRecord)
+    (r : Result LogText E) → kept ≡ Some log → IsRun i (start_of i) keeps cursors pops stuck kept
+    → IfOk r (λ t. TellsLog asked ws names i log t.missing t.bytes.items)
+    → IfOk r (λ t. TellsRun asked ws names i cursors pops stuck t.missing t.bytes.items)
+kept_result asked ws names i keeps cursors pops stuck kept log (Ok t) is run told =
+    told_kept asked ws names i keeps cursors pops stuck kept log t.missing t.bytes.items is run told
+kept_result asked ws names i keeps cursors pops stuck kept log (Err e) is run told = tt
+
+pub unkept_result : {E : Type 0} (asked : Asked) (ws : List Watcher) (names : Names) (i : Instance) (keeps : Bool)
+    (cursors : List ℕ) (pops : ℕ) (stuck : List Event) (kept : Option (List LogRecord)) (r : Result LogText E)
+    → kept ≡ None → keeps ≡ asks_for_log asked → IsInstance i → IsRun i (start_of i) keeps cursors pops stuck kept
+    → IfOk r (λ t. t.missing ≡ false) → IfOk r (λ t. t.bytes.items ≡ [])
+    → IfOk r (λ t. TellsRun asked ws names i cursors pops stuck t.missing t.bytes.items)
+unkept_result asked ws names i keeps cursors pops stuck kept (Ok t) is asks instance run there empty =
+    told_unkept asked ws names i keeps cursors pops stuck kept t.missing t.bytes.items is asks instance run there empty
+unkept_result asked ws names i keeps cursors pops stuck kept (Err e) is asks instance run there empty = tt
+
+pub nothing_result : {E : Type 0} (asked : Asked) (ws : List Watcher) (names : Names) (i : Instance)
+    (log : List LogRecord) (r : Result LogText E) → looks_at_records asked ≡ false → IfOk r (λ t. t.missing ≡ false)
+    → IfOk r (λ t. t.bytes.items ≡ [])
+    → IfOk r (λ t. (layered : List LogRecord) × IsLayered log layered
+    × TellsRecords asked ws names i layered t.missing t.bytes.items)
+nothing_result asked ws names i log (Ok t) none there empty =
+    nothing_in_layers asked none ws names i log t.missing t.bytes.items there empty
+nothing_result asked ws names i log (Err e) none there empty = tt
+
+pub layered_result : {E : Type 0} (asked : Asked) (ws : List Watcher) (names : Names) (i : Instance)
+    (log layered : List LogRecord) (r : Result LogText E) → IsLayered log layered
+    → IfOk r (λ t. TellsRecords asked ws names i layered t.missing t.bytes.items)
+    → IfOk r (λ t. (layered : List LogRecord) × IsLayered log layered
+    × TellsRecords asked ws names i layered t.missing t.bytes.items)
+layered_result asked ws names i log layered (Ok t) of told = (layered, of, told)
+layered_result asked ws names i log layered (Err e) of told = tt
+
+-- the text of an end, and behind it what is told of its log: of the one-thread run where the instance is extremal
+pub told_ended : (asked : Asked) (ws : List Watcher) (facts : Facts) (i : Instance) (names : Names) (cursors : List ℕ)
+    (pops : ℕ) (stuck : List Event) (missing : Bool) (status : ℕ) (text told out : List ℕ) → IsInstance i
+    → IsExtremal i.family → asked.free ≡ false → IsFirstEnd i cursors pops stuck → names ≡ names_for facts
+    → TellsRun asked ws names i cursors pops stuck missing told
+    → status ≡ (if asked.free && missing then 6 else end_status stuck) → text ≡ end_text facts i cursors pops stuck
+    → out ≡ text ++ told → AnswersBy (IsEndOf asked ws facts i) status out
+told_ended asked ws facts i names cursors pops stuck missing status text told out is extremal ordered end names_are run
+    status_is text_is out_is =
+    let t = run.told in
+    let runs : RunsToEnd i (start_of i) run.log = record { legal = run.leads.legal; end = run.leads.end } in
+    let first : IsToldOfFirst asked ws names i t.telling =
+    told_of_first asked ws names i (family_cubes i.family is.family) extremal run.log end.run.0 runs end.run.1 t.placed
+    t.sorted t.telling t.is in (
+      Ended facts i cursors pops stuck t.telling,
+      (refl, refl, end, subst (λ n. IsToldOfFirst asked ws n i t.telling) names_are first),
       record {
-        status_is = status_is ∙ ap (λ b. if b then 6 else end_status stuck) t.missing_is;
-        out_is = out_is ∙ ap₂ (λ (a b : List ℕ). a ++ b) end behind
-            ∙ regroup (end_text facts i (replay (start_of i) log) (length log) stuck)
-            (log_text (names_for facts) i log) (witness_text (names_for facts) i.family t.witness) reports;
+        status_is = status_is ∙ ap (λ b. if b && missing then 6 else end_status stuck) ordered;
+        out_is = out_is ∙ ap₂ (λ (a b : List ℕ). a ++ b) text_is
+            (t.text_is ∙ ap (λ n. telling_text n i t.telling) names_are);
+      },
+    )
+
+-- the layered log has as many records
+placed_size : (log : List LogRecord) (placed : List Placed) (sorted : AreSorted log placed) → length log ≡ length placed
+placed_size log placed sorted =
+    sym (ap (λ (l : List LogRecord). length l) (zip_records [] log sorted.layers sorted.are_layers))
+    ∙ length-map (zip log sorted.layers) _
+    ∙ sym (length_permutation (zip log sorted.layers) placed sorted.same_records)
+
+-- and of the run itself where the order of pops is free
+pub told_history : (asked : Asked) (ws : List Watcher) (facts : Facts) (i : Instance) (names : Names)
+    (cursors : List ℕ) (pops : ℕ) (stuck : List Event) (missing : Bool) (status : ℕ) (text told out : List ℕ)
+    → IsInstance i → asked.free ≡ true → names ≡ names_for facts
+    → TellsRun asked ws names i cursors pops stuck missing told
+    → status ≡ (if asked.free && missing then 6 else end_status stuck) → text ≡ end_text facts i cursors pops stuck
+    → out ≡ text ++ told → AnswersBy (IsHistoryOf asked ws facts i) status out
+told_history asked ws facts i names cursors pops stuck missing status text told out is free names_are run status_is
+    text_is out_is =
+    let t = run.told in
+    let start : List ℕ = start_of i in
+    let cubes : HaveCubes i.family = family_cubes i.family is.family in
+    let log : List LogRecord = records_of t.placed in
+    let of = layered_is_legal i cubes start run.log log run.leads.legal
+    (record { placed = t.placed; sorted = t.sorted; records = refl }) in
+    let there : cursors ≡ replay start log = run.cursors_are ∙ sym of.1 in
+    let size : pops ≡ length t.placed = run.pops_are ∙ placed_size run.log t.placed t.sorted in
+    let leads : LeadsToEnd i log stuck = record {
+      legal = of.0;
+      end = subst (IsEnd i) (sym of.1) run.leads.end;
+      stuck_list = subst (λ c. IsStuckList i c stuck) (sym of.1) run.leads.stuck_list;
+    } in
+    let layered : AreInLayers [] t.placed = placed_in_layers i cubes start run.log run.leads.legal t.placed t.sorted in (
+      Resampled facts i t.placed stuck t.telling,
+      (refl, refl, leads, layered, subst (λ n. IsToldOf asked ws n i t.placed t.telling) names_are t.is),
+      record {
+        status_is = status_is
+            ∙ ap₂ (λ a b. if a && b then 6 else end_status stuck) free t.missing_is;
+        out_is = out_is ∙ ap₂ (λ (a b : List ℕ). a ++ b)
+            (text_is ∙ ap₂ (λ c n. end_text facts i c n stuck) there size)
+            (t.text_is ∙ ap (λ n. telling_text n i t.telling) names_are);
       },
     )

@@ -1,5 +1,5 @@
 -- What the sampler answers to command words and a text.
-use Rattle.std.specs.Prelude.{◌≡◌, ◌⊎◌, ℕ, List, Option, Ok, Err, Some, ⊤}
+use Rattle.std.specs.Prelude.{◌≡◌, ◌⊎◌, ℕ, Bool, true, false, List, Option, Ok, Err, Some, ⊤}
 use Rattle.pop_model.specs.Stacks.{Origin}
 use Rattle.pop_edge.specs.declared.refusal.ReadRefusal.{ReadRefusal}
 use Rattle.pop_edge.specs.declared.refusal.ReadRefusal.TheVariants.{ReadFault, OutOfMemory}
@@ -11,7 +11,6 @@ use Rattle.graph_read.specs.GraphText.{AnswersGraph, HasNoBadLine as HasNoBadGra
 use Rattle.pop_words.specs.declared.command.Command.{Command}
 use Rattle.pop_words.specs.declared.command.Command.TheVariants.{Formula, Orient, Tree, Resample, Check, Make, Rounds}
 use Rattle.pop_words.specs.declared.job.Job.{Job}
-use Rattle.pop_words.specs.Options.{command_row}
 use Rattle.pop_words.specs.CommandLines.{Asks, IsBadPlace}
 use Rattle.pop_watch.specs.Telling.{Watcher}
 use Rattle.popsample.specs.declared.asked.Asked.{Asked}
@@ -42,22 +41,34 @@ pub record ComesOfGraph (Comes : GraphOf → Outcome → Type 0) (text : List �
 abbrev pub origin_for : Job → Origin
 origin_for job = origin_of job.stacks job.height
 
+-- the order of a command's pops isn't determined
+abbrev pub has_free_order : Command → Bool
+has_free_order Resample = true
+has_free_order command = false
+
 -- what a job asks to be told behind the end
 abbrev pub asked_by : Job → Asked
-asked_by job =
-    record { log = (command_row job.command).log; witness = job.witness; reports = job.reports }
+asked_by job = record {
+  log = job.log;
+  witness = job.witness;
+  reports = job.reports;
+  free = has_free_order job.command;
+}
 
 -- What comes of a command, with what the job says beside it, the watchers, and the text that it
 -- reads; a grid is made without one.
 abbrev pub ComesOfCommand : Command → Job → List Watcher → List ℕ → Outcome → Type 0
-ComesOfCommand Formula job watchers text o = ComesOfCnf (ComesOfFormula (origin_for job)) text o
-ComesOfCommand Orient job watchers text o = ComesOfGraph (ComesOfOrienting (origin_for job)) text o
+ComesOfCommand Formula job watchers text o =
+    ComesOfCnf (ComesOfFormula (origin_for job) (asked_by job) watchers) text o
+ComesOfCommand Orient job watchers text o =
+    ComesOfGraph (ComesOfOrienting (origin_for job) (asked_by job) watchers) text o
 ComesOfCommand Tree job watchers text o =
-    ComesOfGraph (ComesOfTree (origin_for job) job.root) text o
+    ComesOfGraph (ComesOfTree (origin_for job) (asked_by job) watchers job.root) text o
 ComesOfCommand Resample job watchers text o =
     ComesOfCnf (ComesOfResampling (origin_for job) (asked_by job) watchers) text o
 ComesOfCommand Check job watchers text o = ComesOfCnf ComesOfChecking text o
-ComesOfCommand Make job watchers text o = ComesOfGrid (origin_for job) job.size o
+ComesOfCommand Make job watchers text o =
+    ComesOfGrid (origin_for job) (asked_by job) watchers job.size o
 ComesOfCommand Rounds job watchers text o = ComesOfCnf (ComesOfRounds (origin_for job)) text o
 
 -- a command's grammar refuses the text so

@@ -56,7 +56,7 @@ CanBeDone Rounds job text =
 
 -- the pop whose witness is asked for is there, where one is asked for
 abbrev pub HasWitness : Outcome → Type 0
-HasWitness (Resampled facts i log stuck witness reports) = is_missing witness ≡ false
+HasWitness (Resampled facts i placed stuck telling) = is_missing telling.witness ≡ false
 HasWitness o = ⊤
 
 -- an answer whose witness is there

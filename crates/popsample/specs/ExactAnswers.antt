@@ -11,6 +11,7 @@ use Rattle.pop_words.specs.declared.job.Job.{Job}
 use Rattle.pop_words.specs.CommandLines.{Asks}
 use Rattle.pop_watch.specs.Telling.{Watcher}
 use Rattle.pop_print.specs.declared.facts.Facts.{Facts}
+use Rattle.popsample.specs.Tellings.{Telling}
 use Rattle.popsample.specs.Outcomes.Outcome.{Ended}
 use Rattle.popsample.specs.Answers.{IsOutcome}
 use Rattle.popsample.specs.Subjects.{Subject, IsSubjectOf}
@@ -29,23 +30,24 @@ abbrev pub frame_over : Subject → List ℕ → Frame
 frame_over s heights = record { family = s.family; weights = s.weights; heights = heights }
 
 -- Words and a text are answered by this sample: by a run that ends at these cursors, after so many
--- pops, where no event occurs and the values are these.
+-- pops, where no event occurs and the values are these; and this is told behind it.
 pub record IsSampledBy (words : List (List ℕ)) (watchers : List Watcher) (text : List ℕ)
-    (facts : Facts) (values cursors : List ℕ) (pops : ℕ) : Type 0 where
+    (facts : Facts) (values cursors : List ℕ) (pops : ℕ) (telling : Telling) : Type 0 where
   pub instance : Instance
-  pub outcome : IsOutcome words watchers text (Ended facts instance cursors pops [])
+  pub outcome : IsOutcome words watchers text (Ended facts instance cursors pops [] telling)
   pub sample : values_at instance.stacks cursors ≡ values
 
 -- Where words over given rows are answered by a sample, words over the rows with another sample in
--- its place are answered by that: the lines of cursors and pops are the same.
+-- its place are answered by that: the lines of cursors and pops are the same, and so are the log,
+-- the witness and the reports that are asked for.
 abbrev pub ExchangedAnswers : Type 0
 ExchangedAnswers = (job : Job) (rows : Rows) (words others : List (List ℕ))
     (watchers : List Watcher) (text : List ℕ)
-    (facts : Facts) (i : Instance) (cursors : List ℕ) (pops : ℕ) (x : List ℕ)
+    (facts : Facts) (i : Instance) (cursors : List ℕ) (pops : ℕ) (telling : Telling) (x : List ℕ)
     → Asks words (over_rows job rows) → Asks others (over_rows job (exchange rows cursors x))
-    → IsOutcome words watchers text (Ended facts i cursors pops [])
+    → IsOutcome words watchers text (Ended facts i cursors pops [] telling)
     → IsSampleOf (frame_of i (map length rows)) x
-    → IsSampledBy others watchers text facts x cursors pops
+    → IsSampledBy others watchers text facts x cursors pops telling
 
 -- rows of these heights, with which words are answered by this sample before any pop
 pub record IsReached (job : Job) (text : List ℕ) (s : Subject) (heights x : List ℕ)
@@ -53,7 +55,8 @@ pub record IsReached (job : Job) (text : List ℕ) (s : Subject) (heights x : Li
   pub rows : Rows
   pub lengths : map length rows ≡ heights
   pub answers : (words : List (List ℕ)) (watchers : List Watcher) → Asks words (over_rows job rows)
-      → IsSampledBy words watchers text s.facts x (replicate (length x) 0) 0
+      → (telling : Telling)
+      × IsSampledBy words watchers text s.facts x (replicate (length x) 0) 0 telling
 
 -- Each sample of what a job and a text ask for is the answer to some rows, of any heights: each
 -- assignment under which no event occurs, each orientation without a sink, each tree to the root.

@@ -8,7 +8,9 @@ use Rattle.pop_model.specs.Extremal.{IsExtremal}
 use Rattle.dimacs_read.specs.Cnf.{Cnf}
 use Rattle.dimacs_read.specs.Falsifying.{AreEventsOf}
 use Rattle.extremal_check.specs.Clashes.{AreClashing}
+use Rattle.pop_watch.specs.Telling.{Watcher}
 use Rattle.pop_print.specs.declared.facts.Facts.TheVariants.{Formula as FormulaFacts}
+use Rattle.popsample.specs.declared.asked.Asked.{Asked}
 use Rattle.popsample.specs.Outcomes.{Outcome}
 use Rattle.popsample.specs.Outcomes.Outcome.{Clashes, Extremal}
 use Rattle.popsample.specs.Sampling.{pair_weights, instance_of, IsEndOf, ComesOfSampling}
@@ -27,22 +29,24 @@ pub record IsExtremalCnf (f : Cnf) (count : ℕ) : Type 0 where
   pub size : count ≡ length events
 
 -- the one-thread run of the formula's extremal events ends so
-pub record EndsFormula (origin : Origin) (f : Cnf) (o : Outcome) : Type 0 where
+pub record EndsFormula (origin : Origin) (asked : Asked) (watchers : List Watcher) (f : Cnf)
+    (o : Outcome) : Type 0 where
   pub events : List (ℕ × Cube)
   pub of_formula : AreEventsOf f.clauses events
   pub extremal : IsExtremal (Listed events)
-  pub end : IsEndOf (FormulaFacts f.variables) (instance_of origin f.variables events) o
+  pub end : IsEndOf asked watchers (FormulaFacts f.variables)
+      (instance_of origin f.variables events) o
 
 -- what comes of the run of a formula: two events clash, or it ends
-abbrev pub ComesOfRunning : Origin → Cnf → Outcome → Type 0
-ComesOfRunning origin f (Clashes i j) = ClashesAt f i j
-ComesOfRunning origin f o = EndsFormula origin f o
+abbrev pub ComesOfRunning : Origin → Asked → List Watcher → Cnf → Outcome → Type 0
+ComesOfRunning origin asked watchers f (Clashes i j) = ClashesAt f i j
+ComesOfRunning origin asked watchers f o = EndsFormula origin asked watchers f o
 
 -- what comes of a formula that is to be sampled
-abbrev pub ComesOfFormula : Origin → Cnf → Outcome → Type 0
-ComesOfFormula origin f o =
+abbrev pub ComesOfFormula : Origin → Asked → List Watcher → Cnf → Outcome → Type 0
+ComesOfFormula origin asked watchers f o =
     ComesOfSampling (FormulaFacts f.variables) origin (pair_weights f.variables)
-    (ComesOfRunning origin f) o
+    (ComesOfRunning origin asked watchers f) o
 
 -- what comes of a formula that is to be checked
 abbrev pub ComesOfChecking : Cnf → Outcome → Type 0

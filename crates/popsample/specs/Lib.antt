@@ -3,6 +3,7 @@ pub mod Stacks
 pub mod Names
 pub mod Witnesses
 pub mod Reports
+pub mod Tellings
 pub mod Outcomes
 pub mod Results
 pub mod Sampling

@@ -5,21 +5,25 @@ use Rattle.pop_model.specs.Popping.{Cube}
 use Rattle.pop_model.specs.Places.{IsLeast}
 use Rattle.graph_read.specs.Graphs.{GraphOf}
 use Rattle.sink_popping.specs.Sinks.{AreSinksOf, IsIsolated}
+use Rattle.pop_watch.specs.Telling.{Watcher}
 use Rattle.pop_print.specs.declared.facts.Facts.TheVariants.{Orient as OrientFacts}
+use Rattle.popsample.specs.declared.asked.Asked.{Asked}
 use Rattle.popsample.specs.Outcomes.{Outcome}
 use Rattle.popsample.specs.Outcomes.Outcome.{Isolated}
 use Rattle.popsample.specs.Sampling.{pair_weights, instance_of, IsEndOf, ComesOfSampling}
 
 -- the one-thread run of the graph's sinks ends so
-pub record EndsOrientation (origin : Origin) (g : GraphOf) (o : Outcome) : Type 0 where
+pub record EndsOrientation (origin : Origin) (asked : Asked) (watchers : List Watcher)
+    (g : GraphOf) (o : Outcome) : Type 0 where
   pub events : List (ℕ × Cube)
   pub of_graph : AreSinksOf g events
-  pub end : IsEndOf (OrientFacts g) (instance_of origin (length g.edges) events) o
+  pub end : IsEndOf asked watchers (OrientFacts g)
+      (instance_of origin (length g.edges) events) o
 
 -- what comes of a graph that is to be oriented
-abbrev pub ComesOfOrienting : Origin → GraphOf → Outcome → Type 0
-ComesOfOrienting origin g (Isolated w) = IsLeast (IsIsolated g) w
-ComesOfOrienting origin g o =
+abbrev pub ComesOfOrienting : Origin → Asked → List Watcher → GraphOf → Outcome → Type 0
+ComesOfOrienting origin asked watchers g (Isolated w) = IsLeast (IsIsolated g) w
+ComesOfOrienting origin asked watchers g o =
     ((w : ℕ) → IsIsolated g w → ⊥)
     × ComesOfSampling (OrientFacts g) origin (pair_weights (length g.edges))
-    (EndsOrientation origin g) o
+    (EndsOrientation origin asked watchers g) o

@@ -2,17 +2,18 @@
 use Rattle.std.specs.Prelude.{◌≡◌, ◌≢◌, ◌≤◌, ℕ, if◌then◌else◌, List, [], ◌∷◌, ◌++◌, length, Option}
 use Rattle.pop_model.specs.Families.{Event}
 use Rattle.pop_model.specs.Instances.{Instance}
-use Rattle.pop_model.specs.Logs.{LogRecord, replay}
+use Rattle.pop_model.specs.Logs.{replay}
 use Rattle.pop_model.specs.Runs.{start_of}
 use Rattle.pop_edge.specs.declared.refusal.ReadRefusal.{ReadRefusal}
 use Rattle.pop_stacks.specs.declared.stack_fault.StackFault.{StackFault}
-use Rattle.pop_log.specs.LogTexts.{log_text}
+use Rattle.pop_log.specs.Layers.{Placed}
 use Rattle.pop_print.specs.declared.facts.Facts.{Facts}
 use Rattle.pop_print.specs.Names.{name_of}
 use Rattle.pop_print.specs.Output.{end_text}
 use Rattle.pop_print.specs.Rounds.{rounds_text}
 use Rattle.popsample.specs.Names.{names_for}
-use Rattle.popsample.specs.Witnesses.{Witness, witness_text, is_missing}
+use Rattle.popsample.specs.Witnesses.{Witness, is_missing}
+use Rattle.popsample.specs.Tellings.{Telling, records_of, telling_text}
 use Rattle.popsample.specs.Refusals.{usage_line, isolated_line, root_line, cut_off_line, clash_line, extremal_line, reading_line, reading_status, stacks_line, stacks_status}
 
 -- what comes of command words and a text
@@ -33,13 +34,13 @@ pub data Outcome : Type 0 where
   Clashes : (number other : ℕ) → Outcome
   -- no two of so many events clash
   Extremal : (events : ℕ) → Outcome
-  -- the run came to an end
+  -- the run came to an end, and this is told of its log
   Ended : (facts : Facts) (instance : Instance) (cursors : List ℕ) (pops : ℕ) (stuck : List Event)
-      → Outcome
-  -- a run whose order isn't determined came to an end; this is its log, the witness of a pop, and
-  -- what watchers reported of the log
-  Resampled : (facts : Facts) (instance : Instance) (log : List LogRecord) (stuck : List Event)
-      (witness : Witness) (reports : List ℕ) → Outcome
+      (telling : Telling) → Outcome
+  -- a run whose order isn't determined came to an end; this is its layered log, and what is told
+  -- of it
+  Resampled : (facts : Facts) (instance : Instance) (placed : List Placed) (stuck : List Event)
+      (telling : Telling) → Outcome
   -- the run by rounds came to an end; where it is exhausted, this variable has no next entry
   Rounded : (facts : Facts) (instance : Instance) (cursors : List ℕ) (rounds : ℕ)
       (stuck : List Event) (short : Option ℕ) → Outcome
@@ -63,21 +64,19 @@ status_of (CutOff vertex) = 6
 status_of (Unsound facts fault) = stacks_status fault
 status_of (Clashes i j) = 5
 status_of (Extremal count) = 0
-status_of (Ended facts i cursors pops stuck) = end_status stuck
-status_of (Resampled facts i log stuck witness reports) = resampled_status stuck witness
+status_of (Ended facts i cursors pops stuck telling) = end_status stuck
+status_of (Resampled facts i placed stuck telling) = resampled_status stuck telling.witness
 status_of (Rounded facts i cursors rounds stuck short) = end_status stuck
 
--- the text of a run with its log: that of the end to which the log leads, and that of the log
-abbrev pub history_text : Facts → Instance → List LogRecord → List Event → List ℕ
-history_text facts i log stuck =
-    end_text facts i (replay (start_of i) log) (length log) stuck
-    ++ log_text (names_for facts) i log
+-- the text of a run: that of its end, and behind it what is told of its log
+abbrev pub run_text : Facts → Instance → List ℕ → ℕ → List Event → Telling → List ℕ
+run_text facts i cursors pops stuck telling =
+    end_text facts i cursors pops stuck ++ telling_text (names_for facts) i telling
 
--- and behind it that of the witness, and the reports
-abbrev pub resampled_text : Facts → Instance → List LogRecord → List Event → Witness → List ℕ
-    → List ℕ
-resampled_text facts i log stuck witness reports =
-    history_text facts i log stuck ++ witness_text (names_for facts) i.family witness ++ reports
+-- that of a run whose layered log is known
+abbrev pub resampled_text : Facts → Instance → List Placed → List Event → Telling → List ℕ
+resampled_text facts i placed stuck telling =
+    run_text facts i (replay (start_of i) (records_of placed)) (length placed) stuck telling
 
 -- the text of an outcome
 abbrev pub text_of : Outcome → List ℕ
@@ -89,9 +88,8 @@ text_of (CutOff vertex) = cut_off_line vertex
 text_of (Unsound facts fault) = stacks_line (name_of facts) fault
 text_of (Clashes i j) = clash_line i j
 text_of (Extremal count) = extremal_line count
-text_of (Ended facts i cursors pops stuck) = end_text facts i cursors pops stuck
-text_of (Resampled facts i log stuck witness reports) =
-    resampled_text facts i log stuck witness reports
+text_of (Ended facts i cursors pops stuck telling) = run_text facts i cursors pops stuck telling
+text_of (Resampled facts i placed stuck telling) = resampled_text facts i placed stuck telling
 text_of (Rounded facts i cursors rounds stuck short) =
     rounds_text facts i cursors rounds stuck short
 

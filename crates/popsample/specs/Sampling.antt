@@ -4,9 +4,17 @@ use Rattle.pop_model.specs.Stacks.{Origin}
 use Rattle.pop_model.specs.Popping.{Cube}
 use Rattle.pop_model.specs.Families.Family.{Listed}
 use Rattle.pop_model.specs.Instances.{Instance}
-use Rattle.pop_model.specs.Runs.{IsFirstEnd}
+use Rattle.pop_model.specs.Logs.{LogRecord}
+use Rattle.pop_model.specs.Runs.{IsFirstRun, IsFirstEnd, start_of}
 use Rattle.pop_stacks.specs.Faults.{IsSound, IsCause}
+use Rattle.pop_log.specs.declared.names.Names.{Names}
+use Rattle.pop_log.specs.Layers.{Placed}
+use Rattle.pop_log.specs.Layered.{AreSorted}
+use Rattle.pop_watch.specs.Telling.{Watcher}
 use Rattle.pop_print.specs.declared.facts.Facts.{Facts}
+use Rattle.popsample.specs.declared.asked.Asked.{Asked}
+use Rattle.popsample.specs.Names.{names_for}
+use Rattle.popsample.specs.Tellings.{Telling, IsToldOf}
 use Rattle.popsample.specs.Outcomes.{Outcome}
 use Rattle.popsample.specs.Outcomes.Outcome.{Unsound, Ended}
 
@@ -19,11 +27,21 @@ abbrev pub instance_of : Origin → ℕ → List (ℕ × Cube) → Instance
 instance_of origin n events =
     record { stacks = record { origin = origin; weights = pair_weights n }; family = Listed events }
 
--- the end of the instance's one-thread run
-abbrev pub IsEndOf : Facts → Instance → Outcome → Type 0
-IsEndOf facts i (Ended told j cursors pops stuck) =
+-- this is told of the layered log of the instance's one-thread run
+pub record IsToldOfFirst (asked : Asked) (watchers : List Watcher) (names : Names) (i : Instance)
+    (t : Telling) : Type 0 where
+  pub log : List LogRecord
+  pub run : IsFirstRun i (start_of i) log
+  pub placed : List Placed
+  pub sorted : AreSorted log placed
+  pub told : IsToldOf asked watchers names i placed t
+
+-- the end of the instance's one-thread run, and what is asked for of its log
+abbrev pub IsEndOf : Asked → List Watcher → Facts → Instance → Outcome → Type 0
+IsEndOf asked watchers facts i (Ended told j cursors pops stuck telling) =
     (told ≡ facts) × (j ≡ i) × IsFirstEnd i cursors pops stuck
-IsEndOf facts i o = ⊥
+    × IsToldOfFirst asked watchers (names_for facts) i telling
+IsEndOf asked watchers facts i o = ⊥
 
 -- a fault of the stacks of these weights
 abbrev pub IsFaultOf : Facts → Origin → List (List ℕ) → Outcome → Type 0

@@ -1,6 +1,6 @@
 -- What the output of an end shows of the text that was read: of each command the sample, or else
 -- the events that still occur.
-use Rattle.std.specs.Prelude.{ℕ, List, [], ◌∷◌, length, ⊤}
+use Rattle.std.specs.Prelude.{◌≡◌, ℕ, List, [], ◌∷◌, ◌++◌, length, ⊤}
 use Rattle.pop_model.specs.Stacks.{StackTable}
 use Rattle.pop_model.specs.Families.{Event}
 use Rattle.dimacs_read.specs.CnfText.{cnf_of}
@@ -20,6 +20,10 @@ use Rattle.printed_trees.specs.ArrowCycles.{ShowsCycles}
 use Rattle.printed_trees.specs.Made.{ShowsMade, CountsCycles}
 use Rattle.popsample.specs.Sampling.{pair_weights}
 use Rattle.popsample.specs.Answers.{IsAnswer, origin_for}
+
+-- the text begins with one that shows this
+abbrev pub BeginsWith : (List ℕ → Type 0) → List ℕ → Type 0
+BeginsWith Shows out = (front : List ℕ) × (rest : List ℕ) × (out ≡ front ++ rest) × Shows front
 
 -- the stacks that a job asks for, of these weights
 abbrev pub stacks_by : Job → List (List ℕ) → StackTable
@@ -42,7 +46,7 @@ ShowsSample Orient job text out = ShowsOrientation (graph_of text) out
 ShowsSample Tree job text out = ShowsTree (graph_of text) job.root out
 ShowsSample Resample job text out = ShowsAssignment (cnf_of text) out
 ShowsSample Check job text out = ⊤
-ShowsSample Make job text out = ShowsMade job.size out
+ShowsSample Make job text out = BeginsWith (ShowsMade job.size) out
 ShowsSample Rounds job text out = ShowsAssignment (cnf_of text) out
 
 -- what an output with status 1 shows; there is no such verdict
@@ -54,7 +58,8 @@ ShowsExhausted Tree job text out =
 ShowsExhausted Resample job text out = ShowsFalse (cnf_of text) (stacks_of_text Resample job text)
     out
 ShowsExhausted Check job text out = ⊥
-ShowsExhausted Make job text out = CountsCycles job.size (stacks_of_text Make job text) out
+ShowsExhausted Make job text out =
+    BeginsWith (CountsCycles job.size (stacks_of_text Make job text)) out
 ShowsExhausted Rounds job text out = ShowsFalse (cnf_of text) (stacks_of_text Rounds job text) out
 
 -- what an output shows whose text is of an end with these events

@@ -7,7 +7,9 @@ use Rattle.pop_model.specs.Instances.{Instance}
 use Rattle.graph_read.specs.Graphs.{GraphOf}
 use Rattle.graph_read.specs.Paths.{IsConnected, IsCutOff}
 use Rattle.cycle_popping.specs.Trees.{heads_of_tree, weights_of_tree}
+use Rattle.pop_watch.specs.Telling.{Watcher}
 use Rattle.pop_print.specs.declared.facts.Facts.TheVariants.{Tree as TreeFacts}
+use Rattle.popsample.specs.declared.asked.Asked.{Asked}
 use Rattle.popsample.specs.Outcomes.{Outcome}
 use Rattle.popsample.specs.Outcomes.Outcome.{NoRoot, CutOff}
 use Rattle.popsample.specs.Sampling.{IsEndOf, ComesOfSampling}
@@ -23,10 +25,11 @@ tree_instance origin g root =
     cycles_instance origin (weights_of_tree g root) (heads_of_tree g root)
 
 -- what comes of a graph of which a tree with this root is asked
-abbrev pub ComesOfTree : Origin → ℕ → GraphOf → Outcome → Type 0
-ComesOfTree origin root g (NoRoot r) = (r ≡ root) × (g.vertices < root)
-ComesOfTree origin root g (CutOff w) = (root ≤ g.vertices) × IsLeast (IsCutOff g root) w
-ComesOfTree origin root g o =
+abbrev pub ComesOfTree : Origin → Asked → List Watcher → ℕ → GraphOf → Outcome → Type 0
+ComesOfTree origin asked watchers root g (NoRoot r) = (r ≡ root) × (g.vertices < root)
+ComesOfTree origin asked watchers root g (CutOff w) =
+    (root ≤ g.vertices) × IsLeast (IsCutOff g root) w
+ComesOfTree origin asked watchers root g o =
     (root ≤ g.vertices) × IsConnected g root
     × ComesOfSampling (TreeFacts g root) origin (weights_of_tree g root)
-    (IsEndOf (TreeFacts g root) (tree_instance origin g root)) o
+    (IsEndOf asked watchers (TreeFacts g root) (tree_instance origin g root)) o

@@ -107,7 +107,7 @@ fn answer_words<S: Source, R: Threads + Wait + Sync, G: Gate + Sync>(
         (S.faults source.old) (S.faults source.new) }
 {
     let job = read_words(alloc, words)?;
-    let crew = Crew::new(rt, gate, job.workers);
+    let crew = Crew::new(rt, gate, job.workers, job.board);
     let mut call = Call {
         alloc,
         crew,

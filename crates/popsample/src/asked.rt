@@ -1,21 +1,35 @@
 //! What is to be told of a run.
 ghost use Rattle.std.specs.Prelude.{◌≡◌};
 ghost use Rattle.confluence_core.specs.Kept.{keeps_log};
-ghost use Rattle.popsample.specs.Answers.{asked_by};
+ghost use Rattle.popsample.specs.Answers.{has_free_order, asked_by};
+ghost use Rattle.popsample.specs.Tellings.{tells_watchers, looks_at_records, asks_for_log};
 
 use confluence_core::Keep;
-use pop_words::{Job, Reports};
+use pop_words::{Command, Job, Reports};
 
 /// What is to be told of a run behind its end.
 #[derive(Clone, Copy, Debug, PartialEq, Eq)]
 pub struct Asked {
-    /// Whether the log is told; where it isn't, nothing of it is.
+    /// Whether the log is printed.
     pub log: bool,
     /// The pop whose witness tree is asked for, by the printed name of a variable and the entry
     /// that the pop used, which counts from 0.
     pub witness: Option<(u32, u32)>,
     /// The reports that are asked for.
     pub reports: Reports,
+    /// Whether the order of the pops isn't determined, as that of a resampling: then all watchers
+    /// are told the log, and the status tells where the asked pop is missing.
+    pub free: bool,
+}
+
+// Whether the order of a command's pops isn't determined.
+fn is_free(command: Command) -> bool
+    ensures { result ≡ has_free_order command }
+{
+    match command {
+        Command::Resample => true,
+        _ => false,
+    }
 }
 
 impl Asked {
@@ -24,16 +38,41 @@ impl Asked {
         ensures { result ≡ asked_by job.now }
     {
         Asked {
-            log: job.command.tells_log(),
+            log: job.log,
             witness: job.witness,
             reports: job.reports,
+            free: is_free(job.command),
         }
     }
 
-    /// What the run has to keep.
-    pub fn keep(self) -> Keep
-        ensures { keeps_log result ≡ self.log }
+    /// Whether the watchers are told the log: where the order of pops is free, and else where a
+    /// report is asked for.
+    pub fn tells(self) -> bool
+        ensures { result ≡ tells_watchers self }
     {
-        if self.log { Keep::Log } else { Keep::Nothing }
+        let Reports {
+            totals,
+            heights,
+            layers,
+        } = self.reports;
+        self.free || totals || heights || layers
+    }
+
+    /// Whether the records of the log are looked at: for a witness, or to tell the watchers.
+    pub fn looks(self) -> bool
+        ensures { result ≡ looks_at_records self }
+    {
+        self.witness.is_some() || self.tells()
+    }
+
+    /// What the run has to keep: the log where it is printed or its records are looked at.
+    pub fn keep(self) -> Keep
+        ensures { keeps_log result ≡ asks_for_log self }
+    {
+        if self.log || self.looks() {
+            Keep::Log
+        } else {
+            Keep::Nothing
+        }
     }
 }

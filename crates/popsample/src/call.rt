@@ -5,7 +5,7 @@ use std::alloc::Global;
 
 /// What a call of `run` works with, once its words are read: the memory, who makes its run, and the
 /// watchers that are told of it. It has no model, since a view names no state of a boxed watcher:
-/// contracts see the number of workers, and the kind and the state of each watcher.
+/// contracts see the crew, and the kind and the state of each watcher.
 #[derive(Drop)]
 pub struct Call<'a, R, G> {
     pub alloc: Global,

@@ -10,43 +10,52 @@ ghost use Rattle.pop_print.specs.Rounds.{IsShownAt};
 
 use confluence_core::{Keep, run_from_zeros};
 use pop_instance::{Index, Instance};
-use pop_workers::{Gate, Outcome, sample_locked, zeros_of};
+use pop_words::BoardKind;
+use pop_workers::{Gate, Outcome, sample_claimed, sample_locked, zeros_of};
 use prs_rounds::{RoundEnd, run_rounds};
 use std::alloc::{AllocError, Global};
 use std::marker::Model;
 use std::sync::Wait;
 use std::thread::Threads;
 
-/// So many workers, from 1 to 64, and the gate that each passes before its turns. Contracts see how
-/// many there are.
+/// So many workers, from 1 to 64, the board on which they meet, and the gate that each passes before
+/// its turns. Contracts see how many there are, and on which board.
 #[derive(Drop)]
 pub struct Crew<'a, R, G> {
     rt: &'a R,
     gate: &'a G,
     workers: u32,
+    board: BoardKind,
 }
 
 impl<'a, R, G> Model for Crew<'a, R, G> {
     ghost use Rattle.std.specs.Prelude.{ℕ, ◌<◌, ◌≤◌};
+    ghost use Rattle.pop_words.specs.declared.board_kind.BoardKind.{BoardKind};
 
-    ghost Value = { ℕ };
+    ghost Value = { ℕ × BoardKind };
 
-    ghost view = { λ a. a.workers };
+    ghost view = { λ a. (a.workers, a.board) };
 
     ghost invariant = { λ a. (0 < a.workers) × (a.workers ≤ 64) };
 }
 
 impl<'a, R: Threads + Wait + Sync, G: Gate + Sync> Crew<'a, R, G> {
-    /// A crew of so many workers.
-    pub fn new(rt: &'a R, gate: &'a G, workers: u32) -> Crew<'a, R, G>
+    /// A crew of so many workers on this board.
+    pub fn new(rt: &'a R, gate: &'a G, workers: u32, board: BoardKind) -> Crew<'a, R, G>
         requires one { 0 < workers }
         requires few { workers ≤ 64 }
-        ensures { result ≡ workers }
+        ensures { result ≡ (workers, board) }
     {
-        Crew { rt, gate, workers }
+        Crew {
+            rt,
+            gate,
+            workers,
+            board,
+        }
     }
 
-    /// A run of the instance from zeros. One worker makes it alone, behind the gate.
+    /// A run of the instance from zeros. One worker makes it alone, behind the gate and with no
+    /// board; several claim words, or share a book under a lock.
     pub fn run(&self, alloc: Global, instance: &Instance, keep: Keep) -> Result<Outcome, AllocError>
         ensures { IfOk result (IsRunOf instance.now (start_of instance.now) (keeps_log keep)) }
     {
@@ -55,15 +64,11 @@ impl<'a, R: Threads + Wait + Sync, G: Gate + Sync> Crew<'a, R, G> {
             return run_from_zeros(alloc, instance, keep);
         }
         let zeros = zeros_of(alloc, instance)?;
-        sample_locked(
-            self.rt,
-            alloc,
-            instance,
-            &zeros,
-            self.workers,
-            keep,
-            self.gate,
-        )
+        let (rt, gate, workers) = (self.rt, self.gate, self.workers);
+        match self.board {
+            BoardKind::Words => sample_claimed(rt, alloc, instance, &zeros, workers, keep, gate),
+            BoardKind::Lock => sample_locked(rt, alloc, instance, &zeros, workers, keep, gate),
+        }
     }
 
     /// The run of the instance by rounds, by the index of its listed events. What they look at is

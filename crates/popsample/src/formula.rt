@@ -59,7 +59,7 @@ pub fn sample_formula<R: Threads + Wait + Sync, G: Gate + Sync>(
     formula: &Formula,
 ) -> Result<Answer, Refusal>
     requires filled { first_empty formula.now ≡ None }
-    requires told { asked.log ≡ may_clash }
+    requires free { asked.free ≡ may_clash }
     ensures { IsResultOf (ComesOfSampling (FormulaFacts formula.now.variables) origin
         (pair_weights formula.now.variables) (RunsFormula may_clash origin asked
         (map (λ b. (kind b, state b)) call.old.watchers.items) formula.now)) result }

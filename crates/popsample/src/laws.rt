@@ -6,8 +6,9 @@ ghost use Rattle.popsample.specs.Complete.{Complete};
 ghost use Rattle.popsample.specs.ExactAnswers.{ExchangedAnswers, ReachedAnswers};
 ghost use Rattle.popsample.specs.EverySample.{EveryAssignment, EveryOrientation, EveryTree};
 
-/// Words that don't ask for a resampling have with a text one answer: one status and one output. So
-/// the contract of `run` leaves its body no choice where neither a device nor memory fails.
+/// Words that don't ask for a resampling have with a text one answer, with watchers that report
+/// alike: one status and one output. So the contract of `run` leaves its body no choice where
+/// neither a device nor memory fails.
 pub fn one_answer()
     ensures { OneAnswer }
 {}
@@ -45,21 +46,23 @@ pub fn exhausted_shown()
     ensures { ExhaustedShown }
 {}
 
-/// Words that don't ask for a resampling and differ only in `--workers` have with a text one
-/// answer. So where neither a device nor memory fails, any number of workers is answered alike.
+/// Words that don't ask for a resampling and differ only in `--workers` and `--board` have with a
+/// text one answer, with watchers that report alike. So where neither a device nor memory fails,
+/// any number of workers is answered alike, on either board.
 pub fn workers_agree()
     ensures { WorkersAgree }
 {}
 
 /// Where the words are a command line, the text is in its grammar and within the limits, the
 /// graph's form is good, the stacks have no fault, the events are extremal where that is asked, and
-/// the witness that is asked for is there, the status is 0 or 1.
+/// of a resampling the witness that is asked for is there, the status is 0 or 1.
 pub fn complete()
     ensures { Complete }
 {}
 
 /// Where words over given rows are answered by a sample, any sample may be written in place of its
-/// values: the rows are then answered by that one, with the same cursors and as many pops.
+/// values: the rows are then answered by that one, with the same cursors and as many pops, and the
+/// same log, witness and reports where they are asked for.
 pub fn exchanged_answers()
     ensures { ExchangedAnswers }
 {}

@@ -27,7 +27,7 @@ mod tree;
 mod witness;
 
 use pop_edge::{StdSink, StdSource};
-use pop_watch::{Heights, Totals, Watch};
+use pop_watch::{Heights, Layers, Totals, Watch};
 use pop_workers::NoGate;
 use std::env;
 use std::process::ExitCode;
@@ -54,14 +54,21 @@ fn main(rt: HostRuntime) -> ExitCode {
     let Some(words) = words_of(&rt) else {
         return ExitCode::from(NOT_BEGUN);
     };
-    let mut watchers: Vec<Box<dyn Watch>> = Vec::new(alloc);
-    let (Ok(totals), Ok(heights)) = (
+    let Ok(layers) = Layers::new(alloc) else {
+        return ExitCode::from(NOT_BEGUN);
+    };
+    let (Ok(totals), Ok(heights), Ok(layers)) = (
         Box::new(alloc, Totals::new()),
         Box::new(alloc, Heights::new()),
+        Box::new(alloc, layers),
     ) else {
         return ExitCode::from(NOT_BEGUN);
     };
-    if watchers.push(totals).is_err() || watchers.push(heights).is_err() {
+    let mut watchers: Vec<Box<dyn Watch>> = Vec::new(alloc);
+    if watchers.push(totals).is_err()
+        || watchers.push(heights).is_err()
+        || watchers.push(layers).is_err()
+    {
         return ExitCode::from(NOT_BEGUN);
     }
     let mut source = StdSource::new(rt.stdin());

@@ -1,5 +1,5 @@
 //! The command on the orientations of a graph: `orient` samples one without a sink.
-ghost use Rattle.std.specs.Prelude.{◌≡◌, false};
+ghost use Rattle.std.specs.Prelude.{◌≡◌, false, map};
 ghost use Rattle.popsample.specs.Results.{IsResultOf};
 ghost use Rattle.popsample.specs.Orientations.{ComesOfOrienting};
 
@@ -26,8 +26,9 @@ pub fn orient<R: Threads + Wait + Sync, G: Gate + Sync>(
     asked: Asked,
     graph: Graph,
 ) -> Result<Answer, Refusal>
-    requires quiet { asked.log ≡ false }
-    ensures { IsResultOf (ComesOfOrienting origin graph) result }
+    requires ordered { asked.free ≡ false }
+    ensures { IsResultOf (ComesOfOrienting origin asked
+        (map (λ b. (kind b, state b)) call.old.watchers.items) graph) result }
 {
     let events = sinks(call.alloc, &graph)?;
     let edges = graph.edges();

@@ -14,6 +14,8 @@ const TOTALS: u32 = 1;
 
 const HEIGHTS: u32 = 2;
 
+const LAYERS: u32 = 3;
+
 // Adds the report of the first watcher of a kind, where it is wanted and there is one.
 fn push_report(
     alloc: Global,
@@ -46,6 +48,7 @@ fn reports_of(
     let mut text = Vec::new(alloc);
     push_report(alloc, &mut text, watchers, TOTALS, asked.totals)?;
     push_report(alloc, &mut text, watchers, HEIGHTS, asked.heights)?;
+    push_report(alloc, &mut text, watchers, LAYERS, asked.layers)?;
     Ok(text)
 }
 

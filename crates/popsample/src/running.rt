@@ -1,14 +1,19 @@
 //! A run of an instance, and how it is told.
-ghost use Rattle.std.specs.Prelude.{◌≡◌, true, false, map, length, IfOk, if◌then◌else◌};
+ghost use Rattle.std.specs.Prelude.{◌≡◌, true, false, ◌&&◌, List, map, length, IfOk, if◌then◌else◌};
 ghost use Rattle.pop_model.specs.Stacks.{variables_of};
 ghost use Rattle.pop_model.specs.Extremal.{IsExtremal};
-ghost use Rattle.pop_model.specs.Logs.{IsLegal, replay};
+ghost use Rattle.pop_model.specs.Logs.{LogRecord, IsLegal, replay};
 ghost use Rattle.pop_model.specs.Runs.{start_of};
+ghost use Rattle.confluence_core.specs.Runs.{IsRunOf};
+ghost use Rattle.pop_log.specs.Layered.{IsLayered};
 ghost use Rattle.pop_print.specs.Ends.{AreFactsOf};
 ghost use Rattle.popsample.specs.Outcomes.{AnswersBy, end_status};
+ghost use Rattle.pop_watch.specs.Telling.{log_told};
+ghost use Rattle.popsample.specs.Reports.{reports_text};
 ghost use Rattle.popsample.specs.Witnesses.{TellsWitness};
 ghost use Rattle.popsample.specs.Sampling.{IsEndOf};
-ghost use Rattle.popsample.specs.Resamplings.{IsHistoryOf, TellsLog};
+ghost use Rattle.popsample.specs.Resamplings.{IsHistoryOf};
+ghost use Rattle.popsample.specs.Tellings.{TellsRecords, IsShownText, TellsLog, TellsRun, asks_for_log};
 
 use crate::answer::Answer;
 use crate::asked::Asked;
@@ -18,9 +23,9 @@ use crate::reporting::report_log;
 use crate::witness::{LogText, witness_of};
 use confluence_core::{End, Log, Stuck};
 use pop_instance::{Cursors, Instance};
-use pop_log::{Names, print_log};
+use pop_log::{Names, layered, print_layered};
 use pop_print::{Facts, text};
-use pop_workers::Gate;
+use pop_workers::{Gate, Outcome};
 use std::alloc::{AllocError, Global};
 use std::sync::Wait;
 use std::thread::Threads;
@@ -32,11 +37,15 @@ pub fn status_by(stuck: &Stuck) -> u8
     if stuck.len() == 0 { 0 } else { 1 }
 }
 
-// The status of an end with a witness: where the asked pop is missing, that is told first.
-fn status_with(end: &End, missing: bool) -> u8
-    ensures { result ≡ (if missing then 6 else end_status end.now.stuck) }
+// The status of an end: where the order of pops is free, a missing witness is told first.
+fn status_with(end: &End, free: bool, missing: bool) -> u8
+    ensures { result ≡ (if free && missing then 6 else end_status end.now.stuck) }
 {
-    if missing { 6 } else { status_by(&end.stuck) }
+    if free && missing {
+        6
+    } else {
+        status_by(&end.stuck)
+    }
 }
 
 // What is told of a witness where it is asked for; else nothing.
@@ -56,15 +65,98 @@ fn tell_witness(
 {
     match asked {
         Some(asked) => witness_of(alloc, instance, names, cursors, log, asked),
-        None => Ok(LogText {
-            missing: false,
-            bytes: Vec::new(alloc),
-        }),
+        None => LogText::nothing(alloc),
     }
 }
 
-// What is told of a log: its text, the witness and the reports that are asked for. Each watcher is
-// told each record, in order and once.
+// The reports that are asked for of a layered log. Where the watchers are told it, each is told
+// each record, in order and once.
+fn tell_watchers<R, G>(
+    call: &mut Call<R, G>,
+    log: &Log,
+    asked: Asked,
+) -> Result<Vec<u8>, AllocError>
+    ensures { IfOk result (λ bytes. bytes.items ≡ reports_text asked.reports
+        (log_told log.now (map (λ b. (kind b, state b)) call.old.watchers.items))) }
+{
+    if !asked.tells() {
+        return Ok(Vec::new(call.alloc));
+    }
+    report_log(call.alloc, &mut call.watchers, log, asked.reports)
+}
+
+// What is told of a layered log behind its text: the witness and the reports that are asked for.
+fn tell_records<R, G>(
+    call: &mut Call<R, G>,
+    instance: &Instance,
+    names: &Names,
+    cursors: &Cursors,
+    log: &Log,
+    asked: Asked,
+) -> Result<LogText, AllocError>
+    requires count { variables_of instance.now.stacks ≡ length cursors.now }
+    requires legal { IsLegal instance.now (start_of instance.now) log.now }
+    requires leads { cursors.now ≡ replay (start_of instance.now) log.now }
+    ensures { IfOk result (λ t. TellsRecords asked
+        (map (λ b. (kind b, state b)) call.old.watchers.items) names.now instance.now log.now
+        t.missing t.bytes.items) }
+{
+    let witness = tell_witness(call.alloc, instance, names, cursors, log, asked.witness)?;
+    let mut bytes = witness.bytes;
+    let reports = tell_watchers(call, log, asked)?;
+    bytes.extend_from_slice(&reports)?;
+    Ok(LogText {
+        missing: witness.missing,
+        bytes,
+    })
+}
+
+// What is told of the layered log of a log behind its text. It isn't made where nothing asks for
+// it.
+fn tell_in_layers<R, G>(
+    call: &mut Call<R, G>,
+    instance: &Instance,
+    names: &Names,
+    cursors: &Cursors,
+    log: &Log,
+    asked: Asked,
+) -> Result<LogText, AllocError>
+    requires count { variables_of instance.now.stacks ≡ length cursors.now }
+    requires legal { IsLegal instance.now (start_of instance.now) log.now }
+    requires leads { cursors.now ≡ replay (start_of instance.now) log.now }
+    ensures { IfOk result (λ t. (layered : List LogRecord) × IsLayered log.now layered
+        × TellsRecords asked (map (λ b. (kind b, state b)) call.old.watchers.items) names.now
+        instance.now layered t.missing t.bytes.items) }
+{
+    if !asked.looks() {
+        return LogText::nothing(call.alloc);
+    }
+    // Read for its contract, which says what holds of every instance.
+    let _units = instance.units();
+    let layered = layered(call.alloc, instance.stacks().count(), log)?;
+    tell_records(call, instance, names, cursors, &layered, asked)
+}
+
+// The text of the layered log of a log, where it is printed; else nothing.
+fn text_if(
+    alloc: Global,
+    instance: &Instance,
+    names: &Names,
+    log: &Log,
+    printed: bool,
+) -> Result<Vec<u8>, AllocError>
+    requires { IsLegal instance.now (start_of instance.now) log.now }
+    ensures { IfOk result (λ bytes. IsShownText names.now instance.now log.now printed
+        bytes.items) }
+{
+    if !printed {
+        return Ok(Vec::new(alloc));
+    }
+    print_layered(alloc, instance, names, log)
+}
+
+// What is told of a log: its text in its layered order, the witness and the reports, each where it
+// is asked for.
 fn text_of_log<R, G>(
     call: &mut Call<R, G>,
     instance: &Instance,
@@ -77,22 +169,44 @@ fn text_of_log<R, G>(
     requires legal { IsLegal instance.now (start_of instance.now) log.now }
     requires leads { cursors.now ≡ replay (start_of instance.now) log.now }
     ensures { IfOk result (λ t. TellsLog asked
-        (map (λ b. (kind b, state b)) call.old.watchers.items) names.now instance.now cursors.now
-        log.now t.missing t.bytes.items) }
+        (map (λ b. (kind b, state b)) call.old.watchers.items) names.now instance.now log.now
+        t.missing t.bytes.items) }
 {
-    let mut bytes = print_log(call.alloc, instance, names, log)?;
-    let witness = tell_witness(call.alloc, instance, names, cursors, log, asked.witness)?;
-    bytes.extend_from_slice(&witness.bytes)?;
-    let reports = report_log(call.alloc, &mut call.watchers, log, asked.reports)?;
-    bytes.extend_from_slice(&reports)?;
+    // Read for its contract, which says what holds of every instance.
+    let _units = instance.units();
+    let mut bytes = text_if(call.alloc, instance, names, log, asked.log)?;
+    let told = tell_in_layers(call, instance, names, cursors, log, asked)?;
+    bytes.extend_from_slice(&told.bytes)?;
     Ok(LogText {
-        missing: witness.missing,
+        missing: told.missing,
         bytes,
     })
 }
 
+// What is told of a run behind its end. It kept its log where something of it is asked for.
+fn tell_run<R, G>(
+    call: &mut Call<R, G>,
+    instance: &Instance,
+    names: &Names,
+    run: &Outcome,
+    asked: Asked,
+) -> Result<LogText, AllocError>
+    requires { IsRunOf instance.now (start_of instance.now) (asks_for_log asked) run.now }
+    ensures { IfOk result (λ t. TellsRun asked
+        (map (λ b. (kind b, state b)) call.old.watchers.items) names.now instance.now
+        run.now.end.cursors run.now.end.pops run.now.end.stuck t.missing t.bytes.items) }
+{
+    // Read for its contract, which says what holds of every instance.
+    let _units = instance.units();
+    match &run.log {
+        Some(log) => text_of_log(call, instance, names, &run.end.cursors, log, asked),
+        None => LogText::nothing(call.alloc),
+    }
+}
+
 /// Runs the instance, and tells its end, and behind it what is asked for. Of an extremal instance
-/// the pops are made in an order of their own, since all orders end alike.
+/// the pops are made in an order of their own, since all orders end alike, and have one layered
+/// log.
 pub fn run_and_tell<R: Threads + Wait + Sync, G: Gate + Sync>(
     call: &mut Call<R, G>,
     facts: &Facts,
@@ -100,27 +214,23 @@ pub fn run_and_tell<R: Threads + Wait + Sync, G: Gate + Sync>(
     asked: Asked,
 ) -> Result<Answer, AllocError>
     requires facts { AreFactsOf facts.now instance.now }
-    ensures ended { asked.log ≡ false → IsExtremal instance.now.family
-        → IfOk result (λ a. AnswersBy (IsEndOf facts.now instance.now) a.status a.text.items) }
-    ensures history { asked.log ≡ true → IfOk result (λ a. AnswersBy (IsHistoryOf asked
+    ensures ended { asked.free ≡ false → IsExtremal instance.now.family
+        → IfOk result (λ a. AnswersBy (IsEndOf asked
+        (map (λ b. (kind b, state b)) call.old.watchers.items) facts.now instance.now)
+        a.status a.text.items) }
+    ensures history { asked.free ≡ true → IfOk result (λ a. AnswersBy (IsHistoryOf asked
         (map (λ b. (kind b, state b)) call.old.watchers.items) facts.now instance.now)
         a.status a.text.items) }
 {
+    // Read for its contract, which says what holds of every instance.
+    let _units = instance.units();
     let run = call.crew.run(call.alloc, instance, asked.keep())?;
     let mut text = text(call.alloc, facts, instance, &run.end)?;
-    match &run.log {
-        None => Ok(Answer {
-            status: status_by(&run.end.stuck),
-            text,
-        }),
-        Some(log) => {
-            let names = names_of(facts);
-            let told = text_of_log(call, instance, &names, &run.end.cursors, log, asked)?;
-            text.extend_from_slice(&told.bytes)?;
-            Ok(Answer {
-                status: status_with(&run.end, told.missing),
-                text,
-            })
-        }
-    }
+    let names = names_of(facts);
+    let told = tell_run(call, instance, &names, &run, asked)?;
+    text.extend_from_slice(&told.bytes)?;
+    Ok(Answer {
+        status: status_with(&run.end, asked.free, told.missing),
+        text,
+    })
 }

@@ -1,6 +1,6 @@
 //! The commands on spanning trees: `tree` samples a rooted one of a graph, and `make` of a grid
 //! that is made from a number.
-ghost use Rattle.std.specs.Prelude.{◌≡◌, false, ◌<◌, ◌≤◌, ◌^◌, length, OnOk, IfOk, IfErr};
+ghost use Rattle.std.specs.Prelude.{◌≡◌, false, ◌<◌, ◌≤◌, ◌^◌, length, map, OnOk, IfOk, IfErr};
 ghost use Rattle.pop_model.specs.Families.Family.{Cycles};
 ghost use Rattle.pop_model.specs.Instances.{FamilyFits};
 ghost use Rattle.graph_read.specs.Graphs.{IsVertex};
@@ -38,12 +38,13 @@ fn sample_arrows<R: Threads + Wait + Sync, G: Gate + Sync>(
     weights: Weights,
     arrows: Arrows,
 ) -> Result<Answer, Refusal>
-    requires quiet { asked.log ≡ false }
+    requires ordered { asked.free ≡ false }
     requires few { length weights < 2 ^ 31 }
     requires fits { FamilyFits (record { origin = origin; weights = weights }) (Cycles arrows) }
     requires facts { AreFactsOf facts.now (cycles_instance origin weights arrows) }
-    ensures { IsResultOf (ComesOfSampling facts.now origin weights
-        (IsEndOf facts.now (cycles_instance origin weights arrows))) result }
+    ensures { IsResultOf (ComesOfSampling facts.now origin weights (IsEndOf asked
+        (map (λ b. (kind b, state b)) call.old.watchers.items) facts.now
+        (cycles_instance origin weights arrows))) result }
 {
     let stacks = origin.stacks(facts, weights)?;
     let instance = of_arrows(stacks, arrows);
@@ -76,9 +77,10 @@ pub fn tree<R: Threads + Wait + Sync, G: Gate + Sync>(
     root: u32,
     graph: Graph,
 ) -> Result<Answer, Refusal>
-    requires quiet { asked.log ≡ false }
+    requires ordered { asked.free ≡ false }
     requires root { 1 ≤ root }
-    ensures { IsResultOf (ComesOfTree origin root graph) result }
+    ensures { IsResultOf (ComesOfTree origin asked
+        (map (λ b. (kind b, state b)) call.old.watchers.items) root graph) result }
 {
     // It also says that there are few vertices, so that each has a name.
     if root > graph.vertices() {
@@ -97,9 +99,10 @@ pub fn tree_of_grid<R: Threads + Wait + Sync, G: Gate + Sync>(
     asked: Asked,
     side: u32,
 ) -> Result<Answer, Refusal>
-    requires quiet { asked.log ≡ false }
+    requires ordered { asked.free ≡ false }
     requires side { (1 ≤ side) × (side ≤ 2048) }
-    ensures { IsResultOf (ComesOfGrid origin side) result }
+    ensures { IsResultOf (ComesOfGrid origin asked
+        (map (λ b. (kind b, state b)) call.old.watchers.items) side) result }
 {
     let arrows = grid_arrows(call.alloc, side)?;
     let weights = grid_weights(call.alloc, side)?;

@@ -1,5 +1,5 @@
 //! The witness of a pop that is asked for.
-ghost use Rattle.std.specs.Prelude.{◌≡◌, ◌<◌, ◌≤◌, ℕ, List, length, true, false, Some, IfOk};
+ghost use Rattle.std.specs.Prelude.{◌≡◌, ◌<◌, ◌≤◌, ℕ, List, [], length, true, false, Some, IfOk};
 ghost use Rattle.pop_model.specs.Stacks.{variables_of};
 ghost use Rattle.pop_model.specs.Logs.{IsLegal, replay};
 ghost use Rattle.pop_model.specs.Runs.{start_of};
@@ -20,6 +20,19 @@ use witness_trees::{find_pop, print_missing, print_tree, tree};
 pub struct LogText {
     pub missing: bool,
     pub bytes: Vec<u8>,
+}
+
+impl LogText {
+    /// Nothing is told, and nothing is missing.
+    pub fn nothing(alloc: Global) -> Result<LogText, AllocError>
+        ensures there { IfOk result (λ t. t.missing ≡ false) }
+        ensures none { IfOk result (λ t. t.bytes.items ≡ []) }
+    {
+        Ok(LogText {
+            missing: false,
+            bytes: Vec::new(alloc),
+        })
+    }
 }
 
 // What is told where no pop used the entry, which isn't below the cursor.

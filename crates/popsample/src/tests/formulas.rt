@@ -1,81 +1,88 @@
 //! Formulas that are sampled and checked.
-use super::{ZERO_KEY, answer, answer_in_pieces};
+use super::{Row, ZERO_KEY, answer, answer_in_pieces, are_answered_by_all, is_answered};
 use std::test::Fail;
 
-// Worked by hand from the definitions: the words, the text, the status and the output.
+// Worked by hand from the definitions.
+static RUNS: [Row; 9] = [
+    (
+        &["formula", "--stacks", "0,0,1"],
+        "p cnf 1 1\n1 0\n",
+        0,
+        "s SAMPLE\nv 1 0\nused 2\npops 2\n",
+    ),
+    (
+        &["formula", "--stacks", "0,0"],
+        "p cnf 1 1\n1 0\n",
+        1,
+        "s EXHAUSTED\nstuck 1\nused 1\npops 1\n",
+    ),
+    (
+        &["formula", "--stacks", ""],
+        "p cnf 0 0\n",
+        0,
+        "s SAMPLE\nv 0\nused\npops 0\n",
+    ),
+    // popping goes on past a stuck event
+    (
+        &["formula", "--stacks", "0;0,0,1"],
+        "p cnf 2 2\n1 0\n2 0\n",
+        1,
+        "s EXHAUSTED\nstuck 1\nused 0 2\npops 2\n",
+    ),
+    (
+        &["formula", "--stacks", "0,1;0,1"],
+        "p cnf 2 2\n1 2 0\n-1 2 0\n",
+        0,
+        "s SAMPLE\nv 1 2 0\nused 1 1\npops 1\n",
+    ),
+    // a comment within a clause, a clause with a variable and its negation, a last clause
+    // without its 0
+    (
+        &["formula", "--stacks", "0;0;1"],
+        "c by hand\np cnf 3 2\n1 -2\nc in the middle\n0\n2 3\n%\n0\n",
+        0,
+        "s SAMPLE\nv -1 -2 3 0\nused 0 0 0\npops 0\n",
+    ),
+    // the first entries under the key of zeros are 1 and 0 (RFC 8439, A.1, vector 1)
+    (
+        &["formula", "--key", ZERO_KEY],
+        "p cnf 1 1\n-1 0\n",
+        0,
+        "s SAMPLE\nv -1 0\nused 1\npops 1\n",
+    ),
+    (
+        &["formula", "--height", "1", "--key", ZERO_KEY],
+        "p cnf 1 1\n1 0\n",
+        0,
+        "s SAMPLE\nv 1 0\nused 0\npops 0\n",
+    ),
+    (
+        &["formula", "--height", "1"],
+        "p cnf 1 1\n-1 0\n",
+        1,
+        "s EXHAUSTED\nstuck 1\nused 0\npops 0\n",
+    ),
+];
+
+static VERDICTS: [Row; 2] = [
+    (
+        &["check"],
+        "p cnf 2 3\n1 2 0\n2 1 0\n1 -1 0\n",
+        0,
+        "s EXTREMAL 1\n",
+    ),
+    (&["check"], "p cnf 0 0\n", 0, "s EXTREMAL 0\n"),
+];
+
 #[test]
 fn runs_end_as_worked_by_hand(rt: HostRuntime) -> Result<(), Fail> {
-    let rows: [(&[&str], &str, u8, &str); 11] = [
-        (
-            &["formula", "--stacks", "0,0,1"],
-            "p cnf 1 1\n1 0\n",
-            0,
-            "s SAMPLE\nv 1 0\nused 2\npops 2\n",
-        ),
-        (
-            &["formula", "--stacks", "0,0"],
-            "p cnf 1 1\n1 0\n",
-            1,
-            "s EXHAUSTED\nstuck 1\nused 1\npops 1\n",
-        ),
-        (
-            &["formula", "--stacks", ""],
-            "p cnf 0 0\n",
-            0,
-            "s SAMPLE\nv 0\nused\npops 0\n",
-        ),
-        // popping goes on past a stuck event
-        (
-            &["formula", "--stacks", "0;0,0,1"],
-            "p cnf 2 2\n1 0\n2 0\n",
-            1,
-            "s EXHAUSTED\nstuck 1\nused 0 2\npops 2\n",
-        ),
-        (
-            &["formula", "--stacks", "0,1;0,1"],
-            "p cnf 2 2\n1 2 0\n-1 2 0\n",
-            0,
-            "s SAMPLE\nv 1 2 0\nused 1 1\npops 1\n",
-        ),
-        // a comment within a clause, a clause with a variable and its negation, a last clause
-        // without its 0
-        (
-            &["formula", "--stacks", "0;0;1"],
-            "c by hand\np cnf 3 2\n1 -2\nc in the middle\n0\n2 3\n%\n0\n",
-            0,
-            "s SAMPLE\nv -1 -2 3 0\nused 0 0 0\npops 0\n",
-        ),
-        // the first entries under the key of zeros are 1 and 0 (RFC 8439, A.1, vector 1)
-        (
-            &["formula", "--key", ZERO_KEY],
-            "p cnf 1 1\n-1 0\n",
-            0,
-            "s SAMPLE\nv -1 0\nused 1\npops 1\n",
-        ),
-        (
-            &["formula", "--height", "1", "--key", ZERO_KEY],
-            "p cnf 1 1\n1 0\n",
-            0,
-            "s SAMPLE\nv 1 0\nused 0\npops 0\n",
-        ),
-        (
-            &["formula", "--height", "1"],
-            "p cnf 1 1\n-1 0\n",
-            1,
-            "s EXHAUSTED\nstuck 1\nused 0\npops 0\n",
-        ),
-        (
-            &["check"],
-            "p cnf 2 3\n1 2 0\n2 1 0\n1 -1 0\n",
-            0,
-            "s EXTREMAL 1\n",
-        ),
-        (&["check"], "p cnf 0 0\n", 0, "s EXTREMAL 0\n"),
-    ];
-    for (words, input, status, output) in rows {
-        let (got, text) = answer(&rt, rt.alloc(), words, input)?;
-        assert_eq!(&rt; got, status, "{words:?}");
-        assert_eq!(&rt; text.as_slice(), output.as_bytes(), "{words:?}");
+    are_answered_by_all(&rt, rt.alloc(), &RUNS)
+}
+
+#[test]
+fn verdicts_are_those_worked_by_hand(rt: HostRuntime) -> Result<(), Fail> {
+    for row in VERDICTS.iter() {
+        is_answered(&rt, rt.alloc(), &[], row)?;
     }
     Ok(())
 }

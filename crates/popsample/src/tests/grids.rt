@@ -1,70 +1,100 @@
 //! Trees of grids that are made from a number.
-use super::{ZERO_KEY, answer, each_kind, owned};
+use super::{
+    CREWS, Row, ZERO_KEY, answer, are_answered_by_all, each_kind, is_answered, is_answered_by,
+    owned,
+};
 use crate::run;
 use pop_edge::{MemSink, MemSource, Source};
 use pop_workers::NoGate;
-use std::alloc::Global;
-use std::sync::Wait;
 use std::test::Fail;
-use std::thread::Threads;
 
-// What is printed of the grid of side 40 under the key of zeros, by a program of the definitions
-// that has nothing of this one.
-const GRID_OF_40: &str = "s SAMPLE\ngrid 40\nused 7898 29\npops 2771\nsum 3027508\n";
+// What is printed of larger grids under the key of zeros, by a program of the definitions that has
+// nothing of this one.
+static GRID_OF_30: Row = (
+    &["make", "grid", "30", "--key", ZERO_KEY],
+    "",
+    0,
+    "s SAMPLE\ngrid 30\nused 27856 65\npops 9095\nsum 980846\n",
+);
 
-// Worked by hand: the words behind `make`, the status and the output. The vertices 2, 3 and 4 of
-// the grid of side 2 have the edges to 1 and 4, to 1 and 4, and to 2 and 3, in the order of their
-// slots.
+static GRID_OF_40: Row = (
+    &["make", "grid", "40", "--key", ZERO_KEY],
+    "",
+    0,
+    "s SAMPLE\ngrid 40\nused 7898 29\npops 2771\nsum 3027508\n",
+);
+
+// Worked by hand. The vertices 2, 3 and 4 of the grid of side 2 have the edges to 1 and 4, to 1 and 4,
+// and to 2 and 3, in the order of their slots.
+static SMALL: [Row; 10] = [
+    (
+        &["make", "grid", "2", "--stacks", "0;0;0"],
+        "",
+        0,
+        "s SAMPLE\ngrid 2\nused 0 0\npops 0\nsum 9\n",
+    ),
+    (
+        &["make", "grid", "1"],
+        "",
+        0,
+        "s SAMPLE\ngrid 1\nused 0 0\npops 0\nsum 0\n",
+    ),
+    // the second slots count as 2
+    (
+        &["make", "--stacks", "0;1;0", "grid", "2"],
+        "",
+        0,
+        "s SAMPLE\ngrid 2\nused 0 0\npops 0\nsum 12\n",
+    ),
+    // the cycle of 2 and 4 is popped
+    (
+        &["make", "grid", "2", "--stacks", "1,0;0;0,0"],
+        "",
+        0,
+        "s SAMPLE\ngrid 2\nused 2 1\npops 1\nsum 9\n",
+    ),
+    // it can't be
+    (
+        &["make", "grid", "2", "--stacks", "1;0;0"],
+        "",
+        1,
+        "s EXHAUSTED\ngrid 2\nstuck 1\nused 0 0\npops 0\n",
+    ),
+    (
+        &["make", "grid", "2", "--stacks", "0;0"],
+        "",
+        3,
+        "s ROWS 2 3\n",
+    ),
+    (
+        &["make", "grid", "2", "--stacks", "0;;0"],
+        "",
+        3,
+        "s EMPTYROW 3\n",
+    ),
+    (
+        &["make", "grid", "2", "--stacks", "0;0;0,2"],
+        "",
+        3,
+        "s VALUE 4 1\n",
+    ),
+    (
+        &["make", "grid", "1", "--stacks", "0"],
+        "",
+        3,
+        "s ROWS 1 0\n",
+    ),
+    (
+        &["make", "grid", "001", "--stacks", ""],
+        "",
+        0,
+        "s SAMPLE\ngrid 1\nused 0 0\npops 0\nsum 0\n",
+    ),
+];
+
 #[test]
 fn small_grids_are_told_in_short(rt: HostRuntime) -> Result<(), Fail> {
-    let rows: [(&[&str], u8, &str); 10] = [
-        (
-            &["grid", "2", "--stacks", "0;0;0"],
-            0,
-            "s SAMPLE\ngrid 2\nused 0 0\npops 0\nsum 9\n",
-        ),
-        (
-            &["grid", "1"],
-            0,
-            "s SAMPLE\ngrid 1\nused 0 0\npops 0\nsum 0\n",
-        ),
-        // the second slots count as 2
-        (
-            &["--stacks", "0;1;0", "grid", "2"],
-            0,
-            "s SAMPLE\ngrid 2\nused 0 0\npops 0\nsum 12\n",
-        ),
-        // the cycle of 2 and 4 is popped
-        (
-            &["grid", "2", "--stacks", "1,0;0;0,0"],
-            0,
-            "s SAMPLE\ngrid 2\nused 2 1\npops 1\nsum 9\n",
-        ),
-        // it can't be
-        (
-            &["grid", "2", "--stacks", "1;0;0"],
-            1,
-            "s EXHAUSTED\ngrid 2\nstuck 1\nused 0 0\npops 0\n",
-        ),
-        (&["grid", "2", "--stacks", "0;0"], 3, "s ROWS 2 3\n"),
-        (&["grid", "2", "--stacks", "0;;0"], 3, "s EMPTYROW 3\n"),
-        (&["grid", "2", "--stacks", "0;0;0,2"], 3, "s VALUE 4 1\n"),
-        (&["grid", "1", "--stacks", "0"], 3, "s ROWS 1 0\n"),
-        (
-            &["grid", "001", "--stacks", ""],
-            0,
-            "s SAMPLE\ngrid 1\nused 0 0\npops 0\nsum 0\n",
-        ),
-    ];
-    let alloc = rt.alloc();
-    for (more, status, output) in rows {
-        let mut words = vec![in alloc; "make"]?;
-        words.extend_from_slice(more)?;
-        let (got, text) = answer(&rt, alloc, &words, "")?;
-        assert_eq!(&rt; got, status, "{more:?}");
-        assert_eq!(&rt; text.as_slice(), output.as_bytes(), "{more:?}");
-    }
-    Ok(())
+    are_answered_by_all(&rt, rt.alloc(), &SMALL)
 }
 
 // The place of the first bad word.
@@ -77,7 +107,7 @@ fn a_grid_has_1_to_2048_rows_and_must_stand(rt: HostRuntime) -> Result<(), Fail>
         (&["make", "grid", "0"], "s USAGE 3\n"),
         (&["make", "grid", "2049"], "s USAGE 3\n"),
         (&["make", "--root", "1", "grid", "2"], "s USAGE 2\n"),
-        (&["make", "--report", "totals", "grid", "2"], "s USAGE 2\n"),
+        (&["make", "--report", "sums", "grid", "2"], "s USAGE 3\n"),
     ];
     for (words, output) in rows {
         let (got, text) = answer(&rt, rt.alloc(), words, "")?;
@@ -87,61 +117,16 @@ fn a_grid_has_1_to_2048_rows_and_must_stand(rt: HostRuntime) -> Result<(), Fail>
     Ok(())
 }
 
-// The numbers are of the same program.
+// Each by one worker, and the larger by two and by eight who claim words.
 #[test]
 fn larger_grids_are_those_of_the_definitions(rt: HostRuntime) -> Result<(), Fail> {
-    let rows = [
-        (
-            "30",
-            "s SAMPLE\ngrid 30\nused 27856 65\npops 9095\nsum 980846\n",
-        ),
-        ("40", GRID_OF_40),
-    ];
-    for (side, output) in rows {
-        let (got, text) = answer(
-            &rt,
-            rt.alloc(),
-            &["make", "grid", side, "--key", ZERO_KEY],
-            "",
-        )?;
-        assert_eq!(&rt; got, 0, "{side}");
-        assert_eq!(&rt; text.as_slice(), output.as_bytes(), "{side}");
-    }
-    Ok(())
-}
-
-// What so many workers print of the grid of side 40 under the key of zeros.
-fn of_workers<R: Threads + Wait + Sync>(
-    rt: &R,
-    alloc: Global,
-    workers: &str,
-) -> Result<(u8, Vec<u8>), Fail> {
-    let words = [
-        "make",
-        "grid",
-        "40",
-        "--key",
-        ZERO_KEY,
-        "--workers",
-        workers,
-    ];
-    answer(rt, alloc, &words, "")
+    is_answered(&rt, rt.alloc(), &[], &GRID_OF_30)?;
+    is_answered_by(&rt, rt.alloc(), &CREWS[1..3], &GRID_OF_40)
 }
 
 #[test]
-fn two_workers_change_no_byte_of_a_grid(rt: HostRuntime) -> Result<(), Fail> {
-    let (status, text) = of_workers(&rt, rt.alloc(), "2")?;
-    assert_eq!(&rt; status, 0);
-    assert_eq!(&rt; text.as_slice(), GRID_OF_40.as_bytes());
-    Ok(())
-}
-
-#[test]
-fn eight_workers_change_no_byte_of_a_grid(rt: HostRuntime) -> Result<(), Fail> {
-    let (status, text) = of_workers(&rt, rt.alloc(), "8")?;
-    assert_eq!(&rt; status, 0);
-    assert_eq!(&rt; text.as_slice(), GRID_OF_40.as_bytes());
-    Ok(())
+fn workers_under_the_lock_change_no_byte_of_a_grid(rt: HostRuntime) -> Result<(), Fail> {
+    is_answered_by(&rt, rt.alloc(), &CREWS[5..7], &GRID_OF_40)
 }
 
 // The first read would fail, and the input is left as it is.

@@ -1,62 +1,59 @@
 //! Graphs that are oriented.
-use super::answer;
+use super::{Row, answer, are_answered_by_all};
 use std::alloc::Global;
 use std::test::Fail;
 
-// Worked by hand from the definitions: the words, the text, the status and the output.
+const TRIANGLE: &str = "p col 3 3\ne 1 2\ne 2 3\ne 3 1\n";
+
+// Worked by hand from the definitions.
+static RUNS: [Row; 9] = [
+    (
+        &["orient", "--stacks", "0,0;1,0;0"],
+        TRIANGLE,
+        0,
+        "s SAMPLE\na 1 2 1\na 2 3 2\na 3 1 3\nused 1 1 0\npops 1\n",
+    ),
+    (
+        &["orient", "--stacks", "0,1,0"],
+        "p edge 2 1\ne 1 2\n",
+        1,
+        "s EXHAUSTED\nstuck 2\nused 2\npops 2\n",
+    ),
+    // a loop leaves its vertex
+    (
+        &["orient", "--stacks", "0"],
+        "p edge 1 1\ne 1 1\n",
+        0,
+        "s SAMPLE\na 1 1 1\nused 0\npops 0\n",
+    ),
+    // two parallel edges, the second of weight 9
+    (
+        &["orient", "--stacks", "0;1"],
+        "p edge 2 2\ne 1 2\ne 1 2 9\n",
+        0,
+        "s SAMPLE\na 1 2 1\na 2 1 2\nused 0 0\npops 0\n",
+    ),
+    (&["orient"], "p edge 0 0\n", 0, "s SAMPLE\nused\npops 0\n"),
+    (&["orient"], "p edge 2 0\n", 6, "s ISOLATED 1\n"),
+    (&["orient"], "p edge 3 1\ne 1 3\n", 6, "s ISOLATED 2\n"),
+    // the rows are looked at once no vertex is isolated
+    (
+        &["orient", "--stacks", "0"],
+        "p edge 3 1\ne 1 3\n",
+        6,
+        "s ISOLATED 2\n",
+    ),
+    (
+        &["orient", "--stacks", "0;0;2"],
+        TRIANGLE,
+        3,
+        "s VALUE 3 0\n",
+    ),
+];
+
 #[test]
 fn orientations_end_as_worked_by_hand(rt: HostRuntime) -> Result<(), Fail> {
-    let triangle = "p col 3 3\ne 1 2\ne 2 3\ne 3 1\n";
-    let rows: [(&[&str], &str, u8, &str); 9] = [
-        (
-            &["orient", "--stacks", "0,0;1,0;0"],
-            triangle,
-            0,
-            "s SAMPLE\na 1 2 1\na 2 3 2\na 3 1 3\nused 1 1 0\npops 1\n",
-        ),
-        (
-            &["orient", "--stacks", "0,1,0"],
-            "p edge 2 1\ne 1 2\n",
-            1,
-            "s EXHAUSTED\nstuck 2\nused 2\npops 2\n",
-        ),
-        // a loop leaves its vertex
-        (
-            &["orient", "--stacks", "0"],
-            "p edge 1 1\ne 1 1\n",
-            0,
-            "s SAMPLE\na 1 1 1\nused 0\npops 0\n",
-        ),
-        // two parallel edges, the second of weight 9
-        (
-            &["orient", "--stacks", "0;1"],
-            "p edge 2 2\ne 1 2\ne 1 2 9\n",
-            0,
-            "s SAMPLE\na 1 2 1\na 2 1 2\nused 0 0\npops 0\n",
-        ),
-        (&["orient"], "p edge 0 0\n", 0, "s SAMPLE\nused\npops 0\n"),
-        (&["orient"], "p edge 2 0\n", 6, "s ISOLATED 1\n"),
-        (&["orient"], "p edge 3 1\ne 1 3\n", 6, "s ISOLATED 2\n"),
-        // the rows are looked at once no vertex is isolated
-        (
-            &["orient", "--stacks", "0"],
-            "p edge 3 1\ne 1 3\n",
-            6,
-            "s ISOLATED 2\n",
-        ),
-        (
-            &["orient", "--stacks", "0;0;2"],
-            triangle,
-            3,
-            "s VALUE 3 0\n",
-        ),
-    ];
-    for (words, input, status, output) in rows {
-        let (got, text) = answer(&rt, rt.alloc(), words, input)?;
-        assert_eq!(&rt; got, status, "{words:?}");
-        assert_eq!(&rt; text.as_slice(), output.as_bytes(), "{words:?}");
-    }
-    Ok(())
+    are_answered_by_all(&rt, rt.alloc(), &RUNS)
 }
 
 // A cycle of so many vertices, each of which has a further edge to the vertex at a distance.

@@ -1,7 +1,7 @@
 //! Watchers of a resampling, and what they report of its log.
 ghost use Rattle.std.specs.Prelude.{[], ◌∷◌};
 
-use super::{each_kind, owned};
+use super::{each_kind, joined, owned};
 use crate::run;
 use confluence_core::Record;
 use pop_edge::{MemSink, MemSource};
@@ -15,35 +15,49 @@ use std::test::Fail;
 use std::thread::Threads;
 
 // What is printed of two pops of one clause, but for the reports. Worked by hand.
+static TWO_POPS: [&str; 3] = ["resample", "--stacks", "0,0,1"];
+
 const INPUT: &str = "p cnf 1 1\n1 0\n";
 
-const HISTORY: &str = "s SAMPLE\nv 1 0\nused 2\npops 2\nlog 1 2\npop 1 1:0\npop 1 1:1\n";
+const HISTORY: &str = "s SAMPLE\nv 1 0\nused 2\npops 2\nlog 2 2\npop 1 1 1:0\npop 2 1 1:1\n";
 
-// What is printed of them with these words behind the stacks, and these watchers.
+// What is printed of these words and this text, with these watchers.
+fn watched<R: Threads + Wait + Sync>(
+    rt: &R,
+    alloc: Global,
+    words: &[String],
+    input: &str,
+    watchers: Vec<Box<dyn Watch>>,
+) -> Result<(u8, Vec<u8>), Fail> {
+    let bytes = Vec::from_slice(alloc, input.as_bytes())?;
+    let mut source = MemSource::new(bytes, 64, Vec::new(alloc));
+    let mut sink = MemSink::new(alloc, 4096, 4096, Vec::new(alloc))?;
+    let status = run(rt, alloc, words, watchers, &NoGate, &mut source, &mut sink);
+    Ok((status, Vec::from_slice(alloc, sink.bytes())?))
+}
+
+// What is printed of the two pops with these words behind the stacks, and these watchers.
 fn reported<R: Threads + Wait + Sync>(
     rt: &R,
     alloc: Global,
     more: &[&str],
     watchers: Vec<Box<dyn Watch>>,
 ) -> Result<(u8, Vec<u8>), Fail> {
-    let mut words = owned(alloc, &["resample", "--stacks", "0,0,1"])?;
-    for word in more {
-        words.push(String::from_str(alloc, word)?)?;
-    }
-    let bytes = Vec::from_slice(alloc, INPUT.as_bytes())?;
-    let mut source = MemSource::new(bytes, 64, Vec::new(alloc));
-    let mut sink = MemSink::new(alloc, 4096, 4096, Vec::new(alloc))?;
-    let status = run(rt, alloc, &words, watchers, &NoGate, &mut source, &mut sink);
-    Ok((status, Vec::from_slice(alloc, sink.bytes())?))
+    let words = joined(alloc, &TWO_POPS, more)?;
+    watched(rt, alloc, &words, INPUT, watchers)
 }
 
 // Worked by hand: the words behind the stacks, and the text behind the log.
 #[test]
 fn reports_stand_by_rising_kind_behind_the_witness(rt: HostRuntime) -> Result<(), Fail> {
-    let rows: [(&[&str], &str); 6] = [
+    let rows: [(&[&str], &str); 7] = [
         (
             &["--witness", "1,1", "--report", "totals,heights"],
             "witness 2\nwit 0 1 1=0\nwit 1 1 1=0\nreport totals 2 2 1\nreport heights 1 1\n",
+        ),
+        (
+            &["--report", "layers,heights,totals"],
+            "report totals 2 2 1\nreport heights 1 1\nreport layers 2 1\n",
         ),
         (
             &["--report", "heights,totals"],
@@ -88,6 +102,8 @@ fn a_kind_that_no_watcher_has_has_no_line(rt: HostRuntime) -> Result<(), Fail> {
 #[derive(Drop)]
 struct Notes {
     told: AtomicU64,
+    // The numbers of the events, digit by digit, in the order in which it was told them.
+    order: AtomicU64,
     reported: AtomicU64,
     // How often it had reported when it was dropped, plus 1; 0 until then.
     dropped: AtomicU64,
@@ -97,6 +113,7 @@ impl Notes {
     fn none() -> Notes {
         Notes {
             told: AtomicU64::new(0),
+            order: AtomicU64::new(0),
             reported: AtomicU64::new(0),
             dropped: AtomicU64::new(0),
         }
@@ -120,6 +137,11 @@ impl Watch for Noted {
 
     fn tell(&mut self, popped: &Record) -> Result<(), AllocError> {
         self.notes.told.fetch_add(1, Ordering::SeqCst);
+        let front = self.notes.order.load(Ordering::SeqCst).wrapping_mul(10);
+        let number = u64::from(popped.unit()) + 1;
+        self.notes
+            .order
+            .store(front.wrapping_add(number), Ordering::SeqCst);
         self.totals.tell(popped)
     }
 
@@ -142,13 +164,14 @@ impl Drop for Noted {
     }
 }
 
-// What was done with totals that were handed in with these words: how often they were told, and how
-// often they reported; and that they were dropped after that.
-fn done<R: Threads + Wait + Sync + std::process::Abort>(
+// The notes of totals that were handed in with these words and this text. They were dropped after
+// their reports.
+fn notes_of<R: Threads + Wait + Sync + std::process::Abort>(
     rt: &R,
     alloc: Global,
-    more: &[&str],
-) -> Result<(u64, u64), Fail> {
+    words: &[String],
+    input: &str,
+) -> Result<Arc<Notes>, Fail> {
     let notes = Arc::new(alloc, Notes::none())?;
     let mut watchers: Vec<Box<dyn Watch>> = Vec::new(alloc);
     let noted = Noted {
@@ -156,15 +179,61 @@ fn done<R: Threads + Wait + Sync + std::process::Abort>(
         notes: notes.clone()?,
     };
     watchers.push(Box::new(alloc, noted)?)?;
-    let (status, _text) = reported(rt, alloc, more, watchers)?;
+    let (status, _text) = watched(rt, alloc, words, input, watchers)?;
     assert_eq!(rt; status, 0);
-    let told = notes.told.load(Ordering::SeqCst);
     let reported = notes.reported.load(Ordering::SeqCst);
     assert_eq!(rt;
         notes.dropped.load(Ordering::SeqCst),
         reported.wrapping_add(1)
     );
-    Ok((told, reported))
+    Ok(notes)
+}
+
+// How often totals were told the two pops with these words behind the stacks, and how often they
+// reported.
+fn done<R: Threads + Wait + Sync + std::process::Abort>(
+    rt: &R,
+    alloc: Global,
+    more: &[&str],
+) -> Result<(u64, u64), Fail> {
+    let words = joined(alloc, &TWO_POPS, more)?;
+    let notes = notes_of(rt, alloc, &words, INPUT)?;
+    let told = notes.told.load(Ordering::SeqCst);
+    Ok((told, notes.reported.load(Ordering::SeqCst)))
+}
+
+// The numbers of the events that totals are told of two clauses, of which the first is popped twice
+// before the second.
+fn order_told<R: Threads + Wait + Sync + std::process::Abort>(
+    rt: &R,
+    alloc: Global,
+    words: &[&str],
+) -> Result<u64, Fail> {
+    let words = owned(alloc, words)?;
+    let notes = notes_of(rt, alloc, &words, "p cnf 2 2\n1 0\n2 0\n")?;
+    Ok(notes.order.load(Ordering::SeqCst))
+}
+
+// Worked by hand: the layers are 1, 2 and 1. Where a run is one of many orders, watchers are told
+// in any case, and else where a report is asked for.
+static ORDERS: [(&[&str], u64); 5] = [
+    (
+        &["formula", "--stacks", "0,0,1;0,1", "--report", "totals"],
+        121,
+    ),
+    (&["formula", "--stacks", "0,0,1;0,1", "--log", "on"], 0),
+    (&["formula", "--stacks", "0,0,1;0,1", "--witness", "1,0"], 0),
+    (&["formula", "--stacks", "0,0,1;0,1"], 0),
+    (&["resample", "--stacks", "0,0,1;0,1"], 121),
+];
+
+#[test]
+fn watchers_are_told_the_layered_log(rt: HostRuntime) -> Result<(), Fail> {
+    for (words, order) in ORDERS.iter() {
+        let got = order_told(&rt, rt.alloc(), words)?;
+        assert_eq!(&rt; got, *order, "{words:?}");
+    }
+    Ok(())
 }
 
 // The log has two records. A watcher is told them also where its report isn't asked for, and is

@@ -1,87 +1,85 @@
 //! Rooted spanning trees of graphs.
-use super::{ZERO_KEY, answer};
+use super::{Row, ZERO_KEY, answer, are_answered_by_all};
 use std::alloc::Global;
 use std::test::Fail;
 
-// Worked by hand from the definitions: the words, the text, the status and the output.
+const TRIANGLE: &str = "p edge 3 3\ne 1 2\ne 2 3\ne 1 3\n";
+
+const HEAVY: &str = "p edge 2 2\ne 1 2 4294967295\ne 1 2\n";
+
+// Worked by hand from the definitions.
+static RUNS: [Row; 15] = [
+    (
+        &["tree", "--stacks", "1,0;0,0"],
+        TRIANGLE,
+        0,
+        "s SAMPLE\na 2 1 1\na 3 2 2\nused 1 1\npops 1\n",
+    ),
+    (
+        &["tree", "--stacks", "0,0;1,1;0,1"],
+        "p edge 4 3\ne 2 3\ne 3 4\ne 4 1\n",
+        0,
+        "s SAMPLE\na 2 3 1\na 3 4 2\na 4 1 3\nused 0 1 1\npops 1\n",
+    ),
+    // a cycle whose variables are at their last entries
+    (
+        &["tree", "--stacks", "1;0"],
+        TRIANGLE,
+        1,
+        "s EXHAUSTED\nstuck 2 3\nused 0 0\npops 0\n",
+    ),
+    // a loop, a parallel edge, and the weights 5 and 1: of the first entry of the key of zeros
+    // the sixth part up to the fifth is the first slot
+    (
+        &["tree", "--key", ZERO_KEY],
+        "p edge 2 3\ne 2 2\ne 1 2 5\ne 1 2\n",
+        0,
+        "s SAMPLE\na 2 1 2\nused 0\npops 0\n",
+    ),
+    // towards another root the variables are the vertices 1 and 3
+    (
+        &["tree", "--root", "2", "--stacks", "0;0"],
+        TRIANGLE,
+        0,
+        "s SAMPLE\na 1 2 1\na 3 2 2\nused 0 0\npops 0\n",
+    ),
+    (&["tree"], "p edge 1 0\n", 0, "s SAMPLE\nused\npops 0\n"),
+    (&["tree"], "p edge 3 1\ne 1 2\n", 6, "s CUTOFF 3\n"),
+    (
+        &["tree", "--root", "3"],
+        "p edge 3 1\ne 1 2\n",
+        6,
+        "s CUTOFF 1\n",
+    ),
+    (
+        &["tree", "--root", "4"],
+        "p edge 3 1\ne 1 2\n",
+        6,
+        "s ROOT 4\n",
+    ),
+    (&["tree"], "p edge 0 0\n", 6, "s ROOT 1\n"),
+    // a vertex with a loop alone is cut off
+    (&["tree"], "p edge 2 1\ne 2 2\n", 6, "s CUTOFF 2\n"),
+    (&["tree"], HEAVY, 4, "s LIMIT 6 2\n"),
+    // the weights at the root aren't its arrows'
+    (
+        &["tree", "--root", "2", "--stacks", "0"],
+        "p edge 3 3\ne 1 2 4294967295\ne 2 3 4294967295\ne 2 2 9\n",
+        3,
+        "s ROWS 1 2\n",
+    ),
+    (&["tree", "--stacks", "0;"], TRIANGLE, 3, "s EMPTYROW 3\n"),
+    (
+        &["tree", "--root", "2", "--stacks", "0;0,2"],
+        TRIANGLE,
+        3,
+        "s VALUE 3 1\n",
+    ),
+];
+
 #[test]
 fn trees_end_as_worked_by_hand(rt: HostRuntime) -> Result<(), Fail> {
-    let triangle = "p edge 3 3\ne 1 2\ne 2 3\ne 1 3\n";
-    let heavy = "p edge 2 2\ne 1 2 4294967295\ne 1 2\n";
-    let rows: [(&[&str], &str, u8, &str); 15] = [
-        (
-            &["tree", "--stacks", "1,0;0,0"],
-            triangle,
-            0,
-            "s SAMPLE\na 2 1 1\na 3 2 2\nused 1 1\npops 1\n",
-        ),
-        (
-            &["tree", "--stacks", "0,0;1,1;0,1"],
-            "p edge 4 3\ne 2 3\ne 3 4\ne 4 1\n",
-            0,
-            "s SAMPLE\na 2 3 1\na 3 4 2\na 4 1 3\nused 0 1 1\npops 1\n",
-        ),
-        // a cycle whose variables are at their last entries
-        (
-            &["tree", "--stacks", "1;0"],
-            triangle,
-            1,
-            "s EXHAUSTED\nstuck 2 3\nused 0 0\npops 0\n",
-        ),
-        // a loop, a parallel edge, and the weights 5 and 1: of the first entry of the key of zeros
-        // the sixth part up to the fifth is the first slot
-        (
-            &["tree", "--key", ZERO_KEY],
-            "p edge 2 3\ne 2 2\ne 1 2 5\ne 1 2\n",
-            0,
-            "s SAMPLE\na 2 1 2\nused 0\npops 0\n",
-        ),
-        // towards another root the variables are the vertices 1 and 3
-        (
-            &["tree", "--root", "2", "--stacks", "0;0"],
-            triangle,
-            0,
-            "s SAMPLE\na 1 2 1\na 3 2 2\nused 0 0\npops 0\n",
-        ),
-        (&["tree"], "p edge 1 0\n", 0, "s SAMPLE\nused\npops 0\n"),
-        (&["tree"], "p edge 3 1\ne 1 2\n", 6, "s CUTOFF 3\n"),
-        (
-            &["tree", "--root", "3"],
-            "p edge 3 1\ne 1 2\n",
-            6,
-            "s CUTOFF 1\n",
-        ),
-        (
-            &["tree", "--root", "4"],
-            "p edge 3 1\ne 1 2\n",
-            6,
-            "s ROOT 4\n",
-        ),
-        (&["tree"], "p edge 0 0\n", 6, "s ROOT 1\n"),
-        // a vertex with a loop alone is cut off
-        (&["tree"], "p edge 2 1\ne 2 2\n", 6, "s CUTOFF 2\n"),
-        (&["tree"], heavy, 4, "s LIMIT 6 2\n"),
-        // the weights at the root aren't its arrows'
-        (
-            &["tree", "--root", "2", "--stacks", "0"],
-            "p edge 3 3\ne 1 2 4294967295\ne 2 3 4294967295\ne 2 2 9\n",
-            3,
-            "s ROWS 1 2\n",
-        ),
-        (&["tree", "--stacks", "0;"], triangle, 3, "s EMPTYROW 3\n"),
-        (
-            &["tree", "--root", "2", "--stacks", "0;0,2"],
-            triangle,
-            3,
-            "s VALUE 3 1\n",
-        ),
-    ];
-    for (words, input, status, output) in rows {
-        let (got, text) = answer(&rt, rt.alloc(), words, input)?;
-        assert_eq!(&rt; got, status, "{words:?}");
-        assert_eq!(&rt; text.as_slice(), output.as_bytes(), "{words:?}");
-    }
-    Ok(())
+    are_answered_by_all(&rt, rt.alloc(), &RUNS)
 }
 
 // A grid of so many rows and columns: each vertex with the one to its right and the one below.

@@ -1,23 +1,14 @@
 //! Runs of several workers.
 ghost use Rattle.std.specs.Prelude.{◌<◌};
 
-use super::{ZERO_KEY, answer, answer_behind};
+use super::{ZERO_KEY, all_end_alike, all_print_alike, answer, answer_behind, chain};
 use pop_workers::Gate;
 use std::alloc::{AllocError, Global};
 use std::process::Abort;
 use std::sync::Wait;
-use std::sync::atomic::{AtomicBool, Ordering};
+use std::sync::atomic::{AtomicBool, AtomicU64, Ordering};
 use std::test::Fail;
 use std::thread::Threads;
-
-// A chain of clauses, each of which shares a variable with the next.
-fn chain(alloc: Global) -> Result<String, AllocError> {
-    let mut input = String::from_str(alloc, "p cnf 200 99\n")?;
-    for i in 1..100u32 {
-        write!(input, "{} {} -{} 0\n", 2 * i - 1, 2 * i, 2 * i + 1)?;
-    }
-    Ok(input)
-}
 
 // A wheel: a hub, vertex 1, and a rim.
 fn wheel(alloc: Global, rim: u32) -> Result<String, AllocError>
@@ -31,29 +22,33 @@ fn wheel(alloc: Global, rim: u32) -> Result<String, AllocError>
 }
 
 #[test]
-fn the_number_of_workers_changes_no_byte(rt: HostRuntime) -> Result<(), Fail> {
+fn no_crew_changes_a_byte(rt: HostRuntime) -> Result<(), Fail> {
     let alloc = rt.alloc();
     let chain = chain(alloc)?;
     let wheel = wheel(alloc, 40)?;
-    let runs = [
-        ("formula", chain.as_str()),
-        ("orient", wheel.as_str()),
-        ("tree", wheel.as_str()),
-    ];
-    for (command, input) in runs {
-        let alone = answer(&rt, alloc, &[command, "--key", ZERO_KEY], input)?;
-        assert_eq!(&rt; alone.0, 0, "{command}");
-        for workers in ["1", "2", "8", "64"] {
-            let words = [command, "--key", ZERO_KEY, "--workers", workers];
-            let (status, text) = answer(&rt, alloc, &words, input)?;
-            assert_eq!(&rt; status, 0, "{command} of {workers} workers");
-            assert_eq!(&rt;
-                text.as_slice(),
-                alone.1.as_slice(),
-                "{command} of {workers} workers"
-            );
-        }
+    all_print_alike(&rt, alloc, &["formula", "--key", ZERO_KEY], chain.as_str())?;
+    all_print_alike(&rt, alloc, &["orient", "--key", ZERO_KEY], wheel.as_str())?;
+    all_print_alike(&rt, alloc, &["tree", "--key", ZERO_KEY], wheel.as_str())
+}
+
+// The words of runs whose stacks soon come to their ends.
+static SHORT: [[&str; 5]; 3] = [
+    ["formula", "--key", ZERO_KEY, "--height", "1"],
+    ["formula", "--key", ZERO_KEY, "--height", "2"],
+    ["formula", "--key", ZERO_KEY, "--height", "3"],
+];
+
+static SHORT_GRID: [&str; 7] = ["make", "grid", "30", "--key", ZERO_KEY, "--height", "2"];
+
+#[test]
+fn no_crew_changes_a_byte_where_stacks_are_short(rt: HostRuntime) -> Result<(), Fail> {
+    let chain = chain(rt.alloc())?;
+    for words in SHORT.iter() {
+        let status = all_end_alike(&rt, rt.alloc(), words, chain.as_str())?;
+        assert!(&rt; status <= 1, "{words:?}");
     }
+    let status = all_end_alike(&rt, rt.alloc(), &SHORT_GRID, "")?;
+    assert!(&rt; status <= 1);
     Ok(())
 }
 
@@ -68,16 +63,30 @@ fn a_crew_has_1_to_64_workers(rt: HostRuntime) -> Result<(), Fail> {
     Ok(())
 }
 
-// Holds a worker before its first turn until the other of two comes to its second.
+// Holds a worker before its first turn until the other of two comes to its second, and counts the
+// turns of both.
 #[derive(Drop)]
 struct Held {
     worker: u32,
     came: AtomicBool,
     ran_out: AtomicBool,
+    turns: AtomicU64,
+}
+
+impl Held {
+    fn new(worker: u32) -> Held {
+        Held {
+            worker,
+            came: AtomicBool::new(false),
+            ran_out: AtomicBool::new(false),
+            turns: AtomicU64::new(0),
+        }
+    }
 }
 
 impl Gate for Held {
     fn at(&self, worker: u32, turn: u64) {
+        self.turns.fetch_add(1, Ordering::SeqCst);
         if worker != self.worker {
             if turn == 1 {
                 self.came.store(true, Ordering::SeqCst);
@@ -96,18 +105,24 @@ impl Gate for Held {
     }
 }
 
-// What two workers print of two clauses that clash, where this one is held.
+// What two workers on this board print of two clauses that clash, where this one is held.
 fn with_held<R: Threads + Wait + Sync + Abort>(
     rt: &R,
     alloc: Global,
+    board: &str,
     worker: u32,
 ) -> Result<Vec<u8>, Fail> {
-    let gate = Held {
-        worker,
-        came: AtomicBool::new(false),
-        ran_out: AtomicBool::new(false),
-    };
-    let words = ["resample", "--stacks", "0,1;0,0;0,0", "--workers", "2"];
+    let gate = Held::new(worker);
+    let stacks = "0,1;0,0;0,0";
+    let words = [
+        "resample",
+        "--stacks",
+        stacks,
+        "--workers",
+        "2",
+        "--board",
+        board,
+    ];
     let input = "p cnf 3 2\n1 2 0\n1 3 0\n";
     let (status, text) = answer_behind(rt, alloc, &gate, &words, input, 4096)?;
     assert_eq!(rt; status, 0);
@@ -122,13 +137,50 @@ fn with_held<R: Threads + Wait + Sync + Abort>(
 // print both texts.
 #[test]
 fn each_of_two_workers_pops_where_the_other_is_held(rt: HostRuntime) -> Result<(), Fail> {
-    assert_eq!(&rt;
-        with_held(&rt, rt.alloc(), 0)?.as_slice(),
-        b"s SAMPLE\nv 1 -2 -3 0\nused 1 0 1\npops 1\nlog 1 1\npop 2 1:0 3:0\n".as_slice()
+    let first = "s SAMPLE\nv 1 -2 -3 0\nused 1 1 0\npops 1\nlog 2 1\npop 1 1 1:0 2:0\n";
+    let second = "s SAMPLE\nv 1 -2 -3 0\nused 1 0 1\npops 1\nlog 2 1\npop 1 2 1:0 3:0\n";
+    for board in ["words", "lock"] {
+        let behind = with_held(&rt, rt.alloc(), board, 0)?;
+        assert_eq!(&rt; behind.as_slice(), second.as_bytes(), "{board}");
+        let before = with_held(&rt, rt.alloc(), board, 1)?;
+        assert_eq!(&rt; before.as_slice(), first.as_bytes(), "{board}");
+    }
+    Ok(())
+}
+
+// How many turns two workers on this board take over a cycle that is popped ten times, where the
+// second is held.
+fn turns_on<R: Threads + Wait + Sync + Abort>(
+    rt: &R,
+    alloc: Global,
+    board: &str,
+) -> Result<u64, Fail> {
+    let gate = Held::new(1);
+    let stacks = "1,1,1,1,1,1,1,1,1,1,0;0,0,0,0,0,0,0,0,0,0,0";
+    let words = [
+        "tree",
+        "--stacks",
+        stacks,
+        "--workers",
+        "2",
+        "--board",
+        board,
+    ];
+    let input = "p edge 3 3\ne 1 2\ne 2 3\ne 1 3\n";
+    let (status, text) = answer_behind(rt, alloc, &gate, &words, input, 4096)?;
+    assert_eq!(rt; status, 0);
+    assert_eq!(rt;
+        text.as_slice(),
+        b"s SAMPLE\na 2 1 1\na 3 2 2\nused 10 10\npops 10\n".as_slice()
     );
-    assert_eq!(&rt;
-        with_held(&rt, rt.alloc(), 1)?.as_slice(),
-        b"s SAMPLE\nv 1 -2 -3 0\nused 1 1 0\npops 1\nlog 1 1\npop 1 1:0 2:0\n".as_slice()
-    );
+    Ok(gate.turns.load(Ordering::SeqCst))
+}
+
+// On a book under a lock a turn pops one event at most. On claim words the first turn pops all ten,
+// one of the workers has the other start, and each ends at a turn without one.
+#[test]
+fn workers_meet_on_the_board_that_is_asked_for(rt: HostRuntime) -> Result<(), Fail> {
+    assert!(&rt; turns_on(&rt, rt.alloc(), "lock")? > 10);
+    assert_eq!(&rt; turns_on(&rt, rt.alloc(), "words")?, 4);
     Ok(())
 }

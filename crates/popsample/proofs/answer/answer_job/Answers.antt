@@ -8,7 +8,8 @@ pub returns-in_ok-formula_of-in-Formula-clause-answer : goal.returns-in_ok-formu
 returns-in_ok-formula_of-in-Formula-clause-answer g c text input read = elim input [
   | inl known ↦
       lifted_formula c.args.job _ text c.in_ok-formula_of-in-Formula.field-0 _ c.of-asked.result c.sample_formula-in-Formula.result c.in-Formula.is
-      (let seen = c.origin.view_is in let made = c.new-origin.ensures in cc) (c.in_ok-formula_of-in-Formula.ensures.text text known) c.sample_formula-in-Formula.ensures
+      (let seen = c.origin.view_is in let made = c.new-origin.ensures in cc) c.of-asked.ensures
+      (c.in_ok-formula_of-in-Formula.ensures.text text known) c.sample_formula-in-Formula.ensures
   | inr make ↦ let is = c.in-Formula.is in absurd (cc)
 ]
 
@@ -40,8 +41,8 @@ returns-in_ok-formula_of-in-Check-clause-answer g c text input read = elim input
 pub returns-in_ok-graph_of-in-Orient-clause-answer : goal.returns-in_ok-graph_of-in-Orient-clause-answer
 returns-in_ok-graph_of-in-Orient-clause-answer g c text input read = elim input [
   | inl known ↦
-      lifted_orient c.args.job _ text c.in_ok-graph_of-in-Orient.field-0 _ c.orient.result c.in-Orient.is
-      (let seen = c.origin-in-Orient.view_is in let made = c.new-origin.ensures in cc)
+      lifted_orient c.args.job _ text c.in_ok-graph_of-in-Orient.field-0 _ _ c.orient.result c.in-Orient.is
+      (let seen = c.origin-in-Orient.view_is in let made = c.new-origin.ensures in cc) c.of-asked.ensures
       (c.in_ok-graph_of-in-Orient.ensures.text text known) c.orient.ensures
   | inr make ↦ let is = c.in-Orient.is in absurd (cc)
 ]
@@ -57,8 +58,8 @@ returns-in_ok-graph_of-in-Orient-clause-no_bad_line g c failed =
 pub returns-in_ok-graph_of-in-Tree-clause-answer : goal.returns-in_ok-graph_of-in-Tree-clause-answer
 returns-in_ok-graph_of-in-Tree-clause-answer g c text input read = elim input [
   | inl known ↦
-      lifted_tree c.args.job _ text c.in_ok-graph_of-in-Tree.field-0 _ c.tree.result c.in-Tree.is
-      (let seen = c.origin-in-Tree.view_is in let made = c.new-origin.ensures in cc)
+      lifted_tree c.args.job _ text c.in_ok-graph_of-in-Tree.field-0 _ _ c.tree.result c.in-Tree.is
+      (let seen = c.origin-in-Tree.view_is in let made = c.new-origin.ensures in cc) c.of-asked.ensures
       (c.in_ok-graph_of-in-Tree.ensures.text text known) c.tree.ensures
   | inr make ↦ let is = c.in-Tree.is in absurd (cc)
 ]

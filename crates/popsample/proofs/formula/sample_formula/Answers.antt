@@ -34,5 +34,5 @@ returns g c =
     c.of_events-instance.ensures
     ∙ ap (λ (s : StackTable). instance_of s.origin n c.in_ok-events.events) c.in_ok-stacks.ensures.made in
     run_answers c.args.may_clash c.args.origin c.args.asked _ n f c.in_ok-events.events c.of_events-instance.result a.status
-    a.text.items c.variables-variables.ensures.count same c.in_ok-events.ensures.events sound c.requires.told
+    a.text.items c.variables-variables.ensures.count same c.in_ok-events.ensures.events sound c.requires.free
     c.in_ok-refuse_clash.ensures.extremal c.in_ok-run_and_tell.ensures.ended c.in_ok-run_and_tell.ensures.history

@@ -20,8 +20,8 @@ returns g c =
     let same : c.of_events-instance.result ≡ instance_of c.args.origin c.edges-edges.result events =
     c.of_events-instance.ensures
     ∙ ap (λ (s : StackTable). instance_of s.origin c.edges-edges.result events) c.in_ok-stacks.ensures.made in
-    orient_answers c.args.origin graph c.edges-edges.result events c.of_events-instance.result a.status a.text.items
+    orient_answers c.args.origin c.args.asked _ graph c.edges-edges.result events c.of_events-instance.result a.status a.text.items
     c.in_ok-events.ensures.touched c.in_ok-events.ensures.sinks count same sound
-    (c.in_ok-run_and_tell.ensures.ended c.requires.quiet
+    (c.in_ok-run_and_tell.ensures.ended c.requires.ordered
     (subst IsExtremal (sym (ap (λ (i : Instance). i.family) same))
     (sinks_extremal graph events c.in_ok-events.ensures.sinks)))

@@ -16,7 +16,7 @@ returns g c =
     let same : c.of_arrows-instance.result ≡ j =
     c.of_arrows-instance.ensures
     ∙ ap (λ (s : StackTable). record { stacks = s; family = Cycles c.args.arrows }) c.in_ok-stacks.ensures.made in
-    arrows_answer c.args.facts.now c.args.origin c.args.weights c.of_arrows-instance.result j a.status a.text.items
+    arrows_answer c.args.facts.now c.args.origin c.args.asked _ c.args.weights c.of_arrows-instance.result j a.status a.text.items
     c.in_ok-stacks.ensures.sound same
-    (c.in_ok-run_and_tell.ensures.ended c.requires.quiet
+    (c.in_ok-run_and_tell.ensures.ended c.requires.ordered
     (subst IsExtremal (sym (ap (λ (i : Instance). i.family) same)) (family.cycles_extremal c.args.arrows)))
