@@ -4,10 +4,10 @@
 # The options of a command.
 _popsample_options() {
     case $1 in
-        formula | orient) echo --stacks --key --height --workers ;;
-        tree) echo --stacks --key --height --workers --root ;;
-        resample) echo --stacks --key --height --workers --witness --report ;;
-        make) echo --stacks --key --height --workers grid ;;
+        formula | orient) echo --stacks --key --height --workers --board --log --witness --report ;;
+        tree) echo --stacks --key --height --workers --board --root --log --witness --report ;;
+        resample) echo --stacks --key --height --workers --board --witness --report ;;
+        make) echo --stacks --key --height --workers --board grid --log --witness --report ;;
         rounds) echo --stacks --key --height ;;
     esac
 }
@@ -20,7 +20,11 @@ _popsample() {
     if ((COMP_CWORD == 1)); then
         choices="formula orient tree resample check make rounds"
     elif [[ $before == --report ]]; then
-        choices="totals heights totals,heights"
+        choices="totals heights layers totals,heights,layers"
+    elif [[ $before == --board ]]; then
+        choices="words lock"
+    elif [[ $before == --log ]]; then
+        choices="on off"
     elif ((COMP_CWORD % 2 == 0)); then
         for option in $(_popsample_options "${COMP_WORDS[1]}"); do
             case $option in

@@ -13,7 +13,7 @@ from __future__ import annotations
 import math
 import sys
 from html import escape
-from typing import Iterator, Tuple
+from typing import Iterator, Optional, Tuple
 
 from graph_text import Arrow, Graph, read_arrows, read_graph
 from grid import grid_edges
@@ -127,9 +127,10 @@ def labels(graph: Graph, root: int, places: dict[int, Point]) -> Iterator[str]:
         yield label(graph.names.get(vertex, str(vertex)), (x, y))
 
 
-def picture(width: float, body: Iterator[str]) -> str:
-    """A square picture."""
-    head = f'<svg xmlns="http://www.w3.org/2000/svg" viewBox="0 0 {width:g} {width:g}" width="{width:g}">'
+def picture(width: float, body: Iterator[str], height: Optional[float] = None) -> str:
+    """A picture, square where no height is given."""
+    high = width if height is None else height
+    head = f'<svg xmlns="http://www.w3.org/2000/svg" viewBox="0 0 {width:g} {high:g}" width="{width:g}">'
     ground = f'<rect width="100%" height="100%" fill="{BACKGROUND}"/>'
     return "\n".join([head, ground, *body, "</svg>"])
 

@@ -24,16 +24,24 @@ STANDARD = (bytes(range(32)), 0x4A000000, 0x0900000000000001)
 STANDARD_WORDS = (0xE4E7F110, 0x15593BD1, 0x1FDD0F50, 0xC47120A3)
 
 # Outputs that are right in themselves, of runs that are wrong: one stops where an event can be popped, one pops
-# what doesn't occur, and one begins at a later entry; two end with what is no sample. Of the rounds one lets no event
-# join, and one moves a variable of an excluded event.
+# what doesn't occur, and one begins at a later entry; four tell a legal log that isn't layered, by its order or by its
+# numbers, one in the order of the pops, and one for another; two end with what is no sample. Of the rounds one lets no
+# event join, and one moves a variable of an excluded event.
 ONE = b"p cnf 1 1\n1 0\n"
+TWO = b"p cnf 2 2\n1 0\n2 0\n"
+TWO_TOLD = b"s SAMPLE\nv 1 2 0\nused 2 1\npops 3\nlog 2 3\n"
 AGREEING = b"p cnf 3 2\n1 2 0\n2 3 0\n"
 DIFFERING = b"p cnf 3 2\n1 2 0\n-2 3 0\n"
 TRIANGLE = b"p edge 3 3\ne 1 2\ne 2 3\ne 1 3\n"
 FALSE_RUNS = (
-    ("resample --stacks 0,0,1", ONE, b"s EXHAUSTED\nstuck 1\nused 1\npops 1\nlog 1 1\npop 1 1:0\n", 1),
-    ("resample --stacks 1,1", ONE, b"s SAMPLE\nv 1 0\nused 1\npops 1\nlog 1 1\npop 1 1:0\n", 0),
-    ("resample --stacks 0,0,1", ONE, b"s SAMPLE\nv 1 0\nused 2\npops 1\nlog 1 1\npop 1 1:1\n", 0),
+    ("resample --stacks 0,0,1", ONE, b"s EXHAUSTED\nstuck 1\nused 1\npops 1\nlog 2 1\npop 1 1 1:0\n", 1),
+    ("resample --stacks 1,1", ONE, b"s SAMPLE\nv 1 0\nused 1\npops 1\nlog 2 1\npop 1 1 1:0\n", 0),
+    ("resample --stacks 0,0,1", ONE, b"s SAMPLE\nv 1 0\nused 2\npops 1\nlog 2 1\npop 1 1 1:1\n", 0),
+    ("resample --stacks 0,0,1;0,1", TWO, TWO_TOLD + b"pop 1 2 2:0\npop 1 1 1:0\npop 2 1 1:1\n", 0),
+    ("resample --stacks 0,0,1;0,1", TWO, TWO_TOLD + b"pop 1 1 1:0\npop 2 1 1:1\npop 1 2 2:0\n", 0),
+    ("resample --stacks 0,0,1;0,1", TWO, TWO_TOLD + b"pop 1 1 1:0\npop 2 2 2:0\npop 3 1 1:1\n", 0),
+    ("formula --stacks 0,0,1;0,1 --log on", TWO, TWO_TOLD + b"pop 1 1 1:0\npop 2 1 1:1\npop 1 2 2:0\n", 0),
+    ("resample --stacks 0,0,1", ONE, b"s SAMPLE\nv 1 0\nused 2\npops 2\nlog 1 2\npop 1 1:0\npop 1 1:1\n", 0),
     ("orient --stacks 0,0;1,1;1,1", TRIANGLE, b"s SAMPLE\na 1 2 1\na 3 2 2\na 3 1 3\nused 0 0 0\npops 0\n", 0),
     ("tree --stacks 1,0;0,0", TRIANGLE, b"s SAMPLE\na 2 3 2\na 3 2 2\nused 0 0\npops 0\n", 0),
     ("rounds --stacks 0,1;0,0;1,1", AGREEING, b"s SAMPLE\nv 1 -2 3 0\nused 1 1 0\nrounds 1\n", 0),

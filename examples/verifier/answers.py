@@ -7,11 +7,11 @@ from typing import NamedTuple, Union
 from .command_line import Job, read_words
 from .formulas import FormulaSetting, read_formula
 from .graphs import grid, read_graph
-from .logs import printed_record, read_log, report_lines
+from .logs import layered, log_lines, read_log, report_lines
 from .orientations import OrientationSetting
 from .refusals import Refusal
 from .rounds import run_rounds
-from .runs import Board
+from .runs import Board, Record
 from .stacks import Stacks
 from .trees import TreeSetting
 from .witnesses import witness_lines
@@ -63,21 +63,21 @@ def made_end_of(setting: TreeSetting, board: Board, pops: int, side: int) -> Ans
     return Answer(0, ["s SAMPLE", f"grid {side}", *middle, f"sum {setting.made_sum(board.values)}"])
 
 
-def resampled(job: Job, setting: FormulaSetting, board: Board, printed: list[str]) -> Answer:
-    """The answer of `resample` that shows the printed log, which is judged on the way."""
-    records = read_log(board, printed, setting.names)
-    status, lines, sampled = end_of(setting, board, f"pops {len(records)}")
-    lines.append(f"log 1 {len(records)}")
-    lines += [printed_record(record, setting.names) for record in records]
+def with_history(job: Job, names: list[int], board: Board, records: list[Record], end: Answer) -> Answer:
+    """The end of a run with these records, and behind it the log, the witness and the reports that are asked for."""
+    log = layered(records)
+    status, lines, sampled = end
+    if job.log:
+        lines += log_lines(log, names)
     if job.witness:
         name, entry = job.witness
-        witness = witness_lines(records, setting.names, name, entry)
+        witness = witness_lines([record for _, record in log], names, name, entry)
         if witness is None:
-            status = 6
-            cursor = board.cursors[setting.names.index(name)] if name in setting.names else 0
+            cursor = board.cursors[names.index(name)] if name in names else 0
             witness = [f"witness none {name} {entry} {cursor}"]
+            status = 6 if job.command == "resample" else status
         lines += witness
-    return Answer(status, lines + report_lines(job.reports, records), sampled)
+    return Answer(status, lines + report_lines(job.reports, log), sampled)
 
 
 def rounded(setting: FormulaSetting, board: Board) -> Answer:
@@ -99,14 +99,14 @@ def run_of(job: Job, text: bytes, printed: list[str]) -> Answer:
     if job.command == "formula":
         refuse_clash(setting)
     board = Board(setting.family, stacks, len(setting.names))
-    if job.command == "resample":
-        return resampled(job, setting, board, printed)
     if job.command == "rounds":
         return rounded(setting, board)
-    pops = board.run_first()
+    records = read_log(board, printed, setting.names) if job.command == "resample" else board.run_first()
     if job.command == "make":
-        return made_end_of(setting, board, pops, job.side)
-    return end_of(setting, board, f"pops {pops}")
+        end = made_end_of(setting, board, len(records), job.side)
+    else:
+        end = end_of(setting, board, f"pops {len(records)}")
+    return with_history(job, setting.names, board, records, end)
 
 
 def answer_to(words: list[str], text: bytes, printed: list[str]) -> Answer:

@@ -3,20 +3,22 @@
 from __future__ import annotations
 
 import re
-from typing import NamedTuple, NoReturn, Optional
+from typing import Callable, NamedTuple, NoReturn, Optional
 
 from .refusals import Refusal
 
 MOST = 4294967295
 STACKED = {"--stacks", "--key", "--height"}
-SAMPLED = STACKED | {"--workers"}
+SAMPLED = STACKED | {"--workers", "--board"}
+TOLD = {"--witness", "--report"}
+LOGGED = SAMPLED | TOLD | {"--log"}
 OPTIONS = {
-    "formula": SAMPLED,
-    "orient": SAMPLED,
-    "tree": SAMPLED | {"--root"},
-    "resample": SAMPLED | {"--witness", "--report"},
+    "formula": LOGGED,
+    "orient": LOGGED,
+    "tree": LOGGED | {"--root"},
+    "resample": SAMPLED | TOLD,
     "check": set(),
-    "make": SAMPLED | {"grid"},
+    "make": LOGGED | {"grid"},
     "rounds": STACKED,
 }
 EXCLUDED = {"--stacks": {"--key", "--height"}, "--key": {"--stacks"}, "--height": {"--stacks"}}
@@ -33,6 +35,7 @@ class Job(NamedTuple):
     witness: Optional[tuple[int, int]]
     reports: list[str]
     side: int
+    log: bool
 
 
 def read_number(word: str, least: int = 0, most: int = MOST) -> int:
@@ -63,10 +66,20 @@ def read_witness(word: str) -> tuple[int, int]:
     return read_number(name), read_number(entry)
 
 
+def one_of(*words: str) -> Callable[[str], str]:
+    """What reads one of these words."""
+    def read(word: str) -> str:
+        if word not in words:
+            raise ValueError(word)
+        return word
+
+    return read
+
+
 def read_reports(word: str) -> list[str]:
-    """`totals` or `heights`, or both in either order."""
+    """`totals`, `heights` and `layers`, each at most once, in any order."""
     kinds = word.split(",")
-    if len(set(kinds)) < len(kinds) or not set(kinds) <= {"totals", "heights"}:
+    if len(set(kinds)) < len(kinds) or not set(kinds) <= {"totals", "heights", "layers"}:
         raise ValueError(word)
     return kinds
 
@@ -76,7 +89,9 @@ READERS = {
     "--key": read_key,
     "--height": lambda word: read_number(word, 1, 2147483647),
     "--workers": lambda word: read_number(word, 1, 64),
+    "--board": one_of("words", "lock"),
     "--root": lambda word: read_number(word, 1),
+    "--log": one_of("on", "off"),
     "--witness": read_witness,
     "--report": read_reports,
     "grid": lambda word: read_number(word, 1, 2048),
@@ -113,4 +128,5 @@ def read_words(words: list[str]) -> Job:
         refuse(len(words) + 1)
     return Job(
         words[0], given.get("--stacks"), given.get("--key", bytes(32)), given.get("--height", 1048576),
-        given.get("--root", 1), given.get("--witness"), given.get("--report", []), given.get("grid", 0))
+        given.get("--root", 1), given.get("--witness"), given.get("--report", []), given.get("grid", 0),
+        words[0] == "resample" or given.get("--log") == "on")

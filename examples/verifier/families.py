@@ -47,10 +47,13 @@ class Listed:
 
 
 class Cycles:
-    """The cycles of arrows. `heads[v][j]` is where value j of variable v leads, None for the root."""
+    """The cycles of arrows. `heads[v][j]` is where value j of variable v leads, None for the root. `names[v]` is the
+    number of a cycle whose least variable is v.
+    """
 
-    def __init__(self, heads: list[list[Optional[int]]]) -> None:
+    def __init__(self, heads: list[list[Optional[int]]], names: list[int]) -> None:
         self.heads = heads
+        self.names = names
 
     def near(self, variables: Iterable[int], values: list[int]) -> Iterator[Event]:
         """The cycles that occur to which the arrows lead from one of the variables."""
@@ -64,4 +67,5 @@ class Cycles:
                 place = self.heads[place][values[place]]
             if place is not None and walked[place] == start:
                 cycle = sorted(path[path.index(place):])
-                yield Event(cycle[0], tuple((each, values[each]) for each in cycle), cycle[0])
+                cube = tuple((each, values[each]) for each in cycle)
+                yield Event(cycle[0], cube, self.names[cycle[0]])

@@ -1,51 +1,62 @@
-"""The log of pops: its records, and whether each may stand where it stands."""
+"""The layered log of a run: its records, whether each may stand where it stands, and the reports on it."""
 
 from __future__ import annotations
 
 import re
-from typing import NamedTuple
 
-from .families import Event
 from .refusals import Difference
-from .runs import Board
+from .runs import Board, Record
 
 
-class Record(NamedTuple):
-    """A pop: its event, and for each of the event's variables the entry that was used."""
+def layered(records: list[Record]) -> list[tuple[int, Record]]:
+    """The records of a log, each with its layer, by rising layer, and in a layer by rising unit.
 
-    event: Event
-    entries: list[int]
+    A record's layer is 1 more than the greatest one among earlier records that share a variable with it.
+    """
+    last: dict[int, int] = {}
+    found = []
+    for record in records:
+        variables = [variable for variable, _ in record.event.cube]
+        layer = 1 + max(last.get(variable, 0) for variable in variables)
+        last.update(dict.fromkeys(variables, layer))
+        found.append((layer, record))
+    return sorted(found, key=lambda each: (each[0], each[1].event.unit))
 
 
-def printed_record(record: Record, names: list[int]) -> str:
-    """The line of a record."""
+def printed_pop(record: Record, names: list[int]) -> str:
+    """What the line of a record has behind its layer."""
     pairs = zip(record.event.cube, record.entries)
     used = [f"{names[variable]}:{entry}" for (variable, _), entry in pairs]
-    return " ".join(["pop", str(record.event.number), *used])
+    return " ".join([str(record.event.number), *used])
+
+
+def log_lines(log: list[tuple[int, Record]], names: list[int]) -> list[str]:
+    """The printed log."""
+    records = [f"pop {layer} {printed_pop(record, names)}" for layer, record in log]
+    return [f"log 2 {len(log)}", *records]
 
 
 def next_record(board: Board, line: int, text: str, names: list[int]) -> Record:
-    """The record that a line tells, after its pop; else why it can't stand there."""
-    words = text.split()
+    """The record that a line tells, after its pop; else why it can't stand there. Its layer isn't looked at."""
+    words = re.fullmatch("pop [0-9]+ (([0-9]+) .*)", text)
     named = getattr(board.family, "named")
-    if len(words) < 2 or words[0] != "pop" or not words[1].isdigit() or int(words[1]) not in named:
+    if not words or int(words[2]) not in named:
         raise Difference(line, "no record of an event stands here")
-    event = named[int(words[1])]
-    record = Record(event, [board.cursors[variable] for variable, _ in event.cube])
-    wanted = printed_record(record, names)
-    if text != wanted:
-        raise Difference(line, f"at these cursors the pop of this event would be `{wanted}`")
+    event = named[int(words[2])]
     if not board.occurs(event.cube):
         raise Difference(line, f"event {event.number} doesn't occur")
     if not board.poppable(event.cube):
         raise Difference(line, f"event {event.number} has a variable at its last entry")
-    board.pop(event.cube)
+    record = board.pop(event)
+    wanted = printed_pop(record, names)
+    if words[1] != wanted:
+        raise Difference(line, f"at these cursors the pop of this event would be `{wanted}`, behind its layer")
     return record
 
 
 def read_log(board: Board, lines: list[str], names: list[int]) -> list[Record]:
     """Replays the printed log from zeros: each record is legal, and at the end no event is poppable."""
-    heads = [index for index, line in enumerate(lines) if re.fullmatch("log 1 [0-9]+", line)]
+    heads = [index for index, line in enumerate(lines) if re.fullmatch("log 2 [0-9]+", line)]
     if not heads:
         raise Difference(len(lines) + 1, "there is no log")
     count = int(lines[heads[0]].split()[2])
@@ -60,13 +71,15 @@ def read_log(board: Board, lines: list[str], names: list[int]) -> list[Record]:
     return records
 
 
-def report_lines(kinds: list[str], records: list[Record]) -> list[str]:
+def report_lines(kinds: list[str], log: list[tuple[int, Record]]) -> list[str]:
     """The reports that were asked for, as folds of the log."""
-    lengths = [len(record.entries) for record in records]
-    digits = [entry.bit_length() for record in records for entry in record.entries]
+    lengths = [len(record.entries) for _, record in log]
+    digits = [entry.bit_length() for _, record in log for entry in record.entries]
     counts = [digits.count(each) for each in range(max(digits, default=-1) + 1)]
+    popped = {variable for _, record in log for variable, _ in record.event.cube}
     reports = {
-        "totals": ["report totals", len(records), sum(lengths), max(lengths, default=0)],
+        "totals": ["report totals", len(log), sum(lengths), max(lengths, default=0)],
         "heights": ["report heights", *counts],
+        "layers": ["report layers", max((layer for layer, _ in log), default=0), len(popped)],
     }
-    return [" ".join(map(str, reports[kind])) for kind in ("totals", "heights") if kind in kinds]
+    return [" ".join(map(str, reports[kind])) for kind in reports if kind in kinds]

@@ -8,10 +8,12 @@ ODD_WORDS = (
     b"0 -0 00 1 -1 2 -2 03 -03 7 99 -99 2147483647 -2147483648 4194305 4294967295 4294967296 00000000001 "
     b"x -x -- - % c cc p e n v cnf edge col +1 1.0 \r \x0b \xff").split(b" ")
 ODD_VALUES = (
-    "0 1 2 65 2048 2049 00 0001 4294967295 4294967296 x , ; 1,0 0,0 0;1 1,1,1 totals heights "
-    "totals,totals").split()
+    "0 1 2 65 2048 2049 00 0001 4294967295 4294967296 x , ; 1,0 0,0 0;1 1,1,1 totals heights layers on off "
+    "totals,totals words lock").split()
 ODD_OPTIONS = (
-    ["--root", "1"], ["--key", "0" * 64], ["grid", "2"], ["--workers", "1"], ["--report", "totals"])
+    ["--root", "1"], ["--key", "0" * 64], ["grid", "2"], ["--workers", "1"], ["--board", "lock"],
+    ["--report", "totals"], ["--log", "on"])
+REPORTS = ("totals", "heights", "layers")
 
 
 def random_clauses(chance: Random, variables: int) -> list[list[int]]:
@@ -90,6 +92,19 @@ def named_variables(text: bytes, command: str) -> int:
     return max(0, number - (command == "tree"))
 
 
+def history_options(chance: Random, command: str, variables: int) -> list[list[str]]:
+    """What is asked of the log: of `resample` mostly much."""
+    often = 0.7 if command == "resample" else 0.3
+    options = []
+    if command != "resample" and chance.random() < 0.4:
+        options.append(["--log", chance.choice(("on", "on", "off"))])
+    if chance.random() < often:
+        options.append(["--witness", f"{chance.randint(0, variables + 2)},{chance.choice((0, 0, 1, 2, 5))}"])
+    if chance.random() < often:
+        options.append(["--report", ",".join(chance.sample(REPORTS, chance.randint(1, 3)))])
+    return options
+
+
 def random_words(chance: Random, command: str, variables: int) -> list[str]:
     """A command line, mostly a right one. Heights are small, since the checker is slow."""
     options = []
@@ -101,12 +116,12 @@ def random_words(chance: Random, command: str, variables: int) -> list[str]:
         options.append(["--key", "".join(chance.choices("0123456789abcdefABCDEF", k=64))])
     if command != "rounds" and chance.random() < 0.3:
         options.append(["--workers", str(chance.choice((1, 2, 3, 8)))])
+    if command != "rounds" and chance.random() < 0.3:
+        options.append(["--board", chance.choice(("words", "lock"))])
     if command == "tree" and chance.random() < 0.5:
         options.append(["--root", str(chance.randint(1, variables + 2))])
-    if command == "resample" and chance.random() < 0.7:
-        options.append(["--witness", f"{chance.randint(0, variables + 1)},{chance.choice((0, 0, 1, 2, 5))}"])
-    if command == "resample" and chance.random() < 0.5:
-        options.append(["--report", chance.choice(("totals", "heights", "totals,heights", "heights,totals"))])
+    if command != "rounds":
+        options += history_options(chance, command, variables)
     chance.shuffle(options)
     return [command, *(word for option in options for word in option)]
 

@@ -3,10 +3,17 @@
 from __future__ import annotations
 
 import heapq
-from typing import Union
+from typing import NamedTuple, Union
 
 from .families import Cube, Cycles, Event, Listed
 from .stacks import Stacks
+
+
+class Record(NamedTuple):
+    """A pop: its event, and for each of the event's variables the entry that was used."""
+
+    event: Event
+    entries: list[int]
 
 
 class Board:
@@ -32,28 +39,29 @@ class Board:
         self.cursors[variable] += 1
         self.values[variable] = self.stacks.entry(variable, self.cursors[variable])
 
-    def pop(self, cube: Cube) -> None:
-        """Moves each variable of the cube on to its next entry."""
-        for variable, _ in cube:
+    def pop(self, event: Event) -> Record:
+        """Moves each variable of the event on to its next entry, and tells the record of that."""
+        record = Record(event, [self.cursors[variable] for variable, _ in event.cube])
+        for variable, _ in event.cube:
             self.move_on(variable)
+        return record
 
     def occurring(self) -> list[Event]:
         """The events that occur, by rising unit."""
         return sorted(set(self.family.near(range(len(self.cursors)), self.values)))
 
-    def run_first(self) -> int:
-        """Pops the poppable event of least unit while there is one, and tells the number of pops.
+    def run_first(self) -> list[Record]:
+        """Pops the poppable event of least unit while there is one, and tells the log.
 
         An event can have become poppable only where one of its variables moved: it is looked for there alone.
         """
-        pops = 0
+        records = []
         waiting = self.occurring()
         while waiting:
             event = heapq.heappop(waiting)
             if self.poppable(event.cube):
-                self.pop(event.cube)
-                pops += 1
+                records.append(self.pop(event))
                 moved = [variable for variable, _ in event.cube]
                 for other in self.family.near(moved, self.values):
                     heapq.heappush(waiting, other)
-        return pops
+        return records

@@ -23,7 +23,8 @@ class TreeSetting:
         at = slots(graph)
         self.slots = [at[name] for name in self.names]
         self.weights = [[weight for _, weight, _ in each] for each in self.slots]
-        self.family = Cycles([[place.get(head) for head, _, _ in each] for each in self.slots])
+        heads = [[place.get(head) for head, _, _ in each] for each in self.slots]
+        self.family = Cycles(heads, self.names)
 
     def sample_lines(self, values: list[int]) -> list[str]:
         """The arrow of each vertex but the root."""

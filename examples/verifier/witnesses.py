@@ -5,7 +5,7 @@ from __future__ import annotations
 from typing import NamedTuple, Optional
 
 from .families import Cube
-from .logs import Record
+from .runs import Record
 
 
 class Vertex(NamedTuple):

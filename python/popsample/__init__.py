@@ -37,7 +37,19 @@ from .formulas import check, resample, rounds, sample_formula
 from .graphs import sink_free_orientation, spanning_tree, spanning_trees
 from .keys import derived_key, draw_key
 from .program import find_program
-from .results import Arrow, Assignment, Orientation, Pop, Resampled, Rounded, Totals, Tree, WitnessVertex
+from .results import (
+    Arrow,
+    Assignment,
+    History,
+    Layers,
+    Orientation,
+    Pop,
+    Resampled,
+    Rounded,
+    Totals,
+    Tree,
+    WitnessVertex,
+)
 
 __all__ = [
     "Arrow",
@@ -48,7 +60,9 @@ __all__ = [
     "Empty",
     "EmptyRow",
     "Exhausted",
+    "History",
     "Isolated",
+    "Layers",
     "Limit",
     "Malformed",
     "Memory",

@@ -37,12 +37,6 @@ class Answer:
         return int(row[0]) if row else None
 
 
-def read_pairs(words: Sequence[str], sign: str) -> dict[int, int]:
-    """The pairs of numbers that are joined by this sign, by their first numbers."""
-    parts = (word.partition(sign) for word in words)
-    return {int(first): int(second) for first, _, second in parts}
-
-
 def read_answer(words: Sequence[str], status: int, text: bytes) -> Answer:
     """The answer that a text is. It may be any text: what can't be read is left to who looks at it."""
     lines: dict[str, list[list[str]]] = {}

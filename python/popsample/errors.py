@@ -65,7 +65,8 @@ class Exhausted(Refusal):
     """The run came to the end of a stack, and events still occur.
 
     `stuck` has for each of them the number of its clause, its vertex, or the vertices of its cycle. `used` has the
-    numbers of popped entries, in the order of the variables, `pops` that of the pops, and `log` those of `resample`.
+    numbers of popped entries, in the order of the variables, `pops` that of the pops, and `log` the pops where they are
+    told.
     Of rounds `pops` is None, `rounds` tells how many there were, and `short` is the variable that has no next entry.
     """
 

@@ -5,13 +5,15 @@ from __future__ import annotations
 import operator
 import os
 from collections.abc import Iterable, Sequence
+from dataclasses import replace
 from pathlib import Path
 from typing import Any, Union
 
-from .answer import Answer, read_pairs
+from .answer import Answer
+from .history import Asked
 from .program import origin_words, stack_words
-from .refusing import ask, read_log
-from .results import Assignment, Resampled, Rounded, Totals, WitnessVertex
+from .refusing import ask
+from .results import Assignment, Resampled, Rounded
 from .subject import Subject
 
 # A list of clauses, each a list of literals, or the path of a DIMACS CNF file.
@@ -51,6 +53,9 @@ def sample_formula(
     *,
     height: int | None = None,
     stacks: Stacks | None = None,
+    log: bool = False,
+    witness: tuple[int, int] | None = None,
+    reports: Sequence[str] = (),
 ) -> Assignment:
     """Samples a satisfying assignment of an extremal formula: of all stacks that give one, equally many give each.
 
@@ -60,11 +65,17 @@ def sample_formula(
 
     `key` has 64 hexadecimal digits, and is drawn from the system's randomness where it is None. `height` is the number
     of entries of each variable, and `stacks` gives rows of entries in place of a key. `workers` changes no result.
+
+    With `log` the result has the log of the pops. `witness` is the number of a variable and one of its entries, from 0:
+    the result has the witness tree of the pop that used it. `reports` names what is reported on the log: `totals`,
+    `heights` and `layers`.
     """
     key, words = origin_words(key, workers, height, stacks)
-    answer = ask(["formula", *words], formula_subject(clauses), key)
+    asked = Asked(log, witness, reports)
+    subject = formula_subject(clauses)
+    answer = ask(["formula", *words, *asked.words(subject.variables)], subject, key)
     literals = tuple(answer.numbers("v")[:-1])
-    return Assignment(literals, used_of(answer), answer.pops(), key)
+    return Assignment(literals, used_of(answer), answer.pops(), key, **asked.told(answer, subject))
 
 
 def resample(
@@ -82,19 +93,16 @@ def resample(
     Where the formula isn't extremal, how many stacks give each assignment depends on the order of the pops, which is
     free: with one worker the result is that of the key, with several it may differ from call to call.
 
-    `witness` is the number of a variable and one of its entries, from 0: the result has the witness tree of the pop
-    that used it, and `NoWitness` is raised where there is none. `reports` names what is reported on the log: `totals`,
-    `heights` or both. The other arguments are those of `sample_formula`.
+    The arguments are those of `sample_formula`, but that the log is always told, and `NoWitness` is raised where no pop
+    used the entry of `witness`.
     """
     key, words = origin_words(key, workers, height, stacks)
-    if witness is not None:
-        words += ["--witness", ",".join(map(str, witness))]
-    if reports:
-        words += ["--report", ",".join(reports)]
-    answer = ask(["resample", *words], formula_subject(clauses), key)
+    asked = Asked(False, witness, reports)
+    subject = formula_subject(clauses)
+    answer = ask(["resample", *words, *asked.words(subject.variables)], subject, key)
     literals = tuple(answer.numbers("v")[:-1])
-    tree = witness_of(answer) if witness is not None else None
-    return Resampled(literals, used_of(answer), answer.pops(), key, read_log(answer), tree, *reports_of(answer))
+    told = replace(asked, log=True).told(answer, subject)
+    return Resampled(literals, used_of(answer), answer.pops(), key, **told)
 
 
 def rounds(
@@ -112,19 +120,6 @@ def rounds(
     answer = ask(["rounds", *words], formula_subject(clauses), key)
     literals = tuple(answer.numbers("v")[:-1])
     return Rounded(literals, used_of(answer), answer.numbers("rounds")[0], key)
-
-
-def witness_of(answer: Answer) -> tuple[WitnessVertex, ...]:
-    """The vertices of the witness tree, in preorder."""
-    return tuple(WitnessVertex(int(row[0]), int(row[1]), read_pairs(row[2:], "=")) for row in answer.rows("wit"))
-
-
-def reports_of(answer: Answer) -> tuple[Totals | None, tuple[int, ...] | None]:
-    """The totals and the heights, each None where it wasn't asked for."""
-    told = {row[0]: [int(word) for word in row[1:]] for row in answer.rows("report")}
-    totals = Totals(*told["totals"]) if "totals" in told else None
-    heights = tuple(told["heights"]) if "heights" in told else None
-    return totals, heights
 
 
 def check(clauses: Formula) -> int:

@@ -7,6 +7,7 @@ from typing import Any
 
 from .answer import Answer
 from .graph_input import GraphInput, read_graph
+from .history import Asked, place_of
 from .keys import derived_key, draw_key
 from .program import origin_words
 from .refusing import ask
@@ -24,6 +25,9 @@ def spanning_tree(
     *,
     height: int | None = None,
     stacks: Stacks | None = None,
+    log: bool = False,
+    witness: tuple[Hashable, int] | None = None,
+    reports: Sequence[str] = (),
 ) -> Tree:
     """Samples a spanning tree of a connected graph: of all stacks that give one, equally many give each.
 
@@ -37,9 +41,13 @@ def spanning_tree(
 
     `key` has 64 hexadecimal digits, and is drawn from the system's randomness where it is None. `height` is the number
     of entries of each vertex, and `stacks` gives rows of entries in place of a key. `workers` changes no result.
+
+    With `log` the result has the log of the pops. `witness` is a vertex and one of its entries, from 0: the result has
+    the witness tree of the pop that used it. `reports` names what is reported on the log: `totals`, `heights` and
+    `layers`.
     """
     key, words = origin_words(key, workers, height, stacks)
-    return tree_of(read_graph(graph, weight), root, key, words)
+    return tree_of(read_graph(graph, weight), root, key, words, Asked(log, witness, reports))
 
 
 def spanning_trees(
@@ -58,28 +66,19 @@ def spanning_trees(
     seed = draw_key() if key is None else key
     keys = (derived_key(seed, number) for number in range(count))
     given = read_graph(graph, weight)
-    return (tree_of(given, root, *origin_words(each, workers, None, None)) for each in keys)
+    asked = Asked(False, None, ())
+    return (tree_of(given, root, *origin_words(each, workers, None, None), asked) for each in keys)
 
 
-def tree_of(given: GraphInput, root: Hashable, key: str | None, words: Sequence[str]) -> Tree:
+def tree_of(given: GraphInput, root: Hashable, key: str | None, words: Sequence[str], asked: Asked) -> Tree:
     """The spanning tree of a graph under these words, and the root of that name."""
     place = 0 if root is None else place_of(root, given.vertices)
-    answer = ask(["tree", *words, "--root", str(place + 1)], given.subject(given.vertices, root), key)
+    subject = given.subject(given.vertices, root)
+    answer = ask(["tree", *words, *asked.words(given.vertices), "--root", str(place + 1)], subject, key)
     arrows = arrows_of(answer, given)
     used = dict(zip((arrow.tail for arrow in arrows), answer.numbers("used")))
     name = root if root is not None else given.vertices[0]
-    return Tree(name, arrows, used, answer.pops(), key, given.directed(arrows))
-
-
-def place_of(root: Hashable, vertices: Sequence[Hashable]) -> int:
-    """The place of a vertex, from 0; the number of the vertices where it is none of them."""
-    # A range that looks for what is no int goes through all of its numbers.
-    if isinstance(vertices, range) and not isinstance(root, int):
-        return len(vertices)
-    try:
-        return vertices.index(root)
-    except ValueError:
-        return len(vertices)
+    return Tree(name, arrows, used, answer.pops(), key, given.directed(arrows), **asked.told(answer, subject))
 
 
 def arrows_of(answer: Answer, given: GraphInput) -> tuple[Arrow, ...]:
@@ -96,17 +95,22 @@ def sink_free_orientation(
     *,
     height: int | None = None,
     stacks: Stacks | None = None,
+    log: bool = False,
+    witness: tuple[Hashable, int] | None = None,
+    reports: Sequence[str] = (),
 ) -> Orientation:
     """Samples an orientation of a graph in which some edge leaves each vertex: of all stacks that give one, as many
     give each.
 
     The graph, and what comes back, is as for `spanning_tree`; weights have no effect. `Exhausted` is raised where a
-    part of the graph is a tree, since that has a sink however it is oriented. The other arguments are those of
-    `spanning_tree`.
+    part of the graph is a tree, since that has a sink however it is oriented. `witness` is an edge, as the arrows name
+    it, and one of its entries. The other arguments are those of `spanning_tree`.
     """
     given = read_graph(graph)
     key, words = origin_words(key, workers, height, stacks)
-    answer = ask(["orient", *words], given.subject(given.edges), key)
+    asked = Asked(log, witness, reports)
+    subject = given.subject(given.edges)
+    answer = ask(["orient", *words, *asked.words(given.edges)], subject, key)
     arrows = arrows_of(answer, given)
     used = dict(zip((arrow.edge for arrow in arrows), answer.numbers("used")))
-    return Orientation(arrows, used, answer.pops(), key, given.directed(arrows))
+    return Orientation(arrows, used, answer.pops(), key, given.directed(arrows), **asked.told(answer, subject))

@@ -6,10 +6,10 @@ from collections.abc import Callable
 from typing import Any
 
 from . import errors
-from .answer import Answer, read_pairs
+from .answer import Answer
 from .errors import Refusal
+from .history import read_log
 from .program import call
-from .results import Pop
 from .subject import Subject
 
 Numbers = list[int]
@@ -60,11 +60,6 @@ def stuck_events(answer: Answer, subject: Subject) -> list[Any]:
     return [row[0] for row in rows]
 
 
-def read_log(answer: Answer) -> tuple[Pop, ...]:
-    """The log of the pops; empty where none was printed."""
-    return tuple(Pop(int(row[0]), read_pairs(row[1:], ":")) for row in answer.rows("pop"))
-
-
 def exhausted(answer: Answer, subject: Subject) -> Refusal:
     """The end of a run that came to the end of a stack."""
     stuck = stuck_events(answer, subject)
@@ -72,7 +67,7 @@ def exhausted(answer: Answer, subject: Subject) -> Refusal:
         where = f"the cycle of {', '.join(map(repr, stuck[0]))}"
     else:
         where = f"{'vertex' if answer.words[0] == 'orient' else 'clause'} {stuck[0]!r}"
-    counted = (answer.number("pops"), read_log(answer), answer.number("rounds"), answer.number("short"))
+    counted = (answer.number("pops"), read_log(answer, subject), answer.number("rounds"), answer.number("short"))
     return errors.Exhausted(where, stuck, answer.numbers("used"), *counted)
 
 

@@ -23,8 +23,59 @@ class Arrow(NamedTuple):
     edge: Any
 
 
+class Pop(NamedTuple):
+    """A pop: its event, the entry, from 0, of each of the event's variables, and its layer, from 1.
+
+    The event is the number of the clause that was false, the vertex to which all its edges pointed, or the first vertex
+    of the cycle. The layer is 1 more than the greatest one among earlier pops that share a variable with this one.
+    """
+
+    event: Hashable
+    entries: dict[Hashable, int]
+    layer: int
+
+
+class WitnessVertex(NamedTuple):
+    """A vertex of a witness tree: its depth, its event, and the values that this demands of its variables."""
+
+    depth: int
+    event: Hashable
+    values: dict[Hashable, int]
+
+
+class Totals(NamedTuple):
+    """How many records the log has, how many entries they have together, and how many the longest has."""
+
+    records: int
+    entries: int
+    longest: int
+
+
+class Layers(NamedTuple):
+    """The greatest layer of a log, and how many variables were popped."""
+
+    greatest: int
+    variables: int
+
+
+@dataclass(frozen=True, kw_only=True)
+class History:
+    """What was asked of a run's log; None where it wasn't.
+
+    `log` has the pops by rising layer. `witness` has the vertices of a witness tree in preorder, and none where no pop
+    used that entry. `heights` tells at each place, from 0, how many of the popped entries' numbers have so many binary
+    digits.
+    """
+
+    log: tuple[Pop, ...] | None = None
+    witness: tuple[WitnessVertex, ...] | None = None
+    totals: Totals | None = None
+    heights: tuple[int, ...] | None = None
+    layers: Layers | None = None
+
+
 @dataclass(frozen=True)
-class Tree:
+class Tree(History):
     """A rooted spanning tree.
 
     `arrows` has an arrow for each vertex but the root, along which the way to the root goes on. `used` tells for each
@@ -51,7 +102,7 @@ class Tree:
 
 
 @dataclass(frozen=True)
-class Orientation:
+class Orientation(History):
     """An orientation in which some edge leaves each vertex.
 
     `arrows` has the arrow of each edge, in order, and `used` tells for each edge how many of its entries were popped.
@@ -78,7 +129,7 @@ class Literals:
 
 
 @dataclass(frozen=True)
-class Assignment(Literals):
+class Assignment(Literals, History):
     """An assignment that satisfies each clause.
 
     `literals` has for each variable, from 1 on, its number where it is true and the negative of its number where it is
@@ -105,37 +156,6 @@ class Rounded(Literals):
     key: str | None
 
 
-class Pop(NamedTuple):
-    """A pop: the number of the clause that was false, and the entry, from 0, of each of its variables."""
-
-    event: int
-    entries: dict[int, int]
-
-
-class WitnessVertex(NamedTuple):
-    """A vertex of a witness tree: its depth, the number of its clause, and the values that make it false."""
-
-    depth: int
-    event: int
-    values: dict[int, int]
-
-
-class Totals(NamedTuple):
-    """How many records the log has, how many entries they have together, and how many the longest has."""
-
-    records: int
-    entries: int
-    longest: int
-
-
 @dataclass(frozen=True)
 class Resampled(Assignment):
-    """An assignment with the log of its pops, and with the witness tree and the reports that were asked for.
-
-    `heights` tells at each place, from 0, how many of the popped entries' numbers have so many binary digits.
-    """
-
-    log: tuple[Pop, ...] = ()
-    witness: tuple[WitnessVertex, ...] | None = None
-    totals: Totals | None = None
-    heights: tuple[int, ...] | None = None
+    """An assignment with the log of its pops, which is always there."""

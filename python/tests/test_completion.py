@@ -7,7 +7,9 @@ from pathlib import Path
 
 COMPLETION = Path(__file__).resolve().parents[2] / "completion" / "popsample.bash"
 SCRIPT = 'source "$0"; COMP_WORDS=("$@"); COMP_CWORD=$(($# - 1)); _popsample; echo "${COMPREPLY[*]}"'
-EVERYWHERE = ["--stacks", "--key", "--height", "--workers"]
+EVERYWHERE = ["--stacks", "--key", "--height", "--workers", "--board"]
+TOLD = ["--witness", "--report"]
+LOGGED = ["--log", *TOLD]
 
 
 def completed(*words: str) -> list[str]:
@@ -26,23 +28,25 @@ class Completion(unittest.TestCase):
         self.assertEqual(completed("x"), [])
 
     def test_options(self):
-        self.assertEqual(completed("formula", ""), EVERYWHERE)
-        self.assertEqual(completed("orient", ""), EVERYWHERE)
-        self.assertEqual(completed("tree", ""), [*EVERYWHERE, "--root"])
-        self.assertEqual(completed("resample", ""), [*EVERYWHERE, "--witness", "--report"])
-        self.assertEqual(completed("make", ""), [*EVERYWHERE, "grid"])
+        self.assertEqual(completed("formula", ""), [*EVERYWHERE, *LOGGED])
+        self.assertEqual(completed("orient", ""), [*EVERYWHERE, *LOGGED])
+        self.assertEqual(completed("tree", ""), [*EVERYWHERE, "--root", *LOGGED])
+        self.assertEqual(completed("resample", ""), [*EVERYWHERE, *TOLD])
+        self.assertEqual(completed("make", ""), [*EVERYWHERE, "grid", *LOGGED])
         self.assertEqual(completed("rounds", ""), EVERYWHERE[:3])
         self.assertEqual(completed("check", ""), [])
-        self.assertEqual(completed("tree", "--r"), ["--root"])
+        self.assertEqual(completed("tree", "--r"), ["--root", "--report"])
 
     def test_what_stands_or_is_excluded(self):
-        self.assertEqual(completed("tree", "--root", "2", "--"), EVERYWHERE)
-        self.assertEqual(completed("formula", "--stacks", "0", ""), ["--workers"])
-        self.assertEqual(completed("formula", "--key", "00", ""), ["--height", "--workers"])
+        self.assertEqual(completed("tree", "--root", "2", "--"), [*EVERYWHERE, *LOGGED])
+        self.assertEqual(completed("formula", "--stacks", "0", ""), ["--workers", "--board", *LOGGED])
+        self.assertEqual(completed("formula", "--key", "00", ""), ["--height", "--workers", "--board", *LOGGED])
         self.assertEqual(completed("rounds", "--stacks", "0", ""), [])
 
     def test_values(self):
-        self.assertEqual(completed("resample", "--report", "t"), ["totals", "totals,heights"])
+        self.assertEqual(completed("resample", "--report", "t"), ["totals", "totals,heights,layers"])
+        self.assertEqual(completed("orient", "--log", "o"), ["on", "off"])
+        self.assertEqual(completed("make", "--board", ""), ["words", "lock"])
         self.assertEqual(completed("tree", "--root", ""), [])
 
 

@@ -49,6 +49,22 @@ class Drawings(unittest.TestCase):
         self.assertEqual((ran.returncode, ran.stdout), (1, ""))
         self.assertIn("doesn't begin with 's SAMPLE'", ran.stderr)
 
+    def test_a_layered_log(self):
+        folder = TOP / "examples"
+        ran = drawn("draw_layers.py", str(folder / "roads-log.out"))
+        picture = ElementTree.fromstring(ran.stdout)
+        dots = [(circle.get("cx"), circle.get("cy")) for circle in picture.iter(f"{SVG}circle")]
+        words = [text.text for text in picture.iter(f"{SVG}text")]
+        # Four pops at five vertices, two of them beside one another in the first layer.
+        self.assertEqual((len(dots), len({x for x, _ in dots}), len({y for _, y in dots})), (8, 5, 3))
+        self.assertEqual(words[:5], ["3", "4", "5", "7", "8"])
+        self.assertEqual(sorted(words[5:]), sorted(["1", "2", "3"] + ["3", "7", "4", "4"] + list("00001021")))
+
+    def test_what_has_no_layered_log(self):
+        ran = drawn("draw_layers.py", str(TOP / "examples" / "roads-tree.out"))
+        self.assertEqual((ran.returncode, ran.stdout), (1, ""))
+        self.assertIn("has no log", ran.stderr)
+
 
 if __name__ == "__main__":
     unittest.main()

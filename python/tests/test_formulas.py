@@ -76,7 +76,7 @@ class Resampling(unittest.TestCase):
     def test_rows_that_were_worked_by_hand(self):
         told = popsample.resample([[1]], stacks=[[0, 0, 1]], witness=(1, 1), reports=["heights", "totals"])
         self.assertEqual((told.literals, told.used, told.pops), ((1,), {1: 2}, 2))
-        self.assertEqual(told.log, (popsample.Pop(1, {1: 0}), popsample.Pop(1, {1: 1})))
+        self.assertEqual(told.log, (popsample.Pop(1, {1: 0}, 1), popsample.Pop(1, {1: 1}, 2)))
         vertices = (popsample.WitnessVertex(0, 1, {1: 0}), popsample.WitnessVertex(1, 1, {1: 0}))
         self.assertEqual((told.witness, told.totals, told.heights), (vertices, popsample.Totals(2, 2, 1), (1, 1)))
 

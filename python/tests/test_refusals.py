@@ -32,7 +32,7 @@ class OfRuns(Refusing):
 
     def test_exhausted_resampling_has_its_log(self):
         error = self.refused(popsample.Exhausted, resample, [[1]], stacks=[[0, 0]])
-        self.assertEqual((error.stuck, error.pops, error.log), ((1,), 1, (popsample.Pop(1, {1: 0}),)))
+        self.assertEqual((error.stuck, error.pops, error.log), ((1,), 1, (popsample.Pop(1, {1: 0}, 1),)))
 
     def test_exhausted_rounds(self):
         error = self.refused(popsample.Exhausted, rounds, [[1]], stacks=[[0, 0]])

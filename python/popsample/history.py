@@ -1,0 +1,79 @@
+"""The log of a run, its witness trees and its reports: the words that ask for them, and what is told."""
+
+from __future__ import annotations
+
+from collections.abc import Hashable, Sequence
+from dataclasses import dataclass
+from typing import Any
+
+from .answer import Answer
+from .results import Layers, Pop, Totals, WitnessVertex
+from .subject import Subject
+
+
+@dataclass(frozen=True)
+class Asked:
+    """What is asked of a run's log: the log itself, the witness of an entry of a variable, and reports by name."""
+
+    log: bool
+    witness: tuple[Hashable, int] | None
+    reports: Sequence[str]
+
+    def words(self, variables: Sequence[Hashable]) -> list[str]:
+        """The words that ask for it, where these are the variables."""
+        words = ["--log", "on"] if self.log else []
+        if self.witness is not None:
+            name, *entry = self.witness
+            words += ["--witness", ",".join(map(str, [place_of(name, variables) + 1, *entry]))]
+        if self.reports:
+            words += ["--report", ",".join(self.reports)]
+        return words
+
+    def told(self, answer: Answer, subject: Subject) -> dict[str, Any]:
+        """What an answer tells of it, by the names of the fields of a `History`."""
+        reports = {row[0]: tuple(map(int, row[1:])) for row in answer.rows("report")}
+        return {
+            "log": read_log(answer, subject) if self.log else None,
+            "witness": None if self.witness is None else read_witness(answer, subject),
+            "totals": Totals(*reports["totals"]) if "totals" in reports else None,
+            "heights": reports.get("heights"),
+            "layers": Layers(*reports["layers"]) if "layers" in reports else None,
+        }
+
+
+def place_of(name: Hashable, names: Sequence[Hashable]) -> int:
+    """The place of a name, from 0; the number of the names where it is none of them."""
+    # A range that looks for what is no int goes through all of its numbers.
+    if isinstance(names, range) and not isinstance(name, int):
+        return len(names)
+    try:
+        return names.index(name)
+    except ValueError:
+        return len(names)
+
+
+def event_of(answer: Answer, subject: Subject, word: str) -> Hashable:
+    """The event of a number: a vertex of a graph, or the number of a clause."""
+    return subject.vertex(int(word)) if answer.words[0] in ("orient", "tree") else int(word)
+
+
+def pairs_of(subject: Subject, words: Sequence[str], sign: str) -> dict[Hashable, int]:
+    """The pairs of a variable and a number that are joined by this sign."""
+    parts = (word.partition(sign) for word in words)
+    return {subject.variable(int(first)): int(second) for first, _, second in parts}
+
+
+def read_log(answer: Answer, subject: Subject) -> tuple[Pop, ...]:
+    """The pops that were printed; none where no log was."""
+    return tuple(
+        Pop(event_of(answer, subject, row[1]), pairs_of(subject, row[2:], ":"), int(row[0]))
+        for row in answer.rows("pop")
+    )
+
+
+def read_witness(answer: Answer, subject: Subject) -> tuple[WitnessVertex, ...]:
+    """The vertices of the witness tree that were printed."""
+    return tuple(
+        WitnessVertex(int(row[0]), event_of(answer, subject, row[1]), pairs_of(subject, row[2:], "="))
+        for row in answer.rows("wit")
+    )
