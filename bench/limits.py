@@ -11,6 +11,9 @@ EDGES = 2**23
 TEXT_BYTES = 2**28
 WEIGHTS = 2**32 - 1
 SIDE = 2048
+HEIGHT = 2**31 - 1
+WORKERS = 64
+ROOT = 2**32 - 1
 
 
 class Trial(NamedTuple):
@@ -112,6 +115,16 @@ def formula_trials():
     ]
 
 
+def full_trials():
+    """The fullest formula under the other commands that read one."""
+    name = "variables, clauses and literals"
+    return [
+        fits(f"resample, {name}", ["resample"], fullest_formula),
+        fits(f"rounds, {name}", ["rounds"], fullest_formula),
+        Trial(f"check, {name}: at the limit", ["check"], fullest_formula, 0, f"s EXTREMAL {CLAUSES}"),
+    ]
+
+
 def graph_trials(command):
     return [
         fits(f"{command}, vertices and edges", [command], lambda: inputs.torus(SIDE)),
@@ -128,14 +141,27 @@ def weight_trials():
     ]
 
 
-def grid_trials():
-    side, past = ["make", "grid", str(SIDE)], ["make", "grid", str(SIDE + 1)]
+def pair_with(name, words, most, lines):
+    """A number among the words at its limit, and one past it, where it is refused as a word."""
+    place = len(words) + 1
     return [
-        fits("make grid", side, None),
-        # The side is a command word, so that a greater one is refused as such.
-        is_refused("make grid", past, None, "s USAGE 3", status=2),
+        fits(name, [*words, str(most)], lines),
+        is_refused(name, [*words, str(most + 1)], lines, f"s USAGE {place}", status=2),
+    ]
+
+
+def word_trials():
+    roots = pair_with("root", ["tree", "--root"], ROOT, lambda: pair_of_weight(2))
+    return [
+        *pair_with("make grid", ["make", "grid"], SIDE, None),
+        *pair_with("height", ["formula", "--height"], HEIGHT, lambda: inputs.chain(1000)),
+        *pair_with("workers", ["formula", "--workers"], WORKERS, lambda: inputs.chain(1000)),
+        # A root may be named that no graph has.
+        roots[0]._replace(status=6, first_line=f"s ROOT {ROOT}"),
+        roots[1],
     ]
 
 
 def trials():
-    return [*formula_trials(), *graph_trials("orient"), *graph_trials("tree"), *weight_trials(), *grid_trials()]
+    graphs = [*graph_trials("orient"), *graph_trials("tree"), *weight_trials()]
+    return [*formula_trials(), *full_trials(), *graphs, *word_trials()]
