@@ -1,6 +1,6 @@
 -- Each number of a job that is asked for is in its range: it is so in the job of a command with no option, and each value
 -- keeps it so. Where a grid is made its size is from 1 on, since `grid` is needed there.
-use Rattle.std.proofs.Common.{refl, codes, true, ◌-◌, ◌^◌, ◌&&◌, nat_le, Option, None, Some, option_map, unwrap_or, IsSome, Contains, lit<, inl, inr, ◌≡◌, ℕ, ◌<◌, ◌≤◌, List, [], ◌∷◌, ◌++◌, sym, ap, subst, ◌∙◌, arith}
+use Rattle.std.proofs.Common.{refl, codes, true, ◌-◌, ◌^◌, ◌&&◌, nat_le, Option, None, Some, option_map, unwrap_or, IsSome, IfSome, Contains, lit<, inl, inr, ◌≡◌, ℕ, ◌<◌, ◌≤◌, List, [], ◌∷◌, ◌++◌, sym, ap, subst, ◌∙◌, arith}
 use Rattle.std.proofs.lemmas.List.Elements.{Contains-append_cases}
 use Rattle.std.proofs.lemmas.Bool.{and_parts, leb-true}
 use Rattle.pop_words.specs.declared.command.Command.{Command}
@@ -8,19 +8,25 @@ use Rattle.pop_words.specs.declared.command.Command.TheVariants.{Make}
 use Rattle.pop_words.specs.declared.job.Job.{Job}
 use Rattle.pop_edge.specs.Numbers.{number_of}
 use Rattle.pop_words.specs.declared.field.Field.{Field}
-use Rattle.pop_words.specs.declared.field.Field.TheVariants.{Stacks, Key, Height, Workers, Board, Log, Root, Witness, Reports, Size}
+use Rattle.pop_words.specs.declared.field.Field.TheVariants.{Stacks, Key, Height, Grow, Count, Workers, Board, Log, Root, Witness, Reports, Size}
 use Rattle.pop_words.specs.Values.{number_between, rows_in, key_in, board_in, switch_in, pair_in, reports_in}
 use Rattle.pop_words.specs.Options.{default_job, NamedOption, options, value_of}
 use Rattle.pop_words.proofs.ValuesLemmas.{passed}
 use Rattle.pop_words.specs.CommandLines.{Choice, options_of, AreOptions, Asks, job_from, set_option}
 use Rattle.pop_words.proofs.ListTests.{first_is_in, head_is}
 
+-- what a job has only where an option asks for it: a last height may be that of keyed stacks, and samples are not too many
+abbrev pub MayBeAsked : Job → Type 0
+MayBeAsked job =
+    IfSome job.grow (λ last. (0 < last) × (last < 2 ^ 31)) × IfSome job.count (λ count. (0 < count) × (count ≤ 65536))
+
 -- The job is of the command. Its height may be that of keyed stacks, its workers are few, its root may be that of a
--- tree, and its size is from the least on, and one that a grid may have.
+-- tree, its size is from the least on, and one that a grid may have, and what only options ask for is in range.
 abbrev pub IsInRange : Command → ℕ → Job → Type 0
 IsInRange command least job =
     (job.command ≡ command) × ((0 < job.height) × (job.height < 2 ^ 31)) × ((0 < job.workers) × (job.workers ≤ 64))
     × ((0 < job.root) × (job.root < 2 ^ 32)) × ((least ≤ job.size) × (job.size ≤ 2048))
+    × MayBeAsked job
 
 -- a number between bounds is between them
 between : (low high n : ℕ) (word : List ℕ) → number_between low high word ≡ Some n → (low ≤ n) × (n ≤ high)
@@ -30,7 +36,7 @@ between low high n word read =
     (leb-true low n tests.0, leb-true n high tests.1)
 
 -- what is so with each value that may be read is so with the one that was
-of_map : {X : Type 0} (Is : Job → Type 0) (job : Job) (set : Job → Job) (put : X → Job → Job) (read : Option X)
+pub of_map : {X : Type 0} (Is : Job → Type 0) (job : Job) (set : Job → Job) (put : X → Job → Job) (read : Option X)
     → ((x : X) → read ≡ Some x → Is (put x job)) → option_map put read ≡ Some set → Is (set job)
 of_map Is job set put None each some = absurd (cc)
 of_map Is job set put (Some x) each some = let same : put x ≡ set = cc in subst (λ f. Is (f job)) same (each x refl)
@@ -46,20 +52,26 @@ keeps_range command least low f word job set value is = by_field f value
     by_field Key some = of_map (IsInRange command least) job set _ (key_in word) (λ key read. is) some
     by_field Height some = of_map (IsInRange command least) job set _ (number_between 1 (2 ^ 31 - 1) word)
         (λ n read. let bounds = between 1 (2 ^ 31 - 1) n word read in
-        (is.0, (omega arith, omega arith), is.2, is.3, is.4)) some
+        (is.0, (omega arith, omega arith), is.2, is.3, is.4, is.5)) some
+    by_field Grow some = of_map (IsInRange command least) job set _ (number_between 1 (2 ^ 31 - 1) word)
+        (λ n read. let bounds = between 1 (2 ^ 31 - 1) n word read in
+        (is.0, is.1, is.2, is.3, is.4, ((omega arith, omega arith), is.5.1))) some
+    by_field Count some = of_map (IsInRange command least) job set _ (number_between 1 65536 word)
+        (λ n read. let bounds = between 1 65536 n word read in
+        (is.0, is.1, is.2, is.3, is.4, (is.5.0, (omega arith, omega arith)))) some
     by_field Workers some = of_map (IsInRange command least) job set _ (number_between 1 64 word)
         (λ n read. let bounds = between 1 64 n word read in
-        (is.0, is.1, (omega arith, omega arith), is.3, is.4)) some
+        (is.0, is.1, (omega arith, omega arith), is.3, is.4, is.5)) some
     by_field Board some = of_map (IsInRange command least) job set _ (board_in word) (λ board read. is) some
     by_field Log some = of_map (IsInRange command least) job set _ (switch_in word) (λ log read. is) some
     by_field Root some = of_map (IsInRange command least) job set _ (number_between 1 (2 ^ 32 - 1) word)
         (λ n read. let bounds = between 1 (2 ^ 32 - 1) n word read in
-        (is.0, is.1, is.2, (omega arith, omega arith), is.4)) some
+        (is.0, is.1, is.2, (omega arith, omega arith), is.4, is.5)) some
     by_field Witness some = of_map (IsInRange command least) job set _ (pair_in word) (λ pair read. is) some
     by_field Reports some = of_map (IsInRange command least) job set _ (reports_in word) (λ kinds read. is) some
     by_field Size some = of_map (IsInRange command least) job set _ (number_between 1 2048 word)
         (λ n read. let bounds = between 1 2048 n word read in
-        (is.0, is.1, is.2, is.3, (omega arith, bounds.1))) some
+        (is.0, is.1, is.2, is.3, (omega arith, bounds.1), is.5)) some
 
 -- so does a choice
 choice_range : (command : Command) (least : ℕ) → least ≤ 1 → (job : Job) (p : Choice) → IsInRange command least job
@@ -89,7 +101,7 @@ sets_size command job word value is = by_number (number_between 1 2048 word) ref
     by_number : (read : Option ℕ) → number_between 1 2048 word ≡ read → IsSome (option_map put read)
         → IsInRange command 1 (unwrap_or (option_map put read) (λ j. j) job)
     by_number None none some = absurd (cc)
-    by_number (Some n) read some = (is.0, is.1, is.2, is.3, between 1 2048 n word read)
+    by_number (Some n) read some = (is.0, is.1, is.2, is.3, between 1 2048 n word read, is.5)
 
 -- the option that sets the size
 abbrev grid : NamedOption
@@ -97,7 +109,7 @@ grid = record { name = codes "grid"; field = Size; commands = Make ∷ []; exclu
 
 -- it is in the table
 grid_listed : Contains options grid
-grid_listed = (9, omega arith, refl)
+grid_listed = (11, omega arith, refl)
 
 -- where `grid` is among the choices, the size is from 1 on
 choices_size : (command : Command) (before : List NamedOption) (job : Job) (chosen : List Choice)
@@ -118,7 +130,7 @@ choices_size command before job (p ∷ chosen) are among is =
 -- with no option the numbers are in range
 default_range : (command : Command) → IsInRange command 0 (default_job command)
 default_range command =
-    (refl, (lit< tt, lit< tt), (lit< tt, lit< tt), (lit< tt, lit< tt), (omega arith, omega arith))
+    (refl, (lit< tt, lit< tt), (lit< tt, lit< tt), (lit< tt, lit< tt), (omega arith, omega arith), (tt, tt))
 
 -- a job that is asked for has its numbers in range
 asked_range : (words : List (List ℕ)) (job : Job) (asks : Asks words job) → IsInRange asks.command 0 job
@@ -128,6 +140,16 @@ asked_range words job asks = subst (IsInRange asks.command 0) (sym asks.job_is)
 -- it has a height that keyed stacks may have
 pub asked_height : (words : List (List ℕ)) (job : Job) → Asks words job → (0 < job.height) × (job.height < 2 ^ 31)
 asked_height words job asks = (asked_range words job asks).1
+
+-- a last height, if it has one, that keyed stacks may have
+pub asked_grow : (words : List (List ℕ)) (job : Job) → Asks words job
+    → IfSome job.grow (λ last. (0 < last) × (last < 2 ^ 31))
+asked_grow words job asks = (asked_range words job asks).5.0
+
+-- samples that aren't too many, if it asks for many
+pub asked_count : (words : List (List ℕ)) (job : Job) → Asks words job
+    → IfSome job.count (λ count. (0 < count) × (count ≤ 65536))
+asked_count words job asks = (asked_range words job asks).5.1
 
 -- from 1 to 64 workers
 pub asked_workers : (words : List (List ℕ)) (job : Job) → Asks words job → (0 < job.workers) × (job.workers ≤ 64)

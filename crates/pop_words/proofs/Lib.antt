@@ -28,6 +28,8 @@ pub mod ReadingLemmas
 pub mod OneJob
 -- the numbers of a job that is asked for are in range
 pub mod JobsInRange
+-- where rows are given, neither a last height nor a batch is asked for
+pub mod GivenAlone
 -- the loop
 -- what the loop has read so far, and what it finds next
 pub mod OptionsSoFar

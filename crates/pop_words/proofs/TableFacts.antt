@@ -11,7 +11,7 @@ use Rattle.hex.proofs.OnLiterals.{hex_on_literals}
 use Rattle.pop_words.specs.declared.command.Command.{Command}
 use Rattle.pop_words.specs.declared.command.Command.TheVariants.{Formula, Orient, Tree, Resample, Check, Make, Rounds}
 use Rattle.pop_words.specs.declared.field.Field.{Field}
-use Rattle.pop_words.specs.declared.field.Field.TheVariants.{Stacks, Key, Height, Workers, Board, Log, Root, Witness, Reports, Size}
+use Rattle.pop_words.specs.declared.field.Field.TheVariants.{Stacks, Key, Height, Grow, Count, Workers, Board, Log, Root, Witness, Reports, Size}
 use Rattle.pop_words.specs.Values.{are_different}
 use Rattle.pop_words.specs.Options.{commands, command_word, NamedOption, options, value_of}
 use Rattle.pop_words.specs.CommandLines.{AreCompatible}
@@ -44,6 +44,8 @@ abbrev pub example : Field → List ℕ
 example Stacks = []
 example Key = codes "0000000000000000000000000000000000000000000000000000000000000000"
 example Height = codes "1"
+example Grow = codes "1"
+example Count = codes "1"
 example Workers = codes "1"
 example Board = codes "lock"
 example Log = codes "on"
@@ -58,6 +60,8 @@ unfolding hex_on_literals
 example_is_value Stacks = refl
 example_is_value Key = refl
 example_is_value Height = refl
+example_is_value Grow = refl
+example_is_value Count = refl
 example_is_value Workers = refl
 example_is_value Board = refl
 example_is_value Log = refl

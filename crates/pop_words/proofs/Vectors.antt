@@ -129,6 +129,8 @@ plain command =
       command = command;
       stacks = Key (replicate 32 0);
       height = 1048576;
+      grow = None;
+      count = None;
       workers = 1;
       board = Words;
       root = 1;
@@ -171,6 +173,17 @@ height_behind_root = reading_is (codes "tree" ∷ codes "--root" ∷ codes "03" 
 rows_for_a_formula : Asks (codes "formula" ∷ codes "--stacks" ∷ codes "0,0,1" ∷ [])
     (record (plain Formula) { stacks = Given ((0 ∷ 0 ∷ 1 ∷ []) ∷ []) })
 rows_for_a_formula = reading_is (codes "formula" ∷ codes "--stacks" ∷ codes "0,0,1" ∷ [])
+
+-- keyed stacks may grow, whatever their first height
+grow_behind_height : Asks (codes "orient" ∷ codes "--height" ∷ codes "5" ∷ codes "--grow" ∷ codes "2147483647" ∷ [])
+    (record (plain Orient) { height = 5; grow = Some 2147483647 })
+grow_behind_height = reading_is (codes "orient" ∷ codes "--height" ∷ codes "5" ∷ codes "--grow"
+    ∷ codes "2147483647" ∷ [])
+
+-- a batch of trees has a root
+count_behind_root : Asks (codes "tree" ∷ codes "--root" ∷ codes "3" ∷ codes "--count" ∷ codes "65536" ∷ [])
+    (record (plain Tree) { root = 3; count = Some 65536 })
+count_behind_root = reading_is (codes "tree" ∷ codes "--root" ∷ codes "3" ∷ codes "--count" ∷ codes "65536" ∷ [])
 
 -- a key that is given stands in the place of the default one
 key_behind_height : Asks (codes "formula" ∷ codes "--height" ∷ codes "9" ∷ codes "--key" ∷ zeros ∷ [])
@@ -265,6 +278,18 @@ height_behind_stacks : IsBadPlace (codes "formula" ∷ codes "--stacks" ∷ code
     codes "5" ∷ []) 4
 height_behind_stacks = reading_is (codes "formula" ∷ codes "--stacks" ∷ codes "0" ∷ codes "--height" ∷
     codes "5" ∷ [])
+
+-- nor do they grow
+grow_behind_stacks : IsBadPlace (codes "formula" ∷ codes "--stacks" ∷ codes "0" ∷ codes "--grow" ∷ codes "4" ∷ []) 4
+grow_behind_stacks = reading_is (codes "formula" ∷ codes "--stacks" ∷ codes "0" ∷ codes "--grow" ∷ codes "4" ∷ [])
+
+-- a batch shares no workers
+workers_behind_count : IsBadPlace (codes "formula" ∷ codes "--count" ∷ codes "2" ∷ codes "--workers" ∷ codes "2" ∷ []) 4
+workers_behind_count = reading_is (codes "formula" ∷ codes "--count" ∷ codes "2" ∷ codes "--workers" ∷ codes "2" ∷ [])
+
+-- a batch of no samples is bad at its number
+count_zero : IsBadPlace (codes "formula" ∷ codes "--count" ∷ codes "0" ∷ []) 3
+count_zero = reading_is (codes "formula" ∷ codes "--count" ∷ codes "0" ∷ [])
 
 -- and none may stand before them
 stacks_behind_height : IsBadPlace (codes "formula" ∷ codes "--height" ∷ codes "5" ∷ codes "--stacks" ∷

@@ -1,5 +1,6 @@
 -- The laws of the grammar: it leaves the reading of words no choice, and its jobs can be done.
-use Rattle.std.specs.Prelude.{◌≡◌, ◌⊎◌, ℕ, ◌^◌, ◌<◌, ◌≤◌, List}
+use Rattle.std.specs.Prelude.{◌≡◌, ◌⊎◌, ℕ, ◌^◌, ◌<◌, ◌≤◌, List, None, IfSome}
+use Rattle.pop_stacks.specs.declared.stack_spec.StackSpec.TheVariants.{Given}
 use Rattle.pop_words.specs.declared.command.Command.TheVariants.{Make}
 use Rattle.pop_words.specs.declared.job.Job.{Job}
 use Rattle.pop_words.specs.CommandLines.{Asks, AreWords, IsBadPlace}
@@ -20,6 +21,22 @@ JobOrBadPlace = (words : List (List ℕ)) → AreWords words ⊎ ((p : ℕ) × I
 abbrev pub HeightInRange : Type 0
 HeightInRange = (words : List (List ℕ)) (job : Job) → Asks words job
     → (0 < job.height) × (job.height < 2 ^ 31)
+
+-- a last height that is asked for is one that keyed stacks may have
+abbrev pub GrowInRange : Type 0
+GrowInRange = (words : List (List ℕ)) (job : Job) → Asks words job
+    → IfSome job.grow (λ last. (0 < last) × (last < 2 ^ 31))
+
+-- samples that are asked for are from 1 to 65536
+abbrev pub CountInRange : Type 0
+CountInRange = (words : List (List ℕ)) (job : Job) → Asks words job
+    → IfSome job.count (λ count. (0 < count) × (count ≤ 65536))
+
+-- where rows are given, neither a last height nor a batch is asked for
+abbrev pub GivenAlone : Type 0
+GivenAlone = (words : List (List ℕ)) (job : Job) → Asks words job
+    → (rows : List (List ℕ)) → job.stacks ≡ Given rows
+    → (job.grow ≡ None) × (job.count ≡ None)
 
 -- the workers that are asked for are from 1 to 64
 abbrev pub WorkersInRange : Type 0

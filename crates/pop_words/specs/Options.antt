@@ -7,7 +7,7 @@ use Rattle.pop_words.specs.declared.command.Input.{Input}
 use Rattle.pop_words.specs.declared.command.Input.TheVariants.{Formula as OfFormula, Graph as OfGraph, Nothing as OfNothing}
 use Rattle.pop_words.specs.declared.board_kind.BoardKind.TheVariants.{Words}
 use Rattle.pop_words.specs.declared.field.Field.{Field}
-use Rattle.pop_words.specs.declared.field.Field.TheVariants.{Stacks, Key, Height, Workers, Board, Log, Root, Witness, Reports as ReportKinds, Size}
+use Rattle.pop_words.specs.declared.field.Field.TheVariants.{Stacks, Key, Height, Grow, Count, Workers, Board, Log, Root, Witness, Reports as ReportKinds, Size}
 use Rattle.pop_words.specs.declared.job.Job.{Job}
 use Rattle.pop_words.specs.Values.{number_between, rows_in, key_in, board_in, switch_in, pair_in, no_reports, reports_in}
 
@@ -49,6 +49,8 @@ default_job command =
       command = command;
       stacks = KeyedStacks (replicate 32 0);
       height = 1048576;
+      grow = None;
+      count = None;
       workers = 1;
       board = Words;
       root = 1;
@@ -66,6 +68,10 @@ value_of Stacks word =
 value_of Key word = option_map (λ key job. record job { stacks = KeyedStacks key }) (key_in word)
 value_of Height word =
     option_map (λ n job. record job { height = n }) (number_between 1 (2 ^ 31 - 1) word)
+value_of Grow word =
+    option_map (λ n job. record job { grow = Some n }) (number_between 1 (2 ^ 31 - 1) word)
+value_of Count word =
+    option_map (λ n job. record job { count = Some n }) (number_between 1 65536 word)
 value_of Workers word = option_map (λ n job. record job { workers = n }) (number_between 1 64 word)
 value_of Board word = option_map (λ board job. record job { board = board }) (board_in word)
 value_of Log word = option_map (λ log job. record job { log = log }) (switch_in word)
@@ -93,13 +99,23 @@ pub record NamedOption : Type 0 where
 abbrev pub sampling : List Command
 sampling = Formula ∷ Orient ∷ Tree ∷ Resample ∷ Make ∷ Rounds ∷ []
 
--- the commands whose pops workers may share: all of these but rounds, which pop no event alone
+-- the commands that pop one event after another: all of these but rounds
 abbrev pub popping : List Command
 popping = Formula ∷ Orient ∷ Tree ∷ Resample ∷ Make ∷ []
+
+-- the commands whose answer may be a batch of samples
+abbrev pub batched : List Command
+batched = Formula ∷ Orient ∷ Tree ∷ []
 
 -- the commands that pop, and tell no log unasked
 abbrev pub quiet : List Command
 quiet = Formula ∷ Orient ∷ Tree ∷ Make ∷ []
+
+-- the names of the options that say how one run is made, and what is told of it
+abbrev pub of_one_run : List (List ℕ)
+of_one_run =
+    codes "--workers" ∷ codes "--board" ∷ codes "--log" ∷ codes "--witness" ∷ codes "--report"
+    ∷ codes "--grow" ∷ []
 
 -- an option of these commands that excludes none, and may be left out
 abbrev pub free_option : List ℕ → Field → List Command → NamedOption
@@ -113,11 +129,19 @@ options =
       name = codes "--stacks";
       field = Stacks;
       commands = sampling;
-      excludes = codes "--key" ∷ codes "--height" ∷ [];
+      excludes = codes "--key" ∷ codes "--height" ∷ codes "--grow" ∷ [];
       needed = false;
     }
     ∷ free_option (codes "--key") Key sampling
     ∷ free_option (codes "--height") Height sampling
+    ∷ free_option (codes "--grow") Grow popping
+    ∷ record {
+      name = codes "--count";
+      field = Count;
+      commands = batched;
+      excludes = codes "--stacks" ∷ of_one_run;
+      needed = false;
+    }
     ∷ free_option (codes "--workers") Workers popping
     ∷ free_option (codes "--board") Board popping
     ∷ free_option (codes "--log") Log quiet

@@ -7,8 +7,11 @@ use crate::value::{board_in, key_in, number_between, pair_in, reports_in, rows_i
 use pop_stacks::StackSpec;
 use std::alloc::{AllocError, Global};
 
-// The greatest height of keyed stacks.
+// The greatest height of keyed stacks, and so the greatest to which they grow.
 const MAX_HEIGHT: u32 = (1 << 31) - 1;
+
+// How many samples a batch may have.
+const MAX_COUNT: u32 = 65536;
 
 // How many workers there may be.
 const MAX_WORKERS: u32 = 64;
@@ -22,6 +25,8 @@ pub enum Field {
     Stacks,
     Key,
     Height,
+    Grow,
+    Count,
     Workers,
     Board,
     Log,
@@ -55,6 +60,8 @@ impl Field {
                 height,
                 ..job
             }),
+            Field::Grow => number_between(1, MAX_HEIGHT, word).map(move |last| job.with_grow(last)),
+            Field::Count => number_between(1, MAX_COUNT, word).map(move |n| job.with_count(n)),
             Field::Workers => {
                 number_between(1, MAX_WORKERS, word).map(move |workers| Job { workers, ..job })
             }

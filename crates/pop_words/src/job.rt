@@ -1,5 +1,5 @@
 // What the words ask for.
-ghost use Rattle.std.specs.Prelude.{◌≡◌};
+ghost use Rattle.std.specs.Prelude.{◌≡◌, Some};
 
 use crate::{BoardKind, Command, Reports};
 use pop_stacks::StackSpec;
@@ -14,6 +14,12 @@ pub struct Job {
     /// The number of entries of each keyed stack, from 1 to 2^31 - 1: that of `--height`, which is
     /// 2^20 by default.
     pub height: u32,
+    /// The last height of keyed stacks that grow, from 1 to 2^31 - 1: that of `--grow`. They begin
+    /// with the lesser of the two heights. None by default: they don't grow.
+    pub grow: Option<u32>,
+    /// How many samples are drawn, from 1 to 65536: that of `--count`. None by default: one sample
+    /// is drawn, and it isn't told as a batch.
+    pub count: Option<u32>,
     /// How many workers share the pops, from 1 to 64: that of `--workers`, which is 1 by default.
     pub workers: u32,
     /// The board on which the workers meet: that of `--board`, which is the claim words by default.
@@ -44,6 +50,8 @@ impl Job {
             command,
             stacks: StackSpec::Key([0; 32]),
             height: 1 << 20,
+            grow: None,
+            count: None,
             workers: 1,
             board: BoardKind::Words,
             root: 1,
@@ -59,5 +67,25 @@ impl Job {
         ensures { result ≡ record self { stacks = stacks } }
     {
         Job { stacks, ..self }
+    }
+
+    // The job with keyed stacks that grow up to this height.
+    pub(crate) fn with_grow(self, last: u32) -> Job
+        ensures { result ≡ record self { grow = Some last } }
+    {
+        Job {
+            grow: Some(last),
+            ..self
+        }
+    }
+
+    // The job that draws so many samples.
+    pub(crate) fn with_count(self, count: u32) -> Job
+        ensures { result ≡ record self { count = Some count } }
+    {
+        Job {
+            count: Some(count),
+            ..self
+        }
     }
 }

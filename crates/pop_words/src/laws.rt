@@ -1,6 +1,6 @@
 //! The laws of the grammar: it leaves the reading of words no choice. Each function's contract is
 //! the law.
-ghost use Rattle.pop_words.specs.Laws.{OneJob, OneBadPlace, JobOrBadPlace, HeightInRange, WorkersInRange, RootInRange, SizeInRange};
+ghost use Rattle.pop_words.specs.Laws.{OneJob, OneBadPlace, JobOrBadPlace, HeightInRange, GrowInRange, CountInRange, GivenAlone, WorkersInRange, RootInRange, SizeInRange};
 
 /// A list of words asks for at most one job.
 pub fn one_job()
@@ -20,6 +20,21 @@ pub fn job_or_bad_place()
 /// A height that is asked for is from 1 to 2^31 - 1.
 pub fn height_in_range()
     ensures { HeightInRange }
+{}
+
+/// A last height that is asked for is from 1 to 2^31 - 1.
+pub fn grow_in_range()
+    ensures { GrowInRange }
+{}
+
+/// A number of samples that is asked for is from 1 to 65536.
+pub fn count_in_range()
+    ensures { CountInRange }
+{}
+
+/// Where rows are given, neither a last height nor a batch is asked for.
+pub fn given_alone()
+    ensures { GivenAlone }
 {}
 
 /// The workers that are asked for are from 1 to 64.

@@ -32,7 +32,8 @@ const SAMPLING: &[Command] = &[
     Command::Rounds,
 ];
 
-// The commands whose pops workers may share: all that sample but rounds, which pop no event alone.
+// The commands that pop one event after another: all that sample but rounds. Workers may share
+// their pops, and their stacks may grow.
 const POPPING: &[Command] = &[
     Command::Formula,
     Command::Orient,
@@ -40,6 +41,9 @@ const POPPING: &[Command] = &[
     Command::Resample,
     Command::Make,
 ];
+
+// The commands whose answer may be a batch of samples.
+const BATCHED: &[Command] = &[Command::Formula, Command::Orient, Command::Tree];
 
 // The commands that pop, and tell no log unasked.
 const QUIET: &[Command] = &[
@@ -50,9 +54,21 @@ const QUIET: &[Command] = &[
 ];
 
 // The options of keyed stacks.
-const KEYED: &[&str] = &["--key", "--height"];
+const KEYED: &[&str] = &["--key", "--height", "--grow"];
 
-const OPTIONS: [OptionRow; 10] = [
+// The options that no batch of samples has: given rows hold the entries of one sample, and what
+// is said of one run isn't said of many.
+const UNBATCHED: &[&str] = &[
+    "--stacks",
+    "--workers",
+    "--board",
+    "--log",
+    "--witness",
+    "--report",
+    "--grow",
+];
+
+const OPTIONS: [OptionRow; 12] = [
     OptionRow {
         name: "--stacks",
         field: Field::Stacks,
@@ -72,6 +88,20 @@ const OPTIONS: [OptionRow; 10] = [
         field: Field::Height,
         commands: SAMPLING,
         excludes: &[],
+        needed: false,
+    },
+    OptionRow {
+        name: "--grow",
+        field: Field::Grow,
+        commands: POPPING,
+        excludes: &[],
+        needed: false,
+    },
+    OptionRow {
+        name: "--count",
+        field: Field::Count,
+        commands: BATCHED,
+        excludes: UNBATCHED,
         needed: false,
     },
     OptionRow {

@@ -37,6 +37,14 @@ fn push_number(text: &mut String, name: &str, number: u32, default: u32) -> Resu
     Ok(())
 }
 
+/// A number that is there, with its name.
+fn push_some(text: &mut String, name: &str, number: Option<u32>) -> Result<(), AllocError> {
+    if let Some(number) = number {
+        write!(text, " {name} {number}")?;
+    }
+    Ok(())
+}
+
 /// A word that stands where something is so.
 fn push_if(text: &mut String, is_so: bool, word: &str) -> Result<(), AllocError> {
     if is_so {
@@ -50,6 +58,8 @@ fn shown(alloc: Global, job: &Job) -> Result<String, AllocError> {
     let mut text = String::from_str(alloc, job.command.word())?;
     push_stacks(&mut text, &job.stacks)?;
     push_number(&mut text, "height", job.height, 1048576)?;
+    push_some(&mut text, "grow", job.grow)?;
+    push_some(&mut text, "count", job.count)?;
     push_number(&mut text, "root", job.root, 1)?;
     push_number(&mut text, "workers", job.workers, 1)?;
     push_if(&mut text, job.board == BoardKind::Lock, " lock")?;

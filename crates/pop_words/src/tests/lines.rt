@@ -2,7 +2,7 @@
 
 /// Lines of the grammar. A job is told by its command and by what differs from the defaults; `Z`
 /// stands for 64 zeros.
-pub static ACCEPTED: [(&str, &str); 76] = [
+pub static ACCEPTED: [(&str, &str); 89] = [
     ("formula", "formula"),
     ("check", "check"),
     ("formula --stacks 0,0,1", "formula rows [0, 0, 1]"),
@@ -145,10 +145,35 @@ pub static ACCEPTED: [(&str, &str); 76] = [
         "rounds rows [0, 1] [0, 0] [0, 0]",
     ),
     ("rounds --height 3 --key Z", "rounds height 3"),
+    ("formula --grow 1", "formula grow 1"),
+    ("formula --grow 2147483647", "formula grow 2147483647"),
+    (
+        "formula --key Z --height 1 --grow 8",
+        "formula height 1 grow 8",
+    ),
+    (
+        "formula --grow 1 --height 5 --key Z",
+        "formula height 5 grow 1",
+    ),
+    ("orient --grow 0000000007", "orient grow 7"),
+    (
+        "tree --grow 3 --root 2 --workers 8",
+        "tree grow 3 root 2 workers 8",
+    ),
+    ("resample --grow 5 --board lock", "resample grow 5 lock log"),
+    ("make --grow 4096 grid 30", "make grow 4096 grid 30"),
+    ("formula --count 1", "formula count 1"),
+    ("formula --count 65536", "formula count 65536"),
+    (
+        "orient --key Z --count 0000000002 --height 9",
+        "orient height 9 count 2",
+    ),
+    ("tree --count 2", "tree count 2"),
+    ("tree --root 3 --count 4", "tree count 4 root 3"),
 ];
 
 /// Lines outside the grammar: 64 zeros are a key, 63 and 65 aren't.
-pub static REFUSED: [(&str, u32); 164] = [
+pub static REFUSED: [(&str, u32); 204] = [
     ("", 1),
     ("Formula", 1),
     ("formulas", 1),
@@ -322,6 +347,46 @@ pub static REFUSED: [(&str, u32); 164] = [
     ("rounds grid 2", 2),
     ("rounds --key Z --workers 2", 4),
     ("rounds --stacks 0 --height 1", 4),
+    ("check --grow 4", 2),
+    ("formula --grows 4", 2),
+    ("formula --grow", 3),
+    ("formula --grow ", 3),
+    ("formula --grow 0", 3),
+    ("formula --grow 2147483648", 3),
+    ("formula --grow 1,2", 3),
+    ("formula --grow 4 --grow 4", 4),
+    ("formula --stacks 0 --grow 4", 4),
+    ("formula --grow 4 --stacks 0", 4),
+    ("resample --stacks 0 --grow", 4),
+    ("make --grow 4", 4),
+    ("orient --key Z --grow 0", 5),
+    ("check --count 2", 2),
+    ("resample --count 2", 2),
+    ("rounds --count 2", 2),
+    ("make --count 2 grid 2", 2),
+    ("formula --counts 2", 2),
+    ("formula --count", 3),
+    ("formula --count ", 3),
+    ("formula --count 0", 3),
+    ("formula --count 65537", 3),
+    ("formula --count 2,3", 3),
+    ("tree --count 2 --count 2", 4),
+    ("formula --count 2 --workers 2", 4),
+    ("formula --workers 2 --count 2", 4),
+    ("formula --count 2 --stacks 0", 4),
+    ("formula --stacks 0 --count 2", 4),
+    ("orient --count 2 --board lock", 4),
+    ("orient --board lock --count 2", 4),
+    ("tree --count 2 --log on", 4),
+    ("tree --log off --count 2", 4),
+    ("formula --count 2 --witness 1,0", 4),
+    ("formula --witness 1,0 --count 2", 4),
+    ("formula --count 2 --report totals", 4),
+    ("formula --report totals --count 2", 4),
+    ("orient --count 2 --grow 8", 4),
+    ("orient --grow 8 --count 2", 4),
+    ("tree --root 3 --count 2 --workers 1", 6),
+    ("tree --key Z --count 0", 5),
 ];
 
 /// Rows at their limits, 2^22 rows and 2^20 numbers in one row and in as many: how the line begins,
