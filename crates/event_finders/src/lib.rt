@@ -6,6 +6,7 @@
 //! the end of `seen`. They see a walker as the path of its walk, which is empty between walks.
 #![tactic(auto)]
 
+mod listed_event;
 mod look;
 mod owed_marks;
 #[cfg(test)]

@@ -12,11 +12,12 @@ ghost use Rattle.event_finders.specs.UnitAnswers.{IsTried, Says, KeepsRecords, F
 ghost use Rattle.event_finders.specs.declared.tried.Tried.TheVariants.{Idle};
 
 use crate::Tried;
+use crate::listed_event::ListedEvent;
 use crate::owed_marks::mark_sharers;
 use crate::unit_claims::{claim_unit, release_first};
 use crate::unit_look::UnitLook;
 use claim_words::{Board, Pass};
-use pop_instance::{Cube, Family, Index, Instance};
+use pop_instance::{Family, Index, Instance};
 use pop_stacks::Reader;
 
 /// Tries to pop the event of a unit of a listed family, where the unit is marked. Units count from
@@ -68,32 +69,27 @@ pub fn try_unit(
     let Family::Listed(events) = instance.family() else {
         unreachable!()
     };
-    try_event(
-        board,
-        pass,
-        instance,
-        index,
-        events.cube(unit),
-        reader,
+    let event = ListedEvent {
         unit,
-    )
+        cube: events.cube(unit),
+    };
+    try_event(board, pass, instance, index, reader, &event)
 }
 
-// Tries to pop the event of a unit, which is this cube.
+// Tries to pop an event.
 fn try_event(
     board: &Board,
     pass: &mut Pass,
     instance: &Instance,
     index: &Index,
-    cube: &Cube,
     reader: &mut Reader,
-    unit: u32,
+    event: &ListedEvent,
 ) -> Tried
     requires pass { IsOf board.now pass.old }
     requires idle { IsIdle pass.old }
     requires instance { instance_of board.now ≡ instance.now }
     requires index { Indexes instance.now index.now }
-    requires event { IsListedEvent instance.now unit cube.now }
+    requires event { IsListedEvent instance.now event.now.unit event.now.cube.now }
     requires belongs { Belongs instance.now.stacks reader.old }
     ensures pass { IsOf board.now pass.new }
     ensures idle { IsIdle pass.new }
@@ -101,11 +97,13 @@ fn try_event(
     ensures moves { (view pass.new).moves ≡ (view pass.old).moves }
     ensures seen { SeesWithin 1 (view pass.old) (view pass.new) }
     ensures reader { reader.new ≡ reader.old }
-    ensures says { Says instance.now (view pass.old) (view pass.new) unit cube.now result }
-    ensures mark { FindsMark (view pass.old) (view pass.new) unit result }
+    ensures says { Says instance.now (view pass.old) (view pass.new) event.now.unit
+        event.now.cube.now result }
+    ensures mark { FindsMark (view pass.old) (view pass.new) event.now.unit result }
     ensures records { KeepsRecords (view pass.old) (view pass.new) result }
-    ensures sole { SoleLearns (opening_of board.now) (view pass.new) unit result }
+    ensures sole { SoleLearns (opening_of board.now) (view pass.new) event.now.unit result }
 {
+    let ListedEvent { unit, cube } = *event;
     let len = cube.len();
     if board.reserve(pass, len).is_err() {
         return Tried::OutOfMemory;

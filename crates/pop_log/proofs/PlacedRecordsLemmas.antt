@@ -6,8 +6,8 @@ use Rattle.std.proofs.lemmas.List.{length-map, get_or-map, map_push}
 use Rattle.std.proofs.lemmas.List.Sorted.{IsPermutation-map}
 use Rattle.pop_model.specs.Logs.{LogRecord}
 use Rattle.pop_log.specs.Layers.{Placed, LayersBehind, AreLayers}
-use Rattle.pop_log.specs.Layered.{placed_cmp, AreSorted, IsLayered}
-use Rattle.pop_log.specs.declared.sorting.PlacedRecord.{PlacedRecord}
+use Rattle.pop_log.specs.Layered.{placed_cmp, AreSorted}
+use Rattle.pop_log.specs.declared.placed_record.PlacedRecord.{PlacedRecord}
 use Rattle.pop_log.specs.PlacedRecords.{placed_of}
 use Rattle.pop_log.proofs.Fronts.{take_push}
 
@@ -46,7 +46,12 @@ map_sorted f lt (x ∷ xs) sorted k d low high =
 
 -- the record in memory of a record with its layer
 abbrev stored : Placed → PlacedRecord
-stored p = record { popped = p.0; layer = p.1 }
+stored p = record {
+  popped = record { ref_ptr = (0, 0); now = p.0 };
+  layer = p.1;
+  unit = p.0.event.unit;
+  unit_is = refl;
+}
 
 -- so a stable order stays one
 map_stable : (items sorted : List PlacedRecord)
@@ -73,15 +78,10 @@ are_sorted log ys items sorted are same moved up stable =
     }
 
 -- the records alone
-records_alone : (items : List PlacedRecord) → map (λ p. p.popped) items ≡ map (λ q. q.0) (map placed_of items)
+pub records_alone : (items : List PlacedRecord)
+    → map (λ p. p.popped.now) items ≡ map (λ q. q.0) (map placed_of items)
 records_alone [] = refl
-records_alone (p ∷ items) = ap (λ (l : List LogRecord). p.popped ∷ l) (records_alone items)
-
--- are the layered log
-pub is_layered : (log layered : List LogRecord) (items : List PlacedRecord) → AreSorted log (map placed_of items)
-    → layered ≡ map (λ p. p.popped) items → IsLayered log layered
-is_layered log layered items sorted is =
-    record { placed = map placed_of items; sorted = sorted; records = is ∙ records_alone items }
+records_alone (p ∷ items) = ap (λ (l : List LogRecord). p.popped.now ∷ l) (records_alone items)
 
 -- a record with its layer stands at its place
 pub zip_at : (log : List LogRecord) (ys : List ℕ) (i : ℕ) (r : LogRecord) (y : ℕ) → slice_get log i ≡ Some r
@@ -96,11 +96,11 @@ zip_at (q ∷ log) (z ∷ ys) (suc i) r y at at' = zip_at log ys i r y at at'
 
 -- one record more
 pub with_more : (log : List LogRecord) (ys : List ℕ) (i : ℕ) (items : List PlacedRecord) (p : PlacedRecord)
-    → slice_get log i ≡ Some p.popped → slice_get ys i ≡ Some p.layer → map placed_of items ≡ take i (zip log ys)
+    → slice_get log i ≡ Some p.popped.now → slice_get ys i ≡ Some p.layer → map placed_of items ≡ take i (zip log ys)
     → map placed_of (items ++ p ∷ []) ≡ take (i + 1) (zip log ys)
 with_more log ys i items p at at' so_far =
     map_push placed_of items p ∙ ap (λ (l : List Placed). l ++ placed_of p ∷ []) so_far
-    ∙ sym (take_push (zip log ys) i (placed_of p) (zip_at log ys i p.popped p.layer at at'))
+    ∙ sym (take_push (zip log ys) i (placed_of p) (zip_at log ys i p.popped.now p.layer at at'))
 
 -- a log with its layers has as many members
 pub length-zip : (log : List LogRecord) (ys : List ℕ) → length ys ≡ length log → length (zip log ys) ≡ length log

@@ -1,6 +1,6 @@
 -- What is answered once all lines of a log text were read: the lines joined are the text, so a text whose lines all are
 -- read is that of its records.
-use Rattle.std.proofs.Common.{inl, inr, ◌≡◌, ℕ, ◌^◌, ◌≤◌, true, false, List, [], ◌∷◌, ◌++◌, length, map, zip, flat_map, sym, ap, ap₂, subst, refl, ◌∙◌, arith}
+use Rattle.std.proofs.Common.{inl, inr, ◌≡◌, ℕ, ◌^◌, ◌≤◌, true, false, None, Some, List, [], ◌∷◌, ◌++◌, length, map, zip, flat_map, sym, ap, ap₂, subst, refl, ◌∙◌, arith}
 use Rattle.std.proofs.lemmas.List.{length-map}
 use Rattle.pop_model.specs.Families.{Family}
 use Rattle.pop_model.specs.Instances.{Instance}
@@ -26,30 +26,27 @@ use Rattle.pop_log.proofs.RecordWordsLemmas.{layer_fits, line_has_words, words_a
 
 -- words that are a record's
 pub takes_words : (names : Names) (i : Instance) (version : LogVersion) (l words : List ℕ) (y : ℕ) (s t : Progress)
-    (said now_said : List ℕ) → HasWords version l y words → Takes names i words s t true → now_said ≡ said ++ y ∷ []
-    → TakesLine names i version l s t said now_said true
-takes_words names i version l words y s t said now_said has takes pushed =
+    → HasWords version l y words → Takes names i words s t true → TakesLine names i version l s t (Some y)
+takes_words names i version l words y s t has takes =
     let p : Printed = takes.0 in (
       (y, p),
       record { layer = layer_fits version l words y has; record_is = takes.1 },
       words_make_line version l words y p has takes.2,
       takes.3,
-      pushed,
+      refl,
     )
 
 -- words that are none
 pub takes_none : (names : Names) (i : Instance) (version : LogVersion) (l words : List ℕ) (y : ℕ) (s t : Progress)
-    (said now_said : List ℕ) → HasWords version l y words → Takes names i words s t false
-    → TakesLine names i version l s t said now_said false
-takes_none names i version l words y s t said now_said has takes w may same =
+    → HasWords version l y words → Takes names i words s t false → TakesLine names i version l s t None
+takes_none names i version l words y s t has takes w may same =
     let own = line_has_words version l w may.layer same in
     takes w.1 may.record_is (words_agree version l y w.0 words (words_line w.1) has own).1
 
 -- a line that has no words
 pub takes_nothing : (names : Names) (i : Instance) (version : LogVersion) (l : List ℕ) (s t : Progress)
-    (said now_said : List ℕ) → ((y : ℕ) (words : List ℕ) → HasWords version l y words → ⊥)
-    → TakesLine names i version l s t said now_said false
-takes_nothing names i version l s t said now_said none w may same =
+    → ((y : ℕ) (words : List ℕ) → HasWords version l y words → ⊥) → TakesLine names i version l s t None
+takes_nothing names i version l s t none w may same =
     none w.0 (words_line w.1) (line_has_words version l w may.layer same)
 
 -- the lines of version 1 are those of the printed records

@@ -1,7 +1,7 @@
 -- Records with their layers, as they stand in memory.
-use Rattle.pop_log.specs.declared.sorting.PlacedRecord.{PlacedRecord}
+use Rattle.pop_log.specs.declared.placed_record.PlacedRecord.{PlacedRecord}
 use Rattle.pop_log.specs.Layers.{Placed}
 
 -- the record with its layer
 abbrev pub placed_of : PlacedRecord → Placed
-placed_of p = (p.popped, p.layer)
+placed_of p = (p.popped.now, p.layer)

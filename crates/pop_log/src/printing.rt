@@ -85,14 +85,14 @@ fn push_records(
     Ok(())
 }
 
-/// About how many bytes the text has: for each record its number, and for each of its pairs a name
-/// and an entry, mostly of one or two digits.
+/// About how many bytes the text has: for each record its layer and its number, and for each of its
+/// pairs a name and an entry, mostly of one or two digits.
 pub(crate) fn room_for(count: u32, log: &Log) -> usize {
     let digits = Buffer::new().format(count).len();
     let mut room = 32usize;
     for t in 0..log.len() {
         let pairs = log.at(t).cube().len() as usize;
-        room = room.saturating_add((pairs + 1) * (digits + 4));
+        room = room.saturating_add((pairs + 2) * (digits + 4));
     }
     room
 }

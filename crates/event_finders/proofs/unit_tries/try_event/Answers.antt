@@ -19,22 +19,23 @@ use Rattle.event_finders.proofs.unit_tries.try_event.Goals as goal
 pub returns-then-not-take-clause-sole : goal.returns-then-not-take-clause-sole
 returns-then-not-take-clause-sole c = λ sole.
     let d : View = view c.args.pass.now in
-    idle_sole (opening_of c.args.board.now) d (view c.reserve.new.pass) (view c.take.new.pass) c.args.unit
+    idle_sole (opening_of c.args.board.now) d (view c.reserve.new.pass) (view c.take.new.pass) c.args.event.now.unit
     c.reserve.ensures.view c.if-not-take.ensures.step c.requires.pass.0.1 c.requires.idle.1 c.requires.idle.2 sole
 
 pub pop-ticket-requires-clause-poppable : goal.pop-ticket-requires-clause-poppable
 pop-ticket-requires-clause-poppable c =
     let looks = c.in-Poppable.ensures.looks in
     can_pop (opening_of c.args.board.now) c.args.instance.now (view c.take.new.pass) (view c.claim_unit.new.pass)
-    c.args.unit c.args.cube.now c.requires.instance c.requires.event looks.1 looks.2
+    c.args.event.now.unit c.args.event.now.cube.now c.requires.instance c.requires.event looks.1 looks.2
 
 pub mark_sharers-requires-clause-event : goal.mark_sharers-requires-clause-event
 mark_sharers-requires-clause-event c =
-    below_index c.args.instance.now c.args.index.now c.args.unit c.args.cube.now c.requires.index c.requires.event
+    below_index c.args.instance.now c.args.index.now c.args.event.now.unit c.args.event.now.cube.now c.requires.index
+    c.requires.event
 
 pub release_first-requires-clause-held : goal.release_first-requires-clause-held
 release_first-requires-clause-held c =
-    let cube : Cube = c.args.cube.now in
+    let cube : Cube = c.args.event.now.cube.now in
     let first = c.in-Poppable.ensures.looks.0 in
     ap (λ (x : View). variables x.held) c.mark_sharers.ensures.view
     ∙ ap (λ (x : View). variables x.held) c.pop-ticket.ensures.step
@@ -44,20 +45,21 @@ release_first-requires-clause-held c =
 pub clear-requires-clause-held : goal.clear-requires-clause-held
 clear-requires-clause-held c =
     let looks = c.in-AtLast.ensures.looks in
-    let has = last_held c.args.instance.now (view c.take.new.pass) (view c.claim_unit.new.pass) c.args.cube.now
-    c.in-AtLast.v looks.1 looks.2.holds in
+    let has = last_held c.args.instance.now (view c.take.new.pass) (view c.claim_unit.new.pass)
+    c.args.event.now.cube.now c.in-AtLast.v looks.1 looks.2.holds in
     has.once
 
 pub clear-requires-clause-out : goal.clear-requires-clause-out
 clear-requires-clause-out c =
     let looks = c.in-AtLast.ensures.looks in
     last_out (opening_of c.args.board.now) c.args.instance.now (view c.take.new.pass) (view c.claim_unit.new.pass)
-    c.args.unit c.args.cube.now c.in-AtLast.v c.requires.instance c.requires.event looks.1 looks.2.holds
+    c.args.event.now.unit c.args.event.now.cube.now c.in-AtLast.v c.requires.instance c.requires.event looks.1
+    looks.2.holds
 
 pub pair-v-requires : goal.pair-v-requires
 pair-v-requires c =
     let looks = c.in-Differs.ensures.looks in
-    slice_get_within c.args.cube.now c.in-Differs.place looks.0 looks.1
+    slice_get_within c.args.event.now.cube.now c.in-Differs.place looks.0 looks.1
 
 pub clear-requires-in-Differs-clause-out : goal.clear-requires-in-Differs-clause-out
 clear-requires-in-Differs-clause-out c =
@@ -66,31 +68,31 @@ clear-requires-in-Differs-clause-out c =
     let e : View = view c.claim_unit.new.pass in
     let p : ℕ × ℕ = c.pair-v.result in
     let same : looks.0 ≡ p = same_Some looks.0 p (sym looks.1 ∙ c.pair-v.ensures) in
-    subst (λ (q : ℕ × ℕ). RulesOut k.instance.value e.held c.args.unit q.0) same
-    (differs_out k c.args.instance.now (view c.take.new.pass) e c.args.unit c.args.cube.now c.in-Differs.place
-    c.in-Differs.cursor looks.0 c.requires.instance c.requires.event looks.1 looks.3 looks.4 looks.5)
+    subst (λ (q : ℕ × ℕ). RulesOut k.instance.value e.held c.args.event.now.unit q.0) same
+    (differs_out k c.args.instance.now (view c.take.new.pass) e c.args.event.now.unit c.args.event.now.cube.now
+    c.in-Differs.place c.in-Differs.cursor looks.0 c.requires.instance c.requires.event looks.1 looks.3 looks.4 looks.5)
 
 pub overflow_add-place : goal.overflow_add-place
 overflow_add-place c =
     let looks = c.in-Differs.ensures.looks in
-    let within = slice_get_within c.args.cube.now c.in-Differs.place looks.0 looks.1 in
+    let within = slice_get_within c.args.event.now.cube.now c.in-Differs.place looks.0 looks.1 in
     omega (arith, within, c.len-len.ensures.len, c.len-len.ensures.short)
 
 pub release_first-requires-in-Differs-clause-short : goal.release_first-requires-in-Differs-clause-short
 release_first-requires-in-Differs-clause-short c =
     let looks = c.in-Differs.ensures.looks in
-    let within = slice_get_within c.args.cube.now c.in-Differs.place looks.0 looks.1 in
+    let within = slice_get_within c.args.event.now.cube.now c.in-Differs.place looks.0 looks.1 in
     omega (arith, within)
 
 pub pair-v-requires-in-Busy : goal.pair-v-requires-in-Busy
 pair-v-requires-in-Busy c =
     let looks = c.in-Busy.ensures.looks in
-    slice_get_within c.args.cube.now c.in-Busy.place looks.0 looks.1
+    slice_get_within c.args.event.now.cube.now c.in-Busy.place looks.0 looks.1
 
 pub release_first-requires-in-Busy-clause-short : goal.release_first-requires-in-Busy-clause-short
 release_first-requires-in-Busy-clause-short c =
     let looks = c.in-Busy.ensures.looks in
-    let within = slice_get_within c.args.cube.now c.in-Busy.place looks.0 looks.1 in
+    let within = slice_get_within c.args.event.now.cube.now c.in-Busy.place looks.0 looks.1 in
     omega (arith, within)
 
 pub returns-in-Poppable-clause-seen : goal.returns-in-Poppable-clause-seen
@@ -99,8 +101,8 @@ returns-in-Poppable-clause-seen c =
     let a : View = view c.take.new.pass in
     let e : View = view c.claim_unit.new.pass in
     let f : View = view c.release_first.new.pass in
-    let u : ℕ = c.args.unit in
-    let cube : Cube = c.args.cube.now in
+    let u : ℕ = c.args.event.now.unit in
+    let cube : Cube = c.args.event.now.cube.now in
     let looks = c.in-Poppable.ensures.looks in
     let s : Started d (view c.reserve.new.pass) a e u cube (length cube) (length cube) =
     record { room = c.reserve.ensures.view; took = c.if-not-take.ensures.step; first = looks.0 } in
@@ -116,8 +118,8 @@ returns-in-Poppable-clause-says c =
     let a : View = view c.take.new.pass in
     let e : View = view c.claim_unit.new.pass in
     let f : View = view c.release_first.new.pass in
-    let u : ℕ = c.args.unit in
-    let cube : Cube = c.args.cube.now in
+    let u : ℕ = c.args.event.now.unit in
+    let cube : Cube = c.args.event.now.cube.now in
     let looks = c.in-Poppable.ensures.looks in
     let s : Started d (view c.reserve.new.pass) a e u cube (length cube) (length cube) =
     record { room = c.reserve.ensures.view; took = c.if-not-take.ensures.step; first = looks.0 } in
@@ -143,8 +145,8 @@ returns-in-AtLast-clause-seen c =
     let a : View = view c.take.new.pass in
     let e : View = view c.claim_unit.new.pass in
     let f : View = view c.release_first-in-AtLast.new.pass in
-    let u : ℕ = c.args.unit in
-    let cube : Cube = c.args.cube.now in
+    let u : ℕ = c.args.event.now.unit in
+    let cube : Cube = c.args.event.now.cube.now in
     let looks = c.in-AtLast.ensures.looks in
     let s : Started d (view c.reserve.new.pass) a e u cube (length cube) (length cube) =
     record { room = c.reserve.ensures.view; took = c.if-not-take.ensures.step; first = looks.0 } in
@@ -160,8 +162,8 @@ returns-in-AtLast-clause-says c =
     let a : View = view c.take.new.pass in
     let e : View = view c.claim_unit.new.pass in
     let f : View = view c.release_first-in-AtLast.new.pass in
-    let u : ℕ = c.args.unit in
-    let cube : Cube = c.args.cube.now in
+    let u : ℕ = c.args.event.now.unit in
+    let cube : Cube = c.args.event.now.cube.now in
     let looks = c.in-AtLast.ensures.looks in
     let s : Started d (view c.reserve.new.pass) a e u cube (length cube) (length cube) =
     record { room = c.reserve.ensures.view; took = c.if-not-take.ensures.step; first = looks.0 } in
@@ -176,8 +178,8 @@ returns-in-AtLast-clause-sole c = λ sole.
     let a : View = view c.take.new.pass in
     let e : View = view c.claim_unit.new.pass in
     let f : View = view c.release_first-in-AtLast.new.pass in
-    let u : ℕ = c.args.unit in
-    let cube : Cube = c.args.cube.now in
+    let u : ℕ = c.args.event.now.unit in
+    let cube : Cube = c.args.event.now.cube.now in
     let looks = c.in-AtLast.ensures.looks in
     let s : Started d (view c.reserve.new.pass) a e u cube (length cube) (length cube) =
     record { room = c.reserve.ensures.view; took = c.if-not-take.ensures.step; first = looks.0 } in
@@ -194,8 +196,8 @@ returns-in-Differs-clause-seen c =
     let a : View = view c.take.new.pass in
     let e : View = view c.claim_unit.new.pass in
     let f : View = view c.release_first-in-Differs.new.pass in
-    let u : ℕ = c.args.unit in
-    let cube : Cube = c.args.cube.now in
+    let u : ℕ = c.args.event.now.unit in
+    let cube : Cube = c.args.event.now.cube.now in
     let looks = c.in-Differs.ensures.looks in
     let s : Started d (view c.reserve.new.pass) a e u cube (c.in-Differs.place + 1) (c.in-Differs.place + 1) =
     record { room = c.reserve.ensures.view; took = c.if-not-take.ensures.step; first = looks.2 } in
@@ -211,8 +213,8 @@ returns-in-Differs-clause-says c =
     let a : View = view c.take.new.pass in
     let e : View = view c.claim_unit.new.pass in
     let f : View = view c.release_first-in-Differs.new.pass in
-    let u : ℕ = c.args.unit in
-    let cube : Cube = c.args.cube.now in
+    let u : ℕ = c.args.event.now.unit in
+    let cube : Cube = c.args.event.now.cube.now in
     let looks = c.in-Differs.ensures.looks in
     let s : Started d (view c.reserve.new.pass) a e u cube (c.in-Differs.place + 1) (c.in-Differs.place + 1) =
     record { room = c.reserve.ensures.view; took = c.if-not-take.ensures.step; first = looks.2 } in
@@ -231,8 +233,8 @@ returns-in-Differs-clause-sole c = λ sole.
     let a : View = view c.take.new.pass in
     let e : View = view c.claim_unit.new.pass in
     let f : View = view c.release_first-in-Differs.new.pass in
-    let u : ℕ = c.args.unit in
-    let cube : Cube = c.args.cube.now in
+    let u : ℕ = c.args.event.now.unit in
+    let cube : Cube = c.args.event.now.cube.now in
     let looks = c.in-Differs.ensures.looks in
     let s : Started d (view c.reserve.new.pass) a e u cube (c.in-Differs.place + 1) (c.in-Differs.place + 1) =
     record { room = c.reserve.ensures.view; took = c.if-not-take.ensures.step; first = looks.2 } in
@@ -249,8 +251,8 @@ returns-in-Busy-clause-seen c =
     let a : View = view c.take.new.pass in
     let e : View = view c.claim_unit.new.pass in
     let f : View = view c.release_first-in-Busy.new.pass in
-    let u : ℕ = c.args.unit in
-    let cube : Cube = c.args.cube.now in
+    let u : ℕ = c.args.event.now.unit in
+    let cube : Cube = c.args.event.now.cube.now in
     let looks = c.in-Busy.ensures.looks in
     let s : Started d (view c.reserve.new.pass) a e u cube (c.in-Busy.place + 1) c.in-Busy.place =
     record { room = c.reserve.ensures.view; took = c.if-not-take.ensures.step; first = looks.2 } in
@@ -266,8 +268,8 @@ returns-in-Busy-clause-says c =
     let a : View = view c.take.new.pass in
     let e : View = view c.claim_unit.new.pass in
     let f : View = view c.release_first-in-Busy.new.pass in
-    let u : ℕ = c.args.unit in
-    let cube : Cube = c.args.cube.now in
+    let u : ℕ = c.args.event.now.unit in
+    let cube : Cube = c.args.event.now.cube.now in
     let looks = c.in-Busy.ensures.looks in
     let s : Started d (view c.reserve.new.pass) a e u cube (c.in-Busy.place + 1) c.in-Busy.place =
     record { room = c.reserve.ensures.view; took = c.if-not-take.ensures.step; first = looks.2 } in

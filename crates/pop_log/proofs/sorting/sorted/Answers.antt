@@ -2,7 +2,7 @@ use Rattle.std.proofs.Common.{◌≡◌, [], ℕ, map, zip, ap, length, ◌∙�
 use Rattle.std.specs.List.Sorted.{IsSortedBy, IsStableBy}
 use Rattle.std.proofs.lemmas.List.Sorted.{answers_always}
 use Rattle.pop_log.specs.Layered.{placed_cmp}
-use Rattle.pop_log.specs.declared.sorting.PlacedRecord.{PlacedRecord}
+use Rattle.pop_log.specs.declared.placed_record.PlacedRecord.{PlacedRecord}
 use Rattle.pop_log.specs.PlacedRecords.{placed_of}
 use Rattle.pop_log.proofs.PlacedRecordsLemmas.{length-layers, are_sorted}
 use Rattle.pop_log.proofs.sorting.sorted.Goals as goal
@@ -20,7 +20,7 @@ returns c =
     let ys = c.in_ok-layers.layers.items in
     let items = c.in_ok-placed.placed.items in
     let sorted = c.sort_by_key.new.self.items in
-    let key : PlacedRecord → ℕ × ℕ = λ p. (p.layer, p.popped.event.unit) in
+    let key : PlacedRecord → ℕ × ℕ = λ p. (p.layer, p.popped.now.event.unit) in
     let up : IsSortedBy (λ (x y : PlacedRecord). is_lt (placed_cmp (placed_of x) (placed_of y))) sorted =
     c.in_ok-sort_by_key.ensures.sorted key (answers_always _ _ _ (λ f a r g h. search rules)) in
     let stable : IsStableBy (λ (x y : PlacedRecord). is_lt (placed_cmp (placed_of x) (placed_of y))) items sorted =
