@@ -3,8 +3,8 @@ ghost use Rattle.pop_model.specs.Stacks.{variables_of, height_of, IsKeyed};
 
 use crate::{Gate, NoGate, Outcome, sample_claimed, sample_locked, zeros_of};
 use confluence_core::{End, Keep, run_first};
-use pop_instance::{Family, Instance};
-use pop_stacks::{StackSpec, Stacks, Weights};
+use pop_instance::{Cube, Events, Family, Instance};
+use pop_stacks::{Rows, StackSpec, Stacks, Weights};
 use std::alloc::{AllocError, Global};
 use std::process::Abort;
 use std::sync::Wait;
@@ -13,6 +13,7 @@ use std::thread::Threads;
 
 mod chains;
 mod heights;
+mod one_pop;
 mod schedules;
 mod trees;
 
@@ -34,6 +35,14 @@ fn under_key(
     let weights = Weights::pairs(count);
     let stacks = Stacks::new(StackSpec::Key([key; 32]), weights, height)?;
     Ok(Instance::new(stacks, family).expect(rt, "an instance"))
+}
+
+// Two variables with the entries 0 and 1, and the events of two cubes, whose numbers are 1 and 2.
+fn two_events(rt: &impl Abort, alloc: Global, first: Cube, second: Cube) -> Result<Instance, Fail> {
+    let rows = Rows::of(vec![in alloc; vec![in alloc; 0, 1]?, vec![in alloc; 0, 1]?]?);
+    let stacks = Stacks::new(StackSpec::Given(rows), Weights::pairs(2), 1)?;
+    let events = Events::gather(alloc, vec![in alloc; (1, first), (2, second)]?)?;
+    Ok(Instance::new(stacks, Family::Listed(events)).expect(rt, "an instance"))
 }
 
 // The run of so many workers, on claim words or else under a lock.

@@ -1,8 +1,7 @@
 //! A gate may hold a worker: the log tells which worker popped first.
-use super::sample;
+use super::{sample, two_events};
 use crate::Gate;
-use pop_instance::{Cube, Events, Family, Instance};
-use pop_stacks::{Rows, StackSpec, Stacks, Weights};
+use pop_instance::{Cube, Instance};
 use std::alloc::Global;
 use std::process::Abort;
 use std::sync::Wait;
@@ -57,12 +56,9 @@ impl Gate for Holds {
 
 // Two variables with the entries 0 and 1, and the two events that one of them has the value 0.
 fn two_clauses(rt: &impl Abort, alloc: Global) -> Result<Instance, Fail> {
-    let rows = Rows::of(vec![in alloc; vec![in alloc; 0, 1]?, vec![in alloc; 0, 1]?]?);
-    let stacks = Stacks::new(StackSpec::Given(rows), Weights::pairs(2), 1)?;
     let first = Cube::new(vec![in alloc; (0, 0)]?).expect(rt, "a cube");
     let second = Cube::new(vec![in alloc; (1, 0)]?).expect(rt, "a cube");
-    let events = Events::gather(alloc, vec![in alloc; (1, first), (2, second)]?)?;
-    Ok(Instance::new(stacks, Family::Listed(events)).expect(rt, "an instance"))
+    two_events(rt, alloc, first, second)
 }
 
 // The units that two workers pop, where the first is held until the other has come to its second
