@@ -1,4 +1,5 @@
 -- SampleEnds: the end of a run over the stacks of a sample. Zipped: ends that numbers were made into, each under its
--- number.
+-- number. OneBatch: so many samples have one list of ends.
 mod SampleEnds
 mod Zipped
+pub mod OneBatch

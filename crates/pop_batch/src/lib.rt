@@ -6,6 +6,7 @@
 
 mod batches;
 mod ends;
+pub mod laws;
 #[cfg(test)]
 mod tests;
 
