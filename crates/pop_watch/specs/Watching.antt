@@ -42,7 +42,8 @@ abbrev pub layer_put : List ℕ → Cube → ℕ → ℕ → ℕ
 layer_put s e y zero = max (slice_index s 0) y
 layer_put s e y (suc v) = if names e v then y else slice_index s (suc v)
 
--- at place 0 the greatest layer, and at place 1 + v the layer of the last record that named variable v
+-- at place 0 the greatest layer, and at place 1 + v the layer of the last record that named
+-- variable v
 abbrev pub layers_step : List ℕ → LogRecord → List ℕ
 layers_step s r =
     map (layer_put s r.event.cube (layer_at s r.event.cube))

@@ -8,10 +8,10 @@ use confluence_core::Record;
 use pop_instance::Cube;
 use std::alloc::{AllocError, Global};
 
-/// The watcher of kind 3: the layers of the log that it is told (the depth of the Foata normal form:
-/// Cartier and Foata 1969). Its state has at place 0 the greatest layer, and at place 1 + v the
-/// layer of the last record that named variable v, or 0. A layer stops at the greatest number of 64
-/// bits.
+/// The watcher of kind 3: the layers of the log that it is told (the depth of the Foata normal
+/// form: Cartier and Foata 1969). Its state has at place 0 the greatest layer, and at place 1 + v
+/// the layer of the last record that named variable v, or 0. A layer stops at the greatest number
+/// of 64 bits.
 #[derive(Debug, Drop)]
 pub struct Layers {
     places: Vec<u64>,

@@ -131,6 +131,13 @@ fn the_least_clash_is_named_by_its_numbers(rt: HostRuntime) -> Result<(), Fail> 
         &[(2, &[(0, 0)]), (5, &[(7, 1)]), (9, &[(0, 0), (7, 0)])],
     )?;
     assert_eq!(&rt; apart, Verdict::Clash(2, 9), "not neighbours");
+    Ok(())
+}
+
+// Worked by hand.
+#[test]
+fn of_several_clashes_the_least_is_named(rt: HostRuntime) -> Result<(), Fail> {
+    let alloc = rt.alloc();
     // Of the clashes (3, 9) and (5, 8) the first has the lesser number.
     let first = verdict(
         &rt,
