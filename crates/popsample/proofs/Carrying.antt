@@ -5,10 +5,10 @@ use Rattle.std.proofs.lemmas.Result.{err_from_is_err_and}
 use Rattle.popsample.specs.declared.answer.Answer.{Answer}
 use Rattle.popsample.specs.declared.stop.Stop.TheVariants.{ReadFault, OutOfMemory}
 use Rattle.popsample.specs.declared.refusal.Refusal.{Refusal}
-use Rattle.popsample.specs.declared.refusal.Refusal.TheVariants.{Usage, Malformed, Count, EmptyClause, Limit, Isolated, NoRoot, CutOff, RowCount, EmptyRow, ValueTooLarge, WeightSum, Clashes, Stopped}
+use Rattle.popsample.specs.declared.refusal.Refusal.TheVariants.{Usage, Malformed, Count, EmptyClause, Limit, Isolated, NoRoot, CutOff, TooMany, RowCount, EmptyRow, ValueTooLarge, WeightSum, Clashes, Stopped}
 use Rattle.pop_edge.specs.declared.refusal.ReadRefusal.TheVariants.{Malformed as MalformedLine, Count as WrongCount, EmptyClause as NoLiteral, Limit as PassedLimit}
 use Rattle.popsample.specs.Outcomes.{Outcome, AnswersBy}
-use Rattle.popsample.specs.Outcomes.Outcome.{Usage as UsageOf, Unread, Isolated as IsolatedAt, NoRoot as NoRootAt, CutOff as CutOffAt, Unsound, Clashes as ClashesOf}
+use Rattle.popsample.specs.Outcomes.Outcome.{Usage as UsageOf, Unread, Isolated as IsolatedAt, NoRoot as NoRootAt, CutOff as CutOffAt, TooMany as TooManyOf, Unsound, Clashes as ClashesOf}
 use Rattle.popsample.specs.Results.{TellsFault, ComesRefused, IsResultOf}
 
 -- a fault that comes in one way comes in another
@@ -27,6 +27,7 @@ refused Comes Goes (Limit k l) goes h = goes (Unread (PassedLimit k l)) h
 refused Comes Goes (Isolated w) goes h = goes (IsolatedAt w) h
 refused Comes Goes (NoRoot w) goes h = goes (NoRootAt w) h
 refused Comes Goes (CutOff w) goes h = goes (CutOffAt w) h
+refused Comes Goes (TooMany n) goes h = goes (TooManyOf n) h
 refused Comes Goes (RowCount g w) goes h = fault_carried Comes Goes (RowCount g w) goes h
 refused Comes Goes (EmptyRow n) goes h = fault_carried Comes Goes (EmptyRow n) goes h
 refused Comes Goes (ValueTooLarge n k) goes h = fault_carried Comes Goes (ValueTooLarge n k) goes h

@@ -22,8 +22,9 @@ use Rattle.pop_edge.specs.declared.refusal.ReadRefusal.{ReadRefusal}
 use Rattle.popsample.specs.declared.asked.Asked.{Asked}
 use Rattle.popsample.specs.Witnesses.{Witness, is_missing}
 use Rattle.popsample.specs.Witnesses.Witness.{Unasked, Missing, Shown}
+use Rattle.popsample.specs.Batches.{AreFew}
 use Rattle.popsample.specs.Outcomes.{Outcome, status_of, end_status, resampled_status}
-use Rattle.popsample.specs.Outcomes.Outcome.{Usage, Unread, Isolated, NoRoot, CutOff, Unsound, Clashes, Extremal, Ended, Resampled, Rounded}
+use Rattle.popsample.specs.Outcomes.Outcome.{Usage, Unread, Isolated, NoRoot, CutOff, TooMany, Unsound, Clashes, Extremal, Ended, Resampled, Rounded, Batched}
 use Rattle.popsample.specs.Sampling.{pair_weights}
 use Rattle.popsample.specs.Formulas.{ComesOfFormula, ComesOfChecking}
 use Rattle.popsample.specs.Resamplings.{ComesOfResampling}
@@ -33,9 +34,11 @@ use Rattle.popsample.specs.Trees.{ComesOfTree}
 use Rattle.popsample.specs.Grids.{ComesOfGrid}
 use Rattle.popsample.specs.Answers.{ComesOfCommand, ComesOf, IsOfText, Refuses, origin_for, asked_by}
 use Rattle.popsample.specs.Complete.{Spells, HasExtremalEvents, CanBeDone, HasWitness, Complete}
+use Rattle.popsample.proofs.BatchEnds.{batch_low}
 use Rattle.popsample.proofs.OneFault.{sound_has_none}
 use Rattle.popsample.proofs.OneClash.{extremal_has_none}
 use Rattle.popsample.proofs.OneReading.{no_cnf_refusal, no_graph_refusal}
+use Rattle.popsample.proofs.OneSampling.{not_many}
 use Rattle.popsample.proofs.OneOutcome.{word_cases, read_cases}
 
 -- the status is that of an end or a verdict
@@ -55,38 +58,42 @@ resampled_low stuck (Shown tree) has = end_low stuck
 
 -- a formula, sound stacks and extremal events
 formula_low : (origin : Origin) (asked : Asked) (ws : List Watcher) (f : Cnf) (o : Outcome)
-    → IsSound origin (pair_weights f.variables) → HasExtremalEvents f → ComesOfFormula origin asked ws f o
-    → IsLow (status_of o)
-formula_low origin asked ws f (Ended t i c n s a) sound extremal h = end_low s
-formula_low origin asked ws f (Unsound t r) sound extremal h = absurd
+    → AreFew asked.count (length (pair_weights f.variables)) → IsSound origin (pair_weights f.variables)
+    → HasExtremalEvents f → ComesOfFormula origin asked ws f o → IsLow (status_of o)
+formula_low origin asked ws f (Ended t i c n s a) few sound extremal h = end_low s
+formula_low origin asked ws f (Unsound t r) few sound extremal h = absurd
     (sound_has_none origin (pair_weights f.variables) r sound h.1)
-formula_low origin asked ws f (Clashes i j) sound extremal h =
+formula_low origin asked ws f (Clashes i j) few sound extremal h =
     absurd (extremal_has_none h.1.events (extremal h.1.events h.1.of_formula) i j h.1.least.holds)
-formula_low origin asked ws f (Usage p) sound extremal h = absurd h.1.end
-formula_low origin asked ws f (Unread r) sound extremal h = absurd h.1.end
-formula_low origin asked ws f (Isolated w) sound extremal h = absurd h.1.end
-formula_low origin asked ws f (NoRoot r) sound extremal h = absurd h.1.end
-formula_low origin asked ws f (CutOff w) sound extremal h = absurd h.1.end
-formula_low origin asked ws f (Extremal n) sound extremal h = absurd h.1.end
-formula_low origin asked ws f (Resampled t i l s a) sound extremal h = absurd h.1.end
-formula_low origin asked ws f (Rounded t i c n s v) sound extremal h = absurd h.1.end
+formula_low origin asked ws f (Usage p) few sound extremal h = absurd h.1.end
+formula_low origin asked ws f (Unread r) few sound extremal h = absurd h.1.end
+formula_low origin asked ws f (Isolated w) few sound extremal h = absurd h.1.end
+formula_low origin asked ws f (NoRoot r) few sound extremal h = absurd h.1.end
+formula_low origin asked ws f (CutOff w) few sound extremal h = absurd h.1.end
+formula_low origin asked ws f (Extremal n) few sound extremal h = absurd h.1.end
+formula_low origin asked ws f (TooMany n) few sound extremal h = absurd (not_many asked.count n _ h.0 h.1 few)
+formula_low origin asked ws f (Batched t i es) few sound extremal h = batch_low es
+formula_low origin asked ws f (Resampled t i l s a) few sound extremal h = absurd h.1.end
+formula_low origin asked ws f (Rounded t i c n s v) few sound extremal h = absurd h.1.end
 
 -- the same with a log, where the witness is there
 resampling_low : (origin : Origin) (asked : Asked) (ws : List Watcher) (f : Cnf) (o : Outcome)
-    → IsSound origin (pair_weights f.variables) → HasWitness o → ComesOfResampling origin asked ws f o
-    → IsLow (status_of o)
-resampling_low origin asked ws f (Resampled t i l s a) sound has h = resampled_low s a.witness has
-resampling_low origin asked ws f (Unsound t r) sound has h =
+    → AreFew asked.count (length (pair_weights f.variables)) → IsSound origin (pair_weights f.variables)
+    → HasWitness o → ComesOfResampling origin asked ws f o → IsLow (status_of o)
+resampling_low origin asked ws f (Resampled t i l s a) few sound has h = resampled_low s a.witness has
+resampling_low origin asked ws f (Unsound t r) few sound has h =
     absurd (sound_has_none origin (pair_weights f.variables) r sound h.1)
-resampling_low origin asked ws f (Clashes i j) sound has h = absurd h.1.history
-resampling_low origin asked ws f (Usage p) sound has h = absurd h.1.history
-resampling_low origin asked ws f (Unread r) sound has h = absurd h.1.history
-resampling_low origin asked ws f (Isolated w) sound has h = absurd h.1.history
-resampling_low origin asked ws f (NoRoot r) sound has h = absurd h.1.history
-resampling_low origin asked ws f (CutOff w) sound has h = absurd h.1.history
-resampling_low origin asked ws f (Extremal n) sound has h = absurd h.1.history
-resampling_low origin asked ws f (Ended t i c n s a) sound has h = absurd h.1.history
-resampling_low origin asked ws f (Rounded t i c n s v) sound has h = absurd h.1.history
+resampling_low origin asked ws f (Clashes i j) few sound has h = absurd h.1.history
+resampling_low origin asked ws f (Usage p) few sound has h = absurd h.1.history
+resampling_low origin asked ws f (Unread r) few sound has h = absurd h.1.history
+resampling_low origin asked ws f (Isolated w) few sound has h = absurd h.1.history
+resampling_low origin asked ws f (NoRoot r) few sound has h = absurd h.1.history
+resampling_low origin asked ws f (CutOff w) few sound has h = absurd h.1.history
+resampling_low origin asked ws f (Extremal n) few sound has h = absurd h.1.history
+resampling_low origin asked ws f (TooMany n) few sound has h = absurd (not_many asked.count n _ h.0 h.1 few)
+resampling_low origin asked ws f (Batched t i es) few sound has h = absurd h.1.history
+resampling_low origin asked ws f (Ended t i c n s a) few sound has h = absurd h.1.history
+resampling_low origin asked ws f (Rounded t i c n s v) few sound has h = absurd h.1.history
 
 -- the same by rounds
 rounds_low : (origin : Origin) (f : Cnf) (o : Outcome) → IsSound origin (pair_weights f.variables)
@@ -101,6 +108,8 @@ rounds_low origin f (Isolated w) sound h = absurd h.1.end
 rounds_low origin f (NoRoot r) sound h = absurd h.1.end
 rounds_low origin f (CutOff w) sound h = absurd h.1.end
 rounds_low origin f (Extremal n) sound h = absurd h.1.end
+rounds_low origin f (TooMany n) sound h = let none = h.0 in absurd (cc)
+rounds_low origin f (Batched t i es) sound h = absurd h.1.end
 rounds_low origin f (Ended t i c n s a) sound h = absurd h.1.end
 rounds_low origin f (Resampled t i l s a) sound h = absurd h.1.end
 
@@ -113,53 +122,61 @@ checking_low f o extremal h = absurd h
 
 -- a graph without isolated vertices
 orienting_low : (origin : Origin) (asked : Asked) (ws : List Watcher) (g : GraphOf) (o : Outcome)
-    → ((w : ℕ) → IsIsolated g w → ⊥) → IsSound origin (pair_weights (length g.edges))
-    → ComesOfOrienting origin asked ws g o → IsLow (status_of o)
-orienting_low origin asked ws g (Ended t i c n s a) touched sound h = end_low s
-orienting_low origin asked ws g (Isolated w) touched sound h = absurd (touched w h.holds)
-orienting_low origin asked ws g (Unsound t r) touched sound h =
+    → ((w : ℕ) → IsIsolated g w → ⊥) → AreFew asked.count (length (pair_weights (length g.edges)))
+    → IsSound origin (pair_weights (length g.edges)) → ComesOfOrienting origin asked ws g o → IsLow (status_of o)
+orienting_low origin asked ws g (Ended t i c n s a) touched few sound h = end_low s
+orienting_low origin asked ws g (Isolated w) touched few sound h = absurd (touched w h.holds)
+orienting_low origin asked ws g (Unsound t r) touched few sound h =
     absurd (sound_has_none origin (pair_weights (length g.edges)) r sound h.1.1)
-orienting_low origin asked ws g (Clashes i j) touched sound h = absurd h.1.1.end
-orienting_low origin asked ws g (Usage p) touched sound h = absurd h.1.1.end
-orienting_low origin asked ws g (Unread r) touched sound h = absurd h.1.1.end
-orienting_low origin asked ws g (NoRoot r) touched sound h = absurd h.1.1.end
-orienting_low origin asked ws g (CutOff w) touched sound h = absurd h.1.1.end
-orienting_low origin asked ws g (Extremal n) touched sound h = absurd h.1.1.end
-orienting_low origin asked ws g (Resampled t i l s a) touched sound h = absurd h.1.1.end
-orienting_low origin asked ws g (Rounded t i c n s v) touched sound h = absurd h.1.1.end
+orienting_low origin asked ws g (Clashes i j) touched few sound h = absurd h.1.1.end
+orienting_low origin asked ws g (Usage p) touched few sound h = absurd h.1.1.end
+orienting_low origin asked ws g (Unread r) touched few sound h = absurd h.1.1.end
+orienting_low origin asked ws g (NoRoot r) touched few sound h = absurd h.1.1.end
+orienting_low origin asked ws g (CutOff w) touched few sound h = absurd h.1.1.end
+orienting_low origin asked ws g (Extremal n) touched few sound h = absurd h.1.1.end
+orienting_low origin asked ws g (TooMany n) touched few sound h = absurd (not_many asked.count n _ h.1.0 h.1.1 few)
+orienting_low origin asked ws g (Batched t i es) touched few sound h = batch_low es
+orienting_low origin asked ws g (Resampled t i l s a) touched few sound h = absurd h.1.1.end
+orienting_low origin asked ws g (Rounded t i c n s v) touched few sound h = absurd h.1.1.end
 
 -- a graph each of whose vertices is joined to its root
 tree_low : (origin : Origin) (asked : Asked) (ws : List Watcher) (root : ℕ) (g : GraphOf) (o : Outcome)
-    → root ≤ g.vertices → IsConnected g root → IsSound origin (weights_of_tree g root)
-    → ComesOfTree origin asked ws root g o → IsLow (status_of o)
-tree_low origin asked ws root g (Ended t i c n s a) last joined sound h = end_low s
-tree_low origin asked ws root g (NoRoot r) last joined sound h = let above = h.1 in absurd (omega (arith, above, last))
-tree_low origin asked ws root g (CutOff w) last joined sound h = absurd (h.1.holds.apart (joined w h.1.holds.vertex))
-tree_low origin asked ws root g (Unsound t r) last joined sound h = absurd
+    → root ≤ g.vertices → IsConnected g root → AreFew asked.count (length (weights_of_tree g root))
+    → IsSound origin (weights_of_tree g root) → ComesOfTree origin asked ws root g o → IsLow (status_of o)
+tree_low origin asked ws root g (Ended t i c n s a) last joined few sound h = end_low s
+tree_low origin asked ws root g (NoRoot r) last joined few sound h = let above = h.1 in absurd (omega (arith, above, last))
+tree_low origin asked ws root g (CutOff w) last joined few sound h = absurd (h.1.holds.apart (joined w h.1.holds.vertex))
+tree_low origin asked ws root g (Unsound t r) last joined few sound h = absurd
     (sound_has_none origin (weights_of_tree g root) r sound h.2.1)
-tree_low origin asked ws root g (Clashes i j) last joined sound h = absurd h.2.1
-tree_low origin asked ws root g (Usage p) last joined sound h = absurd h.2.1
-tree_low origin asked ws root g (Unread r) last joined sound h = absurd h.2.1
-tree_low origin asked ws root g (Isolated w) last joined sound h = absurd h.2.1
-tree_low origin asked ws root g (Extremal n) last joined sound h = absurd h.2.1
-tree_low origin asked ws root g (Resampled t i l s a) last joined sound h = absurd h.2.1
-tree_low origin asked ws root g (Rounded t i c n s v) last joined sound h = absurd h.2.1
+tree_low origin asked ws root g (Clashes i j) last joined few sound h = absurd h.2.1
+tree_low origin asked ws root g (Usage p) last joined few sound h = absurd h.2.1
+tree_low origin asked ws root g (Unread r) last joined few sound h = absurd h.2.1
+tree_low origin asked ws root g (Isolated w) last joined few sound h = absurd h.2.1
+tree_low origin asked ws root g (Extremal n) last joined few sound h = absurd h.2.1
+tree_low origin asked ws root g (TooMany n) last joined few sound h =
+    absurd (not_many asked.count n _ h.2.0 h.2.1 few)
+tree_low origin asked ws root g (Batched t i es) last joined few sound h = batch_low es
+tree_low origin asked ws root g (Resampled t i l s a) last joined few sound h = absurd h.2.1
+tree_low origin asked ws root g (Rounded t i c n s v) last joined few sound h = absurd h.2.1
 
 -- a grid
 grid_low : (origin : Origin) (asked : Asked) (ws : List Watcher) (side : ℕ) (o : Outcome)
-    → IsSound origin (weights_of_tree (grid_of side) 1) → ComesOfGrid origin asked ws side o → IsLow (status_of o)
-grid_low origin asked ws side (Ended t i c n s a) sound h = end_low s
-grid_low origin asked ws side (Unsound t r) sound h = absurd
+    → AreFew asked.count (length (weights_of_tree (grid_of side) 1)) → IsSound origin (weights_of_tree (grid_of side) 1)
+    → ComesOfGrid origin asked ws side o → IsLow (status_of o)
+grid_low origin asked ws side (Ended t i c n s a) few sound h = end_low s
+grid_low origin asked ws side (Unsound t r) few sound h = absurd
     (sound_has_none origin (weights_of_tree (grid_of side) 1) r sound h.1)
-grid_low origin asked ws side (NoRoot r) sound h = absurd h.1
-grid_low origin asked ws side (CutOff w) sound h = absurd h.1
-grid_low origin asked ws side (Clashes i j) sound h = absurd h.1
-grid_low origin asked ws side (Usage p) sound h = absurd h.1
-grid_low origin asked ws side (Unread r) sound h = absurd h.1
-grid_low origin asked ws side (Isolated w) sound h = absurd h.1
-grid_low origin asked ws side (Extremal n) sound h = absurd h.1
-grid_low origin asked ws side (Resampled t i l s a) sound h = absurd h.1
-grid_low origin asked ws side (Rounded t i c n s v) sound h = absurd h.1
+grid_low origin asked ws side (NoRoot r) few sound h = absurd h.1
+grid_low origin asked ws side (CutOff w) few sound h = absurd h.1
+grid_low origin asked ws side (Clashes i j) few sound h = absurd h.1
+grid_low origin asked ws side (Usage p) few sound h = absurd h.1
+grid_low origin asked ws side (Unread r) few sound h = absurd h.1
+grid_low origin asked ws side (Isolated w) few sound h = absurd h.1
+grid_low origin asked ws side (Extremal n) few sound h = absurd h.1
+grid_low origin asked ws side (TooMany n) few sound h = absurd (not_many asked.count n _ h.0 h.1 few)
+grid_low origin asked ws side (Batched t i es) few sound h = batch_low es
+grid_low origin asked ws side (Resampled t i l s a) few sound h = absurd h.1
+grid_low origin asked ws side (Rounded t i c n s v) few sound h = absurd h.1
 
 -- a text that spells a formula or a graph is answered by it
 spelled : (text : List ℕ) (f : Cnf) → Spells text f → AnswersCnf text (Ok f)
@@ -169,24 +186,24 @@ spelled text f s = let (none, is) = complete text f s.is in (none, is, s.full)
 command_low : (command : Command) (job : Job) (ws : List Watcher) (text : List ℕ) (o : Outcome)
     → CanBeDone command job text
     → HasWitness o → ComesOfCommand command job ws text o → IsLow (status_of o)
-command_low Formula job ws text o (f, spells, sound, extremal) has h =
-    formula_low (origin_for job) (asked_by job) ws f o sound extremal
+command_low Formula job ws text o (f, spells, (few, sound), extremal) has h =
+    formula_low (origin_for job) (asked_by job) ws f o few sound extremal
     (subst (λ g. ComesOfFormula (origin_for job) (asked_by job) ws g o) (h.spelled.1 ∙ sym (spelled text f spells).1) h.comes)
-command_low Orient job ws text o (g, is, touched, sound) has h =
-    orienting_low (origin_for job) (asked_by job) ws g o touched sound
+command_low Orient job ws text o (g, is, touched, (few, sound)) has h =
+    orienting_low (origin_for job) (asked_by job) ws g o touched few sound
     (subst (λ k. ComesOfOrienting (origin_for job) (asked_by job) ws k o)
     (h.spelled.1 ∙ sym (graphs.complete text g is).1) h.comes)
-command_low Tree job ws text o (g, is, last, joined, sound) has h =
-    tree_low (origin_for job) (asked_by job) ws job.root g o last joined sound
+command_low Tree job ws text o (g, is, last, joined, (few, sound)) has h =
+    tree_low (origin_for job) (asked_by job) ws job.root g o last joined few sound
     (subst (λ k. ComesOfTree (origin_for job) (asked_by job) ws job.root k o)
     (h.spelled.1 ∙ sym (graphs.complete text g is).1) h.comes)
-command_low Resample job ws text o (f, spells, sound) has h =
-    resampling_low (origin_for job) (asked_by job) ws f o sound has
+command_low Resample job ws text o (f, spells, (few, sound)) has h =
+    resampling_low (origin_for job) (asked_by job) ws f o few sound has
     (subst (λ g. ComesOfResampling (origin_for job) (asked_by job) ws g o)
     (h.spelled.1 ∙ sym (spelled text f spells).1) h.comes)
 command_low Check job ws text o (f, spells, extremal) has h =
     checking_low f o extremal (subst (λ g. ComesOfChecking g o) (h.spelled.1 ∙ sym (spelled text f spells).1) h.comes)
-command_low Make job ws text o sound has h = grid_low (origin_for job) (asked_by job) ws job.size o sound h
+command_low Make job ws text o (few, sound) has h = grid_low (origin_for job) (asked_by job) ws job.size o few sound h
 command_low Rounds job ws text o (f, spells, sound) has h =
     rounds_low (origin_for job) f o sound
     (subst (λ g. ComesOfRounds (origin_for job) g o) (h.spelled.1 ∙ sym (spelled text f spells).1) h.comes)

@@ -27,6 +27,7 @@ use Rattle.pop_words.specs.declared.command.Command.{Command}
 use Rattle.pop_words.specs.declared.command.Command.TheVariants.{Formula, Orient, Tree, Resample, Check, Make, Rounds}
 use Rattle.pop_words.specs.declared.job.Job.{Job}
 use Rattle.pop_words.specs.CommandLines.{Asks}
+use Rattle.pop_words.proofs.GivenAlone.{asked_alone}
 use Rattle.pop_words.proofs.OneJob.{same_job}
 use Rattle.pop_watch.specs.Telling.{Watcher}
 use Rattle.pop_print.specs.declared.facts.Facts.{Facts}
@@ -115,8 +116,8 @@ sampled_by words watchers text job rows s x c pops a asks is sound end told size
       outcome = record {
         job = mine;
         asks = asks;
-        comes = subject_ended job.command mine watchers text s (of_rows job.command job rows text s is) sound c pops [] a
-            (end, told);
+        comes = subject_ended job.command mine watchers text s (asked_alone words mine asks rows refl).1
+            (of_rows job.command job rows text s is) sound c pops [] a (end, told);
       };
       sample = values_are s.weights rows c size ∙ entries;
     }

@@ -1,7 +1,7 @@
 -- At the end of a run with status 0 no event occurs: an event that did would stand in the stuck list.
 use Rattle.std.proofs.Common.{◌≡◌, ℕ, List, [], ◌∷◌, Option, sym, subst, arith}
 use Rattle.pop_model.specs.Families.{Event}
-use Rattle.pop_model.specs.Instances.{Instance}
+use Rattle.pop_model.specs.Instances.{Instance, instance_for}
 use Rattle.pop_model.specs.Logs.{replay}
 use Rattle.pop_model.specs.Runs.{IsFinished, IsStuckList, start_of}
 use Rattle.pop_log.specs.Layers.{Placed}
@@ -14,9 +14,10 @@ use Rattle.popsample.specs.Witnesses.{Witness}
 use Rattle.popsample.specs.Witnesses.Witness.{Unasked, Missing, Shown}
 use Rattle.popsample.specs.Tellings.{Telling, records_of}
 use Rattle.popsample.specs.Outcomes.{Outcome, status_of, end_status, resampled_status}
-use Rattle.popsample.specs.Outcomes.Outcome.{Usage, Unread, Isolated, NoRoot, CutOff, Unsound, Clashes, Extremal, Ended, Resampled, Rounded}
+use Rattle.popsample.specs.Outcomes.Outcome.{Usage, Unread, Isolated, NoRoot, CutOff, TooMany, Unsound, Clashes, Extremal, Ended, Resampled, Rounded, Batched}
 use Rattle.popsample.specs.Answers.{ComesOfCommand, IsOutcome}
 use Rattle.popsample.specs.Laws.{EndsFinished}
+use Rattle.popsample.proofs.BatchEnds.{batch_of, unstuck}
 
 -- an end with an empty stuck list
 finished : (i : Instance) (c : List ℕ) (stuck : List Event) → IsStuckList i c stuck → end_status stuck ≡ 0 → IsFinished i c
@@ -85,11 +86,16 @@ sample_finished words ws text (Resampled facts i placed stuck a) h is =
     (logged_stuck_list h.job.command h.job ws text facts i placed stuck a h.comes) (none_stuck stuck a.witness is)
 sample_finished words ws text (Rounded facts i c rounds stuck short) h is =
     finished i c stuck (rounds_stuck_list h.job.command h.job ws text facts i c rounds stuck short h.comes) is
+sample_finished words ws text (Batched facts i ends) h is =
+    λ j end at. let batch = batch_of h.job.command h.job ws text facts i ends h.comes in
+    finished (instance_for j i) end.cursors end.stuck (batch.are.each j end at).first.stuck_list
+    (unstuck ends j end is at)
 sample_finished words ws text (Usage p) h is = tt
 sample_finished words ws text (Unread r) h is = tt
 sample_finished words ws text (Isolated w) h is = tt
 sample_finished words ws text (NoRoot r) h is = tt
 sample_finished words ws text (CutOff w) h is = tt
+sample_finished words ws text (TooMany n) h is = tt
 sample_finished words ws text (Unsound t f) h is = tt
 sample_finished words ws text (Clashes i j) h is = tt
 sample_finished words ws text (Extremal n) h is = tt

@@ -1,35 +1,63 @@
 -- The run of a formula's events, their clash, and their rounds, as what comes of a formula that is sampled.
-use Rattle.std.proofs.Common.{◌≡◌, ℕ, Bool, true, false, List, refl, sym, ap, subst}
+use Rattle.std.proofs.Common.{◌≡◌, ℕ, Bool, true, false, List, [], ◌∷◌, length, Option, None, refl, sym, subst, ◌∙◌}
+use Rattle.std.proofs.lemmas.List.{length-replicate}
 use Rattle.pop_model.specs.Stacks.{Origin}
 use Rattle.pop_model.specs.Popping.{Cube}
 use Rattle.pop_model.specs.Families.Family.{Listed}
 use Rattle.pop_model.specs.Instances.{Instance}
 use Rattle.pop_model.specs.Extremal.{IsExtremal}
-use Rattle.pop_stacks.specs.declared.stack_fault.StackFault.{StackFault}
 use Rattle.pop_stacks.specs.Faults.{IsSound}
 use Rattle.dimacs_read.specs.Cnf.{Cnf}
 use Rattle.dimacs_read.specs.Falsifying.{AreEventsOf}
 use Rattle.pop_watch.specs.Telling.{Watcher}
-use Rattle.pop_print.specs.declared.facts.Facts.{Facts}
 use Rattle.pop_print.specs.declared.facts.Facts.TheVariants.{Formula as FormulaFacts}
 use Rattle.popsample.specs.declared.asked.Asked.{Asked}
 use Rattle.popsample.specs.declared.refusal.Refusal.{Refusal}
 use Rattle.popsample.specs.declared.refusal.Refusal.TheVariants.{Clashes, Stopped}
+use Rattle.popsample.specs.Batches.{AreFew}
 use Rattle.popsample.specs.Outcomes.{Outcome, AnswersBy}
-use Rattle.popsample.specs.Outcomes.Outcome.{Unsound, Usage, Unread, Isolated, NoRoot, CutOff, Extremal, Ended, Resampled, Rounded, Clashes as ClashesOf}
-use Rattle.popsample.specs.Results.{ComesRefused}
-use Rattle.popsample.specs.Sampling.{pair_weights, instance_of, IsEndOf, ComesOfSampling}
+use Rattle.popsample.specs.Outcomes.Outcome.{Unsound, Usage, Unread, Isolated, NoRoot, CutOff, TooMany, Extremal, Ended, Resampled, Rounded, Batched, Clashes as ClashesOf}
+use Rattle.popsample.specs.Results.{ComesRefused, IsTooManyRefusal}
+use Rattle.popsample.specs.Sampling.{pair_weights, instance_of, IsEndOf, IsFaultOf, ComesOfSampling}
 use Rattle.popsample.specs.Formulas.{EndsFormula, ComesOfRunning, ComesOfChecking}
 use Rattle.popsample.specs.Resamplings.{IsHistoryOf, RunsFormula, IsClashIn}
 use Rattle.popsample.specs.Rounds.{IsRoundsEndOf, EndsRounds, ComesOfRounds}
-use Rattle.popsample.proofs.Carrying.{answered}
-use Rattle.popsample.proofs.GoodForms.{of_sound}
+use Rattle.popsample.proofs.Carrying.{refused, answered}
+use Rattle.popsample.proofs.GoodForms.{TellsRuns, of_fault, of_sound, too_many_refused}
 
--- no run of a formula tells a fault of its stacks
-no_fault : (clashing : Bool) (origin : Origin) (asked : Asked) (ws : List Watcher) (f : Cnf) (t : Facts) (fault : StackFault)
-    → RunsFormula clashing origin asked ws f (Unsound t fault) → ⊥
-no_fault false origin asked ws f t fault h = h.end
-no_fault true origin asked ws f t fault h = h.history
+-- a run of a formula tells a run
+formula_runs : (clashing : Bool) (origin : Origin) (asked : Asked) (ws : List Watcher) (f : Cnf)
+    → TellsRuns (RunsFormula clashing origin asked ws f)
+formula_runs false origin asked ws f = record { no_fault = λ t r h. h.end; not_many = λ n h. h.end }
+formula_runs true origin asked ws f = record { no_fault = λ t r h. h.history; not_many = λ n h. h.history }
+
+-- few samples of a formula's variables are few of its weights
+few_pairs : (asked : Option ℕ) (n m : ℕ) → n ≡ m → AreFew asked n → AreFew asked (length (pair_weights m))
+few_pairs asked n m is few = subst (AreFew asked) (is ∙ sym (length-replicate m (1 ∷ 1 ∷ []))) few
+
+-- too many samples of a formula are refused
+pub many_refused : (clashing : Bool) (origin : Origin) (asked : Asked) (ws : List Watcher) (n : ℕ) (f : Cnf) (r : Refusal)
+    → n ≡ f.variables → IsTooManyRefusal asked.count n r
+    → ComesRefused (ComesOfSampling (FormulaFacts f.variables) origin (pair_weights f.variables) asked.count
+    (RunsFormula clashing origin asked ws f)) r
+many_refused clashing origin asked ws n f r is many =
+    too_many_refused (FormulaFacts f.variables) origin (pair_weights f.variables) asked.count
+    (RunsFormula clashing origin asked ws f) n r (is ∙ sym (length-replicate f.variables (1 ∷ 1 ∷ []))) many
+
+-- a fault of a formula's stacks refuses it
+pub fault_refused : (clashing : Bool) (origin : Origin) (asked : Asked) (ws : List Watcher) (n : ℕ) (f : Cnf) (r : Refusal)
+    → n ≡ f.variables → AreFew asked.count n
+    → ComesRefused (IsFaultOf (FormulaFacts n) origin (pair_weights n)) r
+    → ComesRefused (ComesOfSampling (FormulaFacts f.variables) origin (pair_weights f.variables) asked.count
+    (RunsFormula clashing origin asked ws f)) r
+fault_refused clashing origin asked ws n f r is few h =
+    let own : ComesRefused (IsFaultOf (FormulaFacts f.variables) origin (pair_weights f.variables)) r =
+    subst (λ k. ComesRefused (IsFaultOf (FormulaFacts k) origin (pair_weights k)) r) is h in
+    refused (IsFaultOf (FormulaFacts f.variables) origin (pair_weights f.variables))
+    (ComesOfSampling (FormulaFacts f.variables) origin (pair_weights f.variables) asked.count
+    (RunsFormula clashing origin asked ws f)) r
+    (λ o. of_fault (FormulaFacts f.variables) origin (pair_weights f.variables) asked.count
+    (RunsFormula clashing origin asked ws f) o (few_pairs asked.count n f.variables is few)) own
 
 -- an end is no clash
 ends : (origin : Origin) (asked : Asked) (ws : List Watcher) (f : Cnf) (o : Outcome) → EndsFormula origin asked ws f o
@@ -39,24 +67,26 @@ ends origin asked ws f (Unread r) h = h
 ends origin asked ws f (Isolated w) h = h
 ends origin asked ws f (NoRoot r) h = h
 ends origin asked ws f (CutOff w) h = h
+ends origin asked ws f (TooMany n) h = h
 ends origin asked ws f (Unsound t r) h = h
 ends origin asked ws f (ClashesOf i j) h = absurd h.end
 ends origin asked ws f (Extremal n) h = h
 ends origin asked ws f (Ended t i c n s a) h = h
 ends origin asked ws f (Resampled t i l s a) h = h
 ends origin asked ws f (Rounded t i c n s v) h = h
+ends origin asked ws f (Batched t i es) h = h
 
 -- a clash of a formula's events refuses it where they may not clash
 pub clash_refused : (clashing : Bool) (origin : Origin) (asked : Asked) (ws : List Watcher) (f : Cnf)
-    (events : List (ℕ × Cube)) (r : Refusal) → IsSound origin (pair_weights f.variables) → AreEventsOf f.clauses events
-    → IsClashIn clashing events r
-    → ComesRefused (ComesOfSampling (FormulaFacts f.variables) origin (pair_weights f.variables)
+    (events : List (ℕ × Cube)) (n : ℕ) (r : Refusal) → n ≡ f.variables → IsSound origin (pair_weights f.variables)
+    → AreFew asked.count n → AreEventsOf f.clauses events → IsClashIn clashing events r
+    → ComesRefused (ComesOfSampling (FormulaFacts f.variables) origin (pair_weights f.variables) asked.count
     (RunsFormula clashing origin asked ws f)) r
-clash_refused false origin asked ws f events (Clashes i j) sound of clash =
-    (sound, record { events = events; of_formula = of; least = clash })
-clash_refused false origin asked ws f events (Stopped s) sound of clash = clash
-clash_refused true origin asked ws f events (Stopped s) sound of clash = clash
-clash_refused clashing origin asked ws f events r sound of clash = absurd clash
+clash_refused false origin asked ws f events n (Clashes i j) is sound few of clash =
+    (sound, record { events = events; of_formula = of; least = clash }, few_pairs asked.count n f.variables is few)
+clash_refused false origin asked ws f events n (Stopped s) is sound few of clash = clash
+clash_refused true origin asked ws f events n (Stopped s) is sound few of clash = clash
+clash_refused clashing origin asked ws f events n r is sound few of clash = absurd clash
 
 -- and where it is checked
 pub clash_checked : (f : Cnf) (events : List (ℕ × Cube)) (r : Refusal) → AreEventsOf f.clauses events
@@ -69,30 +99,32 @@ clash_checked f events r of clash = absurd clash
 pub run_answers : (clashing : Bool) (origin : Origin) (asked : Asked) (ws : List Watcher) (n : ℕ) (f : Cnf)
     (events : List (ℕ × Cube)) (i : Instance) (status : ℕ) (out : List ℕ) → n ≡ f.variables
     → i ≡ instance_of origin n events → AreEventsOf f.clauses events → IsSound origin (pair_weights f.variables)
-    → asked.free ≡ clashing → (clashing ≡ false → IsExtremal (Listed events))
-    → (asked.free ≡ false → IsExtremal i.family → AnswersBy (IsEndOf asked ws (FormulaFacts n) i) status out)
+    → AreFew asked.count n → asked.free ≡ clashing → (clashing ≡ false → IsExtremal (Listed events))
+    → (asked.free ≡ false → AnswersBy (IsEndOf asked ws (FormulaFacts n) i) status out)
     → (asked.free ≡ true → AnswersBy (IsHistoryOf asked ws (FormulaFacts n) i) status out)
-    → AnswersBy (ComesOfSampling (FormulaFacts f.variables) origin (pair_weights f.variables)
+    → AnswersBy (ComesOfSampling (FormulaFacts f.variables) origin (pair_weights f.variables) asked.count
     (RunsFormula clashing origin asked ws f)) status out
-run_answers false origin asked ws n f events i status out count same of sound told extremal ended history =
+run_answers false origin asked ws n f events i status out count same of sound few told extremal ended history =
     answered (IsEndOf asked ws (FormulaFacts n) i)
-    (ComesOfSampling (FormulaFacts f.variables) origin (pair_weights f.variables) (RunsFormula false origin asked ws f))
-    status out
-    (λ o end. of_sound (FormulaFacts f.variables) origin (pair_weights f.variables) (RunsFormula false origin asked ws f)
-    sound (no_fault false origin asked ws f) o (ends origin asked ws f o (record {
+    (ComesOfSampling (FormulaFacts f.variables) origin (pair_weights f.variables) asked.count
+    (RunsFormula false origin asked ws f)) status out
+    (λ o end. of_sound (FormulaFacts f.variables) origin (pair_weights f.variables) asked.count
+    (RunsFormula false origin asked ws f) sound (few_pairs asked.count n f.variables count few)
+    (formula_runs false origin asked ws f) o (ends origin asked ws f o (record {
       events = events;
       of_formula = of;
       extremal = extremal refl;
       end = subst (λ k. IsEndOf asked ws (FormulaFacts k) (instance_of origin k events) o) count
           (subst (λ j. IsEndOf asked ws (FormulaFacts n) j o) same end);
     })))
-    (ended told (subst IsExtremal (sym (ap (λ (j : Instance). j.family) same)) (extremal refl)))
-run_answers true origin asked ws n f events i status out count same of sound told extremal ended history =
+    (ended told)
+run_answers true origin asked ws n f events i status out count same of sound few told extremal ended history =
     answered (IsHistoryOf asked ws (FormulaFacts n) i)
-    (ComesOfSampling (FormulaFacts f.variables) origin (pair_weights f.variables) (RunsFormula true origin asked ws f))
-    status out
-    (λ o run. of_sound (FormulaFacts f.variables) origin (pair_weights f.variables) (RunsFormula true origin asked ws f)
-    sound (no_fault true origin asked ws f) o (record {
+    (ComesOfSampling (FormulaFacts f.variables) origin (pair_weights f.variables) asked.count
+    (RunsFormula true origin asked ws f)) status out
+    (λ o run. of_sound (FormulaFacts f.variables) origin (pair_weights f.variables) asked.count
+    (RunsFormula true origin asked ws f) sound (few_pairs asked.count n f.variables count few)
+    (formula_runs true origin asked ws f) o (record {
       events = events;
       of_formula = of;
       history = subst (λ k. IsHistoryOf asked ws (FormulaFacts k) (instance_of origin k events) o) count
@@ -107,8 +139,8 @@ pub rounds_answer : (origin : Origin) (n : ℕ) (f : Cnf) (events : List (ℕ ×
     → AnswersBy (ComesOfRounds origin f) status out
 rounds_answer origin n f events i status out count same of sound =
     answered (IsRoundsEndOf (FormulaFacts n) i) (ComesOfRounds origin f) status out
-    (λ o end. of_sound (FormulaFacts f.variables) origin (pair_weights f.variables) (EndsRounds origin f) sound
-    (λ t r h. h.end) o (record {
+    (λ o end. of_sound (FormulaFacts f.variables) origin (pair_weights f.variables) None (EndsRounds origin f) sound
+    (λ n none. absurd (cc)) (record { no_fault = λ t r h. h.end; not_many = λ n h. h.end }) o (record {
       events = events;
       of_formula = of;
       end = subst (λ k. IsRoundsEndOf (FormulaFacts k) (instance_of origin k events) o) count

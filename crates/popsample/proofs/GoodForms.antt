@@ -1,5 +1,6 @@
 -- What comes of sampling, and of a graph whose form is good: no vertex is isolated, or each is joined to the root.
-use Rattle.std.proofs.Common.{◌≡◌, ℕ, ◌≤◌, List, length, refl, subst}
+use Rattle.std.proofs.Common.{◌≡◌, ℕ, ◌≤◌, List, [], ◌∷◌, length, Option, Result, refl, sym, subst, ◌∙◌}
+use Rattle.std.proofs.lemmas.List.{length-replicate}
 use Rattle.pop_model.specs.Stacks.{Origin}
 use Rattle.pop_stacks.specs.declared.stack_fault.StackFault.{StackFault}
 use Rattle.pop_stacks.specs.Faults.{IsSound}
@@ -10,64 +11,87 @@ use Rattle.pop_model.specs.Instances.{Instance}
 use Rattle.sink_popping.specs.Sinks.{AreSinksOf, IsIsolated, IsSinkFault}
 use Rattle.sink_popping.specs.declared.sink_fault.SinkFault.{SinkFault}
 use Rattle.sink_popping.specs.declared.sink_fault.SinkFault.TheVariants.{Isolated as IsolatedVertex, OutOfMemory as SinkMemory}
-use Rattle.cycle_popping.specs.Trees.{weights_of_tree}
+use Rattle.graph_read.specs.Grids.{grid_of}
+use Rattle.cycle_popping.specs.Trees.{heads_of_tree, weights_of_tree}
 use Rattle.pop_watch.specs.Telling.{Watcher}
 use Rattle.pop_print.specs.declared.facts.Facts.{Facts}
-use Rattle.pop_print.specs.declared.facts.Facts.TheVariants.{Orient as OrientFacts, Tree as TreeFacts}
+use Rattle.pop_print.specs.declared.facts.Facts.TheVariants.{Orient as OrientFacts, Tree as TreeFacts, Made as MadeFacts}
 use Rattle.popsample.specs.declared.asked.Asked.{Asked}
+use Rattle.popsample.specs.Batches.{IsTooMany, AreFew}
 use Rattle.popsample.specs.Outcomes.{Outcome, AnswersBy}
-use Rattle.popsample.specs.Outcomes.Outcome.{Usage, Unread, Isolated, NoRoot, CutOff, Unsound, Clashes, Extremal, Ended, Resampled, Rounded}
+use Rattle.popsample.specs.Outcomes.Outcome.{Usage, Unread, Isolated, NoRoot, CutOff, TooMany, Unsound, Clashes, Extremal, Ended, Resampled, Rounded, Batched}
 use Rattle.popsample.specs.Sampling.{pair_weights, instance_of, IsEndOf, IsFaultOf, ComesOfSampling}
 use Rattle.popsample.specs.Orientations.{EndsOrientation, ComesOfOrienting}
-use Rattle.popsample.specs.Trees.{tree_instance, ComesOfTree}
+use Rattle.popsample.specs.Trees.{cycles_instance, tree_instance, ComesOfTree}
+use Rattle.popsample.specs.Grids.{ComesOfGrid}
+use Rattle.popsample.specs.declared.answer.Answer.{Answer}
 use Rattle.popsample.specs.declared.refusal.Refusal.{Refusal}
-use Rattle.popsample.specs.declared.refusal.Refusal.TheVariants.{CutOff as CutOffAt, Stopped}
-use Rattle.popsample.specs.Results.{unoriented, ComesRefused, IsCutOffRefusal}
-use Rattle.popsample.proofs.Carrying.{answered}
+use Rattle.popsample.specs.declared.refusal.Refusal.TheVariants.{CutOff as CutOffAt, TooMany as TooManyAt, Stopped}
+use Rattle.popsample.specs.Results.{unoriented, ComesRefused, IsResultOf, IsTooManyRefusal, IsCutOffRefusal}
+use Rattle.popsample.proofs.Carrying.{answered, carried}
 
 -- a fault of the stacks comes of sampling
-pub of_fault : (facts : Facts) (origin : Origin) (weights : List (List ℕ)) (Runs : Outcome → Type 0) (o : Outcome)
-    → IsFaultOf facts origin weights o → ComesOfSampling facts origin weights Runs o
-of_fault facts origin weights Runs (Unsound t f) h = h
-of_fault facts origin weights Runs o h = absurd h
+pub of_fault : (facts : Facts) (origin : Origin) (weights : List (List ℕ)) (asked : Option ℕ)
+    (Runs : Outcome → Type 0) (o : Outcome) → AreFew asked (length weights) → IsFaultOf facts origin weights o
+    → ComesOfSampling facts origin weights asked Runs o
+of_fault facts origin weights asked Runs (Unsound t f) few h = (h.0, h.1, few)
+of_fault facts origin weights asked Runs o few h = absurd h
 
--- with sound stacks what comes of the run comes of sampling; no run tells a fault
-pub of_sound : (facts : Facts) (origin : Origin) (weights : List (List ℕ)) (Runs : Outcome → Type 0)
-    → IsSound origin weights → ((t : Facts) (f : StackFault) → Runs (Unsound t f) → ⊥) → (o : Outcome) → Runs o
-    → ComesOfSampling facts origin weights Runs o
-of_sound facts origin weights Runs sound none (Usage p) h = (sound, h)
-of_sound facts origin weights Runs sound none (Unread r) h = (sound, h)
-of_sound facts origin weights Runs sound none (Isolated w) h = (sound, h)
-of_sound facts origin weights Runs sound none (NoRoot r) h = (sound, h)
-of_sound facts origin weights Runs sound none (CutOff w) h = (sound, h)
-of_sound facts origin weights Runs sound none (Clashes i j) h = (sound, h)
-of_sound facts origin weights Runs sound none (Extremal n) h = (sound, h)
-of_sound facts origin weights Runs sound none (Ended t i c n s a) h = (sound, h)
-of_sound facts origin weights Runs sound none (Resampled t i l s a) h = (sound, h)
-of_sound facts origin weights Runs sound none (Rounded t i c n s v) h = (sound, h)
-of_sound facts origin weights Runs sound none (Unsound t f) h = absurd (none t f h)
+-- a run tells neither a fault nor too many samples
+pub record TellsRuns (Runs : Outcome → Type 0) : Type 0 where
+  pub no_fault : (t : Facts) (f : StackFault) → Runs (Unsound t f) → ⊥
+  pub not_many : (n : ℕ) → Runs (TooMany n) → ⊥
+
+-- with sound stacks and few samples what comes of the run comes of sampling
+pub of_sound : (facts : Facts) (origin : Origin) (weights : List (List ℕ)) (asked : Option ℕ)
+    (Runs : Outcome → Type 0) → IsSound origin weights → AreFew asked (length weights) → TellsRuns Runs
+    → (o : Outcome) → Runs o → ComesOfSampling facts origin weights asked Runs o
+of_sound facts origin weights asked Runs sound few runs (Usage p) h = (sound, h, few)
+of_sound facts origin weights asked Runs sound few runs (Unread r) h = (sound, h, few)
+of_sound facts origin weights asked Runs sound few runs (Isolated w) h = (sound, h, few)
+of_sound facts origin weights asked Runs sound few runs (NoRoot r) h = (sound, h, few)
+of_sound facts origin weights asked Runs sound few runs (CutOff w) h = (sound, h, few)
+of_sound facts origin weights asked Runs sound few runs (Clashes i j) h = (sound, h, few)
+of_sound facts origin weights asked Runs sound few runs (Extremal n) h = (sound, h, few)
+of_sound facts origin weights asked Runs sound few runs (Ended t i c n s a) h = (sound, h, few)
+of_sound facts origin weights asked Runs sound few runs (Resampled t i l s a) h = (sound, h, few)
+of_sound facts origin weights asked Runs sound few runs (Rounded t i c n s v) h = (sound, h, few)
+of_sound facts origin weights asked Runs sound few runs (Batched t i es) h = (sound, h, few)
+of_sound facts origin weights asked Runs sound few runs (TooMany n) h = absurd (runs.not_many n h)
+of_sound facts origin weights asked Runs sound few runs (Unsound t f) h = absurd (runs.no_fault t f h)
+
+-- too many samples are refused
+pub too_many_refused : (facts : Facts) (origin : Origin) (weights : List (List ℕ)) (asked : Option ℕ)
+    (Runs : Outcome → Type 0) (n : ℕ) (r : Refusal) → n ≡ length weights → IsTooManyRefusal asked n r
+    → ComesRefused (ComesOfSampling facts origin weights asked Runs) r
+too_many_refused facts origin weights asked Runs n (TooManyAt samples) is many =
+    (many.0, subst (IsTooMany samples) is many.1)
+too_many_refused facts origin weights asked Runs n r is many = absurd many
 
 -- where no vertex is isolated
 pub of_touched : (origin : Origin) (asked : Asked) (ws : List Watcher) (g : GraphOf) → ((w : ℕ) → IsIsolated g w → ⊥)
     → (o : Outcome)
-    → ComesOfSampling (OrientFacts g) origin (pair_weights (length g.edges)) (EndsOrientation origin asked ws g) o
+    → ComesOfSampling (OrientFacts g) origin (pair_weights (length g.edges)) asked.count
+    (EndsOrientation origin asked ws g) o
     → ComesOfOrienting origin asked ws g o
 of_touched origin asked ws g touched (Usage p) h = (touched, h)
 of_touched origin asked ws g touched (Unread r) h = (touched, h)
 of_touched origin asked ws g touched (Isolated w) h = absurd h.1.end
 of_touched origin asked ws g touched (NoRoot r) h = (touched, h)
 of_touched origin asked ws g touched (CutOff w) h = (touched, h)
+of_touched origin asked ws g touched (TooMany n) h = (touched, h)
 of_touched origin asked ws g touched (Unsound t f) h = (touched, h)
 of_touched origin asked ws g touched (Clashes i j) h = (touched, h)
 of_touched origin asked ws g touched (Extremal n) h = (touched, h)
 of_touched origin asked ws g touched (Ended t i c n s a) h = (touched, h)
 of_touched origin asked ws g touched (Resampled t i l s a) h = (touched, h)
 of_touched origin asked ws g touched (Rounded t i c n s v) h = (touched, h)
+of_touched origin asked ws g touched (Batched t i es) h = (touched, h)
 
 -- where the root is a vertex, and each vertex is joined to it
 pub of_connected : (origin : Origin) (asked : Asked) (ws : List Watcher) (root : ℕ) (g : GraphOf) → root ≤ g.vertices
     → IsConnected g root → (o : Outcome)
-    → ComesOfSampling (TreeFacts g root) origin (weights_of_tree g root)
+    → ComesOfSampling (TreeFacts g root) origin (weights_of_tree g root) asked.count
     (IsEndOf asked ws (TreeFacts g root) (tree_instance origin g root)) o
     → ComesOfTree origin asked ws root g o
 of_connected origin asked ws root g last connected (Usage p) h = (last, connected, h)
@@ -75,12 +99,14 @@ of_connected origin asked ws root g last connected (Unread r) h = (last, connect
 of_connected origin asked ws root g last connected (Isolated w) h = (last, connected, h)
 of_connected origin asked ws root g last connected (NoRoot r) h = absurd h.1
 of_connected origin asked ws root g last connected (CutOff w) h = absurd h.1
+of_connected origin asked ws root g last connected (TooMany n) h = (last, connected, h)
 of_connected origin asked ws root g last connected (Unsound t f) h = (last, connected, h)
 of_connected origin asked ws root g last connected (Clashes i j) h = (last, connected, h)
 of_connected origin asked ws root g last connected (Extremal n) h = (last, connected, h)
 of_connected origin asked ws root g last connected (Ended t i c n s a) h = (last, connected, h)
 of_connected origin asked ws root g last connected (Resampled t i l s a) h = (last, connected, h)
 of_connected origin asked ws root g last connected (Rounded t i c n s v) h = (last, connected, h)
+of_connected origin asked ws root g last connected (Batched t i es) h = (last, connected, h)
 
 -- a vertex that is cut off refuses a graph of which a tree is asked
 pub cut_off_refused : (origin : Origin) (asked : Asked) (ws : List Watcher) (root : ℕ) (g : GraphOf) (r : Refusal)
@@ -95,22 +121,24 @@ pub sink_refused : (origin : Origin) (asked : Asked) (ws : List Watcher) (g : Gr
 sink_refused origin asked ws g (IsolatedVertex w) least = least
 sink_refused origin asked ws g SinkMemory least = refl
 
--- no run of sinks, and no end, tells a fault
-pub sinks_no_fault : (origin : Origin) (asked : Asked) (ws : List Watcher) (g : GraphOf) (t : Facts) (f : StackFault)
-    → EndsOrientation origin asked ws g (Unsound t f) → ⊥
-sinks_no_fault origin asked ws g t f h = h.end
+-- a run of sinks tells a run
+sinks_run : (origin : Origin) (asked : Asked) (ws : List Watcher) (g : GraphOf)
+    → TellsRuns (EndsOrientation origin asked ws g)
+sinks_run origin asked ws g = record { no_fault = λ t f h. h.end; not_many = λ n h. h.end }
 
 -- the answer of the run of a graph's sinks
 pub orient_answers : (origin : Origin) (asked : Asked) (ws : List Watcher) (g : GraphOf) (n : ℕ)
     (events : List (ℕ × Cube)) (i : Instance) (status : ℕ) (out : List ℕ) → ((w : ℕ) → IsIsolated g w → ⊥)
     → AreSinksOf g events → n ≡ length g.edges → i ≡ instance_of origin n events
-    → IsSound origin (pair_weights (length g.edges)) → AnswersBy (IsEndOf asked ws (OrientFacts g) i) status out
+    → IsSound origin (pair_weights (length g.edges)) → AreFew asked.count n
+    → AnswersBy (IsEndOf asked ws (OrientFacts g) i) status out
     → AnswersBy (ComesOfOrienting origin asked ws g) status out
-orient_answers origin asked ws g n events i status out touched of count same sound =
+orient_answers origin asked ws g n events i status out touched of count same sound few =
     answered (IsEndOf asked ws (OrientFacts g) i) (ComesOfOrienting origin asked ws g) status out
     (λ o end. of_touched origin asked ws g touched o
-    (of_sound (OrientFacts g) origin (pair_weights (length g.edges)) (EndsOrientation origin asked ws g) sound
-    (sinks_no_fault origin asked ws g) o (record {
+    (of_sound (OrientFacts g) origin (pair_weights (length g.edges)) asked.count (EndsOrientation origin asked ws g) sound
+    (subst (AreFew asked.count) (count ∙ sym (length-replicate (length g.edges) (1 ∷ 1 ∷ []))) few)
+    (sinks_run origin asked ws g) o (record {
       events = events;
       of_graph = of;
       end = subst (λ k. IsEndOf asked ws (OrientFacts g) (instance_of origin k events) o) count
@@ -119,10 +147,50 @@ orient_answers origin asked ws g n events i status out touched of count same sou
 
 -- the answer of the run of arrows
 pub arrows_answer : (facts : Facts) (origin : Origin) (asked : Asked) (ws : List Watcher) (weights : List (List ℕ))
-    (i j : Instance) (status : ℕ) (out : List ℕ) → IsSound origin weights → i ≡ j
+    (i j : Instance) (status : ℕ) (out : List ℕ) → IsSound origin weights → AreFew asked.count (length weights) → i ≡ j
     → AnswersBy (IsEndOf asked ws facts i) status out
-    → AnswersBy (ComesOfSampling facts origin weights (IsEndOf asked ws facts j)) status out
-arrows_answer facts origin asked ws weights i j status out sound same =
-    answered (IsEndOf asked ws facts i) (ComesOfSampling facts origin weights (IsEndOf asked ws facts j)) status out
-    (λ o end. of_sound facts origin weights (IsEndOf asked ws facts j) sound (λ t f h. h) o
+    → AnswersBy (ComesOfSampling facts origin weights asked.count (IsEndOf asked ws facts j)) status out
+arrows_answer facts origin asked ws weights i j status out sound few same =
+    answered (IsEndOf asked ws facts i) (ComesOfSampling facts origin weights asked.count (IsEndOf asked ws facts j))
+    status out
+    (λ o end. of_sound facts origin weights asked.count (IsEndOf asked ws facts j) sound few
+    (record { no_fault = λ t f h. h; not_many = λ n h. h }) o
     (subst (λ k. IsEndOf asked ws facts k o) same end))
+
+-- the result of sampling arrows is that of sampling those of other weights and heads, if these are the same
+same_arrows : (facts : Facts) (origin : Origin) (asked : Asked) (ws : List Watcher) (weights others : List (List ℕ))
+    (arrows heads : List (List (Option ℕ))) (r : Result Answer Refusal) → weights ≡ others → arrows ≡ heads
+    → IsResultOf (ComesOfSampling facts origin weights asked.count
+    (IsEndOf asked ws facts (cycles_instance origin weights arrows))) r
+    → IsResultOf (ComesOfSampling facts origin others asked.count
+    (IsEndOf asked ws facts (cycles_instance origin others heads))) r
+same_arrows facts origin asked ws weights others arrows heads r same alike comes =
+    subst (λ w. IsResultOf (ComesOfSampling facts origin w asked.count
+    (IsEndOf asked ws facts (cycles_instance origin w heads))) r) same
+    (subst (λ h. IsResultOf (ComesOfSampling facts origin weights asked.count
+    (IsEndOf asked ws facts (cycles_instance origin weights h))) r) alike comes)
+
+-- the result of sampling a graph's arrows is that of its trees
+pub tree_result : (origin : Origin) (asked : Asked) (ws : List Watcher) (root : ℕ) (g : GraphOf)
+    (weights : List (List ℕ)) (arrows : List (List (Option ℕ))) (r : Result Answer Refusal)
+    → weights ≡ weights_of_tree g root → arrows ≡ heads_of_tree g root → root ≤ g.vertices → IsConnected g root
+    → IsResultOf (ComesOfSampling (TreeFacts g root) origin weights asked.count
+    (IsEndOf asked ws (TreeFacts g root) (cycles_instance origin weights arrows))) r
+    → IsResultOf (ComesOfTree origin asked ws root g) r
+tree_result origin asked ws root g weights arrows r same alike last connected comes =
+    let facts : Facts = TreeFacts g root in
+    carried (ComesOfSampling facts origin (weights_of_tree g root) asked.count
+    (IsEndOf asked ws facts (tree_instance origin g root))) (ComesOfTree origin asked ws root g) r
+    (of_connected origin asked ws root g last connected)
+    (same_arrows facts origin asked ws weights (weights_of_tree g root) arrows (heads_of_tree g root) r same alike comes)
+
+-- and so it is of a grid
+pub grid_result : (origin : Origin) (asked : Asked) (ws : List Watcher) (side : ℕ) (weights : List (List ℕ))
+    (arrows : List (List (Option ℕ))) (r : Result Answer Refusal) → weights ≡ weights_of_tree (grid_of side) 1
+    → arrows ≡ heads_of_tree (grid_of side) 1
+    → IsResultOf (ComesOfSampling (MadeFacts side) origin weights asked.count
+    (IsEndOf asked ws (MadeFacts side) (cycles_instance origin weights arrows))) r
+    → IsResultOf (ComesOfGrid origin asked ws side) r
+grid_result origin asked ws side weights arrows r same alike comes =
+    same_arrows (MadeFacts side) origin asked ws weights (weights_of_tree (grid_of side) 1) arrows
+    (heads_of_tree (grid_of side) 1) r same alike comes

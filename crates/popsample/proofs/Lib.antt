@@ -45,18 +45,28 @@ mod OneRounds
 mod OneResampling
 mod OneLog
 mod OneOutcome
+-- Batches. BatchWords: words that ask for one. BatchEnds: the ends of a batch that comes of a job. ShownBatches: what
+-- its text shows.
+mod BatchWords
+mod BatchEnds
+mod ShownBatches
 -- Statuses. Statuses: which a text is answered by. Finished: with 0 no event occurs. ShownSamples: with 0 and 1 an
--- end is shown, of a formula's events (ShownFormulas) and by rounds (ShownRounds) too, whatever stands behind it
--- (ShownBehind). Completeness: one of these
--- where nothing stands against words and text. WorkersAgree: for any number of workers.
+-- end is shown, of a formula's events (ShownFormulas), of all that is sampled (ShownSubjects) and by rounds
+-- (ShownRounds) too, whatever stands behind it (ShownBehind). FirstSample: a batch begins with the sample of its job
+-- without a number. Completeness: one of these where nothing stands against words and text. AlikeJobs: jobs of which the
+-- same comes. WorkersAgree: for any number of workers. GrownAlike: in stages, or not.
 mod Statuses
 mod Finished
 mod ShownFormulas
+mod ShownSubjects
 mod ShownBehind
 mod ShownRounds
 mod ShownSamples
+mod FirstSample
 mod Completeness
+mod AlikeJobs
 mod WorkersAgree
+mod GrownAlike
 -- The exact law of answers. EndedSubjects: a run's end that is told. ExactAnswers: another sample is answered in the
 -- place of the printed one. EverySample: what satisfies a formula, leaves no sink or leads to the root is a sample.
 mod EndedSubjects

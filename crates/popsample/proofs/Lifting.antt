@@ -20,7 +20,7 @@ use Rattle.popsample.specs.declared.stop.Stop.TheVariants.{ReadFault, OutOfMemor
 use Rattle.popsample.specs.declared.refusal.Refusal.{Refusal}
 use Rattle.popsample.specs.declared.refusal.Refusal.TheVariants.{Malformed, Count, EmptyClause, Limit, Stopped}
 use Rattle.popsample.specs.Outcomes.{Outcome}
-use Rattle.popsample.specs.Outcomes.Outcome.{Usage, Unread, Isolated, NoRoot, CutOff, Unsound, Clashes, Extremal, Ended, Resampled, Rounded}
+use Rattle.popsample.specs.Outcomes.Outcome.{Usage, Unread, Isolated, NoRoot, CutOff, TooMany, Unsound, Clashes, Extremal, Ended, Resampled, Rounded, Batched}
 use Rattle.popsample.specs.Results.{ComesRefused, IsResultOf, IsRefusalOf}
 use Rattle.popsample.specs.Sampling.{pair_weights, ComesOfSampling}
 use Rattle.popsample.specs.Formulas.{ComesOfFormula, ComesOfChecking}
@@ -64,12 +64,14 @@ of_command job ws text (Unread r) h =
 of_command job ws text (Isolated w) h = h
 of_command job ws text (NoRoot r) h = h
 of_command job ws text (CutOff w) h = h
+of_command job ws text (TooMany n) h = h
 of_command job ws text (Unsound t f) h = h
 of_command job ws text (Clashes i j) h = h
 of_command job ws text (Extremal n) h = h
 of_command job ws text (Ended t i c n s a) h = h
 of_command job ws text (Resampled t i l s a) h = h
 of_command job ws text (Rounded t i c n s v) h = h
+of_command job ws text (Batched t i es) h = h
 
 -- what comes of a job comes of the words that ask for it
 pub of_words : (words : List (List ℕ)) (job : Job) (ws : List Watcher) (text : List ℕ) → Asks words job → (o : Outcome)
@@ -79,12 +81,14 @@ of_words words job ws text asks (Unread refusal) comes = record { job = job; ask
 of_words words job ws text asks (Isolated w) comes = record { job = job; asks = asks; comes = comes }
 of_words words job ws text asks (NoRoot r) comes = record { job = job; asks = asks; comes = comes }
 of_words words job ws text asks (CutOff w) comes = record { job = job; asks = asks; comes = comes }
+of_words words job ws text asks (TooMany n) comes = record { job = job; asks = asks; comes = comes }
 of_words words job ws text asks (Unsound t f) comes = record { job = job; asks = asks; comes = comes }
 of_words words job ws text asks (Clashes i j) comes = record { job = job; asks = asks; comes = comes }
 of_words words job ws text asks (Extremal n) comes = record { job = job; asks = asks; comes = comes }
 of_words words job ws text asks (Ended t i c n s a) comes = record { job = job; asks = asks; comes = comes }
 of_words words job ws text asks (Resampled t i l s a) comes = record { job = job; asks = asks; comes = comes }
 of_words words job ws text asks (Rounded t i c n s v) comes = record { job = job; asks = asks; comes = comes }
+of_words words job ws text asks (Batched t i es) comes = record { job = job; asks = asks; comes = comes }
 
 -- what a command makes of a text is what the job's command makes
 by_command : (job : Job) (ws : List Watcher) (text : List ℕ) (command : Command) → job.command ≡ command → (o : Outcome)
@@ -114,7 +118,7 @@ of_graph job ws text command g Comes r is lifts spelled =
 pub lifted_formula : (job : Job) (ws : List Watcher) (text : List ℕ) (f : Cnf) (origin : Origin) (asked : Asked)
     (r : Result Answer Refusal) → job.command ≡ Formula → origin ≡ origin_for job → asked ≡ asked_by job
     → AnswersCnf text (Ok f)
-    → IsResultOf (ComesOfSampling (FormulaFacts f.variables) origin (pair_weights f.variables)
+    → IsResultOf (ComesOfSampling (FormulaFacts f.variables) origin (pair_weights f.variables) asked.count
     (RunsFormula false origin asked ws f)) r → IsResultOf (ComesOf job ws text) r
 lifted_formula job ws text f origin asked r is from asked_is spelled comes =
     of_cnf job ws text Formula f (ComesOfFormula (origin_for job) (asked_by job) ws) r is (λ o h. h) spelled
@@ -125,7 +129,7 @@ lifted_formula job ws text f origin asked r is from asked_is spelled comes =
 pub lifted_resample : (job : Job) (ws : List Watcher) (text : List ℕ) (f : Cnf) (origin : Origin) (asked : Asked)
     (r : Result Answer Refusal) → job.command ≡ Resample → origin ≡ origin_for job → asked ≡ asked_by job
     → AnswersCnf text (Ok f)
-    → IsResultOf (ComesOfSampling (FormulaFacts f.variables) origin (pair_weights f.variables)
+    → IsResultOf (ComesOfSampling (FormulaFacts f.variables) origin (pair_weights f.variables) asked.count
     (RunsFormula true origin asked ws f)) r → IsResultOf (ComesOf job ws text) r
 lifted_resample job ws text f origin asked r is from asked_is spelled comes =
     of_cnf job ws text Resample f (ComesOfResampling (origin_for job) (asked_by job) ws) r is (λ o h. h) spelled

@@ -13,7 +13,7 @@ use Rattle.pop_watch.specs.Telling.{Watcher}
 use Rattle.pop_print.specs.declared.facts.Facts.TheVariants.{Formula as FormulaFacts}
 use Rattle.popsample.specs.declared.asked.Asked.{Asked}
 use Rattle.popsample.specs.Outcomes.{Outcome}
-use Rattle.popsample.specs.Outcomes.Outcome.{Usage, Unread, Isolated, NoRoot, CutOff, Unsound, Clashes, Extremal, Ended, Resampled, Rounded}
+use Rattle.popsample.specs.Outcomes.Outcome.{Usage, Unread, Isolated, NoRoot, CutOff, TooMany, Unsound, Clashes, Extremal, Ended, Resampled, Rounded, Batched}
 use Rattle.popsample.specs.Sampling.{pair_weights, instance_of, IsEndOf}
 use Rattle.popsample.specs.Formulas.{ClashesAt, EndsFormula, ComesOfRunning, ComesOfFormula, ComesOfChecking}
 use Rattle.popsample.specs.Laws.{ReportAlike}
@@ -64,12 +64,14 @@ running_cases origin asked ws f (Unread r) h = inr h
 running_cases origin asked ws f (Isolated w) h = inr h
 running_cases origin asked ws f (NoRoot r) h = inr h
 running_cases origin asked ws f (CutOff w) h = inr h
+running_cases origin asked ws f (TooMany n) h = inr h
 running_cases origin asked ws f (Unsound t r) h = inr h
 running_cases origin asked ws f (Clashes i j) h = inl (i, j, refl, h)
 running_cases origin asked ws f (Extremal n) h = inr h
 running_cases origin asked ws f (Ended t i c n s a) h = inr h
 running_cases origin asked ws f (Resampled t i l s a) h = inr h
 running_cases origin asked ws f (Rounded t i c n s v) h = inr h
+running_cases origin asked ws f (Batched t i es) h = inr h
 
 -- a formula that runs has one outcome
 one_running : (origin : Origin) (asked : Asked) (ws vs : List Watcher) (f : Cnf) → ReportAlike asked.reports ws vs
@@ -89,7 +91,7 @@ one_running origin asked ws vs f alike o p h h' = elim (running_cases origin ask
 pub one_formula : (origin : Origin) (asked : Asked) (ws vs : List Watcher) (f : Cnf) → ReportAlike asked.reports ws vs
     → AreOne (ComesOfFormula origin asked ws f) (ComesOfFormula origin asked vs f)
 one_formula origin asked ws vs f alike =
-    same_sampling (FormulaFacts f.variables) origin (pair_weights f.variables) (ComesOfRunning origin asked ws f)
+    same_sampling (FormulaFacts f.variables) origin (pair_weights f.variables) asked.count (ComesOfRunning origin asked ws f)
     (ComesOfRunning origin asked vs f) (one_running origin asked ws vs f alike)
 
 -- a formula that is checked has one outcome

@@ -11,7 +11,7 @@ use Rattle.pop_watch.specs.Telling.{Watcher}
 use Rattle.pop_print.specs.declared.facts.Facts.TheVariants.{Orient as OrientFacts}
 use Rattle.popsample.specs.declared.asked.Asked.{Asked}
 use Rattle.popsample.specs.Outcomes.{Outcome}
-use Rattle.popsample.specs.Outcomes.Outcome.{Usage, Unread, Isolated, NoRoot, CutOff, Unsound, Clashes, Extremal, Ended, Resampled, Rounded}
+use Rattle.popsample.specs.Outcomes.Outcome.{Usage, Unread, Isolated, NoRoot, CutOff, TooMany, Unsound, Clashes, Extremal, Ended, Resampled, Rounded, Batched}
 use Rattle.popsample.specs.Sampling.{pair_weights, instance_of, IsEndOf, ComesOfSampling}
 use Rattle.popsample.specs.Orientations.{EndsOrientation, ComesOfOrienting}
 use Rattle.popsample.specs.Laws.{ReportAlike}
@@ -40,7 +40,8 @@ one_ending origin asked ws vs g alike o p h h' =
 abbrev Sampled : Origin → Asked → List Watcher → GraphOf → Outcome → Type 0
 Sampled origin asked ws g o =
     ((w : ℕ) → IsIsolated g w → ⊥)
-    × ComesOfSampling (OrientFacts g) origin (pair_weights (length g.edges)) (EndsOrientation origin asked ws g) o
+    × ComesOfSampling (OrientFacts g) origin (pair_weights (length g.edges)) asked.count
+    (EndsOrientation origin asked ws g) o
 
 -- what comes of orienting is an isolated vertex, or comes of sampling
 orienting_cases : (origin : Origin) (asked : Asked) (ws : List Watcher) (g : GraphOf) (o : Outcome)
@@ -51,12 +52,14 @@ orienting_cases origin asked ws g (Unread r) h = inr h
 orienting_cases origin asked ws g (Isolated w) h = inl (w, refl, h)
 orienting_cases origin asked ws g (NoRoot r) h = inr h
 orienting_cases origin asked ws g (CutOff w) h = inr h
+orienting_cases origin asked ws g (TooMany n) h = inr h
 orienting_cases origin asked ws g (Unsound t r) h = inr h
 orienting_cases origin asked ws g (Clashes i j) h = inr h
 orienting_cases origin asked ws g (Extremal n) h = inr h
 orienting_cases origin asked ws g (Ended t i c n s a) h = inr h
 orienting_cases origin asked ws g (Resampled t i l s a) h = inr h
 orienting_cases origin asked ws g (Rounded t i c n s v) h = inr h
+orienting_cases origin asked ws g (Batched t i es) h = inr h
 
 -- a graph that is oriented has one outcome
 pub one_orienting : (origin : Origin) (asked : Asked) (ws vs : List Watcher) (g : GraphOf)
@@ -68,7 +71,7 @@ one_orienting origin asked ws vs g alike o p h h' = elim (orienting_cases origin
   ]
   | inr (none, comes) ↦ elim (orienting_cases origin asked vs g p h') [
     | inl (w', p_is, least') ↦ absurd (none w' least'.holds)
-    | inr (none', comes') ↦ same_sampling (OrientFacts g) origin (pair_weights (length g.edges))
+    | inr (none', comes') ↦ same_sampling (OrientFacts g) origin (pair_weights (length g.edges)) asked.count
         (EndsOrientation origin asked ws g) (EndsOrientation origin asked vs g)
         (one_ending origin asked ws vs g alike) o p comes comes'
   ]

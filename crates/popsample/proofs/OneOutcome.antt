@@ -15,7 +15,7 @@ use Rattle.pop_watch.specs.Telling.{Watcher}
 use Rattle.pop_words.proofs.OneJob.{same_job, same_first_bad}
 use Rattle.pop_print.specs.declared.facts.Facts.{Facts}
 use Rattle.popsample.specs.Outcomes.{Outcome}
-use Rattle.popsample.specs.Outcomes.Outcome.{Usage, Unread, Isolated, NoRoot, CutOff, Unsound, Clashes, Extremal, Ended, Resampled, Rounded}
+use Rattle.popsample.specs.Outcomes.Outcome.{Usage, Unread, Isolated, NoRoot, CutOff, TooMany, Unsound, Clashes, Extremal, Ended, Resampled, Rounded, Batched}
 use Rattle.popsample.specs.Tellings.{Telling}
 use Rattle.popsample.specs.Formulas.{ComesOfFormula, ComesOfChecking}
 use Rattle.popsample.specs.Resamplings.{ComesOfResampling}
@@ -102,12 +102,14 @@ read_cases job ws text (Unread r) h = inl (r, refl, h.0, h.1)
 read_cases job ws text (Isolated w) h = inr h
 read_cases job ws text (NoRoot r) h = inr h
 read_cases job ws text (CutOff w) h = inr h
+read_cases job ws text (TooMany n) h = inr h
 read_cases job ws text (Unsound t f) h = inr h
 read_cases job ws text (Clashes i j) h = inr h
 read_cases job ws text (Extremal n) h = inr h
 read_cases job ws text (Ended t i c n s a) h = inr h
 read_cases job ws text (Resampled t i l s a) h = inr h
 read_cases job ws text (Rounded t i c n s v) h = inr h
+read_cases job ws text (Batched t i es) h = inr h
 
 -- two outcomes of a job and a text
 alike_read : (job : Job) (ws vs : List Watcher) (text : List ℕ) (o p : Outcome)
@@ -134,12 +136,14 @@ word_cases words ws text (Unread r) h = inr h
 word_cases words ws text (Isolated w) h = inr h
 word_cases words ws text (NoRoot r) h = inr h
 word_cases words ws text (CutOff w) h = inr h
+word_cases words ws text (TooMany n) h = inr h
 word_cases words ws text (Unsound t f) h = inr h
 word_cases words ws text (Clashes i j) h = inr h
 word_cases words ws text (Extremal n) h = inr h
 word_cases words ws text (Ended t i c n s a) h = inr h
 word_cases words ws text (Resampled t i l s a) h = inr h
 word_cases words ws text (Rounded t i c n s v) h = inr h
+word_cases words ws text (Batched t i es) h = inr h
 
 -- two outcomes of words and a text
 pub one_outcome : (words : List (List ℕ)) (ws vs : List Watcher) (text : List ℕ) (o p : Outcome)

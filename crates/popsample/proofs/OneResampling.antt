@@ -42,5 +42,5 @@ two_endings origin asked ws vs f o p h h' =
 pub one_resampling : (origin : Origin) (asked : Asked) (ws vs : List Watcher) (f : Cnf) (o p : Outcome)
     → ComesOfResampling origin asked ws f o → ComesOfResampling origin asked vs f p → Agree o p
 one_resampling origin asked ws vs f =
-    alike_sampling Agree (λ o p is. inl is) (FormulaFacts f.variables) origin (pair_weights f.variables)
+    alike_sampling Agree (λ o p is. inl is) (FormulaFacts f.variables) origin (pair_weights f.variables) asked.count
     (EndsResampling origin asked ws f) (EndsResampling origin asked vs f) (two_endings origin asked ws vs f)

@@ -1,5 +1,5 @@
 -- A formula that is sampled by rounds has one outcome, since the run by rounds has one result.
-use Rattle.std.proofs.Common.{◌≡◌, ℕ, List, Option, ap, subst, ◌∙◌}
+use Rattle.std.proofs.Common.{◌≡◌, ℕ, List, Option, None, ap, subst, ◌∙◌}
 use Rattle.pop_model.specs.Stacks.{Origin}
 use Rattle.pop_model.specs.Families.{Event}
 use Rattle.pop_model.specs.Instances.{Instance}
@@ -10,7 +10,7 @@ use Rattle.dimacs_read.specs.Cnf.{Cnf}
 use Rattle.pop_print.specs.declared.facts.Facts.{Facts}
 use Rattle.pop_print.specs.declared.facts.Facts.TheVariants.{Formula as FormulaFacts}
 use Rattle.popsample.specs.Outcomes.{Outcome}
-use Rattle.popsample.specs.Outcomes.Outcome.{Usage, Unread, Isolated, NoRoot, CutOff, Unsound, Clashes, Extremal, Ended, Resampled, Rounded}
+use Rattle.popsample.specs.Outcomes.Outcome.{Usage, Unread, Isolated, NoRoot, CutOff, TooMany, Unsound, Clashes, Extremal, Ended, Resampled, Rounded, Batched}
 use Rattle.popsample.specs.Sampling.{pair_weights, instance_of}
 use Rattle.popsample.specs.Rounds.{IsRoundsEndOf, EndsRounds, ComesOfRounds}
 use Rattle.popsample.proofs.OneFormula.{one_events}
@@ -32,11 +32,13 @@ rounded facts i (Unread r) h = absurd h
 rounded facts i (Isolated w) h = absurd h
 rounded facts i (NoRoot r) h = absurd h
 rounded facts i (CutOff w) h = absurd h
+rounded facts i (TooMany n) h = absurd h
 rounded facts i (Unsound f r) h = absurd h
 rounded facts i (Clashes j k) h = absurd h
 rounded facts i (Extremal n) h = absurd h
 rounded facts i (Ended told j c n s a) h = absurd h
 rounded facts i (Resampled told j l s a) h = absurd h
+rounded facts i (Batched told j es) h = absurd h
 rounded facts i (Rounded told j c n s v) h =
     record {
       cursors = c;
@@ -74,5 +76,5 @@ one_ending origin f o p h h' =
 -- a formula that is sampled by rounds has one outcome
 pub one_rounds : (origin : Origin) (f : Cnf) → IsOne (ComesOfRounds origin f)
 one_rounds origin f =
-    same_sampling (FormulaFacts f.variables) origin (pair_weights f.variables) (EndsRounds origin f)
+    same_sampling (FormulaFacts f.variables) origin (pair_weights f.variables) None (EndsRounds origin f)
     (EndsRounds origin f) (one_ending origin f)

@@ -12,7 +12,7 @@ use Rattle.pop_watch.specs.Telling.{Watcher}
 use Rattle.pop_print.specs.declared.facts.Facts.TheVariants.{Tree as TreeFacts, Made as MadeFacts}
 use Rattle.popsample.specs.declared.asked.Asked.{Asked}
 use Rattle.popsample.specs.Outcomes.{Outcome}
-use Rattle.popsample.specs.Outcomes.Outcome.{Usage, Unread, Isolated, NoRoot, CutOff, Unsound, Clashes, Extremal, Ended, Resampled, Rounded}
+use Rattle.popsample.specs.Outcomes.Outcome.{Usage, Unread, Isolated, NoRoot, CutOff, TooMany, Unsound, Clashes, Extremal, Ended, Resampled, Rounded, Batched}
 use Rattle.popsample.specs.Sampling.{IsEndOf, ComesOfSampling}
 use Rattle.popsample.specs.Trees.{tree_instance, ComesOfTree}
 use Rattle.popsample.specs.Grids.{ComesOfGrid}
@@ -25,7 +25,7 @@ use Rattle.popsample.proofs.OneSampling.{AreOne, one_end, same_sampling}
 abbrev Sampled : Origin → Asked → List Watcher → ℕ → GraphOf → Outcome → Type 0
 Sampled origin asked ws root g o =
     (root ≤ g.vertices) × IsConnected g root
-    × ComesOfSampling (TreeFacts g root) origin (weights_of_tree g root)
+    × ComesOfSampling (TreeFacts g root) origin (weights_of_tree g root) asked.count
     (IsEndOf asked ws (TreeFacts g root) (tree_instance origin g root)) o
 
 -- how a graph of which a tree is asked comes to an outcome
@@ -42,12 +42,14 @@ ways origin asked ws root g (Unread r) h = sampled h
 ways origin asked ws root g (Isolated w) h = sampled h
 ways origin asked ws root g (NoRoot r) h = no_root (ap NoRoot h.0) h.1
 ways origin asked ws root g (CutOff w) h = cut_off w refl h.0 h.1
+ways origin asked ws root g (TooMany n) h = sampled h
 ways origin asked ws root g (Unsound t r) h = sampled h
 ways origin asked ws root g (Clashes i j) h = sampled h
 ways origin asked ws root g (Extremal n) h = sampled h
 ways origin asked ws root g (Ended t i c n s a) h = sampled h
 ways origin asked ws root g (Resampled t i l s a) h = sampled h
 ways origin asked ws root g (Rounded t i c n s v) h = sampled h
+ways origin asked ws root g (Batched t i es) h = sampled h
 
 -- two outcomes come in one way, and are one
 one_way : (origin : Origin) (asked : Asked) (ws vs : List Watcher) (root : ℕ) (g : GraphOf)
@@ -63,7 +65,7 @@ one_way origin asked ws vs root g alike o p (cut_off w o_is below least) (sample
 one_way origin asked ws vs root g alike o p (sampled h) (no_root p_is above') = let below = h.0 in absurd (omega arith)
 one_way origin asked ws vs root g alike o p (sampled h) (cut_off w' p_is below' least') = absurd (least'.holds.apart (h.1 w' least'.holds.vertex))
 one_way origin asked ws vs root g alike o p (sampled h) (sampled h') =
-    same_sampling (TreeFacts g root) origin (weights_of_tree g root)
+    same_sampling (TreeFacts g root) origin (weights_of_tree g root) asked.count
     (IsEndOf asked ws (TreeFacts g root) (tree_instance origin g root))
     (IsEndOf asked vs (TreeFacts g root) (tree_instance origin g root))
     (one_end asked ws vs (TreeFacts g root) (tree_instance origin g root) alike (cycles_cubes (heads_of_tree g root))
@@ -81,7 +83,7 @@ pub one_grid : (origin : Origin) (asked : Asked) (ws vs : List Watcher) (side : 
     → AreOne (ComesOfGrid origin asked ws side) (ComesOfGrid origin asked vs side)
 one_grid origin asked ws vs side alike =
     let g = grid_of side in
-    same_sampling (MadeFacts side) origin (weights_of_tree g 1) (IsEndOf asked ws (MadeFacts side) (tree_instance origin g 1))
+    same_sampling (MadeFacts side) origin (weights_of_tree g 1) asked.count (IsEndOf asked ws (MadeFacts side) (tree_instance origin g 1))
     (IsEndOf asked vs (MadeFacts side) (tree_instance origin g 1))
     (one_end asked ws vs (MadeFacts side) (tree_instance origin g 1) alike (cycles_cubes (heads_of_tree g 1))
     (cycles_extremal (heads_of_tree g 1)))

@@ -1,5 +1,6 @@
--- What an output shows, it shows whatever stands behind it.
-use Rattle.std.proofs.Common.{◌≡◌, ℕ, List, [], ◌∷◌, ◌++◌, codes, ap, ◌∙◌, append_assoc}
+-- What an output shows, it shows whatever stands behind it; and its status says whether events still occur.
+use Rattle.std.proofs.Common.{◌≡◌, ℕ, List, [], ◌∷◌, ◌++◌, codes, ap, ◌∙◌, append_assoc, arith}
+use Rattle.pop_model.specs.Stacks.{Origin}
 use Rattle.pop_model.specs.Families.{Event}
 use Rattle.pop_model.specs.Text.{line, spaced}
 use Rattle.dimacs_read.specs.Cnf.{Cnf}
@@ -15,6 +16,7 @@ use Rattle.printed_samples.specs.Assignments.{ShowsAssignment}
 use Rattle.printed_samples.specs.Orientations.{ShowsOrientation}
 use Rattle.printed_samples.specs.Stuck.{stuck_text, ShowsStuck}
 use Rattle.printed_trees.specs.Trees.{ShowsTree}
+use Rattle.popsample.specs.Outcomes.{end_status}
 use Rattle.popsample.specs.Shown.{BeginsWith, ShowsSample, ShowsExhausted, ShowsEnd}
 
 -- a text of a front and a rest, with more behind it
@@ -77,18 +79,32 @@ sample_more Make job text out more h = begins_more _ out more h
 sample_more Rounds job text out more h = assignment_more (cnf_of text) out more h
 
 -- and the events that occur
-exhausted_more : (command : Command) (job : Job) (text out more : List ℕ) → ShowsExhausted command job text out
-    → ShowsExhausted command job text (out ++ more)
-exhausted_more Formula job text out more h = stuck_more _ out more h
-exhausted_more Orient job text out more h = stuck_more _ out more h
-exhausted_more Tree job text out more h = stuck_more _ out more h
-exhausted_more Resample job text out more h = stuck_more _ out more h
-exhausted_more Check job text out more h = h
-exhausted_more Make job text out more h = begins_more _ out more h
-exhausted_more Rounds job text out more h = stuck_more _ out more h
+exhausted_more : (command : Command) (job : Job) (origin : Origin) (text out more : List ℕ)
+    → ShowsExhausted command job origin text out → ShowsExhausted command job origin text (out ++ more)
+exhausted_more Formula job origin text out more h = stuck_more _ out more h
+exhausted_more Orient job origin text out more h = stuck_more _ out more h
+exhausted_more Tree job origin text out more h = stuck_more _ out more h
+exhausted_more Resample job origin text out more h = stuck_more _ out more h
+exhausted_more Check job origin text out more h = h
+exhausted_more Make job origin text out more h = begins_more _ out more h
+exhausted_more Rounds job origin text out more h = stuck_more _ out more h
 
 -- so an end
-pub end_more : (command : Command) (job : Job) (text : List ℕ) (stuck : List Event) (out more : List ℕ)
-    → ShowsEnd command job text stuck out → ShowsEnd command job text stuck (out ++ more)
-end_more command job text [] out more h = sample_more command job text out more h
-end_more command job text (e ∷ stuck) out more h = exhausted_more command job text out more h
+pub end_more : (command : Command) (job : Job) (origin : Origin) (text : List ℕ) (stuck : List Event)
+    (out more : List ℕ) → ShowsEnd command job origin text stuck out
+    → ShowsEnd command job origin text stuck (out ++ more)
+end_more command job origin text [] out more h = sample_more command job text out more h
+end_more command job origin text (e ∷ stuck) out more h = exhausted_more command job origin text out more h
+
+-- an end with status 0 has no event
+pub as_sample : (command : Command) (job : Job) (origin : Origin) (text : List ℕ) (stuck : List Event) (out : List ℕ)
+    → end_status stuck ≡ 0 → ShowsEnd command job origin text stuck out → ShowsSample command job text out
+as_sample command job origin text [] out is h = h
+as_sample command job origin text (e ∷ stuck) out is h = absurd (omega (arith, is))
+
+-- and one with status 1 has some
+pub as_exhausted : (command : Command) (job : Job) (origin : Origin) (text : List ℕ) (stuck : List Event)
+    (out : List ℕ) → end_status stuck ≡ 1 → ShowsEnd command job origin text stuck out
+    → ShowsExhausted command job origin text out
+as_exhausted command job origin text [] out is h = absurd (omega (arith, is))
+as_exhausted command job origin text (e ∷ stuck) out is h = h

@@ -39,8 +39,9 @@ formula_end text f origin events c stuck more none spelled full are is size list
     (size ∙ length-replicate f.variables (1 ∷ 1 ∷ [])) (pair_bits origin f.variables c is) list
 
 -- by the stuck list what is shown of a formula is what the commands show that read one
-pub formula_shows : (job : Job) (text : List ℕ) (stuck : List Event) (out : List ℕ)
-    → ShowsFormula (cnf_of text) (stacks_by job (pair_weights (cnf_of text).variables)) stuck out
-    → ShowsEnd Formula job text stuck out × ShowsEnd Resample job text stuck out × ShowsEnd Rounds job text stuck out
-formula_shows job text [] out h = (h, h, h)
-formula_shows job text (e ∷ stuck) out h = (h, h, h)
+pub formula_shows : (job : Job) (origin : Origin) (text : List ℕ) (stuck : List Event) (out : List ℕ)
+    → ShowsFormula (cnf_of text) (stacks_by origin (pair_weights (cnf_of text).variables)) stuck out
+    → ShowsEnd Formula job origin text stuck out × ShowsEnd Resample job origin text stuck out
+    × ShowsEnd Rounds job origin text stuck out
+formula_shows job origin text [] out h = (h, h, h)
+formula_shows job origin text (e ∷ stuck) out h = (h, h, h)

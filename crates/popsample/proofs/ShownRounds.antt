@@ -35,7 +35,7 @@ rounds_size i n c stuck short end =
 pub rounds_show : (command : Command) (job : Job) (ws : List Watcher) (text : List ℕ) (facts : Facts) (i : Instance)
     (c : List ℕ) (rounds : ℕ) (stuck : List Event) (short : Option ℕ)
     → ComesOfCommand command job ws text (Rounded facts i c rounds stuck short)
-    → ShowsEnd command job text stuck (rounds_text facts i c rounds stuck short)
+    → ShowsEnd command job (origin_for job) text stuck (rounds_text facts i c rounds stuck short)
 rounds_show Formula job ws text facts i c rounds stuck short h = absurd h.comes.1.end
 rounds_show Orient job ws text facts i c rounds stuck short h = absurd h.comes.1.1.end
 rounds_show Tree job ws text facts i c rounds stuck short h = absurd h.comes.2.1
@@ -56,9 +56,9 @@ rounds_show Rounds job ws text facts i c rounds stuck short h =
     came.1.of_formula came.0 (rounds_size j rounds c stuck short end) end.stuck_list in
     let own : ShowsFormula f j.stacks stuck out =
     subst (ShowsFormula f j.stacks stuck) (sym (append_assoc found (rounds_line rounds) last)) whole in
-    let shown : ShowsFormula (cnf_of text) (stacks_by job (pair_weights (cnf_of text).variables)) stuck out =
-    subst (λ (g : Cnf). ShowsFormula g (stacks_by job (pair_weights g.variables)) stuck out) is.1 own in
-    subst (λ t. ShowsEnd Rounds job text stuck (rounds_text t i c rounds stuck short)) (sym told)
-    (subst (λ k. ShowsEnd Rounds job text stuck (rounds_text (FormulaFacts f.variables) k c rounds stuck short))
+    let shown : ShowsFormula (cnf_of text) (stacks_by (origin_for job) (pair_weights (cnf_of text).variables)) stuck out =
+    subst (λ (g : Cnf). ShowsFormula g (stacks_by (origin_for job) (pair_weights g.variables)) stuck out) is.1 own in
+    subst (λ t. ShowsEnd Rounds job (origin_for job) text stuck (rounds_text t i c rounds stuck short)) (sym told)
+    (subst (λ k. ShowsEnd Rounds job (origin_for job) text stuck (rounds_text (FormulaFacts f.variables) k c rounds stuck short))
     (sym same)
-    (formula_shows job text stuck out shown).2)
+    (formula_shows job (origin_for job) text stuck out shown).2)

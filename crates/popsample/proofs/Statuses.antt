@@ -1,5 +1,5 @@
 -- Which statuses a text is answered by: each up to 6 but that of bad words. And no refusal is one of words.
-use Rattle.std.proofs.Common.{◌≤◌, ◌<◌, ℕ, Bool, true, false, List, [], ◌∷◌, length, Result, Ok, Err, sym, subst, arith}
+use Rattle.std.proofs.Common.{inl, inr, ◌≡◌, ◌⊎◌, ◌≤◌, ◌<◌, ℕ, Bool, true, false, List, [], ◌∷◌, length, Result, Ok, Err, sym, subst, arith}
 use Rattle.pop_model.specs.Stacks.{Origin}
 use Rattle.pop_model.specs.Stacks.Origin.{Given, Keyed}
 use Rattle.pop_model.specs.Families.{Event}
@@ -14,9 +14,11 @@ use Rattle.graph_read.specs.Grids.{grid_of}
 use Rattle.cycle_popping.specs.Trees.{weights_of_tree}
 use Rattle.pop_watch.specs.Telling.{Watcher}
 use Rattle.popsample.specs.declared.asked.Asked.{Asked}
+use Rattle.confluence_core.specs.declared.end.End.{End}
+use Rattle.popsample.specs.Batches.{batch_status}
 use Rattle.popsample.specs.Refusals.{stacks_status}
 use Rattle.popsample.specs.Outcomes.{Outcome, IsTextStatus, status_of, end_status, resampled_status}
-use Rattle.popsample.specs.Outcomes.Outcome.{Usage, Unread, Isolated, NoRoot, CutOff, Unsound, Clashes, Extremal, Ended, Resampled, Rounded}
+use Rattle.popsample.specs.Outcomes.Outcome.{Usage, Unread, Isolated, NoRoot, CutOff, TooMany, Unsound, Clashes, Extremal, Ended, Resampled, Rounded, Batched}
 use Rattle.popsample.specs.Witnesses.{Witness}
 use Rattle.popsample.specs.Witnesses.Witness.{Unasked, Missing, Shown}
 use Rattle.popsample.specs.declared.answer.Answer.{Answer}
@@ -29,6 +31,7 @@ use Rattle.popsample.specs.Resamplings.{RunsFormula}
 use Rattle.popsample.specs.Orientations.{ComesOfOrienting}
 use Rattle.popsample.specs.Trees.{ComesOfTree}
 use Rattle.popsample.specs.Grids.{ComesOfGrid}
+use Rattle.popsample.proofs.BatchEnds.{batch_low}
 
 -- the status of an end is one of a text
 end_status_is : (stuck : List Event) → IsTextStatus (end_status stuck)
@@ -55,6 +58,12 @@ resampled_status_is stuck Unasked = end_status_is stuck
 resampled_status_is stuck (Missing name entry c) = known_status 6 (omega arith) (omega arith)
 resampled_status_is stuck (Shown tree) = end_status_is stuck
 
+-- the status of a batch
+batch_status_is : (ends : List End) → (batch_status ends ≡ 0) ⊎ (batch_status ends ≡ 1)
+    → IsTextStatus (batch_status ends)
+batch_status_is ends (inl is) = record { low = omega (arith, is); no_usage = λ h. absurd (omega (arith, h, is)) }
+batch_status_is ends (inr is) = record { low = omega (arith, is); no_usage = λ h. absurd (omega (arith, h, is)) }
+
 -- what comes so says nothing of words or the text, and its fault of stacks is one
 record AreTold (Comes : Outcome → Type 0) : Type 0 where
   no_usage : (place : ℕ) → Comes (Usage place) → ⊥
@@ -68,12 +77,14 @@ told_status Comes told (Unread r) h = absurd (told.no_refusal r h)
 told_status Comes told (Isolated w) h = known_status 6 (omega arith) (omega arith)
 told_status Comes told (NoRoot r) h = known_status 6 (omega arith) (omega arith)
 told_status Comes told (CutOff w) h = known_status 6 (omega arith) (omega arith)
+told_status Comes told (TooMany n) h = known_status 4 (omega arith) (omega arith)
 told_status Comes told (Unsound t f) h = told.fault t f h
 told_status Comes told (Clashes i j) h = known_status 5 (omega arith) (omega arith)
 told_status Comes told (Extremal n) h = record { low = omega arith; no_usage = λ h'. absurd (omega arith) }
 told_status Comes told (Ended t i c n s a) h = end_status_is s
 told_status Comes told (Resampled t i l s a) h = resampled_status_is s a.witness
 told_status Comes told (Rounded t i c n s v) h = end_status_is s
+told_status Comes told (Batched t i es) h = batch_status_is es (batch_low es)
 
 -- an answer that tells what comes so, or a refusal that does, is one to a text
 text_result : (Comes : Outcome → Type 0) → AreTold Comes → (r : Result Answer Refusal) → IsResultOf Comes r
@@ -86,10 +97,12 @@ text_result Comes told (Err r) comes = tt
 -- the result of a formula that is sampled, by whether its events may clash
 pub formula_status : (facts : Facts) (origin : Origin) (asked : Asked) (ws : List Watcher) (f : Cnf) (clashing : Bool)
     (r : Result Answer Refusal)
-    → IsResultOf (ComesOfSampling facts origin (pair_weights f.variables) (RunsFormula clashing origin asked ws f)) r
+    → IsResultOf (ComesOfSampling facts origin (pair_weights f.variables) asked.count
+    (RunsFormula clashing origin asked ws f)) r
     → IsTextResult r
 formula_status facts origin asked ws f false r comes =
-    text_result (ComesOfSampling facts origin (pair_weights f.variables) (RunsFormula false origin asked ws f))
+    text_result (ComesOfSampling facts origin (pair_weights f.variables) asked.count
+    (RunsFormula false origin asked ws f))
     (record {
       no_usage = λ place h. h.1.end;
       no_refusal = λ refusal h. h.1.end;
@@ -97,7 +110,8 @@ formula_status facts origin asked ws f false r comes =
     })
     r comes
 formula_status facts origin asked ws f true r comes =
-    text_result (ComesOfSampling facts origin (pair_weights f.variables) (RunsFormula true origin asked ws f))
+    text_result (ComesOfSampling facts origin (pair_weights f.variables) asked.count
+    (RunsFormula true origin asked ws f))
     (record {
       no_usage = λ place h. h.1.history;
       no_refusal = λ refusal h. h.1.history;

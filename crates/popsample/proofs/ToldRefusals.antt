@@ -9,10 +9,10 @@ use Rattle.popsample.specs.declared.answer.Answer.{Answer}
 use Rattle.popsample.specs.declared.stop.Stop.{Stop}
 use Rattle.popsample.specs.declared.stop.Stop.TheVariants.{ReadFault, OutOfMemory}
 use Rattle.popsample.specs.declared.refusal.Refusal.{Refusal}
-use Rattle.popsample.specs.declared.refusal.Refusal.TheVariants.{Usage, Malformed, Count, EmptyClause, Limit, Isolated, NoRoot, CutOff, RowCount, EmptyRow, ValueTooLarge, WeightSum, Clashes, Stopped}
+use Rattle.popsample.specs.declared.refusal.Refusal.TheVariants.{Usage, Malformed, Count, EmptyClause, Limit, Isolated, NoRoot, CutOff, TooMany, RowCount, EmptyRow, ValueTooLarge, WeightSum, Clashes, Stopped}
 use Rattle.popsample.specs.Refusals.{usage_line}
 use Rattle.popsample.specs.Outcomes.{Outcome, Tells, AnswersBy}
-use Rattle.popsample.specs.Outcomes.Outcome.{Usage as UsageOf, Unread, Isolated as IsolatedAt, NoRoot as NoRootAt, CutOff as CutOffAt, Unsound, Clashes as ClashesOf}
+use Rattle.popsample.specs.Outcomes.Outcome.{Usage as UsageOf, Unread, Isolated as IsolatedAt, NoRoot as NoRootAt, CutOff as CutOffAt, TooMany as TooManyOf, Unsound, Clashes as ClashesOf}
 use Rattle.popsample.specs.Results.{named_fault, TellsFault, ComesRefused, IsToldAs, IsOfWords}
 
 -- a fault of stacks is told under the name of its variable
@@ -41,6 +41,7 @@ refusal_told Comes (Limit k l) status out (s, t) h = (Unread (PassedLimit k l), 
 refusal_told Comes (Isolated w) status out (s, t) h = (IsolatedAt w, h, record { status_is = s; out_is = t })
 refusal_told Comes (NoRoot w) status out (s, t) h = (NoRootAt w, h, record { status_is = s; out_is = t })
 refusal_told Comes (CutOff w) status out (s, t) h = (CutOffAt w, h, record { status_is = s; out_is = t })
+refusal_told Comes (TooMany n) status out (s, t) h = (TooManyOf n, h, record { status_is = s; out_is = t })
 refusal_told Comes (RowCount g w) status out told h = fault_told Comes (RowCount g w) status out told h
 refusal_told Comes (EmptyRow n) status out told h = fault_told Comes (EmptyRow n) status out told h
 refusal_told Comes (ValueTooLarge n k) status out told h = fault_told Comes (ValueTooLarge n k) status out told h
@@ -72,6 +73,7 @@ refused_status (Limit k l) status out (s, t) = record { low = omega (arith, s); 
 refused_status (Isolated w) status out (s, t) = record { low = omega (arith, s); high = omega (arith, s) }
 refused_status (NoRoot w) status out (s, t) = record { low = omega (arith, s); high = omega (arith, s) }
 refused_status (CutOff w) status out (s, t) = record { low = omega (arith, s); high = omega (arith, s) }
+refused_status (TooMany n) status out (s, t) = record { low = omega (arith, s); high = omega (arith, s) }
 refused_status (RowCount g w) status out (s, t) = record { low = omega (arith, s); high = omega (arith, s) }
 refused_status (EmptyRow n) status out (s, t) = record { low = omega (arith, s); high = omega (arith, s) }
 refused_status (ValueTooLarge n k) status out (s, t) = record { low = omega (arith, s); high = omega (arith, s) }
@@ -102,6 +104,7 @@ of_words (Limit k l) status out (s, t) two = absurd (omega (arith, s, two))
 of_words (Isolated w) status out (s, t) two = absurd (omega (arith, s, two))
 of_words (NoRoot w) status out (s, t) two = absurd (omega (arith, s, two))
 of_words (CutOff w) status out (s, t) two = absurd (omega (arith, s, two))
+of_words (TooMany n) status out (s, t) two = absurd (omega (arith, s, two))
 of_words (RowCount g w) status out (s, t) two = absurd (omega (arith, s, two))
 of_words (EmptyRow n) status out (s, t) two = absurd (omega (arith, s, two))
 of_words (ValueTooLarge n k) status out (s, t) two = absurd (omega (arith, s, two))

@@ -12,12 +12,10 @@ use Rattle.confluence_core.specs.Laws.{RunsToEnd}
 use Rattle.confluence_core.specs.Runs.{IsRun}
 use Rattle.pop_log.specs.declared.names.Names.{Names}
 use Rattle.pop_log.specs.Layers.{Placed}
-use Rattle.pop_log.specs.Layered.{AreSorted, IsLayered, AreInLayers}
-use Rattle.pop_log.specs.LayeredTexts.{IsLayeredText}
-use Rattle.pop_log.proofs.Reordering.IsReordered.{same as same_order}
+use Rattle.pop_log.specs.Layered.{AreSorted, AreInLayers}
 use Rattle.pop_log.proofs.UnitEvents.{HaveCubes, family_cubes}
 use Rattle.pop_log.proofs.LayeredLemmas.{zip_records}
-use Rattle.pop_log.proofs.LayeredLaws.{layered_is_legal, one_sorting, placed_in_layers}
+use Rattle.pop_log.proofs.LayeredLaws.{layered_is_legal, placed_in_layers}
 use Rattle.pop_words.specs.declared.reports.Reports.{Reports}
 use Rattle.pop_watch.specs.Telling.{Watcher, log_told}
 use Rattle.pop_print.specs.declared.facts.Facts.{Facts}
@@ -28,7 +26,7 @@ use Rattle.popsample.specs.Names.{names_for}
 use Rattle.popsample.specs.Reports.{reports_text, report_if, asks_report}
 use Rattle.popsample.specs.Witnesses.{IsWitness, witness_text}
 use Rattle.popsample.specs.Witnesses.Witness.{Unasked}
-use Rattle.popsample.specs.Tellings.{records_of, IsToldOf, layered_text, telling_text, LeadsToEnd, IsShownText, TellsRecords, TellsLog, TellsRun, tells_watchers, looks_at_records, asks_for_log}
+use Rattle.popsample.specs.Tellings.{records_of, IsToldOf, layered_text, telling_text, LeadsToEnd, TellsRecords, TellsLog, TellsRun, tells_watchers, looks_at_records, asks_for_log}
 use Rattle.popsample.specs.Outcomes.{AnswersBy, end_status}
 use Rattle.popsample.specs.Outcomes.Outcome.{Ended, Resampled}
 use Rattle.popsample.specs.Sampling.{IsToldOfFirst, IsEndOf}
@@ -99,69 +97,29 @@ nothing_of_records asked none ws names i log missing text there empty =
       text_is = empty ∙ sym (untold asked parts.1 (log_told log ws));
     }
 
--- so the layered log of any log tells nothing then
-pub nothing_in_layers : (asked : Asked) → looks_at_records asked ≡ false → (ws : List Watcher) (names : Names)
-    (i : Instance) (log : List LogRecord) (missing : Bool) (text : List ℕ) → missing ≡ false → text ≡ []
-    → (layered : List LogRecord) × IsLayered log layered × TellsRecords asked ws names i layered missing text
-nothing_in_layers asked none ws names i log missing text there empty =
-    let order = layered_order log in
-    let layered : List LogRecord = records_of order.0 in (
-      layered,
-      record { placed = order.0; sorted = order.1; records = refl },
-      nothing_of_records asked none ws names i layered missing text there empty,
-    )
+-- the text of a layered log that isn't printed
+pub unprinted : (names : Names) (i : Instance) (placed : List Placed) (printed : Bool) (text : List ℕ)
+    → printed ≡ false → text ≡ [] → text ≡ layered_text names i (if printed then Some placed else None)
+unprinted names i placed printed text hidden empty =
+    empty ∙ ap (λ b. layered_text names i (if b then Some placed else None)) (sym hidden)
 
--- the text of a log that isn't printed
-pub unprinted : (names : Names) (i : Instance) (log : List LogRecord) (printed : Bool) (text : List ℕ)
-    → printed ≡ false → text ≡ [] → IsShownText names i log printed text
-unprinted names i log printed text hidden empty =
-    let order = layered_order log in
-    record {
-      placed = order.0;
-      sorted = order.1;
-      text_is = empty ∙ ap (λ b. layered_text names i (if b then Some (order.0) else None)) (sym hidden);
-    }
-
--- and of one that is
-pub printed_result : {X E : Type 0} (items : X → List ℕ) (names : Names) (i : Instance) (log : List LogRecord)
-    (printed : Bool) (r : Result X E) → printed ≡ true → IfOk r (λ b. IsLayeredText names i log (items b))
-    → IfOk r (λ b. IsShownText names i log printed (items b))
-printed_result items names i log printed (Ok b) shown h = record {
-  placed = h.placed;
-  sorted = h.sorted;
-  text_is = h.text_is ∙ ap (λ c. layered_text names i (if c then Some (h.placed) else None)) (sym shown);
-}
-printed_result items names i log printed (Err e) shown h = tt
-
--- what is told of a log by its text and by what is told of its layered log
-pub told_log : (asked : Asked) (ws : List Watcher) (names : Names) (i : Instance) → IsInstance i
-    → (log layered : List LogRecord) (missing : Bool) (shown rest text : List ℕ) → IsLegal i (start_of i) log
-    → IsShownText names i log asked.log shown → IsLayered log layered
-    → TellsRecords asked ws names i layered missing rest → text ≡ shown ++ rest
+-- what is told of a log by the text of its layered log, and by what is told of that
+pub told_log : (asked : Asked) (ws : List Watcher) (names : Names) (i : Instance) (log : List LogRecord)
+    (placed : List Placed) (missing : Bool) (shown rest text : List ℕ) → AreSorted log placed
+    → shown ≡ layered_text names i (if asked.log then Some placed else None)
+    → TellsRecords asked ws names i (records_of placed) missing rest → text ≡ shown ++ rest
     → TellsLog asked ws names i log missing text
-told_log asked ws names i is log layered missing shown rest text legal by of t text_is =
-    let one : by.placed ≡ of.placed =
-    one_sorting i (family_cubes i.family is.family) (start_of i) log log legal legal (same_order log) by.placed of.placed
-    by.sorted of.sorted in
-    let records : layered ≡ records_of of.placed = of.records in
-    let kept : Option (List Placed) = if asked.log then Some (of.placed) else None in
-    let reports : List ℕ = reports_text asked.reports (log_told (records_of of.placed) ws) in
+told_log asked ws names i log placed missing shown rest text sorted front t text_is =
+    let kept : Option (List Placed) = if asked.log then Some placed else None in
+    let reports : List ℕ = reports_text asked.reports (log_told (records_of placed) ws) in
     let witness : List ℕ = witness_text names i.family t.witness in
-    let front : shown ≡ layered_text names i kept =
-    by.text_is ∙ ap (λ (l : List Placed). layered_text names i (if asked.log then Some l else None)) one in
-    let back : rest ≡ witness ++ reports =
-    t.text_is ∙ ap (λ l. witness ++ reports_text asked.reports (log_told l ws)) records in
     record {
-      placed = of.placed;
-      sorted = of.sorted;
+      placed = placed;
+      sorted = sorted;
       telling = record { log = kept; witness = t.witness; reports = reports };
-      is = record {
-        log_is = refl;
-        witness_is = subst (λ l. IsWitness names asked.witness (replay (start_of i) l) l t.witness) records t.is;
-        reports_are = refl;
-      };
+      is = record { log_is = refl; witness_is = t.is; reports_are = refl };
       missing_is = t.missing_is;
-      text_is = text_is ∙ ap₂ (λ (a b : List ℕ). a ++ b) front back
+      text_is = text_is ∙ ap₂ (λ (a b : List ℕ). a ++ b) front t.text_is
           ∙ sym (append_assoc (layered_text names i kept) witness reports);
     }
 
@@ -184,15 +142,17 @@ told_unkept asked ws names i true cursors pops stuck kept missing text is asks i
 told_unkept asked ws names i false cursors pops stuck kept missing text is asks instance run there empty =
     let log : List LogRecord = run.log in
     let parts = or_parts asked.log (looks_at_records asked) (sym asks) in
-    let of = nothing_in_layers asked parts.1 ws names i log missing text there empty in
+    let order = layered_order log in
+    let placed : List Placed = order.0 in
     let to = log_to i log log cursors pops stuck refl run.legal run.cursors_are run.pops_are run.end run.stuck_list in
     record {
       log = log;
       leads = to.leads;
       cursors_are = to.there;
       pops_are = to.size;
-      told = told_log asked ws names i instance log of.0 missing [] text text run.legal
-          (unprinted names i log asked.log [] parts.0 refl) of.1 of.2 refl;
+      told = told_log asked ws names i log placed missing [] text text order.1
+          (unprinted names i placed asked.log [] parts.0 refl)
+          (nothing_of_records asked parts.1 ws names i (records_of placed) missing text there empty) refl;
     }
 
 -- the same of results
@@ -216,29 +176,28 @@ unkept_result asked ws names i keeps cursors pops stuck kept (Err e) is asks ins
 
 pub nothing_result : {E : Type 0} (asked : Asked) (ws : List Watcher) (names : Names) (i : Instance)
     (log : List LogRecord) (r : Result LogText E) → looks_at_records asked ≡ false → IfOk r (λ t. t.missing ≡ false)
-    → IfOk r (λ t. t.bytes.items ≡ [])
-    → IfOk r (λ t. (layered : List LogRecord) × IsLayered log layered
-    × TellsRecords asked ws names i layered t.missing t.bytes.items)
+    → IfOk r (λ t. t.bytes.items ≡ []) → IfOk r (λ t. TellsRecords asked ws names i log t.missing t.bytes.items)
 nothing_result asked ws names i log (Ok t) none there empty =
-    nothing_in_layers asked none ws names i log t.missing t.bytes.items there empty
+    nothing_of_records asked none ws names i log t.missing t.bytes.items there empty
 nothing_result asked ws names i log (Err e) none there empty = tt
 
-pub layered_result : {E : Type 0} (asked : Asked) (ws : List Watcher) (names : Names) (i : Instance)
-    (log layered : List LogRecord) (r : Result LogText E) → IsLayered log layered
-    → IfOk r (λ t. TellsRecords asked ws names i layered t.missing t.bytes.items)
-    → IfOk r (λ t. (layered : List LogRecord) × IsLayered log layered
-    × TellsRecords asked ws names i layered t.missing t.bytes.items)
-layered_result asked ws names i log layered (Ok t) of told = (layered, of, told)
-layered_result asked ws names i log layered (Err e) of told = tt
+-- what is told of a copy of a log is told of the log
+pub copied_result : {E : Type 0} (asked : Asked) (ws : List Watcher) (names : Names) (i : Instance)
+    (copy log : List LogRecord) (r : Result LogText E) → copy ≡ log
+    → IfOk r (λ t. TellsRecords asked ws names i copy t.missing t.bytes.items)
+    → IfOk r (λ t. TellsRecords asked ws names i log t.missing t.bytes.items)
+copied_result asked ws names i copy log r same told =
+    subst (λ l. IfOk r (λ t. TellsRecords asked ws names i l t.missing t.bytes.items)) same told
 
 -- the text of an end, and behind it what is told of its log: of the one-thread run where the instance is extremal
 pub told_ended : (asked : Asked) (ws : List Watcher) (facts : Facts) (i : Instance) (names : Names) (cursors : List ℕ)
     (pops : ℕ) (stuck : List Event) (missing : Bool) (status : ℕ) (text told out : List ℕ) → IsInstance i
-    → IsExtremal i.family → asked.free ≡ false → IsFirstEnd i cursors pops stuck → names ≡ names_for facts
+    → IsExtremal i.family → asked.free ≡ false → asked.count ≡ None → IsFirstEnd i cursors pops stuck
+    → names ≡ names_for facts
     → TellsRun asked ws names i cursors pops stuck missing told
     → status ≡ (if asked.free && missing then 6 else end_status stuck) → text ≡ end_text facts i cursors pops stuck
     → out ≡ text ++ told → AnswersBy (IsEndOf asked ws facts i) status out
-told_ended asked ws facts i names cursors pops stuck missing status text told out is extremal ordered end names_are run
+told_ended asked ws facts i names cursors pops stuck missing status text told out is extremal ordered once end names_are run
     status_is text_is out_is =
     let t = run.told in
     let runs : RunsToEnd i (start_of i) run.log = record { legal = run.leads.legal; end = run.leads.end } in
@@ -246,7 +205,7 @@ told_ended asked ws facts i names cursors pops stuck missing status text told ou
     told_of_first asked ws names i (family_cubes i.family is.family) extremal run.log end.run.0 runs end.run.1 t.placed
     t.sorted t.telling t.is in (
       Ended facts i cursors pops stuck t.telling,
-      (refl, refl, end, subst (λ n. IsToldOfFirst asked ws n i t.telling) names_are first),
+      (refl, refl, end, subst (λ n. IsToldOfFirst asked ws n i t.telling) names_are first, once),
       record {
         status_is = status_is ∙ ap (λ b. if b && missing then 6 else end_status stuck) ordered;
         out_is = out_is ∙ ap₂ (λ (a b : List ℕ). a ++ b) text_is

@@ -1,5 +1,5 @@
 -- What the sampler answers to command words and a text.
-use Rattle.std.specs.Prelude.{◌≡◌, ◌⊎◌, ℕ, Bool, true, false, List, Option, Ok, Err, Some, ⊤}
+use Rattle.std.specs.Prelude.{◌≡◌, ◌⊎◌, ℕ, Bool, true, false, List, Option, unwrap_or, Ok, Err, Some, ⊤}
 use Rattle.pop_model.specs.Stacks.{Origin}
 use Rattle.pop_edge.specs.declared.refusal.ReadRefusal.{ReadRefusal}
 use Rattle.pop_edge.specs.declared.refusal.ReadRefusal.TheVariants.{ReadFault, OutOfMemory}
@@ -37,9 +37,13 @@ pub record ComesOfGraph (Comes : GraphOf → Outcome → Type 0) (text : List �
   pub spelled : AnswersGraph text (Ok graph)
   pub comes : Comes graph o
 
--- the origin of the stacks that a job asks for
+-- the height to which a run's keyed stacks grow, or else their height
+abbrev pub last_height : Job → ℕ
+last_height job = unwrap_or job.grow job.height
+
+-- the origin of the stacks that a job asks for, at their last height
 abbrev pub origin_for : Job → Origin
-origin_for job = origin_of job.stacks job.height
+origin_for job = origin_of job.stacks (last_height job)
 
 -- the order of a command's pops isn't determined
 abbrev pub has_free_order : Command → Bool
@@ -53,6 +57,7 @@ asked_by job = record {
   witness = job.witness;
   reports = job.reports;
   free = has_free_order job.command;
+  count = job.count;
 }
 
 -- What comes of a command, with what the job says beside it, the watchers, and the text that it

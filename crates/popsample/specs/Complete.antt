@@ -19,6 +19,7 @@ use Rattle.pop_words.specs.declared.job.Job.{Job}
 use Rattle.pop_words.specs.CommandLines.{Asks}
 use Rattle.pop_watch.specs.Telling.{Watcher}
 use Rattle.popsample.specs.Witnesses.{is_missing}
+use Rattle.popsample.specs.Batches.{AreFew}
 use Rattle.popsample.specs.Outcomes.{Outcome, AnswersBy}
 use Rattle.popsample.specs.Outcomes.Outcome.{Resampled}
 use Rattle.popsample.specs.Sampling.{pair_weights}
@@ -34,23 +35,27 @@ abbrev pub HasExtremalEvents : Cnf → Type 0
 HasExtremalEvents f = (events : List (ℕ × Cube)) → AreEventsOf f.clauses events
     → IsExtremal (Listed events)
 
+-- the samples that are asked for aren't too many, and the stacks of these weights have no fault
+abbrev pub CanBeSampled : Job → List (List ℕ) → Type 0
+CanBeSampled job weights = AreFew job.count (length weights) × IsSound (origin_for job) weights
+
 -- nothing stands against a command and a text: the text is in its grammar, within the limits; the
--- graph has no isolated vertex, or each vertex is joined to the root; the stacks have no fault; and
--- where it is asked for, the events are extremal
+-- graph has no isolated vertex, or each vertex is joined to the root; samples aren't too many; the
+-- stacks have no fault; and where it is asked for, the events are extremal
 abbrev pub CanBeDone : Command → Job → List ℕ → Type 0
 CanBeDone Formula job text =
-    (f : Cnf) × Spells text f × IsSound (origin_for job) (pair_weights f.variables)
+    (f : Cnf) × Spells text f × CanBeSampled job (pair_weights f.variables)
     × HasExtremalEvents f
 CanBeDone Orient job text =
     (g : GraphOf) × IsGraphText text g × ((w : ℕ) → IsIsolated g w → ⊥)
-    × IsSound (origin_for job) (pair_weights (length g.edges))
+    × CanBeSampled job (pair_weights (length g.edges))
 CanBeDone Tree job text =
     (g : GraphOf) × IsGraphText text g × (job.root ≤ g.vertices) × IsConnected g job.root
-    × IsSound (origin_for job) (weights_of_tree g job.root)
+    × CanBeSampled job (weights_of_tree g job.root)
 CanBeDone Resample job text =
-    (f : Cnf) × Spells text f × IsSound (origin_for job) (pair_weights f.variables)
+    (f : Cnf) × Spells text f × CanBeSampled job (pair_weights f.variables)
 CanBeDone Check job text = (f : Cnf) × Spells text f × HasExtremalEvents f
-CanBeDone Make job text = IsSound (origin_for job) (weights_of_tree (grid_of job.size) 1)
+CanBeDone Make job text = CanBeSampled job (weights_of_tree (grid_of job.size) 1)
 CanBeDone Rounds job text =
     (f : Cnf) × Spells text f × IsSound (origin_for job) (pair_weights f.variables)
 

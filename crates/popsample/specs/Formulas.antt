@@ -45,7 +45,7 @@ ComesOfRunning origin asked watchers f o = EndsFormula origin asked watchers f o
 -- what comes of a formula that is to be sampled
 abbrev pub ComesOfFormula : Origin → Asked → List Watcher → Cnf → Outcome → Type 0
 ComesOfFormula origin asked watchers f o =
-    ComesOfSampling (FormulaFacts f.variables) origin (pair_weights f.variables)
+    ComesOfSampling (FormulaFacts f.variables) origin (pair_weights f.variables) asked.count
     (ComesOfRunning origin asked watchers f) o
 
 -- what comes of a formula that is to be checked

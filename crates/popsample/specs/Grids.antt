@@ -14,5 +14,5 @@ use Rattle.popsample.specs.Trees.{tree_instance}
 -- what comes of the grid of so many rows and columns
 abbrev pub ComesOfGrid : Origin → Asked → List Watcher → ℕ → Outcome → Type 0
 ComesOfGrid origin asked watchers side o =
-    ComesOfSampling (MadeFacts side) origin (weights_of_tree (grid_of side) 1)
+    ComesOfSampling (MadeFacts side) origin (weights_of_tree (grid_of side) 1) asked.count
     (IsEndOf asked watchers (MadeFacts side) (tree_instance origin (grid_of side) 1)) o

@@ -1,14 +1,16 @@
 -- Laws of answers.
-use Rattle.std.specs.Prelude.{◌≡◌, ◌≢◌, ◌⊎◌, ℕ, List, Option, None, Some, ⊤}
+use Rattle.std.specs.Prelude.{◌≡◌, ◌≢◌, ◌⊎◌, ℕ, List, Option, None, Some, slice_get, ⊤}
 use Rattle.pop_words.specs.declared.command.Command.TheVariants.{Resample}
 use Rattle.pop_words.specs.declared.job.Job.{Job}
 use Rattle.pop_words.specs.CommandLines.{Asks}
 use Rattle.pop_words.specs.declared.reports.Reports.{Reports}
 use Rattle.pop_watch.specs.Telling.{Watcher, log_told}
+use Rattle.pop_model.specs.Instances.{instance_for}
 use Rattle.pop_model.specs.Logs.{LogRecord, replay}
 use Rattle.pop_model.specs.Runs.{IsFinished, start_of}
+use Rattle.confluence_core.specs.declared.end.End.{End}
 use Rattle.popsample.specs.Outcomes.{Outcome, status_of, AnswersBy}
-use Rattle.popsample.specs.Outcomes.Outcome.{Ended, Resampled, Rounded}
+use Rattle.popsample.specs.Outcomes.Outcome.{Ended, Resampled, Rounded, Batched}
 use Rattle.pop_log.specs.Layers.{Placed}
 use Rattle.popsample.specs.Reports.{reports_text}
 use Rattle.popsample.specs.Tellings.{records_of, LeadsToEnd}
@@ -74,12 +76,14 @@ OneLoggedAnswer = (words : List (List ℕ)) (watchers : List Watcher) (text : Li
     → IsAnswerShowing words watchers text log status out
     → IsAnswerShowing words watchers text log other out' → (status ≡ other) × (out ≡ out')
 
--- no event occurs at the end of a run
+-- no event occurs at the end of a run, or of a batch at that of each sample
 abbrev pub EndsFinished : Outcome → Type 0
 EndsFinished (Ended facts i cursors pops stuck telling) = IsFinished i cursors
 EndsFinished (Resampled facts i placed stuck telling) =
     IsFinished i (replay (start_of i) (records_of placed))
 EndsFinished (Rounded facts i cursors rounds stuck short) = IsFinished i cursors
+EndsFinished (Batched facts i ends) = (j : ℕ) (end : End) → slice_get ends j ≡ Some end
+    → IsFinished (instance_for j i) end.cursors
 EndsFinished o = ⊤
 
 -- A run with status 0 is one at whose end no event occurs: each clause is satisfied, each vertex

@@ -1,9 +1,11 @@
+pub mod Growing
 pub mod Refusals
 pub mod Stacks
 pub mod Names
 pub mod Witnesses
 pub mod Reports
 pub mod Tellings
+pub mod Batches
 pub mod Outcomes
 pub mod Results
 pub mod Sampling
@@ -18,6 +20,8 @@ pub mod TopCall
 pub mod Laws
 pub mod Shown
 pub mod Workers
+pub mod Stages
+pub mod FirstSample
 pub mod Complete
 pub mod Subjects
 pub mod ExactAnswers

@@ -25,5 +25,5 @@ abbrev pub ComesOfOrienting : Origin → Asked → List Watcher → GraphOf → 
 ComesOfOrienting origin asked watchers g (Isolated w) = IsLeast (IsIsolated g) w
 ComesOfOrienting origin asked watchers g o =
     ((w : ℕ) → IsIsolated g w → ⊥)
-    × ComesOfSampling (OrientFacts g) origin (pair_weights (length g.edges))
+    × ComesOfSampling (OrientFacts g) origin (pair_weights (length g.edges)) asked.count
     (EndsOrientation origin asked watchers g) o

@@ -4,6 +4,7 @@ use Rattle.pop_model.specs.Families.{Event}
 use Rattle.pop_model.specs.Instances.{Instance}
 use Rattle.pop_model.specs.Logs.{replay}
 use Rattle.pop_model.specs.Runs.{start_of}
+use Rattle.confluence_core.specs.declared.end.End.{End}
 use Rattle.pop_edge.specs.declared.refusal.ReadRefusal.{ReadRefusal}
 use Rattle.pop_stacks.specs.declared.stack_fault.StackFault.{StackFault}
 use Rattle.pop_log.specs.Layers.{Placed}
@@ -11,10 +12,12 @@ use Rattle.pop_print.specs.declared.facts.Facts.{Facts}
 use Rattle.pop_print.specs.Names.{name_of}
 use Rattle.pop_print.specs.Output.{end_text}
 use Rattle.pop_print.specs.Rounds.{rounds_text}
+use Rattle.pop_print.specs.Batches.{batch_text}
 use Rattle.popsample.specs.Names.{names_for}
 use Rattle.popsample.specs.Witnesses.{Witness, is_missing}
 use Rattle.popsample.specs.Tellings.{Telling, records_of, telling_text}
-use Rattle.popsample.specs.Refusals.{usage_line, isolated_line, root_line, cut_off_line, clash_line, extremal_line, reading_line, reading_status, stacks_line, stacks_status}
+use Rattle.popsample.specs.Batches.{batch_status}
+use Rattle.popsample.specs.Refusals.{usage_line, isolated_line, root_line, cut_off_line, too_many_line, clash_line, extremal_line, reading_line, reading_status, stacks_line, stacks_status}
 
 -- what comes of command words and a text
 pub data Outcome : Type 0 where
@@ -28,6 +31,8 @@ pub data Outcome : Type 0 where
   NoRoot : (root : ℕ) → Outcome
   -- no path joins this vertex to the root
   CutOff : (vertex : ℕ) → Outcome
+  -- so many samples are asked for, which are too many
+  TooMany : (samples : ℕ) → Outcome
   -- the stacks have a fault
   Unsound : (facts : Facts) (fault : StackFault) → Outcome
   -- two events clash; these are the numbers of the least pair
@@ -44,6 +49,8 @@ pub data Outcome : Type 0 where
   -- the run by rounds came to an end; where it is exhausted, this variable has no next entry
   Rounded : (facts : Facts) (instance : Instance) (cursors : List ℕ) (rounds : ℕ)
       (stuck : List Event) (short : Option ℕ) → Outcome
+  -- the samples came to these ends
+  Batched : (facts : Facts) (instance : Instance) (ends : List End) → Outcome
 
 -- a run's status tells whether an event still occurs
 abbrev pub end_status : List Event → ℕ
@@ -61,12 +68,14 @@ status_of (Unread refusal) = reading_status refusal
 status_of (Isolated vertex) = 6
 status_of (NoRoot root) = 6
 status_of (CutOff vertex) = 6
+status_of (TooMany samples) = 4
 status_of (Unsound facts fault) = stacks_status fault
 status_of (Clashes i j) = 5
 status_of (Extremal count) = 0
 status_of (Ended facts i cursors pops stuck telling) = end_status stuck
 status_of (Resampled facts i placed stuck telling) = resampled_status stuck telling.witness
 status_of (Rounded facts i cursors rounds stuck short) = end_status stuck
+status_of (Batched facts i ends) = batch_status ends
 
 -- the text of a run: that of its end, and behind it what is told of its log
 abbrev pub run_text : Facts → Instance → List ℕ → ℕ → List Event → Telling → List ℕ
@@ -85,6 +94,7 @@ text_of (Unread refusal) = reading_line refusal
 text_of (Isolated vertex) = isolated_line vertex
 text_of (NoRoot root) = root_line root
 text_of (CutOff vertex) = cut_off_line vertex
+text_of (TooMany samples) = too_many_line samples
 text_of (Unsound facts fault) = stacks_line (name_of facts) fault
 text_of (Clashes i j) = clash_line i j
 text_of (Extremal count) = extremal_line count
@@ -92,6 +102,7 @@ text_of (Ended facts i cursors pops stuck telling) = run_text facts i cursors po
 text_of (Resampled facts i placed stuck telling) = resampled_text facts i placed stuck telling
 text_of (Rounded facts i cursors rounds stuck short) =
     rounds_text facts i cursors rounds stuck short
+text_of (Batched facts i ends) = batch_text facts i ends
 
 -- a status that a text is answered by: none of the words, of a device or of memory
 pub record IsTextStatus (status : ℕ) : Type 0 where

@@ -30,6 +30,10 @@ cut_off_line vertex = refusal_line (codes "CUTOFF") (vertex ∷ [])
 abbrev pub clash_line : ℕ → ℕ → List ℕ
 clash_line number other = refusal_line (codes "CLASH") (number ∷ other ∷ [])
 
+-- the line of a batch of too many samples: kind 9, and how many are asked for
+abbrev pub too_many_line : ℕ → List ℕ
+too_many_line samples = refusal_line (codes "LIMIT") (9 ∷ samples ∷ [])
+
 -- the line of an extremal formula, with the number of its events
 abbrev pub extremal_line : ℕ → List ℕ
 extremal_line events = refusal_line (codes "EXTREMAL") (events ∷ [])

@@ -41,7 +41,7 @@ pub record EndsResampling (origin : Origin) (asked : Asked) (watchers : List Wat
 -- what comes of a formula that is to be resampled
 abbrev pub ComesOfResampling : Origin → Asked → List Watcher → Cnf → Outcome → Type 0
 ComesOfResampling origin asked watchers f o =
-    ComesOfSampling (FormulaFacts f.variables) origin (pair_weights f.variables)
+    ComesOfSampling (FormulaFacts f.variables) origin (pair_weights f.variables) asked.count
     (EndsResampling origin asked watchers f) o
 
 -- what comes of the run of a formula, by whether its events may clash

@@ -1,5 +1,5 @@
 -- What a command comes to: an answer, or a refusal.
-use Rattle.std.specs.Prelude.{◌≡◌, ℕ, List, [], ◌∷◌, codes, Result, Ok, Err, ⊤}
+use Rattle.std.specs.Prelude.{◌≡◌, ℕ, List, [], ◌∷◌, codes, Option, Some, Result, Ok, Err, ⊤}
 use Rattle.pop_model.specs.Places.{IsLeast}
 use Rattle.pop_edge.specs.declared.refusal.ReadRefusal.{ReadRefusal}
 use Rattle.pop_edge.specs.declared.refusal.ReadRefusal.TheVariants.{Malformed as MalformedLine, Count as WrongCount, EmptyClause as NoLiteral, Limit as PassedLimit, ReadFault as ReadingFailed, OutOfMemory as ReadingMemory}
@@ -16,10 +16,11 @@ use Rattle.pop_print.specs.Names.{name_of}
 use Rattle.popsample.specs.declared.answer.Answer.{Answer}
 use Rattle.popsample.specs.declared.stop.Stop.TheVariants.{ReadFault, OutOfMemory}
 use Rattle.popsample.specs.declared.refusal.Refusal.{Refusal}
-use Rattle.popsample.specs.declared.refusal.Refusal.TheVariants.{Usage, Malformed, Count, EmptyClause, Limit, Isolated, NoRoot, CutOff, RowCount, EmptyRow, ValueTooLarge, WeightSum, Clashes, Stopped}
-use Rattle.popsample.specs.Refusals.{usage_line, isolated_line, root_line, cut_off_line, clash_line, reading_line, refusal_line}
+use Rattle.popsample.specs.declared.refusal.Refusal.TheVariants.{Usage, Malformed, Count, EmptyClause, Limit, Isolated, NoRoot, CutOff, TooMany, RowCount, EmptyRow, ValueTooLarge, WeightSum, Clashes, Stopped}
+use Rattle.popsample.specs.Refusals.{usage_line, isolated_line, root_line, cut_off_line, too_many_line, clash_line, reading_line, refusal_line}
+use Rattle.popsample.specs.Batches.{IsTooMany}
 use Rattle.popsample.specs.Outcomes.{Outcome, IsTextStatus, AnswersBy}
-use Rattle.popsample.specs.Outcomes.Outcome.{Usage as UsageOf, Unread, Isolated as IsolatedAt, NoRoot as NoRootAt, CutOff as CutOffAt, Unsound, Clashes as ClashesOf}
+use Rattle.popsample.specs.Outcomes.Outcome.{Usage as UsageOf, Unread, Isolated as IsolatedAt, NoRoot as NoRootAt, CutOff as CutOffAt, TooMany as TooManyOf, Unsound, Clashes as ClashesOf}
 
 -- words that are refused
 abbrev pub unworded : WordFault → Refusal
@@ -64,6 +65,7 @@ ComesRefused Comes (Limit kind l) = Comes (Unread (PassedLimit kind l))
 ComesRefused Comes (Isolated w) = Comes (IsolatedAt w)
 ComesRefused Comes (NoRoot root) = Comes (NoRootAt root)
 ComesRefused Comes (CutOff w) = Comes (CutOffAt w)
+ComesRefused Comes (TooMany samples) = Comes (TooManyOf samples)
 ComesRefused Comes (RowCount given wanted) = TellsFault Comes (RowCount given wanted)
 ComesRefused Comes (EmptyRow name) = TellsFault Comes (EmptyRow name)
 ComesRefused Comes (ValueTooLarge name k) = TellsFault Comes (ValueTooLarge name k)
@@ -87,6 +89,7 @@ IsToldAs (Limit kind l) status out = (status ≡ 4) × (out ≡ reading_line (Pa
 IsToldAs (Isolated w) status out = (status ≡ 6) × (out ≡ isolated_line w)
 IsToldAs (NoRoot root) status out = (status ≡ 6) × (out ≡ root_line root)
 IsToldAs (CutOff w) status out = (status ≡ 6) × (out ≡ cut_off_line w)
+IsToldAs (TooMany samples) status out = (status ≡ 4) × (out ≡ too_many_line samples)
 IsToldAs (RowCount given wanted) status out =
     (status ≡ 3) × (out ≡ refusal_line (codes "ROWS") (given ∷ wanted ∷ []))
 IsToldAs (EmptyRow name) status out =
@@ -122,6 +125,12 @@ abbrev pub IsOfWords : Refusal → Type 0
 IsOfWords (Usage place) = ⊤
 IsOfWords (Stopped OutOfMemory) = ⊤
 IsOfWords refusal = ⊥
+
+-- the refusal is of so many samples of so many variables as are asked for, which are too many
+abbrev pub IsTooManyRefusal : Option ℕ → ℕ → Refusal → Type 0
+IsTooManyRefusal asked variables (TooMany samples) =
+    (asked ≡ Some samples) × IsTooMany samples variables
+IsTooManyRefusal asked variables refusal = ⊥
 
 -- the refusal names the least vertex that is cut off from the root, or memory ran out
 abbrev pub IsCutOffRefusal : GraphOf → ℕ → Refusal → Type 0

@@ -1,6 +1,6 @@
 -- What comes of a formula that is sampled by rounds. Its events may clash, and the run has one
 -- result (`prs_rounds::laws::one_rounds_end`).
-use Rattle.std.specs.Prelude.{◌≡◌, ℕ, List}
+use Rattle.std.specs.Prelude.{◌≡◌, ℕ, List, None}
 use Rattle.pop_model.specs.Stacks.{Origin}
 use Rattle.pop_model.specs.Popping.{Cube}
 use Rattle.pop_model.specs.Instances.{Instance}
@@ -28,5 +28,5 @@ pub record EndsRounds (origin : Origin) (f : Cnf) (o : Outcome) : Type 0 where
 -- what comes of a formula that is to be sampled by rounds
 abbrev pub ComesOfRounds : Origin → Cnf → Outcome → Type 0
 ComesOfRounds origin f o =
-    ComesOfSampling (FormulaFacts f.variables) origin (pair_weights f.variables)
+    ComesOfSampling (FormulaFacts f.variables) origin (pair_weights f.variables) None
     (EndsRounds origin f) o

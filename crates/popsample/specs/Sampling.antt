@@ -1,5 +1,5 @@
 -- What comes of sampling, whatever the source.
-use Rattle.std.specs.Prelude.{◌≡◌, ℕ, List, [], ◌∷◌, replicate}
+use Rattle.std.specs.Prelude.{◌≡◌, ℕ, List, [], ◌∷◌, length, replicate, Option, None, Some}
 use Rattle.pop_model.specs.Stacks.{Origin}
 use Rattle.pop_model.specs.Popping.{Cube}
 use Rattle.pop_model.specs.Families.Family.{Listed}
@@ -15,8 +15,9 @@ use Rattle.pop_print.specs.declared.facts.Facts.{Facts}
 use Rattle.popsample.specs.declared.asked.Asked.{Asked}
 use Rattle.popsample.specs.Names.{names_for}
 use Rattle.popsample.specs.Tellings.{Telling, IsToldOf}
+use Rattle.popsample.specs.Batches.{IsTooMany, AreFew, IsBatchOf}
 use Rattle.popsample.specs.Outcomes.{Outcome}
-use Rattle.popsample.specs.Outcomes.Outcome.{Unsound, Ended}
+use Rattle.popsample.specs.Outcomes.Outcome.{TooMany, Unsound, Ended, Batched}
 
 -- two values of weight 1 for each of n variables
 abbrev pub pair_weights : ℕ → List (List ℕ)
@@ -36,11 +37,14 @@ pub record IsToldOfFirst (asked : Asked) (watchers : List Watcher) (names : Name
   pub sorted : AreSorted log placed
   pub told : IsToldOf asked watchers names i placed t
 
--- the end of the instance's one-thread run, and what is asked for of its log
+-- the end of the instance's one-thread run, and what is asked for of its log; or where a number of
+-- samples is asked for, the end of each
 abbrev pub IsEndOf : Asked → List Watcher → Facts → Instance → Outcome → Type 0
 IsEndOf asked watchers facts i (Ended told j cursors pops stuck telling) =
     (told ≡ facts) × (j ≡ i) × IsFirstEnd i cursors pops stuck
-    × IsToldOfFirst asked watchers (names_for facts) i telling
+    × IsToldOfFirst asked watchers (names_for facts) i telling × (asked.count ≡ None)
+IsEndOf asked watchers facts i (Batched told j ends) =
+    (told ≡ facts) × (j ≡ i) × IsBatchOf asked.count i ends
 IsEndOf asked watchers facts i o = ⊥
 
 -- a fault of the stacks of these weights
@@ -48,8 +52,13 @@ abbrev pub IsFaultOf : Facts → Origin → List (List ℕ) → Outcome → Type
 IsFaultOf facts origin weights (Unsound told fault) = (told ≡ facts) × IsCause origin weights fault
 IsFaultOf facts origin weights o = ⊥
 
--- a fault of the stacks of these weights, or with sound stacks what comes of the run
-abbrev pub ComesOfSampling : Facts → Origin → List (List ℕ) → (Outcome → Type 0) → Outcome → Type 0
-ComesOfSampling facts origin weights Runs (Unsound told fault) =
-    (told ≡ facts) × IsCause origin weights fault
-ComesOfSampling facts origin weights Runs o = IsSound origin weights × Runs o
+-- too many samples of these variables, or else a fault of the stacks of these weights, or with
+-- sound stacks what comes of the run
+abbrev pub ComesOfSampling : Facts → Origin → List (List ℕ) → Option ℕ → (Outcome → Type 0)
+    → Outcome → Type 0
+ComesOfSampling facts origin weights asked Runs (TooMany samples) =
+    (asked ≡ Some samples) × IsTooMany samples (length weights)
+ComesOfSampling facts origin weights asked Runs (Unsound told fault) =
+    (told ≡ facts) × IsCause origin weights fault × AreFew asked (length weights)
+ComesOfSampling facts origin weights asked Runs o =
+    IsSound origin weights × Runs o × AreFew asked (length weights)

@@ -52,13 +52,6 @@ pub record LeadsToEnd (i : Instance) (log : List LogRecord) (stuck : List Event)
   pub end : IsEnd i (replay (start_of i) log)
   pub stuck_list : IsStuckList i (replay (start_of i) log) stuck
 
--- the text of the layered log of a log, where it is printed
-pub record IsShownText (names : Names) (i : Instance) (log : List LogRecord) (printed : Bool)
-    (text : List ℕ) : Type 0 where
-  pub placed : List Placed
-  pub sorted : AreSorted log placed
-  pub text_is : text ≡ layered_text names i (if printed then Some placed else None)
-
 -- what is told of a layered log behind its text, and whether the asked pop is missing
 pub record TellsRecords (asked : Asked) (watchers : List Watcher) (names : Names) (i : Instance)
     (log : List LogRecord) (missing : Bool) (text : List ℕ) : Type 0 where

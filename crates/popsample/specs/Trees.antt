@@ -31,5 +31,5 @@ ComesOfTree origin asked watchers root g (CutOff w) =
     (root ≤ g.vertices) × IsLeast (IsCutOff g root) w
 ComesOfTree origin asked watchers root g o =
     (root ≤ g.vertices) × IsConnected g root
-    × ComesOfSampling (TreeFacts g root) origin (weights_of_tree g root)
+    × ComesOfSampling (TreeFacts g root) origin (weights_of_tree g root) asked.count
     (IsEndOf asked watchers (TreeFacts g root) (tree_instance origin g root)) o

@@ -1,11 +1,12 @@
 //! The answer to command words and a source.
-ghost use Rattle.std.specs.Prelude.{◌≡◌, ◌≢◌, ◌⊎◌, ◌<◌, ◌≤◌, ◌^◌, ℕ, List, Some, map, string_bytes, IfOk, IfErr, MatchResult, IsErrOf};
+ghost use Rattle.std.specs.Prelude.{◌≡◌, ◌≢◌, ◌⊎◌, ◌<◌, ◌≤◌, ◌^◌, ℕ, List, Some, map, string_bytes, IfOk, IfErr, MatchResult, IsErrOf, IfSome};
 ghost use Rattle.std.specs.Io.KnownBytes.{IsAtEnd, Consumes};
 ghost use Rattle.pop_model.specs.Faults.{Rose};
+ghost use Rattle.pop_model.specs.Stacks.{IsKeyed};
 ghost use Rattle.pop_words.specs.CommandLines.{AreWords, IsBadPlace};
 ghost use Rattle.pop_words.specs.declared.command.Command.TheVariants.{Make};
 ghost use Rattle.popsample.specs.TopCall.{HasReadFault};
-ghost use Rattle.popsample.specs.Answers.{IsAnswer, IsOutcome, ComesOf, AskForGrid, IsInput, HasNoBadLine};
+ghost use Rattle.popsample.specs.Answers.{IsAnswer, IsOutcome, ComesOf, origin_for, AskForGrid, IsInput, HasNoBadLine};
 ghost use Rattle.popsample.specs.Results.{IsResultOf, IsTextResult, IsOfWords};
 ghost use Rattle.popsample.specs.Refusals.{usage_line};
 ghost use Rattle.popsample.specs.declared.refusal.Refusal.TheVariants.{Usage, Stopped};
@@ -45,8 +46,10 @@ fn answer_job<S: Source, R: Threads + Wait + Sync, G: Gate + Sync>(
 ) -> Result<Answer, Refusal>
     requires some { 0 < job.height }
     requires short { job.height < 2 ^ 31 }
+    requires grow { IfSome job.grow (λ last. (0 < last) × (last < 2 ^ 31)) }
     requires root { 1 ≤ job.root }
     requires side { job.command ≡ Make → (1 ≤ job.size) × (job.size ≤ 2048) }
+    requires keyed { (count : ℕ) → job.count ≡ Some count → IsKeyed (origin_for job) }
     ensures answer { (text : List ℕ) → (S.left source.old ≡ Some text) ⊎ (job.command ≡ Make)
         → (IsErrOf result (Stopped ReadFault) → ⊥)
         → IsResultOf (ComesOf job (map (λ b. (kind b, state b)) call.old.watchers.items) text)
@@ -62,7 +65,7 @@ fn answer_job<S: Source, R: Threads + Wait + Sync, G: Gate + Sync>(
         × HasNoBadLine job.command taken }
 {
     let asked = Asked::of(&job);
-    let origin = StackOrigin::new(job.stacks, job.height);
+    let origin = StackOrigin::new(job.stacks, job.height, job.grow);
     match job.command {
         Command::Formula => {
             sample_formula(call, origin, asked, false, &formula_of(call.alloc, source)?)

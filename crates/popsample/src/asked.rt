@@ -20,6 +20,8 @@ pub struct Asked {
     /// Whether the order of the pops isn't determined, as that of a resampling: then all watchers
     /// are told the log, and the status tells where the asked pop is missing.
     pub free: bool,
+    /// How many samples are asked for, where the answer is a batch of them; else there is one run.
+    pub count: Option<u32>,
 }
 
 // Whether the order of a command's pops isn't determined.
@@ -42,6 +44,7 @@ impl Asked {
             witness: job.witness,
             reports: job.reports,
             free: is_free(job.command),
+            count: job.count,
         }
     }
 

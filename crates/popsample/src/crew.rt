@@ -1,25 +1,31 @@
 //! Who makes a run.
-ghost use Rattle.std.specs.Prelude.{◌≡◌, ◌<◌, ◌≤◌, length, IfOk};
-ghost use Rattle.pop_model.specs.Stacks.{variables_of};
+ghost use Rattle.std.specs.Prelude.{◌≡◌, ◌<◌, ◌≤◌, length, Some, IfOk, OnOk};
+ghost use Rattle.pop_model.specs.Stacks.{IsKeyed, variables_of};
+ghost use Rattle.pop_model.specs.Instances.{instance_raised};
+ghost use Rattle.pop_model.specs.Extremal.{IsExtremal};
 ghost use Rattle.pop_model.specs.Runs.{start_of};
 ghost use Rattle.confluence_core.specs.Kept.{keeps_log};
 ghost use Rattle.confluence_core.specs.Runs.{IsRunOf};
+ghost use Rattle.pop_batch.specs.Batches.{AreEnds};
 ghost use Rattle.prs_rounds.specs.Rounds.{IsRoundsEnd};
 ghost use Rattle.prs_rounds.specs.Units.{IsIndexOf};
 ghost use Rattle.pop_print.specs.Rounds.{IsShownAt};
+ghost use Rattle.popsample.specs.Growing.{MayGrowTo};
 
+use crate::growing_instance::GrowingInstance;
 use confluence_core::{Keep, run_from_zeros};
+use pop_batch::{Ends, batch};
 use pop_instance::{Index, Instance};
 use pop_words::BoardKind;
-use pop_workers::{Gate, Outcome, sample_claimed, sample_locked, zeros_of};
+use pop_workers::{Gate, Outcome, sample_claimed, sample_grown, sample_locked, zeros_of};
 use prs_rounds::{RoundEnd, run_rounds};
 use std::alloc::{AllocError, Global};
 use std::marker::Model;
 use std::sync::Wait;
 use std::thread::Threads;
 
-/// So many workers, from 1 to 64, the board on which they meet, and the gate that each passes before
-/// its turns. Contracts see how many there are, and on which board.
+/// So many workers, from 1 to 64, the board on which they meet, and the gate that each passes
+/// before its turns. Contracts see how many there are, and on which board.
 #[derive(Drop)]
 pub struct Crew<'a, R, G> {
     rt: &'a R,
@@ -54,9 +60,54 @@ impl<'a, R: Threads + Wait + Sync, G: Gate + Sync> Crew<'a, R, G> {
         }
     }
 
-    /// A run of the instance from zeros. One worker makes it alone, behind the gate and with no
-    /// board; several claim words, or share a book under a lock.
-    pub fn run(&self, alloc: Global, instance: &Instance, keep: Keep) -> Result<Outcome, AllocError>
+    /// A run of the instance from zeros to an end at its last height, and the instance at that
+    /// height. Where it grows it is run in stages.
+    pub fn run(
+        &self,
+        alloc: Global,
+        growing: GrowingInstance,
+        keep: Keep,
+    ) -> Result<(Outcome, Instance), AllocError>
+        ensures instance { IfOk result (λ ran. ran.1 ≡ growing) }
+        ensures run { IfOk result (λ ran. IsRunOf ran.1 (start_of ran.1) (keeps_log keep) ran.0) }
+    {
+        let (mut instance, last) = growing.into_parts();
+        let Some(last) = last else {
+            let run = self.run_at_once(alloc, &instance, keep)?;
+            return Ok((run, instance));
+        };
+        let run = self.run_in_stages(alloc, &mut instance, last, keep)?;
+        Ok((run, instance))
+    }
+
+    // A run of the instance in stages to an end at the last height, which the instance has then,
+    // also where the stages come to an end before.
+    fn run_in_stages(
+        &self,
+        alloc: Global,
+        instance: &mut Instance,
+        last: u32,
+        keep: Keep,
+    ) -> Result<Outcome, AllocError>
+        requires { MayGrowTo (Some last) instance.old.stacks }
+        ensures raised { OnOk result (instance.new ≡ instance_raised last instance.old) }
+        ensures run { IfOk result (IsRunOf instance.new (start_of instance.new) (keeps_log keep)) }
+    {
+        let claimed = self.board == BoardKind::Words;
+        let (rt, gate, workers) = (self.rt, self.gate, self.workers);
+        let run = sample_grown(rt, alloc, instance, last, claimed, workers, keep, gate)?;
+        instance.raise(last);
+        Ok(run)
+    }
+
+    // A run of the instance from zeros. One worker makes it alone, behind the gate and with no
+    // board; several claim words, or share a book under a lock.
+    fn run_at_once(
+        &self,
+        alloc: Global,
+        instance: &Instance,
+        keep: Keep,
+    ) -> Result<Outcome, AllocError>
         ensures { IfOk result (IsRunOf instance.now (start_of instance.now) (keeps_log keep)) }
     {
         if self.workers == 1 {
@@ -69,6 +120,16 @@ impl<'a, R: Threads + Wait + Sync, G: Gate + Sync> Crew<'a, R, G> {
             BoardKind::Words => sample_claimed(rt, alloc, instance, &zeros, workers, keep, gate),
             BoardKind::Lock => sample_locked(rt, alloc, instance, &zeros, workers, keep, gate),
         }
+    }
+
+    /// The ends of so many samples of the instance under a key. Each is run on one thread, beside
+    /// others, and no worker of the crew shares it.
+    pub fn batch(&self, alloc: Global, instance: &Instance, count: u32) -> Result<Ends, AllocError>
+        requires keyed { IsKeyed instance.now.stacks.origin }
+        requires extremal { IsExtremal instance.now.family }
+        ensures { IfOk result (AreEnds instance.now count) }
+    {
+        batch(self.rt, alloc, instance, count)
     }
 
     /// The run of the instance by rounds, by the index of its listed events. What they look at is

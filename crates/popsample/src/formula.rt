@@ -1,6 +1,7 @@
 //! The commands on a formula: `formula` and `resample` sample it, and `check` says whether its
 //! events are extremal.
-ghost use Rattle.std.specs.Prelude.{◌≡◌, false, None, map, OnOk, IfErr};
+ghost use Rattle.std.specs.Prelude.{◌≡◌, false, ℕ, None, Some, map, OnOk, IfErr};
+ghost use Rattle.pop_model.specs.Stacks.{IsKeyed};
 ghost use Rattle.pop_model.specs.Families.Family.{Listed};
 ghost use Rattle.pop_model.specs.Extremal.{IsExtremal};
 ghost use Rattle.pop_instance.specs.Events.{FitVariables};
@@ -13,11 +14,11 @@ ghost use Rattle.popsample.specs.Resamplings.{RunsFormula, IsClashIn};
 
 use crate::answer::Answer;
 use crate::asked::Asked;
+use crate::batching::{refuse_too_many, sample_and_tell};
 use crate::call::Call;
 use crate::instances::of_events;
 use crate::origin::StackOrigin;
 use crate::refusal::{Refusal, told_in_line};
-use crate::running::run_and_tell;
 use dimacs_read::Formula;
 use extremal_check::{Verdict, check};
 use pop_instance::{Events, Index};
@@ -60,17 +61,19 @@ pub fn sample_formula<R: Threads + Wait + Sync, G: Gate + Sync>(
 ) -> Result<Answer, Refusal>
     requires filled { first_empty formula.now ≡ None }
     requires free { asked.free ≡ may_clash }
+    requires keyed { (count : ℕ) → asked.count ≡ Some count → IsKeyed origin }
     ensures { IsResultOf (ComesOfSampling (FormulaFacts formula.now.variables) origin
-        (pair_weights formula.now.variables) (RunsFormula may_clash origin asked
+        (pair_weights formula.now.variables) asked.count (RunsFormula may_clash origin asked
         (map (λ b. (kind b, state b)) call.old.watchers.items) formula.now)) result }
 {
     let variables = formula.variables();
+    refuse_too_many(asked.count, variables)?;
     let facts = Facts::Formula(variables);
     let stacks = origin.stacks(&facts, Weights::pairs(variables))?;
     let events = formula.events(call.alloc)?;
     refuse_clash(call.alloc, may_clash, variables, &events)?;
     let instance = of_events(variables, stacks, events);
-    Ok(run_and_tell(call, &facts, &instance, asked)?)
+    Ok(sample_and_tell(call, &facts, instance, asked)?)
 }
 
 /// Says whether the formula's events are extremal: the answer of `check`.

@@ -5,28 +5,28 @@ ghost use Rattle.pop_model.specs.Instances.{FamilyFits};
 ghost use Rattle.pop_instance.specs.Events.{FitVariables};
 ghost use Rattle.popsample.specs.Sampling.{pair_weights, instance_of};
 
-use pop_instance::{Arrows, Events, Family, Instance};
-use pop_stacks::Stacks;
+use crate::growing_instance::GrowingInstance;
+use crate::growing_stacks::GrowingStacks;
+use pop_instance::{Arrows, Events, Family};
 
 /// The instance of events over so many variables of two values.
-pub fn of_events(variables: u32, stacks: Stacks, events: Events) -> Instance
+pub fn of_events(variables: u32, stacks: GrowingStacks, events: Events) -> GrowingInstance
     requires weights { stacks.weights ≡ pair_weights variables }
     requires fit { FitVariables variables events }
     ensures { result ≡ instance_of stacks.origin variables events }
 {
-    let _count = stacks.count();
-    match Instance::new(stacks, Family::Listed(events)) {
+    match GrowingInstance::new(stacks, Family::Listed(events)) {
         Some(instance) => instance,
         None => unreachable!(),
     }
 }
 
 /// The instance of the cycles of arrows.
-pub fn of_arrows(stacks: Stacks, arrows: Arrows) -> Instance
+pub fn of_arrows(stacks: GrowingStacks, arrows: Arrows) -> GrowingInstance
     requires fits { FamilyFits stacks (Cycles arrows) }
     ensures { result ≡ record { stacks = stacks; family = Cycles arrows } }
 {
-    match Instance::new(stacks, Family::Cycles(arrows)) {
+    match GrowingInstance::new(stacks, Family::Cycles(arrows)) {
         Some(instance) => instance,
         None => unreachable!(),
     }

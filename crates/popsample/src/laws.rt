@@ -2,6 +2,8 @@
 ghost use Rattle.popsample.specs.Laws.{OneAnswer, OneOutcome, OneLoggedAnswer, SampleFinished};
 ghost use Rattle.popsample.specs.Shown.{SampleShown, ExhaustedShown};
 ghost use Rattle.popsample.specs.Workers.{WorkersAgree};
+ghost use Rattle.popsample.specs.Stages.{GrownAlike};
+ghost use Rattle.popsample.specs.FirstSample.{FirstSample};
 ghost use Rattle.popsample.specs.Complete.{Complete};
 ghost use Rattle.popsample.specs.ExactAnswers.{ExchangedAnswers, ReachedAnswers};
 ghost use Rattle.popsample.specs.EverySample.{EveryAssignment, EveryOrientation, EveryTree};
@@ -35,13 +37,15 @@ pub fn sample_finished()
 /// What an output with status 0 shows: an assignment whose literals satisfy each clause of the
 /// formula that was read, an orientation of the graph in which an arrow leaves each vertex, or a
 /// spanning tree of it whose arrows lead to the root; of a made grid the sum over such a tree.
+/// Where a number of samples is asked for, so many of these, each behind its number.
 pub fn sample_shown()
     ensures { SampleShown }
 {}
 
 /// What an output with status 1 shows: the clauses that are false, the vertices that no arrow
 /// leaves, or the cycles of the arrows, at the values that the stacks have at the cursors that it
-/// tells; of a made grid how many cycles there are.
+/// tells; of a made grid how many cycles there are. Where a number of samples is asked for, these
+/// of some, and of each other one what a sample shows.
 pub fn exhausted_shown()
     ensures { ExhaustedShown }
 {}
@@ -53,9 +57,23 @@ pub fn workers_agree()
     ensures { WorkersAgree }
 {}
 
+/// Words with `--height H --grow T` have the same answers as those with `--height T` in its place,
+/// with any watchers and any text, and also where a resampling is asked for: no answer tells that
+/// its run was made in stages.
+pub fn grown_alike()
+    ensures { GrownAlike }
+{}
+
+/// Where a number of samples is asked for and the answer is no refusal, the output begins, behind
+/// the lines of the batch and of sample 0, with the answer to the same job without the number.
+pub fn first_sample()
+    ensures { FirstSample }
+{}
+
 /// Where the words are a command line, the text is in its grammar and within the limits, the
-/// graph's form is good, the stacks have no fault, the events are extremal where that is asked, and
-/// of a resampling the witness that is asked for is there, the status is 0 or 1.
+/// graph's form is good, no more samples are asked for than a batch may have, the stacks have no
+/// fault, the events are extremal where that is asked, and of a resampling the witness that is
+/// asked for is there, the status is 0 or 1.
 pub fn complete()
     ensures { Complete }
 {}

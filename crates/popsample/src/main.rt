@@ -5,9 +5,12 @@
 
 mod answer;
 mod asked;
+mod batching;
 mod call;
 mod crew;
 mod formula;
+mod growing_instance;
+mod growing_stacks;
 mod instances;
 pub mod laws;
 mod names;

@@ -1,15 +1,16 @@
 //! The command on the orientations of a graph: `orient` samples one without a sink.
-ghost use Rattle.std.specs.Prelude.{◌≡◌, false, map};
+ghost use Rattle.std.specs.Prelude.{◌≡◌, false, ℕ, Some, map};
+ghost use Rattle.pop_model.specs.Stacks.{IsKeyed};
 ghost use Rattle.popsample.specs.Results.{IsResultOf};
 ghost use Rattle.popsample.specs.Orientations.{ComesOfOrienting};
 
 use crate::answer::Answer;
 use crate::asked::Asked;
+use crate::batching::{refuse_too_many, sample_and_tell};
 use crate::call::Call;
 use crate::instances::of_events;
 use crate::origin::StackOrigin;
 use crate::refusal::Refusal;
-use crate::running::run_and_tell;
 use graph_read::Graph;
 use pop_print::Facts;
 use pop_stacks::Weights;
@@ -27,13 +28,15 @@ pub fn orient<R: Threads + Wait + Sync, G: Gate + Sync>(
     graph: Graph,
 ) -> Result<Answer, Refusal>
     requires ordered { asked.free ≡ false }
+    requires keyed { (count : ℕ) → asked.count ≡ Some count → IsKeyed origin }
     ensures { IsResultOf (ComesOfOrienting origin asked
         (map (λ b. (kind b, state b)) call.old.watchers.items) graph) result }
 {
     let events = sinks(call.alloc, &graph)?;
     let edges = graph.edges();
+    refuse_too_many(asked.count, edges)?;
     let facts = Facts::Orient(graph);
     let stacks = origin.stacks(&facts, Weights::pairs(edges))?;
     let instance = of_events(edges, stacks, events);
-    Ok(run_and_tell(call, &facts, &instance, asked)?)
+    Ok(sample_and_tell(call, &facts, instance, asked)?)
 }

@@ -35,6 +35,8 @@ pub enum Refusal {
     NoRoot(u32),
     /// The least vertex that no path joins to the root.
     CutOff(u32),
+    /// How many samples are asked for, which are too many.
+    TooMany(u32),
     /// The number of rows that were given, and the number of variables.
     RowCount(u32, u32),
     /// The variable whose row has no entry.
@@ -148,6 +150,7 @@ impl Refusal {
             Refusal::Isolated(vertex) => told_in_line(alloc, 6, "ISOLATED", &[vertex as u64]),
             Refusal::NoRoot(root) => told_in_line(alloc, 6, "ROOT", &[root as u64]),
             Refusal::CutOff(vertex) => told_in_line(alloc, 6, "CUTOFF", &[vertex as u64]),
+            Refusal::TooMany(samples) => told_in_line(alloc, 4, "LIMIT", &[9, samples as u64]),
             Refusal::RowCount(given, wanted) => {
                 told_in_line(alloc, 3, "ROWS", &[given as u64, wanted as u64])
             }

@@ -46,7 +46,8 @@ fn round_and_tell<R: Threads + Wait + Sync, G: Gate + Sync>(
     })
 }
 
-/// Samples the formula by rounds, whether or not its events clash: the answer of `rounds`.
+/// Samples the formula by rounds, whether or not its events clash: the answer of `rounds`. They are
+/// made at the last height: they have one result there, which stages would only come to later.
 pub fn sample_rounds<R: Threads + Wait + Sync, G: Gate + Sync>(
     call: &Call<R, G>,
     origin: StackOrigin,
@@ -60,6 +61,7 @@ pub fn sample_rounds<R: Threads + Wait + Sync, G: Gate + Sync>(
     let stacks = origin.stacks(&facts, Weights::pairs(variables))?;
     let events = formula.events(call.alloc)?;
     let index = Index::build(call.alloc, &events, variables)?;
-    let instance = of_events(variables, stacks, events);
+    let growing = of_events(variables, stacks, events);
+    let instance = growing.raised();
     Ok(round_and_tell(call, variables, &instance, &index)?)
 }

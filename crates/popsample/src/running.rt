@@ -1,11 +1,10 @@
 //! A run of an instance, and how it is told.
-ghost use Rattle.std.specs.Prelude.{◌≡◌, true, false, ◌&&◌, List, map, length, IfOk, if◌then◌else◌};
+ghost use Rattle.std.specs.Prelude.{◌≡◌, true, false, ◌&&◌, Some, None, map, length, IfOk, if◌then◌else◌};
 ghost use Rattle.pop_model.specs.Stacks.{variables_of};
 ghost use Rattle.pop_model.specs.Extremal.{IsExtremal};
-ghost use Rattle.pop_model.specs.Logs.{LogRecord, IsLegal, replay};
+ghost use Rattle.pop_model.specs.Logs.{IsLegal, replay};
 ghost use Rattle.pop_model.specs.Runs.{start_of};
 ghost use Rattle.confluence_core.specs.Runs.{IsRunOf};
-ghost use Rattle.pop_log.specs.Layered.{IsLayered};
 ghost use Rattle.pop_print.specs.Ends.{AreFactsOf};
 ghost use Rattle.popsample.specs.Outcomes.{AnswersBy, end_status};
 ghost use Rattle.pop_watch.specs.Telling.{log_told};
@@ -13,17 +12,18 @@ ghost use Rattle.popsample.specs.Reports.{reports_text};
 ghost use Rattle.popsample.specs.Witnesses.{TellsWitness};
 ghost use Rattle.popsample.specs.Sampling.{IsEndOf};
 ghost use Rattle.popsample.specs.Resamplings.{IsHistoryOf};
-ghost use Rattle.popsample.specs.Tellings.{TellsRecords, IsShownText, TellsLog, TellsRun, asks_for_log};
+ghost use Rattle.popsample.specs.Tellings.{TellsRecords, TellsLog, TellsRun, asks_for_log, layered_text, records_of};
 
 use crate::answer::Answer;
 use crate::asked::Asked;
 use crate::call::Call;
+use crate::growing_instance::GrowingInstance;
 use crate::names::names_of;
 use crate::reporting::report_log;
 use crate::witness::{LogText, witness_of};
 use confluence_core::{End, Log, Stuck};
 use pop_instance::{Cursors, Instance};
-use pop_log::{Names, layered, print_layered};
+use pop_log::{LayeredLog, Names};
 use pop_print::{Facts, text};
 use pop_workers::{Gate, Outcome};
 use std::alloc::{AllocError, Global};
@@ -111,48 +111,45 @@ fn tell_records<R, G>(
     })
 }
 
-// What is told of the layered log of a log behind its text. It isn't made where nothing asks for
-// it.
+// What is told of a layered log behind its text. It is copied where its records are looked at.
 fn tell_in_layers<R, G>(
     call: &mut Call<R, G>,
     instance: &Instance,
     names: &Names,
     cursors: &Cursors,
-    log: &Log,
+    placed: &LayeredLog,
     asked: Asked,
 ) -> Result<LogText, AllocError>
     requires count { variables_of instance.now.stacks ≡ length cursors.now }
-    requires legal { IsLegal instance.now (start_of instance.now) log.now }
-    requires leads { cursors.now ≡ replay (start_of instance.now) log.now }
-    ensures { IfOk result (λ t. (layered : List LogRecord) × IsLayered log.now layered
-        × TellsRecords asked (map (λ b. (kind b, state b)) call.old.watchers.items) names.now
-        instance.now layered t.missing t.bytes.items) }
+    requires legal { IsLegal instance.now (start_of instance.now) (records_of placed.now) }
+    requires leads { cursors.now ≡ replay (start_of instance.now) (records_of placed.now) }
+    ensures { IfOk result (λ t. TellsRecords asked
+        (map (λ b. (kind b, state b)) call.old.watchers.items) names.now instance.now
+        (records_of placed.now) t.missing t.bytes.items) }
 {
     if !asked.looks() {
         return LogText::nothing(call.alloc);
     }
-    // Read for its contract, which says what holds of every instance.
-    let _units = instance.units();
-    let layered = layered(call.alloc, instance.stacks().count(), log)?;
+    let layered = placed.copy(call.alloc)?;
     tell_records(call, instance, names, cursors, &layered, asked)
 }
 
-// The text of the layered log of a log, where it is printed; else nothing.
+// The text of a layered log, where it is printed; else nothing.
 fn text_if(
     alloc: Global,
     instance: &Instance,
     names: &Names,
-    log: &Log,
+    placed: &LayeredLog,
     printed: bool,
 ) -> Result<Vec<u8>, AllocError>
-    requires { IsLegal instance.now (start_of instance.now) log.now }
-    ensures { IfOk result (λ bytes. IsShownText names.now instance.now log.now printed
-        bytes.items) }
+    requires { IsLegal instance.now (start_of instance.now) (records_of placed.now) }
+    ensures { IfOk result (λ bytes. bytes.items ≡ layered_text names.now instance.now
+        (if printed then Some placed.now else None)) }
 {
     if !printed {
         return Ok(Vec::new(alloc));
     }
-    print_layered(alloc, instance, names, log)
+    placed.print(alloc, instance, names)
 }
 
 // What is told of a log: its text in its layered order, the witness and the reports, each where it
@@ -174,8 +171,9 @@ fn text_of_log<R, G>(
 {
     // Read for its contract, which says what holds of every instance.
     let _units = instance.units();
-    let mut bytes = text_if(call.alloc, instance, names, log, asked.log)?;
-    let told = tell_in_layers(call, instance, names, cursors, log, asked)?;
+    let placed = LayeredLog::of(call.alloc, instance.stacks().count(), log)?;
+    let mut bytes = text_if(call.alloc, instance, names, &placed, asked.log)?;
+    let told = tell_in_layers(call, instance, names, cursors, &placed, asked)?;
     bytes.extend_from_slice(&told.bytes)?;
     Ok(LogText {
         missing: told.missing,
@@ -183,38 +181,41 @@ fn text_of_log<R, G>(
     })
 }
 
-// What is told of a run behind its end. It kept its log where something of it is asked for.
+// What is told of a run behind its end. It kept its log where something of it is asked for. The log
+// is let go of.
 fn tell_run<R, G>(
     call: &mut Call<R, G>,
     instance: &Instance,
     names: &Names,
-    run: &Outcome,
+    end: &End,
+    log: Option<Log>,
     asked: Asked,
 ) -> Result<LogText, AllocError>
-    requires { IsRunOf instance.now (start_of instance.now) (asks_for_log asked) run.now }
+    requires { IsRunOf instance.now (start_of instance.now) (asks_for_log asked)
+        (record { end = end.now; log = log }) }
     ensures { IfOk result (λ t. TellsRun asked
         (map (λ b. (kind b, state b)) call.old.watchers.items) names.now instance.now
-        run.now.end.cursors run.now.end.pops run.now.end.stuck t.missing t.bytes.items) }
+        end.now.cursors end.now.pops end.now.stuck t.missing t.bytes.items) }
 {
     // Read for its contract, which says what holds of every instance.
     let _units = instance.units();
-    match &run.log {
-        Some(log) => text_of_log(call, instance, names, &run.end.cursors, log, asked),
+    match log {
+        Some(log) => text_of_log(call, instance, names, &end.cursors, &log, asked),
         None => LogText::nothing(call.alloc),
     }
 }
 
-/// Runs the instance, and tells its end, and behind it what is asked for. Of an extremal instance
-/// the pops are made in an order of their own, since all orders end alike, and have one layered
-/// log.
-pub fn run_and_tell<R: Threads + Wait + Sync, G: Gate + Sync>(
+// Tells the end of a run of the instance, and behind it what is asked for.
+fn tell_end<R, G>(
     call: &mut Call<R, G>,
     facts: &Facts,
     instance: &Instance,
+    run: Outcome,
     asked: Asked,
 ) -> Result<Answer, AllocError>
     requires facts { AreFactsOf facts.now instance.now }
-    ensures ended { asked.free ≡ false → IsExtremal instance.now.family
+    requires run { IsRunOf instance.now (start_of instance.now) (asks_for_log asked) run }
+    ensures ended { asked.free ≡ false → asked.count ≡ None → IsExtremal instance.now.family
         → IfOk result (λ a. AnswersBy (IsEndOf asked
         (map (λ b. (kind b, state b)) call.old.watchers.items) facts.now instance.now)
         a.status a.text.items) }
@@ -224,13 +225,35 @@ pub fn run_and_tell<R: Threads + Wait + Sync, G: Gate + Sync>(
 {
     // Read for its contract, which says what holds of every instance.
     let _units = instance.units();
-    let run = call.crew.run(call.alloc, instance, asked.keep())?;
-    let mut text = text(call.alloc, facts, instance, &run.end)?;
+    let Outcome { end, log } = run;
+    let mut text = text(call.alloc, facts, instance, &end)?;
     let names = names_of(facts);
-    let told = tell_run(call, instance, &names, &run, asked)?;
+    let told = tell_run(call, instance, &names, &end, log, asked)?;
     text.extend_from_slice(&told.bytes)?;
     Ok(Answer {
-        status: status_with(&run.end, asked.free, told.missing),
+        status: status_with(&end, asked.free, told.missing),
         text,
     })
+}
+
+/// Runs the instance, and tells its end at its last height, and behind it what is asked for. Of an
+/// extremal instance the pops are made in an order of their own, since all orders end alike, and
+/// have one layered log.
+pub fn run_and_tell<R: Threads + Wait + Sync, G: Gate + Sync>(
+    call: &mut Call<R, G>,
+    facts: &Facts,
+    growing: GrowingInstance,
+    asked: Asked,
+) -> Result<Answer, AllocError>
+    requires facts { AreFactsOf facts.now growing }
+    ensures ended { asked.free ≡ false → asked.count ≡ None → IsExtremal growing.family
+        → IfOk result (λ a. AnswersBy (IsEndOf asked
+        (map (λ b. (kind b, state b)) call.old.watchers.items) facts.now growing)
+        a.status a.text.items) }
+    ensures history { asked.free ≡ true → IfOk result (λ a. AnswersBy (IsHistoryOf asked
+        (map (λ b. (kind b, state b)) call.old.watchers.items) facts.now growing)
+        a.status a.text.items) }
+{
+    let (run, instance) = call.crew.run(call.alloc, growing, asked.keep())?;
+    tell_end(call, facts, &instance, run, asked)
 }

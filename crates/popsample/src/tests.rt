@@ -9,6 +9,7 @@ use std::sync::Wait;
 use std::test::Fail;
 use std::thread::Threads;
 
+mod batches;
 mod faults;
 mod formulas;
 mod grids;
@@ -18,6 +19,7 @@ mod refusals;
 mod reports;
 mod resamplings;
 mod rounds;
+mod stages;
 mod texts;
 mod trees;
 mod workers;
@@ -39,6 +41,18 @@ static CREWS: [[&str; 4]; 8] = [
 
 // A run: the words, the text, the status and the output.
 type Row<'a> = (&'a [&'a str], &'a str, u8, &'a str);
+
+// Each run is answered so.
+fn are_answered<R: Threads + Wait + Sync + Abort>(
+    rt: &R,
+    alloc: Global,
+    rows: &[Row],
+) -> Result<(), Fail> {
+    for row in rows {
+        is_answered(rt, alloc, &[], row)?;
+    }
+    Ok(())
+}
 
 // Each run is answered so, where no crew is asked for and by each crew.
 fn are_answered_by_all<R: Threads + Wait + Sync + Abort>(

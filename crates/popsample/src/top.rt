@@ -35,21 +35,25 @@ fn deliver<K: Sink>(sink: &mut K, text: &[u8], status: u8) -> u8
 /// Runs the command of the words on the text of the source, and writes what there is to say to the
 /// sink.
 ///
-/// The status is 0 for a sample or extremal events, 1 where the run ends with an event still
-/// occurring, 2 for words that are no command line, 3 for a malformed text, a wrong number of
-/// clauses or rows that don't fit, 4 where a limit is passed, 5 where two events clash, 6 for an
-/// empty clause, an isolated vertex, a root that is none, a vertex that is cut off from it or, of a
-/// resampling, a witness of a pop that isn't there, 7 where reading failed, 8 where writing failed
-/// and 9 where memory ran out. The whole text is made before its first byte is written.
+/// The status is 0 for a sample, a batch of samples or extremal events, 1 where a run ends with an
+/// event still occurring, 2 for words that are no command line, 3 for a malformed text, a wrong
+/// number of clauses or rows that don't fit, 4 where a limit is passed, 5 where two events clash, 6
+/// for an empty clause, an isolated vertex, a root that is none, a vertex that is cut off from it
+/// or, of a resampling, a witness of a pop that isn't there, 7 where reading failed, 8 where writing
+/// failed and 9 where memory ran out. The whole text is made before its first byte is written.
 ///
 /// Each watcher is told each record of the layered log, in order and once, by `resample`, and by
 /// `formula`, `orient`, `tree` and `make` where `--report` stands. The report of a kind that is
 /// asked for is that of the first watcher of the kind; where there is none, it has no line. The
 /// watchers are dropped when the call ends.
 ///
-/// Where several workers are asked for they run on threads of `rt`, which are joined, and each
-/// passes the gate before each of its turns. They claim lock-free words, and then the call waits for
-/// no lock; with `--board lock` they share a book under a lock, for which it may wait.
+/// The samples of a batch are run side by side on threads of `rt`, each on one, and no watcher is
+/// told of them. Where several workers are asked for they run on threads of `rt`, which are joined,
+/// and each passes the gate before each of its turns. They claim lock-free words, and then the call
+/// waits for no lock; with `--board lock` they share a book under a lock, for which it may wait.
+///
+/// With `--grow` a run is made in stages: its stacks begin with a lesser height and grow up to the
+/// one that is asked for. The answer is that of stacks which have this height from the start.
 pub fn run<S: Source, K: Sink, R: Threads + Wait + Sync, G: Gate + Sync>(
     rt: &R,
     alloc: Global,
@@ -61,9 +65,11 @@ pub fn run<S: Source, K: Sink, R: Threads + Wait + Sync, G: Gate + Sync>(
 ) -> u8
     // An answer is that of the words, the watchers and the text: of an extremal formula, an
     // orientation, a tree or the tree of a grid, the end of the run on one thread that always pops
-    // the first poppable event, for any number of workers on either board, and what is asked for of
-    // the layered log of that run; of a resampling, that of a layered log that is legal and leads to
-    // an end; of rounds, the one result of the run by rounds. A grid is made whatever the source is.
+    // the first poppable event, for any number of workers on either board, and what is asked for
+    // of the layered log of that run; of a resampling, that of a layered log that is legal and
+    // leads to an end; of rounds, the one result of the run by rounds. Where a number of samples is
+    // asked for, it has the end of each, on the stacks of that sample. A grid is made whatever the
+    // source is.
     ensures answer { (text : List ℕ)
         → IsInput (map string_bytes words.now) (S.left source.old) text → (IsBreak result → ⊥)
         → Answered (map string_bytes words.now) (map (λ b. (kind b, state b)) watchers.items) text

@@ -1,6 +1,7 @@
 //! The commands on spanning trees: `tree` samples a rooted one of a graph, and `make` of a grid
 //! that is made from a number.
-ghost use Rattle.std.specs.Prelude.{◌≡◌, false, ◌<◌, ◌≤◌, ◌^◌, length, map, OnOk, IfOk, IfErr};
+ghost use Rattle.std.specs.Prelude.{◌≡◌, false, ℕ, Some, ◌<◌, ◌≤◌, ◌^◌, length, map, OnOk, IfOk, IfErr};
+ghost use Rattle.pop_model.specs.Stacks.{IsKeyed};
 ghost use Rattle.pop_model.specs.Families.Family.{Cycles};
 ghost use Rattle.pop_model.specs.Instances.{FamilyFits};
 ghost use Rattle.graph_read.specs.Graphs.{IsVertex};
@@ -14,11 +15,11 @@ ghost use Rattle.popsample.specs.Grids.{ComesOfGrid};
 
 use crate::answer::Answer;
 use crate::asked::Asked;
+use crate::batching::{refuse_too_many, sample_and_tell};
 use crate::call::Call;
 use crate::instances::of_arrows;
 use crate::origin::StackOrigin;
 use crate::refusal::Refusal;
-use crate::running::run_and_tell;
 use cycle_popping::{arrows_of, grid_arrows, grid_weights, weights_of};
 use graph_read::{Graph, Incidence};
 use pop_instance::Arrows;
@@ -39,16 +40,18 @@ fn sample_arrows<R: Threads + Wait + Sync, G: Gate + Sync>(
     arrows: Arrows,
 ) -> Result<Answer, Refusal>
     requires ordered { asked.free ≡ false }
+    requires keyed { (count : ℕ) → asked.count ≡ Some count → IsKeyed origin }
     requires few { length weights < 2 ^ 31 }
     requires fits { FamilyFits (record { origin = origin; weights = weights }) (Cycles arrows) }
     requires facts { AreFactsOf facts.now (cycles_instance origin weights arrows) }
-    ensures { IsResultOf (ComesOfSampling facts.now origin weights (IsEndOf asked
+    ensures { IsResultOf (ComesOfSampling facts.now origin weights asked.count (IsEndOf asked
         (map (λ b. (kind b, state b)) call.old.watchers.items) facts.now
         (cycles_instance origin weights arrows))) result }
 {
+    refuse_too_many(asked.count, arrows.count())?;
     let stacks = origin.stacks(facts, weights)?;
     let instance = of_arrows(stacks, arrows);
-    Ok(run_and_tell(call, facts, &instance, asked)?)
+    Ok(sample_and_tell(call, facts, instance, asked)?)
 }
 
 // The arrows of a graph's trees to a root, and their weights; a vertex that is cut off from it is
@@ -78,6 +81,7 @@ pub fn tree<R: Threads + Wait + Sync, G: Gate + Sync>(
     graph: Graph,
 ) -> Result<Answer, Refusal>
     requires ordered { asked.free ≡ false }
+    requires keyed { (count : ℕ) → asked.count ≡ Some count → IsKeyed origin }
     requires root { 1 ≤ root }
     ensures { IsResultOf (ComesOfTree origin asked
         (map (λ b. (kind b, state b)) call.old.watchers.items) root graph) result }
@@ -100,6 +104,7 @@ pub fn tree_of_grid<R: Threads + Wait + Sync, G: Gate + Sync>(
     side: u32,
 ) -> Result<Answer, Refusal>
     requires ordered { asked.free ≡ false }
+    requires keyed { (count : ℕ) → asked.count ≡ Some count → IsKeyed origin }
     requires side { (1 ≤ side) × (side ≤ 2048) }
     ensures { IsResultOf (ComesOfGrid origin asked
         (map (λ b. (kind b, state b)) call.old.watchers.items) side) result }

@@ -24,8 +24,8 @@ static GRID_OF_40: Row = (
     "s SAMPLE\ngrid 40\nused 7898 29\npops 2771\nsum 3027508\n",
 );
 
-// Worked by hand. The vertices 2, 3 and 4 of the grid of side 2 have the edges to 1 and 4, to 1 and 4,
-// and to 2 and 3, in the order of their slots.
+// Worked by hand. The vertices 2, 3 and 4 of the grid of side 2 have the edges to 1 and 4, to 1 and
+// 4, and to 2 and 3, in the order of their slots.
 static SMALL: [Row; 10] = [
     (
         &["make", "grid", "2", "--stacks", "0;0;0"],
@@ -127,6 +127,21 @@ fn larger_grids_are_those_of_the_definitions(rt: HostRuntime) -> Result<(), Fail
 #[test]
 fn workers_under_the_lock_change_no_byte_of_a_grid(rt: HostRuntime) -> Result<(), Fail> {
     is_answered_by(&rt, rt.alloc(), &CREWS[5..7], &GRID_OF_40)
+}
+
+static GROWN_GRID_OF_30: [&str; 9] = [
+    "make", "grid", "30", "--key", ZERO_KEY, "--height", "1", "--grow", "4096",
+];
+
+// By one worker and by eight, on both boards.
+#[test]
+fn a_grid_is_made_in_stages(rt: HostRuntime) -> Result<(), Fail> {
+    let (_, input, status, output) = GRID_OF_30;
+    let row = (GROWN_GRID_OF_30.as_slice(), input, status, output);
+    for crews in [0, 2, 4, 6] {
+        is_answered(&rt, rt.alloc(), &CREWS[crews], &row)?;
+    }
+    Ok(())
 }
 
 // The first read would fail, and the input is left as it is.

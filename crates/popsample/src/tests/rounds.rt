@@ -1,12 +1,12 @@
 //! Formulas that are sampled by rounds.
-use super::{ZERO_KEY, answer};
+use super::{Row, ZERO_KEY, answer, are_answered};
 use std::alloc::Global;
 use std::sync::Wait;
 use std::test::Fail;
 use std::thread::Threads;
 
 // Worked by hand from the definitions: the words, the text, the status and the output.
-static ROUNDS: [(&[&str], &str, u8, &str); 9] = [
+static ROUNDS: [Row; 9] = [
     // Both clauses are false, and variable 1 moves on once.
     (
         &["rounds", "--stacks", "0,1;0,0;0,0"],
@@ -58,12 +58,7 @@ static ROUNDS: [(&[&str], &str, u8, &str); 9] = [
 
 #[test]
 fn rounds_end_as_worked_by_hand(rt: HostRuntime) -> Result<(), Fail> {
-    for (words, input, status, output) in ROUNDS.iter() {
-        let (got, text) = answer(&rt, rt.alloc(), words, input)?;
-        assert_eq!(&rt; got, *status, "{words:?}");
-        assert_eq!(&rt; text.as_slice(), output.as_bytes(), "{words:?}");
-    }
-    Ok(())
+    are_answered(&rt, rt.alloc(), &ROUNDS)
 }
 
 // The output of a command with the key of zeros, before the line of its count.

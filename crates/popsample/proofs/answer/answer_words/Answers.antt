@@ -1,6 +1,7 @@
 use Rattle.std.proofs.Common.{inl, inr, map, string_bytes}
 use Rattle.popsample.specs.Answers.{ComesOf, IsOutcome}
-use Rattle.pop_words.proofs.JobsInRange.{asked_height, asked_root, asked_size, asked_workers}
+use Rattle.pop_words.proofs.JobsInRange.{asked_height, asked_grow, asked_root, asked_size, asked_workers}
+use Rattle.popsample.proofs.BatchWords.{counted_keyed}
 use Rattle.popsample.proofs.Carrying.{carried, if_ok, passed_on}
 use Rattle.popsample.proofs.Lifting.{of_words, input_of_job, grid_job}
 use Rattle.popsample.proofs.WordResults.{words_refused, words_bad, words_only, words_no_fault, job_low, job_no_usage, job_past_words}
@@ -79,6 +80,10 @@ pub answer_job-requires-clause-short : goal.answer_job-requires-clause-short
 answer_job-requires-clause-short g c κs lives =
     (asked_height (map string_bytes c.args.words.now) c.in_ok-job.job c.in_ok-job.ensures.job).1
 
+pub answer_job-requires-clause-grow : goal.answer_job-requires-clause-grow
+answer_job-requires-clause-grow g c κs lives =
+    asked_grow (map string_bytes c.args.words.now) c.in_ok-job.job c.in_ok-job.ensures.job
+
 pub answer_job-requires-clause-root : goal.answer_job-requires-clause-root
 answer_job-requires-clause-root g c κs lives =
     (asked_root (map string_bytes c.args.words.now) c.in_ok-job.job c.in_ok-job.ensures.job).0
@@ -96,3 +101,8 @@ new-crew-requires-clause-one g c κs lives =
 pub new-crew-requires-clause-few : goal.new-crew-requires-clause-few
 new-crew-requires-clause-few g c κs lives =
     (asked_workers (map string_bytes c.args.words.now) c.in_ok-job.job c.in_ok-job.ensures.job).1
+
+-- a number of samples is asked for beside a key
+pub answer_job-requires-clause-keyed : goal.answer_job-requires-clause-keyed
+answer_job-requires-clause-keyed g c κs lives count is =
+    counted_keyed (map string_bytes c.args.words.now) c.in_ok-job.job c.in_ok-job.ensures.job count is

@@ -16,17 +16,18 @@ returns-in_err-refuse_clash g c =
     subst (IsSound c.args.origin) (c.pairs.ensures ∙ ap pair_weights c.variables-variables.ensures.count)
     c.in_ok-stacks.ensures.sound in
     refused_result
-    (ComesOfSampling (FormulaFacts f.variables) c.args.origin (pair_weights f.variables)
+    (ComesOfSampling (FormulaFacts f.variables) c.args.origin (pair_weights f.variables) c.args.asked.count
     (RunsFormula c.args.may_clash c.args.origin c.args.asked _ f)) c.from_residual-in_err-refuse_clash.result
     c.in_err-refuse_clash.field-0.0 c.from_residual-in_err-refuse_clash.ensures.1
-    (clash_refused c.args.may_clash c.args.origin c.args.asked _ f c.in_ok-events.events c.in_err-refuse_clash.field-0.0
-    sound c.in_ok-events.ensures.events c.in_err-refuse_clash.ensures.clash)
+    (clash_refused c.args.may_clash c.args.origin c.args.asked _ f c.in_ok-events.events c.variables-variables.result
+    c.in_err-refuse_clash.field-0.0 c.variables-variables.ensures.count sound c.in_ok-refuse_too_many.ensures.few
+    c.in_ok-events.ensures.events c.in_err-refuse_clash.ensures.clash)
 
 pub returns : goal.returns
 returns g c =
     let f = c.args.formula.now in
     let n = c.variables-variables.result in
-    let a = c.in_ok-run_and_tell.field-0 in
+    let a = c.in_ok-sample_and_tell.field-0 in
     let sound : IsSound c.args.origin (pair_weights f.variables) =
     subst (IsSound c.args.origin) (c.pairs.ensures ∙ ap pair_weights c.variables-variables.ensures.count)
     c.in_ok-stacks.ensures.sound in
@@ -34,5 +35,6 @@ returns g c =
     c.of_events-instance.ensures
     ∙ ap (λ (s : StackTable). instance_of s.origin n c.in_ok-events.events) c.in_ok-stacks.ensures.made in
     run_answers c.args.may_clash c.args.origin c.args.asked _ n f c.in_ok-events.events c.of_events-instance.result a.status
-    a.text.items c.variables-variables.ensures.count same c.in_ok-events.ensures.events sound c.requires.free
-    c.in_ok-refuse_clash.ensures.extremal c.in_ok-run_and_tell.ensures.ended c.in_ok-run_and_tell.ensures.history
+    a.text.items c.variables-variables.ensures.count same c.in_ok-events.ensures.events sound
+    c.in_ok-refuse_too_many.ensures.few c.requires.free
+    c.in_ok-refuse_clash.ensures.extremal c.in_ok-sample_and_tell.ensures.ended c.in_ok-sample_and_tell.ensures.history

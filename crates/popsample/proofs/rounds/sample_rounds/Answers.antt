@@ -14,8 +14,8 @@ returns g c =
     let count : n ≡ f.variables = c.variables-variables.ensures.count in
     let sound : IsSound c.args.origin (pair_weights f.variables) =
     subst (IsSound c.args.origin) (c.pairs.ensures ∙ ap pair_weights count) c.in_ok-stacks.ensures.sound in
-    let same : c.of_events-instance.result ≡ instance_of c.args.origin n events =
-    c.of_events-instance.ensures
+    let same : c.raised-instance.result ≡ instance_of c.args.origin n events =
+    c.raised-instance.ensures ∙ c.of_events-growing.ensures
     ∙ ap (λ (s : StackTable). instance_of s.origin n events) c.in_ok-stacks.ensures.made in
-    rounds_answer c.args.origin n f events c.of_events-instance.result a.status a.text.items count same
+    rounds_answer c.args.origin n f events c.raised-instance.result a.status a.text.items count same
     c.in_ok-events.ensures.events sound c.in_ok-round_and_tell.ensures

@@ -6,15 +6,14 @@ use Rattle.popsample.proofs.running.tell_run.Goals as goal
 -- the run kept its log
 pub returns-in-Some : goal.returns-in-Some
 returns-in-Some g c =
-    let run = c.args.run.now in
-    kept_result c.args.asked _ c.args.names.now c.args.instance.now (asks_for_log c.args.asked) run.end.cursors
-    run.end.pops run.end.stuck run.log c.in-Some.log c.text_of_log.result c.in-Some.is c.requires.run
-    c.text_of_log.ensures
+    let end = c.args.end.now in
+    kept_result c.args.asked _ c.args.names.now c.args.instance.now (asks_for_log c.args.asked) end.cursors end.pops
+    end.stuck c.args.log c.in-Some.log c.text_of_log.result c.in-Some.is c.requires.run c.text_of_log.ensures
 
 -- it didn't, since nothing of it is asked for
 pub returns-in-None : goal.returns-in-None
 returns-in-None g c =
-    let run = c.args.run.now in
-    unkept_result c.args.asked _ c.args.names.now c.args.instance.now (asks_for_log c.args.asked) run.end.cursors
-    run.end.pops run.end.stuck run.log c.nothing.result c.in-None.is refl c.units-units.ensures.instance c.requires.run
+    let end = c.args.end.now in
+    unkept_result c.args.asked _ c.args.names.now c.args.instance.now (asks_for_log c.args.asked) end.cursors end.pops
+    end.stuck c.args.log c.nothing.result c.in-None.is refl c.units-units.ensures.instance c.requires.run
     c.nothing.ensures.there c.nothing.ensures.none

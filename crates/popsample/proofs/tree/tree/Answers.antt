@@ -1,4 +1,5 @@
 use Rattle.std.proofs.Common.{arith}
+use Rattle.popsample.proofs.GoodForms.{tree_result}
 use Rattle.popsample.proofs.MadeInstances.{told_tree, fits_tree}
 use Rattle.popsample.proofs.tree.tree.Goals as goal
 
@@ -15,3 +16,11 @@ sample_arrows-requires-clause-facts g c κs within =
       last = omega (arith, c.vertices.ensures.count, c.if-root-vertices.false);
     })
     c.in_ok-arrows.ensures.weights c.in_ok-arrows.ensures.arrows
+
+-- the arrows and weights are those of the graph's trees
+pub returns : goal.returns
+returns g c =
+    tree_result c.args.origin c.args.asked _ c.args.root c.args.graph c.in_ok-arrows.weights c.in_ok-arrows.arrows
+    c.sample_arrows.result c.in_ok-arrows.ensures.weights c.in_ok-arrows.ensures.arrows
+    (omega (arith, c.vertices.ensures.count, c.if-root-vertices.false)) c.in_ok-arrows.ensures.connected
+    c.sample_arrows.ensures

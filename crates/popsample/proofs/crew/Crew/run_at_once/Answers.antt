@@ -1,7 +1,7 @@
 use Rattle.std.proofs.Common.{IfOk, subst}
 use Rattle.confluence_core.specs.Kept.{keeps_log}
 use Rattle.confluence_core.specs.Runs.{IsRunOf}
-use Rattle.popsample.proofs.crew.Crew.run.Goals as goal
+use Rattle.popsample.proofs.crew.Crew.run_at_once.Goals as goal
 
 -- the run begins at zeros
 pub returns : goal.returns

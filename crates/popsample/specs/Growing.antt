@@ -1,0 +1,19 @@
+-- Stacks that begin with a height and grow to another one.
+use Rattle.std.specs.Prelude.{ℕ, ◌<◌, ◌≤◌, ◌^◌, Option, None, Some, ⊤}
+use Rattle.pop_model.specs.Stacks.{StackTable, height_of, IsKeyed, stacks_raised}
+use Rattle.pop_model.specs.Instances.{Instance, instance_raised}
+
+-- the stacks at the height to which they grow, if they do
+abbrev pub grown : Option ℕ → StackTable → StackTable
+grown None s = s
+grown (Some last) s = stacks_raised last s
+
+-- the instance at that height
+abbrev pub instance_grown : Option ℕ → Instance → Instance
+instance_grown None i = i
+instance_grown (Some last) i = instance_raised last i
+
+-- the stacks may grow to the height: they are keyed, and not higher
+abbrev pub MayGrowTo : Option ℕ → StackTable → Type 0
+MayGrowTo None s = ⊤
+MayGrowTo (Some last) s = IsKeyed s.origin × ((v : ℕ) → height_of s v ≤ last) × (last < 2 ^ 31)
