@@ -4,18 +4,30 @@
 # The options of a command.
 _popsample_options() {
     case $1 in
-        formula | orient) echo --stacks --key --height --workers --board --log --witness --report ;;
-        tree) echo --stacks --key --height --workers --board --root --log --witness --report ;;
-        resample) echo --stacks --key --height --workers --board --witness --report ;;
-        make) echo --stacks --key --height --workers --board grid --log --witness --report ;;
+        formula | orient) echo --stacks --key --height --grow --workers --board --log --witness --report --count ;;
+        tree) echo --stacks --key --height --grow --workers --board --root --log --witness --report --count ;;
+        resample) echo --stacks --key --height --grow --workers --board --witness --report ;;
+        make) echo --stacks --key --height --grow --workers --board grid --log --witness --report ;;
         rounds) echo --stacks --key --height ;;
+    esac
+}
+
+# The options beside which an option can't stand: itself, and what it excludes.
+_popsample_apart() {
+    case $1 in
+        --stacks) echo --stacks --key --height --grow --count ;;
+        --key | --height) echo "$1" --stacks ;;
+        --grow) echo --grow --stacks --count ;;
+        --count) echo --count --stacks --grow --workers --board --log --witness --report ;;
+        --workers | --board | --log | --witness | --report) echo "$1" --count ;;
+        *) echo "$1" ;;
     esac
 }
 
 # The words that may stand behind a word: the commands, the options that don't stand yet and aren't excluded, or the
 # values of one.
 _popsample() {
-    local word=${COMP_WORDS[COMP_CWORD]} before=${COMP_WORDS[COMP_CWORD - 1]} standing option choices=""
+    local word=${COMP_WORDS[COMP_CWORD]} before=${COMP_WORDS[COMP_CWORD - 1]} standing option other choices=""
     standing=" ${COMP_WORDS[*]:2:COMP_CWORD-2} "
     if ((COMP_CWORD == 1)); then
         choices="formula orient tree resample check make rounds"
@@ -27,11 +39,10 @@ _popsample() {
         choices="on off"
     elif ((COMP_CWORD % 2 == 0)); then
         for option in $(_popsample_options "${COMP_WORDS[1]}"); do
-            case $option in
-                --stacks) [[ $standing =~ " --stacks "|" --key "|" --height " ]] || choices+=" $option" ;;
-                --key | --height) [[ $standing =~ " --stacks "|" $option " ]] || choices+=" $option" ;;
-                *) [[ $standing == *" $option "* ]] || choices+=" $option" ;;
-            esac
+            for other in $(_popsample_apart "$option"); do
+                [[ $standing == *" $other "* ]] && continue 2
+            done
+            choices+=" $option"
         done
     fi
     mapfile -t COMPREPLY < <(compgen -W "$choices" -- "$word")

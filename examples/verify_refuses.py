@@ -26,13 +26,15 @@ STANDARD_WORDS = (0xE4E7F110, 0x15593BD1, 0x1FDD0F50, 0xC47120A3)
 # Outputs that are right in themselves, of runs that are wrong: one stops where an event can be popped, one pops
 # what doesn't occur, and one begins at a later entry; four tell a legal log that isn't layered, by its order or by its
 # numbers, one in the order of the pops, and one for another; two end with what is no sample. Of the rounds one lets no
-# event join, and one moves a variable of an excluded event.
+# event join, and one moves a variable of an excluded event. A batch tells sample 0 for each, and one is cut short.
 ONE = b"p cnf 1 1\n1 0\n"
 TWO = b"p cnf 2 2\n1 0\n2 0\n"
 TWO_TOLD = b"s SAMPLE\nv 1 2 0\nused 2 1\npops 3\nlog 2 3\n"
 AGREEING = b"p cnf 3 2\n1 2 0\n2 3 0\n"
 DIFFERING = b"p cnf 3 2\n1 2 0\n-2 3 0\n"
 TRIANGLE = b"p edge 3 3\ne 1 2\ne 2 3\ne 1 3\n"
+BATCH = "formula --height 2 --count 2 --key " + 63 * "0" + "1"
+SAMPLED = b"s SAMPLE\nv 1 0\nused 0\npops 0\n"
 FALSE_RUNS = (
     ("resample --stacks 0,0,1", ONE, b"s EXHAUSTED\nstuck 1\nused 1\npops 1\nlog 2 1\npop 1 1 1:0\n", 1),
     ("resample --stacks 1,1", ONE, b"s SAMPLE\nv 1 0\nused 1\npops 1\nlog 2 1\npop 1 1 1:0\n", 0),
@@ -46,6 +48,8 @@ FALSE_RUNS = (
     ("tree --stacks 1,0;0,0", TRIANGLE, b"s SAMPLE\na 2 3 2\na 3 2 2\nused 0 0\npops 0\n", 0),
     ("rounds --stacks 0,1;0,0;1,1", AGREEING, b"s SAMPLE\nv 1 -2 3 0\nused 1 1 0\nrounds 1\n", 0),
     ("rounds --stacks 0,1;0,0;0,0", DIFFERING, b"s SAMPLE\nv 1 -2 -3 0\nused 1 1 1\nrounds 1\n", 0),
+    (BATCH, ONE, b"batch 2\nsample 0\n" + SAMPLED + b"sample 1\n" + SAMPLED, 0),
+    (BATCH, ONE, b"batch 1\nsample 0\n" + SAMPLED, 0),
 )
 
 
@@ -69,7 +73,8 @@ def changed_lines(example: Example) -> Iterator[Example]:
         turned = lines[:place] + lines[place:place + 2][::-1] + lines[place + 2:]
         if turned != lines:
             yield example._replace(printed=b"".join(turned))
-    yield example._replace(status=example.status + 1)
+    for status in {example.status + 1, abs(example.status - 1)}:
+        yield example._replace(status=status)
 
 
 def is_accepted(example: Example) -> bool:

@@ -13,18 +13,25 @@ from .refusals import Refusal
 from .rounds import run_rounds
 from .runs import Board, Record
 from .stacks import Stacks
+from .text import check_limit
 from .trees import TreeSetting
 from .witnesses import witness_lines
 
 Setting = Union[FormulaSetting, OrientationSetting, TreeSetting]
 
 
+MOST_VALUES = 33554432
+
+
 class Answer(NamedTuple):
-    """A status and the printed lines; and the setting, where they have a sample that can be read off them."""
+    """A status and the printed lines; and where these have samples that can be read off them, the setting, and before
+    which line each end begins.
+    """
 
     status: int
     lines: list[str]
     setting: Union[Setting, None] = None
+    ends: tuple[int, ...] = (0,)
 
 
 def setting_of(job: Job, text: bytes) -> Setting:
@@ -63,10 +70,25 @@ def made_end_of(setting: TreeSetting, board: Board, pops: int, side: int) -> Ans
     return Answer(0, ["s SAMPLE", f"grid {side}", *middle, f"sum {setting.made_sum(board.values)}"])
 
 
+def batch_of(job: Job, setting: Setting, stacks: Stacks) -> Answer:
+    """The ends of the runs on the samples from 0 on, each behind its number."""
+    lines = [f"batch {job.count}"]
+    status, ends = 0, []
+    for sample in range(job.count or 0):
+        board = Board(setting.family, stacks.for_sample(sample), len(setting.names))
+        end = end_of(setting, board, f"pops {len(board.run_first())}")
+        lines.append(f"sample {sample}")
+        if end.setting:
+            ends.append(len(lines))
+        lines += end.lines
+        status = max(status, end.status)
+    return Answer(status, lines, setting, tuple(ends))
+
+
 def with_history(job: Job, names: list[int], board: Board, records: list[Record], end: Answer) -> Answer:
     """The end of a run with these records, and behind it the log, the witness and the reports that are asked for."""
     log = layered(records)
-    status, lines, sampled = end
+    status, lines, sampled, _ = end
     if job.log:
         lines += log_lines(log, names)
     if job.witness:
@@ -95,9 +117,13 @@ def run_of(job: Job, text: bytes, printed: list[str]) -> Answer:
     if job.command == "check":
         refuse_clash(setting)
         return Answer(0, [f"s EXTREMAL {len(setting.family.events)}"])
+    if job.count:
+        check_limit(job.count * len(setting.names), MOST_VALUES, 9, job.count)
     stacks = Stacks(job, setting.names, setting.weights)
     if job.command == "formula":
         refuse_clash(setting)
+    if job.count:
+        return batch_of(job, setting, stacks)
     board = Board(setting.family, stacks, len(setting.names))
     if job.command == "rounds":
         return rounded(setting, board)

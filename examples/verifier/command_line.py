@@ -9,23 +9,29 @@ from .refusals import Refusal
 
 MOST = 4294967295
 STACKED = {"--stacks", "--key", "--height"}
-SAMPLED = STACKED | {"--workers", "--board"}
+SAMPLED = STACKED | {"--grow", "--workers", "--board"}
 TOLD = {"--witness", "--report"}
 LOGGED = SAMPLED | TOLD | {"--log"}
+BATCHED = LOGGED | {"--count"}
 OPTIONS = {
-    "formula": LOGGED,
-    "orient": LOGGED,
-    "tree": LOGGED | {"--root"},
+    "formula": BATCHED,
+    "orient": BATCHED,
+    "tree": BATCHED | {"--root"},
     "resample": SAMPLED | TOLD,
     "check": set(),
     "make": LOGGED | {"grid"},
     "rounds": STACKED,
 }
-EXCLUDED = {"--stacks": {"--key", "--height"}, "--key": {"--stacks"}, "--height": {"--stacks"}}
+# Each pair of options that don't stand together: none of the second ones beside the first.
+APART = {
+    frozenset((name, other)) for name, others in (
+        ("--stacks", {"--key", "--height", "--grow"}),
+        ("--count", LOGGED - {"--key", "--height"}))
+    for other in others}
 
 
 class Job(NamedTuple):
-    """What a command line asks for. Without rows the entries come from the key."""
+    """What a command line asks for. Without rows the entries come from the key, and `height` is the last height."""
 
     command: str
     rows: Optional[list[list[int]]]
@@ -36,6 +42,7 @@ class Job(NamedTuple):
     reports: list[str]
     side: int
     log: bool
+    count: Optional[int]
 
 
 def read_number(word: str, least: int = 0, most: int = MOST) -> int:
@@ -88,12 +95,14 @@ READERS = {
     "--stacks": read_rows,
     "--key": read_key,
     "--height": lambda word: read_number(word, 1, 2147483647),
+    "--grow": lambda word: read_number(word, 1, 2147483647),
     "--workers": lambda word: read_number(word, 1, 64),
     "--board": one_of("words", "lock"),
     "--root": lambda word: read_number(word, 1),
     "--log": one_of("on", "off"),
     "--witness": read_witness,
     "--report": read_reports,
+    "--count": lambda word: read_number(word, 1, 65536),
     "grid": lambda word: read_number(word, 1, 2048),
 }
 
@@ -108,7 +117,8 @@ def read_options(command: str, words: list[str]) -> dict:
     given: dict = {}
     for index in range(1, len(words), 2):
         name = words[index]
-        if name not in OPTIONS[command] or name in given or EXCLUDED.get(name, set()) & set(given):
+        is_apart = any(frozenset((name, other)) in APART for other in given)
+        if name not in OPTIONS[command] or name in given or is_apart:
             refuse(index + 1)
         if index + 1 == len(words):
             refuse(index + 2)
@@ -126,7 +136,9 @@ def read_words(words: list[str]) -> Job:
     given = read_options(words[0], words)
     if words[0] == "make" and "grid" not in given:
         refuse(len(words) + 1)
+    # Stages at lesser heights don't show in the answer.
+    height = given.get("--grow", given.get("--height", 1048576))
     return Job(
-        words[0], given.get("--stacks"), given.get("--key", bytes(32)), given.get("--height", 1048576),
+        words[0], given.get("--stacks"), given.get("--key", bytes(32)), height,
         given.get("--root", 1), given.get("--witness"), given.get("--report", []), given.get("grid", 0),
-        words[0] == "resample" or given.get("--log") == "on")
+        words[0] == "resample" or given.get("--log") == "on", given.get("--count"))

@@ -25,6 +25,15 @@ def compare(lines: list[str], wanted: list[str]) -> None:
         raise Difference(len(lines) + 1, f"`{wanted[len(lines)]}` is missing")
 
 
+def check_samples(lines: list[str], wanted: Answer) -> None:
+    """Reads off the lines alone that they tell samples, where they are to."""
+    for end in wanted.ends if wanted.setting else ():
+        try:
+            wanted.setting.check_sample(lines[end:])
+        except Difference as difference:
+            raise difference.moved(end) from difference
+
+
 def answer_that_is_unmade(words: list[str]) -> bool:
     """Whether the words can't be made: one isn't UTF-8."""
     return any("\udc80" <= letter <= "\udcff" for word in words for letter in word)
@@ -38,7 +47,6 @@ def judge(printed: bytes, status: int, words: list[str], text: bytes) -> None:
     else:
         wanted = answer_to(words, text, lines)
     compare(lines, wanted.lines)
-    if wanted.setting:
-        wanted.setting.check_sample(lines)
+    check_samples(lines, wanted)
     if status != wanted.status:
         raise Difference(len(lines) + 1, f"the status is {status}, and {wanted.status} is right")

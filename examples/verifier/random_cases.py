@@ -12,7 +12,7 @@ ODD_VALUES = (
     "totals,totals words lock").split()
 ODD_OPTIONS = (
     ["--root", "1"], ["--key", "0" * 64], ["grid", "2"], ["--workers", "1"], ["--board", "lock"],
-    ["--report", "totals"], ["--log", "on"])
+    ["--report", "totals"], ["--log", "on"], ["--grow", "3"], ["--count", "2"])
 REPORTS = ("totals", "heights", "layers")
 
 
@@ -92,6 +92,18 @@ def named_variables(text: bytes, command: str) -> int:
     return max(0, number - (command == "tree"))
 
 
+def keyed_options(chance: Random) -> list[list[str]]:
+    """A key and a height."""
+    return [
+        ["--key", "".join(chance.choices("0123456789abcdefABCDEF", k=64))],
+        ["--height", str(chance.choice((1, 2, 3, 8, 40)))]]
+
+
+def grown_options(chance: Random) -> list[list[str]]:
+    """A key, and mostly a height; of this and the last height either may be the lesser."""
+    return [["--grow", str(chance.choice((1, 2, 3, 8, 40)))], *keyed_options(chance)[:chance.choice((1, 2, 2, 2))]]
+
+
 def history_options(chance: Random, command: str, variables: int) -> list[list[str]]:
     """What is asked of the log: of `resample` mostly much."""
     often = 0.7 if command == "resample" else 0.3
@@ -105,23 +117,35 @@ def history_options(chance: Random, command: str, variables: int) -> list[list[s
     return options
 
 
-def random_words(chance: Random, command: str, variables: int) -> list[str]:
-    """A command line, mostly a right one. Heights are small, since the checker is slow."""
-    options = []
+def run_options(chance: Random, command: str, variables: int) -> list[list[str]]:
+    """The options of one run."""
     if chance.random() < 0.4:
         wrong = chance.choice((0, 0, 0, 0, 0, 0, 1, -1))
-        options.append(["--stacks", rows_word(chance, max(0, variables + wrong))])
+        options = [["--stacks", rows_word(chance, max(0, variables + wrong))]]
+    elif command != "rounds" and chance.random() < 0.4:
+        options = grown_options(chance)
     else:
-        options.append(["--height", str(chance.choice((1, 2, 3, 8, 40)))])
-        options.append(["--key", "".join(chance.choices("0123456789abcdefABCDEF", k=64))])
+        options = keyed_options(chance)
     if command != "rounds" and chance.random() < 0.3:
         options.append(["--workers", str(chance.choice((1, 2, 3, 8)))])
     if command != "rounds" and chance.random() < 0.3:
         options.append(["--board", chance.choice(("words", "lock"))])
-    if command == "tree" and chance.random() < 0.5:
-        options.append(["--root", str(chance.randint(1, variables + 2))])
     if command != "rounds":
         options += history_options(chance, command, variables)
+    return options
+
+
+def batch_options(chance: Random) -> list[list[str]]:
+    """The options of a batch."""
+    return [["--count", str(chance.choice((1, 2, 3, 5)))], *keyed_options(chance)]
+
+
+def random_words(chance: Random, command: str, variables: int) -> list[str]:
+    """A command line, mostly a right one. Heights are small, since the checker is slow."""
+    is_batch = command in ("formula", "orient", "tree") and chance.random() < 0.2
+    options = batch_options(chance) if is_batch else run_options(chance, command, variables)
+    if command == "tree" and chance.random() < 0.5:
+        options.append(["--root", str(chance.randint(1, variables + 2))])
     chance.shuffle(options)
     return [command, *(word for option in options for word in option)]
 
@@ -159,6 +183,6 @@ def random_case(chance: Random) -> tuple[list[str], bytes]:
         words[place:place] = ["grid", str(side)]
     if chance.random() < 0.1:
         words = changed_words(chance, words)
-    if not {"check", "--stacks", "--height"} & set(words):
+    if not {"check", "--stacks", "--height", "--grow"} & set(words):
         words += ["--height", "7"]
     return words, text

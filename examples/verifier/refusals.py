@@ -17,3 +17,9 @@ class Difference(Exception):
 
     def __init__(self, line: int, message: str) -> None:
         super().__init__(f"line {line}: {message}")
+        self.line = line
+        self.message = message
+
+    def moved(self, lines: int) -> Difference:
+        """The same, so many lines later."""
+        return Difference(self.line + lines, self.message)

@@ -2,6 +2,7 @@
 
 from __future__ import annotations
 
+from copy import copy
 from itertools import accumulate
 
 from .chacha import drawn_number
@@ -10,16 +11,23 @@ from .refusals import Refusal
 
 
 class Stacks:
-    """The stacks of a job. `weights[v][j]` is the weight of value j of variable v."""
+    """The stacks of a job, for one of its samples. `weights[v][j]` is the weight of value j of variable v."""
 
     def __init__(self, job: Job, names: list[int], weights: list[list[int]]) -> None:
         self.job = job
+        self.sample = 0
         if job.rows is not None:
             check_rows(job.rows, names, weights)
         self.sums = [list(accumulate(each)) for each in weights]
         for name, sums in zip(names, self.sums):
             if sums and sums[-1] > 4294967295:
                 raise Refusal(4, f"s LIMIT 6 {name}")
+
+    def for_sample(self, sample: int) -> Stacks:
+        """The stacks of another sample under the same key."""
+        other = copy(self)
+        other.sample = sample
+        return other
 
     def height(self, variable: int) -> int:
         """How many entries the stack of a variable has."""
@@ -30,7 +38,8 @@ class Stacks:
         if self.job.rows is not None:
             return self.job.rows[variable][place]
         sums = self.sums[variable]
-        drawn = drawn_number(self.job.key, variable, place) * sums[-1] >> 64
+        stream = (self.sample << 32) + variable
+        drawn = drawn_number(self.job.key, stream, place) * sums[-1] >> 64
         return next(value for value, total in enumerate(sums) if total > drawn)
 
 

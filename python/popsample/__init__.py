@@ -29,12 +29,13 @@ from .errors import (
     Refusal,
     Root,
     Rows,
+    TooManySamples,
     Usage,
     Value,
     WriteFault,
 )
-from .formulas import check, resample, rounds, sample_formula
-from .graphs import sink_free_orientation, spanning_tree, spanning_trees
+from .formulas import check, formula_samples, resample, rounds, sample_formula
+from .graphs import sink_free_orientation, sink_free_orientations, spanning_tree, spanning_trees
 from .keys import derived_key, draw_key
 from .program import find_program
 from .results import (
@@ -77,6 +78,7 @@ __all__ = [
     "Root",
     "Rounded",
     "Rows",
+    "TooManySamples",
     "Totals",
     "Tree",
     "Usage",
@@ -87,10 +89,12 @@ __all__ = [
     "derived_key",
     "draw_key",
     "find_program",
+    "formula_samples",
     "resample",
     "rounds",
     "sample_formula",
     "sink_free_orientation",
+    "sink_free_orientations",
     "spanning_tree",
     "spanning_trees",
 ]

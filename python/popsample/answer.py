@@ -2,7 +2,8 @@
 
 from __future__ import annotations
 
-from collections.abc import Sequence
+import re
+from collections.abc import Iterator, Sequence
 from dataclasses import dataclass
 
 
@@ -45,3 +46,14 @@ def read_answer(words: Sequence[str], status: int, text: bytes) -> Answer:
         if row:
             lines.setdefault(row[0], []).append(row[1:])
     return Answer(words, status, lines)
+
+
+def read_batch(words: Sequence[str], text: bytes) -> Iterator[Answer]:
+    """The answers that the text of a batch tells, one for each sample, as of runs by themselves."""
+    heads = re.finditer(rb"^sample [0-9]+\n", text, re.MULTILINE)
+    begin = next(heads, None)
+    while begin:
+        behind = next(heads, None)
+        told = text[begin.end() : behind.start() if behind else None]
+        yield read_answer(words, 0 if told.startswith(b"s SAMPLE\n") else 1, told)
+        begin = behind

@@ -68,6 +68,7 @@ class Exhausted(Refusal):
     numbers of popped entries, in the order of the variables, `pops` that of the pops, and `log` the pops where they are
     told.
     Of rounds `pops` is None, `rounds` tells how many there were, and `short` is the variable that has no next entry.
+    `sample` is the number of the run's sample: 0, but in a batch.
     """
 
     status = 1
@@ -94,6 +95,7 @@ class Exhausted(Refusal):
         self.log = tuple(log)
         self.rounds = rounds
         self.short = short
+        self.sample = 0
 
 
 class Usage(Refusal):
@@ -199,6 +201,21 @@ class Limit(Refusal):
         super().__init__(WHICH=LIMITS.get(kind, f"kind {kind}"), PLACE=where)
         self.kind = kind
         self.place = place
+
+
+class TooManySamples(Refusal):
+    """So many samples (`count`) of the input have too many variables together."""
+
+    status = 4
+    form = "s LIMIT 9 N"
+    sentence = (
+        "N samples of this input have more than 33554432 variables together: ask for fewer at a time, under a key for "
+        "each time."
+    )
+
+    def __init__(self, count: int) -> None:
+        super().__init__(N=count)
+        self.count = count
 
 
 class Clash(Refusal):

@@ -4,12 +4,13 @@ from __future__ import annotations
 
 import operator
 import os
-from collections.abc import Iterable, Sequence
+from collections.abc import Iterable, Iterator, Sequence
 from dataclasses import replace
 from pathlib import Path
 from typing import Any, Union
 
 from .answer import Answer
+from .batches import Batch
 from .history import Asked
 from .program import origin_words, stack_words
 from .refusing import ask
@@ -52,6 +53,7 @@ def sample_formula(
     workers: int = 1,
     *,
     height: int | None = None,
+    grow: int | None = None,
     stacks: Stacks | None = None,
     log: bool = False,
     witness: tuple[int, int] | None = None,
@@ -64,18 +66,41 @@ def sample_formula(
     `Clash` is raised where it isn't.
 
     `key` has 64 hexadecimal digits, and is drawn from the system's randomness where it is None. `height` is the number
-    of entries of each variable, and `stacks` gives rows of entries in place of a key. `workers` changes no result.
+    of entries of each variable, and `stacks` gives rows of entries in place of a key. With `grow` the run is made in
+    stages, at heights from `height` on that double up to `grow`, and the result is that of the height `grow`. `workers`
+    changes no result.
 
     With `log` the result has the log of the pops. `witness` is the number of a variable and one of its entries, from 0:
     the result has the witness tree of the pop that used it. `reports` names what is reported on the log: `totals`,
     `heights` and `layers`.
     """
-    key, words = origin_words(key, workers, height, stacks)
+    key, words = origin_words(key, workers, height, grow, stacks)
     asked = Asked(log, witness, reports)
     subject = formula_subject(clauses)
     answer = ask(["formula", *words, *asked.words(subject.variables)], subject, key)
-    literals = tuple(answer.numbers("v")[:-1])
-    return Assignment(literals, used_of(answer), answer.pops(), key, **asked.told(answer, subject))
+    return replace(assignment_of(answer, key), **asked.told(answer, subject))
+
+
+def formula_samples(
+    clauses: Formula,
+    count: int,
+    key: str | None = None,
+    *,
+    height: int | None = None,
+) -> Iterator[Assignment]:
+    """Samples so many satisfying assignments of an extremal formula, by one run of the program on all processors.
+
+    They have the numbers from 0 on, as `sample`, and assignment 0 is that of `sample_formula` under the key. A longer
+    batch begins with a shorter one. Where the run of one is exhausted, `Exhausted` is raised in its place, and the next
+    call goes on behind it. There are at most 65536; `TooManySamples` is raised where they have more than 33554432
+    variables together. The other arguments are those of `sample_formula`.
+    """
+    return Batch(["formula"], formula_subject(clauses), count, key, height, assignment_of)
+
+
+def assignment_of(answer: Answer, key: str | None, sample: int = 0) -> Assignment:
+    """The assignment of an answer."""
+    return Assignment(tuple(answer.numbers("v")[:-1]), used_of(answer), answer.pops(), key, sample)
 
 
 def resample(
@@ -84,6 +109,7 @@ def resample(
     workers: int = 1,
     *,
     height: int | None = None,
+    grow: int | None = None,
     stacks: Stacks | None = None,
     witness: tuple[int, int] | None = None,
     reports: Sequence[str] = (),
@@ -96,7 +122,7 @@ def resample(
     The arguments are those of `sample_formula`, but that the log is always told, and `NoWitness` is raised where no pop
     used the entry of `witness`.
     """
-    key, words = origin_words(key, workers, height, stacks)
+    key, words = origin_words(key, workers, height, grow, stacks)
     asked = Asked(False, witness, reports)
     subject = formula_subject(clauses)
     answer = ask(["resample", *words, *asked.words(subject.variables)], subject, key)

@@ -3,12 +3,14 @@
 from __future__ import annotations
 
 from collections.abc import Hashable, Iterable, Iterator, Sequence
+from dataclasses import replace
+from functools import partial
 from typing import Any
 
 from .answer import Answer
+from .batches import Batch
 from .graph_input import GraphInput, read_graph
 from .history import Asked, place_of
-from .keys import derived_key, draw_key
 from .program import origin_words
 from .refusing import ask
 from .results import Arrow, Orientation, Tree
@@ -24,6 +26,7 @@ def spanning_tree(
     workers: int = 1,
     *,
     height: int | None = None,
+    grow: int | None = None,
     stacks: Stacks | None = None,
     log: bool = False,
     witness: tuple[Hashable, int] | None = None,
@@ -40,14 +43,20 @@ def spanning_tree(
     seen.
 
     `key` has 64 hexadecimal digits, and is drawn from the system's randomness where it is None. `height` is the number
-    of entries of each vertex, and `stacks` gives rows of entries in place of a key. `workers` changes no result.
+    of entries of each vertex, and `stacks` gives rows of entries in place of a key. With `grow` the run is made in
+    stages, at heights from `height` on that double up to `grow`, and the result is that of the height `grow`. `workers`
+    changes no result.
 
     With `log` the result has the log of the pops. `witness` is a vertex and one of its entries, from 0: the result has
     the witness tree of the pop that used it. `reports` names what is reported on the log: `totals`, `heights` and
     `layers`.
     """
-    key, words = origin_words(key, workers, height, stacks)
-    return tree_of(read_graph(graph, weight), root, key, words, Asked(log, witness, reports))
+    key, words = origin_words(key, workers, height, grow, stacks)
+    given = read_graph(graph, weight)
+    asked = Asked(log, witness, reports)
+    subject = given.subject(given.vertices, root)
+    answer = ask(["tree", *words, *asked.words(given.vertices), *root_words(given, root)], subject, key)
+    return replace(tree_of(given, root, answer, key), **asked.told(answer, subject))
 
 
 def spanning_trees(
@@ -56,29 +65,33 @@ def spanning_trees(
     root: Hashable = None,
     weight: str | None = None,
     key: str | None = None,
-    workers: int = 1,
+    *,
+    height: int | None = None,
 ) -> Iterator[Tree]:
-    """Samples so many spanning trees, one by one. The other arguments are those of `spanning_tree`.
+    """Samples so many spanning trees, by one run of the program on all processors.
 
-    Tree number J, from 0, is that of `spanning_tree` under the key `derived_key(key, J)`, which it carries: so each
-    can be had again by itself, and all of them by the one key, which is drawn where it is None.
+    They have the numbers from 0 on, as `sample`, and tree 0 is that of `spanning_tree` under the key. A longer batch
+    begins with a shorter one. Where the run of one is exhausted, `Exhausted` is raised in its place, and the next call
+    goes on behind it. There are at most 65536; `TooManySamples` is raised where they have more than 33554432 variables
+    together. The other arguments are those of `spanning_tree`.
     """
-    seed = draw_key() if key is None else key
-    keys = (derived_key(seed, number) for number in range(count))
     given = read_graph(graph, weight)
-    asked = Asked(False, None, ())
-    return (tree_of(given, root, *origin_words(each, workers, None, None), asked) for each in keys)
+    words = ["tree", *root_words(given, root)]
+    return Batch(words, given.subject(given.vertices, root), count, key, height, partial(tree_of, given, root))
 
 
-def tree_of(given: GraphInput, root: Hashable, key: str | None, words: Sequence[str], asked: Asked) -> Tree:
-    """The spanning tree of a graph under these words, and the root of that name."""
+def root_words(given: GraphInput, root: Hashable) -> list[str]:
+    """The words that ask for the root of that name, or for the first vertex."""
     place = 0 if root is None else place_of(root, given.vertices)
-    subject = given.subject(given.vertices, root)
-    answer = ask(["tree", *words, *asked.words(given.vertices), "--root", str(place + 1)], subject, key)
+    return ["--root", str(place + 1)]
+
+
+def tree_of(given: GraphInput, root: Hashable, answer: Answer, key: str | None, sample: int = 0) -> Tree:
+    """The spanning tree of an answer, in a graph with the root of that name."""
     arrows = arrows_of(answer, given)
     used = dict(zip((arrow.tail for arrow in arrows), answer.numbers("used")))
     name = root if root is not None else given.vertices[0]
-    return Tree(name, arrows, used, answer.pops(), key, given.directed(arrows), **asked.told(answer, subject))
+    return Tree(name, arrows, used, answer.pops(), key, given.directed(arrows), sample)
 
 
 def arrows_of(answer: Answer, given: GraphInput) -> tuple[Arrow, ...]:
@@ -94,6 +107,7 @@ def sink_free_orientation(
     workers: int = 1,
     *,
     height: int | None = None,
+    grow: int | None = None,
     stacks: Stacks | None = None,
     log: bool = False,
     witness: tuple[Hashable, int] | None = None,
@@ -107,10 +121,31 @@ def sink_free_orientation(
     it, and one of its entries. The other arguments are those of `spanning_tree`.
     """
     given = read_graph(graph)
-    key, words = origin_words(key, workers, height, stacks)
+    key, words = origin_words(key, workers, height, grow, stacks)
     asked = Asked(log, witness, reports)
     subject = given.subject(given.edges)
     answer = ask(["orient", *words, *asked.words(given.edges)], subject, key)
+    return replace(orientation_of(given, answer, key), **asked.told(answer, subject))
+
+
+def sink_free_orientations(
+    graph: Any,
+    count: int,
+    key: str | None = None,
+    *,
+    height: int | None = None,
+) -> Iterator[Orientation]:
+    """Samples so many orientations in which some edge leaves each vertex, by one run of the program.
+
+    Their numbers, and what is raised, are as for `spanning_trees`. The other arguments are those of
+    `sink_free_orientation`.
+    """
+    given = read_graph(graph)
+    return Batch(["orient"], given.subject(given.edges), count, key, height, partial(orientation_of, given))
+
+
+def orientation_of(given: GraphInput, answer: Answer, key: str | None, sample: int = 0) -> Orientation:
+    """The orientation of an answer, of a graph."""
     arrows = arrows_of(answer, given)
     used = dict(zip((arrow.edge for arrow in arrows), answer.numbers("used")))
-    return Orientation(arrows, used, answer.pops(), key, given.directed(arrows), **asked.told(answer, subject))
+    return Orientation(arrows, used, answer.pops(), key, given.directed(arrows), sample)

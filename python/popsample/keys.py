@@ -12,7 +12,7 @@ def draw_key() -> str:
 
 
 def derived_key(key: str, number: int) -> str:
-    """The key of sample `number`, from 0, under a key.
+    """The key of job `number`, from 0, under a key: so one key serves many jobs, on many machines.
 
     It is the SHA-256 hash of 40 bytes: the 32 bytes of the key, and then the number in 8 bytes, the least byte first.
     Raises ValueError where the key isn't 64 hexadecimal digits, and OverflowError where the number doesn't fit.

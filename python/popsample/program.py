@@ -29,10 +29,15 @@ def find_program() -> str:
     return str(found)
 
 
-def call(words: Sequence[str], text: bytes) -> Answer:
-    """Runs the program with these words and this input."""
+def printed(words: Sequence[str], text: bytes) -> tuple[int, bytes]:
+    """Runs the program with these words and this input: its status, and what it prints."""
     ran = subprocess.run([find_program(), *words], input=text, stdout=subprocess.PIPE)
-    return read_answer(words, ran.returncode, ran.stdout)
+    return ran.returncode, ran.stdout
+
+
+def call(words: Sequence[str], text: bytes) -> Answer:
+    """The answer to these words and this input."""
+    return read_answer(words, *printed(words, text))
 
 
 def stack_words(
@@ -52,8 +57,10 @@ def stack_words(
 
 
 def origin_words(
-    key: str | None, workers: int, height: int | None, stacks: Iterable[Iterable[int]] | None
+    key: str | None, workers: int, height: int | None, grow: int | None, stacks: Iterable[Iterable[int]] | None
 ) -> tuple[str | None, list[str]]:
-    """The same, and the words that say how many workers share the pops."""
+    """The same, and the words that say up to which height stacks grow, and how many workers share the pops."""
     key, words = stack_words(key, height, stacks)
+    if grow is not None:
+        words += ["--grow", str(grow)]
     return key, [*words, "--workers", str(workers)]

@@ -2,14 +2,14 @@
 
 from __future__ import annotations
 
-from collections.abc import Callable
+from collections.abc import Callable, Iterator
 from typing import Any
 
 from . import errors
-from .answer import Answer
+from .answer import Answer, read_answer, read_batch
 from .errors import Refusal
 from .history import read_log
-from .program import call
+from .program import call, printed
 from .subject import Subject
 
 Numbers = list[int]
@@ -39,8 +39,10 @@ def word_at(answer: Answer, place: int) -> str | None:
 
 
 def limit(numbers: Numbers, subject: Subject) -> Refusal:
-    """The limit that is passed: of kind 6 at a vertex, else at a line."""
+    """The limit that is passed: of kind 6 at a vertex, of kind 9 by the samples of a batch, else at a line."""
     kind, place = numbers
+    if kind == 9:
+        return errors.TooManySamples(place)
     return errors.Limit(kind, subject.vertex(place) if kind == 6 else place)
 
 
@@ -60,7 +62,7 @@ def stuck_events(answer: Answer, subject: Subject) -> list[Any]:
     return [row[0] for row in rows]
 
 
-def exhausted(answer: Answer, subject: Subject) -> Refusal:
+def exhausted(answer: Answer, subject: Subject) -> errors.Exhausted:
     """The end of a run that came to the end of a stack."""
     stuck = stuck_events(answer, subject)
     if answer.words[0] == "tree":
@@ -87,12 +89,25 @@ def refusal(answer: Answer, subject: Subject) -> Exception:
     return errors.NoAnswer(answer.status, " ".join(["s", *first]) if first else "")
 
 
+def under_key(answer: Answer, subject: Subject, key: str | None) -> Exception:
+    """The same, with the key of the call."""
+    raised = refusal(answer, subject)
+    if isinstance(raised, Refusal):
+        raised.key = key
+    return raised
+
+
 def ask(words: list[str], subject: Subject, key: str | None = None) -> Answer:
     """The program's answer with status 0; any other is raised, with the key of the call."""
     answer = call(words, subject.text)
     if answer.status == 0:
         return answer
-    raised = refusal(answer, subject)
-    if isinstance(raised, Refusal):
-        raised.key = key
-    raise raised
+    raise under_key(answer, subject, key)
+
+
+def ask_batch(words: list[str], subject: Subject, key: str | None) -> Iterator[Answer]:
+    """The program's answer for each sample of a batch, with status 0 or 1; a refusal is raised."""
+    status, text = printed(words, subject.text)
+    if status in (0, 1) and text.startswith(b"batch "):
+        return read_batch(words, text)
+    raise under_key(read_answer(words, status, text), subject, key)

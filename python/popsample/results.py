@@ -80,7 +80,8 @@ class Tree(History):
 
     `arrows` has an arrow for each vertex but the root, along which the way to the root goes on. `used` tells for each
     of these vertices how many of its entries were popped, and `pops` how many pops there were. `graph` is the tree as
-    a directed graph of the library whose graph was handed in, and None for an edge list or a file.
+    a directed graph of the library whose graph was handed in, and None for an edge list or a file. `sample` is its
+    number under the key: 0, but in a batch.
     """
 
     root: Hashable
@@ -89,6 +90,7 @@ class Tree(History):
     pops: int
     key: str | None
     graph: Any = None
+    sample: int = 0
 
     @property
     def parents(self) -> dict[Hashable, Hashable]:
@@ -106,7 +108,7 @@ class Orientation(History):
     """An orientation in which some edge leaves each vertex.
 
     `arrows` has the arrow of each edge, in order, and `used` tells for each edge how many of its entries were popped.
-    `pops` and `graph` are as those of a tree.
+    `pops`, `graph` and `sample` are as those of a tree.
     """
 
     arrows: tuple[Arrow, ...]
@@ -114,6 +116,7 @@ class Orientation(History):
     pops: int
     key: str | None
     graph: Any = None
+    sample: int = 0
 
 
 class Literals:
@@ -133,13 +136,15 @@ class Assignment(Literals, History):
     """An assignment that satisfies each clause.
 
     `literals` has for each variable, from 1 on, its number where it is true and the negative of its number where it is
-    false. `used` tells how many entries of each variable were popped, and `pops` how many pops there were.
+    false. `used` tells how many entries of each variable were popped, and `pops` how many pops there were. `sample` is
+    its number under the key: 0, but in a batch.
     """
 
     literals: tuple[int, ...]
     used: dict[int, int]
     pops: int
     key: str | None
+    sample: int = 0
 
 
 @dataclass(frozen=True)

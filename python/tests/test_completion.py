@@ -7,9 +7,12 @@ from pathlib import Path
 
 COMPLETION = Path(__file__).resolve().parents[2] / "completion" / "popsample.bash"
 SCRIPT = 'source "$0"; COMP_WORDS=("$@"); COMP_CWORD=$(($# - 1)); _popsample; echo "${COMPREPLY[*]}"'
-EVERYWHERE = ["--stacks", "--key", "--height", "--workers", "--board"]
+STACKED = ["--stacks", "--key", "--height"]
+CREW = ["--workers", "--board"]
+EVERYWHERE = [*STACKED, "--grow", *CREW]
 TOLD = ["--witness", "--report"]
 LOGGED = ["--log", *TOLD]
+BATCHED = [*LOGGED, "--count"]
 
 
 def completed(*words: str) -> list[str]:
@@ -28,20 +31,23 @@ class Completion(unittest.TestCase):
         self.assertEqual(completed("x"), [])
 
     def test_options(self):
-        self.assertEqual(completed("formula", ""), [*EVERYWHERE, *LOGGED])
-        self.assertEqual(completed("orient", ""), [*EVERYWHERE, *LOGGED])
-        self.assertEqual(completed("tree", ""), [*EVERYWHERE, "--root", *LOGGED])
+        self.assertEqual(completed("formula", ""), [*EVERYWHERE, *BATCHED])
+        self.assertEqual(completed("orient", ""), [*EVERYWHERE, *BATCHED])
+        self.assertEqual(completed("tree", ""), [*EVERYWHERE, "--root", *BATCHED])
         self.assertEqual(completed("resample", ""), [*EVERYWHERE, *TOLD])
         self.assertEqual(completed("make", ""), [*EVERYWHERE, "grid", *LOGGED])
-        self.assertEqual(completed("rounds", ""), EVERYWHERE[:3])
+        self.assertEqual(completed("rounds", ""), STACKED)
         self.assertEqual(completed("check", ""), [])
         self.assertEqual(completed("tree", "--r"), ["--root", "--report"])
 
     def test_what_stands_or_is_excluded(self):
-        self.assertEqual(completed("tree", "--root", "2", "--"), [*EVERYWHERE, *LOGGED])
-        self.assertEqual(completed("formula", "--stacks", "0", ""), ["--workers", "--board", *LOGGED])
-        self.assertEqual(completed("formula", "--key", "00", ""), ["--height", "--workers", "--board", *LOGGED])
+        self.assertEqual(completed("tree", "--root", "2", "--"), [*EVERYWHERE, *BATCHED])
+        self.assertEqual(completed("formula", "--stacks", "0", ""), [*CREW, *LOGGED])
+        self.assertEqual(completed("formula", "--key", "00", ""), ["--height", "--grow", *CREW, *BATCHED])
+        self.assertEqual(completed("make", "--grow", "9", ""), ["--key", "--height", *CREW, "grid", *LOGGED])
         self.assertEqual(completed("rounds", "--stacks", "0", ""), [])
+        self.assertEqual(completed("tree", "--count", "3", ""), ["--key", "--height", "--root"])
+        self.assertEqual(completed("orient", "--log", "on", ""), [*EVERYWHERE, *TOLD])
 
     def test_values(self):
         self.assertEqual(completed("resample", "--report", "t"), ["totals", "totals,heights,layers"])

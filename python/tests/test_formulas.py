@@ -54,6 +54,19 @@ class Formulas(unittest.TestCase):
         first = popsample.sample_formula(RING)
         self.assertEqual(first, popsample.sample_formula(RING, first.key, 8))
 
+    def test_heights_that_grow_worked_by_hand(self):
+        # Under this key the entries of the variable are 1, 0, ..: it is popped once, if there is a next entry.
+        grown = popsample.sample_formula([[-1]], ZEROS, height=1, grow=8)
+        self.assertEqual((grown.literals, grown.used, grown.pops), ((-1,), {1: 1}, 1))
+        with self.assertRaises(popsample.Exhausted) as caught:
+            popsample.sample_formula([[-1]], ZEROS, height=5, grow=1)
+        self.assertEqual((caught.exception.stuck, caught.exception.used), ((1,), (0,)))
+
+    def test_heights_that_grow_change_nothing(self):
+        for workers in (1, 4):
+            grown = popsample.sample_formula(RING, ZEROS, workers, height=1, grow=64)
+            self.assertEqual(grown, popsample.sample_formula(RING, ZEROS, height=64))
+
     def test_files(self):
         with file_of("c by hand\np cnf 2 2\n1 2 0\n-1 2 0\n") as path:
             self.assertEqual(popsample.sample_formula(path, stacks=[[1], [1]]).literals, (1, 2))
@@ -99,6 +112,12 @@ class Resampling(unittest.TestCase):
                 self.assertEqual(entry, used[variable])
                 used[variable] += 1
         self.assertEqual(told.used, used)
+
+    def test_heights_that_grow(self):
+        for workers in (1, 4):
+            told = popsample.resample(CHANNELS, workers=workers, height=1, grow=2**20)
+            self.assertTrue(satisfies(CHANNELS, told.literals), told)
+            self.assertEqual(told.pops, len(told.log))
 
     def test_one_worker_gives_the_same_again(self):
         first = popsample.resample(CHANNELS)

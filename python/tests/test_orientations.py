@@ -42,6 +42,11 @@ class Orientations(unittest.TestCase):
         self.assertEqual(first, popsample.sink_free_orientation(TEAMS, first.key, 8))
         self.assertNotEqual(first, popsample.sink_free_orientation(TEAMS, ZEROS))
 
+    def test_heights_that_grow_change_nothing(self):
+        whole = popsample.sink_free_orientation(TEAMS, ZEROS, height=4096)
+        for workers in (1, 8):
+            self.assertEqual(popsample.sink_free_orientation(TEAMS, ZEROS, workers, height=1, grow=4096), whole)
+
     def test_files_name_by_number(self):
         with file_of("p col 2 2\ne 1 2\ne 2 1\n") as path:
             orientation = popsample.sink_free_orientation(path, stacks=[[0], [0]])

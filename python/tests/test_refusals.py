@@ -51,7 +51,15 @@ class OfWords(Refusing):
         self.assertIn("Word 5 of the command line, '65',", str(error))
 
     def test_usage_of_each_option(self):
-        wrong = ({"key": "xyz"}, {"height": 0}, {"workers": 0}, {"stacks": [[0]], "key": ZEROS}, {"stacks": [[-1]]})
+        wrong = (
+            {"key": "xyz"},
+            {"height": 0},
+            {"grow": 0},
+            {"workers": 0},
+            {"stacks": [[0]], "key": ZEROS},
+            {"stacks": [[0]], "grow": 2},
+            {"stacks": [[-1]]},
+        )
         for named in wrong:
             with self.subTest(**named):
                 self.refused(popsample.Usage, sample_formula, [[1]], **named)

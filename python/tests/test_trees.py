@@ -53,6 +53,13 @@ class Trees(unittest.TestCase):
         first = popsample.spanning_tree(pairs)
         self.assertEqual(first, popsample.spanning_tree(pairs, key=first.key, workers=8))
 
+    def test_heights_that_grow_change_nothing(self):
+        pairs = connected_pairs(random.Random(8), 40)
+        whole = popsample.spanning_tree(pairs, key=ZEROS, height=4096, log=True)
+        for workers in (1, 8):
+            grown = popsample.spanning_tree(pairs, key=ZEROS, workers=workers, height=1, grow=4096, log=True)
+            self.assertEqual(grown, whole)
+
     def test_keys_are_drawn_anew(self):
         self.assertEqual(len({popsample.spanning_tree(TRIANGLE).key for _ in range(5)}), 5)
 
@@ -73,21 +80,6 @@ class Trees(unittest.TestCase):
             self.assertEqual(tree, popsample.spanning_tree(str(path), root=3, stacks=[[1], [1]]))
         self.assertEqual(tree.arrows, (popsample.Arrow(1, 3, 3), popsample.Arrow(2, 3, 2)))
         self.assertEqual((tree.root, tree.used), (3, {1: 0, 2: 0}))
-
-    def test_all_trees_of_a_triangle_come(self):
-        trees = list(popsample.spanning_trees(TRIANGLE, 60, key=ZEROS))
-        self.assertEqual({frozenset(tree.edges) for tree in trees}, {frozenset(x) for x in ((0, 1), (0, 2), (1, 2))})
-        self.assertEqual(len({tree.key for tree in trees}), 60)
-
-    def test_each_of_many_trees_can_be_had_again(self):
-        pairs = connected_pairs(random.Random(6), 20)
-        for number, tree in enumerate(popsample.spanning_trees(pairs, 5, root=7, key=ZEROS)):
-            self.assertEqual(tree.key, popsample.derived_key(ZEROS, number))
-            self.assertEqual(tree, popsample.spanning_tree(pairs, 7, key=tree.key))
-
-    def test_trees_are_sampled_one_by_one(self):
-        trees = popsample.spanning_trees(TRIANGLE, 10**12)
-        self.assertEqual(len(next(trees).arrows), 2)
 
     def test_reached(self):
         self.assertEqual(reached(1, [(1, 2), (3, 2), (4, 5)]), {1, 2, 3})
