@@ -18,9 +18,12 @@ FORMULA_ANSWER = b"s SAMPLE\nv -1 -2 3 0\nused 0 0 0\npops 0\n"
 GRAPH = b"p edge 4 3\ne 2 3\ne 3 4\ne 4 1\n"
 TREE_ANSWER = b"s SAMPLE\na 2 3 1\na 3 4 2\na 4 1 3\nused 0 1 1\npops 1\n"
 MADE_ANSWER = b"s SAMPLE\ngrid 2\nused 0 0\npops 0\nsum 9\n"
+BATCH = b"p edge 2 1\ne 1 2\n"
+BATCH_ANSWER = b"batch 2\n" + b"".join(b"sample %d\ns SAMPLE\na 2 1 1\nused 0\npops 0\n" % j for j in range(2))
 FORMULA_WORDS = ("formula", "--stacks", "0;0;1")
 TREE_WORDS = ("tree", "--stacks", "0,0;1,1;0,1")
 MADE_WORDS = ("make", "grid", "2", "--stacks", "0;0;0")
+BATCH_WORDS = ("tree", "--count", "2")
 # An answer that no pipe holds at once has a line for each of so many leaves.
 LEAVES = 20000
 
@@ -138,6 +141,7 @@ def source_trials(program, folder):
         Trial("a pipe that closes after a byte", on(FORMULA[10:11], FORMULA_WORDS), wanted(3, b"s MALFORMED 1 1\n")),
         Trial("a formula byte by byte", on(FORMULA, FORMULA_WORDS), wanted(0, FORMULA_ANSWER)),
         Trial("a graph byte by byte", on(GRAPH, TREE_WORDS), wanted(0, TREE_ANSWER)),
+        Trial("a batch byte by byte", on(BATCH, BATCH_WORDS), wanted(0, BATCH_ANSWER)),
     ]
 
 
@@ -147,6 +151,7 @@ def sink_trials(program, folder):
     return [
         Trial("a full device", lambda: to_file(program, FORMULA_WORDS, FORMULA, full), wanted(8)),
         Trial("a full device and a bad word", lambda: to_file(program, ("tree", "2"), b"", full), wanted(8)),
+        Trial("a full device and a batch", lambda: to_file(program, BATCH_WORDS, BATCH, full), wanted(8)),
         Trial("an output that is only read", lambda: to_file(program, TREE_WORDS, GRAPH, os.devnull, os.O_RDONLY),
               wanted(8)),
         Trial("a closed output", lambda: closed(program, TREE_WORDS, GRAPH, 1), wanted(8)),

@@ -13,6 +13,8 @@ WEIGHTS = 2**32 - 1
 SIDE = 2048
 HEIGHT = 2**31 - 1
 WORKERS = 64
+SAMPLES = 2**16
+BATCH_VALUES = 2**25
 ROOT = 2**32 - 1
 
 
@@ -155,6 +157,7 @@ def word_trials():
     return [
         *pair_with("make grid", ["make", "grid"], SIDE, None),
         *pair_with("height", ["formula", "--height"], HEIGHT, lambda: inputs.chain(1000)),
+        *pair_with("last height", ["formula", "--grow"], HEIGHT, lambda: inputs.chain(1000)),
         *pair_with("workers", ["formula", "--workers"], WORKERS, lambda: inputs.chain(1000)),
         # A root may be named that no graph has.
         roots[0]._replace(status=6, first_line=f"s ROOT {ROOT}"),
@@ -162,6 +165,18 @@ def word_trials():
     ]
 
 
+def batch_trials():
+    """As many samples as there may be, of as many variables together, and one variable more of each; and one sample
+    more."""
+    words, most = ["formula", "--count"], BATCH_VALUES // SAMPLES
+    name, fullest = "samples and their variables", [*words, str(SAMPLES)]
+    return [
+        Trial(f"{name}: at the limit", fullest, lambda: [f"p cnf {most} 0\n"], 0, f"batch {SAMPLES}"),
+        is_refused(name, fullest, lambda: [f"p cnf {most + 1} 0\n"], f"s LIMIT 9 {SAMPLES}"),
+        is_refused("samples", [*words, str(SAMPLES + 1)], lambda: inputs.chain(1000), "s USAGE 3", status=2),
+    ]
+
+
 def trials():
     graphs = [*graph_trials("orient"), *graph_trials("tree"), *weight_trials()]
-    return [*formula_trials(), *full_trials(), *graphs, *word_trials()]
+    return [*formula_trials(), *full_trials(), *graphs, *batch_trials(), *word_trials()]

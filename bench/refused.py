@@ -41,6 +41,8 @@ SMALL = (
     ("orientation of a triangle", "orient --stacks 0,0;1,0;0", ROUND_TRIP),
     ("log, witness, reports", "resample --stacks 0,0,1 --witness 1,1 --report totals,heights", ONE),
     ("grid of side 2", "make grid 2 --stacks 0;0;0", b""),
+    ("stages of a clause", "formula --height 1 --grow 8", b"p cnf 1 1\n-1 0\n"),
+    ("batch of trees", "tree --count 2", b"p edge 2 1\ne 1 2\n"),
 )
 
 

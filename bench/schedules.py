@@ -1,10 +1,12 @@
 #!/usr/bin/env python3
 """Runs a built popsample by several workers, thousands of times, and compares each answer with that of one worker.
 
-What is run are small instances that were worked by hand, and random ones of all three families. README.md says more.
+What is run are small instances that were worked by hand, and random ones of all three families, some in stages, whose
+answer is that of one worker without stages. README.md says more.
 """
 import argparse
 import collections
+import itertools
 import os
 import random
 import subprocess
@@ -36,6 +38,9 @@ WORKED = [
     (["orient", "--stacks", "0,0;1,0;0"], TRIANGLE),
     (["orient", "--stacks", "0,1,0"], "p edge 2 1\ne 1 2\n"),
     (["make", "grid", "40"], ""),
+    (["formula", "--height", "1", "--grow", "8"], "p cnf 1 1\n-1 0\n"),
+    (["formula", "--height", "5", "--grow", "1"], "p cnf 1 1\n-1 0\n"),
+    (["make", "grid", "30", "--height", "1", "--grow", "4096"], ""),
 ]
 
 
@@ -67,6 +72,8 @@ def random_case(chance):
     command, size = chance.choice(("formula", "orient", "tree", "make")), chance.choice(SIZES)
     key, height = f"{chance.getrandbits(256):064x}", str(chance.choice(HEIGHTS))
     words = [command, "--key", key, "--height", height]
+    if chance.random() < 0.3:
+        words += ["--grow", str(chance.choice(HEIGHTS))]
     if command == "make":
         return [*words, "grid", str(size // 4 + 1)], ""
     write = formula_text if command == "formula" else graph_text
@@ -89,10 +96,19 @@ def crews():
     return [["--workers", str(workers), "--board", board] for board in BOARDS for workers in WORKERS]
 
 
+def without_stages(words):
+    """The words that ask for the last height from the start, and so have the same answer."""
+    options = dict(zip(words[1::2], words[2::2]))
+    if "--grow" in options:
+        options["--height"] = options.pop("--grow")
+    return [words[0], *itertools.chain.from_iterable(options.items())]
+
+
 def compare(program, words, text):
-    """The status of one worker, and the crews that answered otherwise."""
-    alone = answer_of(program, words, text)
-    return alone[0], [crew for crew in crews() if answer_of(program, [*words, *crew], text) != alone]
+    """The status of one worker without stages, and the crews that answered otherwise."""
+    alone = answer_of(program, without_stages(words), text)
+    asked = [[], *crews()] if "--grow" in words else crews()
+    return alone[0], [crew for crew in asked if answer_of(program, [*words, *crew], text) != alone]
 
 
 def arguments():
