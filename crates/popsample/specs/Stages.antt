@@ -9,8 +9,8 @@ use Rattle.popsample.specs.Answers.{last_height, IsAnswer}
 abbrev pub at_last_height : Job → Job
 at_last_height job = record job { height = last_height job; grow = None }
 
--- The words ask for jobs of which one comes, once the stacks of each have their last height from
--- the start. So do words with `--height H --grow T` and those with `--height T` in its place.
+-- The words ask for jobs that are one job, once the stacks of each have their last height from the
+-- start. So do words with `--height H --grow T` and those with `--height T` in its place.
 pub record DifferInStages (words others : List (List ℕ)) : Type 0 where
   pub job : Job
   pub other : Job
