@@ -39,8 +39,9 @@ fn deliver<K: Sink>(sink: &mut K, text: &[u8], status: u8) -> u8
 /// event still occurring, 2 for words that are no command line, 3 for a malformed text, a wrong
 /// number of clauses or rows that don't fit, 4 where a limit is passed, 5 where two events clash, 6
 /// for an empty clause, an isolated vertex, a root that is none, a vertex that is cut off from it
-/// or, of a resampling, a witness of a pop that isn't there, 7 where reading failed, 8 where writing
-/// failed and 9 where memory ran out. The whole text is made before its first byte is written.
+/// or, of a resampling, a witness of a pop that isn't there, 7 where reading failed, 8 where
+/// writing failed and 9 where memory ran out. The whole text is made before its first byte is
+/// written.
 ///
 /// Each watcher is told each record of the layered log, in order and once, by `resample`, and by
 /// `formula`, `orient`, `tree` and `make` where `--report` stands. The report of a kind that is
