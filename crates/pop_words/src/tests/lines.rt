@@ -1,7 +1,6 @@
 // Lines of words, with what they ask for or the place of their first bad word. Worked by hand.
 
-/// Lines of the grammar. A job is told by its command and by what differs from the defaults; `Z`
-/// stands for 64 zeros.
+/// Lines of the grammar, each with its command and what isn't a default; `Z` is 64 zeros.
 pub static ACCEPTED: [(&str, &str); 89] = [
     ("formula", "formula"),
     ("check", "check"),
