@@ -9,6 +9,7 @@
 mod listed_event;
 mod look;
 mod owed_marks;
+mod stretch;
 #[cfg(test)]
 mod tests;
 mod tried;
@@ -19,6 +20,7 @@ mod walker;
 mod walking;
 mod walks;
 
+pub use stretch::Stretch;
 pub use tried::Tried;
 pub use unit_tries::try_unit;
 pub use walker::Walker;

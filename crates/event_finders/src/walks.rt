@@ -12,9 +12,9 @@ ghost use Rattle.event_finders.specs.Trails.{Stands, resting};
 ghost use Rattle.event_finders.specs.Walks.{KeepsKnown, Traced, PopsCycles, IsWalkAnswer};
 ghost use Rattle.event_finders.specs.WalkSteps.{IsTableOf, HasSpare, SeesLast, Rounds, RoundsOn};
 
-use crate::Tried;
 use crate::walker::Walker;
 use crate::walking::{Stop, claim_on, follow, move_on, pop_loop, release_to, settle_all};
+use crate::{Stretch, Tried};
 use claim_words::{Board, Claim, Pass};
 use confluence_core::CurrentArrows;
 use pop_instance::{Family, Instance};
@@ -69,11 +69,12 @@ pub fn try_walk(
     ensures walker { walker.new ≡ walker.old }
     ensures reader { reader.new ≡ reader.old }
 {
-    walk_on(board, pass, instance, reader, walker, start, 1)
+    let stretch = Stretch { start, pops: 1 };
+    walk_on(board, pass, instance, reader, walker, stretch)
 }
 
-/// The same walk, which goes on until so many cycles were popped, at least one: `Popped` has the
-/// ticket of the last. After each it goes on from the variable where the cycle closed, with the
+/// The same walk, which goes on until as many cycles were popped as the stretch says: `Popped` has
+/// the ticket of the last. After each it goes on from the variable where the cycle closed, with the
 /// path up to there still claimed, so that no part of it is walked again. The other answers come as
 /// those of `try_walk`, after fewer pops.
 pub fn walk_on(
@@ -82,8 +83,7 @@ pub fn walk_on(
     instance: &Instance,
     reader: &mut Reader,
     walker: &mut Walker,
-    start: u32,
-    pops: u64,
+    stretch: Stretch,
 ) -> Tried
     requires pass { IsOf board.now pass.old }
     requires idle { IsIdle pass.old }
@@ -91,17 +91,18 @@ pub fn walk_on(
     requires cycles { is_listed instance.now.family ≡ false }
     requires belongs { Belongs instance.now.stacks reader.old }
     requires walker { walker.old ≡ resting (count_of board.now) }
-    requires known { start < count_of board.now }
-    requires pops { 1 ≤ pops }
+    requires known { stretch.start < count_of board.now }
+    requires pops { 1 ≤ stretch.pops }
 
     ensures pass { IsOf board.now pass.new }
     ensures idle { IsIdle pass.new }
     ensures stays { Stays (view pass.old) (view pass.new) }
-    ensures seen { SeesWithin pops (view pass.old) (view pass.new) }
+    ensures seen { SeesWithin stretch.pops (view pass.old) (view pass.new) }
     ensures settled { KeepsKnown (view pass.old) (view pass.new) }
-    ensures mine { PopsCycles (opening_of board.now) (view pass.old) (view pass.new) pops result }
-    ensures answer { IsWalkAnswer (opening_of board.now) (view pass.old) (view pass.new) pops start
+    ensures mine { PopsCycles (opening_of board.now) (view pass.old) (view pass.new) stretch.pops
         result }
+    ensures answer { IsWalkAnswer (opening_of board.now) (view pass.old) (view pass.new)
+        stretch.pops stretch.start result }
     ensures walker { walker.new ≡ walker.old }
     ensures reader { reader.new ≡ reader.old }
 {
@@ -116,6 +117,7 @@ pub fn walk_on(
     if board.reserve(pass, count + count).is_err() {
         return Tried::OutOfMemory;
     }
+    let Stretch { start, pops } = stretch;
     match claim_on(board, pass, walker, start) {
         Claim::Mine(_) => {}
         Claim::Settled(cursor) => return Tried::Cleared(start, cursor),

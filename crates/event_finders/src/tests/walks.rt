@@ -1,14 +1,13 @@
 //! Walks on boards of two variables with two slots each.
 ghost use Rattle.std.specs.Prelude.{◌≡◌, ◌≤◌, ◌<◌, ◌^◌, false, length, All, IfOk};
 ghost use Rattle.pop_model.specs.Stacks.{variables_of};
-ghost use Rattle.pop_stacks.specs.Readers.{Belongs};
 ghost use Rattle.pop_instance.specs.Arrows.{heads_of};
 ghost use Rattle.claim_words.specs.Openings.{is_listed};
 ghost use Rattle.claim_words.specs.Passes.{IsOf, IsIdle, view, instance_of, count_of};
 ghost use Rattle.event_finders.specs.Trails.{resting};
 
 use super::instances::stacks;
-use crate::{Tried, Walker, try_walk, walk_on};
+use crate::{Stretch, Tried, Walker, try_walk, walk_on};
 use claim_words::{Board, Closed, Pass};
 use confluence_core::Keep;
 use pop_instance::{Arrows, Cursors, Family, Instance};
@@ -56,27 +55,26 @@ fn walk(
     board: &Board,
     pass: &mut Pass,
     instance: &Instance,
-    reader: &mut Reader,
     walker: &mut Walker,
     turn: &Turn,
 ) -> Tried
     requires pass { IsOf board.now pass.old × IsIdle pass.old }
     requires instance { instance_of board.now ≡ instance.now }
     requires cycles { is_listed instance.now.family ≡ false }
-    requires belongs { Belongs instance.now.stacks reader.old }
     requires walker { walker.old ≡ resting (count_of board.now) }
     ensures pass { IsOf board.now pass.new × IsIdle pass.new }
     ensures walker { walker.new ≡ walker.old }
-    ensures reader { reader.new ≡ reader.old }
 {
     let (start, pops, _) = *turn;
     let count = instance.stacks().count();
     assert!(rt; start < count);
+    let mut reader = Reader::new(instance.stacks());
     match pops {
-        None => try_walk(board, pass, instance, reader, walker, start),
+        None => try_walk(board, pass, instance, &mut reader, walker, start),
         Some(pops) => {
             assert!(rt; pops >= 1);
-            walk_on(board, pass, instance, reader, walker, start, pops)
+            let stretch = Stretch { start, pops };
+            walk_on(board, pass, instance, &mut reader, walker, stretch)
         }
     }
 }
@@ -97,9 +95,8 @@ fn walk_in_turn(
     ensures pass { IsOf board.now pass.new × IsIdle pass.new }
     ensures walker { walker.new ≡ walker.old }
 {
-    let mut reader = Reader::new(instance.stacks());
     for turn in turns {
-        let answer = walk(rt, board, pass, instance, &mut reader, walker, turn);
+        let answer = walk(rt, board, pass, instance, walker, turn);
         assert_eq!(rt; answer, turn.2);
     }
 }

@@ -12,7 +12,7 @@ pub returns-in-Over-clause-seen : goal.returns-in-Over-clause-seen
 returns-in-Over-clause-seen c =
     let d : View = view c.args.pass.now in
     let e : View = view c.go_round.new.pass in
-    within_less d e (c.loop.counter + 1) c.args.pops (omega (arith, c.loop-test.true))
+    within_less d e (c.loop.counter + 1) c.args.stretch.pops (omega (arith, c.loop-test.true))
     (seen_round d (view c.loop.pass) e c.loop.counter c.loop.walker.path c.loop.invariant.seen c.in-Over.ensures.seen)
 
 pub returns-in-Over-clause-answer : goal.returns-in-Over-clause-answer
@@ -22,11 +22,11 @@ returns-in-Over-clause-answer c =
     let e : View = view c.go_round.new.pass in
     let n : ℕ = c.loop.counter in
     let i = c.loop.invariant in
-    let says : Says e c.args.start c.in-Over.answer =
+    let says : Says e c.args.stretch.start c.in-Over.answer =
     subst (λ (v : ℕ). Says e v c.in-Over.answer) i.begins c.in-Over.ensures.round.4 in
-    let ends : EndsAt k n d e c.args.start c.in-Over.answer =
+    let ends : EndsAt k n d e c.args.stretch.start c.in-Over.answer =
     subst (λ (v : ℕ). EndsAt k n d e v c.in-Over.answer) i.begins (c.in-Over.ensures.traced n d i.traced) in
-    over_answer k n d e c.args.start c.args.pops c.in-Over.answer c.loop-test.true
+    over_answer k n d e c.args.stretch.start c.args.stretch.pops c.in-Over.answer c.loop-test.true
     (stays_then d (view c.loop.pass) e i.stays c.in-Over.ensures.stays).share says ends
 
 pub loop-preserved : goal.loop-preserved

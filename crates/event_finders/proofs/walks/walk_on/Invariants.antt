@@ -19,7 +19,7 @@ invariant-loop l = record {
   settled : KeepsKnown (view l.fn.pass) (view l.pass);
   stands : Stands (opening_of l.board) (view l.pass) l.walker;
   some : 0 < length l.walker.path;
-  begins : get_or (variables l.walker.path) 0 0 ≡ l.start;
+  begins : get_or (variables l.walker.path) 0 0 ≡ l.fn.stretch.start;
   reader : l.reader ≡ l.fn.reader;
   traced : Traced l.counter (view l.fn.pass) (view l.pass) l.walker.path;
   seen : Seen (view l.fn.pass) (view l.pass) l.counter l.walker.path;

@@ -1,5 +1,4 @@
 use Rattle.std.proofs.Common.{◌≡◌}
-use Rattle.pop_stacks.specs.Readers.{Belongs}
 use Rattle.claim_words.specs.Passes.{IsOf, IsIdle}
 use Rattle.event_finders.proofs.tests.walks.walk_in_turn.Given as goal
 
@@ -8,6 +7,5 @@ abbrev pub invariant-loop-turn : goal.invariant-loop-turn
 invariant-loop-turn g l = record {
   pass : IsOf l.board l.pass;
   idle : IsIdle l.pass;
-  belongs : Belongs l.instance.stacks l.reader;
   walker : l.walker ≡ l.initial.walker;
 }
