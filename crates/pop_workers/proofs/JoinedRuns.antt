@@ -1,13 +1,17 @@
--- A run that goes on where workers left a board, with their log in front, is a run from where the board opened.
+-- A run that goes on where workers left a board, with their log in front, is a run from where the board opened; and so is
+-- what they left, where no event is poppable.
 use Rattle.std.proofs.Common.{◌≡◌, ℕ, ◌+◌, ◌<◌, ◌^◌, Bool, true, false, cond, List, ◌++◌, length, Option, Some, None, refl, sym, ap, ap₂, subst, ◌∙◌, arith}
 use Rattle.std.proofs.Common.{length-append}
 use Rattle.pop_model.specs.Stacks.{variables_of}
-use Rattle.pop_model.specs.Families.{Event}
+use Rattle.pop_model.specs.Popping.{AreValuesAt}
+use Rattle.pop_model.specs.Families.{Event, Family}
+use Rattle.pop_model.specs.Families.Family.{Listed, Cycles}
 use Rattle.pop_model.specs.Instances.{Instance, IsInstance}
 use Rattle.pop_model.specs.Logs.{LogRecord, IsLegal, replay}
+use Rattle.pop_model.specs.Runs.{IsEnd, IsStuckList}
 use Rattle.pop_model.proofs.Replays.{length-replay}
 use Rattle.confluence_core.specs.declared.run.Run.{Run}
-use Rattle.confluence_core.specs.Runs.{IsRun, IsRunOf}
+use Rattle.confluence_core.specs.Runs.{IsRun, IsRunOf, MissesNone, IsSuspected}
 use Rattle.confluence_core.proofs.LegalLogs.{replay_append, legal_append}
 use Rattle.confluence_core.proofs.ShortLogs.{legal_short}
 use Rattle.confluence_core.proofs.SoFar.{first_end_from}
@@ -63,6 +67,37 @@ run_behind i start keeps before n log run left of =
       within = of.within;
       values = of.values;
       first = first_end_from i start keeps run.end.cursors (n + run.end.pops) run.end.stuck all joined;
+    }
+
+-- where no unit is suspected, no event is poppable
+pub unsuspected_end : (i : Instance) (c suspects : List ℕ) → length suspects ≡ 0 → MissesNone i c suspects → IsEnd i c
+unsuspected_end i c suspects none misses e event poppable = nowhere i.family (misses e event poppable)
+  where
+    nowhere : (f : Family) → IsSuspected f suspects e → ⊥
+    nowhere (Listed rows) has = omega (arith, none, has.1)
+    nowhere (Cycles heads) has = omega (arith, none, has.2.1)
+
+-- what was popped up to an end is a whole run
+pub run_here : (i : Instance) (start : List ℕ) (keeps : Bool) (run : Run)
+    → HasProgressed i start keeps run.end.cursors run.end.pops run.log → IsEnd i run.end.cursors
+    → IsStuckList i run.end.cursors run.end.stuck → AreValuesAt i.stacks run.end.cursors run.end.values
+    → IsRunOf i start keeps run
+run_here i start keeps run left end stuck_list values =
+    let whole : IsRun i start keeps run.end.cursors run.end.pops run.end.stuck run.log = record {
+      log = left.log;
+      legal = left.legal;
+      cursors_are = left.cursors_are;
+      pops_are = left.pops_are;
+      end = end;
+      stuck_list = stuck_list;
+      kept_is = left.kept_is;
+    } in
+    record {
+      run = whole;
+      count = left.count;
+      within = left.within;
+      values = values;
+      first = first_end_from i start keeps run.end.cursors run.end.pops run.end.stuck run.log whole;
     }
 
 -- the pops of a run fit a count twice

@@ -3,19 +3,22 @@ ghost use Rattle.std.specs.Prelude.{◌≡◌, ◌<◌, ◌≤◌, length, IfOk,
 ghost use Rattle.pop_model.specs.Stacks.{variables_of};
 ghost use Rattle.pop_model.specs.Popping.{AreWithin};
 ghost use Rattle.pop_model.specs.Tickets.{AreNumbered};
+ghost use Rattle.pop_stacks.specs.Readers.{Belongs};
 ghost use Rattle.confluence_core.specs.Kept.{keeps_log};
 ghost use Rattle.confluence_core.specs.Runs.{IsRunOf};
 ghost use Rattle.pop_workers.specs.Closings.{IsClosed, AreMerged};
 
-use crate::finishing::finish;
+use crate::crew::Crew;
+use crate::finishing::{end_here, finish};
 use crate::locked::run_alone;
 use crate::progress::Progress;
-use crate::words::work_claimed;
+use crate::words::work_by;
 use crate::{Gate, Outcome};
 use claim_words::{Board, Closed};
 use confluence_core::{Keep, Log, Tickets};
 use pop_instance::{Cursors, Instance};
 use pop_log::merge;
+use pop_stacks::Reader;
 use std::alloc::{AllocError, Global};
 use std::thread::Threads;
 
@@ -46,23 +49,28 @@ pub fn sample_claimed<R: Threads + Sync, G: Gate + Sync>(
         gate.at(0, 0);
         return run_alone(alloc, instance, from, keep);
     }
+    let reader = Reader::keeping(alloc, instance.stacks())?;
     let (board, mut pass) = Board::start(alloc, instance, from, keep)?;
-    work_claimed(rt, alloc, &board, &mut pass, instance, workers, gate)?;
+    let crew = Crew { rt, gate, workers };
+    let mut reader = work_by(alloc, crew, &board, &mut pass, instance, reader)?;
     match board.close(pass) {
-        Ok(closed) => go_on(alloc, instance, from, closed, keep),
+        Ok(closed) => go_on(alloc, instance, from, closed, keep, &mut reader),
         Err((_, _, failed)) => Err(failed),
     }
 }
 
-// The run that goes on where a board was closed. It finds nothing to pop, and lists what occurs.
+// The run that goes on where a board was closed. Where no unit is suspected it has ended there, and
+// what is told of its end is looked up by the reader of a worker, which keeps what it saw.
 fn go_on(
     alloc: Global,
     instance: &Instance,
     from: &Cursors,
     closed: Closed,
     keep: Keep,
+    reader: &mut Reader,
 ) -> Result<Outcome, AllocError>
-    requires { IsClosed instance.now from.now (keeps_log keep) closed }
+    requires closed { IsClosed instance.now from.now (keeps_log keep) closed }
+    requires belongs { Belongs instance.now.stacks reader.old }
     ensures { IfOk result (IsRunOf instance.now from.now (keeps_log keep)) }
 {
     let _units = instance.units();
@@ -74,6 +82,9 @@ fn go_on(
     } = closed;
     let log = merged(alloc, log)?;
     let left = Progress { cursors, pops, log };
+    if suspects.len() == 0 {
+        return end_here(alloc, instance, from, left, keep, reader);
+    }
     finish(alloc, instance, from, left, suspects, keep)
 }
 

@@ -1,5 +1,7 @@
 ghost use Rattle.std.specs.Prelude.{◌≡◌, ◌<◌, ◌+◌, ◌^◌, All, IfOk};
 ghost use Rattle.pop_model.specs.Families.{units_of};
+ghost use Rattle.pop_model.specs.Runs.{IsEnd};
+ghost use Rattle.pop_stacks.specs.Readers.{Belongs};
 ghost use Rattle.confluence_core.specs.Kept.{keeps_log};
 ghost use Rattle.confluence_core.specs.Runs.{IsRunOf, MissesNone};
 ghost use Rattle.pop_workers.specs.Progressed.{HasProgressed, both_logs};
@@ -7,8 +9,9 @@ ghost use Rattle.pop_workers.specs.Stages.{behind};
 
 use crate::Outcome;
 use crate::progress::Progress;
-use confluence_core::{End, Keep, Log, Units, run_from};
-use pop_instance::{Cursors, Instance};
+use confluence_core::{End, Keep, Log, Units, occurring, run_from};
+use pop_instance::{Cursors, Instance, Values};
+use pop_stacks::Reader;
 use std::alloc::{AllocError, Global};
 
 /// The run that goes on where workers left a board that opened from `from`, from these suspects,
@@ -32,6 +35,37 @@ pub(crate) fn finish(
     let Progress { cursors, pops, log } = left;
     let more = run_from(alloc, instance, cursors, suspects, keep)?;
     put_behind(pops, log, more)
+}
+
+/// The run that came to its end where workers left a board that opened from `from`. What occurs
+/// there, and the values, are looked up by this reader.
+pub(crate) fn end_here(
+    alloc: Global,
+    instance: &Instance,
+    from: &Cursors,
+    left: Progress,
+    keep: Keep,
+    reader: &mut Reader,
+) -> Result<Outcome, AllocError>
+    requires left { HasProgressed instance.now from.now (keeps_log keep) left.cursors left.pops
+        left.log }
+    requires end { IsEnd instance.now left.cursors }
+    requires belongs { Belongs instance.now.stacks reader.old }
+    ensures { IfOk result (IsRunOf instance.now from.now (keeps_log keep)) }
+{
+    let _ = from;
+    let _ = keep;
+    let _units = instance.units();
+    let Progress { cursors, pops, log } = left;
+    let stuck = occurring(alloc, instance, reader, &cursors)?;
+    let values = Values::at(alloc, instance.stacks(), reader, &cursors)?;
+    let end = End {
+        cursors,
+        pops,
+        stuck,
+        values,
+    };
+    Ok(Outcome { end, log })
 }
 
 /// The run, with these pops and this log in front of its own.

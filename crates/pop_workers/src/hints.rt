@@ -1,5 +1,6 @@
 //! Hints: units at which an event may be poppable. Each worker has a deque of its own, and steals
-//! from those of the others where it is empty. A hint that is lost loses no event.
+//! from those of the others where it is empty. Behind a turn that met another worker it takes
+//! another hint first. A hint that is lost loses no event.
 ghost use Rattle.std.specs.Prelude.{◌≡◌, ℕ, ◌+◌, ◌*◌, ◌/◌, All, ◌<◌, ◌≤◌, IfSome, length};
 
 use crate::turns::Worker;
@@ -77,20 +78,48 @@ pub(crate) fn give_all<W: Range>(own: &mut Own<W>, units: &[u32])
     }
 }
 
-/// The next hint of a worker: the last that it put; else the first of the deque of another, from
-/// the one behind it on. None where all were empty.
-pub(crate) fn next<W: Range>(own: &mut Own<W>, all: &[Other<W>], worker: u32) -> Option<u32>
-    requires { worker < length all.now }
+/// The next hint of a worker: the last that it put; else one of another worker. None where all
+/// deques were empty.
+///
+/// `met` is the hint at which its last turn met another worker, and lies in no deque. Then the next
+/// is the first of its own deque; else one of another worker. Behind it `met` is put back; where
+/// there is no other, it comes again.
+pub(crate) fn next<W: Range>(
+    own: &mut Own<W>,
+    all: &[Other<W>],
+    worker: u32,
+    met: Option<u32>,
+) -> Option<u32>
+    requires worker { worker < length all.now }
+    requires met { IfSome met (λ unit. unit < W.units) }
     ensures { IfSome result (λ unit. unit < W.units) }
 {
-    let last = own.pop_as::<AreUnits<W>>();
-    if last.is_some() {
-        return last;
+    let Some(unit) = met else {
+        let last = own.pop_as::<AreUnits<W>>();
+        return or_stolen(last, all, worker);
+    };
+    let first = steal_from(&all[worker as usize]);
+    let other = or_stolen(first, all, worker);
+    if other.is_none() {
+        return met;
     }
-    let (before, behind) = all.split_at(worker as usize);
-    match steal(behind) {
+    give(own, unit);
+    other
+}
+
+// This hint; else the first of the deque of another worker, from the one behind it on.
+fn or_stolen<W: Range>(hint: Option<u32>, all: &[Other<W>], worker: u32) -> Option<u32>
+    requires worker { worker < length all.now }
+    requires hint { IfSome hint (λ unit. unit < W.units) }
+    ensures { IfSome result (λ unit. unit < W.units) }
+{
+    if hint.is_some() {
+        return hint;
+    }
+    let place = worker as usize;
+    match steal(&all[place + 1..]) {
         Some(unit) => Some(unit),
-        None => steal(before),
+        None => steal(&all[..place]),
     }
 }
 

@@ -37,6 +37,7 @@ pub(crate) fn round_off<W: Range>(
     ensures sole { IsSole pass.new }
     ensures end { OnOk result
         (IsEnd (instance_of board.now) (vector (opening_of board.now) (view pass.new).mine)) }
+    ensures tools { AreTools shared.now.instance.now tools.new.reader tools.new.walker }
 {
     let _units = shared.instance.units();
     // A legal log from such a start is short, so the rounds end.

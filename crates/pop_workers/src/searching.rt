@@ -12,7 +12,7 @@ use crate::hints::{Own, Range, give, give_all};
 use crate::shared::Shared;
 use crate::tools::Tools;
 use claim_words::{Board, Pass};
-use event_finders::{Tried, try_unit, walk_on};
+use event_finders::{Stretch, Tried, try_unit, walk_on};
 use pop_instance::{Cube, Family, Index, Instance};
 
 /// Looks for an event at a unit, and pops it. Of a cycle family the unit is where a walk starts,
@@ -100,15 +100,9 @@ fn search_from(
     let Some(walker) = &mut tools.walker else {
         unreachable!()
     };
-    found(walk_on(
-        board,
-        pass,
-        instance,
-        &mut tools.reader,
-        walker,
-        start,
-        pops,
-    ))
+    let stretch = Stretch { start, pops };
+    let reader = &mut tools.reader;
+    found(walk_on(board, pass, instance, reader, walker, stretch))
 }
 
 // What a finder's answer comes to.

@@ -13,6 +13,7 @@ use std::thread::Threads;
 
 mod chains;
 mod heights;
+mod hints;
 mod one_pop;
 mod schedules;
 mod trees;

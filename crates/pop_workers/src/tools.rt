@@ -1,4 +1,5 @@
 ghost use Rattle.std.specs.Prelude.{◌≡◌, IfOk};
+ghost use Rattle.pop_stacks.specs.Readers.{Belongs};
 ghost use Rattle.pop_workers.specs.Attempts.{AreTools};
 
 use event_finders::Walker;
@@ -16,8 +17,23 @@ pub(crate) struct Tools {
 }
 
 impl Tools {
-    /// The tools of a worker for the events of an instance.
+    /// The tools of a worker for the events of an instance, with a reader that keeps nothing yet.
     pub fn of(alloc: Global, instance: &Instance, worker: u32) -> Result<Tools, AllocError>
+        ensures tools { IfOk result (λ tools. AreTools instance.now tools.reader tools.walker) }
+        ensures worker { IfOk result (λ tools. tools.worker ≡ worker) }
+    {
+        let reader = Reader::keeping(alloc, instance.stacks())?;
+        Tools::with(alloc, instance, worker, reader)
+    }
+
+    /// The tools of a worker with this reader.
+    pub fn with(
+        alloc: Global,
+        instance: &Instance,
+        worker: u32,
+        reader: Reader,
+    ) -> Result<Tools, AllocError>
+        requires belongs { Belongs instance.now.stacks reader }
         ensures tools { IfOk result (λ tools. AreTools instance.now tools.reader tools.walker) }
         ensures worker { IfOk result (λ tools. tools.worker ≡ worker) }
     {
@@ -28,7 +44,7 @@ impl Tools {
         };
         Ok(Tools {
             worker,
-            reader: Reader::keeping(alloc, instance.stacks())?,
+            reader,
             walker,
         })
     }

@@ -2,6 +2,7 @@
 ghost use Rattle.std.specs.Prelude.{◌≡◌, ◌<◌, ◌≤◌, length, All, IfOk, OnOk};
 ghost use Rattle.pop_model.specs.Families.{units_of};
 ghost use Rattle.pop_model.specs.Runs.{IsEnd};
+ghost use Rattle.pop_stacks.specs.Readers.{Belongs};
 ghost use Rattle.claim_words.specs.Passes.{IsOf, IsIdle, IsHelper, IsSole, view, instance_of, opening_of};
 ghost use Rattle.claim_words.specs.TicketLogs.{vector};
 ghost use Rattle.pop_workers.specs.Attempts.{IsIndexed};
@@ -17,6 +18,7 @@ use crate::working::work;
 use crate::{Gate, NoGate};
 use claim_words::{Board, Pass};
 use pop_instance::{Family, Index, Instance};
+use pop_stacks::Reader;
 use std::alloc::{AllocError, Global};
 use std::marker::Brand;
 use std::thread::{Threads, join_mut};
@@ -51,8 +53,42 @@ pub fn work_claimed<'i, R: Threads + Sync, G: Gate + Sync>(
     ensures end { OnOk result
         (IsEnd instance.now (vector (opening_of board.now) (view pass.new).mine)) }
 {
-    let crew = Crew { rt, gate, workers };
-    work_over::<Brand, R, G>(alloc, crew, board, pass, instance)
+    let reader = Reader::keeping(alloc, instance.stacks())?;
+    let _kept = work_by(
+        alloc,
+        Crew { rt, gate, workers },
+        board,
+        pass,
+        instance,
+        reader,
+    )?;
+    Ok(())
+}
+
+/// The same, with the reader of worker 0, which comes back with what it keeps.
+pub(crate) fn work_by<'i, R: Threads + Sync, G: Gate + Sync>(
+    alloc: Global,
+    crew: Crew<R, G>,
+    board: &Board<'i>,
+    pass: &mut Pass,
+    instance: &'i Instance,
+    reader: Reader,
+) -> Result<Reader, AllocError>
+    requires board { instance_of board.now ≡ instance.now }
+    requires pass { IsOf board.now pass.old }
+    requires idle { IsIdle pass.old }
+    requires sole { IsSole pass.old }
+    requires some { 0 < crew.workers }
+    requires most { crew.workers ≤ 64 }
+    requires belongs { Belongs instance.now.stacks reader }
+    ensures pass { IsOf board.now pass.new }
+    ensures idle { IsIdle pass.new }
+    ensures sole { OnOk result (IsSole pass.new) }
+    ensures end { OnOk result
+        (IsEnd instance.now (vector (opening_of board.now) (view pass.new).mine)) }
+    ensures reader { IfOk result (Belongs instance.now.stacks) }
+{
+    work_over::<Brand, R, G>(alloc, crew, board, pass, instance, reader)
 }
 
 // The same, where the number of units was picked.
@@ -62,7 +98,8 @@ fn work_over<'i, W: Range + Send + Sync, R: Threads + Sync, G: Gate + Sync>(
     board: &Board<'i>,
     pass: &mut Pass,
     instance: &'i Instance,
-) -> Result<(), AllocError>
+    reader: Reader,
+) -> Result<Reader, AllocError>
     requires board { instance_of board.now ≡ instance.now }
     requires pass { IsOf board.now pass.old }
     requires idle { IsIdle pass.old }
@@ -70,32 +107,33 @@ fn work_over<'i, W: Range + Send + Sync, R: Threads + Sync, G: Gate + Sync>(
     requires some { 0 < crew.workers }
     requires most { crew.workers ≤ 64 }
     requires range { units_of instance.now.family ≡ W.units }
+    requires belongs { Belongs instance.now.stacks reader }
     ensures pass { IsOf board.now pass.new }
     ensures idle { IsIdle pass.new }
     ensures sole { OnOk result (IsSole pass.new) }
     ensures end { OnOk result
         (IsEnd instance.now (vector (opening_of board.now) (view pass.new).mine)) }
+    ensures reader { IfOk result (Belongs instance.now.stacks) }
 {
-    let Crew { rt, gate, workers } = crew;
-    let deques: Vec<Own<W>> = deal_all(alloc, workers, instance.units())?;
+    let deques: Vec<Own<W>> = deal_all(alloc, crew.workers, instance.units())?;
     let shared = Shared {
         alloc,
         instance,
         index: index_of(alloc, instance)?,
         all: for_others(alloc, &deques)?,
     };
-    work_with(rt, board, pass, &shared, deques, gate)
+    work_with(crew, board, pass, &shared, deques, reader)
 }
 
 // The same, with the deques of all workers.
 fn work_with<'i, W: Range + Send + Sync, R: Threads + Sync, G: Gate + Sync>(
-    rt: &R,
+    crew: Crew<R, G>,
     board: &Board<'i>,
     pass: &mut Pass,
     shared: &Shared<'i, W>,
     deques: Vec<Own<W>>,
-    gate: &G,
-) -> Result<(), AllocError>
+    reader: Reader,
+) -> Result<Reader, AllocError>
     requires board { instance_of board.now ≡ shared.now.instance.now }
     requires pass { IsOf board.now pass.old }
     requires idle { IsIdle pass.old }
@@ -105,15 +143,18 @@ fn work_with<'i, W: Range + Send + Sync, R: Threads + Sync, G: Gate + Sync>(
     requires len { length deques.items ≡ length shared.now.all.items }
     requires some { 0 < length deques.items }
     requires most { length deques.items ≤ 64 }
+    requires belongs { Belongs shared.now.instance.now.stacks reader }
     ensures pass { IsOf board.now pass.new }
     ensures idle { IsIdle pass.new }
     ensures sole { OnOk result (IsSole pass.new) }
     ensures end { OnOk result
         (IsEnd (instance_of board.now) (vector (opening_of board.now) (view pass.new).mine)) }
+    ensures reader { IfOk result (Belongs shared.now.instance.now.stacks) }
 {
+    let Crew { rt, gate, .. } = crew;
     let mut deques = deques;
     let first = deques.remove(0);
-    let mut tools = Tools::of(shared.alloc, shared.instance, 0)?;
+    let mut tools = Tools::with(shared.alloc, shared.instance, 0, reader)?;
     let mut jobs = Jobs {
         own: first,
         others: hand_out(shared.alloc, board, pass, deques)?,
@@ -137,7 +178,8 @@ fn work_with<'i, W: Range + Send + Sync, R: Threads + Sync, G: Gate + Sync>(
     let mut own = own;
     take_back(board, pass, others)?;
     work(board, pass, shared, &mut tools, &mut own, &NoGate)?;
-    round_off(board, pass, shared, &mut tools, &mut own)
+    round_off(board, pass, shared, &mut tools, &mut own)?;
+    Ok(tools.reader)
 }
 
 // The index of a listed family.

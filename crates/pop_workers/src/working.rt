@@ -25,8 +25,8 @@ const MOST_MEETINGS: u32 = 100;
 const POPS: u64 = 1 << 32;
 
 /// The turns of a worker: a look at each hint, until there is none. Behind a pop it puts hints
-/// where events may have become poppable, and where it met another it puts the hint back. It is
-/// refused only for want of memory.
+/// where events may have become poppable. A hint at which it met another waits until the next one
+/// is taken, and is put back then, or at the end. It is refused only for want of memory.
 pub(crate) fn work<W: Range, G: Gate>(
     board: &Board,
     pass: &mut Pass,
@@ -52,11 +52,13 @@ pub(crate) fn work<W: Range, G: Gate>(
     ensures worker { tools.new.worker ≡ tools.old.worker }
 {
     let mut meetings = 0;
+    let mut met = None;
     for turn in 0..MOST_TURNS {
         gate.at(tools.worker, turn);
-        let Some(unit) = next(own, &shared.all, tools.worker) else {
+        let Some(unit) = next(own, &shared.all, tools.worker, met) else {
             break;
         };
+        met = None;
         match search(board, pass, shared, tools, unit, POPS) {
             Found::Popped => {
                 spread(shared, own, unit);
@@ -64,7 +66,7 @@ pub(crate) fn work<W: Range, G: Gate>(
             }
             Found::Done => meetings = 0,
             Found::Met => {
-                give(own, unit);
+                met = Some(unit);
                 meetings += 1;
             }
             Found::NoMemory => return Err(AllocError),
@@ -72,6 +74,9 @@ pub(crate) fn work<W: Range, G: Gate>(
         if meetings >= MOST_MEETINGS {
             break;
         }
+    }
+    if let Some(unit) = met {
+        give(own, unit);
     }
     Ok(())
 }

@@ -1,5 +1,5 @@
 use Rattle.pop_model.specs.Families.{units_of}
-use Rattle.pop_workers.proofs.words.work_claimed.Given as goal
+use Rattle.pop_workers.proofs.words.work_by.Given as goal
 
 -- the hints are units of the instance
 abbrev pub ghosts-work_over : goal.ghosts-work_over
