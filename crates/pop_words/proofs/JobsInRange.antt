@@ -8,17 +8,19 @@ use Rattle.pop_words.specs.declared.command.Command.TheVariants.{Make}
 use Rattle.pop_words.specs.declared.job.Job.{Job}
 use Rattle.pop_edge.specs.Numbers.{number_of}
 use Rattle.pop_words.specs.declared.field.Field.{Field}
-use Rattle.pop_words.specs.declared.field.Field.TheVariants.{Stacks, Key, Height, Grow, Count, Workers, Board, Log, Root, Witness, Reports, Size}
+use Rattle.pop_words.specs.declared.field.Field.TheVariants.{Stacks, Key, Height, Grow, Count, Pops, Workers, Board, Log, Root, Witness, Reports, Size}
 use Rattle.pop_words.specs.Values.{number_between, rows_in, key_in, board_in, switch_in, pair_in, reports_in}
 use Rattle.pop_words.specs.Options.{default_job, NamedOption, options, value_of}
 use Rattle.pop_words.proofs.ValuesLemmas.{passed}
 use Rattle.pop_words.specs.CommandLines.{Choice, options_of, AreOptions, Asks, job_from, set_option}
 use Rattle.pop_words.proofs.ListTests.{first_is_in, head_is}
 
--- what a job has only where an option asks for it: a last height may be that of keyed stacks, and samples are not too many
+-- what a job has only where an option asks for it: a last height may be that of keyed stacks, samples are not too many, and
+-- a run stops no sooner than behind one pop
 abbrev pub MayBeAsked : Job → Type 0
 MayBeAsked job =
     IfSome job.grow (λ last. (0 < last) × (last < 2 ^ 31)) × IfSome job.count (λ count. (0 < count) × (count ≤ 65536))
+    × IfSome job.pops (λ pops. (0 < pops) × (pops < 2 ^ 32))
 
 -- The job is of the command. Its height may be that of keyed stacks, its workers are few, its root may be that of a
 -- tree, its size is from the least on, and one that a grid may have, and what only options ask for is in range.
@@ -55,10 +57,13 @@ keeps_range command least low f word job set value is = by_field f value
         (is.0, (omega arith, omega arith), is.2, is.3, is.4, is.5)) some
     by_field Grow some = of_map (IsInRange command least) job set _ (number_between 1 (2 ^ 31 - 1) word)
         (λ n read. let bounds = between 1 (2 ^ 31 - 1) n word read in
-        (is.0, is.1, is.2, is.3, is.4, ((omega arith, omega arith), is.5.1))) some
+        (is.0, is.1, is.2, is.3, is.4, ((omega arith, omega arith), is.5.1, is.5.2))) some
     by_field Count some = of_map (IsInRange command least) job set _ (number_between 1 65536 word)
         (λ n read. let bounds = between 1 65536 n word read in
-        (is.0, is.1, is.2, is.3, is.4, (is.5.0, (omega arith, omega arith)))) some
+        (is.0, is.1, is.2, is.3, is.4, (is.5.0, (omega arith, omega arith), is.5.2))) some
+    by_field Pops some = of_map (IsInRange command least) job set _ (number_between 1 (2 ^ 32 - 1) word)
+        (λ n read. let bounds = between 1 (2 ^ 32 - 1) n word read in
+        (is.0, is.1, is.2, is.3, is.4, (is.5.0, is.5.1, (omega arith, omega arith)))) some
     by_field Workers some = of_map (IsInRange command least) job set _ (number_between 1 64 word)
         (λ n read. let bounds = between 1 64 n word read in
         (is.0, is.1, (omega arith, omega arith), is.3, is.4, is.5)) some
@@ -109,7 +114,7 @@ grid = record { name = codes "grid"; field = Size; commands = Make ∷ []; exclu
 
 -- it is in the table
 grid_listed : Contains options grid
-grid_listed = (11, omega arith, refl)
+grid_listed = (12, omega arith, refl)
 
 -- where `grid` is among the choices, the size is from 1 on
 choices_size : (command : Command) (before : List NamedOption) (job : Job) (chosen : List Choice)
@@ -130,7 +135,7 @@ choices_size command before job (p ∷ chosen) are among is =
 -- with no option the numbers are in range
 default_range : (command : Command) → IsInRange command 0 (default_job command)
 default_range command =
-    (refl, (lit< tt, lit< tt), (lit< tt, lit< tt), (lit< tt, lit< tt), (omega arith, omega arith), (tt, tt))
+    (refl, (lit< tt, lit< tt), (lit< tt, lit< tt), (lit< tt, lit< tt), (omega arith, omega arith), (tt, tt, tt))
 
 -- a job that is asked for has its numbers in range
 asked_range : (words : List (List ℕ)) (job : Job) (asks : Asks words job) → IsInRange asks.command 0 job
@@ -150,6 +155,11 @@ asked_grow words job asks = (asked_range words job asks).5.0
 pub asked_count : (words : List (List ℕ)) (job : Job) → Asks words job
     → IfSome job.count (λ count. (0 < count) × (count ≤ 65536))
 asked_count words job asks = (asked_range words job asks).5.1
+
+-- a number of pops from 1 on that fits 32 bits, if its run may stop before its end
+pub asked_pops : (words : List (List ℕ)) (job : Job) → Asks words job
+    → IfSome job.pops (λ pops. (0 < pops) × (pops < 2 ^ 32))
+asked_pops words job asks = (asked_range words job asks).5.2
 
 -- from 1 to 64 workers
 pub asked_workers : (words : List (List ℕ)) (job : Job) → Asks words job → (0 < job.workers) × (job.workers ≤ 64)

@@ -28,8 +28,12 @@ pub mod ReadingLemmas
 pub mod OneJob
 -- the numbers of a job that is asked for are in range
 pub mod JobsInRange
+-- what no command has by default was set by an option that was chosen, and chosen options exclude none of each other
+pub mod StandingOptions
 -- where rows are given, neither a last height nor a batch is asked for
 pub mod GivenAlone
+-- a run that may stop before its end is asked for with its stacks, their height and a root alone
+pub mod PausedAlone
 -- the loop
 -- what the loop has read so far, and what it finds next
 pub mod OptionsSoFar

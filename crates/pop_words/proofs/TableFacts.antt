@@ -9,9 +9,9 @@ use Rattle.std.proofs.lemmas.Map.Views.{Contains-from_any}
 use Rattle.std.proofs.lemmas.Slice.Eq.{bytes_eq-Decides}
 use Rattle.hex.proofs.OnLiterals.{hex_on_literals}
 use Rattle.pop_words.specs.declared.command.Command.{Command}
-use Rattle.pop_words.specs.declared.command.Command.TheVariants.{Formula, Orient, Tree, Resample, Check, Make, Rounds}
+use Rattle.pop_words.specs.declared.command.Command.TheVariants.{Formula, Orient, Tree, Resample, Check, Make, Rounds, Replay, Resume}
 use Rattle.pop_words.specs.declared.field.Field.{Field}
-use Rattle.pop_words.specs.declared.field.Field.TheVariants.{Stacks, Key, Height, Grow, Count, Workers, Board, Log, Root, Witness, Reports, Size}
+use Rattle.pop_words.specs.declared.field.Field.TheVariants.{Stacks, Key, Height, Grow, Count, Pops, Workers, Board, Log, Root, Witness, Reports, Size}
 use Rattle.pop_words.specs.Values.{are_different}
 use Rattle.pop_words.specs.Options.{commands, command_word, NamedOption, options, value_of}
 use Rattle.pop_words.specs.CommandLines.{AreCompatible}
@@ -30,6 +30,8 @@ commanded_again Resample = refl
 commanded_again Check = refl
 commanded_again Make = refl
 commanded_again Rounds = refl
+commanded_again Replay = refl
+commanded_again Resume = refl
 
 -- the names of options
 abbrev names : List NamedOption → List (List ℕ)
@@ -46,6 +48,7 @@ example Key = codes "00000000000000000000000000000000000000000000000000000000000
 example Height = codes "1"
 example Grow = codes "1"
 example Count = codes "1"
+example Pops = codes "1"
 example Workers = codes "1"
 example Board = codes "lock"
 example Log = codes "on"
@@ -62,6 +65,7 @@ example_is_value Key = refl
 example_is_value Height = refl
 example_is_value Grow = refl
 example_is_value Count = refl
+example_is_value Pops = refl
 example_is_value Workers = refl
 example_is_value Board = refl
 example_is_value Log = refl

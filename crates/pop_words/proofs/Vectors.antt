@@ -4,7 +4,7 @@ use Rattle.hex.proofs.OnLiterals.{hex_on_literals}
 use Rattle.pop_stacks.specs.declared.stack_spec.StackSpec.TheVariants.{Given, Key}
 use Rattle.pop_words.specs.declared.board_kind.BoardKind.TheVariants.{Lock, Words}
 use Rattle.pop_words.specs.declared.command.Command.{Command}
-use Rattle.pop_words.specs.declared.command.Command.TheVariants.{Formula, Orient, Tree, Resample, Check, Make, Rounds}
+use Rattle.pop_words.specs.declared.command.Command.TheVariants.{Formula, Orient, Tree, Resample, Check, Make, Rounds, Replay, Resume}
 use Rattle.pop_words.specs.declared.job.Job.{Job}
 use Rattle.pop_words.specs.Values.{number_between, rows_in, key_in, board_in, switch_in, reports_in}
 use Rattle.pop_words.specs.CommandLines.{Asks, IsBadPlace}
@@ -131,6 +131,7 @@ plain command =
       height = 1048576;
       grow = None;
       count = None;
+      pops = None;
       workers = 1;
       board = Words;
       root = 1;
@@ -163,6 +164,26 @@ resample_alone = reading_is (codes "resample" ∷ [])
 -- `rounds` alone is a job with no option, which tells no log
 rounds_alone : Asks (codes "rounds" ∷ []) (plain Rounds)
 rounds_alone = reading_is (codes "rounds" ∷ [])
+
+-- `replay` alone is a job with no option
+replay_alone : Asks (codes "replay" ∷ []) (plain Replay)
+replay_alone = reading_is (codes "replay" ∷ [])
+
+-- workers may share the pops of a run that goes on, on the board of a lock
+workers_of_resume : Asks (codes "resume" ∷ codes "--workers" ∷ codes "2" ∷ codes "--board" ∷ codes "lock" ∷ [])
+    (record (plain Resume) { workers = 2; board = Lock })
+workers_of_resume =
+    reading_is (codes "resume" ∷ codes "--workers" ∷ codes "2" ∷ codes "--board" ∷ codes "lock" ∷ [])
+
+-- a run on given rows may stop after a pop
+pops_of_rows : Asks (codes "formula" ∷ codes "--stacks" ∷ codes "0,0,1" ∷ codes "--pops" ∷ codes "1" ∷ [])
+    (record (plain Formula) { stacks = Given ((0 ∷ 0 ∷ 1 ∷ []) ∷ []); pops = Some 1 })
+pops_of_rows = reading_is (codes "formula" ∷ codes "--stacks" ∷ codes "0,0,1" ∷ codes "--pops" ∷ codes "1" ∷ [])
+
+-- a resampling that may stop tells its log where it doesn't
+pops_of_resample : Asks (codes "resample" ∷ codes "--pops" ∷ codes "4294967295" ∷ [])
+    (record (plain Resample) { pops = Some 4294967295; log = true })
+pops_of_resample = reading_is (codes "resample" ∷ codes "--pops" ∷ codes "4294967295" ∷ [])
 
 -- options stand in any order, and their numbers may begin with zeros
 height_behind_root : Asks (codes "tree" ∷ codes "--root" ∷ codes "03" ∷ codes "--height" ∷ codes "9" ∷ [])
@@ -296,6 +317,38 @@ stacks_behind_height : IsBadPlace (codes "formula" ∷ codes "--height" ∷ code
     codes "0" ∷ []) 4
 stacks_behind_height = reading_is (codes "formula" ∷ codes "--height" ∷ codes "5" ∷ codes "--stacks" ∷
     codes "0" ∷ [])
+
+-- a run that may stop before its end shares no workers
+workers_behind_pops : IsBadPlace (codes "formula" ∷ codes "--pops" ∷ codes "4" ∷ codes "--workers" ∷ codes "2" ∷ []) 4
+workers_behind_pops = reading_is (codes "formula" ∷ codes "--pops" ∷ codes "4" ∷ codes "--workers" ∷ codes "2" ∷ [])
+
+-- what workers share doesn't stop before its end
+pops_behind_workers : IsBadPlace (codes "formula" ∷ codes "--workers" ∷ codes "2" ∷ codes "--pops" ∷ codes "4" ∷ []) 4
+pops_behind_workers = reading_is (codes "formula" ∷ codes "--workers" ∷ codes "2" ∷ codes "--pops" ∷ codes "4" ∷ [])
+
+-- nor does a batch
+pops_behind_count : IsBadPlace (codes "tree" ∷ codes "--count" ∷ codes "2" ∷ codes "--pops" ∷ codes "4" ∷ []) 4
+pops_behind_count = reading_is (codes "tree" ∷ codes "--count" ∷ codes "2" ∷ codes "--pops" ∷ codes "4" ∷ [])
+
+-- no run stops before its first pop by its words
+pops_zero : IsBadPlace (codes "formula" ∷ codes "--pops" ∷ codes "0" ∷ []) 3
+pops_zero = reading_is (codes "formula" ∷ codes "--pops" ∷ codes "0" ∷ [])
+
+-- 2 ^ 32 pops are too many
+pops_past_the_greatest : IsBadPlace (codes "formula" ∷ codes "--pops" ∷ codes "4294967296" ∷ []) 3
+pops_past_the_greatest = reading_is (codes "formula" ∷ codes "--pops" ∷ codes "4294967296" ∷ [])
+
+-- the tree of a grid that is made is run to its end
+pops_of_make : IsBadPlace (codes "make" ∷ codes "--pops" ∷ codes "4" ∷ codes "grid" ∷ codes "2" ∷ []) 2
+pops_of_make = reading_is (codes "make" ∷ codes "--pops" ∷ codes "4" ∷ codes "grid" ∷ codes "2" ∷ [])
+
+-- a replay shares no workers
+no_workers_of_replay : IsBadPlace (codes "replay" ∷ codes "--workers" ∷ codes "2" ∷ []) 2
+no_workers_of_replay = reading_is (codes "replay" ∷ codes "--workers" ∷ codes "2" ∷ [])
+
+-- a run that goes on has the stacks of its certificate
+no_key_of_resume : IsBadPlace (codes "resume" ∷ codes "--key" ∷ zeros ∷ []) 2
+no_key_of_resume = reading_is (codes "resume" ∷ codes "--key" ∷ zeros ∷ [])
 
 -- a root of 0 is bad at its value
 root_zero : IsBadPlace (codes "tree" ∷ codes "--root" ∷ codes "0" ∷ []) 3

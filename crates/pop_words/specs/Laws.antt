@@ -1,8 +1,9 @@
 -- The laws of the grammar: it leaves the reading of words no choice, and its jobs can be done.
-use Rattle.std.specs.Prelude.{◌≡◌, ◌⊎◌, ℕ, ◌^◌, ◌<◌, ◌≤◌, List, None, IfSome}
+use Rattle.std.specs.Prelude.{◌≡◌, ◌⊎◌, ℕ, ◌^◌, ◌<◌, ◌≤◌, List, None, Some, IfSome}
 use Rattle.pop_stacks.specs.declared.stack_spec.StackSpec.TheVariants.{Given}
 use Rattle.pop_words.specs.declared.command.Command.TheVariants.{Make}
 use Rattle.pop_words.specs.declared.job.Job.{Job}
+use Rattle.pop_words.specs.Options.{default_job}
 use Rattle.pop_words.specs.CommandLines.{Asks, AreWords, IsBadPlace}
 
 -- a list of words asks for at most one job
@@ -32,11 +33,27 @@ abbrev pub CountInRange : Type 0
 CountInRange = (words : List (List ℕ)) (job : Job) → Asks words job
     → IfSome job.count (λ count. (0 < count) × (count ≤ 65536))
 
+-- pops that are asked for are from 1 on, and their number fits 32 bits
+abbrev pub PopsInRange : Type 0
+PopsInRange = (words : List (List ℕ)) (job : Job) → Asks words job
+    → IfSome job.pops (λ pops. (0 < pops) × (pops < 2 ^ 32))
+
 -- where rows are given, neither a last height nor a batch is asked for
 abbrev pub GivenAlone : Type 0
 GivenAlone = (words : List (List ℕ)) (job : Job) → Asks words job
     → (rows : List (List ℕ)) → job.stacks ≡ Given rows
     → (job.grow ≡ None) × (job.count ≡ None)
+
+-- a run that may stop before its end is asked for with its stacks, their height and a root alone
+abbrev pub PausedAlone : Type 0
+PausedAlone = (words : List (List ℕ)) (job : Job) → Asks words job
+    → (pops : ℕ) → job.pops ≡ Some pops
+    → job ≡ record (default_job job.command) {
+      stacks = job.stacks;
+      height = job.height;
+      pops = Some pops;
+      root = job.root;
+    }
 
 -- the workers that are asked for are from 1 to 64
 abbrev pub WorkersInRange : Type 0

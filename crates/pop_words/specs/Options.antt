@@ -2,12 +2,12 @@
 use Rattle.std.specs.Prelude.{ℕ, ◌-◌, ◌^◌, Bool, true, false, List, [], ◌∷◌, replicate, Option, None, Some, option_map, codes}
 use Rattle.pop_stacks.specs.declared.stack_spec.StackSpec.TheVariants.{Key as KeyedStacks, Given as GivenStacks}
 use Rattle.pop_words.specs.declared.command.Command.{Command}
-use Rattle.pop_words.specs.declared.command.Command.TheVariants.{Formula, Orient, Tree, Resample, Check, Make, Rounds}
+use Rattle.pop_words.specs.declared.command.Command.TheVariants.{Formula, Orient, Tree, Resample, Check, Make, Rounds, Replay, Resume}
 use Rattle.pop_words.specs.declared.command.Input.{Input}
-use Rattle.pop_words.specs.declared.command.Input.TheVariants.{Formula as OfFormula, Graph as OfGraph, Nothing as OfNothing}
+use Rattle.pop_words.specs.declared.command.Input.TheVariants.{Formula as OfFormula, Graph as OfGraph, Nothing as OfNothing, Certificate as OfCertificate}
 use Rattle.pop_words.specs.declared.board_kind.BoardKind.TheVariants.{Words}
 use Rattle.pop_words.specs.declared.field.Field.{Field}
-use Rattle.pop_words.specs.declared.field.Field.TheVariants.{Stacks, Key, Height, Grow, Count, Workers, Board, Log, Root, Witness, Reports as ReportKinds, Size}
+use Rattle.pop_words.specs.declared.field.Field.TheVariants.{Stacks, Key, Height, Grow, Count, Pops, Workers, Board, Log, Root, Witness, Reports as ReportKinds, Size}
 use Rattle.pop_words.specs.declared.job.Job.{Job}
 use Rattle.pop_words.specs.Values.{number_between, rows_in, key_in, board_in, switch_in, pair_in, no_reports, reports_in}
 
@@ -22,7 +22,7 @@ pub record NamedCommand : Type 0 where
 
 -- every command
 abbrev pub commands : List Command
-commands = Formula ∷ Orient ∷ Tree ∷ Resample ∷ Check ∷ Make ∷ Rounds ∷ []
+commands = Formula ∷ Orient ∷ Tree ∷ Resample ∷ Check ∷ Make ∷ Rounds ∷ Replay ∷ Resume ∷ []
 
 -- the table of commands
 abbrev pub command_row : Command → NamedCommand
@@ -33,6 +33,8 @@ command_row Resample = record { word = codes "resample"; input = OfFormula; log 
 command_row Check = record { word = codes "check"; input = OfFormula; log = false }
 command_row Make = record { word = codes "make"; input = OfNothing; log = false }
 command_row Rounds = record { word = codes "rounds"; input = OfFormula; log = false }
+command_row Replay = record { word = codes "replay"; input = OfCertificate; log = false }
+command_row Resume = record { word = codes "resume"; input = OfCertificate; log = false }
 
 -- the word of a command
 abbrev pub command_word : Command → List ℕ
@@ -51,6 +53,7 @@ default_job command =
       height = 1048576;
       grow = None;
       count = None;
+      pops = None;
       workers = 1;
       board = Words;
       root = 1;
@@ -72,6 +75,8 @@ value_of Grow word =
     option_map (λ n job. record job { grow = Some n }) (number_between 1 (2 ^ 31 - 1) word)
 value_of Count word =
     option_map (λ n job. record job { count = Some n }) (number_between 1 65536 word)
+value_of Pops word =
+    option_map (λ n job. record job { pops = Some n }) (number_between 1 (2 ^ 32 - 1) word)
 value_of Workers word = option_map (λ n job. record job { workers = n }) (number_between 1 64 word)
 value_of Board word = option_map (λ board job. record job { board = board }) (board_in word)
 value_of Log word = option_map (λ log job. record job { log = log }) (switch_in word)
@@ -103,6 +108,14 @@ sampling = Formula ∷ Orient ∷ Tree ∷ Resample ∷ Make ∷ Rounds ∷ []
 abbrev pub popping : List Command
 popping = Formula ∷ Orient ∷ Tree ∷ Resample ∷ Make ∷ []
 
+-- the commands whose pops workers may share: these, and the one that goes on with their runs
+abbrev pub shared : List Command
+shared = Formula ∷ Orient ∷ Tree ∷ Resample ∷ Make ∷ Resume ∷ []
+
+-- the commands whose run may stop before its end
+abbrev pub paused : List Command
+paused = Formula ∷ Orient ∷ Tree ∷ Resample ∷ []
+
 -- the commands whose answer may be a batch of samples
 abbrev pub batched : List Command
 batched = Formula ∷ Orient ∷ Tree ∷ []
@@ -111,7 +124,7 @@ batched = Formula ∷ Orient ∷ Tree ∷ []
 abbrev pub quiet : List Command
 quiet = Formula ∷ Orient ∷ Tree ∷ Make ∷ []
 
--- the names of the options that say how one run is made, and what is told of it
+-- the names of the options that say how one run is made to its end, and what is told of it
 abbrev pub of_one_run : List (List ℕ)
 of_one_run =
     codes "--workers" ∷ codes "--board" ∷ codes "--log" ∷ codes "--witness" ∷ codes "--report"
@@ -142,8 +155,15 @@ options =
       excludes = codes "--stacks" ∷ of_one_run;
       needed = false;
     }
-    ∷ free_option (codes "--workers") Workers popping
-    ∷ free_option (codes "--board") Board popping
+    ∷ record {
+      name = codes "--pops";
+      field = Pops;
+      commands = paused;
+      excludes = codes "--count" ∷ of_one_run;
+      needed = false;
+    }
+    ∷ free_option (codes "--workers") Workers shared
+    ∷ free_option (codes "--board") Board shared
     ∷ free_option (codes "--log") Log quiet
     ∷ free_option (codes "--root") Root (Tree ∷ [])
     ∷ free_option (codes "--witness") Witness popping

@@ -3,7 +3,8 @@ ghost use Rattle.std.specs.Prelude.{◌≡◌};
 ghost use Rattle.pop_words.specs.Options.{command_row, command_word, input_of};
 ghost use Rattle.pop_words.specs.Reading.{command_named};
 
-/// What is to be done with the formula or the graph on the input, or with a graph that is made.
+/// What is to be done with the formula, the graph or the certificate on the input, or with a graph
+/// that is made.
 #[derive(Clone, Copy, Debug, PartialEq, Eq)]
 pub enum Command {
     /// `formula`: sample a valuation that satisfies the formula.
@@ -23,6 +24,11 @@ pub enum Command {
     /// `rounds`: sample a valuation as `formula` does, of clauses that may clash, by synchronous
     /// rounds.
     Rounds,
+    /// `replay`: judge the log of a certificate, and say where its run stands.
+    Replay,
+    /// `resume`: go on to an end with the run of a certificate, and tell what the certificate's
+    /// command tells.
+    Resume,
 }
 
 /// What a command reads.
@@ -34,6 +40,8 @@ pub enum Input {
     Graph,
     /// No byte.
     Nothing,
+    /// A certificate: a command, its stacks and its input, with the log of a run.
+    Certificate,
 }
 
 // What there is to say of a command.
@@ -48,7 +56,7 @@ struct CommandRow {
 }
 
 impl Command {
-    const ALL: [Command; 7] = [
+    const ALL: [Command; 9] = [
         Command::Formula,
         Command::Orient,
         Command::Tree,
@@ -56,6 +64,8 @@ impl Command {
         Command::Check,
         Command::Make,
         Command::Rounds,
+        Command::Replay,
+        Command::Resume,
     ];
 
     // Its row of the table.
@@ -72,6 +82,8 @@ impl Command {
             Command::Check => ("check", Input::Formula, false),
             Command::Make => ("make", Input::Nothing, false),
             Command::Rounds => ("rounds", Input::Formula, false),
+            Command::Replay => ("replay", Input::Certificate, false),
+            Command::Resume => ("resume", Input::Certificate, false),
         };
         CommandRow { word, input, log }
     }

@@ -13,6 +13,9 @@ const MAX_HEIGHT: u32 = (1 << 31) - 1;
 // How many samples a batch may have.
 const MAX_COUNT: u32 = 65536;
 
+// After how many pops a run may stop.
+const MAX_POPS: u32 = u32::MAX;
+
 // How many workers there may be.
 const MAX_WORKERS: u32 = 64;
 
@@ -27,6 +30,7 @@ pub enum Field {
     Height,
     Grow,
     Count,
+    Pops,
     Workers,
     Board,
     Log,
@@ -62,6 +66,7 @@ impl Field {
             }),
             Field::Grow => number_between(1, MAX_HEIGHT, word).map(move |last| job.with_grow(last)),
             Field::Count => number_between(1, MAX_COUNT, word).map(move |n| job.with_count(n)),
+            Field::Pops => number_between(1, MAX_POPS, word).map(move |n| job.with_pops(n)),
             Field::Workers => {
                 number_between(1, MAX_WORKERS, word).map(move |workers| Job { workers, ..job })
             }

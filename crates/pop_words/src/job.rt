@@ -20,6 +20,9 @@ pub struct Job {
     /// How many samples are drawn, from 1 to 65536: that of `--count`. None by default: one sample
     /// is drawn, and it isn't told as a batch.
     pub count: Option<u32>,
+    /// After how many pops a run stops, from 1 to 2^32 - 1: that of `--pops`. None by default: it
+    /// runs to its end.
+    pub pops: Option<u32>,
     /// How many workers share the pops, from 1 to 64: that of `--workers`, which is 1 by default.
     pub workers: u32,
     /// The board on which the workers meet: that of `--board`, which is the claim words by default.
@@ -52,6 +55,7 @@ impl Job {
             height: 1 << 20,
             grow: None,
             count: None,
+            pops: None,
             workers: 1,
             board: BoardKind::Words,
             root: 1,
@@ -85,6 +89,16 @@ impl Job {
     {
         Job {
             count: Some(count),
+            ..self
+        }
+    }
+
+    // The job whose run stops after so many pops.
+    pub(crate) fn with_pops(self, pops: u32) -> Job
+        ensures { result ≡ record self { pops = Some pops } }
+    {
+        Job {
+            pops: Some(pops),
             ..self
         }
     }

@@ -1,6 +1,6 @@
 //! The laws of the grammar: it leaves the reading of words no choice. Each function's contract is
 //! the law.
-ghost use Rattle.pop_words.specs.Laws.{OneJob, OneBadPlace, JobOrBadPlace, HeightInRange, GrowInRange, CountInRange, GivenAlone, WorkersInRange, RootInRange, SizeInRange};
+ghost use Rattle.pop_words.specs.Laws.{OneJob, OneBadPlace, JobOrBadPlace, HeightInRange, GrowInRange, CountInRange, PopsInRange, GivenAlone, PausedAlone, WorkersInRange, RootInRange, SizeInRange};
 
 /// A list of words asks for at most one job.
 pub fn one_job()
@@ -32,9 +32,19 @@ pub fn count_in_range()
     ensures { CountInRange }
 {}
 
+/// A number of pops that is asked for is from 1 to 2^32 - 1.
+pub fn pops_in_range()
+    ensures { PopsInRange }
+{}
+
 /// Where rows are given, neither a last height nor a batch is asked for.
 pub fn given_alone()
     ensures { GivenAlone }
+{}
+
+/// A run that may stop before its end is asked for with its stacks, their height and a root alone.
+pub fn paused_alone()
+    ensures { PausedAlone }
 {}
 
 /// The workers that are asked for are from 1 to 64.

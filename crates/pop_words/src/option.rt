@@ -32,14 +32,32 @@ const SAMPLING: &[Command] = &[
     Command::Rounds,
 ];
 
-// The commands that pop one event after another: all that sample but rounds. Workers may share
-// their pops, and their stacks may grow.
+// The commands that pop one event after another: all that sample but rounds. Their stacks may
+// grow, and what their log shows may be told.
 const POPPING: &[Command] = &[
     Command::Formula,
     Command::Orient,
     Command::Tree,
     Command::Resample,
     Command::Make,
+];
+
+// The commands whose pops workers may share: these, and the one that goes on with their runs.
+const SHARED: &[Command] = &[
+    Command::Formula,
+    Command::Orient,
+    Command::Tree,
+    Command::Resample,
+    Command::Make,
+    Command::Resume,
+];
+
+// The commands whose run may stop before its end.
+const PAUSED: &[Command] = &[
+    Command::Formula,
+    Command::Orient,
+    Command::Tree,
+    Command::Resample,
 ];
 
 // The commands whose answer may be a batch of samples.
@@ -68,7 +86,18 @@ const UNBATCHED: &[&str] = &[
     "--grow",
 ];
 
-const OPTIONS: [OptionRow; 12] = [
+// The options that no run has which may stop before its end: a certificate says nothing of them.
+const UNPAUSED: &[&str] = &[
+    "--count",
+    "--workers",
+    "--board",
+    "--log",
+    "--witness",
+    "--report",
+    "--grow",
+];
+
+const OPTIONS: [OptionRow; 13] = [
     OptionRow {
         name: "--stacks",
         field: Field::Stacks,
@@ -105,16 +134,23 @@ const OPTIONS: [OptionRow; 12] = [
         needed: false,
     },
     OptionRow {
+        name: "--pops",
+        field: Field::Pops,
+        commands: PAUSED,
+        excludes: UNPAUSED,
+        needed: false,
+    },
+    OptionRow {
         name: "--workers",
         field: Field::Workers,
-        commands: POPPING,
+        commands: SHARED,
         excludes: &[],
         needed: false,
     },
     OptionRow {
         name: "--board",
         field: Field::Board,
-        commands: POPPING,
+        commands: SHARED,
         excludes: &[],
         needed: false,
     },

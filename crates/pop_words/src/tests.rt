@@ -1,9 +1,12 @@
+mod certificates;
 mod lines;
 
 use crate::{BoardKind, Job, WordFault, read_words};
+use certificates::{CERTIFIED, UNCERTIFIED};
 use lines::{ACCEPTED, LIMITS, REFUSED};
 use pop_stacks::StackSpec;
 use std::alloc::{AllocError, Global};
+use std::process::Abort;
 use std::test::Fail;
 
 // 64 zeros, which stand as `Z` in the tables.
@@ -60,6 +63,7 @@ fn shown(alloc: Global, job: &Job) -> Result<String, AllocError> {
     push_number(&mut text, "height", job.height, 1048576)?;
     push_some(&mut text, "grow", job.grow)?;
     push_some(&mut text, "count", job.count)?;
+    push_some(&mut text, "pops", job.pops)?;
     push_number(&mut text, "root", job.root, 1)?;
     push_number(&mut text, "workers", job.workers, 1)?;
     push_if(&mut text, job.board == BoardKind::Lock, " lock")?;
@@ -100,26 +104,45 @@ fn repeated(
     Ok(all)
 }
 
-#[test]
-fn words_in_the_grammar_give_their_job(rt: HostRuntime) -> Result<(), Fail> {
-    for (line, job) in ACCEPTED.iter() {
-        let read = read_line(rt.alloc(), line)?;
-        assert_eq!(rt; shown(rt.alloc(), &read)?.as_str(), *job, "{line}");
+/// Reads lines of the grammar.
+fn read_each(rt: &impl Abort, alloc: Global, lines: &[(&str, &str)]) -> Result<(), Fail> {
+    for (line, job) in lines.iter() {
+        let read = read_line(alloc, line)?;
+        assert_eq!(rt; shown(alloc, &read)?.as_str(), *job, "{line}");
     }
     Ok(())
 }
 
-#[test]
-fn words_outside_the_grammar_give_their_first_bad_place(rt: HostRuntime) -> Result<(), Fail> {
-    for (line, place) in REFUSED.iter() {
-        let fault = read_line(rt.alloc(), line).err();
+/// Reads lines outside the grammar.
+fn refuse_each(rt: &impl Abort, alloc: Global, lines: &[(&str, u32)]) {
+    for (line, place) in lines.iter() {
+        let fault = read_line(alloc, line).err();
         assert_eq!(rt; fault, Some(WordFault::Usage(*place)), "{line}");
     }
+}
+
+#[test]
+fn words_in_the_grammar_give_their_job(rt: HostRuntime) -> Result<(), Fail> {
+    read_each(&rt, rt.alloc(), &ACCEPTED)
+}
+
+#[test]
+fn words_of_certificates_give_their_job(rt: HostRuntime) -> Result<(), Fail> {
+    read_each(&rt, rt.alloc(), &CERTIFIED)
+}
+
+#[test]
+fn words_outside_the_grammar_give_their_first_bad_place(rt: HostRuntime) {
+    refuse_each(&rt, rt.alloc(), &REFUSED);
     assert_eq!(rt;
         read_words(rt.alloc(), &[]).err(),
         Some(WordFault::Usage(1))
     );
-    Ok(())
+}
+
+#[test]
+fn words_of_certificates_outside_the_grammar_give_their_first_bad_place(rt: HostRuntime) {
+    refuse_each(&rt, rt.alloc(), &UNCERTIFIED);
 }
 
 #[test]
