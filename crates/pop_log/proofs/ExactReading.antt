@@ -29,12 +29,12 @@ use Rattle.pop_log.proofs.LegalRecords.{all_may, next_legal, placed_may}
 use Rattle.pop_log.proofs.WrittenLines.{few_written, one_list, one_version, text_lines}
 
 -- the lines of the text are those of these written records, which are printed of the log
-record IsWritten (names : Names) (i : Instance) (text : List ℕ) (log : List LogRecord) (version : LogVersion)
+pub record IsWritten (names : Names) (i : Instance) (text : List ℕ) (log : List LogRecord) (version : LogVersion)
     (ws : List Written) : Type 0 where
-  short : length text ≤ 2 ^ 28
-  legal : IsLegal i (start_of i) log
-  lines : AreLogLines names i.family version (lines_with_ends text) ws
-  printed_are : map (λ w. w.1) ws ≡ map (printed names i.family) log
+  pub short : length text ≤ 2 ^ 28
+  pub legal : IsLegal i (start_of i) log
+  pub lines : AreLogLines names i.family version (lines_with_ends text) ws
+  pub printed_are : map (λ w. w.1) ws ≡ map (printed names i.family) log
 
 -- a record as it is written in version 1
 abbrev unlayered : Names → Family → LogRecord → Written
@@ -55,6 +55,14 @@ ordered_may : (names : Names) (family : Family) (log : List LogRecord)
 ordered_may names family [] may = tt
 ordered_may names family (r ∷ log) may =
     (record { layer = refl; record_is = may.0 }, ordered_may names family log may.1)
+
+-- a record of a log that is layered as it stands follows those before it
+pub follows_at : (before front : List Placed) (p : Placed) (rest : List Placed) → AreInLayers before (front ++ p ∷ rest)
+    → FollowsInLayers (before ++ front) p
+follows_at before [] p rest are = subst (λ l. FollowsInLayers l p) (sym (append-nil before)) are.0
+follows_at before (q ∷ front) p rest are =
+    subst (λ l. FollowsInLayers l p) (append_assoc before (q ∷ []) front)
+    (follows_at (before ++ q ∷ []) front p rest are.1)
 
 module _ (names : Names) (i : Instance) (is : IsInstance i) (numbers : NumbersFit i.family) (text : List ℕ)
     (log : List LogRecord) where
@@ -93,7 +101,7 @@ module _ (names : Names) (i : Instance) (is : IsInstance i) (numbers : NumbersFi
       }
 
   -- no record of a text is the first that isn't legal
-  none_illegal : (version : LogVersion) (ws : List Written) → IsWritten names i text log version ws → (k : ℕ)
+  pub none_illegal : (version : LogVersion) (ws : List Written) → IsWritten names i text log version ws → (k : ℕ)
       → IsIllegalAt names i text k → ⊥
   none_illegal version ws of k illegal =
       let lines = lines_with_ends text in
@@ -114,14 +122,6 @@ module _ (names : Names) (i : Instance) (is : IsInstance i) (numbers : NumbersFi
   refused version ws of layered (NotLegal k) (short, illegal) = absurd (none_illegal version ws of k illegal)
   refused version ws of layered (Unlayered k) (short, unlayered) = absurd (layered k unlayered)
   refused version ws of layered OutOfMemory refusal = refl
-
-  -- a record of a log that is layered as it stands follows those before it
-  follows_at : (before front : List Placed) (p : Placed) (rest : List Placed) → AreInLayers before (front ++ p ∷ rest)
-      → FollowsInLayers (before ++ front) p
-  follows_at before [] p rest are = subst (λ l. FollowsInLayers l p) (sym (append-nil before)) are.0
-  follows_at before (q ∷ front) p rest are =
-      subst (λ l. FollowsInLayers l p) (append_assoc before (q ∷ []) front)
-      (follows_at (before ++ q ∷ []) front p rest are.1)
 
   -- what a text is read as is written in it
   written_in : IsReadAs names i text log → (version : LogVersion) × (ws : List Written)

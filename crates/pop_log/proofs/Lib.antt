@@ -47,11 +47,12 @@ mod ReadingLemmas
 mod ReadLogs
 -- That reading is exact. LegalRecords: legal records may be written. WrittenLines: the lines of their text. OnePlaced:
 -- a text of version 2 is that of one list. ExactReading: a text is refused for want of memory alone, and read as one
--- log. ReadBack: a layered text is read as the layered log.
+-- log. ReadBack: a layered text is read as the layered log. OneRefusal: a text is refused in one way.
 mod LegalRecords
 mod WrittenLines
 mod OnePlaced
-mod ExactReading
+pub mod ExactReading
 mod ReadBack
+pub mod OneRefusal
 -- Worked values
 mod Vectors

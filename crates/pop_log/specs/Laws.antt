@@ -1,5 +1,5 @@
 -- Laws of logs, of their layers and of their texts.
-use Rattle.std.specs.Prelude.{◌≡◌, ℕ, List, [], ◌∷◌, ◌++◌, ◌<◌, ◌≤◌, ◌^◌, length, Some, slice_get, map}
+use Rattle.std.specs.Prelude.{◌≡◌, ◌≢◌, ℕ, List, [], ◌∷◌, ◌++◌, ◌<◌, ◌≤◌, ◌^◌, length, Some, slice_get, map}
 use Rattle.pop_model.specs.Instances.{Instance, IsInstance}
 use Rattle.pop_model.specs.Extremal.{IsExtremal}
 use Rattle.pop_model.specs.Logs.{LogRecord, IsLegal, replay}
@@ -86,3 +86,8 @@ ReadBack = (names : Names) (i : Instance) → IsInstance i → (log layered : Li
 abbrev pub ExactReading : Instance → Type 0
 ExactReading i = (names : Names) (text : List ℕ) (log : List LogRecord) → IsReadAs names i text log
     → (refusal : LogRefusal) → IsLogRefusal names i text refusal → refusal ≡ OutOfMemory
+
+-- a text is refused in one way, but for want of memory
+abbrev pub OneRefusal : Instance → Type 0
+OneRefusal i = (names : Names) (text : List ℕ) (a b : LogRefusal) → a ≢ OutOfMemory
+    → b ≢ OutOfMemory → IsLogRefusal names i text a → IsLogRefusal names i text b → a ≡ b

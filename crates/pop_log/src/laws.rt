@@ -1,7 +1,7 @@
 //! The laws of logs. The contract of each function is the law.
 ghost use Rattle.pop_model.specs.Instances.{IsInstance};
 ghost use Rattle.pop_log.specs.Candidates.{NumbersFit};
-ghost use Rattle.pop_log.specs.Laws.{ExactReading, LayeredInLayers, LayeredLegal, LayersApart, OneLayeredLog, OneLayering, OneLog, OnePlacedLog, OneRead, OneReading, ReadBack, SwapKeepsLayers};
+ghost use Rattle.pop_log.specs.Laws.{ExactReading, LayeredInLayers, LayeredLegal, LayersApart, OneLayeredLog, OneLayering, OneLog, OnePlacedLog, OneRead, OneReading, OneRefusal, ReadBack, SwapKeepsLayers};
 
 use crate::candidates::greatest_number;
 use pop_instance::Instance;
@@ -43,9 +43,9 @@ pub fn one_reading()
     ensures { OneReading }
 {}
 
-// An instance has fewer than 2^31 variables and units, and its listed events have numbers of 32
-// bits.
-fn numbers_fit(instance: &Instance)
+/// An instance has fewer than 2^31 variables and units, and its listed events have numbers of 32
+/// bits.
+pub fn numbers_fit(instance: &Instance)
     ensures instance { IsInstance instance.now }
     ensures numbers { NumbersFit instance.now.family }
 {
@@ -72,6 +72,14 @@ pub fn read_back()
 /// for want of memory alone.
 pub fn exact_reading(instance: &Instance)
     ensures { ExactReading instance.now }
+{
+    numbers_fit(instance);
+}
+
+/// A text is refused in one way, but for want of memory: too long, or at one line, or at one
+/// record.
+pub fn one_refusal(instance: &Instance)
+    ensures { OneRefusal instance.now }
 {
     numbers_fit(instance);
 }

@@ -11,7 +11,7 @@ use Rattle.pop_edge.specs.Numbers.{number_of}
 use Rattle.pop_stacks.specs.declared.stack_spec.StackSpec.TheVariants.{Key as KeyedStacks, Given}
 use Rattle.pop_words.specs.declared.job.Job.{Job}
 use Rattle.pop_words.specs.declared.field.Field.{Field}
-use Rattle.pop_words.specs.declared.field.Field.TheVariants.{Stacks, Key, Height, Grow, Count, Workers, Board, Log, Root, Witness, Reports, Size}
+use Rattle.pop_words.specs.declared.field.Field.TheVariants.{Stacks, Key, Height, Grow, Count, Pops, Workers, Board, Log, Root, Witness, Reports, Size}
 use Rattle.pop_words.specs.Values.{all_some, are_within, rows_in, row_in, key_in, comma_parts, semicolon_parts}
 use Rattle.pop_words.specs.Options.{default_job, value_of}
 use Rattle.pop_words.specs.CommandLines.{Choice, Asks, job_from, set_option}
@@ -103,6 +103,7 @@ keeps_stacks Key word job set some is = of_map job set _ (key_in word) (key_read
 keeps_stacks Height word job set some is = of_map job set _ _ (λ x read. is) some
 keeps_stacks Grow word job set some is = of_map job set _ _ (λ x read. is) some
 keeps_stacks Count word job set some is = of_map job set _ _ (λ x read. is) some
+keeps_stacks Pops word job set some is = of_map job set _ _ (λ x read. is) some
 keeps_stacks Workers word job set some is = of_map job set _ _ (λ x read. is) some
 keeps_stacks Board word job set some is = of_map job set _ _ (λ x read. is) some
 keeps_stacks Log word job set some is = of_map job set _ _ (λ x read. is) some

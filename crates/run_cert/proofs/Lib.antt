@@ -6,12 +6,12 @@ mod JoinedMore
 mod HeadWords
 mod SpelledRows
 mod HeadLinesLemmas
-mod OneText
+pub mod OneText
 -- Refusals. FirstLines: the first bad line, where lines are read one by one. HeadLanguage: lines that are read so are
--- those of a head. Unrefused: the text of a certificate isn't refused.
+-- those of a head. Unrefused: the text of a certificate isn't refused, and bytes are refused in one way.
 mod FirstLines
 mod HeadLanguage
-mod Unrefused
+pub mod Unrefused
 -- Jobs. AskedStacks: stacks that words ask for may be written.
 mod AskedStacks
 -- Runs so far. StuckEvents: what the list of events that occur has. LegalReplays: the replay of a legal log doesn't stop.

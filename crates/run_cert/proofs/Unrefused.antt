@@ -1,12 +1,13 @@
 -- The text of a certificate isn't refused: its first lines are those of the head, and the bytes of the input follow
--- them.
-use Rattle.std.proofs.Common.{inl, inr, ◌≡◌, ℕ, ◌+◌, List, ◌++◌, length, refl, sym, ap, ◌∙◌, arith}
+-- them. And bytes are refused in one way: there is one first bad line, and one head.
+use Rattle.std.proofs.Common.{inl, inr, ◌≡◌, ◌≢◌, ℕ, ◌+◌, List, ◌++◌, length, refl, sym, ap, ap₂, ◌∙◌, arith}
 use Rattle.std.proofs.lemmas.List.{length-append}
 use Rattle.pop_log.specs.TextLines.{lines_with_ends}
+use Rattle.pop_words.proofs.OneJob.{same_first_bad}
 use Rattle.run_cert.specs.declared.cert_refusal.CertRefusal.{CertRefusal}
 use Rattle.run_cert.specs.declared.cert_refusal.CertRefusal.TheVariants.{Malformed, OutOfMemory}
-use Rattle.run_cert.specs.Heads.{Head}
-use Rattle.run_cert.specs.Refusals.{IsCertRefusal}
+use Rattle.run_cert.specs.Heads.{Head, head_lines}
+use Rattle.run_cert.specs.Refusals.{HaveHead, IsCutShort, IsCertRefusal}
 use Rattle.run_cert.specs.Certificates.{Certificate, IsCertOf}
 use Rattle.run_cert.proofs.HeadWords.{head_first}
 use Rattle.run_cert.proofs.OneText.{heads_cut}
@@ -32,3 +33,29 @@ unrefused bytes cert is (Malformed place code) (inr (same, short)) =
     let few = short.few in
     let whole = is.is.size in
     absurd (omega (arith, rest, size, sizes, few, whole))
+
+-- where the input is cut short, the first lines are those of the head
+cut_has_head : (bytes : List ℕ) (line : ℕ) → IsCutShort bytes line → HaveHead (lines_with_ends bytes)
+cut_has_head bytes line short =
+    (short.h, short.is, lines_with_ends short.rest, ap lines_with_ends short.bytes_are ∙ head_first short.h short.rest short.is)
+
+-- it is cut short at one line
+one_cut : (bytes : List ℕ) (line other : ℕ) → IsCutShort bytes line → IsCutShort bytes other → line ≡ other
+one_cut bytes line other short short' =
+    let heads = heads_cut short.h short'.h short.rest short'.rest short.is short'.is
+    (sym short.bytes_are ∙ short'.bytes_are) in
+    short.line_is ∙ ap (λ (h : Head). length (head_lines h)) heads.heads ∙ sym short'.line_is
+
+-- bytes are refused in one way
+pub one_refusal : (bytes : List ℕ) (a b : CertRefusal) → a ≢ OutOfMemory → b ≢ OutOfMemory → IsCertRefusal bytes a
+    → IsCertRefusal bytes b → a ≡ b
+one_refusal bytes OutOfMemory b some some' h h' = absurd (some refl)
+one_refusal bytes (Malformed place code) OutOfMemory some some' h h' = absurd (some' refl)
+one_refusal bytes (Malformed place code) (Malformed other code') some some' (inl (is, bad)) (inl (is', bad')) =
+    ap₂ Malformed (same_first_bad HaveHead (lines_with_ends bytes) place other bad bad') (is ∙ sym is')
+one_refusal bytes (Malformed place code) (Malformed other code') some some' (inl (is, bad)) (inr (is', short)) =
+    absurd (bad.outside (cut_has_head bytes other short))
+one_refusal bytes (Malformed place code) (Malformed other code') some some' (inr (is, short)) (inl (is', bad)) =
+    absurd (bad.outside (cut_has_head bytes place short))
+one_refusal bytes (Malformed place code) (Malformed other code') some some' (inr (is, short)) (inr (is', short')) =
+    ap₂ Malformed (one_cut bytes place other short short') (is ∙ sym is')

@@ -1,5 +1,5 @@
 -- The laws of certificates, and of runs that are stopped and go on.
-use Rattle.std.specs.Prelude.{◌≡◌, ◌+◌, ◌<◌, ◌^◌, ℕ, List, length, Contains}
+use Rattle.std.specs.Prelude.{◌≡◌, ◌≢◌, ◌+◌, ◌<◌, ◌^◌, ℕ, List, length, Contains}
 use Rattle.pop_model.specs.Instances.{Instance}
 use Rattle.pop_model.specs.Extremal.{IsExtremal}
 use Rattle.pop_model.specs.Logs.{LogRecord, IsLegal, replay}
@@ -22,6 +22,11 @@ OneCertificate = (bytes : List ℕ) (cert other : Certificate) → IsCertOf byte
 abbrev pub NotRefused : Type 0
 NotRefused = (bytes : List ℕ) (cert : Certificate) → IsCertOf bytes cert
     → (refusal : CertRefusal) → IsCertRefusal bytes refusal → refusal ≡ OutOfMemory
+
+-- bytes are refused in one way, but for want of memory
+abbrev pub OneRefusal : Type 0
+OneRefusal = (bytes : List ℕ) (a b : CertRefusal) → a ≢ OutOfMemory → b ≢ OutOfMemory
+    → IsCertRefusal bytes a → IsCertRefusal bytes b → a ≡ b
 
 -- what is printed of a job that words ask for is the text of its certificate
 abbrev pub PrintedIsRead : Type 0

@@ -1,5 +1,5 @@
 //! The laws of certificates. The contract of each function is the law.
-ghost use Rattle.run_cert.specs.Laws.{NotRefused, OneCertificate, OpenShorter, PrintedIsRead, ResumedRun};
+ghost use Rattle.run_cert.specs.Laws.{NotRefused, OneCertificate, OneRefusal, OpenShorter, PrintedIsRead, ResumedRun};
 
 /// A text is that of at most one certificate.
 pub fn one_certificate()
@@ -9,6 +9,11 @@ pub fn one_certificate()
 /// The text of a certificate is refused for want of memory alone.
 pub fn not_refused()
     ensures { NotRefused }
+{}
+
+/// Bytes are refused in one way, but for want of memory: at one line, by one code.
+pub fn one_refusal()
+    ensures { OneRefusal }
 {}
 
 /// What is printed of a job that words ask for is the text of its certificate; so it is read back
