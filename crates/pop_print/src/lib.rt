@@ -20,6 +20,8 @@ mod tests;
 mod tree;
 
 pub use batches::text_of_batch;
+pub use counts::push_used;
 pub use facts::Facts;
+pub use line::push_line;
 pub use printing::text;
 pub use rounds::text_of_rounds;
