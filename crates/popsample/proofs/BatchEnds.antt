@@ -9,7 +9,7 @@ use Rattle.pop_model.specs.Instances.{Instance}
 use Rattle.confluence_core.specs.declared.end.End.{End}
 use Rattle.pop_batch.specs.Batches.{some_stuck}
 use Rattle.pop_words.specs.declared.command.Command.{Command}
-use Rattle.pop_words.specs.declared.command.Command.TheVariants.{Formula, Orient, Tree, Resample, Check, Make, Rounds}
+use Rattle.pop_words.specs.declared.command.Command.TheVariants.{Formula, Orient, Tree, Resample, Check, Make, Rounds, Replay, Resume}
 use Rattle.pop_words.specs.declared.job.Job.{Job}
 use Rattle.pop_words.proofs.ListTests.{some_from}
 use Rattle.pop_watch.specs.Telling.{Watcher}
@@ -33,6 +33,8 @@ batch_of Resample job ws text facts i ends h = absurd h.comes.1.history
 batch_of Check job ws text facts i ends h = absurd h.comes
 batch_of Make job ws text facts i ends h = of_same job.count i _ ends h.1.1 h.1.2
 batch_of Rounds job ws text facts i ends h = absurd h.comes.1.end
+batch_of Replay job ws text facts i ends h = absurd h
+batch_of Resume job ws text facts i ends h = absurd h
 
 -- the status of a batch by whether some end is stuck
 abbrev status_by : Bool → ℕ

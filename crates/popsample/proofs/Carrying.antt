@@ -1,14 +1,14 @@
 -- An answer to a part of the question, or a refusal of it, is one of the whole.
-use Rattle.std.proofs.Common.{◌≡◌, ℕ, List, Result, Ok, Err, IfOk, ap, subst, sym, ◌∙◌}
+use Rattle.std.proofs.Common.{◌≡◌, ℕ, List, Result, Ok, Err, IfOk, IfErr, ap, subst, sym, ◌∙◌}
 use Rattle.std.specs.Result.{IsErrAnd}
 use Rattle.std.proofs.lemmas.Result.{err_from_is_err_and}
 use Rattle.popsample.specs.declared.answer.Answer.{Answer}
 use Rattle.popsample.specs.declared.stop.Stop.TheVariants.{ReadFault, OutOfMemory}
 use Rattle.popsample.specs.declared.refusal.Refusal.{Refusal}
-use Rattle.popsample.specs.declared.refusal.Refusal.TheVariants.{Usage, Malformed, Count, EmptyClause, Limit, Isolated, NoRoot, CutOff, TooMany, RowCount, EmptyRow, ValueTooLarge, WeightSum, Clashes, Stopped}
+use Rattle.popsample.specs.declared.refusal.Refusal.TheVariants.{Usage, Malformed, Count, EmptyClause, Limit, Isolated, NoRoot, CutOff, TooMany, RowCount, EmptyRow, ValueTooLarge, WeightSum, Clashes, NotLegal, Stopped}
 use Rattle.pop_edge.specs.declared.refusal.ReadRefusal.TheVariants.{Malformed as MalformedLine, Count as WrongCount, EmptyClause as NoLiteral, Limit as PassedLimit}
 use Rattle.popsample.specs.Outcomes.{Outcome, AnswersBy}
-use Rattle.popsample.specs.Outcomes.Outcome.{Usage as UsageOf, Unread, Isolated as IsolatedAt, NoRoot as NoRootAt, CutOff as CutOffAt, TooMany as TooManyOf, Unsound, Clashes as ClashesOf}
+use Rattle.popsample.specs.Outcomes.Outcome.{Usage as UsageOf, Unread, Isolated as IsolatedAt, NoRoot as NoRootAt, CutOff as CutOffAt, TooMany as TooManyOf, Unsound, Clashes as ClashesOf, NotLegal as NotLegalAt}
 use Rattle.popsample.specs.Results.{TellsFault, ComesRefused, IsResultOf}
 
 -- a fault that comes in one way comes in another
@@ -33,6 +33,7 @@ refused Comes Goes (EmptyRow n) goes h = fault_carried Comes Goes (EmptyRow n) g
 refused Comes Goes (ValueTooLarge n k) goes h = fault_carried Comes Goes (ValueTooLarge n k) goes h
 refused Comes Goes (WeightSum n) goes h = fault_carried Comes Goes (WeightSum n) goes h
 refused Comes Goes (Clashes i j) goes h = goes (ClashesOf i j) h
+refused Comes Goes (NotLegal p) goes h = goes (NotLegalAt p) h
 refused Comes Goes (Stopped s) goes h = h
 
 -- an answer that tells what comes in one way tells what comes in another
@@ -51,6 +52,11 @@ pub if_ok : {X E : Type 0} (P Q : X → Type 0) (r : Result X E) → ((x : X) �
 if_ok P Q (Ok x) f holds = f x holds
 if_ok P Q (Err e) f holds = tt
 
+-- and of each error
+pub if_err : {X E : Type 0} (P Q : E → Type 0) (r : Result X E) → ((e : E) → P e → Q e) → IfErr r P → IfErr r Q
+if_err P Q (Ok x) f holds = tt
+if_err P Q (Err e) f holds = f e holds
+
 -- an error that is passed on
 pub passed_on : {T E : Type 0} (r : Result T E) (e : E) → IsErrAnd r (λ x. x ≡ e) → r ≡ Err e
 passed_on r e h = let p = err_from_is_err_and r h in p.1 ∙ ap (λ x. Err x) p.2
@@ -59,6 +65,11 @@ passed_on r e h = let p = err_from_is_err_and r h in p.1 ∙ ap (λ x. Err x) p.
 pub refused_result : (Comes : Outcome → Type 0) (r : Result Answer Refusal) (e : Refusal) → IsErrAnd r (λ x. x ≡ e)
     → ComesRefused Comes e → IsResultOf Comes r
 refused_result Comes r e is comes = subst (IsResultOf Comes) (sym (passed_on r e is)) comes
+
+-- what holds of a refusal that is passed on holds of the result's
+pub refused_error : {X : Type 0} (P : Refusal → Type 0) (r : Result X Refusal) (e : Refusal) → IsErrAnd r (λ x. x ≡ e)
+    → P e → IfErr r P
+refused_error P r e is holds = subst (λ q. IfErr q P) (sym (passed_on r e is)) holds
 
 -- a source that isn't read doesn't fail
 pub unfailing : (Comes : Outcome → Type 0) (r : Result Answer Refusal) → IsResultOf Comes r

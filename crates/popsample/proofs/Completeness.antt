@@ -1,8 +1,12 @@
 -- Where nothing stands against words and a text, each outcome is an end or a verdict, since every other would be
 -- something that stands against them.
-use Rattle.std.proofs.Common.{inl, inr, ◌≡◌, ◌⊎◌, ℕ, ◌≤◌, false, List, [], ◌∷◌, length, Ok, refl, sym, subst, ◌∙◌, arith}
+use Rattle.std.proofs.lemmas.Option.{none-some}
+use Rattle.std.proofs.Common.{inl, inr, ◌≡◌, ◌⊎◌, ℕ, ◌≤◌, false, List, [], ◌∷◌, length, Ok, refl, sym, subst, ◌∙◌, arith, ap}
 use Rattle.pop_model.specs.Stacks.{Origin}
 use Rattle.pop_model.specs.Families.{Event}
+use Rattle.pop_model.specs.Logs.{LogRecord}
+use Rattle.run_cert.specs.declared.look_kind.Look.{Look}
+use Rattle.run_cert.specs.declared.look_kind.Look.TheVariants.{Finished, Exhausted, Open}
 use Rattle.pop_stacks.specs.Faults.{IsSound}
 use Rattle.dimacs_read.specs.Cnf.{Cnf}
 use Rattle.dimacs_read.specs.CnfText.{AnswersCnf}
@@ -14,7 +18,7 @@ use Rattle.graph_read.specs.Grids.{grid_of}
 use Rattle.sink_popping.specs.Sinks.{IsIsolated}
 use Rattle.cycle_popping.specs.Trees.{weights_of_tree}
 use Rattle.pop_words.specs.declared.command.Command.{Command}
-use Rattle.pop_words.specs.declared.command.Command.TheVariants.{Formula, Orient, Tree, Resample, Check, Make, Rounds}
+use Rattle.pop_words.specs.declared.command.Command.TheVariants.{Formula, Orient, Tree, Resample, Check, Make, Rounds, Replay, Resume}
 use Rattle.pop_words.specs.declared.job.Job.{Job}
 use Rattle.pop_words.proofs.OneJob.{same_job}
 use Rattle.pop_watch.specs.Telling.{Watcher}
@@ -24,7 +28,7 @@ use Rattle.popsample.specs.Witnesses.{Witness, is_missing}
 use Rattle.popsample.specs.Witnesses.Witness.{Unasked, Missing, Shown}
 use Rattle.popsample.specs.Batches.{AreFew}
 use Rattle.popsample.specs.Outcomes.{Outcome, status_of, end_status, resampled_status}
-use Rattle.popsample.specs.Outcomes.Outcome.{Usage, Unread, Isolated, NoRoot, CutOff, TooMany, Unsound, Clashes, Extremal, Ended, Resampled, Rounded, Batched}
+use Rattle.popsample.specs.Outcomes.Outcome.{Usage, Unread, Isolated, NoRoot, CutOff, TooMany, Unsound, Clashes, Extremal, Ended, Resampled, Rounded, Batched, Paused, Replayed, NotLegal}
 use Rattle.popsample.specs.Sampling.{pair_weights}
 use Rattle.popsample.specs.Formulas.{ComesOfFormula, ComesOfChecking}
 use Rattle.popsample.specs.Resamplings.{ComesOfResampling}
@@ -32,14 +36,19 @@ use Rattle.popsample.specs.Rounds.{ComesOfRounds}
 use Rattle.popsample.specs.Orientations.{ComesOfOrienting}
 use Rattle.popsample.specs.Trees.{ComesOfTree}
 use Rattle.popsample.specs.Grids.{ComesOfGrid}
-use Rattle.popsample.specs.Answers.{ComesOfCommand, ComesOf, IsOfText, Refuses, origin_for, asked_by}
-use Rattle.popsample.specs.Complete.{Spells, HasExtremalEvents, CanBeDone, HasWitness, Complete}
+use Rattle.popsample.specs.ReplayTexts.{look_status}
+use Rattle.popsample.specs.Replays.{ComesOfReplaying}
+use Rattle.popsample.specs.Resumes.{GoesOnFrom, ComesOfResuming}
+use Rattle.popsample.specs.Answers.{ComesOfCommand, ComesOf, IsOfText, Refuses, origin_for, asked_by, ComesBy}
+use Rattle.popsample.specs.Complete.{Spells, HasExtremalEvents, CanBeReplayed, CanBeDone, HasWitness, Complete, IsDone}
 use Rattle.popsample.proofs.BatchEnds.{batch_low}
 use Rattle.popsample.proofs.OneFault.{sound_has_none}
 use Rattle.popsample.proofs.OneClash.{extremal_has_none}
 use Rattle.popsample.proofs.OneReading.{no_cnf_refusal, no_graph_refusal}
 use Rattle.popsample.proofs.OneSampling.{not_many}
-use Rattle.popsample.proofs.OneOutcome.{word_cases, read_cases}
+use Rattle.popsample.proofs.ByCommand.{by_kind}
+use Rattle.popsample.proofs.OneReplay.{accepted_or_refused}
+use Rattle.popsample.proofs.OneOutcome.{TellsPaused, word_cases, read_cases}
 
 -- the status is that of an end or a verdict
 abbrev IsLow : ℕ → Type 0
@@ -75,6 +84,9 @@ formula_low origin asked ws f (TooMany n) few sound extremal h = absurd (not_man
 formula_low origin asked ws f (Batched t i es) few sound extremal h = batch_low es
 formula_low origin asked ws f (Resampled t i l s a) few sound extremal h = absurd h.1.end
 formula_low origin asked ws f (Rounded t i c n s v) few sound extremal h = absurd h.1.end
+formula_low origin asked ws f (Paused j w t i l) few sound extremal h = absurd h.1.end
+formula_low origin asked ws f (Replayed i c n k) few sound extremal h = absurd h.1.end
+formula_low origin asked ws f (NotLegal p) few sound extremal h = absurd h.1.end
 
 -- the same with a log, where the witness is there
 resampling_low : (origin : Origin) (asked : Asked) (ws : List Watcher) (f : Cnf) (o : Outcome)
@@ -94,6 +106,9 @@ resampling_low origin asked ws f (TooMany n) few sound has h = absurd (not_many 
 resampling_low origin asked ws f (Batched t i es) few sound has h = absurd h.1.history
 resampling_low origin asked ws f (Ended t i c n s a) few sound has h = absurd h.1.history
 resampling_low origin asked ws f (Rounded t i c n s v) few sound has h = absurd h.1.history
+resampling_low origin asked ws f (Paused j w t i l) few sound has h = absurd h.1.history
+resampling_low origin asked ws f (Replayed i c n k) few sound has h = absurd h.1.history
+resampling_low origin asked ws f (NotLegal p) few sound has h = absurd h.1.history
 
 -- the same by rounds
 rounds_low : (origin : Origin) (f : Cnf) (o : Outcome) → IsSound origin (pair_weights f.variables)
@@ -112,6 +127,9 @@ rounds_low origin f (TooMany n) sound h = let none = h.0 in absurd (cc)
 rounds_low origin f (Batched t i es) sound h = absurd h.1.end
 rounds_low origin f (Ended t i c n s a) sound h = absurd h.1.end
 rounds_low origin f (Resampled t i l s a) sound h = absurd h.1.end
+rounds_low origin f (Paused j w t i l) sound h = absurd h.1.end
+rounds_low origin f (Replayed i c n k) sound h = absurd h.1.end
+rounds_low origin f (NotLegal p) sound h = absurd h.1.end
 
 -- a formula that is checked
 checking_low : (f : Cnf) (o : Outcome) → HasExtremalEvents f → ComesOfChecking f o → IsLow (status_of o)
@@ -138,6 +156,9 @@ orienting_low origin asked ws g (TooMany n) touched few sound h = absurd (not_ma
 orienting_low origin asked ws g (Batched t i es) touched few sound h = batch_low es
 orienting_low origin asked ws g (Resampled t i l s a) touched few sound h = absurd h.1.1.end
 orienting_low origin asked ws g (Rounded t i c n s v) touched few sound h = absurd h.1.1.end
+orienting_low origin asked ws g (Paused j w t i l) touched few sound h = absurd h.1.1.end
+orienting_low origin asked ws g (Replayed i c n k) touched few sound h = absurd h.1.1.end
+orienting_low origin asked ws g (NotLegal p) touched few sound h = absurd h.1.1.end
 
 -- a graph each of whose vertices is joined to its root
 tree_low : (origin : Origin) (asked : Asked) (ws : List Watcher) (root : ℕ) (g : GraphOf) (o : Outcome)
@@ -158,6 +179,9 @@ tree_low origin asked ws root g (TooMany n) last joined few sound h =
 tree_low origin asked ws root g (Batched t i es) last joined few sound h = batch_low es
 tree_low origin asked ws root g (Resampled t i l s a) last joined few sound h = absurd h.2.1
 tree_low origin asked ws root g (Rounded t i c n s v) last joined few sound h = absurd h.2.1
+tree_low origin asked ws root g (Paused j w t i l) last joined few sound h = absurd h.2.1
+tree_low origin asked ws root g (Replayed i c n k) last joined few sound h = absurd h.2.1
+tree_low origin asked ws root g (NotLegal p) last joined few sound h = absurd h.2.1
 
 -- a grid
 grid_low : (origin : Origin) (asked : Asked) (ws : List Watcher) (side : ℕ) (o : Outcome)
@@ -177,6 +201,9 @@ grid_low origin asked ws side (TooMany n) few sound h = absurd (not_many asked.c
 grid_low origin asked ws side (Batched t i es) few sound h = batch_low es
 grid_low origin asked ws side (Resampled t i l s a) few sound h = absurd h.1
 grid_low origin asked ws side (Rounded t i c n s v) few sound h = absurd h.1
+grid_low origin asked ws side (Paused j w t i l) few sound h = absurd h.1
+grid_low origin asked ws side (Replayed i c n k) few sound h = absurd h.1
+grid_low origin asked ws side (NotLegal p) few sound h = absurd h.1
 
 -- a text that spells a formula or a graph is answered by it
 spelled : (text : List ℕ) (f : Cnf) → Spells text f → AnswersCnf text (Ok f)
@@ -207,6 +234,8 @@ command_low Make job ws text o (few, sound) has h = grid_low (origin_for job) (a
 command_low Rounds job ws text o (f, spells, sound) has h =
     rounds_low (origin_for job) f o sound
     (subst (λ g. ComesOfRounds (origin_for job) g o) (h.spelled.1 ∙ sym (spelled text f spells).1) h.comes)
+command_low Replay job ws text o can has h = absurd h
+command_low Resume job ws text o can has h = absurd h
 
 -- and its text isn't refused
 unrefused : (command : Command) (job : Job) (text : List ℕ) (r : ReadRefusal) → CanBeDone command job text → IsOfText r
@@ -221,16 +250,66 @@ unrefused Resample job text r (f, spells, sound) of refuses = no_cnf_refusal tex
 unrefused Check job text r (f, spells, extremal) of refuses = no_cnf_refusal text f r (spelled text f spells) of refuses
 unrefused Make job text r sound of refuses = refuses
 unrefused Rounds job text r (f, spells, sound) of refuses = no_cnf_refusal text f r (spelled text f spells) of refuses
+unrefused Replay job text r can of refuses = refuses
+unrefused Resume job text r can of refuses = refuses
+
+-- the status of what else comes of the job is that of a run
+low_is_done : (job : Job) (status : ℕ) → IsLow status → IsDone job status
+low_is_done job status (inl is) = inl is
+low_is_done job status (inr is) = inr (inl is)
+
+-- and so is that of a pause
+paused_is_done : (job : Job) (text : List ℕ) (o : Outcome) → TellsPaused job text o → IsDone job (status_of o)
+paused_is_done job text o p =
+    inr (inr (ap status_of p.is, inl (λ none. none-some p.pops (sym none ∙ p.stop))))
+
+-- of a line
+line_done : (job : Job) (ws : List Watcher) (text : List ℕ) (o : Outcome) → CanBeDone job.command job text
+    → HasWitness o → ComesOf job ws text o → IsDone job (status_of o)
+line_done job ws text o can has comes = elim (read_cases job ws text o comes) [
+  | inl (r, is, of, refused) ↦ absurd (unrefused job.command job text r can of refused)
+  | inr (inl done) ↦ low_is_done job (status_of o) (command_low job.command job ws text o can has done)
+  | inr (inr p) ↦ paused_is_done job text o p
+]
+
+-- of a replay
+look_done : (job : Job) (k : Look) → job.command ≡ Replay → IsDone job (look_status k)
+look_done job Finished is = inl refl
+look_done job Exhausted is = inr (inl refl)
+look_done job Open is = inr (inr (refl, inr is))
+
+replay_done : (job : Job) (ws : List Watcher) (text : List ℕ) (o : Outcome) → job.command ≡ Replay
+    → CanBeReplayed text → ComesOfReplaying ComesOf text o → IsDone job (status_of o)
+replay_done job ws text o is can (inl refused) =
+    absurd (accepted_or_refused text can.cert o can.short can.is can.has refused)
+replay_done job ws text o is can (inr b) =
+    subst (λ q. IsDone job (status_of q)) (sym b.comes.is.told) (look_done job b.comes.is.look is)
+
+-- of a run that goes on
+end_of_log : (job : Job) (log : List LogRecord) (o : Outcome) → GoesOnFrom log o → HasWitness o
+    → IsDone job (status_of o)
+end_of_log job log (Ended t i c n s a) goes has = low_is_done job (end_status s) (end_low s)
+end_of_log job log (Resampled t i l s a) goes has =
+    low_is_done job (resampled_status s a.witness) (resampled_low s a.witness has)
+end_of_log job log o goes has = absurd goes
+
+resume_done : (job : Job) (ws : List Watcher) (text : List ℕ) (o : Outcome) → CanBeReplayed text → HasWitness o
+    → ComesOfResuming ComesOf ws text o → IsDone job (status_of o)
+resume_done job ws text o can has (inl refused) =
+    absurd (accepted_or_refused text can.cert o can.short can.is can.has refused)
+resume_done job ws text o can has (inr b) = end_of_log job b.comes.has.log o b.comes.goes_on has
 
 -- the law
 pub all_done : Complete
 all_done words ws text job status out asks can (o, (comes, has), tells) =
-    subst IsLow (sym tells.status_is) (elim (word_cases words ws text o comes) [
+    subst (IsDone job) (sym tells.status_is) (elim (word_cases words ws text o comes) [
       | inl (place, is, bad) ↦ absurd (bad.outside (job, asks))
       | inr came ↦
           let same : came.job ≡ job = same_job words came.job job came.asks asks in
-          elim (read_cases job ws text o (subst (λ j. ComesOf j ws text o) same came.comes)) [
-            | inl (r, is, of, refused) ↦ absurd (unrefused job.command job text r can of refused)
-            | inr done ↦ command_low job.command job ws text o can has done
+          elim (by_kind job.command job ws text o
+          (subst (λ (j : Job). ComesBy j.command j ws text o) same came.comes)) [
+            | inl (line, comes) ↦ line_done job ws text o can has comes
+            | inr (inl (is, comes)) ↦ replay_done job ws text o is (subst (λ k. CanBeDone k job text) is can) comes
+            | inr (inr (is, comes)) ↦ resume_done job ws text o (subst (λ k. CanBeDone k job text) is can) has comes
           ]
     ])

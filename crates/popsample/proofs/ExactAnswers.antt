@@ -1,6 +1,6 @@
 -- The exact law, said of answers. The rows of words that are answered are sound, and make up what is sampled; so the laws
 -- of samples tell the run of the rows with another sample, or of rows that have the sample from the start.
-use Rattle.std.proofs.Common.{◌≡◌, ℕ, suc, ◌+◌, ◌<◌, List, [], ◌∷◌, length, map, get_or, replicate, refl, sym, ap, ap₂, subst, ◌∙◌, arith, zero-add}
+use Rattle.std.proofs.Common.{◌≡◌, ℕ, suc, ◌+◌, ◌<◌, List, [], ◌∷◌, length, map, get_or, replicate, refl, sym, ap, ap₂, subst, ◌∙◌, arith, zero-add, Option, None, Some}
 use Rattle.std.specs.List.{enumerate_from}
 use Rattle.std.proofs.lemmas.List.{length-map, length-replicate, get_or-map}
 use Rattle.pop_model.specs.Stacks.{row_of, value_from}
@@ -24,7 +24,7 @@ use Rattle.pop_samples.proofs.Finishing.{finished_ends, first_finishes_by, runs_
 use Rattle.pop_samples.proofs.FrameRows.{rows_count, some_entry, suits_end}
 use Rattle.pop_samples.proofs.Reached.{reached_samples}
 use Rattle.pop_words.specs.declared.command.Command.{Command}
-use Rattle.pop_words.specs.declared.command.Command.TheVariants.{Formula, Orient, Tree, Resample, Check, Make, Rounds}
+use Rattle.pop_words.specs.declared.command.Command.TheVariants.{Formula, Orient, Tree, Resample, Check, Make, Rounds, Replay, Resume}
 use Rattle.pop_words.specs.declared.job.Job.{Job}
 use Rattle.pop_words.specs.CommandLines.{Asks}
 use Rattle.pop_words.proofs.GivenAlone.{asked_alone}
@@ -35,10 +35,12 @@ use Rattle.popsample.specs.declared.asked.Asked.{Asked}
 use Rattle.popsample.specs.Names.{names_for}
 use Rattle.popsample.specs.Tellings.{Telling}
 use Rattle.popsample.specs.Outcomes.Outcome.{Ended}
-use Rattle.popsample.specs.Sampling.{IsToldOfFirst}
-use Rattle.popsample.specs.Answers.{ComesOfCommand, asked_by}
+use Rattle.popsample.specs.Sampling.{IsToldOfFirst, EndsWithin}
+use Rattle.popsample.specs.Answers.{ComesOfCommand, asked_by, IsOfLine, ComesBy}
 use Rattle.popsample.specs.Subjects.{Subject, instance_over, IsSubjectOf}
 use Rattle.popsample.specs.ExactAnswers.{over_rows, frame_of, frame_over, IsSampledBy, ExchangedAnswers, ReachedAnswers}
+use Rattle.popsample.proofs.ByCommand.{by_line, of_line}
+use Rattle.popsample.proofs.RowWords.{rows_line}
 use Rattle.popsample.proofs.EndedSubjects.{IsEndOfSubject, ended_subject, subject_ended}
 use Rattle.popsample.proofs.OneTelling.{first_runs, sorted_first, told_of_first}
 use Rattle.popsample.proofs.ToldAtStart.{told_at_start}
@@ -101,26 +103,48 @@ of_rows Make job rows text s h = h
 of_rows Resample job rows text s h = absurd h
 of_rows Rounds job rows text s h = absurd h
 of_rows Check job rows text s h = absurd h
+of_rows Replay job rows text s h = absurd h
+of_rows Resume job rows text s h = absurd h
+
+-- what is sampled is of a line
+subject_line : (command : Command) (job : Job) (text : List ℕ) (s : Subject) → IsSubjectOf command job text s
+    → IsOfLine command
+subject_line Formula job text s h = tt
+subject_line Orient job text s h = tt
+subject_line Tree job text s h = tt
+subject_line Make job text s h = tt
+subject_line Resample job text s h = absurd h
+subject_line Rounds job text s h = absurd h
+subject_line Check job text s h = absurd h
+subject_line Replay job text s h = absurd h
+subject_line Resume job text s h = absurd h
 
 -- a job that samples is answered by the end of the run over these rows
 sampled_by : (words : List (List ℕ)) (watchers : List Watcher) (text : List ℕ) (job : Job) (rows : Rows) (s : Subject)
     (x c : List ℕ) (pops : ℕ) (a : Telling) → Asks words (over_rows job rows) → IsSubjectOf job.command job text s
     → IsSound (GivenRows rows) s.weights → IsFirstEnd (instance_over (GivenRows rows) s) c pops []
     → IsToldOfFirst (asked_by job) watchers (names_for s.facts) (instance_over (GivenRows rows) s) a
-    → length c ≡ length rows → entries_under rows c ≡ x
+    → length c ≡ length rows → entries_under rows c ≡ x → EndsWithin job.pops pops
     → IsSampledBy words watchers text s.facts x c pops a
-sampled_by words watchers text job rows s x c pops a asks is sound end told size entries =
+sampled_by words watchers text job rows s x c pops a asks is sound end told size entries within =
     let mine : Job = over_rows job rows in
     record {
       instance = instance_over (GivenRows rows) s;
       outcome = record {
         job = mine;
         asks = asks;
-        comes = subject_ended job.command mine watchers text s (asked_alone words mine asks rows refl).1
-            (of_rows job.command job rows text s is) sound c pops [] a (end, told);
+        comes = by_line job.command mine watchers text (Ended s.facts (instance_over (GivenRows rows) s) c pops [] a)
+            (subject_line job.command job text s is)
+            (subject_ended job.command mine watchers text s (asked_alone words mine asks rows refl).1
+            (of_rows job.command job rows text s is) sound c pops [] a within (end, told));
       };
       sample = values_are s.weights rows c size ∙ entries;
     }
+
+-- no pop is within any number of pops
+within_none : (most : Option ℕ) → EndsWithin most 0
+within_none None = tt
+within_none (Some most) = omega arith
 
 -- what is told of the run of rows is told of the rows with another sample in place of its own
 moved_telling : (f : Frame) → HaveCubes f.family → IsExtremal f.family → (asked : Asked) (ws : List Watcher)
@@ -149,7 +173,8 @@ exchanged_answers job rows words others watchers text facts i c pops a x asks as
     let mine : Job = over_rows job rows in
     let same : h.job ≡ mine = same_job words h.job mine h.asks asks in
     let comes : ComesOfCommand job.command mine watchers text (Ended facts i c pops [] a) =
-    subst (λ (j : Job). ComesOfCommand j.command j watchers text (Ended facts i c pops [] a)) same h.comes in
+    of_line job.command mine watchers text (Ended facts i c pops [] a) (rows_line words mine asks rows refl)
+    (subst (λ (j : Job). ComesBy j.command j watchers text (Ended facts i c pops [] a)) same h.comes) in
     let of : IsEndOfSubject job.command mine watchers text facts i c pops [] a =
     ended_subject words mine asks job.command refl watchers text facts i c pops [] a comes in
     let s : Subject = of.subject in
@@ -175,7 +200,7 @@ exchanged_answers job rows words others watchers text facts i c pops a x asks as
     rows new c pops a of.end of.told to.same_log kept.end in
     subst (λ (t : Facts). IsSampledBy others watchers text t x c pops a) (sym of.facts_are)
     (sampled_by others watchers text mine new s x c pops a asks' of.is
-    (sound_rows f frame new to.samples.shape of.sound.light) kept.end told size kept.entries)
+    (sound_rows f frame new to.samples.shape of.sound.light) kept.end told size kept.entries of.within)
 
 -- the law of each sample
 pub reached_answers : ReachedAnswers
@@ -204,6 +229,6 @@ reached_answers job text s heights x is light count some sample =
           (finished_ends (over f rows) [] start by) in (
             told.0,
             sampled_by words watchers text job rows s x c 0 told.0 asks is (sound_rows f frame rows at.shape light) end
-                told.1 size entries,
+                told.1 size entries (within_none job.pops),
           );
     }

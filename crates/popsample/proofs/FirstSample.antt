@@ -2,6 +2,7 @@
 -- of a log is told of either.
 use Rattle.std.proofs.Common.{inl, inr, ◌≡◌, ◌⊎◌, ℕ, ◌<◌, ◌≤◌, true, List, [], ◌∷◌, ◌++◌, flat_map, if◌then◌else◌, None, Some, IfSome, refl, sym, ap, ap₂, subst, ◌∙◌, arith, append_assoc, append-nil}
 use Rattle.std.specs.List.{enumerate_from}
+use Rattle.std.proofs.lemmas.Bool.{false≢true}
 use Rattle.std.proofs.lemmas.Option.{none-some, same_Some}
 use Rattle.pop_model.specs.Stacks.{origin_for as origin_of_sample}
 use Rattle.pop_model.specs.Families.{Event}
@@ -14,7 +15,7 @@ use Rattle.pop_stacks.specs.declared.stack_spec.StackSpec.TheVariants.{Key as Ke
 use Rattle.pop_stacks.specs.Tables.{origin_of}
 use Rattle.pop_log.specs.declared.names.Names.{Names}
 use Rattle.pop_words.specs.declared.command.Command.{Command}
-use Rattle.pop_words.specs.declared.command.Command.TheVariants.{Formula, Orient, Tree, Resample, Check, Make, Rounds}
+use Rattle.pop_words.specs.declared.command.Command.TheVariants.{Formula, Orient, Tree, Resample, Check, Make, Rounds, Replay, Resume}
 use Rattle.pop_words.specs.declared.job.Job.{Job}
 use Rattle.pop_words.specs.CommandLines.{Asks}
 use Rattle.pop_words.proofs.JobsInRange.{asked_count}
@@ -29,14 +30,19 @@ use Rattle.popsample.specs.Witnesses.{IsWitness}
 use Rattle.popsample.specs.Witnesses.Witness.{Unasked}
 use Rattle.popsample.specs.Tellings.{Telling, records_of, layered_text, telling_text}
 use Rattle.popsample.specs.Outcomes.{Outcome, status_of, text_of, run_text, end_status}
-use Rattle.popsample.specs.Outcomes.Outcome.{Usage, Unread, Isolated, NoRoot, CutOff, TooMany, Unsound, Clashes, Extremal, Ended, Resampled, Rounded, Batched}
-use Rattle.popsample.specs.Sampling.{IsToldOfFirst}
+use Rattle.popsample.specs.Outcomes.Outcome.{Usage, Unread, Isolated, NoRoot, CutOff, TooMany, Unsound, Clashes, Extremal, Ended, Resampled, Rounded, Batched, Paused, Replayed, NotLegal}
+use Rattle.popsample.specs.Sampling.{IsToldOfFirst, EndsWithin}
 use Rattle.popsample.specs.Subjects.{Subject, instance_over, IsSubjectOf}
-use Rattle.popsample.specs.Answers.{last_height, ComesOfCommand, ComesOf, origin_for, asked_by}
+use Rattle.pop_words.specs.declared.command.Command.{Command}
+use Rattle.pop_words.specs.declared.command.Command.TheVariants.{Formula, Orient, Tree}
+use Rattle.popsample.specs.Answers.{last_height, ComesOfCommand, ComesOf, IsOfLine, ComesBy, origin_for, asked_by}
 use Rattle.popsample.specs.FirstSample.{of_one, BeginsWithOne, FirstSample}
 use Rattle.popsample.proofs.BatchWords.{is_batched, IsQuiet, counted_command, counted_quiet, uncounted}
+use Rattle.popsample.proofs.PauseWords.{counted_runs_out}
 use Rattle.popsample.proofs.EndedSubjects.{IsBatchOfSubject, batched_subject, subject_ended}
 use Rattle.popsample.proofs.LayeredOrders.{layered_order}
+use Rattle.popsample.proofs.ByCommand.{of_line}
+use Rattle.popsample.proofs.Lifting.{no_replay}
 use Rattle.popsample.proofs.OneOutcome.{word_cases}
 use Rattle.popsample.proofs.ShownBatches.{in_full}
 use Rattle.popsample.proofs.ShownSamples.{refused, faulty, ended_once, resampled_once, rounds_once, verdict_once}
@@ -59,6 +65,8 @@ of_many Make job text s h = h
 of_many Resample job text s h = absurd h
 of_many Rounds job text s h = absurd h
 of_many Check job text s h = absurd h
+of_many Replay job text s h = absurd h
+of_many Resume job text s h = absurd h
 
 -- what is told where nothing is asked for
 record TellsNothing (job : Job) (ws : List Watcher) (names : Names) (i : Instance) : Type 0 where
@@ -150,7 +158,9 @@ begins words job asks count is ws text facts i (end ∷ ends) h =
       answer = (
         Ended s.facts j end.cursors end.pops end.stuck nothing.telling,
         subject_ended job.command (of_one job) ws text s refl (of_many job.command job text s of.is) of.sound end.cursors
-            end.pops end.stuck nothing.telling (first, nothing.told),
+            end.pops end.stuck nothing.telling
+            (subst (λ most. EndsWithin most end.pops) (sym (counted_runs_out words job asks count is)) tt)
+            (first, nothing.told),
         record { status_is = refl; out_is = refl },
       );
     }
@@ -172,6 +182,10 @@ batch_begins words job asks count is ws text (CutOff w) h low = absurd (not_low 
 batch_begins words job asks count is ws text (TooMany n) h low = absurd (not_low 4 (omega arith) low)
 batch_begins words job asks count is ws text (Unsound t f) h low = absurd (not_low _ (faulty f) low)
 batch_begins words job asks count is ws text (Clashes i j) h low = absurd (not_low 5 (omega arith) low)
+batch_begins words job asks count is ws text (Paused j w t i l) h low = absurd (not_low 10 (omega arith) low)
+batch_begins words job asks count is ws text (Replayed i c n k) h low =
+    absurd (no_replay job.command job ws text i c n k h)
+batch_begins words job asks count is ws text (NotLegal p) h low = absurd (not_low 11 (omega arith) low)
 batch_begins words job asks count is ws text (Extremal n) h low =
     absurd (none-some count (sym (uncounted words job asks (verdict_once job.command job ws text n h)) ∙ is))
 batch_begins words job asks count is ws text (Ended t i c n s a) h low =
@@ -183,6 +197,13 @@ batch_begins words job asks count is ws text (Rounded t i c n s v) h low =
 batch_begins words job asks count is ws text (Batched t i ends) h low =
     begins words job asks count is ws text t i ends h
 
+-- a command that has batches reads no certificate
+batched_line : (k : Command) → is_batched k ≡ true → IsOfLine k
+batched_line Formula is = tt
+batched_line Orient is = tt
+batched_line Tree is = tt
+batched_line k is = absurd (false≢true is)
+
 -- the law
 pub first_sample : FirstSample
 first_sample words ws text job count status out asks is (o, comes, tells) low = elim (word_cases words ws text o comes) [
@@ -190,6 +211,8 @@ first_sample words ws text job count status out asks is (o, comes, tells) low = 
   | inr came ↦
       let same : came.job ≡ job = same_job words came.job job came.asks asks in
       subst (BeginsWithOne job ws text count) (sym tells.out_is)
-      (batch_begins words job asks count is ws text o (subst (λ j. ComesOf j ws text o) same came.comes)
+      (batch_begins words job asks count is ws text o (of_line job.command job ws text o
+      (batched_line job.command (counted_command words job asks count is))
+      (subst (λ (j : Job). ComesBy j.command j ws text o) same came.comes))
       (subst (λ n. (n ≡ 0) ⊎ (n ≡ 1)) tells.status_is low))
 ]

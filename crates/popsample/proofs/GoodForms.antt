@@ -1,5 +1,6 @@
 -- What comes of sampling, and of a graph whose form is good: no vertex is isolated, or each is joined to the root.
 use Rattle.std.proofs.Common.{◌≡◌, ℕ, ◌≤◌, List, [], ◌∷◌, length, Option, Result, refl, sym, subst, ◌∙◌}
+use Rattle.std.specs.Result.{IsErrAnd}
 use Rattle.std.proofs.lemmas.List.{length-replicate}
 use Rattle.pop_model.specs.Stacks.{Origin}
 use Rattle.pop_stacks.specs.declared.stack_fault.StackFault.{StackFault}
@@ -19,7 +20,7 @@ use Rattle.pop_print.specs.declared.facts.Facts.TheVariants.{Orient as OrientFac
 use Rattle.popsample.specs.declared.asked.Asked.{Asked}
 use Rattle.popsample.specs.Batches.{IsTooMany, AreFew}
 use Rattle.popsample.specs.Outcomes.{Outcome, AnswersBy}
-use Rattle.popsample.specs.Outcomes.Outcome.{Usage, Unread, Isolated, NoRoot, CutOff, TooMany, Unsound, Clashes, Extremal, Ended, Resampled, Rounded, Batched}
+use Rattle.popsample.specs.Outcomes.Outcome.{Usage, Unread, Isolated, NoRoot, CutOff, TooMany, Unsound, Clashes, Extremal, Ended, Resampled, Rounded, Batched, Paused, Replayed, NotLegal}
 use Rattle.popsample.specs.Sampling.{pair_weights, instance_of, IsEndOf, IsFaultOf, ComesOfSampling}
 use Rattle.popsample.specs.Orientations.{EndsOrientation, ComesOfOrienting}
 use Rattle.popsample.specs.Trees.{cycles_instance, tree_instance, ComesOfTree}
@@ -28,7 +29,8 @@ use Rattle.popsample.specs.declared.answer.Answer.{Answer}
 use Rattle.popsample.specs.declared.refusal.Refusal.{Refusal}
 use Rattle.popsample.specs.declared.refusal.Refusal.TheVariants.{CutOff as CutOffAt, TooMany as TooManyAt, Stopped}
 use Rattle.popsample.specs.Results.{unoriented, ComesRefused, IsResultOf, IsTooManyRefusal, IsCutOffRefusal}
-use Rattle.popsample.proofs.Carrying.{answered, carried}
+use Rattle.popsample.specs.Made.{IsMadeOrientation, IsMadeTree, IsMadeGrid}
+use Rattle.popsample.proofs.Carrying.{refused, refused_result}
 
 -- a fault of the stacks comes of sampling
 pub of_fault : (facts : Facts) (origin : Origin) (weights : List (List ℕ)) (asked : Option ℕ)
@@ -57,6 +59,9 @@ of_sound facts origin weights asked Runs sound few runs (Ended t i c n s a) h = 
 of_sound facts origin weights asked Runs sound few runs (Resampled t i l s a) h = (sound, h, few)
 of_sound facts origin weights asked Runs sound few runs (Rounded t i c n s v) h = (sound, h, few)
 of_sound facts origin weights asked Runs sound few runs (Batched t i es) h = (sound, h, few)
+of_sound facts origin weights asked Runs sound few runs (Paused j w t i l) h = (sound, h, few)
+of_sound facts origin weights asked Runs sound few runs (Replayed i c n k) h = (sound, h, few)
+of_sound facts origin weights asked Runs sound few runs (NotLegal p) h = (sound, h, few)
 of_sound facts origin weights asked Runs sound few runs (TooMany n) h = absurd (runs.not_many n h)
 of_sound facts origin weights asked Runs sound few runs (Unsound t f) h = absurd (runs.no_fault t f h)
 
@@ -87,6 +92,9 @@ of_touched origin asked ws g touched (Ended t i c n s a) h = (touched, h)
 of_touched origin asked ws g touched (Resampled t i l s a) h = (touched, h)
 of_touched origin asked ws g touched (Rounded t i c n s v) h = (touched, h)
 of_touched origin asked ws g touched (Batched t i es) h = (touched, h)
+of_touched origin asked ws g touched (Paused j w t i l) h = (touched, h)
+of_touched origin asked ws g touched (Replayed i c n k) h = (touched, h)
+of_touched origin asked ws g touched (NotLegal p) h = (touched, h)
 
 -- where the root is a vertex, and each vertex is joined to it
 pub of_connected : (origin : Origin) (asked : Asked) (ws : List Watcher) (root : ℕ) (g : GraphOf) → root ≤ g.vertices
@@ -107,6 +115,9 @@ of_connected origin asked ws root g last connected (Ended t i c n s a) h = (last
 of_connected origin asked ws root g last connected (Resampled t i l s a) h = (last, connected, h)
 of_connected origin asked ws root g last connected (Rounded t i c n s v) h = (last, connected, h)
 of_connected origin asked ws root g last connected (Batched t i es) h = (last, connected, h)
+of_connected origin asked ws root g last connected (Paused j w t i l) h = (last, connected, h)
+of_connected origin asked ws root g last connected (Replayed i c n k) h = (last, connected, h)
+of_connected origin asked ws root g last connected (NotLegal p) h = (last, connected, h)
 
 -- a vertex that is cut off refuses a graph of which a tree is asked
 pub cut_off_refused : (origin : Origin) (asked : Asked) (ws : List Watcher) (root : ℕ) (g : GraphOf) (r : Refusal)
@@ -126,71 +137,84 @@ sinks_run : (origin : Origin) (asked : Asked) (ws : List Watcher) (g : GraphOf)
     → TellsRuns (EndsOrientation origin asked ws g)
 sinks_run origin asked ws g = record { no_fault = λ t f h. h.end; not_many = λ n h. h.end }
 
--- the answer of the run of a graph's sinks
-pub orient_answers : (origin : Origin) (asked : Asked) (ws : List Watcher) (g : GraphOf) (n : ℕ)
-    (events : List (ℕ × Cube)) (i : Instance) (status : ℕ) (out : List ℕ) → ((w : ℕ) → IsIsolated g w → ⊥)
-    → AreSinksOf g events → n ≡ length g.edges → i ≡ instance_of origin n events
-    → IsSound origin (pair_weights (length g.edges)) → AreFew asked.count n
-    → AnswersBy (IsEndOf asked ws (OrientFacts g) i) status out
-    → AnswersBy (ComesOfOrienting origin asked ws g) status out
-orient_answers origin asked ws g n events i status out touched of count same sound few =
-    answered (IsEndOf asked ws (OrientFacts g) i) (ComesOfOrienting origin asked ws g) status out
-    (λ o end. of_touched origin asked ws g touched o
-    (of_sound (OrientFacts g) origin (pair_weights (length g.edges)) asked.count (EndsOrientation origin asked ws g) sound
-    (subst (AreFew asked.count) (count ∙ sym (length-replicate (length g.edges) (1 ∷ 1 ∷ []))) few)
-    (sinks_run origin asked ws g) o (record {
-      events = events;
-      of_graph = of;
-      end = subst (λ k. IsEndOf asked ws (OrientFacts g) (instance_of origin k events) o) count
-          (subst (λ j. IsEndOf asked ws (OrientFacts g) j o) same end);
-    })))
+-- the end of the run of what is made of a graph that is oriented
+pub orientation_ends : (origin : Origin) (asked : Asked) (ws : List Watcher) (g : GraphOf) (facts : Facts) (i : Instance)
+    → IsMadeOrientation origin asked.count g facts i → (o : Outcome) → IsEndOf asked ws facts i o
+    → ComesOfOrienting origin asked ws g o
+orientation_ends origin asked ws g facts i made o end =
+    of_touched origin asked ws g made.touched o
+    (of_sound (OrientFacts g) origin (pair_weights (length g.edges)) asked.count (EndsOrientation origin asked ws g)
+    made.is.sound made.is.few (sinks_run origin asked ws g) o (record {
+      events = made.events;
+      of_graph = made.of_graph;
+      end = subst (λ t. IsEndOf asked ws t (instance_of origin (length g.edges) made.events) o) made.is.facts_are
+          (subst (λ j. IsEndOf asked ws facts j o) made.is.instance_is end);
+    }))
 
--- the answer of the run of arrows
-pub arrows_answer : (facts : Facts) (origin : Origin) (asked : Asked) (ws : List Watcher) (weights : List (List ℕ))
-    (i j : Instance) (status : ℕ) (out : List ℕ) → IsSound origin weights → AreFew asked.count (length weights) → i ≡ j
-    → AnswersBy (IsEndOf asked ws facts i) status out
-    → AnswersBy (ComesOfSampling facts origin weights asked.count (IsEndOf asked ws facts j)) status out
-arrows_answer facts origin asked ws weights i j status out sound few same =
-    answered (IsEndOf asked ws facts i) (ComesOfSampling facts origin weights asked.count (IsEndOf asked ws facts j))
-    status out
-    (λ o end. of_sound facts origin weights asked.count (IsEndOf asked ws facts j) sound few
-    (record { no_fault = λ t f h. h; not_many = λ n h. h }) o
-    (subst (λ k. IsEndOf asked ws facts k o) same end))
+-- a run of arrows tells a run
+arrows_run : (asked : Asked) (ws : List Watcher) (facts : Facts) (i : Instance) → TellsRuns (IsEndOf asked ws facts i)
+arrows_run asked ws facts i = record { no_fault = λ t f h. h; not_many = λ n h. h }
 
--- the result of sampling arrows is that of sampling those of other weights and heads, if these are the same
-same_arrows : (facts : Facts) (origin : Origin) (asked : Asked) (ws : List Watcher) (weights others : List (List ℕ))
-    (arrows heads : List (List (Option ℕ))) (r : Result Answer Refusal) → weights ≡ others → arrows ≡ heads
-    → IsResultOf (ComesOfSampling facts origin weights asked.count
-    (IsEndOf asked ws facts (cycles_instance origin weights arrows))) r
-    → IsResultOf (ComesOfSampling facts origin others asked.count
-    (IsEndOf asked ws facts (cycles_instance origin others heads))) r
-same_arrows facts origin asked ws weights others arrows heads r same alike comes =
-    subst (λ w. IsResultOf (ComesOfSampling facts origin w asked.count
-    (IsEndOf asked ws facts (cycles_instance origin w heads))) r) same
-    (subst (λ h. IsResultOf (ComesOfSampling facts origin weights asked.count
-    (IsEndOf asked ws facts (cycles_instance origin weights h))) r) alike comes)
+-- the end of the run of arrows
+arrows_end : (facts told : Facts) (origin : Origin) (asked : Asked) (ws : List Watcher) (weights : List (List ℕ))
+    (i j : Instance) → facts ≡ told → i ≡ j → IsSound origin weights → AreFew asked.count (length weights)
+    → (o : Outcome) → IsEndOf asked ws facts i o
+    → ComesOfSampling told origin weights asked.count (IsEndOf asked ws told j) o
+arrows_end facts told origin asked ws weights i j facts_are same sound few o end =
+    of_sound told origin weights asked.count (IsEndOf asked ws told j) sound few (arrows_run asked ws told j) o
+    (subst (λ t. IsEndOf asked ws t j o) facts_are (subst (λ k. IsEndOf asked ws facts k o) same end))
 
--- the result of sampling a graph's arrows is that of its trees
-pub tree_result : (origin : Origin) (asked : Asked) (ws : List Watcher) (root : ℕ) (g : GraphOf)
-    (weights : List (List ℕ)) (arrows : List (List (Option ℕ))) (r : Result Answer Refusal)
-    → weights ≡ weights_of_tree g root → arrows ≡ heads_of_tree g root → root ≤ g.vertices → IsConnected g root
-    → IsResultOf (ComesOfSampling (TreeFacts g root) origin weights asked.count
-    (IsEndOf asked ws (TreeFacts g root) (cycles_instance origin weights arrows))) r
-    → IsResultOf (ComesOfTree origin asked ws root g) r
-tree_result origin asked ws root g weights arrows r same alike last connected comes =
-    let facts : Facts = TreeFacts g root in
-    carried (ComesOfSampling facts origin (weights_of_tree g root) asked.count
-    (IsEndOf asked ws facts (tree_instance origin g root))) (ComesOfTree origin asked ws root g) r
-    (of_connected origin asked ws root g last connected)
-    (same_arrows facts origin asked ws weights (weights_of_tree g root) arrows (heads_of_tree g root) r same alike comes)
+-- the end of the run of what is made of a graph of which a tree is asked
+pub tree_ends : (origin : Origin) (asked : Asked) (ws : List Watcher) (root : ℕ) (g : GraphOf) (facts : Facts)
+    (i : Instance) → IsMadeTree origin asked.count root g facts i → (o : Outcome) → IsEndOf asked ws facts i o
+    → ComesOfTree origin asked ws root g o
+tree_ends origin asked ws root g facts i made o end =
+    of_connected origin asked ws root g made.last made.joined o
+    (arrows_end facts (TreeFacts g root) origin asked ws (weights_of_tree g root) i (tree_instance origin g root)
+    made.is.facts_are made.is.instance_is made.is.sound made.is.few o end)
 
--- and so it is of a grid
-pub grid_result : (origin : Origin) (asked : Asked) (ws : List Watcher) (side : ℕ) (weights : List (List ℕ))
-    (arrows : List (List (Option ℕ))) (r : Result Answer Refusal) → weights ≡ weights_of_tree (grid_of side) 1
-    → arrows ≡ heads_of_tree (grid_of side) 1
-    → IsResultOf (ComesOfSampling (MadeFacts side) origin weights asked.count
-    (IsEndOf asked ws (MadeFacts side) (cycles_instance origin weights arrows))) r
-    → IsResultOf (ComesOfGrid origin asked ws side) r
-grid_result origin asked ws side weights arrows r same alike comes =
-    same_arrows (MadeFacts side) origin asked ws weights (weights_of_tree (grid_of side) 1) arrows
-    (heads_of_tree (grid_of side) 1) r same alike comes
+-- and of a grid
+pub grid_ends : (origin : Origin) (asked : Asked) (ws : List Watcher) (side : ℕ) (facts : Facts) (i : Instance)
+    → IsMadeGrid origin asked.count side facts i → (o : Outcome) → IsEndOf asked ws facts i o
+    → ComesOfGrid origin asked ws side o
+grid_ends origin asked ws side facts i made o end =
+    arrows_end facts (MadeFacts side) origin asked ws (weights_of_tree (grid_of side) 1) i
+    (tree_instance origin (grid_of side) 1) made.facts_are made.instance_is made.sound made.few o end
+
+-- too many samples, or a fault of the stacks, refuse a graph's trees
+pub tree_refused : (origin : Origin) (asked : Asked) (ws : List Watcher) (root : ℕ) (g : GraphOf)
+    (weights : List (List ℕ)) (r : Refusal) → weights ≡ weights_of_tree g root → root ≤ g.vertices → IsConnected g root
+    → ComesRefused (ComesOfSampling (TreeFacts g root) origin weights asked.count
+    (IsEndOf asked ws (TreeFacts g root) (tree_instance origin g root))) r
+    → ComesRefused (ComesOfTree origin asked ws root g) r
+tree_refused origin asked ws root g weights r same last connected h =
+    let Ends : Outcome → Type 0 = IsEndOf asked ws (TreeFacts g root) (tree_instance origin g root) in
+    refused (ComesOfSampling (TreeFacts g root) origin (weights_of_tree g root) asked.count Ends)
+    (ComesOfTree origin asked ws root g) r (of_connected origin asked ws root g last connected)
+    (subst (λ w. ComesRefused (ComesOfSampling (TreeFacts g root) origin w asked.count Ends) r) same h)
+
+-- and those of a grid
+pub grid_refused : (origin : Origin) (asked : Asked) (ws : List Watcher) (side : ℕ) (weights : List (List ℕ))
+    (r : Refusal) → weights ≡ weights_of_tree (grid_of side) 1
+    → ComesRefused (ComesOfSampling (MadeFacts side) origin weights asked.count
+    (IsEndOf asked ws (MadeFacts side) (tree_instance origin (grid_of side) 1))) r
+    → ComesRefused (ComesOfGrid origin asked ws side) r
+grid_refused origin asked ws side weights r same h =
+    let Ends : Outcome → Type 0 = IsEndOf asked ws (MadeFacts side) (tree_instance origin (grid_of side) 1) in
+    subst (λ w. ComesRefused (ComesOfSampling (MadeFacts side) origin w asked.count Ends) r) same h
+
+-- a refusal of a graph of which a tree is asked is the result, whatever is asked for
+pub tree_error : (origin : Origin) (asked : Asked) (ws : List Watcher) (root : ℕ) (g : GraphOf)
+    (r : Result Answer Refusal) (e : Refusal) → IsErrAnd r (λ x. x ≡ e)
+    → ((other : Asked) (others : List Watcher) → other.count ≡ asked.count
+    → ComesRefused (ComesOfTree origin other others root g) e) → IsResultOf (ComesOfTree origin asked ws root g) r
+tree_error origin asked ws root g r e is h =
+    refused_result (ComesOfTree origin asked ws root g) r e is (h asked ws refl)
+
+-- and one of a grid
+pub grid_error : (origin : Origin) (asked : Asked) (ws : List Watcher) (side : ℕ) (r : Result Answer Refusal)
+    (e : Refusal) → IsErrAnd r (λ x. x ≡ e)
+    → ((other : Asked) (others : List Watcher) → other.count ≡ asked.count
+    → ComesRefused (ComesOfGrid origin other others side) e) → IsResultOf (ComesOfGrid origin asked ws side) r
+grid_error origin asked ws side r e is h =
+    refused_result (ComesOfGrid origin asked ws side) r e is (h asked ws refl)

@@ -8,11 +8,15 @@ use Rattle.dimacs_read.specs.CnfText.{AnswersCnf}
 use Rattle.graph_read.specs.Graphs.{GraphOf}
 use Rattle.graph_read.specs.GraphText.{AnswersGraph}
 use Rattle.pop_words.specs.declared.command.Command.{Command}
-use Rattle.pop_words.specs.declared.command.Command.TheVariants.{Formula, Orient, Tree, Resample, Check, Make, Rounds}
+use Rattle.pop_words.specs.declared.command.Command.TheVariants.{Formula, Orient, Tree, Resample, Check, Make, Rounds, Replay, Resume}
 use Rattle.pop_words.specs.declared.job.Job.{Job}
 use Rattle.pop_words.specs.CommandLines.{Asks}
 use Rattle.pop_words.proofs.OneJob.{same_job}
 use Rattle.pop_watch.specs.Telling.{Watcher}
+use Rattle.pop_model.specs.Instances.{Instance}
+use Rattle.pop_log.specs.Layers.{Placed}
+use Rattle.run_cert.specs.declared.look_kind.Look.{Look}
+use Rattle.pop_print.specs.declared.facts.Facts.{Facts}
 use Rattle.pop_print.specs.declared.facts.Facts.TheVariants.{Formula as FormulaFacts}
 use Rattle.popsample.specs.declared.answer.Answer.{Answer}
 use Rattle.popsample.specs.declared.asked.Asked.{Asked}
@@ -20,7 +24,7 @@ use Rattle.popsample.specs.declared.stop.Stop.TheVariants.{ReadFault, OutOfMemor
 use Rattle.popsample.specs.declared.refusal.Refusal.{Refusal}
 use Rattle.popsample.specs.declared.refusal.Refusal.TheVariants.{Malformed, Count, EmptyClause, Limit, Stopped}
 use Rattle.popsample.specs.Outcomes.{Outcome}
-use Rattle.popsample.specs.Outcomes.Outcome.{Usage, Unread, Isolated, NoRoot, CutOff, TooMany, Unsound, Clashes, Extremal, Ended, Resampled, Rounded, Batched}
+use Rattle.popsample.specs.Outcomes.Outcome.{Usage, Unread, Isolated, NoRoot, CutOff, TooMany, Unsound, Clashes, Extremal, Ended, Resampled, Rounded, Batched, Paused, Replayed, NotLegal}
 use Rattle.popsample.specs.Results.{ComesRefused, IsResultOf, IsRefusalOf}
 use Rattle.popsample.specs.Sampling.{pair_weights, ComesOfSampling}
 use Rattle.popsample.specs.Formulas.{ComesOfFormula, ComesOfChecking}
@@ -29,8 +33,9 @@ use Rattle.popsample.specs.Rounds.{ComesOfRounds}
 use Rattle.popsample.specs.Orientations.{ComesOfOrienting}
 use Rattle.popsample.specs.Trees.{ComesOfTree}
 use Rattle.popsample.specs.Grids.{ComesOfGrid}
-use Rattle.popsample.specs.Answers.{ComesOfCnf, ComesOfGraph, origin_for, has_free_order, asked_by, ComesOfCommand, Refuses, ComesOf, IsOutcome, AskForGrid, IsInput}
+use Rattle.popsample.specs.Answers.{ComesOfCnf, ComesOfGraph, origin_for, has_free_order, asked_by, ComesOfCommand, Refuses, ComesOf, ComesBy, IsOutcome, AskForGrid, IsInput}
 use Rattle.popsample.proofs.Carrying.{carried}
+use Rattle.popsample.proofs.ByCommand.{no_bad_word}
 
 -- no command finds fault with the words
 no_usage : (command : Command) (job : Job) (ws : List Watcher) (text : List ℕ) (place : ℕ)
@@ -42,6 +47,8 @@ no_usage Resample job ws text place h = h.comes.1.history
 no_usage Check job ws text place h = h.comes
 no_usage Make job ws text place h = h.1
 no_usage Rounds job ws text place h = h.comes.1.end
+no_usage Replay job ws text place h = h
+no_usage Resume job ws text place h = h
 
 -- nor, once the text is read, with the text
 no_refusal : (command : Command) (job : Job) (ws : List Watcher) (text : List ℕ) (refusal : ReadRefusal)
@@ -53,6 +60,35 @@ no_refusal Resample job ws text refusal h = h.comes.1.history
 no_refusal Check job ws text refusal h = h.comes
 no_refusal Make job ws text refusal h = h.1
 no_refusal Rounds job ws text refusal h = h.comes.1.end
+no_refusal Replay job ws text refusal h = h
+no_refusal Resume job ws text refusal h = h
+
+-- nor does it stop a run
+no_pause : (command : Command) (job : Job) (ws : List Watcher) (text : List ℕ) (told : Job) (input : List ℕ)
+    (facts : Facts) (i : Instance) (placed : List Placed)
+    → ComesOfCommand command job ws text (Paused told input facts i placed) → ⊥
+no_pause Formula job ws text told input facts i placed h = h.comes.1.end
+no_pause Orient job ws text told input facts i placed h = h.comes.1.1.end
+no_pause Tree job ws text told input facts i placed h = h.comes.2.1
+no_pause Resample job ws text told input facts i placed h = h.comes.1.history
+no_pause Check job ws text told input facts i placed h = h.comes
+no_pause Make job ws text told input facts i placed h = h.1
+no_pause Rounds job ws text told input facts i placed h = h.comes.1.end
+no_pause Replay job ws text told input facts i placed h = h
+no_pause Resume job ws text told input facts i placed h = h
+
+-- nor does it replay a log
+pub no_replay : (command : Command) (job : Job) (ws : List Watcher) (text : List ℕ) (i : Instance) (c : List ℕ)
+    (n : ℕ) (k : Look) → ComesOfCommand command job ws text (Replayed i c n k) → ⊥
+no_replay Formula job ws text i c n k h = h.comes.1.end
+no_replay Orient job ws text i c n k h = h.comes.1.1.end
+no_replay Tree job ws text i c n k h = h.comes.2.1
+no_replay Resample job ws text i c n k h = h.comes.1.history
+no_replay Check job ws text i c n k h = h.comes
+no_replay Make job ws text i c n k h = h.1
+no_replay Rounds job ws text i c n k h = h.comes.1.end
+no_replay Replay job ws text i c n k h = h
+no_replay Resume job ws text i c n k h = h
 
 -- what a job's command makes of a text comes of the job and the text
 pub of_command : (job : Job) (ws : List Watcher) (text : List ℕ) (o : Outcome)
@@ -72,11 +108,14 @@ of_command job ws text (Ended t i c n s a) h = h
 of_command job ws text (Resampled t i l s a) h = h
 of_command job ws text (Rounded t i c n s v) h = h
 of_command job ws text (Batched t i es) h = h
+of_command job ws text (Paused j w t i l) h = absurd (no_pause job.command job ws text j w t i l h)
+of_command job ws text (Replayed i c n k) h = h
+of_command job ws text (NotLegal p) h = h
 
 -- what comes of a job comes of the words that ask for it
 pub of_words : (words : List (List ℕ)) (job : Job) (ws : List Watcher) (text : List ℕ) → Asks words job → (o : Outcome)
-    → ComesOf job ws text o → IsOutcome words ws text o
-of_words words job ws text asks (Usage p) comes = absurd comes
+    → ComesBy job.command job ws text o → IsOutcome words ws text o
+of_words words job ws text asks (Usage p) comes = absurd (no_bad_word job.command job ws text p comes)
 of_words words job ws text asks (Unread refusal) comes = record { job = job; asks = asks; comes = comes }
 of_words words job ws text asks (Isolated w) comes = record { job = job; asks = asks; comes = comes }
 of_words words job ws text asks (NoRoot r) comes = record { job = job; asks = asks; comes = comes }
@@ -89,9 +128,12 @@ of_words words job ws text asks (Ended t i c n s a) comes = record { job = job; 
 of_words words job ws text asks (Resampled t i l s a) comes = record { job = job; asks = asks; comes = comes }
 of_words words job ws text asks (Rounded t i c n s v) comes = record { job = job; asks = asks; comes = comes }
 of_words words job ws text asks (Batched t i es) comes = record { job = job; asks = asks; comes = comes }
+of_words words job ws text asks (Paused j w t i l) comes = record { job = job; asks = asks; comes = comes }
+of_words words job ws text asks (Replayed i c n k) comes = record { job = job; asks = asks; comes = comes }
+of_words words job ws text asks (NotLegal p) comes = record { job = job; asks = asks; comes = comes }
 
 -- what a command makes of a text is what the job's command makes
-by_command : (job : Job) (ws : List Watcher) (text : List ℕ) (command : Command) → job.command ≡ command → (o : Outcome)
+pub by_command : (job : Job) (ws : List Watcher) (text : List ℕ) (command : Command) → job.command ≡ command → (o : Outcome)
     → ComesOfCommand command job ws text o → ComesOf job ws text o
 by_command job ws text command is o h =
     of_command job ws text o (subst (λ k. ComesOfCommand k job ws text o) (sym is) h)

@@ -1,5 +1,5 @@
 -- The instances that the program makes are those of the definitions, and can be told.
-use Rattle.std.proofs.Common.{◌≡◌, ℕ, zero, suc, ◌-◌, ◌*◌, ◌<◌, ◌≤◌, List, [], Option, length, get_or, refl, sym, ap, subst, ◌∙◌, arith, zero-add}
+use Rattle.std.proofs.Common.{◌≡◌, ℕ, zero, suc, ◌-◌, ◌*◌, ◌<◌, ◌≤◌, List, [], Option, Result, Ok, Err, IfOk, length, get_or, refl, sym, ap, subst, ◌∙◌, arith, zero-add}
 use Rattle.std.proofs.lemmas.List.{length-map}
 use Rattle.std.proofs.lemmas.List.FromFn.{length-map-range_with_len, get_or-map-range_with_len}
 use Rattle.pop_model.specs.Stacks.{StackTable, Origin}
@@ -10,7 +10,9 @@ use Rattle.pop_model.specs.Names.{vertex_of}
 use Rattle.graph_read.specs.Graphs.{GraphOf, IsVertex, edge_at}
 use Rattle.graph_read.specs.Incidence.{edges_at, other_end}
 use Rattle.cycle_popping.specs.Trees.{variable_of, heads_at, weights_at, heads_of_tree, weights_of_tree}
-use Rattle.pop_print.specs.Ends.{IsOfTree}
+use Rattle.pop_print.specs.declared.facts.Facts.{Facts}
+use Rattle.pop_print.specs.Ends.{AreFactsOf, IsOfTree}
+use Rattle.popsample.specs.declared.making.Made.{Made}
 use Rattle.popsample.specs.Trees.{cycles_instance, tree_instance}
 
 -- an instance over stacks of these weights
@@ -80,6 +82,13 @@ pub fits_tree : (s : StackTable) (g : GraphOf) (root : ℕ) (heads : List (List 
     → s.weights ≡ weights_of_tree g root → heads ≡ heads_of_tree g root → FamilyFits s (Cycles heads)
 fits_tree s g root heads weights_are heads_are =
     subst (λ h. FamilyFits s (Cycles h)) (sym heads_are) (tree_fits s g root weights_are)
+
+-- the facts of what is made are those that tell it
+pub facts_of_made : {E : Type 0} (r : Result Made E) (facts : Facts) (i : Instance) → IfOk r (λ made. made.facts ≡ facts)
+    → IfOk r (λ made. made.instance ≡ i) → AreFactsOf facts i → IfOk r (λ made. AreFactsOf made.facts made.instance)
+facts_of_made (Ok made) facts i facts_are instance_is told =
+    subst (λ t. AreFactsOf t made.instance) (sym facts_are) (subst (AreFactsOf facts) (sym instance_is) told)
+facts_of_made (Err e) facts i facts_are instance_is told = tt
 
 -- a grid has a first vertex
 pub first_of_grid : (side : ℕ) → 1 ≤ side → IsVertex (side * side) 1

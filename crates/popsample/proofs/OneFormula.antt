@@ -13,7 +13,7 @@ use Rattle.pop_watch.specs.Telling.{Watcher}
 use Rattle.pop_print.specs.declared.facts.Facts.TheVariants.{Formula as FormulaFacts}
 use Rattle.popsample.specs.declared.asked.Asked.{Asked}
 use Rattle.popsample.specs.Outcomes.{Outcome}
-use Rattle.popsample.specs.Outcomes.Outcome.{Usage, Unread, Isolated, NoRoot, CutOff, TooMany, Unsound, Clashes, Extremal, Ended, Resampled, Rounded, Batched}
+use Rattle.popsample.specs.Outcomes.Outcome.{Usage, Unread, Isolated, NoRoot, CutOff, TooMany, Unsound, Clashes, Extremal, Ended, Resampled, Rounded, Batched, Paused, Replayed, NotLegal}
 use Rattle.popsample.specs.Sampling.{pair_weights, instance_of, IsEndOf}
 use Rattle.popsample.specs.Formulas.{ClashesAt, EndsFormula, ComesOfRunning, ComesOfFormula, ComesOfChecking}
 use Rattle.popsample.specs.Laws.{ReportAlike}
@@ -72,6 +72,18 @@ running_cases origin asked ws f (Ended t i c n s a) h = inr h
 running_cases origin asked ws f (Resampled t i l s a) h = inr h
 running_cases origin asked ws f (Rounded t i c n s v) h = inr h
 running_cases origin asked ws f (Batched t i es) h = inr h
+running_cases origin asked ws f (Paused j w t i l) h = inr h
+running_cases origin asked ws f (Replayed i c n k) h = inr h
+running_cases origin asked ws f (NotLegal p) h = inr h
+
+-- of extremal events it is an end
+pub of_extremal : (origin : Origin) (asked : Asked) (ws : List Watcher) (f : Cnf) (events : List (ℕ × Cube))
+    → AreEventsOf f.clauses events → IsExtremal (Listed events) → (o : Outcome) → ComesOfRunning origin asked ws f o
+    → EndsFormula origin asked ws f o
+of_extremal origin asked ws f events are extremal o h = elim (running_cases origin asked ws f o h) [
+  | inl (i, j, is, at) ↦ absurd (no_clash f i j at events are extremal)
+  | inr end ↦ end
+]
 
 -- a formula that runs has one outcome
 one_running : (origin : Origin) (asked : Asked) (ws vs : List Watcher) (f : Cnf) → ReportAlike asked.reports ws vs

@@ -11,7 +11,7 @@ use Rattle.pop_watch.specs.Telling.{Watcher}
 use Rattle.pop_print.specs.declared.facts.Facts.TheVariants.{Orient as OrientFacts}
 use Rattle.popsample.specs.declared.asked.Asked.{Asked}
 use Rattle.popsample.specs.Outcomes.{Outcome}
-use Rattle.popsample.specs.Outcomes.Outcome.{Usage, Unread, Isolated, NoRoot, CutOff, TooMany, Unsound, Clashes, Extremal, Ended, Resampled, Rounded, Batched}
+use Rattle.popsample.specs.Outcomes.Outcome.{Usage, Unread, Isolated, NoRoot, CutOff, TooMany, Unsound, Clashes, Extremal, Ended, Resampled, Rounded, Batched, Paused, Replayed, NotLegal}
 use Rattle.popsample.specs.Sampling.{pair_weights, instance_of, IsEndOf, ComesOfSampling}
 use Rattle.popsample.specs.Orientations.{EndsOrientation, ComesOfOrienting}
 use Rattle.popsample.specs.Laws.{ReportAlike}
@@ -20,7 +20,7 @@ use Rattle.popsample.proofs.ListedEvents.{sinks_cubes}
 use Rattle.popsample.proofs.OneSampling.{AreOne, one_end, same_sampling}
 
 -- a graph has one list of sinks
-one_sinks : (g : GraphOf) (a b : List (ℕ × Cube)) → AreSinksOf g a → AreSinksOf g b → a ≡ b
+pub one_sinks : (g : GraphOf) (a b : List (ℕ × Cube)) → AreSinksOf g a → AreSinksOf g b → a ≡ b
 one_sinks g a b is is' =
     same_rising (λ (r : ℕ × Cube). r.0) a b is.rising is'.rising
     (λ r has. (is'.exact r.0 r.1).1 ((is.exact r.0 r.1).0 has)) (λ r has. (is.exact r.0 r.1).1 ((is'.exact r.0 r.1).0 has))
@@ -60,6 +60,19 @@ orienting_cases origin asked ws g (Ended t i c n s a) h = inr h
 orienting_cases origin asked ws g (Resampled t i l s a) h = inr h
 orienting_cases origin asked ws g (Rounded t i c n s v) h = inr h
 orienting_cases origin asked ws g (Batched t i es) h = inr h
+orienting_cases origin asked ws g (Paused j w t i l) h = inr h
+orienting_cases origin asked ws g (Replayed i c n k) h = inr h
+orienting_cases origin asked ws g (NotLegal p) h = inr h
+
+-- without an isolated vertex it comes of sampling
+pub of_unisolated : (origin : Origin) (asked : Asked) (ws : List Watcher) (g : GraphOf)
+    → ((w : ℕ) → IsIsolated g w → ⊥) → (o : Outcome) → ComesOfOrienting origin asked ws g o
+    → ComesOfSampling (OrientFacts g) origin (pair_weights (length g.edges)) asked.count
+    (EndsOrientation origin asked ws g) o
+of_unisolated origin asked ws g touched o h = elim (orienting_cases origin asked ws g o h) [
+  | inl (w, is, least) ↦ absurd (touched w least.holds)
+  | inr (none, comes) ↦ comes
+]
 
 -- a graph that is oriented has one outcome
 pub one_orienting : (origin : Origin) (asked : Asked) (ws vs : List Watcher) (g : GraphOf)

@@ -1,13 +1,15 @@
--- Words and a text have one outcome, or two runs where a resampling is asked for. The words ask for one job or have one
--- bad place; the text is refused in one way or spells one formula or graph; and of that one thing comes.
-use Rattle.std.proofs.Common.{inl, inr, ◌≡◌, ◌≢◌, ◌⊎◌, ℕ, List, refl, sym, ap, subst, ◌∙◌}
+-- A job and a text have one outcome by the line of its command, or two runs where a resampling is asked for or a run may stop. The words ask for one
+-- job or have one bad place; the text is refused in one way or spells one formula or graph; and of that one thing comes.
+use Rattle.std.proofs.Common.{inl, inr, ◌≡◌, ◌≢◌, ◌⊎◌, ℕ, List, None, Some, refl, sym, ap, ap₂, subst, ◌∙◌}
+use Rattle.std.proofs.lemmas.Option.{none-some, same_Some}
+use Rattle.pop_model.specs.Stacks.{Origin}
 use Rattle.pop_model.specs.Families.{Event}
 use Rattle.pop_model.specs.Instances.{Instance}
 use Rattle.pop_edge.specs.declared.refusal.ReadRefusal.{ReadRefusal}
 use Rattle.dimacs_read.specs.Cnf.{Cnf}
 use Rattle.graph_read.specs.Graphs.{GraphOf}
 use Rattle.pop_words.specs.declared.command.Command.{Command}
-use Rattle.pop_words.specs.declared.command.Command.TheVariants.{Formula, Orient, Tree, Resample, Check, Make, Rounds}
+use Rattle.pop_words.specs.declared.command.Command.TheVariants.{Formula, Orient, Tree, Resample, Check, Make, Rounds, Replay, Resume}
 use Rattle.pop_words.specs.declared.job.Job.{Job}
 use Rattle.pop_words.specs.CommandLines.{AreWords, IsBadPlace}
 use Rattle.pop_log.specs.Layers.{Placed}
@@ -15,7 +17,7 @@ use Rattle.pop_watch.specs.Telling.{Watcher}
 use Rattle.pop_words.proofs.OneJob.{same_job, same_first_bad}
 use Rattle.pop_print.specs.declared.facts.Facts.{Facts}
 use Rattle.popsample.specs.Outcomes.{Outcome}
-use Rattle.popsample.specs.Outcomes.Outcome.{Usage, Unread, Isolated, NoRoot, CutOff, TooMany, Unsound, Clashes, Extremal, Ended, Resampled, Rounded, Batched}
+use Rattle.popsample.specs.Outcomes.Outcome.{Usage, Unread, Isolated, NoRoot, CutOff, TooMany, Unsound, Clashes, Extremal, Ended, Resampled, Rounded, Batched, Paused, Replayed, NotLegal}
 use Rattle.popsample.specs.Tellings.{Telling}
 use Rattle.popsample.specs.Formulas.{ComesOfFormula, ComesOfChecking}
 use Rattle.popsample.specs.Resamplings.{ComesOfResampling}
@@ -23,13 +25,16 @@ use Rattle.popsample.specs.Rounds.{ComesOfRounds}
 use Rattle.popsample.specs.Orientations.{ComesOfOrienting}
 use Rattle.popsample.specs.Trees.{ComesOfTree}
 use Rattle.popsample.specs.Answers.{ComesOfCnf, ComesOfGraph, origin_for, asked_by, ComesOfCommand, IsOfText, Refuses, ComesOf, ComesOfJob, IsOutcome}
-use Rattle.popsample.specs.Laws.{AskForOneEnd, ReportAlike, AskForLike, Agree}
+use Rattle.popsample.specs.Made.{IsMade}
+use Rattle.popsample.specs.Pauses.{IsPause}
+use Rattle.popsample.specs.Laws.{AskForOneEnd, ReportAlike, AskForLike, AreHistories, Agree}
 use Rattle.popsample.proofs.OneSampling.{AreOne}
 use Rattle.popsample.proofs.OneFormula.{one_formula, one_checking}
 use Rattle.popsample.proofs.OneResampling.{one_resampling}
 use Rattle.popsample.proofs.OneRounds.{one_rounds}
 use Rattle.popsample.proofs.OneOrientation.{one_orienting}
 use Rattle.popsample.proofs.OneTree.{one_tree, one_grid}
+use Rattle.popsample.proofs.OnePause.{beside_histories, paused_or_done, one_made}
 use Rattle.popsample.proofs.OneReading.{one_refusal, no_cnf_refusal, no_graph_refusal}
 
 -- outcomes of a text that spells a formula are alike where those of the formula are
@@ -78,6 +83,8 @@ alike_command Make job ws vs text o p like h h' =
 alike_command Rounds job ws vs text o p like h h' =
     inl (one_cnf (ComesOfRounds (origin_for job)) (ComesOfRounds (origin_for job)) text (one_rounds (origin_for job)) o p
     h h')
+alike_command Replay job ws vs text o p like h h' = absurd h
+alike_command Resume job ws vs text o p like h h' = absurd h
 
 -- what a command makes of a text isn't a refusal of the text
 unrefused : (command : Command) (job : Job) (ws : List Watcher) (text : List ℕ) (o : Outcome) (r : ReadRefusal)
@@ -89,30 +96,91 @@ unrefused Resample job ws text o r h of refuses = no_cnf_refusal text h.formula 
 unrefused Check job ws text o r h of refuses = no_cnf_refusal text h.formula r h.spelled of refuses
 unrefused Make job ws text o r h of refuses = refuses
 unrefused Rounds job ws text o r h of refuses = no_cnf_refusal text h.formula r h.spelled of refuses
+unrefused Replay job ws text o r h of refuses = h
+unrefused Resume job ws text o r h of refuses = h
 
 -- what comes of a job's command and a text
 abbrev pub Done : Job → List Watcher → List ℕ → Outcome → Type 0
 Done job ws text o = ComesOfCommand job.command job ws text o
 
--- what comes of a job and a text is a refusal of the text, or comes of what it spells
+-- an outcome tells a pause of the job and the text
+pub record TellsPaused (job : Job) (text : List ℕ) (o : Outcome) : Type 0 where
+  pub facts : Facts
+  pub i : Instance
+  pub placed : List Placed
+  pub is : o ≡ Paused job text facts i placed
+  pub made : IsMade job.command (origin_for job) job.root text facts i
+  pub pops : ℕ
+  pub stop : job.pops ≡ Some pops
+  pub pause : IsPause i pops placed
+  pub once : job.count ≡ None
+
+-- what comes of a job and a text is a refusal of the text, or comes of what it spells, or is a pause
 pub read_cases : (job : Job) (ws : List Watcher) (text : List ℕ) (o : Outcome) → ComesOf job ws text o
-    → ((r : ReadRefusal) × (o ≡ Unread r) × IsOfText r × Refuses job.command text r) ⊎ Done job ws text o
+    → ((r : ReadRefusal) × (o ≡ Unread r) × IsOfText r × Refuses job.command text r)
+    ⊎ (Done job ws text o ⊎ TellsPaused job text o)
 read_cases job ws text (Usage place) h = absurd h
 read_cases job ws text (Unread r) h = inl (r, refl, h.0, h.1)
-read_cases job ws text (Isolated w) h = inr h
-read_cases job ws text (NoRoot r) h = inr h
-read_cases job ws text (CutOff w) h = inr h
-read_cases job ws text (TooMany n) h = inr h
-read_cases job ws text (Unsound t f) h = inr h
-read_cases job ws text (Clashes i j) h = inr h
-read_cases job ws text (Extremal n) h = inr h
-read_cases job ws text (Ended t i c n s a) h = inr h
-read_cases job ws text (Resampled t i l s a) h = inr h
-read_cases job ws text (Rounded t i c n s v) h = inr h
-read_cases job ws text (Batched t i es) h = inr h
+read_cases job ws text (Paused told input facts i placed) (told_is, input_is, made, (pops, stop, pause), once) =
+    inr (inr (record {
+      facts = facts;
+      i = i;
+      placed = placed;
+      is = ap₂ (λ k l. Paused k l facts i placed) told_is input_is;
+      made = made;
+      pops = pops;
+      stop = stop;
+      pause = pause;
+      once = once;
+    }))
+read_cases job ws text (Isolated w) h = inr (inl h)
+read_cases job ws text (NoRoot r) h = inr (inl h)
+read_cases job ws text (CutOff w) h = inr (inl h)
+read_cases job ws text (TooMany n) h = inr (inl h)
+read_cases job ws text (Unsound t f) h = inr (inl h)
+read_cases job ws text (Clashes i j) h = inr (inl h)
+read_cases job ws text (Extremal n) h = inr (inl h)
+read_cases job ws text (Ended t i c n s a) h = inr (inl h)
+read_cases job ws text (Resampled t i l s a) h = inr (inl h)
+read_cases job ws text (Rounded t i c n s v) h = inr (inl h)
+read_cases job ws text (Batched t i es) h = inr (inl h)
+read_cases job ws text (Replayed i c n k) h = inr (inl h)
+read_cases job ws text (NotLegal p) h = inr (inl h)
+
+-- what is made of a text isn't refused
+pub made_unrefused : (command : Command) (origin : Origin) (root : ℕ) (text : List ℕ) (facts : Facts) (i : Instance)
+    (r : ReadRefusal) → IsMade command origin root text facts i → IsOfText r → Refuses command text r → ⊥
+made_unrefused Formula origin root text facts i r made of refuses = no_cnf_refusal text made.formula r made.spelled of refuses
+made_unrefused Orient origin root text facts i r made of refuses = no_graph_refusal text made.graph r made.spelled of refuses
+made_unrefused Tree origin root text facts i r made of refuses = no_graph_refusal text made.graph r made.spelled of refuses
+made_unrefused Resample origin root text facts i r made of refuses = no_cnf_refusal text made.formula r made.spelled of refuses
+made_unrefused command origin root text facts i r made of refuses = absurd made
+
+-- two pauses of a job are of one instance
+two_pauses : (job : Job) (text : List ℕ) (o p : Outcome) → TellsPaused job text o → TellsPaused job text p
+    → AreHistories o p
+two_pauses job text o p a b =
+    let same = one_made job.command (origin_for job) job.root text a.facts b.facts a.i b.i a.made b.made in
+    let pops : a.pops ≡ b.pops = same_Some a.pops b.pops (sym a.stop ∙ b.stop) in
+    subst (λ q. AreHistories q p) (sym a.is) (subst (AreHistories (Paused job text a.facts a.i a.placed)) (sym b.is) (
+      refl,
+      refl,
+      same.0,
+      same.1,
+      subst (λ n. IsPause a.i n a.placed) (pops ∙ sym b.pause.count) a.pause,
+      subst (λ n. IsPause a.i n b.placed) (sym b.pause.count) (subst (λ k. IsPause k b.pops b.placed) (sym same.1) b.pause),
+    ))
+
+-- a pause and what else comes of the job
+pause_and_done : (job : Job) (ws : List Watcher) (text : List ℕ) (o p : Outcome) → TellsPaused job text o
+    → Done job ws text p → AreHistories o p × AreHistories p o
+pause_and_done job ws text o p a done =
+    subst (λ q. AreHistories q p × AreHistories p q) (sym a.is)
+    (beside_histories job text a.facts a.i a.placed p
+    (paused_or_done job.command job ws text a.facts a.i a.made a.pops a.placed a.pause a.once a.stop p done))
 
 -- two outcomes of a job and a text
-alike_read : (job : Job) (ws vs : List Watcher) (text : List ℕ) (o p : Outcome)
+pub alike_read : (job : Job) (ws vs : List Watcher) (text : List ℕ) (o p : Outcome)
     → (job.command ≢ Resample → ReportAlike job.reports ws vs) → ComesOf job ws text o → ComesOf job vs text p
     → Agree o p
 alike_read job ws vs text o p like h h' =
@@ -120,11 +188,20 @@ alike_read job ws vs text o p like h h' =
       | inl (r, o_is, of, refused) ↦ elim (read_cases job vs text p h') [
         | inl (r', p_is, of', refused') ↦
             inl (o_is ∙ ap Unread (one_refusal job.command text r r' of of' refused refused') ∙ sym p_is)
-        | inr done' ↦ absurd (unrefused job.command job vs text p r done' of refused)
+        | inr (inl done') ↦ absurd (unrefused job.command job vs text p r done' of refused)
+        | inr (inr b) ↦
+            absurd (made_unrefused job.command (origin_for job) job.root text b.facts b.i r b.made of refused)
       ]
-      | inr done ↦ elim (read_cases job vs text p h') [
+      | inr (inl done) ↦ elim (read_cases job vs text p h') [
         | inl (r', p_is, of', refused') ↦ absurd (unrefused job.command job ws text o r' done of' refused')
-        | inr done' ↦ alike_command job.command job ws vs text o p like done done'
+        | inr (inl done') ↦ alike_command job.command job ws vs text o p like done done'
+        | inr (inr b) ↦ inr (pause_and_done job ws text p o b done).1
+      ]
+      | inr (inr a) ↦ elim (read_cases job vs text p h') [
+        | inl (r', p_is, of', refused') ↦
+            absurd (made_unrefused job.command (origin_for job) job.root text a.facts a.i r' a.made of' refused')
+        | inr (inl done') ↦ inr (pause_and_done job vs text o p a done').0
+        | inr (inr b) ↦ inr (two_pauses job text o p a b)
       ]
     ]
 
@@ -144,27 +221,12 @@ word_cases words ws text (Ended t i c n s a) h = inr h
 word_cases words ws text (Resampled t i l s a) h = inr h
 word_cases words ws text (Rounded t i c n s v) h = inr h
 word_cases words ws text (Batched t i es) h = inr h
-
--- two outcomes of words and a text
-pub one_outcome : (words : List (List ℕ)) (ws vs : List Watcher) (text : List ℕ) (o p : Outcome)
-    → AskForLike words ws vs → IsOutcome words ws text o → IsOutcome words vs text p → Agree o p
-one_outcome words ws vs text o p like h h' = elim (word_cases words ws text o h) [
-  | inl (place, o_is, bad) ↦ elim (word_cases words vs text p h') [
-    | inl (place', p_is, bad') ↦
-        inl (o_is ∙ ap Usage (same_first_bad AreWords words place place' bad bad') ∙ sym p_is)
-    | inr comes' ↦ absurd (bad.outside (comes'.job, comes'.asks))
-  ]
-  | inr comes ↦ elim (word_cases words vs text p h') [
-    | inl (place', p_is, bad') ↦ absurd (bad'.outside (comes.job, comes.asks))
-    | inr comes' ↦
-        let same : comes.job ≡ comes'.job = same_job words comes.job comes'.job comes.asks comes'.asks in
-        alike_read comes'.job ws vs text o p (like comes'.job comes'.asks)
-        (subst (λ job. ComesOf job ws text o) same comes.comes) comes'.comes
-  ]
-]
+word_cases words ws text (Paused j w t i l) h = inr h
+word_cases words ws text (Replayed i c n k) h = inr h
+word_cases words ws text (NotLegal p) h = inr h
 
 -- no command but a resampling tells a run whose order isn't determined
-no_history : (command : Command) (job : Job) (ws : List Watcher) (text : List ℕ) (facts : Facts) (i : Instance)
+pub no_history : (command : Command) (job : Job) (ws : List Watcher) (text : List ℕ) (facts : Facts) (i : Instance)
     (placed : List Placed) (stuck : List Event) (a : Telling) → command ≢ Resample
     → ComesOfCommand command job ws text (Resampled facts i placed stuck a) → ⊥
 no_history Formula job ws text facts i placed stuck a other h = h.comes.1.end
@@ -174,11 +236,5 @@ no_history Resample job ws text facts i placed stuck a other h = other refl
 no_history Check job ws text facts i placed stuck a other h = h.comes
 no_history Make job ws text facts i placed stuck a other h = h.1
 no_history Rounds job ws text facts i placed stuck a other h = h.comes.1.end
-
--- words that don't ask for a resampling have with a text one outcome
-pub only_outcome : (words : List (List ℕ)) (ws : List Watcher) (text : List ℕ) (o p : Outcome) → AskForOneEnd words
-    → IsOutcome words ws text o → Agree o p → o ≡ p
-only_outcome words ws text o p once h (inl is) = is
-only_outcome words ws text (Resampled facts i placed stuck a) p once h (inr runs) =
-    absurd (no_history h.job.command h.job ws text facts i placed stuck a (once h.job h.asks) h.comes)
-only_outcome words ws text o p once h (inr runs) = absurd runs
+no_history Replay job ws text facts i placed stuck a other h = h
+no_history Resume job ws text facts i placed stuck a other h = h

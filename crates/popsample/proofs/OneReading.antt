@@ -7,7 +7,7 @@ use Rattle.dimacs_read.specs.CnfText.{AnswersCnf, cnf_refusal, cnf_of}
 use Rattle.graph_read.specs.Graphs.{GraphOf}
 use Rattle.graph_read.specs.GraphText.{AnswersGraph, graph_refusal}
 use Rattle.pop_words.specs.declared.command.Command.{Command}
-use Rattle.pop_words.specs.declared.command.Command.TheVariants.{Formula, Orient, Tree, Resample, Check, Make, Rounds}
+use Rattle.pop_words.specs.declared.command.Command.TheVariants.{Formula, Orient, Tree, Resample, Check, Make, Rounds, Replay, Resume}
 use Rattle.popsample.specs.Answers.{IsOfText, Refuses}
 
 -- a formula text is refused in its lines or as a whole, or for an empty clause
@@ -77,3 +77,5 @@ one_refusal Resample text a b of of' h h' = one_cnf_refusal text a b of of' h h'
 one_refusal Check text a b of of' h h' = one_cnf_refusal text a b of of' h h'
 one_refusal Make text a b of of' h h' = absurd h
 one_refusal Rounds text a b of of' h h' = one_cnf_refusal text a b of of' h h'
+one_refusal Replay text a b of of' h h' = absurd h
+one_refusal Resume text a b of of' h h' = absurd h

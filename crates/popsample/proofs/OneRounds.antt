@@ -10,7 +10,7 @@ use Rattle.dimacs_read.specs.Cnf.{Cnf}
 use Rattle.pop_print.specs.declared.facts.Facts.{Facts}
 use Rattle.pop_print.specs.declared.facts.Facts.TheVariants.{Formula as FormulaFacts}
 use Rattle.popsample.specs.Outcomes.{Outcome}
-use Rattle.popsample.specs.Outcomes.Outcome.{Usage, Unread, Isolated, NoRoot, CutOff, TooMany, Unsound, Clashes, Extremal, Ended, Resampled, Rounded, Batched}
+use Rattle.popsample.specs.Outcomes.Outcome.{Usage, Unread, Isolated, NoRoot, CutOff, TooMany, Unsound, Clashes, Extremal, Ended, Resampled, Rounded, Batched, Paused, Replayed, NotLegal}
 use Rattle.popsample.specs.Sampling.{pair_weights, instance_of}
 use Rattle.popsample.specs.Rounds.{IsRoundsEndOf, EndsRounds, ComesOfRounds}
 use Rattle.popsample.proofs.OneFormula.{one_events}
@@ -39,6 +39,9 @@ rounded facts i (Extremal n) h = absurd h
 rounded facts i (Ended told j c n s a) h = absurd h
 rounded facts i (Resampled told j l s a) h = absurd h
 rounded facts i (Batched told j es) h = absurd h
+rounded facts i (Paused w r told j l) h = absurd h
+rounded facts i (Replayed k c n l) h = absurd h
+rounded facts i (NotLegal p) h = absurd h
 rounded facts i (Rounded told j c n s v) h =
     record {
       cursors = c;

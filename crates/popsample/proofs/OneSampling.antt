@@ -21,8 +21,8 @@ use Rattle.popsample.specs.Names.{names_for}
 use Rattle.popsample.specs.Tellings.{Telling}
 use Rattle.popsample.specs.Batches.{IsTooMany, AreFew, IsBatchOf}
 use Rattle.popsample.specs.Outcomes.{Outcome}
-use Rattle.popsample.specs.Outcomes.Outcome.{Usage, Unread, Isolated, NoRoot, CutOff, TooMany, Unsound, Clashes, Extremal, Ended, Resampled, Rounded, Batched}
-use Rattle.popsample.specs.Sampling.{IsToldOfFirst, IsEndOf, ComesOfSampling}
+use Rattle.popsample.specs.Outcomes.Outcome.{Usage, Unread, Isolated, NoRoot, CutOff, TooMany, Unsound, Clashes, Extremal, Ended, Resampled, Rounded, Batched, Paused, Replayed, NotLegal}
+use Rattle.popsample.specs.Sampling.{IsToldOfFirst, EndsWithin, IsEndOf, ComesOfSampling}
 use Rattle.popsample.specs.Laws.{ReportAlike}
 use Rattle.popsample.proofs.OneFault.{one_cause, sound_has_none}
 use Rattle.popsample.proofs.OneTelling.{one_first_telling}
@@ -36,24 +36,25 @@ abbrev pub IsOne : (Outcome → Type 0) → Type 0
 IsOne Comes = AreOne Comes Comes
 
 -- the end that an outcome tells
-record IsEnded (asked : Asked) (ws : List Watcher) (facts : Facts) (i : Instance) (o : Outcome) : Type 0 where
-  cursors : List ℕ
-  pops : ℕ
-  stuck : List Event
-  telling : Telling
-  is : o ≡ Ended facts i cursors pops stuck telling
-  end : IsFirstEnd i cursors pops stuck
-  told : IsToldOfFirst asked ws (names_for facts) i telling
-  once : asked.count ≡ None
+pub record IsEnded (asked : Asked) (ws : List Watcher) (facts : Facts) (i : Instance) (o : Outcome) : Type 0 where
+  pub cursors : List ℕ
+  pub pops : ℕ
+  pub stuck : List Event
+  pub telling : Telling
+  pub is : o ≡ Ended facts i cursors pops stuck telling
+  pub end : IsFirstEnd i cursors pops stuck
+  pub told : IsToldOfFirst asked ws (names_for facts) i telling
+  pub once : asked.count ≡ None
+  pub within : EndsWithin asked.pops pops
 
 -- the batch that an outcome tells
-record IsBatched (asked : Asked) (facts : Facts) (i : Instance) (o : Outcome) : Type 0 where
-  ends : List End
-  is : o ≡ Batched facts i ends
-  batch : IsBatchOf asked.count i ends
+pub record IsBatched (asked : Asked) (facts : Facts) (i : Instance) (o : Outcome) : Type 0 where
+  pub ends : List End
+  pub is : o ≡ Batched facts i ends
+  pub batch : IsBatchOf asked.count i ends
 
 -- what comes of a run is an end or a batch
-ended : (asked : Asked) (ws : List Watcher) (facts : Facts) (i : Instance) (o : Outcome) → IsEndOf asked ws facts i o
+pub ended : (asked : Asked) (ws : List Watcher) (facts : Facts) (i : Instance) (o : Outcome) → IsEndOf asked ws facts i o
     → IsEnded asked ws facts i o ⊎ IsBatched asked facts i o
 ended asked ws facts i (Usage p) h = absurd h
 ended asked ws facts i (Unread r) h = absurd h
@@ -66,6 +67,9 @@ ended asked ws facts i (Clashes j k) h = absurd h
 ended asked ws facts i (Extremal n) h = absurd h
 ended asked ws facts i (Resampled told j l s a) h = absurd h
 ended asked ws facts i (Rounded told j c n s v) h = absurd h
+ended asked ws facts i (Paused w r told j l) h = absurd h
+ended asked ws facts i (Replayed k c n l) h = absurd h
+ended asked ws facts i (NotLegal p) h = absurd h
 ended asked ws facts i (Batched told j es) h = inr (record {
   ends = es;
   is = ap (λ f. Batched f j es) h.0 ∙ ap (λ k. Batched facts k es) h.1;
@@ -80,6 +84,7 @@ ended asked ws facts i (Ended told j c n s a) h = inl (record {
   end = h.2;
   told = h.3;
   once = h.4;
+  within = h.5;
 })
 
 -- the run of an extremal instance has one end, with watchers that report alike
@@ -151,6 +156,19 @@ ways facts origin weights asked Runs (Ended told j c n s a) h = run h.0 h.1 h.2
 ways facts origin weights asked Runs (Resampled told j l s a) h = run h.0 h.1 h.2
 ways facts origin weights asked Runs (Rounded told j c n s v) h = run h.0 h.1 h.2
 ways facts origin weights asked Runs (Batched told j es) h = run h.0 h.1 h.2
+ways facts origin weights asked Runs (Paused j w t i l) h = run h.0 h.1 h.2
+ways facts origin weights asked Runs (Replayed i c n k) h = run h.0 h.1 h.2
+ways facts origin weights asked Runs (NotLegal p) h = run h.0 h.1 h.2
+
+-- with sound stacks, where no number of samples is asked for, it comes of the run
+pub of_run : (facts : Facts) (origin : Origin) (weights : List (List ℕ)) (asked : Option ℕ) (Runs : Outcome → Type 0)
+    → asked ≡ None → IsSound origin weights → (o : Outcome) → ComesOfSampling facts origin weights asked Runs o → Runs o
+of_run facts origin weights asked Runs once sound o h = by_way (ways facts origin weights asked Runs o h)
+  where
+    by_way : Ways facts origin weights asked Runs o → Runs o
+    by_way (many n is asks more) = absurd (none-some n (sym once ∙ asks))
+    by_way (fault f is cause few) = absurd (sound_has_none origin weights f sound cause)
+    by_way (run s runs few) = runs
 
 -- few samples aren't too many
 pub not_many : (asked : Option ℕ) (n variables : ℕ) → asked ≡ Some n → IsTooMany n variables → AreFew asked variables → ⊥

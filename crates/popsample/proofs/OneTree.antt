@@ -12,7 +12,7 @@ use Rattle.pop_watch.specs.Telling.{Watcher}
 use Rattle.pop_print.specs.declared.facts.Facts.TheVariants.{Tree as TreeFacts, Made as MadeFacts}
 use Rattle.popsample.specs.declared.asked.Asked.{Asked}
 use Rattle.popsample.specs.Outcomes.{Outcome}
-use Rattle.popsample.specs.Outcomes.Outcome.{Usage, Unread, Isolated, NoRoot, CutOff, TooMany, Unsound, Clashes, Extremal, Ended, Resampled, Rounded, Batched}
+use Rattle.popsample.specs.Outcomes.Outcome.{Usage, Unread, Isolated, NoRoot, CutOff, TooMany, Unsound, Clashes, Extremal, Ended, Resampled, Rounded, Batched, Paused, Replayed, NotLegal}
 use Rattle.popsample.specs.Sampling.{IsEndOf, ComesOfSampling}
 use Rattle.popsample.specs.Trees.{tree_instance, ComesOfTree}
 use Rattle.popsample.specs.Grids.{ComesOfGrid}
@@ -50,6 +50,23 @@ ways origin asked ws root g (Ended t i c n s a) h = sampled h
 ways origin asked ws root g (Resampled t i l s a) h = sampled h
 ways origin asked ws root g (Rounded t i c n s v) h = sampled h
 ways origin asked ws root g (Batched t i es) h = sampled h
+ways origin asked ws root g (Paused j w t i l) h = sampled h
+ways origin asked ws root g (Replayed i c n k) h = sampled h
+ways origin asked ws root g (NotLegal p) h = sampled h
+
+-- where the root is a vertex to which each is joined, it comes of sampling
+pub of_joined : (origin : Origin) (asked : Asked) (ws : List Watcher) (root : ℕ) (g : GraphOf) → root ≤ g.vertices
+    → IsConnected g root → (o : Outcome) → ComesOfTree origin asked ws root g o
+    → ComesOfSampling (TreeFacts g root) origin (weights_of_tree g root) asked.count
+    (IsEndOf asked ws (TreeFacts g root) (tree_instance origin g root)) o
+of_joined origin asked ws root g last joined o h = by_way (ways origin asked ws root g o h)
+  where
+    by_way : Ways origin asked ws root g o
+        → ComesOfSampling (TreeFacts g root) origin (weights_of_tree g root) asked.count
+        (IsEndOf asked ws (TreeFacts g root) (tree_instance origin g root)) o
+    by_way (no_root is above) = absurd (omega (arith, above, last))
+    by_way (cut_off w is below least) = absurd (least.holds.apart (joined w least.holds.vertex))
+    by_way (sampled s) = s.2
 
 -- two outcomes come in one way, and are one
 one_way : (origin : Origin) (asked : Asked) (ws vs : List Watcher) (root : ℕ) (g : GraphOf)

@@ -8,7 +8,7 @@ use Rattle.graph_read.specs.Graphs.{GraphOf}
 use Rattle.graph_read.specs.GraphText.{graph_of}
 use Rattle.dimacs_read.specs.CnfText.{cnf_of}
 use Rattle.pop_words.specs.declared.command.Command.{Command}
-use Rattle.pop_words.specs.declared.command.Command.TheVariants.{Formula, Orient, Tree, Resample, Check, Make, Rounds}
+use Rattle.pop_words.specs.declared.command.Command.TheVariants.{Formula, Orient, Tree, Resample, Check, Make, Rounds, Replay, Resume}
 use Rattle.pop_words.specs.declared.job.Job.{Job}
 use Rattle.pop_print.specs.Output.{used_line}
 use Rattle.printed_samples.specs.Arrows.{lines_of}
@@ -77,6 +77,8 @@ sample_more Resample job text out more h = assignment_more (cnf_of text) out mor
 sample_more Check job text out more h = h
 sample_more Make job text out more h = begins_more _ out more h
 sample_more Rounds job text out more h = assignment_more (cnf_of text) out more h
+sample_more Replay job text out more h = h
+sample_more Resume job text out more h = h
 
 -- and the events that occur
 exhausted_more : (command : Command) (job : Job) (origin : Origin) (text out more : List ℕ)
@@ -88,6 +90,8 @@ exhausted_more Resample job origin text out more h = stuck_more _ out more h
 exhausted_more Check job origin text out more h = h
 exhausted_more Make job origin text out more h = begins_more _ out more h
 exhausted_more Rounds job origin text out more h = stuck_more _ out more h
+exhausted_more Replay job origin text out more h = h
+exhausted_more Resume job origin text out more h = h
 
 -- so an end
 pub end_more : (command : Command) (job : Job) (origin : Origin) (text : List ℕ) (stuck : List Event)

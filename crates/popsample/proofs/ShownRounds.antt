@@ -8,7 +8,7 @@ use Rattle.pop_model.specs.Runs.{start_of}
 use Rattle.prs_rounds.specs.Rounds.{IsRoundsEnd}
 use Rattle.prs_rounds.proofs.OneRun.{length-rounds}
 use Rattle.pop_words.specs.declared.command.Command.{Command}
-use Rattle.pop_words.specs.declared.command.Command.TheVariants.{Formula, Orient, Tree, Resample, Check, Make, Rounds}
+use Rattle.pop_words.specs.declared.command.Command.TheVariants.{Formula, Orient, Tree, Resample, Check, Make, Rounds, Replay, Resume}
 use Rattle.pop_words.specs.declared.job.Job.{Job}
 use Rattle.pop_watch.specs.Telling.{Watcher}
 use Rattle.dimacs_read.specs.Cnf.{Cnf}
@@ -62,3 +62,5 @@ rounds_show Rounds job ws text facts i c rounds stuck short h =
     (subst (λ k. ShowsEnd Rounds job (origin_for job) text stuck (rounds_text (FormulaFacts f.variables) k c rounds stuck short))
     (sym same)
     (formula_shows job (origin_for job) text stuck out shown).2)
+rounds_show Replay job ws text facts i c rounds stuck short h = absurd h
+rounds_show Resume job ws text facts i c rounds stuck short h = absurd h

@@ -10,7 +10,7 @@ use Rattle.pop_model.specs.Instances.{Instance}
 use Rattle.pop_model.specs.Runs.{IsFirstEnd}
 use Rattle.pop_stacks.specs.Faults.{IsSound}
 use Rattle.pop_words.specs.declared.command.Command.{Command}
-use Rattle.pop_words.specs.declared.command.Command.TheVariants.{Formula, Orient, Tree, Resample, Check, Make, Rounds}
+use Rattle.pop_words.specs.declared.command.Command.TheVariants.{Formula, Orient, Tree, Resample, Check, Make, Rounds, Replay, Resume}
 use Rattle.pop_words.specs.declared.job.Job.{Job}
 use Rattle.dimacs_read.specs.Cnf.{Cnf}
 use Rattle.dimacs_read.specs.CnfText.{cnf_of}
@@ -149,3 +149,5 @@ subject_shows Make job origin text s is c pops stuck ends =
 subject_shows Resample job origin text s is c pops stuck ends = absurd is
 subject_shows Check job origin text s is c pops stuck ends = absurd is
 subject_shows Rounds job origin text s is c pops stuck ends = absurd is
+subject_shows Replay job origin text s is c pops stuck ends = absurd is
+subject_shows Resume job origin text s is c pops stuck ends = absurd is

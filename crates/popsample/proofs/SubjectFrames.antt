@@ -20,7 +20,7 @@ use Rattle.sink_popping.proofs.OneDirection.{sinks_extremal}
 use Rattle.cycle_popping.specs.Trees.{heads_of_tree, weights_of_tree}
 use Rattle.cycle_popping.proofs.TreeRows.{tree_arrows}
 use Rattle.pop_words.specs.declared.command.Command.{Command}
-use Rattle.pop_words.specs.declared.command.Command.TheVariants.{Formula, Orient, Tree, Resample, Check, Make, Rounds}
+use Rattle.pop_words.specs.declared.command.Command.TheVariants.{Formula, Orient, Tree, Resample, Check, Make, Rounds, Replay, Resume}
 use Rattle.pop_words.specs.declared.job.Job.{Job}
 use Rattle.pop_print.specs.declared.facts.Facts.{Facts}
 use Rattle.pop_samples.specs.Frames.{IsFrame}
@@ -85,6 +85,8 @@ subject_sampled Make job text s is =
 subject_sampled Resample job text s is = absurd is
 subject_sampled Rounds job text s is = absurd is
 subject_sampled Check job text s is = absurd is
+subject_sampled Replay job text s is = absurd is
+subject_sampled Resume job text s is = absurd is
 
 -- with a height above 0 for each variable it makes a frame
 pub subject_frame : (s : Subject) → IsSampled s → (heights : List ℕ) → length heights ≡ length s.weights

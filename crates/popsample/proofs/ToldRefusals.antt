@@ -9,10 +9,10 @@ use Rattle.popsample.specs.declared.answer.Answer.{Answer}
 use Rattle.popsample.specs.declared.stop.Stop.{Stop}
 use Rattle.popsample.specs.declared.stop.Stop.TheVariants.{ReadFault, OutOfMemory}
 use Rattle.popsample.specs.declared.refusal.Refusal.{Refusal}
-use Rattle.popsample.specs.declared.refusal.Refusal.TheVariants.{Usage, Malformed, Count, EmptyClause, Limit, Isolated, NoRoot, CutOff, TooMany, RowCount, EmptyRow, ValueTooLarge, WeightSum, Clashes, Stopped}
+use Rattle.popsample.specs.declared.refusal.Refusal.TheVariants.{Usage, Malformed, Count, EmptyClause, Limit, Isolated, NoRoot, CutOff, TooMany, RowCount, EmptyRow, ValueTooLarge, WeightSum, Clashes, NotLegal, Stopped}
 use Rattle.popsample.specs.Refusals.{usage_line}
-use Rattle.popsample.specs.Outcomes.{Outcome, Tells, AnswersBy}
-use Rattle.popsample.specs.Outcomes.Outcome.{Usage as UsageOf, Unread, Isolated as IsolatedAt, NoRoot as NoRootAt, CutOff as CutOffAt, TooMany as TooManyOf, Unsound, Clashes as ClashesOf}
+use Rattle.popsample.specs.Outcomes.{Outcome, Tells, AnswersBy, IsAnswerStatus, HasRun}
+use Rattle.popsample.specs.Outcomes.Outcome.{Usage as UsageOf, Unread, Isolated as IsolatedAt, NoRoot as NoRootAt, CutOff as CutOffAt, TooMany as TooManyOf, Unsound, Clashes as ClashesOf, NotLegal as NotLegalAt}
 use Rattle.popsample.specs.Results.{named_fault, TellsFault, ComesRefused, IsToldAs, IsOfWords}
 
 -- a fault of stacks is told under the name of its variable
@@ -47,6 +47,7 @@ refusal_told Comes (EmptyRow n) status out told h = fault_told Comes (EmptyRow n
 refusal_told Comes (ValueTooLarge n k) status out told h = fault_told Comes (ValueTooLarge n k) status out told h
 refusal_told Comes (WeightSum n) status out told h = fault_told Comes (WeightSum n) status out told h
 refusal_told Comes (Clashes i j) status out (s, t) h = (ClashesOf i j, h, record { status_is = s; out_is = t })
+refusal_told Comes (NotLegal p) status out (s, t) h = (NotLegalAt p, h, record { status_is = s; out_is = t })
 refusal_told Comes (Stopped s) status out told h = absurd told
 
 -- the answer that tells it
@@ -60,37 +61,48 @@ told_answer Comes r (Err s) told comes = tt
 
 -- the statuses of refusals
 record IsRefusedStatus (status : ℕ) : Type 0 where
-  low : status ≤ 6
+  low : (status ≤ 6) ⊎ (status ≡ 11)
   high : 2 ≤ status
 
 -- each refusal has one of them
 refused_status : (r : Refusal) (status : ℕ) (out : List ℕ) → IsToldAs r status out → IsRefusedStatus status
-refused_status (Usage p) status out (s, t) = record { low = omega (arith, s); high = omega (arith, s) }
-refused_status (Malformed l c) status out (s, t) = record { low = omega (arith, s); high = omega (arith, s) }
-refused_status (Count d f) status out (s, t) = record { low = omega (arith, s); high = omega (arith, s) }
-refused_status (EmptyClause n) status out (s, t) = record { low = omega (arith, s); high = omega (arith, s) }
-refused_status (Limit k l) status out (s, t) = record { low = omega (arith, s); high = omega (arith, s) }
-refused_status (Isolated w) status out (s, t) = record { low = omega (arith, s); high = omega (arith, s) }
-refused_status (NoRoot w) status out (s, t) = record { low = omega (arith, s); high = omega (arith, s) }
-refused_status (CutOff w) status out (s, t) = record { low = omega (arith, s); high = omega (arith, s) }
-refused_status (TooMany n) status out (s, t) = record { low = omega (arith, s); high = omega (arith, s) }
-refused_status (RowCount g w) status out (s, t) = record { low = omega (arith, s); high = omega (arith, s) }
-refused_status (EmptyRow n) status out (s, t) = record { low = omega (arith, s); high = omega (arith, s) }
-refused_status (ValueTooLarge n k) status out (s, t) = record { low = omega (arith, s); high = omega (arith, s) }
-refused_status (WeightSum n) status out (s, t) = record { low = omega (arith, s); high = omega (arith, s) }
-refused_status (Clashes i j) status out (s, t) = record { low = omega (arith, s); high = omega (arith, s) }
+refused_status (Usage p) status out (s, t) = record { low = inl (omega (arith, s)); high = omega (arith, s) }
+refused_status (Malformed l c) status out (s, t) = record { low = inl (omega (arith, s)); high = omega (arith, s) }
+refused_status (Count d f) status out (s, t) = record { low = inl (omega (arith, s)); high = omega (arith, s) }
+refused_status (EmptyClause n) status out (s, t) = record { low = inl (omega (arith, s)); high = omega (arith, s) }
+refused_status (Limit k l) status out (s, t) = record { low = inl (omega (arith, s)); high = omega (arith, s) }
+refused_status (Isolated w) status out (s, t) = record { low = inl (omega (arith, s)); high = omega (arith, s) }
+refused_status (NoRoot w) status out (s, t) = record { low = inl (omega (arith, s)); high = omega (arith, s) }
+refused_status (CutOff w) status out (s, t) = record { low = inl (omega (arith, s)); high = omega (arith, s) }
+refused_status (TooMany n) status out (s, t) = record { low = inl (omega (arith, s)); high = omega (arith, s) }
+refused_status (RowCount g w) status out (s, t) = record { low = inl (omega (arith, s)); high = omega (arith, s) }
+refused_status (EmptyRow n) status out (s, t) = record { low = inl (omega (arith, s)); high = omega (arith, s) }
+refused_status (ValueTooLarge n k) status out (s, t) = record { low = inl (omega (arith, s)); high = omega (arith, s) }
+refused_status (WeightSum n) status out (s, t) = record { low = inl (omega (arith, s)); high = omega (arith, s) }
+refused_status (Clashes i j) status out (s, t) = record { low = inl (omega (arith, s)); high = omega (arith, s) }
+refused_status (NotLegal p) status out (s, t) = record { low = inr s; high = omega (arith, s) }
 refused_status (Stopped s) status out told = absurd told
 
--- none is above 6
+-- each is one of an answer
 pub told_low : (r : Refusal) (t : Result Answer Stop) → IfOk t (λ a. IsToldAs r a.status a.text.items)
-    → IfOk t (λ a. a.status ≤ 6)
-told_low r (Ok a) told = (refused_status r a.status a.text.items told).low
+    → IfOk t (λ a. IsAnswerStatus a.status)
+told_low r (Ok a) told = elim (refused_status r a.status a.text.items told).low [
+  | inl low ↦ inl low
+  | inr illegal ↦ inr (inr illegal)
+]
 told_low r (Err s) told = tt
 
 -- no status of a run
 pub told_high : (Q : Answer → Type 0) (r : Refusal) (t : Result Answer Stop)
-    → IfOk t (λ a. IsToldAs r a.status a.text.items) → IfOk t (λ a. a.status ≤ 1 → Q a)
-told_high Q r (Ok a) told = let high = (refused_status r a.status a.text.items told).high in λ low. absurd (omega arith)
+    → IfOk t (λ a. IsToldAs r a.status a.text.items) → IfOk t (λ a. HasRun a.status → Q a)
+told_high Q r (Ok a) told = λ has. absurd (no_run a.status (refused_status r a.status a.text.items told) has)
+  where
+    no_run : (status : ℕ) → IsRefusedStatus status → HasRun status → ⊥
+    no_run status is (inl low) = let high = is.high in absurd (omega (arith, high, low))
+    no_run status is (inr ten) = elim is.low [
+      | inl few ↦ absurd (omega (arith, few, ten))
+      | inr illegal ↦ absurd (omega (arith, illegal, ten))
+    ]
 told_high Q r (Err s) told = tt
 
 -- status 2 tells of words
@@ -110,6 +122,7 @@ of_words (EmptyRow n) status out (s, t) two = absurd (omega (arith, s, two))
 of_words (ValueTooLarge n k) status out (s, t) two = absurd (omega (arith, s, two))
 of_words (WeightSum n) status out (s, t) two = absurd (omega (arith, s, two))
 of_words (Clashes i j) status out (s, t) two = absurd (omega (arith, s, two))
+of_words (NotLegal p) status out (s, t) two = absurd (omega (arith, s, two))
 of_words (Stopped s) status out told two = absurd told
 
 -- so it comes with the line of the first bad word

@@ -29,8 +29,8 @@ use Rattle.popsample.specs.Witnesses.Witness.{Unasked}
 use Rattle.popsample.specs.Tellings.{records_of, IsToldOf, layered_text, telling_text, LeadsToEnd, TellsRecords, TellsLog, TellsRun, tells_watchers, looks_at_records, asks_for_log}
 use Rattle.popsample.specs.Outcomes.{AnswersBy, end_status}
 use Rattle.popsample.specs.Outcomes.Outcome.{Ended, Resampled}
-use Rattle.popsample.specs.Sampling.{IsToldOfFirst, IsEndOf}
-use Rattle.popsample.specs.Resamplings.{IsHistoryOf}
+use Rattle.popsample.specs.Sampling.{IsToldOfFirst, EndsWithin, IsEndOf}
+use Rattle.popsample.specs.Resamplings.{IsHistoryOf, IsHistoryWith}
 use Rattle.popsample.proofs.LayeredOrders.{layered_order}
 use Rattle.popsample.proofs.OneTelling.{told_of_first}
 
@@ -192,12 +192,12 @@ copied_result asked ws names i copy log r same told =
 -- the text of an end, and behind it what is told of its log: of the one-thread run where the instance is extremal
 pub told_ended : (asked : Asked) (ws : List Watcher) (facts : Facts) (i : Instance) (names : Names) (cursors : List ℕ)
     (pops : ℕ) (stuck : List Event) (missing : Bool) (status : ℕ) (text told out : List ℕ) → IsInstance i
-    → IsExtremal i.family → asked.free ≡ false → asked.count ≡ None → IsFirstEnd i cursors pops stuck
-    → names ≡ names_for facts
+    → IsExtremal i.family → asked.free ≡ false → asked.count ≡ None → EndsWithin asked.pops pops
+    → IsFirstEnd i cursors pops stuck → names ≡ names_for facts
     → TellsRun asked ws names i cursors pops stuck missing told
     → status ≡ (if asked.free && missing then 6 else end_status stuck) → text ≡ end_text facts i cursors pops stuck
     → out ≡ text ++ told → AnswersBy (IsEndOf asked ws facts i) status out
-told_ended asked ws facts i names cursors pops stuck missing status text told out is extremal ordered once end names_are run
+told_ended asked ws facts i names cursors pops stuck missing status text told out is extremal ordered once within end names_are run
     status_is text_is out_is =
     let t = run.told in
     let runs : RunsToEnd i (start_of i) run.log = record { legal = run.leads.legal; end = run.leads.end } in
@@ -205,7 +205,7 @@ told_ended asked ws facts i names cursors pops stuck missing status text told ou
     told_of_first asked ws names i (family_cubes i.family is.family) extremal run.log end.run.0 runs end.run.1 t.placed
     t.sorted t.telling t.is in (
       Ended facts i cursors pops stuck t.telling,
-      (refl, refl, end, subst (λ n. IsToldOfFirst asked ws n i t.telling) names_are first, once),
+      (refl, refl, end, subst (λ n. IsToldOfFirst asked ws n i t.telling) names_are first, once, within),
       record {
         status_is = status_is ∙ ap (λ b. if b && missing then 6 else end_status stuck) ordered;
         out_is = out_is ∙ ap₂ (λ (a b : List ℕ). a ++ b) text_is
@@ -214,7 +214,7 @@ told_ended asked ws facts i names cursors pops stuck missing status text told ou
     )
 
 -- the layered log has as many records
-placed_size : (log : List LogRecord) (placed : List Placed) (sorted : AreSorted log placed) → length log ≡ length placed
+pub placed_size : (log : List LogRecord) (placed : List Placed) (sorted : AreSorted log placed) → length log ≡ length placed
 placed_size log placed sorted =
     sym (ap (λ (l : List LogRecord). length l) (zip_records [] log sorted.layers sorted.are_layers))
     ∙ length-map (zip log sorted.layers) _
@@ -223,11 +223,11 @@ placed_size log placed sorted =
 -- and of the run itself where the order of pops is free
 pub told_history : (asked : Asked) (ws : List Watcher) (facts : Facts) (i : Instance) (names : Names)
     (cursors : List ℕ) (pops : ℕ) (stuck : List Event) (missing : Bool) (status : ℕ) (text told out : List ℕ)
-    → IsInstance i → asked.free ≡ true → names ≡ names_for facts
+    → IsInstance i → asked.free ≡ true → EndsWithin asked.pops pops → names ≡ names_for facts
     → TellsRun asked ws names i cursors pops stuck missing told
     → status ≡ (if asked.free && missing then 6 else end_status stuck) → text ≡ end_text facts i cursors pops stuck
     → out ≡ text ++ told → AnswersBy (IsHistoryOf asked ws facts i) status out
-told_history asked ws facts i names cursors pops stuck missing status text told out is free names_are run status_is
+told_history asked ws facts i names cursors pops stuck missing status text told out is free within names_are run status_is
     text_is out_is =
     let t = run.told in
     let start : List ℕ = start_of i in
@@ -244,7 +244,14 @@ told_history asked ws facts i names cursors pops stuck missing status text told 
     } in
     let layered : AreInLayers [] t.placed = placed_in_layers i cubes start run.log run.leads.legal t.placed t.sorted in (
       Resampled facts i t.placed stuck t.telling,
-      (refl, refl, leads, layered, subst (λ n. IsToldOf asked ws n i t.placed t.telling) names_are t.is),
+      (
+        refl,
+        refl,
+        leads,
+        layered,
+        subst (λ n. IsToldOf asked ws n i t.placed t.telling) names_are t.is,
+        subst (EndsWithin asked.pops) size within,
+      ),
       record {
         status_is = status_is
             ∙ ap₂ (λ a b. if a && b then 6 else end_status stuck) free t.missing_is;
@@ -253,3 +260,27 @@ told_history asked ws facts i names cursors pops stuck missing status text told 
             (t.text_is ∙ ap (λ n. telling_text n i t.telling) names_are);
       },
     )
+
+-- what is told of a log is told of it under another name
+pub same_told : {E : Type 0} (asked : Asked) (ws : List Watcher) (names : Names) (i : Instance)
+    (log other : List LogRecord) (r : Result LogText E) → log ≡ other
+    → IfOk r (λ t. TellsLog asked ws names i log t.missing t.bytes.items)
+    → IfOk r (λ t. TellsLog asked ws names i other t.missing t.bytes.items)
+same_told asked ws names i log other r same told =
+    subst (λ l. IfOk r (λ t. TellsLog asked ws names i l t.missing t.bytes.items)) same told
+
+-- with the log that it kept
+pub told_history_with : (asked : Asked) (ws : List Watcher) (facts : Facts) (i : Instance) (names : Names)
+    (keeps : Bool) (cursors : List ℕ) (pops : ℕ) (stuck : List Event) (kept : Option (List LogRecord))
+    (log : List LogRecord) (missing : Bool) (status : ℕ) (text told out : List ℕ)
+    → IsInstance i → asked.free ≡ true → EndsWithin asked.pops pops → names ≡ names_for facts → kept ≡ Some log
+    → IsRun i (start_of i) keeps cursors pops stuck kept → TellsLog asked ws names i log missing told
+    → status ≡ (if asked.free && missing then 6 else end_status stuck) → text ≡ end_text facts i cursors pops stuck
+    → out ≡ text ++ told → AnswersBy (IsHistoryWith log asked ws facts i) status out
+unfolding told_history told_kept
+told_history_with asked ws facts i names keeps cursors pops stuck kept log missing status text told out is free within
+    names_are kept_is run of status_is text_is out_is =
+    let (o, comes, tells) = told_history asked ws facts i names cursors pops stuck missing status text told out is free
+    within names_are (told_kept asked ws names i keeps cursors pops stuck kept log missing told kept_is run of) status_is
+    text_is out_is in
+    (o, (comes, of.sorted), tells)

@@ -1,5 +1,5 @@
 -- The results of words: of those that are no command line, and of those that ask for a job.
-use Rattle.std.proofs.Common.{◌≡◌, ◌≢◌, ◌≤◌, ℕ, List, Result, Ok, Err, IfOk, MatchResult, refl, sym, subst}
+use Rattle.std.proofs.Common.{◌≡◌, ◌≢◌, ℕ, List, Result, Ok, Err, IfOk, MatchResult, refl, sym, subst}
 use Rattle.pop_words.specs.declared.fault.WordFault.{WordFault}
 use Rattle.pop_words.specs.declared.fault.WordFault.TheVariants.{Usage as BadWord, OutOfMemory as WordMemory}
 use Rattle.pop_words.specs.CommandLines.{IsBadPlace, IsWordFault}
@@ -8,6 +8,7 @@ use Rattle.popsample.specs.declared.answer.Answer.{Answer}
 use Rattle.popsample.specs.declared.stop.Stop.TheVariants.{ReadFault}
 use Rattle.popsample.specs.declared.refusal.Refusal.{Refusal}
 use Rattle.popsample.specs.declared.refusal.Refusal.TheVariants.{Usage, Stopped}
+use Rattle.popsample.specs.Outcomes.{IsAnswerStatus}
 use Rattle.popsample.specs.Answers.{IsOutcome}
 use Rattle.popsample.specs.Results.{unworded, ComesRefused, IsResultOf, IsTextResult, IsOfWords}
 
@@ -43,8 +44,8 @@ words_no_fault (BadWord p) r is failed = absurd (cc)
 words_no_fault WordMemory r is failed = absurd (cc)
 
 -- the answer to a job's text isn't one of words
-pub job_low : (r : Result Answer Refusal) → IsTextResult r → IfOk r (λ a. a.status ≤ 6)
-job_low (Ok a) is = is.low
+pub job_low : (r : Result Answer Refusal) → IsTextResult r → IfOk r (λ a. IsAnswerStatus a.status)
+job_low (Ok a) is = is.answers
 job_low (Err e) is = tt
 
 -- nor has it the status of words

@@ -4,11 +4,12 @@
 use Rattle.std.proofs.Common.{inl, inr, ◌≡◌, ℕ, ◌-◌, ◌^◌, Bool, true, false, not, cond, List, [], ◌∷◌, Option, None, Some, refl, sym, ap, ◌∙◌}
 use Rattle.std.specs.Prelude.{unwrap_or, option_map}
 use Rattle.std.specs.List.{list_all}
+use Rattle.std.proofs.lemmas.Option.{none-some}
 use Rattle.std.proofs.lemmas.Bool.{cases_Bool, false≢true}
 use Rattle.pop_words.specs.declared.board_kind.BoardKind.TheVariants.{Words as OnWords}
 use Rattle.pop_words.specs.declared.command.Command.{Command}
 use Rattle.pop_words.specs.declared.field.Field.{Field}
-use Rattle.pop_words.specs.declared.field.Field.TheVariants.{Stacks, Key, Height, Grow, Count, Workers, Board, Log, Root, Witness, Reports, Size}
+use Rattle.pop_words.specs.declared.field.Field.TheVariants.{Stacks, Key, Height, Grow, Count, Pops, Workers, Board, Log, Root, Witness, Reports, Size}
 use Rattle.pop_words.specs.declared.job.Job.{Job}
 use Rattle.pop_words.specs.Values.{number_between, rows_in, key_in, board_in, switch_in, pair_in, reports_in}
 use Rattle.pop_words.specs.Options.{NamedOption, options, value_of, default_job}
@@ -18,8 +19,8 @@ use Rattle.pop_stacks.specs.declared.stack_spec.StackSpec.TheVariants.{Key as Ke
 use Rattle.popsample.specs.Outcomes.{status_of, text_of}
 use Rattle.popsample.specs.Answers.{IsOutcome}
 use Rattle.popsample.specs.Workers.{tells_crew, but_workers, DifferInWorkers, WorkersAgree}
-use Rattle.popsample.proofs.AlikeJobs.{AreAlike, said_by, comes_of_alike}
-use Rattle.popsample.proofs.OneOutcome.{one_outcome, only_outcome}
+use Rattle.popsample.proofs.AlikeJobs.{AreAlike, Said, said_by, comes_of_alike}
+use Rattle.popsample.proofs.OneWords.{one_outcome, only_outcome}
 
 -- the field is one of the crew
 abbrev is_of_crew : Field → Bool
@@ -57,6 +58,7 @@ sets_crew Key job word is = absurd (false≢true is)
 sets_crew Height job word is = absurd (false≢true is)
 sets_crew Grow job word is = absurd (false≢true is)
 sets_crew Count job word is = absurd (false≢true is)
+sets_crew Pops job word is = absurd (false≢true is)
 sets_crew Workers job word is =
     unsets (λ n j. record j { workers = n }) (λ n j. refl) job (number_between 1 64 word)
 sets_crew Board job word is = unsets (λ b j. record j { board = b }) (λ b j. refl) job (board_in word)
@@ -87,6 +89,8 @@ sets_other Grow job word is =
     goes_on (λ n j. record j { grow = Some n }) (λ n j. refl) job (number_between 1 (2 ^ 31 - 1) word)
 sets_other Count job word is =
     goes_on (λ n j. record j { count = Some n }) (λ n j. refl) job (number_between 1 65536 word)
+sets_other Pops job word is =
+    goes_on (λ n j. record j { pops = Some n }) (λ n j. refl) job (number_between 1 (2 ^ 32 - 1) word)
 sets_other Workers job word is = absurd (false≢true (sym is))
 sets_other Board job word is = absurd (false≢true (sym is))
 sets_other Log job word is = goes_on (λ log j. record j { log = log }) (λ log j. refl) job (switch_in word)
@@ -145,6 +149,8 @@ alike_but_workers words others d =
 pub workers_agree : WorkersAgree
 workers_agree words others ws vs text status other out out' d once like (o, comes, tells) (p, comes', tells') =
     let here : IsOutcome words vs text p = comes_of_alike others words d.other d.job d.asks_other d.asks
-    (alike_but_workers words others d) vs text p comes' in
+    (alike_but_workers words others d)
+    (λ pops is. absurd (none-some pops (sym (once d.job d.asks).2
+    ∙ sym (ap (λ (s : Said). s.1.pops) (alike_but_workers words others d).said) ∙ is))) vs text p comes' in
     let same = only_outcome words ws text o p once comes (one_outcome words ws vs text o p like comes here) in
     (tells.status_is ∙ ap status_of same ∙ sym tells'.status_is, tells.out_is ∙ ap text_of same ∙ sym tells'.out_is)

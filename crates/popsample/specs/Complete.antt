@@ -1,5 +1,5 @@
 -- When words and a text have a sample, an exhausted end or a verdict.
-use Rattle.std.specs.Prelude.{◌≡◌, ◌⊎◌, ◌≤◌, ℕ, List, length, None, false, ⊤}
+use Rattle.std.specs.Prelude.{◌≡◌, ◌≢◌, ◌⊎◌, ◌≤◌, ℕ, List, length, None, false, ⊤}
 use Rattle.pop_model.specs.Popping.{Cube}
 use Rattle.pop_model.specs.Families.Family.{Listed}
 use Rattle.pop_model.specs.Extremal.{IsExtremal}
@@ -14,7 +14,7 @@ use Rattle.graph_read.specs.Paths.{IsConnected}
 use Rattle.sink_popping.specs.Sinks.{IsIsolated}
 use Rattle.cycle_popping.specs.Trees.{weights_of_tree}
 use Rattle.pop_words.specs.declared.command.Command.{Command}
-use Rattle.pop_words.specs.declared.command.Command.TheVariants.{Formula, Orient, Tree, Resample, Check, Make, Rounds}
+use Rattle.pop_words.specs.declared.command.Command.TheVariants.{Formula, Orient, Tree, Resample, Check, Make, Rounds, Replay, Resume}
 use Rattle.pop_words.specs.declared.job.Job.{Job}
 use Rattle.pop_words.specs.CommandLines.{Asks}
 use Rattle.pop_watch.specs.Telling.{Watcher}
@@ -23,6 +23,8 @@ use Rattle.popsample.specs.Batches.{AreFew}
 use Rattle.popsample.specs.Outcomes.{Outcome, AnswersBy}
 use Rattle.popsample.specs.Outcomes.Outcome.{Resampled}
 use Rattle.popsample.specs.Sampling.{pair_weights}
+use Rattle.run_cert.specs.Certificates.{Certificate, IsCertOf}
+use Rattle.popsample.specs.Replays.{cert_limit, HasLog}
 use Rattle.popsample.specs.Answers.{IsOutcome, origin_for}
 
 -- the text is that of the formula, within the limits, and no clause of it is empty
@@ -38,6 +40,14 @@ HasExtremalEvents f = (events : List (ℕ × Cube)) → AreEventsOf f.clauses ev
 -- the samples that are asked for aren't too many, and the stacks of these weights have no fault
 abbrev pub CanBeSampled : Job → List (List ℕ) → Type 0
 CanBeSampled job weights = AreFew job.count (length weights) × IsSound (origin_for job) weights
+
+-- the text is a certificate within the limit, and nothing stands against its input, its stacks and
+-- its log
+pub record CanBeReplayed (text : List ℕ) : Type 0 where
+  pub short : length text ≤ cert_limit
+  pub cert : Certificate
+  pub is : IsCertOf text cert
+  pub has : HasLog cert
 
 -- nothing stands against a command and a text: the text is in its grammar, within the limits; the
 -- graph has no isolated vertex, or each vertex is joined to the root; samples aren't too many; the
@@ -58,6 +68,8 @@ CanBeDone Check job text = (f : Cnf) × Spells text f × HasExtremalEvents f
 CanBeDone Make job text = CanBeSampled job (weights_of_tree (grid_of job.size) 1)
 CanBeDone Rounds job text =
     (f : Cnf) × Spells text f × IsSound (origin_for job) (pair_weights f.variables)
+CanBeDone Replay job text = CanBeReplayed text
+CanBeDone Resume job text = CanBeReplayed text
 
 -- the pop whose witness is asked for is there, where one is asked for
 abbrev pub HasWitness : Outcome → Type 0
@@ -69,9 +81,15 @@ abbrev pub IsWitnessedAnswer : List (List ℕ) → List Watcher → List ℕ →
 IsWitnessedAnswer words watchers text status out =
     AnswersBy (λ o. IsOutcome words watchers text o × HasWitness o) status out
 
+-- the status of a run: 0 or 1; or 10, where it may stop after so many pops, or is replayed
+abbrev pub IsDone : Job → ℕ → Type 0
+IsDone job status =
+    (status ≡ 0)
+    ⊎ ((status ≡ 1) ⊎ ((status ≡ 10) × ((job.pops ≢ None) ⊎ (job.command ≡ Replay))))
+
 -- where nothing stands against the job of the words and the text, and the witness is there, the
--- status is 0 or 1
+-- status is that of a run
 abbrev pub Complete : Type 0
 Complete = (words : List (List ℕ)) (watchers : List Watcher) (text : List ℕ) (job : Job)
     (status : ℕ) (out : List ℕ) → Asks words job → CanBeDone job.command job text
-    → IsWitnessedAnswer words watchers text status out → (status ≡ 0) ⊎ (status ≡ 1)
+    → IsWitnessedAnswer words watchers text status out → IsDone job status

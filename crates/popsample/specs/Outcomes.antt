@@ -1,5 +1,5 @@
 -- What can come of command words and a text, and how each is told.
-use Rattle.std.specs.Prelude.{◌≡◌, ◌≢◌, ◌≤◌, ℕ, if◌then◌else◌, List, [], ◌∷◌, ◌++◌, length, Option}
+use Rattle.std.specs.Prelude.{◌≡◌, ◌≢◌, ◌⊎◌, ◌≤◌, ℕ, if◌then◌else◌, List, [], ◌∷◌, ◌++◌, length, Option}
 use Rattle.pop_model.specs.Families.{Event}
 use Rattle.pop_model.specs.Instances.{Instance}
 use Rattle.pop_model.specs.Logs.{replay}
@@ -8,6 +8,10 @@ use Rattle.confluence_core.specs.declared.end.End.{End}
 use Rattle.pop_edge.specs.declared.refusal.ReadRefusal.{ReadRefusal}
 use Rattle.pop_stacks.specs.declared.stack_fault.StackFault.{StackFault}
 use Rattle.pop_log.specs.Layers.{Placed}
+use Rattle.pop_log.specs.LayeredTexts.{placed_text}
+use Rattle.pop_words.specs.declared.job.Job.{Job}
+use Rattle.run_cert.specs.declared.look_kind.Look.{Look}
+use Rattle.run_cert.specs.Certificates.{cert_of, cert_text}
 use Rattle.pop_print.specs.declared.facts.Facts.{Facts}
 use Rattle.pop_print.specs.Names.{name_of}
 use Rattle.pop_print.specs.Output.{end_text}
@@ -17,7 +21,8 @@ use Rattle.popsample.specs.Names.{names_for}
 use Rattle.popsample.specs.Witnesses.{Witness, is_missing}
 use Rattle.popsample.specs.Tellings.{Telling, records_of, telling_text}
 use Rattle.popsample.specs.Batches.{batch_status}
-use Rattle.popsample.specs.Refusals.{usage_line, isolated_line, root_line, cut_off_line, too_many_line, clash_line, extremal_line, reading_line, reading_status, stacks_line, stacks_status}
+use Rattle.popsample.specs.ReplayTexts.{look_status, replay_text}
+use Rattle.popsample.specs.Refusals.{usage_line, not_legal_line, isolated_line, root_line, cut_off_line, too_many_line, clash_line, extremal_line, reading_line, reading_status, stacks_line, stacks_status}
 
 -- what comes of command words and a text
 pub data Outcome : Type 0 where
@@ -49,6 +54,14 @@ pub data Outcome : Type 0 where
   -- the run by rounds came to an end; where it is exhausted, this variable has no next entry
   Rounded : (facts : Facts) (instance : Instance) (cursors : List ℕ) (rounds : ℕ)
       (stuck : List Event) (short : Option ℕ) → Outcome
+  -- the run of a job and its input stopped after the pops of this layered log, with an event that
+  -- is poppable still
+  Paused : (job : Job) (input : List ℕ) (facts : Facts) (instance : Instance)
+      (placed : List Placed) → Outcome
+  -- the log of so many records is legal and leads to these cursors, where the run stands so
+  Replayed : (instance : Instance) (cursors : List ℕ) (records : ℕ) (look : Look) → Outcome
+  -- the record at this place, from 1, is the first that isn't legal
+  NotLegal : (place : ℕ) → Outcome
   -- the samples came to these ends
   Batched : (facts : Facts) (instance : Instance) (ends : List End) → Outcome
 
@@ -75,6 +88,9 @@ status_of (Extremal count) = 0
 status_of (Ended facts i cursors pops stuck telling) = end_status stuck
 status_of (Resampled facts i placed stuck telling) = resampled_status stuck telling.witness
 status_of (Rounded facts i cursors rounds stuck short) = end_status stuck
+status_of (Paused job input facts i placed) = 10
+status_of (Replayed i cursors records look) = look_status look
+status_of (NotLegal place) = 11
 status_of (Batched facts i ends) = batch_status ends
 
 -- the text of a run: that of its end, and behind it what is told of its log
@@ -86,6 +102,11 @@ run_text facts i cursors pops stuck telling =
 abbrev pub resampled_text : Facts → Instance → List Placed → List Event → Telling → List ℕ
 resampled_text facts i placed stuck telling =
     run_text facts i (replay (start_of i) (records_of placed)) (length placed) stuck telling
+
+-- that of a run that stopped: the certificate of its job, its input and its layered log
+abbrev pub paused_text : Job → List ℕ → Facts → Instance → List Placed → List ℕ
+paused_text job input facts i placed =
+    cert_text (cert_of job input (placed_text (names_for facts) i placed))
 
 -- the text of an outcome
 abbrev pub text_of : Outcome → List ℕ
@@ -102,12 +123,23 @@ text_of (Ended facts i cursors pops stuck telling) = run_text facts i cursors po
 text_of (Resampled facts i placed stuck telling) = resampled_text facts i placed stuck telling
 text_of (Rounded facts i cursors rounds stuck short) =
     rounds_text facts i cursors rounds stuck short
+text_of (Paused job input facts i placed) = paused_text job input facts i placed
+text_of (Replayed i cursors records look) = replay_text records cursors look
+text_of (NotLegal place) = not_legal_line place
 text_of (Batched facts i ends) = batch_text facts i ends
 
--- a status that a text is answered by: none of the words, of a device or of memory
+-- a status of an answer: none of a device or of memory
+abbrev pub IsAnswerStatus : ℕ → Type 0
+IsAnswerStatus status = (status ≤ 6) ⊎ ((status ≡ 10) ⊎ (status ≡ 11))
+
+-- a status that a text is answered by: one of an answer, but not that of words
 pub record IsTextStatus (status : ℕ) : Type 0 where
-  pub low : status ≤ 6
+  pub answers : IsAnswerStatus status
   pub no_usage : status ≢ 2
+
+-- a status with which a run, or a verdict, is told: an end, or where it stopped
+abbrev pub HasRun : ℕ → Type 0
+HasRun status = (status ≤ 1) ⊎ (status ≡ 10)
 
 -- the status and the output are those of an outcome
 pub record Tells (outcome : Outcome) (status : ℕ) (out : List ℕ) : Type 0 where

@@ -34,6 +34,10 @@ clash_line number other = refusal_line (codes "CLASH") (number ∷ other ∷ [])
 abbrev pub too_many_line : ℕ → List ℕ
 too_many_line samples = refusal_line (codes "LIMIT") (9 ∷ samples ∷ [])
 
+-- the line of a log's first record that isn't legal, from 1
+abbrev pub not_legal_line : ℕ → List ℕ
+not_legal_line place = refusal_line (codes "NOTLEGAL") (place ∷ [])
+
 -- the line of an extremal formula, with the number of its events
 abbrev pub extremal_line : ℕ → List ℕ
 extremal_line events = refusal_line (codes "EXTREMAL") (events ∷ [])

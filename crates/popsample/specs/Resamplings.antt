@@ -1,11 +1,12 @@
 -- What comes of a formula that is resampled. Its events may clash, and the order of pops is free.
-use Rattle.std.specs.Prelude.{◌≡◌, ℕ, Bool, true, false, List, []}
+use Rattle.std.specs.Prelude.{◌≡◌, ℕ, Bool, true, false, List, [], length}
 use Rattle.pop_model.specs.Stacks.{Origin}
 use Rattle.pop_model.specs.Popping.{Cube}
 use Rattle.pop_model.specs.Instances.{Instance}
 use Rattle.dimacs_read.specs.Cnf.{Cnf}
 use Rattle.dimacs_read.specs.Falsifying.{AreEventsOf}
-use Rattle.pop_log.specs.Layered.{AreInLayers}
+use Rattle.pop_model.specs.Logs.{LogRecord}
+use Rattle.pop_log.specs.Layered.{AreInLayers, AreSorted}
 use Rattle.pop_watch.specs.Telling.{Watcher}
 use Rattle.pop_print.specs.declared.facts.Facts.{Facts}
 use Rattle.pop_print.specs.declared.facts.Facts.TheVariants.{Formula as FormulaFacts}
@@ -14,7 +15,7 @@ use Rattle.popsample.specs.Names.{names_for}
 use Rattle.popsample.specs.Tellings.{records_of, IsToldOf, LeadsToEnd}
 use Rattle.popsample.specs.Outcomes.{Outcome}
 use Rattle.popsample.specs.Outcomes.Outcome.{Resampled}
-use Rattle.popsample.specs.Sampling.{pair_weights, instance_of, ComesOfSampling}
+use Rattle.popsample.specs.Sampling.{pair_weights, instance_of, EndsWithin, ComesOfSampling}
 use Rattle.popsample.specs.Formulas.{ComesOfRunning}
 use Rattle.popsample.specs.declared.stop.Stop.TheVariants.{OutOfMemory}
 use Rattle.popsample.specs.declared.refusal.Refusal.{Refusal}
@@ -28,7 +29,19 @@ abbrev pub IsHistoryOf : Asked → List Watcher → Facts → Instance → Outco
 IsHistoryOf asked watchers facts i (Resampled told j placed stuck telling) =
     (told ≡ facts) × (j ≡ i) × LeadsToEnd i (records_of placed) stuck × AreInLayers [] placed
     × IsToldOf asked watchers (names_for facts) i placed telling
+    × EndsWithin asked.pops (length placed)
 IsHistoryOf asked watchers facts i o = ⊥
+
+-- the layered log of an outcome that tells one is that of this log
+abbrev pub IsLayeredFrom : List LogRecord → Outcome → Type 0
+IsLayeredFrom log (Resampled facts i placed stuck telling) = AreSorted log placed
+IsLayeredFrom log o = ⊥
+
+-- a run of the instance to an end with this log
+abbrev pub IsHistoryWith : List LogRecord → Asked → List Watcher → Facts → Instance → Outcome
+    → Type 0
+IsHistoryWith log asked watchers facts i o =
+    IsHistoryOf asked watchers facts i o × IsLayeredFrom log o
 
 -- a run of the formula's events ends so
 pub record EndsResampling (origin : Origin) (asked : Asked) (watchers : List Watcher) (f : Cnf)

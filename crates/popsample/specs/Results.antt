@@ -1,5 +1,5 @@
 -- What a command comes to: an answer, or a refusal.
-use Rattle.std.specs.Prelude.{◌≡◌, ℕ, List, [], ◌∷◌, codes, Option, Some, Result, Ok, Err, ⊤}
+use Rattle.std.specs.Prelude.{◌≡◌, ℕ, ◌+◌, ◌<◌, ◌^◌, List, [], ◌∷◌, codes, Option, Some, Result, Ok, Err, ⊤}
 use Rattle.pop_model.specs.Places.{IsLeast}
 use Rattle.pop_edge.specs.declared.refusal.ReadRefusal.{ReadRefusal}
 use Rattle.pop_edge.specs.declared.refusal.ReadRefusal.TheVariants.{Malformed as MalformedLine, Count as WrongCount, EmptyClause as NoLiteral, Limit as PassedLimit, ReadFault as ReadingFailed, OutOfMemory as ReadingMemory}
@@ -7,6 +7,10 @@ use Rattle.pop_stacks.specs.declared.stack_fault.StackFault.{StackFault}
 use Rattle.pop_stacks.specs.declared.stack_fault.StackFault.TheVariants.{RowCount as WrongRowCount, EmptyRow as NoEntry, ValueTooLarge as LargeValue, WeightSum as HeavyWeights, OutOfMemory as StackMemory}
 use Rattle.pop_words.specs.declared.fault.WordFault.{WordFault}
 use Rattle.pop_words.specs.declared.fault.WordFault.TheVariants.{Usage as BadWord, OutOfMemory as WordMemory}
+use Rattle.run_cert.specs.declared.cert_refusal.CertRefusal.{CertRefusal}
+use Rattle.run_cert.specs.declared.cert_refusal.CertRefusal.TheVariants.{Malformed as MalformedCert, OutOfMemory as CertMemory}
+use Rattle.pop_log.specs.declared.log_refusal.LogRefusal.{LogRefusal}
+use Rattle.pop_log.specs.declared.log_refusal.LogRefusal.TheVariants.{Limit as LongLog, Malformed as MalformedLog, NotLegal as IllegalRecord, Unlayered as UnlayeredRecord, OutOfMemory as LogMemory}
 use Rattle.graph_read.specs.Graphs.{GraphOf}
 use Rattle.graph_read.specs.Paths.{IsCutOff}
 use Rattle.sink_popping.specs.declared.sink_fault.SinkFault.{SinkFault}
@@ -16,11 +20,11 @@ use Rattle.pop_print.specs.Names.{name_of}
 use Rattle.popsample.specs.declared.answer.Answer.{Answer}
 use Rattle.popsample.specs.declared.stop.Stop.TheVariants.{ReadFault, OutOfMemory}
 use Rattle.popsample.specs.declared.refusal.Refusal.{Refusal}
-use Rattle.popsample.specs.declared.refusal.Refusal.TheVariants.{Usage, Malformed, Count, EmptyClause, Limit, Isolated, NoRoot, CutOff, TooMany, RowCount, EmptyRow, ValueTooLarge, WeightSum, Clashes, Stopped}
-use Rattle.popsample.specs.Refusals.{usage_line, isolated_line, root_line, cut_off_line, too_many_line, clash_line, reading_line, refusal_line}
+use Rattle.popsample.specs.declared.refusal.Refusal.TheVariants.{Usage, Malformed, Count, EmptyClause, Limit, Isolated, NoRoot, CutOff, TooMany, RowCount, EmptyRow, ValueTooLarge, WeightSum, Clashes, NotLegal, Stopped}
+use Rattle.popsample.specs.Refusals.{usage_line, isolated_line, root_line, cut_off_line, too_many_line, clash_line, not_legal_line, reading_line, refusal_line}
 use Rattle.popsample.specs.Batches.{IsTooMany}
 use Rattle.popsample.specs.Outcomes.{Outcome, IsTextStatus, AnswersBy}
-use Rattle.popsample.specs.Outcomes.Outcome.{Usage as UsageOf, Unread, Isolated as IsolatedAt, NoRoot as NoRootAt, CutOff as CutOffAt, TooMany as TooManyOf, Unsound, Clashes as ClashesOf}
+use Rattle.popsample.specs.Outcomes.Outcome.{Usage as UsageOf, Unread, Isolated as IsolatedAt, NoRoot as NoRootAt, CutOff as CutOffAt, TooMany as TooManyOf, Unsound, Clashes as ClashesOf, NotLegal as NotLegalAt}
 
 -- words that are refused
 abbrev pub unworded : WordFault → Refusal
@@ -40,6 +44,30 @@ unread ReadingMemory = Stopped OutOfMemory
 abbrev pub unoriented : SinkFault → Refusal
 unoriented (IsolatedVertex w) = Isolated w
 unoriented SinkMemory = Stopped OutOfMemory
+
+-- bytes that are no certificate
+abbrev pub uncertified : CertRefusal → Refusal
+uncertified (MalformedCert l code) = Malformed l code
+uncertified CertMemory = Stopped OutOfMemory
+
+-- the text of a log that is refused; its lines and records count from 1 there
+abbrev pub log_refusal : LogRefusal → Refusal
+log_refusal LongLog = Limit 7 1
+log_refusal (MalformedLog l) = Malformed l 31
+log_refusal (IllegalRecord k) = NotLegal (k + 1)
+log_refusal (UnlayeredRecord k) = Malformed (k + 2) 32
+log_refusal LogMemory = Stopped OutOfMemory
+
+-- the refusal of a log text that is refused so
+abbrev pub IsLogRefusalOf : (LogRefusal → Type 0) → Refusal → Type 0
+IsLogRefusalOf Refused refusal =
+    (cause : LogRefusal) × Refused cause × (refusal ≡ log_refusal cause)
+
+-- the numbers of its record and of the line of it have 64 bits
+abbrev pub IsEarlyRecord : LogRefusal → Type 0
+IsEarlyRecord (IllegalRecord k) = k + 2 < 2 ^ 64
+IsEarlyRecord (UnlayeredRecord k) = k + 2 < 2 ^ 64
+IsEarlyRecord refusal = ⊤
 
 -- a fault of stacks, with the printed name of its variable
 abbrev pub named_fault : Facts → StackFault → Refusal
@@ -71,6 +99,7 @@ ComesRefused Comes (EmptyRow name) = TellsFault Comes (EmptyRow name)
 ComesRefused Comes (ValueTooLarge name k) = TellsFault Comes (ValueTooLarge name k)
 ComesRefused Comes (WeightSum name) = TellsFault Comes (WeightSum name)
 ComesRefused Comes (Clashes number other) = Comes (ClashesOf number other)
+ComesRefused Comes (NotLegal place) = Comes (NotLegalAt place)
 ComesRefused Comes (Stopped stop) = stop ≡ OutOfMemory
 
 -- an answer or a refusal of what comes so
@@ -99,6 +128,7 @@ IsToldAs (ValueTooLarge name k) status out =
 IsToldAs (WeightSum name) status out =
     (status ≡ 4) × (out ≡ refusal_line (codes "LIMIT") (6 ∷ name ∷ []))
 IsToldAs (Clashes number other) status out = (status ≡ 5) × (out ≡ clash_line number other)
+IsToldAs (NotLegal place) status out = (status ≡ 11) × (out ≡ not_legal_line place)
 IsToldAs (Stopped stop) status out = ⊥
 
 -- the refusal is one of a text that is refused so, or the call was stopped

@@ -1,5 +1,5 @@
 -- What comes of sampling, whatever the source.
-use Rattle.std.specs.Prelude.{◌≡◌, ℕ, List, [], ◌∷◌, length, replicate, Option, None, Some}
+use Rattle.std.specs.Prelude.{◌≡◌, ℕ, ◌≤◌, List, [], ◌∷◌, length, replicate, Option, None, Some, ⊤}
 use Rattle.pop_model.specs.Stacks.{Origin}
 use Rattle.pop_model.specs.Popping.{Cube}
 use Rattle.pop_model.specs.Families.Family.{Listed}
@@ -37,12 +37,18 @@ pub record IsToldOfFirst (asked : Asked) (watchers : List Watcher) (names : Name
   pub sorted : AreSorted log placed
   pub told : IsToldOf asked watchers names i placed t
 
+-- a run that may stop after so many pops, if it may, came to its end within them
+abbrev pub EndsWithin : Option ℕ → ℕ → Type 0
+EndsWithin None pops = ⊤
+EndsWithin (Some most) pops = pops ≤ most
+
 -- the end of the instance's one-thread run, and what is asked for of its log; or where a number of
 -- samples is asked for, the end of each
 abbrev pub IsEndOf : Asked → List Watcher → Facts → Instance → Outcome → Type 0
 IsEndOf asked watchers facts i (Ended told j cursors pops stuck telling) =
     (told ≡ facts) × (j ≡ i) × IsFirstEnd i cursors pops stuck
     × IsToldOfFirst asked watchers (names_for facts) i telling × (asked.count ≡ None)
+    × EndsWithin asked.pops pops
 IsEndOf asked watchers facts i (Batched told j ends) =
     (told ≡ facts) × (j ≡ i) × IsBatchOf asked.count i ends
 IsEndOf asked watchers facts i o = ⊥

@@ -9,7 +9,7 @@ use Rattle.graph_read.specs.Grids.{grid_of}
 use Rattle.graph_read.specs.GraphText.{graph_of}
 use Rattle.cycle_popping.specs.Trees.{weights_of_tree}
 use Rattle.pop_words.specs.declared.command.Command.{Command}
-use Rattle.pop_words.specs.declared.command.Command.TheVariants.{Formula, Orient, Tree, Resample, Check, Make, Rounds}
+use Rattle.pop_words.specs.declared.command.Command.TheVariants.{Formula, Orient, Tree, Resample, Check, Make, Rounds, Replay, Resume}
 use Rattle.pop_words.specs.declared.job.Job.{Job}
 use Rattle.pop_words.specs.CommandLines.{Asks}
 use Rattle.pop_watch.specs.Telling.{Watcher}
@@ -21,6 +21,8 @@ use Rattle.printed_trees.specs.Trees.{ShowsTree}
 use Rattle.printed_trees.specs.ArrowCycles.{ShowsCycles}
 use Rattle.printed_trees.specs.Made.{ShowsMade, CountsCycles}
 use Rattle.popsample.specs.Sampling.{pair_weights}
+use Rattle.run_cert.specs.Certificates.{Certificate, IsCertOf}
+use Rattle.popsample.specs.Replays.{job_of}
 use Rattle.popsample.specs.Answers.{IsAnswer, origin_for}
 
 -- the text begins with one that shows this
@@ -41,8 +43,10 @@ stacks_of_text Resample job origin text = stacks_by origin (pair_weights (cnf_of
 stacks_of_text Check job origin text = stacks_by origin []
 stacks_of_text Make job origin text = stacks_by origin (weights_of_tree (grid_of job.size) 1)
 stacks_of_text Rounds job origin text = stacks_by origin (pair_weights (cnf_of text).variables)
+stacks_of_text Replay job origin text = stacks_by origin []
+stacks_of_text Resume job origin text = stacks_by origin []
 
--- what an output with status 0 shows; of a verdict nothing
+-- what an output with status 0 shows of a line; of a verdict nothing
 abbrev pub ShowsSample : Command → Job → List ℕ → List ℕ → Type 0
 ShowsSample Formula job text out = ShowsAssignment (cnf_of text) out
 ShowsSample Orient job text out = ShowsOrientation (graph_of text) out
@@ -51,6 +55,8 @@ ShowsSample Resample job text out = ShowsAssignment (cnf_of text) out
 ShowsSample Check job text out = ⊤
 ShowsSample Make job text out = BeginsWith (ShowsMade job.size) out
 ShowsSample Rounds job text out = ShowsAssignment (cnf_of text) out
+ShowsSample Replay job text out = ⊥
+ShowsSample Resume job text out = ⊥
 
 -- what an output with status 1 shows, of stacks of this origin; there is no such verdict
 abbrev pub ShowsExhausted : Command → Job → Origin → List ℕ → List ℕ → Type 0
@@ -67,6 +73,8 @@ ShowsExhausted Make job origin text out =
     BeginsWith (CountsCycles job.size (stacks_of_text Make job origin text)) out
 ShowsExhausted Rounds job origin text out =
     ShowsFalse (cnf_of text) (stacks_of_text Rounds job origin text) out
+ShowsExhausted Replay job origin text out = ⊥
+ShowsExhausted Resume job origin text out = ⊥
 
 -- what an output shows whose text is of an end with these events
 abbrev pub ShowsEnd : Command → Job → Origin → List ℕ → List Event → List ℕ → Type 0
@@ -105,17 +113,33 @@ ShowsStuckSamples (Some count) job text out =
     (λ j t. ShowsExhausted job.command job (origin_of_sample j (origin_for job)) text t)
     (λ j t. ShowsSample job.command job text t) out
 
+-- what an output with status 0 shows of a command: of the line of its own, of that of the
+-- certificate that is resumed, or of one that is replayed nothing
+abbrev pub ShowsEndOf : Command → Job → List ℕ → List ℕ → Type 0
+ShowsEndOf Replay job text out = ⊤
+ShowsEndOf Resume job text out =
+    (cert : Certificate) × IsCertOf text cert × ShowsSamples None (job_of cert.head) cert.input out
+ShowsEndOf command job text out = ShowsSamples job.count job text out
+
+-- and what one with status 1 shows
+abbrev pub ShowsStuckOf : Command → Job → List ℕ → List ℕ → Type 0
+ShowsStuckOf Replay job text out = ⊤
+ShowsStuckOf Resume job text out =
+    (cert : Certificate) × IsCertOf text cert
+    × ShowsStuckSamples None (job_of cert.head) cert.input out
+ShowsStuckOf command job text out = ShowsStuckSamples job.count job text out
+
 -- An output with status 0 shows of a formula an assignment that satisfies each clause, of a graph
 -- that is oriented an orientation in which an arrow leaves each vertex, and else a spanning tree,
 -- whose arrows lead to the root. Where a number of samples is asked for, it shows so many.
 abbrev pub SampleShown : Type 0
 SampleShown = (words : List (List ℕ)) (watchers : List Watcher) (text out : List ℕ)
     → IsAnswer words watchers text 0 out
-    → (job : Job) × Asks words job × ShowsSamples job.count job text out
+    → (job : Job) × Asks words job × ShowsEndOf job.command job text out
 
 -- an output with status 1 shows the events that still occur: the clauses that are false, the
 -- vertices that no arrow leaves, or the cycles of the arrows; of a batch those of some sample
 abbrev pub ExhaustedShown : Type 0
 ExhaustedShown = (words : List (List ℕ)) (watchers : List Watcher) (text out : List ℕ)
     → IsAnswer words watchers text 1 out
-    → (job : Job) × Asks words job × ShowsStuckSamples job.count job text out
+    → (job : Job) × Asks words job × ShowsStuckOf job.command job text out

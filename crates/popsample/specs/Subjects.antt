@@ -17,7 +17,7 @@ use Rattle.graph_read.specs.Paths.{IsConnected}
 use Rattle.sink_popping.specs.Sinks.{AreSinksOf, IsIsolated}
 use Rattle.cycle_popping.specs.Trees.{heads_of_tree, weights_of_tree}
 use Rattle.pop_words.specs.declared.command.Command.{Command}
-use Rattle.pop_words.specs.declared.command.Command.TheVariants.{Formula, Orient, Tree, Resample, Check, Make, Rounds}
+use Rattle.pop_words.specs.declared.command.Command.TheVariants.{Formula, Orient, Tree, Resample, Check, Make, Rounds, Replay, Resume}
 use Rattle.pop_words.specs.declared.job.Job.{Job}
 use Rattle.pop_print.specs.declared.facts.Facts.{Facts}
 use Rattle.pop_print.specs.declared.facts.Facts.TheVariants.{Formula as FormulaFacts, Orient as OrientFacts, Tree as TreeFacts, Made as MadeFacts}
@@ -98,3 +98,5 @@ IsSubjectOf Make job text s = AreArrowsOfGrid job.size s
 IsSubjectOf Resample job text s = ⊥
 IsSubjectOf Check job text s = ⊥
 IsSubjectOf Rounds job text s = ⊥
+IsSubjectOf Replay job text s = ⊥
+IsSubjectOf Resume job text s = ⊥

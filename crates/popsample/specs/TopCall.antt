@@ -8,7 +8,7 @@ use Rattle.pop_words.specs.declared.job.Job.{Job}
 use Rattle.pop_words.specs.CommandLines.{Asks, IsBadPlace}
 use Rattle.pop_watch.specs.Telling.{Watcher}
 use Rattle.popsample.specs.Refusals.{usage_line, reading_line}
-use Rattle.popsample.specs.Answers.{IsAnswer, HasNoBadLine}
+use Rattle.popsample.specs.Answers.{IsAnswer, MayFailBehind}
 
 -- a fault of a device or want of memory, and no answer to words and a text
 abbrev pub IsBreak : ℕ → Type 0
@@ -28,7 +28,7 @@ pub record AnsweredUsage (words : List (List ℕ)) (old new : Option (List ℕ))
   pub held : Appends old new (usage_line place)
 
 -- The source failed: its count rose, the words ask for a job that reads, what was taken is within
--- the limit, and no line of it whose end was taken is refused.
+-- the limit, and, but where it is read whole before, no line of it whose end was taken is refused.
 pub record HasReadFault (words : List (List ℕ)) (left left' : Option (List ℕ))
     (faults faults' : ℕ) : Type 0 where
   pub rose : Rose faults faults'
@@ -36,7 +36,7 @@ pub record HasReadFault (words : List (List ℕ)) (left left' : Option (List ℕ
   pub asks : Asks words job
   pub taken : List ℕ
   pub consumed : Consumes left left' taken
-  pub no_bad_line : HasNoBadLine job.command taken
+  pub no_bad_line : MayFailBehind job.pops job.command taken
 
 -- a text that a call may write: that of an answer, of a fault of the source, or of want of memory
 abbrev pub MayWrite : List (List ℕ) → List Watcher → List ℕ → Type 0 → List ℕ → Type 0

@@ -1,6 +1,7 @@
 //! What is to be told of a run.
 ghost use Rattle.std.specs.Prelude.{◌≡◌};
 ghost use Rattle.confluence_core.specs.Kept.{keeps_log};
+ghost use Rattle.pop_words.specs.Options.{default_job};
 ghost use Rattle.popsample.specs.Answers.{has_free_order, asked_by};
 ghost use Rattle.popsample.specs.Tellings.{tells_watchers, looks_at_records, asks_for_log};
 
@@ -22,6 +23,8 @@ pub struct Asked {
     pub free: bool,
     /// How many samples are asked for, where the answer is a batch of them; else there is one run.
     pub count: Option<u32>,
+    /// After how many pops the run stops, where it may stop before its end.
+    pub pops: Option<u32>,
 }
 
 // Whether the order of a command's pops isn't determined.
@@ -45,6 +48,25 @@ impl Asked {
             reports: job.reports,
             free: is_free(job.command),
             count: job.count,
+            pops: job.pops,
+        }
+    }
+
+    /// What the command line of a command asks for that has no option.
+    pub fn of_line(command: Command) -> Asked
+        ensures { result ≡ asked_by (default_job command) }
+    {
+        Asked {
+            log: command.tells_log(),
+            witness: None,
+            reports: Reports {
+                totals: false,
+                heights: false,
+                layers: false,
+            },
+            free: is_free(command),
+            count: None,
+            pops: None,
         }
     }
 

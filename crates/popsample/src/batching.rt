@@ -1,12 +1,11 @@
 //! Batches: where a number of samples is asked for, each is run on its own stacks.
-ghost use Rattle.std.specs.Prelude.{◌≡◌, false, true, ℕ, List, Some, map, IfOk, IfErr, OnOk};
+ghost use Rattle.std.specs.Prelude.{◌≡◌, false, true, ℕ, List, None, Some, map, IfOk};
 ghost use Rattle.pop_model.specs.Stacks.{IsKeyed};
 ghost use Rattle.pop_model.specs.Extremal.{IsExtremal};
 ghost use Rattle.pop_print.specs.Ends.{AreFactsOf};
 ghost use Rattle.pop_watch.specs.Telling.{Watcher};
-ghost use Rattle.popsample.specs.Batches.{AreFew, batch_status};
+ghost use Rattle.popsample.specs.Batches.{batch_status};
 ghost use Rattle.popsample.specs.Outcomes.{AnswersBy};
-ghost use Rattle.popsample.specs.Results.{IsTooManyRefusal};
 ghost use Rattle.popsample.specs.Sampling.{IsEndOf};
 ghost use Rattle.popsample.specs.Resamplings.{IsHistoryOf};
 
@@ -14,7 +13,6 @@ use crate::answer::Answer;
 use crate::asked::Asked;
 use crate::call::Call;
 use crate::growing_instance::GrowingInstance;
-use crate::refusal::Refusal;
 use crate::running::run_and_tell;
 use pop_batch::Ends;
 use pop_instance::Instance;
@@ -23,23 +21,6 @@ use pop_workers::Gate;
 use std::alloc::AllocError;
 use std::sync::Wait;
 use std::thread::Threads;
-
-// How many variables all samples of a batch may have together: the text of a batch is whole before
-// its first byte is written.
-const MAX_VARIABLES: u64 = 1 << 25;
-
-/// Refuses so many samples of so many variables where they are more than a batch may have.
-pub fn refuse_too_many(asked: Option<u32>, variables: u32) -> Result<(), Refusal>
-    ensures few { OnOk result (AreFew asked variables) }
-    ensures many { IfErr result (IsTooManyRefusal asked variables) }
-{
-    match asked {
-        Some(count) if u64::from(count) * u64::from(variables) > MAX_VARIABLES => {
-            Err(Refusal::TooMany(count))
-        }
-        _ => Ok(()),
-    }
-}
 
 // The status of a batch: 1 where at some end an event still occurs.
 fn status_of_batch(ends: &Ends) -> u8
@@ -81,6 +62,7 @@ pub fn sample_and_tell<R: Threads + Wait + Sync, G: Gate + Sync>(
     asked: Asked,
 ) -> Result<Answer, AllocError>
     requires facts { AreFactsOf facts.now growing }
+    requires run_out { asked.pops ≡ None }
     requires keyed { (count : ℕ) → asked.count ≡ Some count → IsKeyed growing.stacks.origin }
     requires extremal { asked.free ≡ false → IsExtremal growing.family }
     ensures ended { asked.free ≡ false → IfOk result (λ a. AnswersBy (IsEndOf asked

@@ -1,6 +1,7 @@
 //! Who makes a run.
 ghost use Rattle.std.specs.Prelude.{◌≡◌, ◌<◌, ◌≤◌, length, Some, IfOk, OnOk};
 ghost use Rattle.pop_model.specs.Stacks.{IsKeyed, variables_of};
+ghost use Rattle.pop_model.specs.Popping.{AreWithin};
 ghost use Rattle.pop_model.specs.Instances.{instance_raised};
 ghost use Rattle.pop_model.specs.Extremal.{IsExtremal};
 ghost use Rattle.pop_model.specs.Runs.{start_of};
@@ -15,7 +16,7 @@ ghost use Rattle.popsample.specs.Growing.{MayGrowTo};
 use crate::growing_instance::GrowingInstance;
 use confluence_core::{Keep, run_from_zeros};
 use pop_batch::{Ends, batch};
-use pop_instance::{Index, Instance};
+use pop_instance::{Cursors, Index, Instance};
 use pop_words::BoardKind;
 use pop_workers::{Gate, Outcome, sample_claimed, sample_grown, sample_locked, zeros_of};
 use prs_rounds::{RoundEnd, run_rounds};
@@ -101,7 +102,7 @@ impl<'a, R: Threads + Wait + Sync, G: Gate + Sync> Crew<'a, R, G> {
     }
 
     // A run of the instance from zeros. One worker makes it alone, behind the gate and with no
-    // board; several claim words, or share a book under a lock.
+    // board.
     fn run_at_once(
         &self,
         alloc: Global,
@@ -115,10 +116,27 @@ impl<'a, R: Threads + Wait + Sync, G: Gate + Sync> Crew<'a, R, G> {
             return run_from_zeros(alloc, instance, keep);
         }
         let zeros = zeros_of(alloc, instance)?;
+        self.run_from(alloc, instance, &zeros, keep)
+    }
+
+    /// A run of the instance from these cursors, which are below the heights, to an end. One worker
+    /// makes it alone, behind the gate and with no board; several claim words, or share a book
+    /// under a lock.
+    pub fn run_from(
+        &self,
+        alloc: Global,
+        instance: &Instance,
+        from: &Cursors,
+        keep: Keep,
+    ) -> Result<Outcome, AllocError>
+        requires count { variables_of instance.now.stacks ≡ length from.now }
+        requires within { AreWithin instance.now.stacks from.now }
+        ensures { IfOk result (IsRunOf instance.now from.now (keeps_log keep)) }
+    {
         let (rt, gate, workers) = (self.rt, self.gate, self.workers);
         match self.board {
-            BoardKind::Words => sample_claimed(rt, alloc, instance, &zeros, workers, keep, gate),
-            BoardKind::Lock => sample_locked(rt, alloc, instance, &zeros, workers, keep, gate),
+            BoardKind::Words => sample_claimed(rt, alloc, instance, from, workers, keep, gate),
+            BoardKind::Lock => sample_locked(rt, alloc, instance, from, workers, keep, gate),
         }
     }
 

@@ -1,31 +1,39 @@
 //! Laws of answers. Each function's contract is the law.
-ghost use Rattle.popsample.specs.Laws.{OneAnswer, OneOutcome, OneLoggedAnswer, SampleFinished};
+ghost use Rattle.popsample.specs.Laws.{OneAnswer, OneOutcome, OneLoggedAnswer, PausedExactly, SampleFinished};
 ghost use Rattle.popsample.specs.Shown.{SampleShown, ExhaustedShown};
 ghost use Rattle.popsample.specs.Workers.{WorkersAgree};
+ghost use Rattle.popsample.specs.Resumed.{ResumedAlike};
 ghost use Rattle.popsample.specs.Stages.{GrownAlike};
 ghost use Rattle.popsample.specs.FirstSample.{FirstSample};
 ghost use Rattle.popsample.specs.Complete.{Complete};
 ghost use Rattle.popsample.specs.ExactAnswers.{ExchangedAnswers, ReachedAnswers};
 ghost use Rattle.popsample.specs.EverySample.{EveryAssignment, EveryOrientation, EveryTree};
 
-/// Words that don't ask for a resampling have with a text one answer, with watchers that report
-/// alike: one status and one output. So the contract of `run` leaves its body no choice where
-/// neither a device nor memory fails.
+/// Words that ask neither for a resampling nor for a run that may stop before its end, nor for one
+/// that goes on, have with a text one answer, with watchers that report alike: one status and one
+/// output. So the contract of `run` leaves its body no choice where neither a device nor memory
+/// fails.
 pub fn one_answer()
     ensures { OneAnswer }
 {}
 
-/// Words and a text have one outcome, but for the order of pops where a resampling is asked for:
-/// then each outcome is a run of the same instance to an end, with its log, which its text
-/// determines.
+/// Words and a text have one outcome, but for the order of pops where a resampling is asked for,
+/// and for the pops up to a pause: then each outcome is a run of the same instance to an end, or to
+/// a pause, with its log, which its text determines.
 pub fn one_outcome()
     ensures { OneOutcome }
 {}
 
 /// Words, watchers and a text have one answer that shows a log, byte for byte: a resampling has no
-/// choice but the order of pops.
+/// choice but the order of pops, and a run that stops none but its pops.
 pub fn one_logged_answer()
     ensures { OneLoggedAnswer }
+{}
+
+/// Where the order of pops isn't free, a run that may stop after so many pops is answered by a
+/// certificate, with status 10, exactly where each run to an end has more.
+pub fn paused_exactly()
+    ensures { PausedExactly }
 {}
 
 /// At the end of a run with status 0 no event occurs: the sample satisfies each clause, leaves no
@@ -50,11 +58,19 @@ pub fn exhausted_shown()
     ensures { ExhaustedShown }
 {}
 
-/// Words that don't ask for a resampling and differ only in `--workers` and `--board` have with a
-/// text one answer, with watchers that report alike. So where neither a device nor memory fails,
-/// any number of workers is answered alike, on either board.
+/// Words that ask neither for a resampling nor for a run that may stop, and differ only in
+/// `--workers` and `--board`, have with a text one answer, with watchers that report alike. So
+/// where neither a device nor memory fails, any number of workers is answered alike, on either
+/// board.
 pub fn workers_agree()
     ensures { WorkersAgree }
+{}
+
+/// What `resume` answers to a certificate that `replay` accepts, with any crew, is an answer to the
+/// line of the certificate's command, with its stacks, its height and its root, over its input. So
+/// of `formula`, `orient` and `tree` it is the one answer of that line (`one_answer`).
+pub fn resumed_alike()
+    ensures { ResumedAlike }
 {}
 
 /// Words with `--height H --grow T` have the same answers as those with `--height T` in its place,
@@ -73,7 +89,7 @@ pub fn first_sample()
 /// Where the words are a command line, the text is in its grammar and within the limits, the
 /// graph's form is good, no more samples are asked for than a batch may have, the stacks have no
 /// fault, the events are extremal where that is asked, and of a resampling the witness that is
-/// asked for is there, the status is 0 or 1.
+/// asked for is there, the status is 0 or 1; or 10, where the run may stop after so many pops.
 pub fn complete()
     ensures { Complete }
 {}

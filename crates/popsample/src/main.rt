@@ -3,6 +3,7 @@
 //! left and the bytes that the sink holds.
 #![tactic(auto)]
 
+mod accepted;
 mod answer;
 mod asked;
 mod batching;
@@ -13,12 +14,16 @@ mod growing_instance;
 mod growing_stacks;
 mod instances;
 pub mod laws;
+mod making;
 mod names;
 mod orientation;
 mod origin;
+mod pausing;
 mod reading;
 mod refusal;
+mod replaying;
 mod reporting;
+mod resuming;
 mod rounds;
 mod running;
 mod stop;
@@ -27,6 +32,7 @@ mod telling;
 mod tests;
 mod top;
 mod tree;
+mod whole;
 mod witness;
 
 use pop_edge::{StdSink, StdSource};

@@ -1,21 +1,18 @@
 //! The command on the orientations of a graph: `orient` samples one without a sink.
-ghost use Rattle.std.specs.Prelude.{◌≡◌, false, ℕ, Some, map};
+ghost use Rattle.std.specs.Prelude.{◌≡◌, false, ℕ, None, Some, map};
 ghost use Rattle.pop_model.specs.Stacks.{IsKeyed};
 ghost use Rattle.popsample.specs.Results.{IsResultOf};
 ghost use Rattle.popsample.specs.Orientations.{ComesOfOrienting};
 
 use crate::answer::Answer;
 use crate::asked::Asked;
-use crate::batching::{refuse_too_many, sample_and_tell};
+use crate::batching::sample_and_tell;
 use crate::call::Call;
-use crate::instances::of_events;
+use crate::making::{Made, make_orientation};
 use crate::origin::StackOrigin;
 use crate::refusal::Refusal;
 use graph_read::Graph;
-use pop_print::Facts;
-use pop_stacks::Weights;
 use pop_workers::Gate;
-use sink_popping::sinks;
 use std::sync::Wait;
 use std::thread::Threads;
 
@@ -28,15 +25,12 @@ pub fn orient<R: Threads + Wait + Sync, G: Gate + Sync>(
     graph: Graph,
 ) -> Result<Answer, Refusal>
     requires ordered { asked.free ≡ false }
+    requires run_out { asked.pops ≡ None }
     requires keyed { (count : ℕ) → asked.count ≡ Some count → IsKeyed origin }
     ensures { IsResultOf (ComesOfOrienting origin asked
         (map (λ b. (kind b, state b)) call.old.watchers.items) graph) result }
 {
-    let events = sinks(call.alloc, &graph)?;
-    let edges = graph.edges();
-    refuse_too_many(asked.count, edges)?;
-    let facts = Facts::Orient(graph);
-    let stacks = origin.stacks(&facts, Weights::pairs(edges))?;
-    let instance = of_events(edges, stacks, events);
+    let made = make_orientation(call.alloc, origin, asked.count, graph)?;
+    let Made { facts, instance } = made;
     Ok(sample_and_tell(call, &facts, instance, asked)?)
 }

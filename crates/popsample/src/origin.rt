@@ -10,6 +10,7 @@ use crate::growing_stacks::GrowingStacks;
 use crate::refusal::{Refusal, unsound};
 use pop_print::Facts;
 use pop_stacks::{StackSpec, Stacks, Weights};
+use std::alloc::{AllocError, Global};
 use std::marker::Model;
 
 /// Where the entries of stacks come from: given rows, or a key, a first height and a last one, from
@@ -44,6 +45,16 @@ fn growth(spec: &StackSpec, first: u32, last: u32) -> Option<u32>
     match spec {
         StackSpec::Key(_) => { if first < last { Some(last) } else { None } }
         StackSpec::Given(_) => None,
+    }
+}
+
+/// Equal rows, or the same key.
+pub fn copy_spec(alloc: Global, spec: &StackSpec) -> Result<StackSpec, AllocError>
+    ensures { IfOk result (λ copy. copy ≡ spec.now) }
+{
+    match spec {
+        StackSpec::Key(key) => Ok(StackSpec::Key(*key)),
+        StackSpec::Given(rows) => Ok(StackSpec::Given(rows.copy(alloc)?)),
     }
 }
 

@@ -1,7 +1,7 @@
 //! Refusals: why there is no run, and how it is told.
 ghost use Rattle.std.specs.Prelude.{◌≡◌, ◌⊎◌, IfOk, IfErr};
 ghost use Rattle.popsample.specs.Refusals.{refusal_line};
-ghost use Rattle.popsample.specs.Results.{unread, unworded, unoriented, named_fault, IsToldAs};
+ghost use Rattle.popsample.specs.Results.{unread, unworded, unoriented, uncertified, log_refusal, named_fault, IsEarlyRecord, IsToldAs};
 ghost use Rattle.popsample.specs.Stacks.{HasName};
 ghost use Rattle.popsample.specs.declared.refusal.Refusal.TheVariants.{Stopped};
 ghost use Rattle.popsample.specs.declared.stop.Stop.TheVariants.{OutOfMemory};
@@ -9,14 +9,16 @@ ghost use Rattle.popsample.specs.declared.stop.Stop.TheVariants.{OutOfMemory};
 use crate::answer::Answer;
 use crate::stop::Stop;
 use pop_edge::ReadRefusal;
+use pop_log::LogRefusal;
 use pop_print::Facts;
 use pop_stacks::StackFault;
 use pop_words::WordFault;
+use run_cert::CertRefusal;
 use sink_popping::SinkFault;
 use std::alloc::{AllocError, Global};
 
-/// Why there is no run. Places, lines, clauses, vertices and the names of variables count from 1,
-/// and entries from 0.
+/// Why there is no run. Places, lines, clauses, vertices, records and the names of variables count
+/// from 1, and entries from 0.
 #[derive(Clone, Copy, Debug, PartialEq, Eq)]
 pub enum Refusal {
     /// The words are no command line: the place of the first bad word.
@@ -47,6 +49,8 @@ pub enum Refusal {
     WeightSum(u32),
     /// The numbers of the least two events that clash.
     Clashes(u32, u32),
+    /// The first record of a certificate's log that isn't legal.
+    NotLegal(u64),
     /// Reading failed, or memory ran out, and there is no answer.
     Stopped(Stop),
 }
@@ -56,6 +60,14 @@ impl From<AllocError> for Refusal {
 
     fn from(_: AllocError) -> Self {
         Refusal::Stopped(Stop::OutOfMemory)
+    }
+}
+
+impl From<Stop> for Refusal {
+    ghost from_gives = { λ stop refusal. refusal ≡ Stopped stop };
+
+    fn from(stop: Stop) -> Self {
+        Refusal::Stopped(stop)
     }
 }
 
@@ -93,6 +105,31 @@ impl From<SinkFault> for Refusal {
             SinkFault::Isolated(vertex) => Refusal::Isolated(vertex),
             SinkFault::OutOfMemory => Refusal::Stopped(Stop::OutOfMemory),
         }
+    }
+}
+
+impl From<CertRefusal> for Refusal {
+    ghost from_gives = { λ cause refusal. refusal ≡ uncertified cause };
+
+    fn from(cause: CertRefusal) -> Self {
+        match cause {
+            CertRefusal::Malformed(line, code) => Refusal::Malformed(line, code),
+            CertRefusal::OutOfMemory => Refusal::Stopped(Stop::OutOfMemory),
+        }
+    }
+}
+
+/// The refusal of a certificate's log text, whose lines and records count from 1 there.
+pub fn unlogged(refusal: LogRefusal) -> Refusal
+    requires { IsEarlyRecord refusal }
+    ensures { result ≡ log_refusal refusal }
+{
+    match refusal {
+        LogRefusal::Limit => Refusal::Limit(7, 1),
+        LogRefusal::Malformed(line) => Refusal::Malformed(line, 31),
+        LogRefusal::NotLegal(place) => Refusal::NotLegal(place + 1),
+        LogRefusal::Unlayered(place) => Refusal::Malformed(place + 2, 32),
+        LogRefusal::OutOfMemory => Refusal::Stopped(Stop::OutOfMemory),
     }
 }
 
@@ -162,6 +199,7 @@ impl Refusal {
             Refusal::Clashes(number, other) => {
                 told_in_line(alloc, 5, "CLASH", &[number as u64, other as u64])
             }
+            Refusal::NotLegal(place) => told_in_line(alloc, 11, "NOTLEGAL", &[place]),
             Refusal::Stopped(stop) => return Err(stop),
         };
         Ok(answer?)

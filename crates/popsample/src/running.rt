@@ -1,8 +1,8 @@
 //! A run of an instance, and how it is told.
-ghost use Rattle.std.specs.Prelude.{◌≡◌, true, false, ◌&&◌, Some, None, map, length, IfOk, if◌then◌else◌};
+ghost use Rattle.std.specs.Prelude.{◌≡◌, List, true, false, ◌&&◌, Some, None, map, length, IfOk, if◌then◌else◌};
 ghost use Rattle.pop_model.specs.Stacks.{variables_of};
 ghost use Rattle.pop_model.specs.Extremal.{IsExtremal};
-ghost use Rattle.pop_model.specs.Logs.{IsLegal, replay};
+ghost use Rattle.pop_model.specs.Logs.{LogRecord, IsLegal, replay};
 ghost use Rattle.pop_model.specs.Runs.{start_of};
 ghost use Rattle.confluence_core.specs.Runs.{IsRunOf};
 ghost use Rattle.pop_print.specs.Ends.{AreFactsOf};
@@ -10,8 +10,8 @@ ghost use Rattle.popsample.specs.Outcomes.{AnswersBy, end_status};
 ghost use Rattle.pop_watch.specs.Telling.{log_told};
 ghost use Rattle.popsample.specs.Reports.{reports_text};
 ghost use Rattle.popsample.specs.Witnesses.{TellsWitness};
-ghost use Rattle.popsample.specs.Sampling.{IsEndOf};
-ghost use Rattle.popsample.specs.Resamplings.{IsHistoryOf};
+ghost use Rattle.popsample.specs.Sampling.{EndsWithin, IsEndOf};
+ghost use Rattle.popsample.specs.Resamplings.{IsHistoryOf, IsHistoryWith};
 ghost use Rattle.popsample.specs.Tellings.{TellsRecords, TellsLog, TellsRun, asks_for_log, layered_text, records_of};
 
 use crate::answer::Answer;
@@ -193,9 +193,12 @@ fn tell_run<R, G>(
 ) -> Result<LogText, AllocError>
     requires { IsRunOf instance.now (start_of instance.now) (asks_for_log asked)
         (record { end = end.now; log = log }) }
-    ensures { IfOk result (λ t. TellsRun asked
+    ensures run { IfOk result (λ t. TellsRun asked
         (map (λ b. (kind b, state b)) call.old.watchers.items) names.now instance.now
         end.now.cursors end.now.pops end.now.stuck t.missing t.bytes.items) }
+    ensures kept { (kept : List LogRecord) → log ≡ Some kept → IfOk result (λ t. TellsLog asked
+        (map (λ b. (kind b, state b)) call.old.watchers.items) names.now instance.now kept
+        t.missing t.bytes.items) }
 {
     // Read for its contract, which says what holds of every instance.
     let _units = instance.units();
@@ -205,8 +208,8 @@ fn tell_run<R, G>(
     }
 }
 
-// Tells the end of a run of the instance, and behind it what is asked for.
-fn tell_end<R, G>(
+/// Tells the end of a run of the instance, and behind it what is asked for.
+pub fn tell_end<R, G>(
     call: &mut Call<R, G>,
     facts: &Facts,
     instance: &Instance,
@@ -215,11 +218,16 @@ fn tell_end<R, G>(
 ) -> Result<Answer, AllocError>
     requires facts { AreFactsOf facts.now instance.now }
     requires run { IsRunOf instance.now (start_of instance.now) (asks_for_log asked) run }
+    requires within { EndsWithin asked.pops run.end.pops }
     ensures ended { asked.free ≡ false → asked.count ≡ None → IsExtremal instance.now.family
         → IfOk result (λ a. AnswersBy (IsEndOf asked
         (map (λ b. (kind b, state b)) call.old.watchers.items) facts.now instance.now)
         a.status a.text.items) }
     ensures history { asked.free ≡ true → IfOk result (λ a. AnswersBy (IsHistoryOf asked
+        (map (λ b. (kind b, state b)) call.old.watchers.items) facts.now instance.now)
+        a.status a.text.items) }
+    ensures kept { asked.free ≡ true → (log : List LogRecord) → run.log ≡ Some log
+        → IfOk result (λ a. AnswersBy (IsHistoryWith log asked
         (map (λ b. (kind b, state b)) call.old.watchers.items) facts.now instance.now)
         a.status a.text.items) }
 {
@@ -246,6 +254,7 @@ pub fn run_and_tell<R: Threads + Wait + Sync, G: Gate + Sync>(
     asked: Asked,
 ) -> Result<Answer, AllocError>
     requires facts { AreFactsOf facts.now growing }
+    requires run_out { asked.pops ≡ None }
     ensures ended { asked.free ≡ false → asked.count ≡ None → IsExtremal growing.family
         → IfOk result (λ a. AnswersBy (IsEndOf asked
         (map (λ b. (kind b, state b)) call.old.watchers.items) facts.now growing)

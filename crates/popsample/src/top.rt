@@ -6,6 +6,7 @@ ghost use Rattle.pop_edge.specs.Devices.{AppendsFront};
 ghost use Rattle.pop_edge.specs.declared.refusal.ReadRefusal.TheVariants.{ReadFault, OutOfMemory};
 ghost use Rattle.pop_words.specs.CommandLines.{AreWords};
 ghost use Rattle.popsample.specs.Refusals.{reading_line};
+ghost use Rattle.popsample.specs.Outcomes.{HasRun};
 ghost use Rattle.popsample.specs.Answers.{AskForGrid, IsInput};
 ghost use Rattle.popsample.specs.TopCall.{IsBreak, Answered, AnsweredUsage, HasReadFault, IsCutShort, IsUsageCutShort};
 
@@ -40,8 +41,9 @@ fn deliver<K: Sink>(sink: &mut K, text: &[u8], status: u8) -> u8
 /// number of clauses or rows that don't fit, 4 where a limit is passed, 5 where two events clash, 6
 /// for an empty clause, an isolated vertex, a root that is none, a vertex that is cut off from it
 /// or, of a resampling, a witness of a pop that isn't there, 7 where reading failed, 8 where
-/// writing failed and 9 where memory ran out. The whole text is made before its first byte is
-/// written.
+/// writing failed, 9 where memory ran out, 10 where the run stopped, or is replayed, and an event
+/// is poppable still, and 11 where a record of a certificate's log isn't legal. The whole text is
+/// made before its first byte is written.
 ///
 /// Each watcher is told each record of the layered log, in order and once, by `resample`, and by
 /// `formula`, `orient`, `tree` and `make` where `--report` stands. The report of a kind that is
@@ -55,6 +57,20 @@ fn deliver<K: Sink>(sink: &mut K, text: &[u8], status: u8) -> u8
 ///
 /// With `--grow` a run is made in stages: its stacks begin with a lesser height and grow up to the
 /// one that is asked for. The answer is that of stacks which have this height from the start.
+///
+/// With `--pops` a run is made on one thread, and stops after so many pops. Where an event is
+/// poppable then, the text is a certificate (`run_cert`): it holds the command, its stacks, the
+/// input as it was read, and the layered log of these pops. Else the answer is that of the run to
+/// its end. The source is read whole before its bytes are judged, up to the first byte past the
+/// limit on a text.
+///
+/// `replay` and `resume` read a certificate whole, of up to 2^29 bytes, before a byte of it is
+/// judged: its head, then its input and its stacks as the line of its command judges them, then its
+/// log. Lines of the input count from its first, and so do those of the log. `replay` tells how
+/// many records a legal log has, where they lead to, and how the run stands there: at a sample,
+/// exhausted or open, with status 0, 1 or 10. `resume` goes on from there to an end, with the crew
+/// that is asked for, and tells what the line of the certificate's command tells of the pops of
+/// both parts.
 pub fn run<S: Source, K: Sink, R: Threads + Wait + Sync, G: Gate + Sync>(
     rt: &R,
     alloc: Global,
@@ -69,13 +85,16 @@ pub fn run<S: Source, K: Sink, R: Threads + Wait + Sync, G: Gate + Sync>(
     // the first poppable event, for any number of workers on either board, and what is asked for
     // of the layered log of that run; of a resampling, that of a layered log that is legal and
     // leads to an end; of rounds, the one result of the run by rounds. Where a number of samples is
-    // asked for, it has the end of each, on the stacks of that sample. A grid is made whatever the
-    // source is.
+    // asked for, it has the end of each, on the stacks of that sample. Of a run that may stop after
+    // so many pops it is such an end, to which there are no more pops; or the certificate of a
+    // legal log of so many, behind which an event is poppable. Of a certificate that is replayed it
+    // tells the replay of its log; of one that is resumed it is that of the line of its command, by
+    // a run whose log begins with the certificate's. A grid is made whatever the source is.
     ensures answer { (text : List ℕ)
         → IsInput (map string_bytes words.now) (S.left source.old) text → (IsBreak result → ⊥)
         → Answered (map string_bytes words.now) (map (λ b. (kind b, state b)) watchers.items) text
         (K.holds sink.old) (K.holds sink.new) result }
-    ensures statuses { result ≤ 9 }
+    ensures statuses { result ≤ 11 }
 
     // Words outside the grammar are told of whatever the source is, and nothing else is then.
     ensures usage { result ≡ 2
@@ -104,8 +123,9 @@ pub fn run<S: Source, K: Sink, R: Threads + Wait + Sync, G: Gate + Sync>(
     ensures memory { result ≡ 9
         → Appends (K.holds sink.old) (K.holds sink.new) (reading_line OutOfMemory) }
 
-    // With a sample, a verdict or an exhausted end a source that is read was read to its end.
-    ensures whole { result ≤ 1
+    // With a sample, a verdict, an exhausted end or a certificate a source that is read was read to
+    // its end.
+    ensures whole { HasRun result
         → (AskForGrid (map string_bytes words.now) → ⊥) → IsAtEnd (S.left source.new) }
 {
     match answer_to(rt, alloc, words, watchers, gate, source) {

@@ -1,90 +1,69 @@
-use Rattle.std.proofs.Common.{inl, inr}
-use Rattle.popsample.proofs.Carrying.{unfailing}
-use Rattle.popsample.proofs.Lifting.{lifted_formula, lifted_resample, lifted_check, lifted_orient, lifted_tree, lifted_rounds}
+use Rattle.std.proofs.Common.{inl, inr, ◌≡◌, ◌≤◌, ℕ, List, length, sym, subst, ◌∙◌}
+use Rattle.pop_words.specs.declared.command.Command.{Command}
+use Rattle.pop_words.specs.declared.command.Command.TheVariants.{Make, Replay, Resume}
+use Rattle.popsample.specs.Answers.{HasNoBadLine, IsOfLine}
+use Rattle.popsample.proofs.ByCommand.{line_result, reads_no_cert}
+use Rattle.popsample.proofs.Carrying.{if_ok}
+use Rattle.popsample.proofs.PausedExactly.{cert_behind}
 use Rattle.popsample.proofs.answer.answer_job.Goals as goal
 
--- What comes of the formula or the graph comes of the text that spells it. Once it is read, no source can fail.
-pub returns-in_ok-formula_of-in-Formula-clause-answer : goal.returns-in_ok-formula_of-in-Formula-clause-answer
-returns-in_ok-formula_of-in-Formula-clause-answer g c text input read = elim input [
-  | inl known ↦
-      lifted_formula c.args.job _ text c.in_ok-formula_of-in-Formula.field-0 _ c.of-asked.result c.sample_formula-in-Formula.result c.in-Formula.is
-      (let seen = c.origin.view_is in let made = c.new-origin.ensures in cc) c.of-asked.ensures
-      (c.in_ok-formula_of-in-Formula.ensures.text text known) c.sample_formula-in-Formula.ensures
-  | inr make ↦ let is = c.in-Formula.is in absurd (cc)
+-- the command of a certificate makes no grid
+not_replay : (k : Command) → k ≡ Replay → k ≡ Make → ⊥
+not_replay k replay make = subst IsOfLine (sym make ∙ replay) tt
+
+not_resume : (k : Command) → k ≡ Resume → k ≡ Make → ⊥
+not_resume k resume make = subst IsOfLine (sym make ∙ resume) tt
+
+-- a certificate is replayed
+pub returns-in-Replay-clause-answer : goal.returns-in-Replay-clause-answer
+returns-in-Replay-clause-answer g c text input read = elim input [
+  | inl known ↦ rw c.in-Replay.is (c.replay.ensures.answer text known read)
+  | inr make ↦ absurd (not_replay c.args.job.command c.in-Replay.is make)
 ]
 
-pub returns-in_ok-formula_of-in-Formula-clause-read_fault : goal.returns-in_ok-formula_of-in-Formula-clause-read_fault
-returns-in_ok-formula_of-in-Formula-clause-read_fault g c failed =
-    absurd (unfailing _ c.sample_formula-in-Formula.result c.sample_formula-in-Formula.ensures failed)
+pub returns-in-Replay-clause-unread : goal.returns-in-Replay-clause-unread
+returns-in-Replay-clause-unread g c make = absurd (not_replay c.args.job.command c.in-Replay.is make)
 
-pub returns-in_ok-formula_of-in-Formula-clause-no_bad_line : goal.returns-in_ok-formula_of-in-Formula-clause-no_bad_line
-returns-in_ok-formula_of-in-Formula-clause-no_bad_line g c failed =
-    absurd (unfailing _ c.sample_formula-in-Formula.result c.sample_formula-in-Formula.ensures failed)
+pub returns-in-Replay-clause-whole : goal.returns-in-Replay-clause-whole
+returns-in-Replay-clause-whole g c =
+    if_ok _ _ c.replay.result (λ a whole has other. whole) c.replay.ensures.whole
 
-pub returns-in_ok-formula_of-in-Resample-clause-answer : goal.returns-in_ok-formula_of-in-Resample-clause-answer
-returns-in_ok-formula_of-in-Resample-clause-answer g c text input read = elim input [
-  | inl known ↦
-      lifted_resample c.args.job _ text c.in_ok-formula_of-in-Resample.field-0 _ _ c.sample_formula-in-Resample-2.result
-      c.in-Resample.is (let seen = c.origin-in-Resample.view_is in let made = c.new-origin.ensures in cc)
-      c.of-asked.ensures (c.in_ok-formula_of-in-Resample.ensures.text text known) c.sample_formula-in-Resample-2.ensures
-  | inr make ↦ let is = c.in-Resample.is in absurd (cc)
+pub returns-in-Replay-clause-no_bad_line : goal.returns-in-Replay-clause-no_bad_line
+returns-in-Replay-clause-no_bad_line g c failed =
+    let short = c.replay.ensures.short failed in
+    let certified : IsOfLine c.args.job.command → ⊥ = λ line. subst IsOfLine c.in-Replay.is line in (
+      short.0,
+      short.1,
+      cert_behind c.args.job short.0 c.requires.stops certified
+          (subst (λ k. HasNoBadLine k short.0) (sym c.in-Replay.is) short.2),
+    )
+
+-- or resumed
+pub returns-in-Resume-clause-answer : goal.returns-in-Resume-clause-answer
+returns-in-Resume-clause-answer g c text input read = elim input [
+  | inl known ↦ rw c.in-Resume.is (c.resume.ensures.answer text known read)
+  | inr make ↦ absurd (not_resume c.args.job.command c.in-Resume.is make)
 ]
 
-pub returns-in_ok-formula_of-in-Check-clause-answer : goal.returns-in_ok-formula_of-in-Check-clause-answer
-returns-in_ok-formula_of-in-Check-clause-answer g c text input read = elim input [
-  | inl known ↦
-      lifted_check c.args.job _ text c.in_ok-formula_of-in-Check.field-0 c.check_formula-in-Check.result c.in-Check.is
-      (c.in_ok-formula_of-in-Check.ensures.text text known) c.check_formula-in-Check.ensures
-  | inr make ↦ let is = c.in-Check.is in absurd (cc)
-]
+pub returns-in-Resume-clause-unread : goal.returns-in-Resume-clause-unread
+returns-in-Resume-clause-unread g c make = absurd (not_resume c.args.job.command c.in-Resume.is make)
 
-pub returns-in_ok-graph_of-in-Orient-clause-answer : goal.returns-in_ok-graph_of-in-Orient-clause-answer
-returns-in_ok-graph_of-in-Orient-clause-answer g c text input read = elim input [
-  | inl known ↦
-      lifted_orient c.args.job _ text c.in_ok-graph_of-in-Orient.field-0 _ _ c.orient.result c.in-Orient.is
-      (let seen = c.origin-in-Orient.view_is in let made = c.new-origin.ensures in cc) c.of-asked.ensures
-      (c.in_ok-graph_of-in-Orient.ensures.text text known) c.orient.ensures
-  | inr make ↦ let is = c.in-Orient.is in absurd (cc)
-]
+pub returns-in-Resume-clause-whole : goal.returns-in-Resume-clause-whole
+returns-in-Resume-clause-whole g c =
+    if_ok _ _ c.resume.result (λ a whole has other. whole) c.resume.ensures.whole
 
-pub returns-in_ok-graph_of-in-Orient-clause-read_fault : goal.returns-in_ok-graph_of-in-Orient-clause-read_fault
-returns-in_ok-graph_of-in-Orient-clause-read_fault g c failed =
-    absurd (unfailing _ c.orient.result c.orient.ensures failed)
+pub returns-in-Resume-clause-no_bad_line : goal.returns-in-Resume-clause-no_bad_line
+returns-in-Resume-clause-no_bad_line g c failed =
+    let short = c.resume.ensures.short failed in
+    let certified : IsOfLine c.args.job.command → ⊥ = λ line. subst IsOfLine c.in-Resume.is line in (
+      short.0,
+      short.1,
+      cert_behind c.args.job short.0 c.requires.stops certified
+          (subst (λ k. HasNoBadLine k short.0) (sym c.in-Resume.is) short.2),
+    )
 
-pub returns-in_ok-graph_of-in-Orient-clause-no_bad_line : goal.returns-in_ok-graph_of-in-Orient-clause-no_bad_line
-returns-in_ok-graph_of-in-Orient-clause-no_bad_line g c failed =
-    absurd (unfailing _ c.orient.result c.orient.ensures failed)
-
-pub returns-in_ok-graph_of-in-Tree-clause-answer : goal.returns-in_ok-graph_of-in-Tree-clause-answer
-returns-in_ok-graph_of-in-Tree-clause-answer g c text input read = elim input [
-  | inl known ↦
-      lifted_tree c.args.job _ text c.in_ok-graph_of-in-Tree.field-0 _ _ c.tree.result c.in-Tree.is
-      (let seen = c.origin-in-Tree.view_is in let made = c.new-origin.ensures in cc) c.of-asked.ensures
-      (c.in_ok-graph_of-in-Tree.ensures.text text known) c.tree.ensures
-  | inr make ↦ let is = c.in-Tree.is in absurd (cc)
-]
-
-pub returns-in_ok-graph_of-in-Tree-clause-read_fault : goal.returns-in_ok-graph_of-in-Tree-clause-read_fault
-returns-in_ok-graph_of-in-Tree-clause-read_fault g c failed =
-    absurd (unfailing _ c.tree.result c.tree.ensures failed)
-
-pub returns-in_ok-graph_of-in-Tree-clause-no_bad_line : goal.returns-in_ok-graph_of-in-Tree-clause-no_bad_line
-returns-in_ok-graph_of-in-Tree-clause-no_bad_line g c failed =
-    absurd (unfailing _ c.tree.result c.tree.ensures failed)
-
-pub returns-in-Make-clause-read_fault : goal.returns-in-Make-clause-read_fault
-returns-in-Make-clause-read_fault g c failed =
-    absurd (unfailing _ c.tree_of_grid.result c.tree_of_grid.ensures failed)
-
-pub returns-in-Make-clause-no_bad_line : goal.returns-in-Make-clause-no_bad_line
-returns-in-Make-clause-no_bad_line g c failed =
-    absurd (unfailing _ c.tree_of_grid.result c.tree_of_grid.ensures failed)
-
-pub returns-in_ok-formula_of-in-Rounds-clause-answer : goal.returns-in_ok-formula_of-in-Rounds-clause-answer
-returns-in_ok-formula_of-in-Rounds-clause-answer g c text input read = elim input [
-  | inl known ↦
-      lifted_rounds c.args.job _ text c.in_ok-formula_of-in-Rounds.field-0 _ c.sample_rounds-in-Rounds.result
-      c.in-Rounds.is (let seen = c.origin-in-Rounds.view_is in let made = c.new-origin.ensures in cc)
-      (c.in_ok-formula_of-in-Rounds.ensures.text text known) c.sample_rounds-in-Rounds.ensures
-  | inr make ↦ let is = c.in-Rounds.is in absurd (cc)
-]
+-- any other text is answered by the line of its command
+pub returns-in_default-clause-answer : goal.returns-in_default-clause-answer
+returns-in_default-clause-answer g c text input read =
+    let line = reads_no_cert c.args.job.command c.in_default.not-Replay c.in_default.not-Resume in
+    line_result c.args.job.command c.args.job _ text c.answer_line.result line (c.answer_line.ensures.answer text input read)

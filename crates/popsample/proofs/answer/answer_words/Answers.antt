@@ -1,7 +1,8 @@
 use Rattle.std.proofs.Common.{inl, inr, map, string_bytes}
-use Rattle.popsample.specs.Answers.{ComesOf, IsOutcome}
+use Rattle.popsample.specs.Answers.{ComesBy, IsOutcome}
 use Rattle.pop_words.proofs.JobsInRange.{asked_height, asked_grow, asked_root, asked_size, asked_workers}
 use Rattle.popsample.proofs.BatchWords.{counted_keyed}
+use Rattle.popsample.proofs.PauseWords.{stopped_may}
 use Rattle.popsample.proofs.Carrying.{carried, if_ok, passed_on}
 use Rattle.popsample.proofs.Lifting.{of_words, input_of_job, grid_job}
 use Rattle.popsample.proofs.WordResults.{words_refused, words_bad, words_only, words_no_fault, job_low, job_no_usage, job_past_words}
@@ -31,7 +32,8 @@ returns-in_err-job-clause-read_fault g c failed =
 -- the words ask for the job, so that what comes of it comes of them
 pub returns-clause-answer : goal.returns-clause-answer
 returns-clause-answer g c text input read =
-    carried (ComesOf c.in_ok-job.job _ text) (IsOutcome (map string_bytes c.args.words.now) _ text) c.answer_job.result
+    carried (ComesBy c.in_ok-job.job.command c.in_ok-job.job _ text) (IsOutcome (map string_bytes c.args.words.now) _ text)
+    c.answer_job.result
     (of_words (map string_bytes c.args.words.now) c.in_ok-job.job _ text c.in_ok-job.ensures.job)
     (c.answer_job.ensures.answer text
     (input_of_job (map string_bytes c.args.words.now) c.in_ok-job.job _ text c.in_ok-job.ensures.job input) read)
@@ -87,6 +89,11 @@ answer_job-requires-clause-grow g c κs lives =
 pub answer_job-requires-clause-root : goal.answer_job-requires-clause-root
 answer_job-requires-clause-root g c κs lives =
     (asked_root (map string_bytes c.args.words.now) c.in_ok-job.job c.in_ok-job.ensures.job).0
+
+-- a run that may stop is one of a command that has such runs
+pub answer_job-requires-clause-stops : goal.answer_job-requires-clause-stops
+answer_job-requires-clause-stops g c κs lives pops is =
+    stopped_may (map string_bytes c.args.words.now) c.in_ok-job.job c.in_ok-job.ensures.job pops is
 
 pub answer_job-requires-clause-side : goal.answer_job-requires-clause-side
 answer_job-requires-clause-side g c κs lives make =

@@ -1,6 +1,6 @@
 use Rattle.std.proofs.Common.{sym, ap, ◌∙◌}
 use Rattle.popsample.specs.Outcomes.{status_of, text_of}
-use Rattle.popsample.proofs.OneOutcome.{one_outcome, only_outcome}
+use Rattle.popsample.proofs.OneWords.{one_outcome, only_outcome}
 use Rattle.popsample.proofs.laws.one_answer.Goals as goal
 
 -- both answers tell the one outcome

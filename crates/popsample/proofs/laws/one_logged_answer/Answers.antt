@@ -1,6 +1,6 @@
 use Rattle.std.proofs.Common.{refl, sym, ap, ◌∙◌}
 use Rattle.popsample.specs.Outcomes.{status_of, text_of}
-use Rattle.popsample.proofs.OneOutcome.{one_outcome}
+use Rattle.popsample.proofs.OneWords.{one_outcome}
 use Rattle.popsample.proofs.OneLog.{one_logged}
 use Rattle.popsample.proofs.laws.one_logged_answer.Goals as goal
 

@@ -1,4 +1,4 @@
-use Rattle.popsample.proofs.OneOutcome.{one_outcome}
+use Rattle.popsample.proofs.OneWords.{one_outcome}
 use Rattle.popsample.proofs.laws.one_outcome.Goals as goal
 
 pub returns : goal.returns

@@ -1,6 +1,6 @@
 use Rattle.std.proofs.Common.{inl, inr, Err, map, string_bytes, ap, subst}
 use Rattle.pop_edge.specs.Devices.{AppendsFront}
-use Rattle.popsample.proofs.HeldAnswers.{held_answer}
+use Rattle.popsample.proofs.HeldAnswers.{held_answer, not_unwritten, delivered_status, delivered_run}
 use Rattle.popsample.proofs.top.run.Goals as goal
 
 -- the sink took the answer's text
@@ -38,3 +38,15 @@ returns-in-Ok-clause-cut_usage g c outside failed =
 pub returns-in-Err-ReadFault-clause-read_fault : goal.returns-in-Err-ReadFault-clause-read_fault
 returns-in-Err-ReadFault-clause-read_fault g c told =
     c.in-Err-ReadFault.ensures.read_fault (ap (λ stop. Err stop) c.in-Err-ReadFault.field-0-is)
+
+-- the statuses
+pub deliver-requires : goal.deliver-requires
+deliver-requires g c = not_unwritten c.in-Ok.answer.status c.in-Ok.ensures.status
+
+pub returns-in-Ok-clause-statuses : goal.returns-in-Ok-clause-statuses
+returns-in-Ok-clause-statuses g c =
+    delivered_status c.in-Ok.answer.status c.deliver.result c.in-Ok.ensures.status c.deliver.ensures.status
+
+pub returns-in-Ok-clause-whole : goal.returns-in-Ok-clause-whole
+returns-in-Ok-clause-whole g c has =
+    c.in-Ok.ensures.whole (delivered_run c.in-Ok.answer.status c.deliver.result c.deliver.ensures.status has)

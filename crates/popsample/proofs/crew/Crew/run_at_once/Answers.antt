@@ -6,5 +6,5 @@ use Rattle.popsample.proofs.crew.Crew.run_at_once.Goals as goal
 -- the run begins at zeros
 pub returns : goal.returns
 returns g c =
-    subst (λ start. IfOk c.sample_locked.result (IsRunOf c.args.instance.now start (keeps_log c.args.keep)))
-    c.in_ok-zeros.ensures.zeros c.sample_locked.ensures
+    subst (λ start. IfOk c.run_from.result (IsRunOf c.args.instance.now start (keeps_log c.args.keep)))
+    c.in_ok-zeros.ensures.zeros c.run_from.ensures

@@ -1,6 +1,6 @@
 use Rattle.std.proofs.Common.{subst}
 use Rattle.graph_read.specs.Paths.{IsConnected, IsFirstCutOff}
-use Rattle.popsample.proofs.tree.arrows_and_weights.Goals as goal
+use Rattle.popsample.proofs.making.arrows_and_weights.Goals as goal
 
 pub returns-clause-connected : goal.returns-clause-connected
 returns-clause-connected c =

@@ -1,0 +1,18 @@
+-- A source that is read whole, or up to the first byte past a limit.
+use Rattle.std.specs.Prelude.{◌≡◌, ℕ, ◌+◌, ◌≤◌, List, ◌++◌, length, Option}
+use Rattle.std.specs.Io.KnownBytes.{Consumes, IsAtEnd}
+
+-- so many bytes were taken of the source and added; with none it is at its end
+pub record TakesPiece (left left' : Option (List ℕ)) (before now : List ℕ) (count : ℕ)
+    : Type 0 where
+  pub piece : List ℕ
+  pub consumed : Consumes left left' piece
+  pub added : now ≡ before ++ piece
+  pub size : length piece ≡ count
+  pub at_end : count ≡ 0 → IsAtEnd left'
+
+-- these bytes were taken of the source: all that there were, or one more than the limit
+pub record IsReadTo (limit : ℕ) (left left' : Option (List ℕ)) (bytes : List ℕ) : Type 0 where
+  pub consumed : Consumes left left' bytes
+  pub most : length bytes ≤ limit + 1
+  pub whole : length bytes ≤ limit → IsAtEnd left'
