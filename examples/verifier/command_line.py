@@ -9,24 +9,29 @@ from .refusals import Refusal
 
 MOST = 4294967295
 STACKED = {"--stacks", "--key", "--height"}
-SAMPLED = STACKED | {"--grow", "--workers", "--board"}
+CREW = {"--workers", "--board"}
+SAMPLED = STACKED | CREW | {"--grow"}
 TOLD = {"--witness", "--report"}
 LOGGED = SAMPLED | TOLD | {"--log"}
 BATCHED = LOGGED | {"--count"}
+STOPPED = {"--pops"}
 OPTIONS = {
-    "formula": BATCHED,
-    "orient": BATCHED,
-    "tree": BATCHED | {"--root"},
-    "resample": SAMPLED | TOLD,
+    "formula": BATCHED | STOPPED,
+    "orient": BATCHED | STOPPED,
+    "tree": BATCHED | STOPPED | {"--root"},
+    "resample": SAMPLED | TOLD | STOPPED,
     "check": set(),
     "make": LOGGED | {"grid"},
     "rounds": STACKED,
+    "replay": set(),
+    "resume": CREW,
 }
 # Each pair of options that don't stand together: none of the second ones beside the first.
 APART = {
     frozenset((name, other)) for name, others in (
         ("--stacks", {"--key", "--height", "--grow"}),
-        ("--count", LOGGED - {"--key", "--height"}))
+        ("--count", LOGGED - {"--key", "--height"}),
+        ("--pops", BATCHED - STACKED))
     for other in others}
 
 
@@ -43,6 +48,7 @@ class Job(NamedTuple):
     side: int
     log: bool
     count: Optional[int]
+    pops: Optional[int]
 
 
 def read_number(word: str, least: int = 0, most: int = MOST) -> int:
@@ -103,6 +109,7 @@ READERS = {
     "--witness": read_witness,
     "--report": read_reports,
     "--count": lambda word: read_number(word, 1, 65536),
+    "--pops": lambda word: read_number(word, 1),
     "grid": lambda word: read_number(word, 1, 2048),
 }
 
@@ -141,4 +148,4 @@ def read_words(words: list[str]) -> Job:
     return Job(
         words[0], given.get("--stacks"), given.get("--key", bytes(32)), height,
         given.get("--root", 1), given.get("--witness"), given.get("--report", []), given.get("grid", 0),
-        words[0] == "resample" or given.get("--log") == "on", given.get("--count"))
+        words[0] == "resample" or given.get("--log") == "on", given.get("--count"), given.get("--pops"))

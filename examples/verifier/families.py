@@ -33,6 +33,15 @@ class Listed:
                 if all(values[place] == value for place, value in event.cube):
                     yield event
 
+    def may_name(self, number: int, variables: list[int]) -> bool:
+        """Whether there is an event of this number that looks at just these variables."""
+        return number in self.named and [variable for variable, _ in self.named[number].cube] == variables
+
+    def named_event(self, number: int, variables: list[int], values: list[int]) -> Optional[Event]:
+        """The event of this number, where it occurs."""
+        cube = self.named[number].cube
+        return self.named[number] if all(values[place] == value for place, value in cube) else None
+
     def least_clash(self) -> Optional[tuple[int, int]]:
         """The numbers of the least two events that share variables and agree at each of them."""
         for first in self.events:
@@ -69,3 +78,13 @@ class Cycles:
                 cycle = sorted(path[path.index(place):])
                 cube = tuple((each, values[each]) for each in cycle)
                 yield Event(cycle[0], cube, self.names[cycle[0]])
+
+    def may_name(self, number: int, variables: list[int]) -> bool:
+        """Whether these variables rise, and the number is that of a cycle with them."""
+        rising = all(first < second for first, second in zip(variables, variables[1:]))
+        return rising and variables != [] and number == self.names[variables[0]]
+
+    def named_event(self, number: int, variables: list[int], values: list[int]) -> Optional[Event]:
+        """The cycle with these variables, where it occurs."""
+        found = self.near(variables[:1], values)
+        return next((event for event in found if [variable for variable, _ in event.cube] == variables), None)

@@ -7,8 +7,8 @@ from .refusals import Difference
 
 
 def printed_lines(printed: bytes) -> list[str]:
-    """The lines of a printed text, each of which a line feed ends."""
-    lines = printed.decode("ascii", "replace").split("\n")
+    """The lines of a printed text, each of which a line feed ends. Of each byte comes a character."""
+    lines = printed.decode("latin-1").split("\n")
     if lines.pop():
         raise Difference(len(lines) + 1, "no line feed ends the line")
     return lines

@@ -2,6 +2,7 @@
 
 from __future__ import annotations
 
+import re
 from random import Random
 
 ODD_WORDS = (
@@ -12,7 +13,7 @@ ODD_VALUES = (
     "totals,totals words lock").split()
 ODD_OPTIONS = (
     ["--root", "1"], ["--key", "0" * 64], ["grid", "2"], ["--workers", "1"], ["--board", "lock"],
-    ["--report", "totals"], ["--log", "on"], ["--grow", "3"], ["--count", "2"])
+    ["--report", "totals"], ["--log", "on"], ["--grow", "3"], ["--count", "2"], ["--pops", "2"])
 REPORTS = ("totals", "heights", "layers")
 
 
@@ -140,10 +141,28 @@ def batch_options(chance: Random) -> list[list[str]]:
     return [["--count", str(chance.choice((1, 2, 3, 5)))], *keyed_options(chance)]
 
 
+def stopped_options(chance: Random, variables: int) -> list[list[str]]:
+    """The options of a run that is stopped after few pops, with stacks that are mostly high enough for them."""
+    options = [["--pops", str(chance.choice((1, 1, 1, 2, 2, 3, 5)))]]
+    if chance.random() < 0.2:
+        return [*options, ["--stacks", rows_word(chance, variables)]]
+    key, _ = keyed_options(chance)
+    return [*options, key, ["--height", str(chance.choice((2, 8, 40)))]]
+
+
+def random_options(chance: Random, command: str, variables: int) -> list[list[str]]:
+    """The options of a run, of a batch, or of a run that is stopped."""
+    choice = chance.random()
+    if command in ("formula", "orient", "tree") and choice < 0.2:
+        return batch_options(chance)
+    if command in ("formula", "orient", "tree", "resample") and choice < 0.5:
+        return stopped_options(chance, variables)
+    return run_options(chance, command, variables)
+
+
 def random_words(chance: Random, command: str, variables: int) -> list[str]:
     """A command line, mostly a right one. Heights are small, since the checker is slow."""
-    is_batch = command in ("formula", "orient", "tree") and chance.random() < 0.2
-    options = batch_options(chance) if is_batch else run_options(chance, command, variables)
+    options = random_options(chance, command, variables)
     if command == "tree" and chance.random() < 0.5:
         options.append(["--root", str(chance.randint(1, variables + 2))])
     chance.shuffle(options)
@@ -186,3 +205,26 @@ def random_case(chance: Random) -> tuple[list[str], bytes]:
     if not {"check", "--stacks", "--height", "--grow"} & set(words):
         words += ["--height", "7"]
     return words, text
+
+
+def changed_places(chance: Random, certificate: bytes) -> bytes:
+    """A certificate with words, a digit or the order of two lines changed, or cut off."""
+    choice, place = chance.randrange(4), chance.randrange(len(certificate))
+    if choice == 0:
+        return changed_text(chance, certificate)
+    if choice == 1:
+        digits = [each.start() for each in re.finditer(b"[0-9]", certificate)]
+        place = chance.choice(digits)
+        return certificate[:place] + b"%d" % chance.randrange(10) + certificate[place + 1:]
+    if choice == 2:
+        lines = certificate.split(b"\n")
+        place = chance.randrange(len(lines) - 1)
+        lines[place:place + 2] = lines[place:place + 2][::-1]
+        return b"\n".join(lines)
+    return certificate[:place]
+
+
+def changed_certificate(chance: Random, certificate: bytes) -> bytes:
+    """A certificate with something changed, but not to a great height, since the checker is slow."""
+    changed = changed_places(chance, certificate)
+    return certificate if re.search(rb"^height [0-9]{3}", changed, re.MULTILINE) else changed

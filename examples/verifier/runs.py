@@ -3,7 +3,7 @@
 from __future__ import annotations
 
 import heapq
-from typing import NamedTuple, Union
+from typing import NamedTuple, Optional, Union
 
 from .families import Cube, Cycles, Event, Listed
 from .stacks import Stacks
@@ -50,8 +50,12 @@ class Board:
         """The events that occur, by rising unit."""
         return sorted(set(self.family.near(range(len(self.cursors)), self.values)))
 
+    def first_poppable(self) -> Optional[Event]:
+        """The poppable event of least unit, where there is one."""
+        return next((event for event in self.occurring() if self.poppable(event.cube)), None)
+
     def run_first(self) -> list[Record]:
-        """Pops the poppable event of least unit while there is one, and tells the log.
+        """Pops the poppable event of least unit while there is one, and tells the log of these pops.
 
         An event can have become poppable only where one of its variables moved: it is looked for there alone.
         """
