@@ -3,12 +3,14 @@
 
 # The options of a command.
 _popsample_options() {
+    local run="--stacks --key --height --grow --workers --board" told="--witness --report"
     case $1 in
-        formula | orient) echo --stacks --key --height --grow --workers --board --log --witness --report --count ;;
-        tree) echo --stacks --key --height --grow --workers --board --root --log --witness --report --count ;;
-        resample) echo --stacks --key --height --grow --workers --board --witness --report ;;
-        make) echo --stacks --key --height --grow --workers --board grid --log --witness --report ;;
+        formula | orient) echo "$run --log $told --count --pops" ;;
+        tree) echo "$run --root --log $told --count --pops" ;;
+        resample) echo "$run $told --pops" ;;
+        make) echo "$run grid --log $told" ;;
         rounds) echo --stacks --key --height ;;
+        resume) echo --workers --board ;;
     esac
 }
 
@@ -17,9 +19,10 @@ _popsample_apart() {
     case $1 in
         --stacks) echo --stacks --key --height --grow --count ;;
         --key | --height) echo "$1" --stacks ;;
-        --grow) echo --grow --stacks --count ;;
-        --count) echo --count --stacks --grow --workers --board --log --witness --report ;;
-        --workers | --board | --log | --witness | --report) echo "$1" --count ;;
+        --grow) echo --grow --stacks --count --pops ;;
+        --count) echo --count --stacks --grow --workers --board --log --witness --report --pops ;;
+        --pops) echo --pops --grow --workers --board --log --witness --report --count ;;
+        --workers | --board | --log | --witness | --report) echo "$1" --count --pops ;;
         *) echo "$1" ;;
     esac
 }
@@ -30,7 +33,7 @@ _popsample() {
     local word=${COMP_WORDS[COMP_CWORD]} before=${COMP_WORDS[COMP_CWORD - 1]} standing option other choices=""
     standing=" ${COMP_WORDS[*]:2:COMP_CWORD-2} "
     if ((COMP_CWORD == 1)); then
-        choices="formula orient tree resample check make rounds"
+        choices="formula orient tree resample check make rounds replay resume"
     elif [[ $before == --report ]]; then
         choices="totals heights layers totals,heights,layers"
     elif [[ $before == --board ]]; then

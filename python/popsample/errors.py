@@ -21,6 +21,10 @@ REASONS = {
     13: "a vertex isn't from 1 to the number of vertices",
     14: "the weight is 0",
     15: "it is a later line and no edge",
+    21: "it is no line of a certificate's head",
+    22: "fewer bytes of input follow than it says",
+    31: "it is no line of a log's text",
+    32: "its record has another layer, or belongs before the last one",
 }
 
 # The limits, by kind.
@@ -31,6 +35,8 @@ LIMITS = {
     4: "33554432 literals",
     5: "8388608 edges",
     6: "4294967295 for the sum of the weights of a vertex's edges",
+    7: "268435456 bytes of a certificate's log",
+    8: "536870912 bytes of a certificate",
 }
 
 
@@ -98,6 +104,24 @@ class Exhausted(Refusal):
         self.sample = 0
 
 
+class Paused(Refusal):
+    """The run was stopped after so many pops as were asked for, where an event can still be popped.
+
+    `certificate` is its certificate, as the bytes of a text: it holds the command, the stacks, the input and the log.
+    """
+
+    status = 10
+    form = "cert 1 C"
+    sentence = (
+        "The run isn't at its end after so many pops, and its certificate follows: go on from it by resume, or allow "
+        "more pops."
+    )
+
+    def __init__(self, certificate: bytes) -> None:
+        super().__init__()
+        self.certificate = certificate
+
+
 class Usage(Refusal):
     """The words are no command line: `place` is that of the first bad one, from 1, and `word` is that word."""
 
@@ -115,18 +139,22 @@ class Usage(Refusal):
 
 
 class Malformed(Refusal):
-    """A line can't stand in the text: `line` is its number, `code` says why, and `text` is the line itself."""
+    """A line can't stand in the text: `line` is its number, `code` says why, and `text` is the line itself.
+
+    Of a certificate `part` says in which part of it lines are counted.
+    """
 
     status = 3
     form = "s MALFORMED L C"
-    sentence = "Line L of the text, TEXT, can't stand there, since WHY (code C): mend the line."
+    sentence = "Line L of PART, TEXT, can't stand there, since WHY (code C): mend the line."
 
-    def __init__(self, line: int, code: int, text: str | None) -> None:
+    def __init__(self, line: int, code: int, text: str | None, part: str = "the text") -> None:
         shown = "behind its end" if text is None else repr(text)
-        super().__init__(L=line, C=code, TEXT=shown, WHY=REASONS.get(code, "of its form"))
+        super().__init__(L=line, C=code, PART=part, TEXT=shown, WHY=REASONS.get(code, "of its form"))
         self.line = line
         self.code = code
         self.text = text
+        self.part = part
 
 
 class Count(Refusal):
@@ -201,6 +229,18 @@ class Limit(Refusal):
         super().__init__(WHICH=LIMITS.get(kind, f"kind {kind}"), PLACE=where)
         self.kind = kind
         self.place = place
+
+
+class TooLong(Refusal):
+    """A certificate, or the log in it, is too long: `kind` is that of the limit."""
+
+    status = 4
+    form = "s LIMIT 7 1"
+    sentence = "The limit of WHICH is passed: stop the run after fewer pops, or make it whole."
+
+    def __init__(self, kind: int) -> None:
+        super().__init__(WHICH=LIMITS[kind])
+        self.kind = kind
 
 
 class TooManySamples(Refusal):
@@ -324,6 +364,22 @@ class Memory(Refusal):
     sentence = (
         "Memory ran out, or a word isn't UTF-8: give more memory, use a smaller input or one worker, or mend the word."
     )
+
+
+class NotLegal(Refusal):
+    """A record of a certificate's log isn't legal: `record` is its number, from 1, and `text` its line."""
+
+    status = 11
+    form = "s NOTLEGAL I"
+    sentence = (
+        "Record I of the certificate's log, TEXT, isn't legal, since behind the records before it its event doesn't "
+        "occur, can't be popped or has other entries: take the log as it was written, or the records before this one."
+    )
+
+    def __init__(self, record: int, text: str | None) -> None:
+        super().__init__(I=record, TEXT=repr(text))
+        self.record = record
+        self.text = text
 
 
 class NoProgram(Exception):

@@ -58,6 +58,7 @@ def sample_formula(
     log: bool = False,
     witness: tuple[int, int] | None = None,
     reports: Sequence[str] = (),
+    pops: int | None = None,
 ) -> Assignment:
     """Samples a satisfying assignment of an extremal formula: of all stacks that give one, equally many give each.
 
@@ -73,8 +74,11 @@ def sample_formula(
     With `log` the result has the log of the pops. `witness` is the number of a variable and one of its entries, from 0:
     the result has the witness tree of the pop that used it. `reports` names what is reported on the log: `totals`,
     `heights` and `layers`.
+
+    With `pops` the run is stopped after so many. Where it isn't at its end, `Paused` is raised, which has its
+    certificate. Neither `grow`, several workers, `log`, `witness` nor `reports` goes with it.
     """
-    key, words = origin_words(key, workers, height, grow, stacks)
+    key, words = origin_words(key, workers, height, grow, stacks, pops)
     asked = Asked(log, witness, reports)
     subject = formula_subject(clauses)
     answer = ask(["formula", *words, *asked.words(subject.variables)], subject, key)
@@ -113,6 +117,7 @@ def resample(
     stacks: Stacks | None = None,
     witness: tuple[int, int] | None = None,
     reports: Sequence[str] = (),
+    pops: int | None = None,
 ) -> Resampled:
     """Samples a satisfying assignment of any formula, and tells the log of the pops.
 
@@ -122,13 +127,17 @@ def resample(
     The arguments are those of `sample_formula`, but that the log is always told, and `NoWitness` is raised where no pop
     used the entry of `witness`.
     """
-    key, words = origin_words(key, workers, height, grow, stacks)
+    key, words = origin_words(key, workers, height, grow, stacks, pops)
     asked = Asked(False, witness, reports)
     subject = formula_subject(clauses)
     answer = ask(["resample", *words, *asked.words(subject.variables)], subject, key)
+    return resampled_of(answer, key, subject, replace(asked, log=True))
+
+
+def resampled_of(answer: Answer, key: str | None, subject: Subject, asked: Asked) -> Resampled:
+    """The resampled assignment of an answer, with what is told of its log."""
     literals = tuple(answer.numbers("v")[:-1])
-    told = replace(asked, log=True).told(answer, subject)
-    return Resampled(literals, used_of(answer), answer.pops(), key, **told)
+    return Resampled(literals, used_of(answer), answer.pops(), key, **asked.told(answer, subject))
 
 
 def rounds(

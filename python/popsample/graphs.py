@@ -31,6 +31,7 @@ def spanning_tree(
     log: bool = False,
     witness: tuple[Hashable, int] | None = None,
     reports: Sequence[str] = (),
+    pops: int | None = None,
 ) -> Tree:
     """Samples a spanning tree of a connected graph: of all stacks that give one, equally many give each.
 
@@ -50,8 +51,11 @@ def spanning_tree(
     With `log` the result has the log of the pops. `witness` is a vertex and one of its entries, from 0: the result has
     the witness tree of the pop that used it. `reports` names what is reported on the log: `totals`, `heights` and
     `layers`.
+
+    With `pops` the run is stopped after so many. Where it isn't at its end, `Paused` is raised, which has its
+    certificate. Neither `grow`, several workers, `log`, `witness` nor `reports` goes with it.
     """
-    key, words = origin_words(key, workers, height, grow, stacks)
+    key, words = origin_words(key, workers, height, grow, stacks, pops)
     given = read_graph(graph, weight)
     asked = Asked(log, witness, reports)
     subject = given.subject(given.vertices, root)
@@ -112,6 +116,7 @@ def sink_free_orientation(
     log: bool = False,
     witness: tuple[Hashable, int] | None = None,
     reports: Sequence[str] = (),
+    pops: int | None = None,
 ) -> Orientation:
     """Samples an orientation of a graph in which some edge leaves each vertex: of all stacks that give one, as many
     give each.
@@ -121,7 +126,7 @@ def sink_free_orientation(
     it, and one of its entries. The other arguments are those of `spanning_tree`.
     """
     given = read_graph(graph)
-    key, words = origin_words(key, workers, height, grow, stacks)
+    key, words = origin_words(key, workers, height, grow, stacks, pops)
     asked = Asked(log, witness, reports)
     subject = given.subject(given.edges)
     answer = ask(["orient", *words, *asked.words(given.edges)], subject, key)

@@ -54,7 +54,8 @@ def place_of(name: Hashable, names: Sequence[Hashable]) -> int:
 
 def event_of(answer: Answer, subject: Subject, word: str) -> Hashable:
     """The event of a number: a vertex of a graph, or the number of a clause."""
-    return subject.vertex(int(word)) if answer.words[0] in ("orient", "tree") else int(word)
+    of_graph = subject.command_of(answer.words) in ("orient", "tree")
+    return subject.vertex(int(word)) if of_graph else int(word)
 
 
 def pairs_of(subject: Subject, words: Sequence[str], sign: str) -> dict[Hashable, int]:

@@ -8,7 +8,6 @@ import subprocess
 from collections.abc import Iterable, Sequence
 from pathlib import Path
 
-from .answer import Answer, read_answer
 from .errors import NoProgram
 from .keys import draw_key
 
@@ -35,11 +34,6 @@ def printed(words: Sequence[str], text: bytes) -> tuple[int, bytes]:
     return ran.returncode, ran.stdout
 
 
-def call(words: Sequence[str], text: bytes) -> Answer:
-    """The answer to these words and this input."""
-    return read_answer(words, *printed(words, text))
-
-
 def stack_words(
     key: str | None, height: int | None, stacks: Iterable[Iterable[int]] | None
 ) -> tuple[str | None, list[str]]:
@@ -57,10 +51,21 @@ def stack_words(
 
 
 def origin_words(
-    key: str | None, workers: int, height: int | None, grow: int | None, stacks: Iterable[Iterable[int]] | None
+    key: str | None,
+    workers: int,
+    height: int | None,
+    grow: int | None,
+    stacks: Iterable[Iterable[int]] | None,
+    pops: int | None,
 ) -> tuple[str | None, list[str]]:
-    """The same, and the words that say up to which height stacks grow, and how many workers share the pops."""
+    """The same, and the words that say up to which height stacks grow, how many workers share the pops, and after how
+    many pops the run is stopped, which goes with one worker alone.
+    """
     key, words = stack_words(key, height, stacks)
     if grow is not None:
         words += ["--grow", str(grow)]
-    return key, [*words, "--workers", str(workers)]
+    if pops is None or workers != 1:
+        words += ["--workers", str(workers)]
+    if pops is not None:
+        words += ["--pops", str(pops)]
+    return key, words

@@ -9,15 +9,20 @@ from . import errors
 from .answer import Answer, read_answer, read_batch
 from .errors import Refusal
 from .history import read_log
-from .program import call, printed
+from .program import printed
 from .subject import Subject
 
 Numbers = list[int]
+# A status, and what was printed.
+Told = tuple[int, bytes]
+
+# The code of a line of a log that can't stand there.
+LOG_LINE = 31
 
 # For the first line of each refusal that has numbers, what it is raised as.
 REFUSALS: dict[str, Callable[[Numbers, Answer, Subject], Refusal]] = {
     "USAGE": lambda numbers, answer, _: errors.Usage(numbers[0], word_at(answer, numbers[0])),
-    "MALFORMED": lambda numbers, _, subject: errors.Malformed(numbers[0], numbers[1], subject.line(numbers[0])),
+    "MALFORMED": lambda numbers, _, subject: malformed(*numbers, subject),
     "COUNT": lambda numbers, *_: errors.Count(*numbers),
     "ROWS": lambda numbers, *_: errors.Rows(*numbers),
     "EMPTYROW": lambda numbers, _, subject: errors.EmptyRow(subject.variable(numbers[0])),
@@ -28,6 +33,7 @@ REFUSALS: dict[str, Callable[[Numbers, Answer, Subject], Refusal]] = {
     "ISOLATED": lambda numbers, _, subject: errors.Isolated(subject.vertex(numbers[0])),
     "ROOT": lambda numbers, _, subject: errors.Root(numbers[0] if subject.root is None else subject.root),
     "CUTOFF": lambda numbers, _, subject: errors.CutOff(subject.vertex(numbers[0])),
+    "NOTLEGAL": lambda numbers, _, subject: errors.NotLegal(numbers[0], subject.line(numbers[0] + 1, LOG_LINE)),
     "READFAULT": lambda *_: errors.ReadFault(),
     "MEMORY": lambda *_: errors.Memory(),
 }
@@ -38,11 +44,20 @@ def word_at(answer: Answer, place: int) -> str | None:
     return answer.words[place - 1] if place <= len(answer.words) else None
 
 
+def malformed(line: int, code: int, subject: Subject) -> Refusal:
+    """The line that can't stand where it stands."""
+    return errors.Malformed(line, code, subject.line(line, code), subject.part(code)[0])
+
+
 def limit(numbers: Numbers, subject: Subject) -> Refusal:
-    """The limit that is passed: of kind 6 at a vertex, of kind 9 by the samples of a batch, else at a line."""
+    """The limit that is passed: of kind 6 at a vertex, of the kinds 7 and 8 by a certificate, of kind 9 by the samples
+    of a batch, else at a line.
+    """
     kind, place = numbers
     if kind == 9:
         return errors.TooManySamples(place)
+    if kind in (7, 8):
+        return errors.TooLong(kind)
     return errors.Limit(kind, subject.vertex(place) if kind == 6 else place)
 
 
@@ -55,9 +70,10 @@ def clash(numbers: Numbers, subject: Subject) -> Refusal:
 def stuck_events(answer: Answer, subject: Subject) -> list[Any]:
     """What stands behind each `stuck`: the number of a clause, a vertex, or the vertices of a cycle."""
     rows = [[int(word) for word in row] for row in answer.rows("stuck")]
-    if answer.words[0] == "orient":
+    command = subject.command_of(answer.words)
+    if command == "orient":
         return [subject.vertex(row[0]) for row in rows]
-    if answer.words[0] == "tree":
+    if command == "tree":
         return [tuple(map(subject.vertex, row)) for row in rows]
     return [row[0] for row in rows]
 
@@ -65,10 +81,11 @@ def stuck_events(answer: Answer, subject: Subject) -> list[Any]:
 def exhausted(answer: Answer, subject: Subject) -> errors.Exhausted:
     """The end of a run that came to the end of a stack."""
     stuck = stuck_events(answer, subject)
-    if answer.words[0] == "tree":
+    command = subject.command_of(answer.words)
+    if command == "tree":
         where = f"the cycle of {', '.join(map(repr, stuck[0]))}"
     else:
-        where = f"{'vertex' if answer.words[0] == 'orient' else 'clause'} {stuck[0]!r}"
+        where = f"{'vertex' if command == 'orient' else 'clause'} {stuck[0]!r}"
     counted = (answer.number("pops"), read_log(answer, subject), answer.number("rounds"), answer.number("short"))
     return errors.Exhausted(where, stuck, answer.numbers("used"), *counted)
 
@@ -89,9 +106,11 @@ def refusal(answer: Answer, subject: Subject) -> Exception:
     return errors.NoAnswer(answer.status, " ".join(["s", *first]) if first else "")
 
 
-def under_key(answer: Answer, subject: Subject, key: str | None) -> Exception:
-    """The same, with the key of the call."""
-    raised = refusal(answer, subject)
+def under_key(words: list[str], told: Told, subject: Subject, key: str | None) -> Exception:
+    """The same of a status and a printed text, with the key of the call. Of a certificate no line is read."""
+    status, text = told
+    is_certificate = status == errors.Paused.status and text.startswith(b"cert ")
+    raised = errors.Paused(text) if is_certificate else refusal(read_answer(words, status, text), subject)
     if isinstance(raised, Refusal):
         raised.key = key
     return raised
@@ -99,10 +118,10 @@ def under_key(answer: Answer, subject: Subject, key: str | None) -> Exception:
 
 def ask(words: list[str], subject: Subject, key: str | None = None) -> Answer:
     """The program's answer with status 0; any other is raised, with the key of the call."""
-    answer = call(words, subject.text)
-    if answer.status == 0:
-        return answer
-    raise under_key(answer, subject, key)
+    status, text = printed(words, subject.given)
+    if status == 0:
+        return read_answer(words, status, text)
+    raise under_key(words, (status, text), subject, key)
 
 
 def ask_batch(words: list[str], subject: Subject, key: str | None) -> Iterator[Answer]:
@@ -110,4 +129,13 @@ def ask_batch(words: list[str], subject: Subject, key: str | None) -> Iterator[A
     status, text = printed(words, subject.text)
     if status in (0, 1) and text.startswith(b"batch "):
         return read_batch(words, text)
-    raise under_key(read_answer(words, status, text), subject, key)
+    raise under_key(words, (status, text), subject, key)
+
+
+def ask_replay(subject: Subject, key: str | None) -> Answer:
+    """The program's answer that the log of a certificate is legal, with status 0, 1 or 10; any other is raised."""
+    words = ["replay"]
+    status, text = printed(words, subject.given)
+    if status in (0, 1, errors.Paused.status) and text.startswith(b"s LEGAL "):
+        return read_answer(words, status, text)
+    raise under_key(words, (status, text), subject, key)

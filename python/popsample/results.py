@@ -162,5 +162,19 @@ class Rounded(Literals):
 
 
 @dataclass(frozen=True)
+class Replayed:
+    """How far the log of a certificate leads.
+
+    `pops` is the number of its records, and `used` tells for each variable how many of its entries they popped. `end`
+    is `sample` or `exhausted` where the run is at such an end, and else `open`: an event can still be popped.
+    """
+
+    pops: int
+    used: dict[Hashable, int]
+    end: str
+    key: str | None
+
+
+@dataclass(frozen=True)
 class Resampled(Assignment):
     """An assignment with the log of its pops, which is always there."""

@@ -11,12 +11,37 @@ NUMBERS: Sequence[Hashable] = range(1, 2**32 - 1)
 
 @dataclass(frozen=True)
 class Subject:
-    """A text, the names of its vertices and of the variables, as the program counts them, and the root asked for."""
+    """A text, the names of its vertices and of the variables, as the program counts them, and the root asked for.
+
+    Where the text is the input of a certificate, this is what the program reads, and its command and its log are there.
+    """
 
     text: bytes
     vertices: Sequence[Hashable] = NUMBERS
     variables: Sequence[Hashable] = NUMBERS
     root: Hashable = None
+    certificate: bytes | None = None
+    command: str | None = None
+    log: bytes = b""
+
+    @property
+    def given(self) -> bytes:
+        """What the program reads."""
+        return self.text if self.certificate is None else self.certificate
+
+    def command_of(self, words: Sequence[str]) -> str:
+        """The command whose end is told to these words: that of the certificate, where there is one."""
+        return self.command or words[0]
+
+    def part(self, code: int) -> tuple[str, bytes]:
+        """In which part of what the program reads the lines stand that a code speaks of, in words, and that part."""
+        if self.certificate is None:
+            return "the text", self.text
+        if code in (21, 22):
+            return "the certificate", self.certificate
+        if code in (31, 32):
+            return "the certificate's log", self.log
+        return "the certificate's input", self.text
 
     def vertex(self, number: int) -> Hashable:
         """The name of a vertex; the number itself where there is none."""
@@ -26,9 +51,9 @@ class Subject:
         """The name of a variable; the number itself where there is none."""
         return self.variables[number - 1] if 1 <= number <= len(self.variables) else number
 
-    def line(self, number: int) -> str | None:
-        """A line, from 1; none behind the last one."""
-        lines = self.text.split(b"\n", number)
+    def line(self, number: int, code: int) -> str | None:
+        """A line, from 1, of the part that the code speaks of; none behind the last one."""
+        lines = self.part(code)[1].split(b"\n", number)
         return lines[number - 1].decode("utf-8", "replace").strip() if number <= len(lines) else None
 
     def clause(self, number: int) -> str:
