@@ -12,7 +12,7 @@ from typing import NamedTuple
 sys.dont_write_bytecode = True
 
 import inputs
-from measure import run_once
+from measure import run_fastest, run_once
 from peers import find_peers
 from run import answered, key_of, peak_of, print_head, print_row, processor_name, written
 
@@ -20,6 +20,8 @@ SAMPLES = 64
 SIZE = 10**5
 # Runs are stopped after so many seconds.
 LONGEST = 120
+# A run that is compared with others is the fastest of so many.
+TIMES = 5
 # So many samples of these inputs are too many, which is told once the text is read.
 TOO_MANY = "65536"
 LIMIT = 4
@@ -44,15 +46,14 @@ def turn_of(program, command, text, folder, number, limit):
     """Each turn has keys of its own."""
     keys = [key_of(SAMPLES * number + place) for place in range(SAMPLES)]
 
-    def run(*words):
-        return run_once([program, command, "--key", *words], text, folder, limit)
+    def run(times, *words):
+        return run_fastest([program, command, "--key", *words], text, folder, limit, times)
 
-    apart = [run(key) for key in keys]
     return Turn(
-        batch=run(keys[0], "--count", str(SAMPLES)),
-        reading=run(keys[0], "--count", TOO_MANY),
-        alone=apart[0],
-        apart=apart,
+        batch=run(TIMES, keys[0], "--count", str(SAMPLES)),
+        reading=run(TIMES, keys[0], "--count", TOO_MANY),
+        alone=run(TIMES, keys[0]),
+        apart=[run(1, key) for key in keys],
     )
 
 

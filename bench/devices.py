@@ -24,6 +24,11 @@ FORMULA_WORDS = ("formula", "--stacks", "0;0;1")
 TREE_WORDS = ("tree", "--stacks", "0,0;1,1;0,1")
 MADE_WORDS = ("make", "grid", "2", "--stacks", "0;0;0")
 BATCH_WORDS = ("tree", "--count", "2")
+ONE = b"p cnf 1 1\n1 0\n"
+ONE_ANSWER = b"s SAMPLE\nv 1 0\nused 2\npops 2\n"
+STOPPED_WORDS = ("formula", "--stacks", "0,0,1", "--pops", "1")
+RESUMED_WORDS = ("resume", "--workers", "2")
+CERTIFICATE = b"cert 1 formula\nstacks 0,0,1\ninput 14\n" + ONE + b"log 2 1\npop 1 1 1:0\n"
 # An answer that no pipe holds at once has a line for each of so many leaves.
 LEAVES = 20000
 
@@ -142,6 +147,12 @@ def source_trials(program, folder):
         Trial("a formula byte by byte", on(FORMULA, FORMULA_WORDS), wanted(0, FORMULA_ANSWER)),
         Trial("a graph byte by byte", on(GRAPH, TREE_WORDS), wanted(0, TREE_ANSWER)),
         Trial("a batch byte by byte", on(BATCH, BATCH_WORDS), wanted(0, BATCH_ANSWER)),
+        Trial("a stopped run byte by byte", on(ONE, STOPPED_WORDS), wanted(10, CERTIFICATE)),
+        Trial("a certificate byte by byte", on(CERTIFICATE, ("replay",)), wanted(10, b"s LEGAL 1\nused 1\nend open\n")),
+        Trial("a certificate that goes on, byte by byte", on(CERTIFICATE, RESUMED_WORDS), wanted(0, ONE_ANSWER)),
+        Trial("a certificate that ends early", on(CERTIFICATE[:40], ("replay",)), wanted(3, b"s MALFORMED 3 22\n")),
+        Trial("a directory as certificate", lambda: from_file(program, RESUMED_WORDS, folder), fault),
+        Trial("a directory as input of a stopped run", lambda: from_file(program, STOPPED_WORDS, folder), fault),
     ]
 
 
@@ -152,6 +163,9 @@ def sink_trials(program, folder):
         Trial("a full device", lambda: to_file(program, FORMULA_WORDS, FORMULA, full), wanted(8)),
         Trial("a full device and a bad word", lambda: to_file(program, ("tree", "2"), b"", full), wanted(8)),
         Trial("a full device and a batch", lambda: to_file(program, BATCH_WORDS, BATCH, full), wanted(8)),
+        Trial("a full device and a certificate", lambda: to_file(program, STOPPED_WORDS, ONE, full), wanted(8)),
+        Trial("a full device and a certificate that goes on",
+              lambda: to_file(program, RESUMED_WORDS, CERTIFICATE, full), wanted(8)),
         Trial("an output that is only read", lambda: to_file(program, TREE_WORDS, GRAPH, os.devnull, os.O_RDONLY),
               wanted(8)),
         Trial("a closed output", lambda: closed(program, TREE_WORDS, GRAPH, 1), wanted(8)),

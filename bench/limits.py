@@ -1,6 +1,8 @@
 """Inputs at each limit of the program and one past it, with what it is to say."""
+import itertools
 from typing import Callable, Iterator, List, NamedTuple, Optional
 
+import certificate_inputs
 import inputs
 
 VARIABLES = 2**22
@@ -16,6 +18,9 @@ WORKERS = 64
 SAMPLES = 2**16
 BATCH_VALUES = 2**25
 ROOT = 2**32 - 1
+POPS = 2**32 - 1
+CERTIFICATE_BYTES = 2**29
+LOG_BYTES = 2**28
 
 
 class Trial(NamedTuple):
@@ -127,6 +132,57 @@ def full_trials():
     ]
 
 
+def stopped_trials():
+    """Runs that are stopped read their text whole, and print it."""
+    all_pops, lines_of_padding = ["formula", "--pops", str(POPS)], (TEXT_BYTES - 14) // 1024
+    last = f"s LIMIT 1 {lines_of_padding + 3}"
+    name = "stopped, variables, clauses and literals"
+    return [
+        fits("pops and bytes", all_pops, lambda: padded(TEXT_BYTES)),
+        is_refused("pops and bytes", all_pops, lambda: padded(TEXT_BYTES + 1), last),
+        is_refused("pops", ["formula", "--pops", str(POPS + 1)], lambda: padded(14), "s USAGE 3", status=2),
+        Trial(f"{name}: at the limit", ["formula", "--pops", "1"], fullest_formula, 10, "cert 1 formula"),
+    ]
+
+
+def small_certificate(input_lines, size, log_lines):
+    """A certificate with an input of so many bytes, whose head has the least formula's stacks."""
+    yield f"cert 1 formula\nstacks 0,1\ninput {size}\n"
+    yield from input_lines
+    yield from log_lines
+
+
+def certificate_too_long():
+    """Which is told before its head is looked at."""
+    line = "c" * 1023 + "\n"
+    for _ in range(CERTIFICATE_BYTES // 1024):
+        yield line
+    yield "c"
+
+
+def log_too_long():
+    """Which is told before its lines are looked at."""
+    return small_certificate(padded(14), 14, itertools.chain(itertools.repeat("c" * 1024, LOG_BYTES // 1024), ["c"]))
+
+
+def certificate_trials():
+    """Certificates as long as they may be, with logs as long as these may be; and what is longer."""
+    open_one, ended = certificate_inputs.open_turning(LOG_BYTES), certificate_inputs.ended_turning(LOG_BYTES)
+    lines_of_padding = (TEXT_BYTES - 14) // 1024
+    name = "certificate and its log"
+    longest_input = lambda: small_certificate(padded(TEXT_BYTES + 1), TEXT_BYTES + 1, ["log 2 0\n"])
+    return [
+        Trial(f"{name}: at the limit", ["replay"], lambda: open_one.lines(LOG_BYTES, CERTIFICATE_BYTES), 10,
+              f"s LEGAL {open_one.records}"),
+        Trial("log, replayed: at the limit", ["replay"], ended.lines, 1, f"s LEGAL {ended.records}"),
+        Trial("log, resumed: at the limit", ["resume"], ended.lines, 1, "s EXHAUSTED"),
+        Trial("log, resumed by workers: at the limit", ["resume", "--workers", "8"], ended.lines, 1, "s EXHAUSTED"),
+        is_refused("certificate", ["replay"], certificate_too_long, "s LIMIT 8 1"),
+        is_refused("log", ["resume"], log_too_long, "s LIMIT 7 1"),
+        is_refused("input of a certificate", ["replay"], longest_input, f"s LIMIT 1 {lines_of_padding + 3}"),
+    ]
+
+
 def graph_trials(command):
     return [
         fits(f"{command}, vertices and edges", [command], lambda: inputs.torus(SIDE)),
@@ -179,4 +235,5 @@ def batch_trials():
 
 def trials():
     graphs = [*graph_trials("orient"), *graph_trials("tree"), *weight_trials()]
-    return [*formula_trials(), *full_trials(), *graphs, *batch_trials(), *word_trials()]
+    stopped = [*stopped_trials(), *certificate_trials()]
+    return [*formula_trials(), *full_trials(), *stopped, *graphs, *batch_trials(), *word_trials()]

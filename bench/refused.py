@@ -33,6 +33,7 @@ SECONDS = 60
 
 ONE = b"p cnf 1 1\n1 0\n"
 TRIANGLE = b"p edge 3 3\ne 1 2\ne 2 3\ne 1 3\n"
+CERTIFICATE = b"cert 1 formula\nstacks 0,0,1\ninput 14\n" + ONE + b"log 2 1\npop 1 1 1:0\n"
 ROUND_TRIP = b"p col 3 3\ne 1 2\ne 2 3\ne 3 1\n"
 # Runs whose answers stand in docs/FORMATS.md or were worked out by hand.
 SMALL = (
@@ -43,6 +44,10 @@ SMALL = (
     ("grid of side 2", "make grid 2 --stacks 0;0;0", b""),
     ("stages of a clause", "formula --height 1 --grow 8", b"p cnf 1 1\n-1 0\n"),
     ("batch of trees", "tree --count 2", b"p edge 2 1\ne 1 2\n"),
+    ("one clause, stopped", "formula --stacks 0,0,1 --pops 1", ONE),
+    ("tree of a triangle, stopped", "tree --stacks 1,1,0;0,0,0 --pops 1", TRIANGLE),
+    ("one clause, replayed", "replay", CERTIFICATE),
+    ("one clause, resumed", "resume", CERTIFICATE),
 )
 
 

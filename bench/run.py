@@ -23,6 +23,8 @@ ENOUGH_SECONDS = 3
 # Words that are no command line: a command that the program doesn't have yet.
 NO_COMMAND = 2
 MEBIBYTE = 2**20
+# What a run may take at its limits.
+MOST_MEMORY = 2560 * MEBIBYTE
 
 
 def key_of(seed):
@@ -152,7 +154,7 @@ def verdict(trial, run):
     if run.status is None:
         return "TOOK TOO LONG"
     if is_as_wanted(trial, run):
-        return "as it should be"
+        return "as it should be" if (run.peak or 0) <= MOST_MEMORY else "TOO MUCH MEMORY"
     if "make" in trial.words and run.status == NO_COMMAND:
         return "not built"
     return f"SHOULD BE {trial.status}, {trial.first_line}"

@@ -2,7 +2,8 @@
 """Runs a built popsample by several workers, thousands of times, and compares each answer with that of one worker.
 
 What is run are small instances that were worked by hand, and random ones of all three families, some in stages, whose
-answer is that of one worker without stages. README.md says more.
+answer is that of one worker without stages. Runs that can be are also stopped halfway, and several workers go on.
+README.md says more.
 """
 import argparse
 import collections
@@ -88,7 +89,7 @@ def cases(chance):
 
 
 def answer_of(program, words, text):
-    ran = subprocess.run([program, *words], input=text.encode(), capture_output=True)
+    ran = subprocess.run([program, *words], input=text, capture_output=True)
     return ran.returncode, ran.stdout
 
 
@@ -104,11 +105,28 @@ def without_stages(words):
     return [words[0], *itertools.chain.from_iterable(options.items())]
 
 
+def pops_of(words, alone):
+    """How many pops a run has that can be stopped; 0 for any other."""
+    is_run = alone[0] in (0, 1) and words[0] != "make" and "--grow" not in words
+    return int(alone[1].split()[-1]) if is_run else 0
+
+
+def resumed_otherwise(program, words, text, alone):
+    """Of the run's certificate, which is stopped halfway, the crews that went on to another answer."""
+    pops = pops_of(words, alone)
+    if pops < 2:
+        return []
+    _, certificate = answer_of(program, [*words, "--pops", str(pops // 2)], text)
+    again = [["resume", *crew] for crew in crews()]
+    return [each for each in again if answer_of(program, each, certificate) != alone]
+
+
 def compare(program, words, text):
     """The status of one worker without stages, and the crews that answered otherwise."""
     alone = answer_of(program, without_stages(words), text)
     asked = [[], *crews()] if "--grow" in words else crews()
-    return alone[0], [crew for crew in asked if answer_of(program, [*words, *crew], text) != alone]
+    others = [crew for crew in asked if answer_of(program, [*words, *crew], text) != alone]
+    return alone[0], others + resumed_otherwise(program, words, text, alone)
 
 
 def arguments():
@@ -126,7 +144,7 @@ def main():
         sys.exit(f"{program} is no program")
     runs, wrong, statuses, begun = 0, 0, collections.Counter(), time.monotonic()
     for words, text in cases(random.Random(asked.seed)):
-        status, others = compare(program, words, text)
+        status, others = compare(program, words, text.encode())
         for crew in others:
             print("DIFFERS:", *words, *crew, repr(text))
         runs, wrong = runs + len(crews()), wrong + len(others)

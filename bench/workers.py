@@ -11,7 +11,7 @@ import time
 sys.dont_write_bytecode = True
 
 import inputs
-from measure import run_once
+from measure import run_fastest
 from run import MEBIBYTE, key_of, print_head, print_row, processor_name, written
 
 ONE = []
@@ -37,12 +37,14 @@ def measured(small):
 
 
 def rounds_of(program, words, crews, text, folder, asked):
-    """The runs of each crew, in turn, so that a busy machine slows all alike; each turn has a key of its own."""
+    """The runs of each crew, in turn, each the fastest of several, so that a busy machine slows all alike.
+
+    Each turn has a key of its own."""
     runs = [[] for _ in crews]
     for turn in range(asked.turns):
         for crew, past in zip(crews, runs):
             command = [program, *words, "--key", key_of(turn + 1), *crew]
-            past.append(run_once(command, text, folder, asked.seconds))
+            past.append(run_fastest(command, text, folder, asked.seconds, asked.times))
     return runs
 
 
@@ -62,7 +64,8 @@ def arguments():
     parser = argparse.ArgumentParser(description=__doc__)
     parser.add_argument("--program", required=True, metavar="PATH", help="the built program")
     parser.add_argument("--only", default="", metavar="WORD", help="leave out inputs without this in their name")
-    parser.add_argument("--turns", type=int, default=3, metavar="N", help="run each crew so often")
+    parser.add_argument("--turns", type=int, default=3, metavar="N", help="run each crew under so many keys")
+    parser.add_argument("--times", type=int, default=3, metavar="N", help="and under each so often, for the fastest")
     parser.add_argument("--seconds", type=float, default=120, metavar="N", help="stop a run after so many seconds")
     parser.add_argument("--small", action="store_true", help="leave out the largest inputs")
     return parser.parse_args()
