@@ -28,6 +28,20 @@ impl Output {
         })
     }
 
+    /// The text of these bytes, which goes on behind them. It takes no memory.
+    pub fn behind(bytes: Vec<u8>) -> Output
+        ensures { result ≡ bytes.items }
+    {
+        Output { bytes }
+    }
+
+    /// Takes room for so many bytes more, where it isn't there.
+    pub fn reserve(&mut self, room: usize) -> Result<(), AllocError>
+        ensures { self.new ≡ self.old }
+    {
+        self.bytes.reserve(room)
+    }
+
     /// Adds bytes at the end.
     pub fn push(&mut self, bytes: &[u8]) -> Result<(), AllocError>
         ensures { OnOk result (self.new ≡ self.old ++ bytes.now) }

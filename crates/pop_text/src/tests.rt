@@ -36,6 +36,16 @@ fn numbers_are_printed_one_behind_another(rt: HostRuntime) -> Result<(), Fail> {
 }
 
 #[test]
+fn a_text_goes_on_behind_bytes_at_hand(rt: HostRuntime) -> Result<(), Fail> {
+    let mut out = Output::behind(Vec::from_slice(rt.alloc(), b"v 1")?);
+    out.reserve(3)?;
+    out.push_spaced(0)?;
+    out.push(b"\n")?;
+    assert_eq!(rt; out.into_bytes().as_slice(), b"v 1 0\n".as_slice());
+    Ok(())
+}
+
+#[test]
 fn a_short_text_is_written_from_its_end_to_its_front(rt: HostRuntime) -> Result<(), Fail> {
     let mut text = ShortText::new();
     assert_eq!(rt; text.as_bytes(), b"".as_slice());
