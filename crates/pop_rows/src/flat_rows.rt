@@ -95,28 +95,36 @@ fn starts_of(alloc: Global, rooms: &[u32]) -> Result<Vec<u32>, AllocError>
 #[cfg(test)]
 mod tests {
     use super::*;
+    use std::process::Abort;
     use std::test::Fail;
 
+    // Compares the numbers of each row.
+    fn are_rows(rt: &impl Abort, rows: &FlatRows, want: &[&[u32]]) {
+        assert_eq!(rt; rows.count() as usize, want.len());
+        for v in 0..rows.count() {
+            assert_eq!(rt; rows.row(v), want[v as usize], "row {v}");
+        }
+    }
+
+    // Room is left in the last row.
     #[test]
     fn rows_have_what_was_pushed_to_them_in_order(rt: HostRuntime) -> Result<(), Fail> {
         let alloc = rt.alloc();
-        let mut rows = FlatRows::with_rooms(alloc, vec![in alloc; 2, 0, 1, 2]?)?;
+        let rooms = Vec::from_slice(alloc, &[2, 0, 1, 2])?;
+        let mut rows = FlatRows::with_rooms(alloc, rooms)?;
         rows.push(2, 7);
         rows.push(0, 5);
         rows.push(3, 9);
         rows.push(0, 6);
-        assert_eq!(&rt; rows.count(), 4);
-        assert_eq!(&rt; rows.row(0), [5, 6].as_slice());
-        assert_eq!(&rt; rows.row(1), [].as_slice());
-        assert_eq!(&rt; rows.row(2), [7].as_slice());
-        assert_eq!(&rt; rows.row(3), [9].as_slice(), "room is left");
+        are_rows(&rt, &rows, &[&[5, 6], &[], &[7], &[9]]);
         Ok(())
     }
 
     #[test]
     fn rooms_past_32_bits_find_no_memory(rt: HostRuntime) -> Result<(), Fail> {
         let alloc = rt.alloc();
-        assert!(&rt; FlatRows::with_rooms(alloc, vec![in alloc; 1 << 31, 1 << 31]?).is_err());
+        let rooms = Vec::from_slice(alloc, &[1 << 31, 1 << 31])?;
+        assert!(&rt; FlatRows::with_rooms(alloc, rooms).is_err());
         Ok(())
     }
 }

@@ -139,22 +139,26 @@ fn sum_front(list: &mut Vec<u32>, count: usize)
 #[cfg(test)]
 mod tests {
     use super::*;
+    use std::process::Abort;
     use std::test::Fail;
+
+    // Compares the numbers of each row.
+    fn are_rows(rt: &impl Abort, rows: &Fronts, want: &[&[u32]]) {
+        assert_eq!(rt; rows.count() as usize, want.len());
+        for v in 0..rows.count() {
+            assert_eq!(rt; rows.row(v), want[v as usize], "row {v}");
+        }
+    }
 
     #[test]
     fn rows_of_ones_sum_to_their_places(rt: HostRuntime) -> Result<(), Fail> {
         let alloc = rt.alloc();
-        let mut rows = Fronts::ones(alloc, vec![in alloc; 2, 0, 3, 1]?)?;
-        assert_eq!(&rt; rows.count(), 4);
-        assert_eq!(&rt; rows.row(0), [1, 1].as_slice());
-        assert_eq!(&rt; rows.row(1), [].as_slice());
-        assert_eq!(&rt; rows.row(2), [1, 1, 1].as_slice());
-        assert_eq!(&rt; rows.row(3), [1].as_slice());
-        assert_eq!(&rt; rows.accumulate(), None);
-        assert_eq!(&rt; rows.row(0), [1, 2].as_slice());
-        assert_eq!(&rt; rows.row(1), [].as_slice());
-        assert_eq!(&rt; rows.row(2), [1, 2, 3].as_slice());
-        assert_eq!(&rt; rows.row(3), [1].as_slice());
+        let lengths = Vec::from_slice(alloc, &[2, 0, 3, 1])?;
+        let mut rows = Fronts::ones(alloc, lengths)?;
+        are_rows(&rt, &rows, &[&[1, 1], &[], &[1, 1, 1], &[1]]);
+        let heavy = rows.accumulate();
+        assert_eq!(&rt; heavy, None);
+        are_rows(&rt, &rows, &[&[1, 2], &[], &[1, 2, 3], &[1]]);
         Ok(())
     }
 }
