@@ -18,8 +18,8 @@ pub(crate) fn rows(rt: &impl Abort, alloc: Global, table: &[&[u32]]) -> Result<R
     Ok(Rows::of(rows))
 }
 
-// Whether there is a weight, and none is 0.
-fn are_weights(row: &[u32]) -> bool
+/// Whether there is a weight, and none is 0.
+pub(crate) fn are_weights(row: &[u32]) -> bool
     ensures { OnTrue result ((0 < length row.now) × All (λ weight. 0 < weight) row.now) }
 {
     !row.is_empty() && row.iter().all(|weight| *weight > 0)

@@ -74,56 +74,70 @@ fn has_values(
     read_by_both(rt, alloc, &stacks, values)
 }
 
+// Weights of variable 0, and the values of its entries 0 to 7. The numbers of these entries are the
+// words of RFC 8439, A.1, vector 1; they are scaled and compared with the sums of the weights by
+// hand.
+static WEIGHTS: [(&[u32], &[u32]); 5] = [
+    (&[1, 1], &[1, 0, 0, 1, 1, 0, 0, 1]),
+    (&[1, 1, 1], &[1, 0, 0, 2, 1, 0, 0, 1]),
+    (&[2, 1], &[0, 0, 0, 1, 0, 0, 0, 0]),
+    (&[5, 1], &[0, 0, 0, 0, 0, 0, 0, 0]),
+    (&[1, 5], &[1, 0, 0, 1, 1, 1, 0, 1]),
+];
+
+#[test]
+fn a_value_is_the_least_whose_weights_exceed_the_scaled_number(
+    rt: HostRuntime,
+) -> Result<(), Fail> {
+    let alloc = rt.alloc();
+    has_values(&rt, alloc, Weights::pairs(1), WEIGHTS[0].1)?;
+    for (weights, values) in WEIGHTS.iter() {
+        let weights = tables::weights(&rt, alloc, &[weights])?;
+        has_values(&rt, alloc, weights, values)?;
+    }
+    Ok(())
+}
+
 // These weights of variable 0, in one array with those of another variable.
-fn flat(alloc: Global, weights: &[u32]) -> Result<Weights, Fail>
-    requires some { 0 < length weights.now }
-    requires short { length weights.now < 2 ^ 31 }
-    requires positive { All (λ weight. 0 < weight) weights.now }
-{
+fn flat(rt: &impl Abort, alloc: Global, weights: &[u32]) -> Result<Weights, Fail> {
+    let is_good = tables::are_weights(weights);
+    assert!(rt; is_good);
+    assert!(rt; weights.len() < 9);
     let mut rows = RowList::with_room(alloc, 2, 8)?;
     rows.push_row(weights)?;
     rows.push_row(&[7])?;
     Ok(Weights::of(Rows::flat(rows)))
 }
 
-// The numbers of entries 0 to 7 are the words of RFC 8439, A.1, vector 1; they are scaled and
-// compared with the sums of the weights by hand.
-#[test]
-fn a_value_is_the_least_whose_weights_exceed_the_scaled_number(
-    rt: HostRuntime,
-) -> Result<(), Fail> {
-    let alloc = rt.alloc();
-    has_values(&rt, alloc, Weights::pairs(1), &[1, 0, 0, 1, 1, 0, 0, 1])?;
-    let equal = tables::weights(&rt, alloc, &[&[1, 1]])?;
-    has_values(&rt, alloc, equal, &[1, 0, 0, 1, 1, 0, 0, 1])?;
-    let thirds = tables::weights(&rt, alloc, &[&[1, 1, 1]])?;
-    has_values(&rt, alloc, thirds, &[1, 0, 0, 2, 1, 0, 0, 1])?;
-    let falling = tables::weights(&rt, alloc, &[&[2, 1]])?;
-    has_values(&rt, alloc, falling, &[0, 0, 0, 1, 0, 0, 0, 0])?;
-    let steep = tables::weights(&rt, alloc, &[&[5, 1]])?;
-    has_values(&rt, alloc, steep, &[0, 0, 0, 0, 0, 0, 0, 0])?;
-    let rising = tables::weights(&rt, alloc, &[&[1, 5]])?;
-    has_values(&rt, alloc, rising, &[1, 0, 0, 1, 1, 1, 0, 1])
-}
-
 // The same weights in one array give the same values.
 #[test]
 fn weights_in_one_array_give_the_same_values(rt: HostRuntime) -> Result<(), Fail> {
     let alloc = rt.alloc();
-    let equal = flat(alloc, &[1, 1])?;
-    has_values(&rt, alloc, equal, &[1, 0, 0, 1, 1, 0, 0, 1])?;
-    let thirds = flat(alloc, &[1, 1, 1])?;
-    has_values(&rt, alloc, thirds, &[1, 0, 0, 2, 1, 0, 0, 1])?;
-    let falling = flat(alloc, &[2, 1])?;
-    has_values(&rt, alloc, falling, &[0, 0, 0, 1, 0, 0, 0, 0])?;
-    let steep = flat(alloc, &[5, 1])?;
-    has_values(&rt, alloc, steep, &[0, 0, 0, 0, 0, 0, 0, 0])?;
-    let rising = flat(alloc, &[1, 5])?;
-    has_values(&rt, alloc, rising, &[1, 0, 0, 1, 1, 1, 0, 1])?;
-    let two = Weights::of(Rows::ones(alloc, vec![in alloc; 2, 4, 1]?)?);
-    has_values(&rt, alloc, two, &[1, 0, 0, 1, 1, 0, 0, 1])?;
-    let three = Weights::of(Rows::ones(alloc, vec![in alloc; 3, 1]?)?);
-    has_values(&rt, alloc, three, &[1, 0, 0, 2, 1, 0, 0, 1])
+    for (weights, values) in WEIGHTS.iter() {
+        let weights = flat(&rt, alloc, weights)?;
+        has_values(&rt, alloc, weights, values)?;
+    }
+    Ok(())
+}
+
+// Two weights of 1 of variable 0, beside those of others.
+fn two_ones(alloc: Global) -> Result<Weights, Fail> {
+    let lengths = Vec::from_slice(alloc, &[2, 4, 1])?;
+    Ok(Weights::of(Rows::ones(alloc, lengths)?))
+}
+
+// Three weights of 1 of variable 0, beside one of another.
+fn three_ones(alloc: Global) -> Result<Weights, Fail> {
+    let lengths = Vec::from_slice(alloc, &[3, 1])?;
+    Ok(Weights::of(Rows::ones(alloc, lengths)?))
+}
+
+// The same weights as fronts of one list give the same values.
+#[test]
+fn weights_of_one_give_the_same_values(rt: HostRuntime) -> Result<(), Fail> {
+    let alloc = rt.alloc();
+    has_values(&rt, alloc, two_ones(alloc)?, WEIGHTS[0].1)?;
+    has_values(&rt, alloc, three_ones(alloc)?, WEIGHTS[1].1)
 }
 
 // Variables 0, 16 and 32 share a place among the kept refills. The values of variable 0 are those
@@ -147,12 +161,19 @@ fn reads_beside_others(rt: &impl Abort, stacks: &Stacks, reader: &mut Reader)
     look(rt, stacks, reader, 16, 1, sixteenth);
 }
 
+// Reads variables beside one another, by a reader of each kind.
+fn read_beside_by_both(rt: &impl Abort, alloc: Global, stacks: &Stacks) -> Result<(), Fail> {
+    let mut reader = Reader::new(stacks);
+    reads_beside_others(rt, stacks, &mut reader);
+    let mut keeping = Reader::keeping(alloc, stacks)?;
+    reads_beside_others(rt, stacks, &mut keeping);
+    Ok(())
+}
+
 #[test]
 fn a_look_at_another_variable_changes_no_answer(rt: HostRuntime) -> Result<(), Fail> {
     let stacks = Stacks::new(StackSpec::Key([0; 32]), Weights::pairs(40), 64)?;
-    reads_beside_others(&rt, &stacks, &mut Reader::new(&stacks));
-    reads_beside_others(&rt, &stacks, &mut Reader::keeping(rt.alloc(), &stacks)?);
-    Ok(())
+    read_beside_by_both(&rt, rt.alloc(), &stacks)
 }
 
 // Compares an entry as a reader that keeps values gives it with the answer of a fresh reader.
@@ -185,13 +206,19 @@ fn compare_in_jumps(rt: &impl Abort, stacks: &Stacks, keeping: &mut Reader, heig
     }
 }
 
+// Compares entries of stacks of this height by a reader that keeps values.
+fn compare_kept(rt: &impl Abort, alloc: Global, stacks: &Stacks, height: u32) -> Result<(), Fail> {
+    let mut keeping = Reader::keeping(alloc, stacks)?;
+    compare_in_jumps(rt, stacks, &mut keeping, height);
+    Ok(())
+}
+
 // Compares entries under these weights at a height.
 fn compare_under(rt: &impl Abort, alloc: Global, weights: Weights, height: u32) -> Result<(), Fail>
     requires { (0 < height) × (height < 2 ^ 31) }
 {
     let stacks = Stacks::new(StackSpec::Key([3; 32]), weights, height)?;
-    compare_in_jumps(rt, &stacks, &mut Reader::keeping(alloc, &stacks)?, height);
-    Ok(())
+    compare_kept(rt, alloc, &stacks, height)
 }
 
 // Compares entries where a variable has up to two values, up to four, and more.
@@ -234,20 +261,35 @@ fn has_room(rt: &impl Abort, stacks: &Stacks, v: u32, height: u32, domain: u32) 
     assert_eq!(rt; stacks.domain(v), domain);
 }
 
+// The stacks of the rows under these weights.
+fn given(rt: &impl Abort, alloc: Global, weights: Weights) -> Result<Stacks, Fail> {
+    let rows = tables::rows(rt, alloc, &[&[0, 2, 1], &[1]])?;
+    Ok(Stacks::new(StackSpec::Given(rows), weights, 1)?)
+}
+
+// Compares the numbers of variables, entries and values.
+fn have_room(rt: &impl Abort, stacks: &Stacks) {
+    assert_eq!(rt; stacks.count(), 2);
+    has_room(rt, stacks, 0, 3, 3);
+    has_room(rt, stacks, 1, 1, 2);
+}
+
+// Compares the entries of the rows, by a reader of each kind.
+fn read_rows_by_both(rt: &impl Abort, alloc: Global, stacks: &Stacks) -> Result<(), Fail> {
+    let mut reader = Reader::new(stacks);
+    reads_rows(rt, stacks, &mut reader);
+    let mut keeping = Reader::keeping(alloc, stacks)?;
+    reads_rows(rt, stacks, &mut keeping);
+    Ok(())
+}
+
 #[test]
 fn given_rows_are_read_as_they_stand(rt: HostRuntime) -> Result<(), Fail> {
     let alloc = rt.alloc();
-    let rows = tables::rows(&rt, alloc, &[&[0, 2, 1], &[1]])?;
     let weights = tables::weights(&rt, alloc, &[&[1, 1, 1], &[1, 3]])?;
-    let stacks = Stacks::new(StackSpec::Given(rows), weights, 1)?;
-    assert_eq!(&rt; stacks.count(), 2);
-    has_room(&rt, &stacks, 0, 3, 3);
-    has_room(&rt, &stacks, 1, 1, 2);
-    let mut reader = Reader::new(&stacks);
-    reads_rows(&rt, &stacks, &mut reader);
-    let mut keeping = Reader::keeping(alloc, &stacks)?;
-    reads_rows(&rt, &stacks, &mut keeping);
-    Ok(())
+    let stacks = given(&rt, alloc, weights)?;
+    have_room(&rt, &stacks);
+    read_rows_by_both(&rt, alloc, &stacks)
 }
 
 // The stacks of sample 2^25 under the key of zeros.
@@ -265,16 +307,20 @@ fn each_sample_has_streams_of_its_own(rt: HostRuntime) -> Result<(), Fail> {
     read_by_both(&rt, rt.alloc(), &stacks, &[0, 1, 1, 1, 1, 1, 0, 0])
 }
 
+// Compares the height of the first variable.
+fn has_height(rt: &impl Abort, stacks: &Stacks, height: u32) {
+    assert!(rt; 0 < stacks.count());
+    assert_eq!(rt; stacks.height(0), height);
+}
+
 // The values are those of the first test, under the key of zeros.
 #[test]
 fn a_reader_goes_on_when_its_stacks_are_raised(rt: HostRuntime) -> Result<(), Fail> {
-    let alloc = rt.alloc();
     let mut stacks = Stacks::new(StackSpec::Key([0; 32]), Weights::pairs(1), 8)?;
-    let mut reader = Reader::keeping(alloc, &stacks)?;
+    let mut reader = Reader::keeping(rt.alloc(), &stacks)?;
     look(&rt, &stacks, &mut reader, 0, 7, 1);
     stacks.raise(64);
-    assert!(&rt; 0 < stacks.count());
-    assert_eq!(&rt; stacks.height(0), 64);
-    reads_values(&rt, &stacks, &mut reader, &[1, 0, 0, 1, 1, 0, 0, 1]);
+    has_height(&rt, &stacks, 64);
+    reads_values(&rt, &stacks, &mut reader, WEIGHTS[0].1);
     Ok(())
 }
