@@ -9,7 +9,8 @@ mod Raising
 pub mod Increasing
 mod Order
 mod PermutedPairs
--- Gathering: the first of equal cubes, under its number
+-- Gathering: digests that differ; the first of equal cubes, under its number
+mod Digests
 mod FirstOfEach
 mod Gathered
 -- The index: places counted, put into rows, and named
@@ -17,3 +18,5 @@ mod Tallies
 mod PutRows
 mod FilledRows
 mod Naming
+-- Values: those of the first variables, as they become more
+mod FirstValuesLemmas

@@ -1,7 +1,9 @@
 -- For each variable the places of the events that name it.
-use Rattle.std.specs.Prelude.{◌≡◌, ◌↔◌, ℕ, ◌<◌, true, if◌then◌else◌, List, [], ◌∷◌, ◌++◌, length, filter, slice_index, slice_index_or, All, Contains}
+use Rattle.std.specs.Prelude.{◌≡◌, ◌↔◌, ℕ, ◌<◌, true, if◌then◌else◌, List, [], ◌∷◌, ◌++◌, length, filter, slice_index, slice_index_or, All, Contains, Option, Some, None, ⊤}
 use Rattle.std.specs.List.{range_with_len}
 use Rattle.std.specs.List.Sorted.{IsStrictlyIncreasing}
+use Rattle.pop_model.specs.Families.{Family}
+use Rattle.pop_model.specs.Families.Family.{Listed, Cycles}
 use Rattle.pop_model.specs.Popping.{Cube, NamesBelow, names}
 use Rattle.pop_rows.specs.FlatRows.{row_at}
 use Rattle.pop_instance.specs.Events.{cube_at}
@@ -13,6 +15,13 @@ pub record IsIndex (rows : List (ℕ × Cube)) (index : List (List ℕ)) : Type 
   pub exact : (v place : ℕ) → v < length index
       → Contains (slice_index_or index v []) place
       ↔ ((place < length rows) × (names (cube_at rows place) v ≡ true))
+
+-- the index of a family: that of its events where they are listed, and none of cycles
+abbrev pub IsFamilyIndex : Family → Option (List (List ℕ)) → Type 0
+IsFamilyIndex (Listed rows) (Some index) = IsIndex rows index
+IsFamilyIndex (Listed rows) None = ⊥
+IsFamilyIndex (Cycles heads) (Some index) = ⊥
+IsFamilyIndex (Cycles heads) None = ⊤
 
 -- the places below n of the events that name a variable, rising
 abbrev pub places_below : List (ℕ × Cube) → ℕ → ℕ → List ℕ

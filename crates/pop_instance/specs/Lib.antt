@@ -1,8 +1,10 @@
 pub mod Cubes
+pub mod Digests
 pub mod Events
 pub mod Gathering
 pub mod Arrows
 pub mod KeptHeads
 pub mod KeptNumbers
+pub mod FirstValues
 pub mod Family
 pub mod Index

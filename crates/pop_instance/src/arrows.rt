@@ -167,14 +167,36 @@ mod tests {
     use std::process::Abort;
     use std::test::Fail;
 
-    // Three rows of numbers in one array.
-    fn numbers(alloc: Global, first: &[u32], second: &[u32], third: &[u32]) -> Result<RowList, Fail>
-        ensures { IfOk result (λ rows. rows ≡ first.now ∷ second.now ∷ third.now ∷ []) }
+    // Rows of numbers in one array.
+    fn numbers(rt: &impl Abort, alloc: Global, table: &[&[u32]]) -> Result<RowList, Fail>
+        ensures short { IfOk result (λ rows. length rows < 2 ^ 31) }
+        ensures short_rows { IfOk result (All (λ row. length row < 2 ^ 31)) }
     {
         let mut rows = RowList::with_room(alloc, 3, 8)?;
-        rows.push_row(first)?;
-        rows.push_row(second)?;
-        rows.push_row(third)?;
+        for row in table {
+            assert!(rt; row.len() < 9);
+            rows.push_row(row)?;
+        }
+        assert!(rt; rows.count() < 9);
+        Ok(rows)
+    }
+
+    // Rows of heads in an array each.
+    fn heads(
+        rt: &impl Abort,
+        alloc: Global,
+        table: &[&[Option<u32>]],
+    ) -> Result<Vec<Vec<Option<u32>>>, Fail>
+        ensures short { IfOk result (λ rows. length rows.items < 2 ^ 31) }
+        ensures short_rows { IfOk result (λ rows.
+            All (λ row. length row < 2 ^ 31) (heads_of rows.items)) }
+    {
+        let mut rows = Vec::new(alloc);
+        for row in table {
+            assert!(rt; row.len() < 9);
+            rows.push(Vec::from_slice(alloc, row)?)?;
+        }
+        assert!(rt; rows.len() < 9);
         Ok(rows)
     }
 
@@ -193,39 +215,51 @@ mod tests {
     }
 
     // The case of the test below: variable 0 leads to the root and to variable 1.
+    static HEADS: [&[Option<u32>]; 3] = [&[None, Some(1)], &[Some(2)], &[Some(0), Some(0), None]];
+
+    // Compares arrows with those of the case.
     fn is_worked_case(rt: &impl Abort, arrows: &Arrows) {
         assert!(rt; arrows.count() == 3);
-        leads(rt, arrows, 0, &[None, Some(1)]);
-        leads(rt, arrows, 1, &[Some(2)]);
-        leads(rt, arrows, 2, &[Some(0), Some(0), None]);
+        for v in 0..3 {
+            leads(rt, arrows, v, HEADS[v as usize]);
+        }
     }
 
     // Worked by hand: of three variables, number 3 is the root.
     #[test]
     fn arrows_in_one_array_answer_like_lists(rt: HostRuntime) -> Result<(), Fail> {
         let alloc = rt.alloc();
-        let flat = Arrows::flat(numbers(alloc, &[3, 1], &[2], &[0, 0, 3])?);
+        let flat = Arrows::flat(numbers(&rt, alloc, &[&[3, 1], &[2], &[0, 0, 3]])?);
         is_worked_case(&rt, &flat.expect(&rt, "numbers up to 3"));
-        let lists = Arrows::new(vec![in alloc;
-            vec![in alloc; None, Some(1)]?,
-            vec![in alloc; Some(2)]?,
-            vec![in alloc; Some(0), Some(0), None]?,
-        ]?);
+        let lists = Arrows::new(heads(&rt, alloc, &HEADS)?);
         is_worked_case(&rt, &lists.expect(&rt, "variables below 3"));
         Ok(())
     }
 
+    // Rows without a slot of a variable, and with a number past the root.
+    static BAD_NUMBERS: [&[&[u32]]; 2] = [
+        &[&[3, 1], &[], &[0, 0, 3]],
+        &[&[3, 1], &[2], &[0, 4, 3]],
+    ];
+
+    // Rows without a slot of a variable, and with a head past the last variable.
+    static BAD_HEADS: [&[&[Option<u32>]]; 2] = [&[&[Some(0)], &[]], &[&[Some(1), None]]];
+
     #[test]
-    fn no_slot_and_a_head_past_the_root_are_refused(rt: HostRuntime) -> Result<(), Fail> {
-        let alloc = rt.alloc();
-        let no_slot = numbers(alloc, &[3, 1], &[], &[0, 0, 3])?;
-        assert!(&rt; Arrows::flat(no_slot).is_none());
-        let past_the_root = numbers(alloc, &[3, 1], &[2], &[0, 4, 3])?;
-        assert!(&rt; Arrows::flat(past_the_root).is_none());
-        let no_slot = vec![in alloc; vec![in alloc; Some(0)]?, Vec::new(alloc)]?;
-        assert!(&rt; Arrows::new(no_slot).is_none());
-        let past_the_last = vec![in alloc; vec![in alloc; Some(1), None]?]?;
-        assert!(&rt; Arrows::new(past_the_last).is_none());
+    fn no_slot_and_a_number_past_the_root_are_refused(rt: HostRuntime) -> Result<(), Fail> {
+        for table in BAD_NUMBERS.iter() {
+            let arrows = Arrows::flat(numbers(&rt, rt.alloc(), table)?);
+            assert!(&rt; arrows.is_none());
+        }
+        Ok(())
+    }
+
+    #[test]
+    fn no_slot_and_a_head_past_the_last_variable_are_refused(rt: HostRuntime) -> Result<(), Fail> {
+        for table in BAD_HEADS.iter() {
+            let arrows = Arrows::new(heads(&rt, rt.alloc(), table)?);
+            assert!(&rt; arrows.is_none());
+        }
         Ok(())
     }
 }

@@ -7,10 +7,14 @@ ghost use Rattle.pop_model.specs.Popping.{IsCube, variables, names};
 ghost use Rattle.pop_model.specs.Cycles.{demand};
 ghost use Rattle.pop_model.specs.Extremal.{Share};
 ghost use Rattle.pop_instance.specs.Cubes.{cube_cmp, cube_total};
+ghost use Rattle.pop_instance.specs.Digests.{digest};
 
 use std::alloc::{AllocError, Global};
 use std::cmp::Ordering;
 use std::marker::Model;
+
+// The base of the digests (Knuth's multiplier for MMIX).
+const DIGEST_BASE: u64 = 6364136223846793005;
 
 /// What an event demands: pairs of a variable and the value that it is to have. There is at least
 /// one pair, and the variables rise. Variables and values count from 0.
@@ -96,6 +100,14 @@ impl Cube {
         share(&self.pairs, &other.pairs)
     }
 
+    /// A number by which cubes are told apart: equal cubes have one, and different ones the same
+    /// only by a rare chance.
+    pub(crate) fn digest(&self) -> u64
+        ensures { result ≡ digest self.now }
+    {
+        digest_of(&self.pairs)
+    }
+
     /// An equal cube.
     pub fn copy(&self, alloc: Global) -> Result<Cube, AllocError>
         ensures { IfOk result (λ cube. cube ≡ self.now) }
@@ -149,6 +161,18 @@ impl Ord for Cube {
     }
 }
 
+// The digest of a list of pairs.
+fn digest_of(pairs: &[(u32, u32)]) -> u64
+    ensures { result ≡ digest pairs.now }
+{
+    let mut digest: u64 = 1;
+    for (v, x) in pairs {
+        let digit = *v as u64 + *x as u64 * 0x1_0000_0000;
+        digest = digest.wrapping_mul(DIGEST_BASE).wrapping_add(digit);
+    }
+    digest
+}
+
 // Whether the variables rise strictly.
 fn rises(pairs: &[(u32, u32)]) -> bool
     ensures { IsTrue result ↔ IsStrictlyIncreasing (variables pairs.now) }
@@ -183,41 +207,79 @@ fn share(pairs: &[(u32, u32)], others: &[(u32, u32)]) -> bool
 #[cfg(test)]
 mod tests {
     use super::*;
+    use crate::tables;
     use std::process::Abort;
     use std::test::Fail;
 
-    // The cube of a few pairs, if there is one.
-    fn cube(rt: &impl Abort, alloc: Global, pairs: &[(u32, u32)]) -> Result<Option<Cube>, Fail> {
+    // Pairs, and whether they make a cube.
+    static PAIRS: [(&[(u32, u32)], bool, &str); 5] = [
+        (&[], false, "no pair"),
+        (&[(7, 0)], true, "one pair"),
+        (&[(0, 1), (3, 0), (4, 0)], true, "gaps"),
+        (&[(3, 0), (1, 0)], false, "falling"),
+        (&[(0, 0), (2, 0), (2, 1)], false, "a variable twice"),
+    ];
+
+    // Whether these pairs make a cube.
+    fn make_a_cube(rt: &impl Abort, alloc: Global, pairs: &[(u32, u32)]) -> Result<bool, Fail> {
         assert!(rt; pairs.len() < 9);
-        Ok(Cube::new(Vec::from_slice(alloc, pairs)?))
+        Ok(Cube::new(Vec::from_slice(alloc, pairs)?).is_some())
     }
 
     #[test]
     fn a_cube_has_pairs_and_its_variables_rise_strictly(rt: HostRuntime) -> Result<(), Fail> {
-        let alloc = rt.alloc();
-        assert!(&rt; cube(&rt, alloc, &[])?.is_none(), "no pair");
-        assert!(&rt; cube(&rt, alloc, &[(7, 0)])?.is_some(), "one pair");
-        assert!(&rt;
-            cube(&rt, alloc, &[(0, 1), (3, 0), (4, 0)])?.is_some(),
-            "gaps"
-        );
-        assert!(&rt; cube(&rt, alloc, &[(3, 0), (1, 0)])?.is_none(), "falling");
-        assert!(&rt;
-            cube(&rt, alloc, &[(0, 0), (2, 0), (2, 1)])?.is_none(),
-            "a variable twice"
-        );
+        for (pairs, make, name) in PAIRS.iter() {
+            assert_eq!(&rt; make_a_cube(&rt, rt.alloc(), pairs)?, *make, "{name}");
+        }
         Ok(())
+    }
+
+    // Compares two cubes, of which the first is less.
+    fn is_less(
+        rt: &impl Abort,
+        alloc: Global,
+        low: &[(u32, u32)],
+        high: &[(u32, u32)],
+    ) -> Result<(), Fail> {
+        let low = tables::cube(rt, alloc, low)?;
+        let high = tables::cube(rt, alloc, high)?;
+        assert!(rt; low < high);
+        Ok(())
+    }
+
+    // Compares a cube with its copy.
+    fn has_a_copy(rt: &impl Abort, alloc: Global, pairs: &[(u32, u32)]) -> Result<(), Fail> {
+        let cube = tables::cube(rt, alloc, pairs)?;
+        let copy = cube.copy(alloc)?;
+        assert!(rt; copy == cube);
+        Ok(())
+    }
+
+    // Whether the cubes of these pairs share a variable.
+    fn share_a_variable(
+        rt: &impl Abort,
+        alloc: Global,
+        pairs: &[(u32, u32)],
+        others: &[(u32, u32)],
+    ) -> Result<bool, Fail> {
+        let cube = tables::cube(rt, alloc, pairs)?;
+        let other = tables::cube(rt, alloc, others)?;
+        Ok(cube.shares(&other))
     }
 
     #[test]
     fn cubes_are_ordered_as_lists_of_pairs(rt: HostRuntime) -> Result<(), Fail> {
         let alloc = rt.alloc();
-        let low = cube(&rt, alloc, &[(0, 1)])?.expect(&rt, "a cube");
-        let longer = cube(&rt, alloc, &[(0, 1), (1, 0)])?.expect(&rt, "a cube");
-        let high = cube(&rt, alloc, &[(0, 2)])?.expect(&rt, "a cube");
-        assert!(&rt; low < longer && longer < high && high.copy(alloc)? == high);
-        assert!(&rt; low.shares(&high));
-        assert!(&rt; !high.shares(&cube(&rt, alloc, &[(1, 2)])?.expect(&rt, "a cube")));
+        is_less(&rt, alloc, &[(0, 1)], &[(0, 1), (1, 0)])?;
+        is_less(&rt, alloc, &[(0, 1), (1, 0)], &[(0, 2)])?;
+        has_a_copy(&rt, alloc, &[(0, 2)])
+    }
+
+    #[test]
+    fn cubes_share_variables_whatever_their_values(rt: HostRuntime) -> Result<(), Fail> {
+        let alloc = rt.alloc();
+        assert!(&rt; share_a_variable(&rt, alloc, &[(0, 1)], &[(0, 2)])?);
+        assert!(&rt; !share_a_variable(&rt, alloc, &[(0, 2)], &[(1, 2)])?);
         Ok(())
     }
 }

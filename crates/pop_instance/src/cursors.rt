@@ -169,27 +169,4 @@ pub(crate) fn raise(entries: &mut [u32], cube: &Cube)
 }
 
 #[cfg(test)]
-mod tests {
-    use super::*;
-    use pop_stacks::{Rows, StackSpec, Weights};
-    use std::test::Fail;
-
-    // Two variables with the entries 0, 1 each; the cube has the values 0 and 0.
-    #[test]
-    fn a_pop_moves_each_variable_of_the_event(rt: HostRuntime) -> Result<(), Fail> {
-        let alloc = rt.alloc();
-        let rows = Rows::of(vec![in alloc; vec![in alloc; 0, 1]?, vec![in alloc; 0, 1]?]?);
-        let stacks = Stacks::new(StackSpec::Given(rows), Weights::pairs(2), 1)?;
-        let mut reader = Reader::new(&stacks);
-        let cube = Cube::new(vec![in alloc; (0, 0), (1, 0)]?).expect(&rt, "a cube");
-        let start = Cursors::zeros(alloc, 2)?;
-        assert!(&rt; start.occurs(&stacks, &mut reader, &cube));
-        assert!(&rt; start.poppable(&stacks, &mut reader, &cube));
-        let mut cursors = start.copy(alloc)?;
-        cursors.pop(&cube);
-        assert_eq!(&rt; (cursors.get(0), cursors.get(1)), (1, 1));
-        assert_eq!(&rt; (start.get(0), start.get(1)), (0, 0));
-        assert!(&rt; !cursors.occurs(&stacks, &mut reader, &cube));
-        Ok(())
-    }
-}
+mod tests;

@@ -1,6 +1,7 @@
-ghost use Rattle.std.specs.Prelude.{◌≡◌, ◌<◌, ◌≤◌, ◌^◌, ◌↔◌, length, map, IsTrue, IfOk, vec_len};
+ghost use Rattle.std.specs.Prelude.{◌≡◌, ◌≢◌, ◌<◌, ◌≤◌, ◌^◌, ◌↔◌, length, map, AllPairs, IsTrue, IfOk, vec_len};
 ghost use Rattle.std.specs.List.Sorted.{IsStrictlyIncreasing};
 ghost use Rattle.pop_model.specs.Families.{AreEvents};
+ghost use Rattle.pop_instance.specs.Digests.{digest};
 ghost use Rattle.pop_instance.specs.Events.{cube_at, event_number, HasCube};
 ghost use Rattle.pop_instance.specs.Gathering.{KeepsFirst};
 
@@ -28,15 +29,16 @@ impl Model for Events {
 
 impl Events {
     /// The events of these rows, at most 2^31 - 1. Of equal cubes the first is kept, under its
-    /// number. The rows are sorted where they stand, in time n log n for n rows, and no memory is
-    /// taken beside them.
-    pub fn gather(_alloc: Global, rows: Vec<(u32, Cube)>) -> Result<Events, AllocError>
+    /// number. The time is linear in all pairs, and beside that n log n for n rows; for a while 8
+    /// bytes of memory a row are taken. The rows themselves are sorted, where they stand, only if
+    /// two cubes are equal or, by a rare chance, have equal digests.
+    pub fn gather(alloc: Global, rows: Vec<(u32, Cube)>) -> Result<Events, AllocError>
         requires rising { IsStrictlyIncreasing (map (λ r. r.0) rows.items) }
         requires short { length rows.items < 2 ^ 31 }
         ensures { IfOk result (KeepsFirst rows.items) }
     {
         let mut rows = rows;
-        keep_first(&mut rows);
+        drop_repeated(alloc, &mut rows)?;
         // Each length is read for its contract, which says that the row has a cube.
         for (_, cube) in &rows {
             let _len = cube.len();
@@ -120,6 +122,40 @@ fn has_cube(rows: &[(u32, Cube)], cube: &Cube) -> bool
     false
 }
 
+// The digest of each row's cube.
+fn digests_of(alloc: Global, rows: &[(u32, Cube)]) -> Result<Vec<u64>, AllocError>
+    ensures { IfOk result (λ digests. digests.items ≡ map (λ r. digest r.1) rows.now) }
+{
+    let mut digests = Vec::with_capacity(alloc, rows.len())?;
+    for (_, cube) in rows {
+        digests.push(cube.digest())?;
+    }
+    Ok(digests)
+}
+
+// Whether the digests of any two rows' cubes differ: whether they rise once they are sorted.
+fn digests_differ(alloc: Global, rows: &[(u32, Cube)]) -> Result<bool, AllocError>
+    ensures { IfOk result (λ differ.
+        IsTrue differ ↔ AllPairs (λ r q. digest r.1 ≢ digest q.1) rows.now) }
+{
+    let mut digests = digests_of(alloc, rows)?;
+    digests.sort_unstable();
+    Ok(digests.is_sorted_by(|digest, next| *digest < *next))
+}
+
+// Keeps the first of the rows with one cube. Cubes whose digests differ are different, so mostly
+// the rows stay as they are.
+fn drop_repeated(alloc: Global, rows: &mut Vec<(u32, Cube)>) -> Result<(), AllocError>
+    requires { IsStrictlyIncreasing (map (λ r. r.0) rows.old.items) }
+    ensures kept { IfOk result (λ _. KeepsFirst rows.old.items rows.new.items) }
+    ensures fewer { vec_len rows.new ≤ vec_len rows.old }
+{
+    if !digests_differ(alloc, rows)? {
+        keep_first(rows);
+    }
+    Ok(())
+}
+
 // Keeps the first of the rows with one cube. Sorted by cube and then by number, they stand together
 // with the first in front.
 fn keep_first(rows: &mut Vec<(u32, Cube)>)
@@ -135,38 +171,85 @@ fn keep_first(rows: &mut Vec<(u32, Cube)>)
 #[cfg(test)]
 mod tests {
     use super::*;
+    use crate::tables;
     use std::process::Abort;
     use std::test::Fail;
 
-    // A row whose cube has one pair.
-    fn row(rt: &impl Abort, alloc: Global, number: u32, v: u32) -> Result<(u32, Cube), Fail>
-        ensures { IfOk result (λ r. r.0 ≡ number) }
-    {
-        let cube = Cube::new(vec![in alloc; (v, 0)]?).expect(rt, "one pair");
-        Ok((number, cube))
-    }
+    // Two cubes of one digest: behind the leading 1 the first has the digits 0 and base + 2, the
+    // other 1 and 2.
+    static COLLISION: [(u32, &[(u32, u32)]); 2] = [
+        (2, &[(0, 0), (1284865839, 1481765933)]),
+        (7, &[(1, 0), (2, 0)]),
+    ];
+
+    static DIFFERENT: [(u32, &[(u32, u32)]); 3] = [(1, &[(8, 0)]), (4, &[(3, 0)]), (5, &[(0, 0)])];
 
     // Cubes 3 and 5 repeat: 3 at the front and in the middle, 5 at the end.
+    static REPEATED: [(u32, &[(u32, u32)]); 6] = [
+        (1, &[(3, 0)]),
+        (2, &[(3, 0)]),
+        (3, &[(4, 0)]),
+        (5, &[(3, 0)]),
+        (6, &[(5, 0)]),
+        (9, &[(5, 0)]),
+    ];
+
+    // Compares an event's number and first pair.
+    fn is_event(rt: &impl Abort, events: &Events, place: u32, number: u32, first: (u32, u32)) {
+        assert!(rt; place < events.count());
+        assert_eq!(rt; events.number(place), number, "place {place}");
+        let cube = events.cube(place);
+        assert!(rt; 0 < cube.len());
+        assert_eq!(rt; cube.pair(0), first, "place {place}");
+    }
+
+    // Compares the number and the first pair of each event.
+    fn are_events(rt: &impl Abort, events: &Events, want: &[(u32, (u32, u32))]) {
+        assert_eq!(rt; events.count() as usize, want.len());
+        for place in 0..events.count() {
+            let (number, first) = want[place as usize];
+            is_event(rt, events, place, number, first);
+        }
+    }
+
+    // Compares what is gathered from these rows, and whether their digests differ.
+    fn gather(
+        rt: &impl Abort,
+        alloc: Global,
+        table: &[(u32, &[(u32, u32)])],
+        differ: bool,
+        want: &[(u32, (u32, u32))],
+    ) -> Result<(), Fail> {
+        let rows = tables::rows(rt, alloc, table)?;
+        assert_eq!(rt; digests_differ(alloc, &rows)?, differ);
+        let events = Events::gather(alloc, rows)?;
+        are_events(rt, &events, want);
+        Ok(())
+    }
+
+    // The digest of the cube of these pairs.
+    fn digest(rt: &impl Abort, alloc: Global, pairs: &[(u32, u32)]) -> Result<u64, Fail> {
+        Ok(tables::cube(rt, alloc, pairs)?.digest())
+    }
+
+    #[test]
+    fn cubes_that_differ_stay_where_their_digests_are_equal(rt: HostRuntime) -> Result<(), Fail> {
+        let alloc = rt.alloc();
+        let first = digest(&rt, alloc, COLLISION[0].1)?;
+        let last = digest(&rt, alloc, COLLISION[1].1)?;
+        assert_eq!(&rt; first, last);
+        gather(&rt, alloc, &COLLISION, false, &[(2, (0, 0)), (7, (1, 0))])
+    }
+
+    #[test]
+    fn rows_without_equal_cubes_stay_as_they_are(rt: HostRuntime) -> Result<(), Fail> {
+        let want = [(1, (8, 0)), (4, (3, 0)), (5, (0, 0))];
+        gather(&rt, rt.alloc(), &DIFFERENT, true, &want)
+    }
+
     #[test]
     fn the_first_of_equal_cubes_is_kept_under_its_number(rt: HostRuntime) -> Result<(), Fail> {
-        let alloc = rt.alloc();
-        let rows = vec![in alloc;
-            row(&rt, alloc, 1, 3)?,
-            row(&rt, alloc, 2, 3)?,
-            row(&rt, alloc, 3, 4)?,
-            row(&rt, alloc, 5, 3)?,
-            row(&rt, alloc, 6, 5)?,
-            row(&rt, alloc, 9, 5)?,
-        ]?;
-        let events = Events::gather(alloc, rows)?;
-        assert_eq!(&rt; events.count(), 3);
-        for (place, (number, v)) in [(0, (1, 3)), (1, (3, 4)), (2, (6, 5))] {
-            assert!(&rt; place < events.count());
-            assert_eq!(&rt; events.number(place), number, "place {place}");
-            let cube = events.cube(place);
-            assert!(&rt; 0 < cube.len());
-            assert_eq!(&rt; cube.pair(0), (v, 0), "place {place}");
-        }
-        Ok(())
+        let want = [(1, (3, 0)), (3, (4, 0)), (6, (5, 0))];
+        gather(&rt, rt.alloc(), &REPEATED, false, &want)
     }
 }

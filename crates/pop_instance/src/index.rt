@@ -76,37 +76,56 @@ fn push_at_each(rows: &mut FlatRows, cube: &Cube, place: u32)
 #[cfg(test)]
 mod tests {
     use super::*;
-    use crate::Family;
+    use crate::{Family, tables};
     use pop_stacks::{StackSpec, Stacks, Weights};
     use std::process::Abort;
     use std::test::Fail;
 
-    // The cube that has these variables, each with value 0.
-    fn cube(rt: &impl Abort, alloc: Global, variables: &[u32]) -> Result<Cube, Fail> {
-        assert!(rt; variables.len() < 9);
-        let pairs = variables.iter().map(|v| (*v, 0)).collect(alloc)?;
-        Ok(Cube::new(pairs).expect(rt, "a cube"))
+    // The index of listed events over the four variables of the stacks.
+    fn build(
+        rt: &impl Abort,
+        alloc: Global,
+        stacks: &Stacks,
+        family: &Family,
+    ) -> Result<Index, Fail>
+        ensures { IfOk result (λ index. length index ≡ 4) }
+    {
+        assert!(rt; family.fits(stacks));
+        assert!(rt; stacks.count() == 4);
+        let Family::Listed(events) = family else {
+            panic!(rt; "a listed family");
+        };
+        Ok(Index::build(alloc, events, 4)?)
     }
+
+    // The index of listed events over four variables.
+    fn index(rt: &impl Abort, alloc: Global, family: &Family) -> Result<Index, Fail>
+        ensures { IfOk result (λ index. length index ≡ 4) }
+    {
+        let stacks = Stacks::new(StackSpec::Key([0; 32]), Weights::pairs(4), 1)?;
+        build(rt, alloc, &stacks, family)
+    }
+
+    // Compares the places of each of four variables.
+    fn has_places(rt: &impl Abort, index: &Index, want: &[&[u32]; 4])
+        requires { length index.now ≡ 4 }
+    {
+        for v in 0..4 {
+            assert_eq!(rt; index.at(v), want[v as usize], "variable {v}");
+        }
+    }
+
+    static ROWS: [(u32, &[(u32, u32)]); 3] = [
+        (1, &[(0, 0), (2, 0)]),
+        (2, &[(2, 0)]),
+        (4, &[(0, 0), (1, 0)]),
+    ];
 
     #[test]
     fn each_variable_has_the_places_that_name_it(rt: HostRuntime) -> Result<(), Fail> {
-        let alloc = rt.alloc();
-        let rows = vec![in alloc;
-            (1, cube(&rt, alloc, &[0, 2])?),
-            (2, cube(&rt, alloc, &[2])?),
-            (4, cube(&rt, alloc, &[0, 1])?),
-        ]?;
-        let family = Family::Listed(Events::gather(alloc, rows)?);
-        let stacks = Stacks::new(StackSpec::Key([0; 32]), Weights::pairs(4), 1)?;
-        assert!(&rt; family.fits(&stacks) && stacks.count() == 4);
-        let Family::Listed(events) = &family else {
-            panic!(&rt; "a listed family");
-        };
-        let index = Index::build(alloc, events, 4)?;
-        assert_eq!(&rt; index.at(0), [0, 2].as_slice());
-        assert_eq!(&rt; index.at(1), [2].as_slice());
-        assert_eq!(&rt; index.at(2), [0, 1].as_slice());
-        assert_eq!(&rt; index.at(3), [].as_slice());
+        let family = Family::Listed(tables::events(&rt, rt.alloc(), &ROWS)?);
+        let index = index(&rt, rt.alloc(), &family)?;
+        has_places(&rt, &index, &[&[0, 2], &[2], &[0, 1], &[]]);
         Ok(())
     }
 }

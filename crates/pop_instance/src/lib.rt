@@ -24,3 +24,6 @@ pub use family::Family;
 pub use index::Index;
 pub use instance::Instance;
 pub use values::Values;
+
+#[cfg(test)]
+mod tables;

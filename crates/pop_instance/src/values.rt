@@ -1,7 +1,8 @@
-ghost use Rattle.std.specs.Prelude.{◌≡◌, ◌<◌, ◌≤◌, ℕ, length, slice_index, IfOk};
+ghost use Rattle.std.specs.Prelude.{◌≡◌, ◌<◌, ◌≤◌, ℕ, length, slice_index, All, IfOk, OnOk};
 ghost use Rattle.pop_model.specs.Stacks.{variables_of, domain_of};
 ghost use Rattle.pop_model.specs.Popping.{AreWithin, AreValuesAt};
 ghost use Rattle.pop_stacks.specs.Readers.{Belongs};
+ghost use Rattle.pop_instance.specs.FirstValues.{AreFirstValues};
 
 use crate::Cursors;
 use pop_stacks::{Reader, Stacks};
@@ -53,6 +54,30 @@ impl Values {
         Ok(Values { kept })
     }
 
+    /// The same by several readers, in whose order blocks of the variables are looked up, about as
+    /// many by each. So what each keeps of its block isn't drawn again. Readers keep nothing of
+    /// more than 256 values, and the last one looks all of them up.
+    pub fn at_by(
+        alloc: Global,
+        stacks: &Stacks,
+        readers: &mut [Reader],
+        cursors: &Cursors,
+    ) -> Result<Values, AllocError>
+        requires some { 0 < length readers.old }
+        requires count { variables_of stacks.now ≡ length cursors.now }
+        requires within { AreWithin stacks.now cursors.now }
+        requires belong { All (Belongs stacks.now) readers.old }
+        ensures values { IfOk result (AreValuesAt stacks.now cursors.now) }
+    {
+        let last = readers.len() - 1;
+        let kept = if stacks.have_at_most(256) {
+            KeptNumbers::Bytes(bytes_by(alloc, stacks, readers, cursors)?)
+        } else {
+            KeptNumbers::Words(words_at(alloc, stacks, &mut readers[last], cursors)?)
+        };
+        Ok(Values { kept })
+    }
+
     /// The value of a variable.
     pub fn get(&self, v: u32) -> u32
         requires known { v < length self.now }
@@ -81,10 +106,61 @@ fn bytes_at(
 {
     let count = stacks.count();
     let mut bytes = Vec::with_capacity(alloc, count as usize)?;
-    for v in 0..count {
+    add_bytes(&mut bytes, stacks, reader, cursors, count)?;
+    Ok(bytes)
+}
+
+// The same by several readers. The last one looks up what the others leave.
+fn bytes_by(
+    alloc: Global,
+    stacks: &Stacks,
+    readers: &mut [Reader],
+    cursors: &Cursors,
+) -> Result<Vec<u8>, AllocError>
+    requires some { 0 < length readers.old }
+    requires small { (v : ℕ) → v < variables_of stacks.now → domain_of stacks.now v ≤ 256 }
+    requires count { variables_of stacks.now ≡ length cursors.now }
+    requires within { AreWithin stacks.now cursors.now }
+    requires belong { All (Belongs stacks.now) readers.old }
+    ensures values { IfOk result (λ bytes. AreValuesAt stacks.now cursors.now bytes.items) }
+{
+    let count = stacks.count();
+    let last = readers.len() - 1;
+    let block = (count as usize / readers.len()) as u32;
+    let mut bytes = Vec::with_capacity(alloc, count as usize)?;
+    let mut end = 0;
+    for place in 0..last {
+        end = count.min(block.saturating_add(end));
+        add_bytes(&mut bytes, stacks, &mut readers[place], cursors, end)?;
+    }
+    add_bytes(&mut bytes, stacks, &mut readers[last], cursors, count)?;
+    Ok(bytes)
+}
+
+// Adds to the values of the first variables those of the next ones, up to below `end`.
+fn add_bytes(
+    bytes: &mut Vec<u8>,
+    stacks: &Stacks,
+    reader: &mut Reader,
+    cursors: &Cursors,
+    end: u32,
+) -> Result<(), AllocError>
+    requires small { (v : ℕ) → v < variables_of stacks.now → domain_of stacks.now v ≤ 256 }
+    requires count { variables_of stacks.now ≡ length cursors.now }
+    requires within { AreWithin stacks.now cursors.now }
+    requires belongs { Belongs stacks.now reader.old }
+    requires first { AreFirstValues stacks.now cursors.now bytes.old.items }
+    requires more { length bytes.old.items ≤ end }
+    requires most { end ≤ variables_of stacks.now }
+    ensures first { OnOk result (AreFirstValues stacks.now cursors.now bytes.new.items) }
+    ensures count { OnOk result (length bytes.new.items ≡ end) }
+    ensures reader { reader.new ≡ reader.old }
+{
+    let _count = stacks.count();
+    for v in bytes.len() as u32..end {
         bytes.push(reader.entry(stacks, v, cursors.get(v)) as u8)?;
     }
-    Ok(bytes)
+    Ok(())
 }
 
 // The value of each variable at its cursor, a word each.
@@ -106,4 +182,77 @@ fn words_at(
         words.push(reader.entry(stacks, v, cursors.get(v)))?;
     }
     Ok(words)
+}
+
+#[cfg(test)]
+mod tests {
+    use super::*;
+    use crate::tables;
+    use std::process::Abort;
+    use std::test::Fail;
+
+    // So many readers of the stacks, one at least.
+    fn readers_of(alloc: Global, stacks: &Stacks, count: u32) -> Result<Vec<Reader>, AllocError>
+        ensures some { IfOk result (λ readers. 0 < length readers.items) }
+        ensures belong { IfOk result (λ readers. All (Belongs stacks.now) readers.items) }
+    {
+        let mut readers = Vec::new(alloc);
+        readers.push(Reader::new(stacks))?;
+        for _ in 1..count {
+            readers.push(Reader::new(stacks))?;
+        }
+        Ok(readers)
+    }
+
+    // The value of a variable at cursors, by so many readers.
+    fn value_by(
+        alloc: Global,
+        stacks: &Stacks,
+        cursors: &Cursors,
+        count: u32,
+        v: u32,
+    ) -> Result<u32, AllocError>
+        requires count { variables_of stacks.now ≡ length cursors.now }
+        requires within { AreWithin stacks.now cursors.now }
+        requires variable { v < variables_of stacks.now }
+    {
+        let mut readers = readers_of(alloc, stacks, count)?;
+        let values = Values::at_by(alloc, stacks, &mut readers, cursors)?;
+        Ok(values.get(v))
+    }
+
+    // The value of a variable at its first entry, by so many readers.
+    fn first_value(
+        rt: &impl Abort,
+        alloc: Global,
+        stacks: &Stacks,
+        count: u32,
+        v: u32,
+    ) -> Result<u32, Fail> {
+        let zeros = Cursors::zeros(alloc, stacks.count())?;
+        let within = tables::are_within(stacks, &zeros);
+        assert!(rt; within);
+        assert!(rt; v < stacks.count());
+        Ok(value_by(alloc, stacks, &zeros, count, v)?)
+    }
+
+    // Compares the first entries of two variables with 0 and 1, by so many readers.
+    fn see_values(rt: &impl Abort, alloc: Global, stacks: &Stacks, count: u32) -> Result<(), Fail> {
+        let first = first_value(rt, alloc, stacks, count, 0)?;
+        assert_eq!(rt; first, 0, "{count} readers");
+        let last = first_value(rt, alloc, stacks, count, 1)?;
+        assert_eq!(rt; last, 1, "{count} readers");
+        Ok(())
+    }
+
+    // Two variables with the entries 0, 1 and 1, 0.
+    #[test]
+    fn as_many_readers_as_there_are_see_one_value(rt: HostRuntime) -> Result<(), Fail> {
+        let alloc = rt.alloc();
+        let stacks = tables::stacks(&rt, alloc, &[&[0, 1], &[1, 0]])?;
+        for count in 1..4 {
+            see_values(&rt, alloc, &stacks, count)?;
+        }
+        Ok(())
+    }
 }

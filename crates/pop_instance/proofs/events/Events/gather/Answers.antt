@@ -17,8 +17,8 @@ pub invariant_of-result : goal.invariant_of-result
 invariant_of-result c =
     let HasACube : ℕ × Cube → Type 0 = λ r. IsCube r.1 in
     let rows : List (ℕ × Cube) = c.deref-cube-items.result.now in
-    let kept : List (ℕ × Cube) = c.keep_first.new.rows.items in
+    let kept : List (ℕ × Cube) = c.drop_repeated.new.rows.items in
     let cubes : All HasACube rows = all_whole HasACube rows c.loop-cube.cube-index (omega arith) c.loop-cube.invariant in (
-      kept_events c.args.rows.items kept c.keep_first.ensures.kept (subst (All HasACube) c.deref-cube-items.ensures.value cubes),
-      omega (arith, c.keep_first.ensures.fewer, c.requires.short, c.args.rows.ok.0, c.keep_first.new.rows.ok.0),
+      kept_events c.args.rows.items kept c.in_ok-drop_repeated.ensures.kept (subst (All HasACube) c.deref-cube-items.ensures.value cubes),
+      omega (arith, c.drop_repeated.ensures.fewer, c.requires.short, c.args.rows.ok.0, c.drop_repeated.new.rows.ok.0),
     )
