@@ -81,6 +81,7 @@ large_number_of_edges = refl
 header_of_eleven_digits : graph_refusal (text (codes "p edge 00000000002 1" ∷ [])) ≡ Some (Malformed 1 11)
 header_of_eleven_digits = refl
 
+-- lines that are passed over count, where the header behind them is named
 bad_header_behind_comments : graph_refusal (text (codes "c x" ∷ [] ∷ codes "p col 2" ∷ [])) ≡ Some (Malformed 3 11)
 bad_header_behind_comments = refl
 
@@ -105,6 +106,7 @@ most_vertices = refl
 too_many_vertices : graph_refusal (text (codes "p edge 4194305 0" ∷ [])) ≡ Some (Limit 2 1)
 too_many_vertices = refl
 
+-- and where the limit is
 too_many_vertices_behind_a_comment : graph_refusal (text (codes "c" ∷ codes "p col 4294967295 0" ∷ []))
     ≡ Some (Limit 2 2)
 too_many_vertices_behind_a_comment = refl
@@ -113,6 +115,7 @@ too_many_vertices_behind_a_comment = refl
 vertices_past_the_numbers : graph_refusal (text (codes "p col 4294967296 0" ∷ [])) ≡ Some (Malformed 1 11)
 vertices_past_the_numbers = refl
 
+-- a header of three words has no number of vertices to judge
 too_many_vertices_in_three_words : graph_refusal (text (codes "p edge 4194305" ∷ [])) ≡ Some (Malformed 1 11)
 too_many_vertices_in_three_words = refl
 
@@ -120,18 +123,23 @@ too_many_vertices_in_three_words = refl
 no_number_first : graph_refusal (text (codes "p edge 2 1" ∷ codes "e x 2" ∷ [])) ≡ Some (Malformed 2 12)
 no_number_first = refl
 
+-- as the second end
 no_number_second : graph_refusal (text (codes "p edge 2 1" ∷ codes "e 1 2x" ∷ [])) ≡ Some (Malformed 2 12)
 no_number_second = refl
 
+-- as the weight: no sign stands before a number
 no_number_of_weight : graph_refusal (text (codes "p edge 2 1" ∷ codes "e 1 2 -1" ∷ [])) ≡ Some (Malformed 2 12)
 no_number_of_weight = refl
 
+-- a number has at most ten digits
 eleven_digits : graph_refusal (text (codes "p edge 2 1" ∷ codes "e 1 00000000002" ∷ [])) ≡ Some (Malformed 2 12)
 eleven_digits = refl
 
+-- an end is below 2^32
 past_the_numbers : graph_refusal (text (codes "p edge 2 1" ∷ codes "e 1 4294967296" ∷ [])) ≡ Some (Malformed 2 12)
 past_the_numbers = refl
 
+-- and so is a weight
 weight_past_the_numbers : graph_refusal (text (codes "p edge 2 1" ∷ codes "e 1 2 4294967296" ∷ []))
     ≡ Some (Malformed 2 12)
 weight_past_the_numbers = refl
@@ -140,18 +148,23 @@ weight_past_the_numbers = refl
 vertex_0_first : graph_refusal (text (codes "p edge 2 1" ∷ codes "e 0 1" ∷ [])) ≡ Some (Malformed 2 13)
 vertex_0_first = refl
 
+-- vertices count from 1 at the second end too
 vertex_0_second : graph_refusal (text (codes "p edge 2 1" ∷ codes "e 1 0" ∷ [])) ≡ Some (Malformed 2 13)
 vertex_0_second = refl
 
+-- one past the last vertex
 past_the_vertices_first : graph_refusal (text (codes "p edge 2 1" ∷ codes "e 3 1" ∷ [])) ≡ Some (Malformed 2 13)
 past_the_vertices_first = refl
 
+-- the same at the second end
 past_the_vertices_second : graph_refusal (text (codes "p edge 2 1" ∷ codes "e 1 3" ∷ [])) ≡ Some (Malformed 2 13)
 past_the_vertices_second = refl
 
+-- the greatest number that a word may be
 greatest_number : graph_refusal (text (codes "p edge 2 1" ∷ codes "e 4294967295 1" ∷ [])) ≡ Some (Malformed 2 13)
 greatest_number = refl
 
+-- where there is no vertex no edge is right
 edge_without_vertices : graph_refusal (text (codes "p edge 0 0" ∷ codes "e 1 1" ∷ [])) ≡ Some (Malformed 2 13)
 edge_without_vertices = refl
 
@@ -159,6 +172,7 @@ edge_without_vertices = refl
 weight_0 : graph_refusal (text (codes "p edge 2 1" ∷ codes "e 1 2 0" ∷ [])) ≡ Some (Malformed 2 14)
 weight_0 = refl
 
+-- as ten digits
 weight_of_zeros : graph_refusal (text (codes "p edge 2 1" ∷ codes "e 1 2 0000000000" ∷ [])) ≡ Some (Malformed 2 14)
 weight_of_zeros = refl
 
@@ -166,24 +180,31 @@ weight_of_zeros = refl
 one_word : graph_refusal (text (codes "p edge 2 1" ∷ codes "e" ∷ [])) ≡ Some (Malformed 2 15)
 one_word = refl
 
+-- with one end
 two_words : graph_refusal (text (codes "p edge 2 1" ∷ codes "e 1" ∷ [])) ≡ Some (Malformed 2 15)
 two_words = refl
 
+-- with one word too many
 five_words : graph_refusal (text (codes "p edge 2 1" ∷ codes "e 1 2 3 4" ∷ [])) ≡ Some (Malformed 2 15)
 five_words = refl
 
+-- a header behind the first one
 second_header : graph_refusal (text (codes "p edge 2 1" ∷ codes "p edge 2 1" ∷ [])) ≡ Some (Malformed 2 15)
 second_header = refl
 
+-- the end of other programs' texts
 percent : graph_refusal (text (codes "p edge 2 1" ∷ codes "%" ∷ [])) ≡ Some (Malformed 2 15)
 percent = refl
 
+-- a word that begins no line
 other_word : graph_refusal (text (codes "p edge 2 1" ∷ codes "a 1 2" ∷ [])) ≡ Some (Malformed 2 15)
 other_word = refl
 
+-- words are told apart by case
 upper_case_edge : graph_refusal (text (codes "p edge 2 1" ∷ codes "E 1 2" ∷ [])) ≡ Some (Malformed 2 15)
 upper_case_edge = refl
 
+-- and are whole
 longer_edge_word : graph_refusal (text (codes "p edge 2 1" ∷ codes "ee 1 2" ∷ [])) ≡ Some (Malformed 2 15)
 longer_edge_word = refl
 
@@ -191,15 +212,19 @@ longer_edge_word = refl
 longer_n : graph_refusal (text (codes "p edge 2 1" ∷ codes "nn 1 5" ∷ [])) ≡ Some (Malformed 2 15)
 longer_n = refl
 
+-- a dimension is the word d
 longer_d : graph_refusal (text (codes "p edge 2 1" ∷ codes "d1 5" ∷ [])) ≡ Some (Malformed 2 15)
 longer_d = refl
 
+-- a vertex is the word v
 longer_v : graph_refusal (text (codes "p edge 2 1" ∷ codes "vertex 1" ∷ [])) ≡ Some (Malformed 2 15)
 longer_v = refl
 
+-- a parameter is the word x
 longer_x : graph_refusal (text (codes "p edge 2 1" ∷ codes "x= 1" ∷ [])) ≡ Some (Malformed 2 15)
 longer_x = refl
 
+-- each line that is passed over, in one text
 passed_over_lines : Reads (text (codes "p edge 2 1" ∷ codes "n 1 5" ∷ codes "d" ∷ codes "c" ∷ codes "v 1 2 x"
     ∷ codes "x 0" ∷ codes "cedge" ∷ codes "  c 1" ∷ [] ∷ codes "e 1 2" ∷ []))
     2 (edge 1 2 1 ∷ [])
@@ -209,21 +234,27 @@ passed_over_lines = (refl, refl)
 code_13_of_the_first_word : graph_refusal (text (codes "p edge 2 1" ∷ codes "e 0 x" ∷ [])) ≡ Some (Malformed 2 13)
 code_13_of_the_first_word = refl
 
+-- the first end is judged before the second
 code_12_of_the_first_word : graph_refusal (text (codes "p edge 2 1" ∷ codes "e x 0" ∷ [])) ≡ Some (Malformed 2 12)
 code_12_of_the_first_word = refl
 
+-- the second end before the weight
 code_12_before_the_weight : graph_refusal (text (codes "p edge 2 1" ∷ codes "e 1 x 0" ∷ [])) ≡ Some (Malformed 2 12)
 code_12_before_the_weight = refl
 
+-- also where it is a number, and the weight is none
 code_13_before_the_weight : graph_refusal (text (codes "p edge 2 1" ∷ codes "e 1 3 x" ∷ [])) ≡ Some (Malformed 2 13)
 code_13_before_the_weight = refl
 
+-- a wrong vertex before the weight 0
 code_13_before_weight_0 : graph_refusal (text (codes "p edge 2 1" ∷ codes "e 3 1 0" ∷ [])) ≡ Some (Malformed 2 13)
 code_13_before_weight_0 = refl
 
+-- the number of words before the ends
 code_15_before_code_13 : graph_refusal (text (codes "p edge 2 1" ∷ codes "e 0 0 0 0" ∷ [])) ≡ Some (Malformed 2 15)
 code_15_before_code_13 = refl
 
+-- the first word before the others
 code_15_before_code_12 : graph_refusal (text (codes "p edge 2 1" ∷ codes "a x x" ∷ [])) ≡ Some (Malformed 2 15)
 code_15_before_code_12 = refl
 
@@ -232,19 +263,23 @@ first_line_of_two : graph_refusal (text (codes "p edge 2 1" ∷ codes "e 1 3" �
     ≡ Some (Malformed 2 13)
 first_line_of_two = refl
 
+-- whichever its code is
 other_line_of_two : graph_refusal (text (codes "p edge 2 1" ∷ codes "e 1 x" ∷ codes "e 1 3" ∷ []))
     ≡ Some (Malformed 2 12)
 other_line_of_two = refl
 
+-- lines that are passed over count, and what stands behind says nothing
 bad_middle_line : graph_refusal (text (codes "p edge 2 1" ∷ codes "e 1 2" ∷ codes "c" ∷ codes "e 1 2 0"
     ∷ codes "e 2 1" ∷ []))
     ≡ Some (Malformed 4 14)
 bad_middle_line = refl
 
+-- the last line is judged as the others are
 bad_last_line : graph_refusal (text (codes "p edge 2 1" ∷ codes "e 1 2" ∷ codes "e 2 1" ∷ codes "e 1" ∷ []))
     ≡ Some (Malformed 4 15)
 bad_last_line = refl
 
+-- the header is judged before the lines behind it
 bad_header_and_line : graph_refusal (text (codes "p edge 2" ∷ codes "e 1 x" ∷ [])) ≡ Some (Malformed 1 11)
 bad_header_and_line = refl
 
@@ -303,8 +338,10 @@ grid_of_one_row = refl
 neighbours_of_the_middle : grid_neighbours 3 2 2 ≡ 2 ∷ 4 ∷ 6 ∷ 8 ∷ []
 neighbours_of_the_middle = refl
 
+-- a corner has two
 neighbours_of_a_corner : neighbours_of (grid_of 3) 1 ≡ 2 ∷ 4 ∷ []
 neighbours_of_a_corner = refl
 
+-- the end of a row has three
 neighbours_of_a_row_end : neighbours_of (grid_of 3) 6 ≡ 3 ∷ 5 ∷ 9 ∷ []
 neighbours_of_a_row_end = refl
