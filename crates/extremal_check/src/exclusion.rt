@@ -1,17 +1,32 @@
-ghost use Rattle.std.specs.Prelude.{◌↔◌, IsTrue};
+ghost use Rattle.std.specs.Prelude.{◌≡◌, ◌↔◌, IsTrue};
+ghost use Rattle.pop_model.specs.Cycles.{demand};
 ghost use Rattle.pop_model.specs.Extremal.{Exclude};
 ghost use Rattle.extremal_check.specs.Clashes.{DemandsOther};
 
 use pop_instance::Cube;
 
-// Whether the cube demands another value of variable v.
-fn demands_other(cube: &Cube, v: u32, value: u32) -> bool
+// The value that the cube demands of variable v, where it names it. It is looked for at this place
+// first, where cubes over the same variables have it.
+fn demanded(cube: &Cube, place: u32, v: u32) -> Option<u32>
+    ensures { result ≡ demand cube.now v }
+{
+    if place < cube.len() {
+        let (w, value) = cube.pair(place);
+        if w == v {
+            return Some(value);
+        }
+    }
+    cube.demand(v)
+}
+
+// Whether the cube demands another value of variable v, which is looked for at this place first.
+fn demands_other(cube: &Cube, place: u32, v: u32, value: u32) -> bool
     ensures { IsTrue result ↔ DemandsOther cube.now (v, value) }
 {
     // Read for its contract, which says that the variables rise.
     let _len = cube.len();
-    match cube.demand(v) {
-        Some(demanded) => value != demanded,
+    match demanded(cube, place, v) {
+        Some(wanted) => value != wanted,
         None => false,
     }
 }
@@ -22,7 +37,7 @@ fn differ(cube: &Cube, other: &Cube) -> bool
 {
     for i in 0..cube.len() {
         let (v, value) = cube.pair(i);
-        if demands_other(other, v, value) {
+        if demands_other(other, i, v, value) {
             return true;
         }
     }
