@@ -4,14 +4,15 @@ use Rattle.std.specs.List.Sorted.{IsStrictlyIncreasing}
 use Rattle.std.proofs.lemmas.List.{map_push}
 use Rattle.std.proofs.lemmas.List.Elements.{All-push, All-weaker, All-map, Contains-push, Contains-push_cases, Contains-append_left}
 use Rattle.std.proofs.lemmas.Bool.{cases_eq}
-use Rattle.pop_model.specs.Stacks.{StackTable}
+use Rattle.pop_model.specs.Stacks.{StackTable, variables_of}
 use Rattle.pop_model.specs.Popping.{Cube, Occurs}
-use Rattle.pop_model.specs.Families.{Event}
-use Rattle.pop_model.specs.Instances.{FitsStacks}
-use Rattle.pop_model.specs.Runs.{IsStuckList}
+use Rattle.pop_model.specs.Families.{Event, IsEvent}
+use Rattle.pop_model.specs.Instances.{Instance, FamilyFits, FitsStacks}
+use Rattle.pop_model.specs.Runs.{IsEnd, IsStuckList}
 use Rattle.pop_instance.specs.Events.{cube_at}
 use Rattle.pop_instance.proofs.Increasing.{increasing_push}
 use Rattle.confluence_core.specs.Search.{OccursBelow, IsStuckBelow, NoneBefore, AllHaveNext}
+use Rattle.confluence_core.proofs.EventVariables.{event_known}
 use Rattle.confluence_core.proofs.Places.{listed, event_at, event_from, event_to}
 
 -- the event of a unit and a cube
@@ -116,3 +117,19 @@ stuck_list s c rows stuck h = record {
         (h.exact e).1 (record { before = at.within; within = at.within; cube = at.cube; occurs = occ }),
   );
 }
+
+-- where no event of an instance is poppable and each variable has a next entry, none occurs
+pub none_stuck : (i : Instance) (c : List ℕ) → FamilyFits i.stacks i.family → variables_of i.stacks ≡ length c
+    → IsEnd i c → AllHaveNext i.stacks c → IsStuckList i c []
+none_stuck i c fits count end next = record {
+  rising = λ k h. absurd (omega arith);
+  exact = λ e. (λ (k, inside, is). absurd (omega (arith, inside)), λ (is, occurs). absurd (none e is occurs));
+}
+  where
+    none : (e : Event) → IsEvent i.family e → Occurs i.stacks c e.cube → ⊥
+    none e is occurs =
+        let known = event_known i e c fits is count in
+        end e is (record {
+          occurs = occurs;
+          next = λ k p less. next _ (omega (arith, known k p less, count));
+        })

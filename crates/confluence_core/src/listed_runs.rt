@@ -20,7 +20,7 @@ use std::alloc::{AllocError, Global};
 
 /// Listed events over stacks, with the index of their variables.
 #[derive(Clone, Copy)]
-pub(crate) struct Indexed<'a> {
+pub(crate) struct IndexedEvents<'a> {
     pub stacks: &'a Stacks,
     pub events: &'a Events,
     pub index: &'a Index,
@@ -30,7 +30,7 @@ pub(crate) struct Indexed<'a> {
 /// suspects and the index feed.
 pub(crate) fn run_listed_from(
     alloc: Global,
-    indexed: Indexed,
+    indexed: IndexedEvents,
     reader: &mut Reader,
     cursors: Cursors,
     suspects: Units,
@@ -53,7 +53,7 @@ pub(crate) fn run_listed_from(
     ensures within { IfOk result (λ part. AreWithin indexed.entry.stacks.now part.cursors) }
     ensures reader { reader.new ≡ reader.old }
 {
-    let Indexed {
+    let IndexedEvents {
         stacks,
         events,
         index,

@@ -151,8 +151,8 @@ pub(crate) fn stuck_after(
     occurring_listed(alloc, stacks, events, reader, cursors)
 }
 
-// Whether each variable has an entry behind its cursor.
-fn all_have_next(stacks: &Stacks, cursors: &Cursors) -> bool
+/// Whether each variable has an entry behind its cursor.
+pub(crate) fn all_have_next(stacks: &Stacks, cursors: &Cursors) -> bool
     requires count { variables_of stacks.now ≡ length cursors.now }
     requires within { AreWithin stacks.now cursors.now }
     ensures { IsTrue result ↔ AllHaveNext stacks.now cursors.now }

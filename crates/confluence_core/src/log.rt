@@ -77,28 +77,45 @@ mod tests {
     use std::process::Abort;
     use std::test::Fail;
 
+    // The cube in which a variable has the value 0.
+    fn zero(rt: &impl Abort, alloc: Global, v: u32) -> Result<Cube, Fail> {
+        let pairs = vec![in alloc; (v, 0)]?;
+        Ok(Cube::new(pairs).expect(rt, "a cube"))
+    }
+
     // A record of this unit.
     fn popped(rt: &impl Abort, alloc: Global, unit: u32) -> Result<Record, Fail> {
-        let cube = Cube::new(vec![in alloc; (unit, 0)]?).expect(rt, "a cube");
         let entries = vec![in alloc; 7]?;
+        let cube = zero(rt, alloc, unit)?;
         assert!(rt; entries.len() == cube.len() as usize);
         Ok(Record::new(unit, cube, entries))
+    }
+
+    // The log of records of these units.
+    fn log_of(rt: &impl Abort, alloc: Global, units: &[u32]) -> Result<Log, Fail> {
+        let mut log = Log::new(alloc);
+        for unit in units {
+            let popped = popped(rt, alloc, *unit)?;
+            log.push(popped)?;
+        }
+        Ok(log)
+    }
+
+    // Compares the units of a log.
+    fn has_units(rt: &impl Abort, log: &Log, units: &[u32]) {
+        assert_eq!(rt; log.len(), units.len() as u64);
+        for (i, unit) in units.iter().enumerate() {
+            assert_eq!(rt; log.at(i as u64).unit(), *unit, "record {i}");
+        }
     }
 
     #[test]
     fn the_other_log_comes_behind(rt: HostRuntime) -> Result<(), Fail> {
         let alloc = rt.alloc();
-        let mut log = Log::new(alloc);
-        log.push(popped(&rt, alloc, 4)?)?;
-        let mut other = Log::new(alloc);
-        other.push(popped(&rt, alloc, 2)?)?;
-        other.push(popped(&rt, alloc, 3)?)?;
+        let mut log = log_of(&rt, alloc, &[4])?;
+        let other = log_of(&rt, alloc, &[2, 3])?;
         log.append(other)?;
-        assert_eq!(&rt; log.len(), 3);
-        assert_eq!(&rt;
-            (log.at(0).unit(), log.at(1).unit(), log.at(2).unit()),
-            (4, 2, 3)
-        );
+        has_units(&rt, &log, &[4, 2, 3]);
         Ok(())
     }
 }

@@ -46,6 +46,15 @@ impl Record {
     }
 
     /// The record of an event that is popped at these cursors: it uses their entries.
+    pub fn of(alloc: Global, unit: u32, cube: Cube, cursors: &Cursors) -> Result<Record, AllocError>
+        requires known { NamesBelow cube (length cursors.now) }
+        ensures { IfOk result (λ popped. popped ≡ record_at unit cube cursors.now) }
+    {
+        let entries = entries_of(alloc, &cube, cursors)?;
+        Ok(Record::new(unit, cube, entries))
+    }
+
+    /// The same with a copy of the event's cube.
     pub fn at(
         alloc: Global,
         unit: u32,
@@ -55,8 +64,7 @@ impl Record {
         requires known { NamesBelow cube.now (length cursors.now) }
         ensures { IfOk result (λ popped. popped ≡ record_at unit cube.now cursors.now) }
     {
-        let entries = entries_of(alloc, cube, cursors)?;
-        Ok(Record::new(unit, cube.copy(alloc)?, entries))
+        Record::of(alloc, unit, cube.copy(alloc)?, cursors)
     }
 
     /// An equal record.
@@ -96,7 +104,7 @@ fn entries_of(alloc: Global, cube: &Cube, cursors: &Cursors) -> Result<Vec<u32>,
     requires known { NamesBelow cube.now (length cursors.now) }
     ensures { IfOk result (λ entries. entries.items ≡ entries_at cursors.now cube.now) }
 {
-    let mut entries = Vec::new(alloc);
+    let mut entries = Vec::with_capacity(alloc, cube.len() as usize)?;
     for i in 0..cube.len() {
         let (v, _) = cube.pair(i);
         entries.push(cursors.get(v))?;

@@ -12,7 +12,7 @@ use crate::Stuck;
 use crate::current_arrows::CurrentArrows;
 use crate::cycle_runs::occurring_cycles;
 use crate::cycle_search::first_poppable_cycle;
-use crate::listed_search::{first_poppable_listed, occurring_listed};
+use crate::listed_search::{all_have_next, first_poppable_listed, occurring_listed};
 use pop_instance::{Arrows, Cube, Cursors, Events, Family, Instance};
 use pop_stacks::{Reader, Stacks};
 use std::alloc::{AllocError, Global};
@@ -112,4 +112,27 @@ pub fn occurring(
         Family::Listed(events) => occurring_listed(alloc, stacks, events, reader, cursors),
         Family::Cycles(arrows) => occurring_cycles(alloc, stacks, arrows, reader, cursors),
     }
+}
+
+/// The events that occur at cursors that are below the heights and an end, by rising unit. Each of
+/// them has a variable at its last entry there, so where there is no such variable, no event is
+/// looked at.
+pub fn stuck_at_end(
+    alloc: Global,
+    instance: &Instance,
+    reader: &mut Reader,
+    cursors: &Cursors,
+) -> Result<Stuck, AllocError>
+    requires count { variables_of instance.now.stacks ≡ length cursors.now }
+    requires within { AreWithin instance.now.stacks cursors.now }
+    requires belongs { Belongs instance.now.stacks reader.old }
+    requires end { IsEnd instance.now cursors.now }
+    ensures stuck_list { IfOk result (IsStuckList instance.now cursors.now) }
+    ensures reader { reader.new ≡ reader.old }
+{
+    let _units = instance.units();
+    if all_have_next(instance.stacks(), cursors) {
+        return Ok(Stuck::new(alloc));
+    }
+    occurring(alloc, instance, reader, cursors)
 }

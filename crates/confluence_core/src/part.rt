@@ -9,10 +9,12 @@ use pop_instance::{Cursors, Values};
 use pop_stacks::{Reader, Stacks};
 use std::alloc::{AllocError, Global};
 
-/// What the pops of a run leave.
+/// What the pops of a run leave. A run has the values at its cursors too.
 #[derive(Drop)]
-pub(crate) struct Part {
+pub struct Part {
+    /// The cursors that the run left.
     pub cursors: Cursors,
+    /// How many events were popped.
     pub pops: u64,
     /// Every event that occurs at the cursors, by rising unit.
     pub stuck: Stuck,

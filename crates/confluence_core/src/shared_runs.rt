@@ -7,7 +7,7 @@ ghost use Rattle.pop_instance.specs.Index.{IsIndex};
 ghost use Rattle.confluence_core.specs.Runs.{IsRunOf};
 
 use crate::cycle_runs::run_cycles_from;
-use crate::listed_runs::{Indexed, run_listed_from};
+use crate::listed_runs::{IndexedEvents, run_listed_from};
 use crate::{End, Keep, Terms, Units};
 use pop_instance::{Arrows, Cursors, Events, Index};
 use pop_stacks::{Reader, Stacks};
@@ -30,7 +30,7 @@ pub fn run_events(
     let mut reader = Reader::keeping(alloc, stacks)?;
     let cursors = Cursors::zeros(alloc, stacks.count())?;
     let suspects = Units::all(alloc, events.count())?;
-    let indexed = Indexed {
+    let indexed = IndexedEvents {
         stacks,
         events,
         index,

@@ -49,7 +49,7 @@ impl Walked {
         if self.keep.keeps_log() {
             let cube = cube_of(alloc, current, reader, &self.cursors, members)?;
             let (unit, _) = cube.pair(0);
-            let popped = Record::at(alloc, unit, &cube, &self.cursors)?;
+            let popped = Record::of(alloc, unit, cube, &self.cursors)?;
             self.log.push(popped)?;
         }
         Ok(())

@@ -14,31 +14,31 @@ use Rattle.confluence_core.proofs.one_thread.part_from.Goals as goal
 pub run_listed_from-requires-clause-suspects : goal.run_listed_from-requires-clause-suspects
 run_listed_from-requires-clause-suspects c =
     let s = c.stacks-stacks.result.now in
-    let rows = c.in-Listed.events in
-    let same : listed s rows ≡ c.args.instance.now =
-    made_of c.args.instance.now s (Listed rows) (family_of c.family.result.now) c.stacks-stacks.ensures
-    (ap family_of c.in-Listed.is) c.family.ensures in
+    let rows = c.in-Listed-Some.events in
+    let same : listed s rows ≡ c.args.indexed.instance.now =
+    made_of c.args.indexed.instance.now s (Listed rows) (family_of c.family.result.now) c.stacks-stacks.ensures
+    (ap family_of c.in-Listed-Some.is-0) c.family.ensures in
     covers_from s c.args.cursors rows c.args.suspects
     (subst (λ i. MissesNone i c.args.cursors c.args.suspects) (sym same) c.requires.suspects)
 
-pub returns-in_ok-index-in-Listed-clause-part : goal.returns-in_ok-index-in-Listed-clause-part
-returns-in_ok-index-in-Listed-clause-part c =
+pub returns-in-Listed-Some-clause-part : goal.returns-in-Listed-Some-clause-part
+returns-in-Listed-Some-clause-part c =
     let s = c.stacks-stacks.result.now in
-    let rows = c.in-Listed.events in
-    let same : listed s rows ≡ c.args.instance.now =
-    made_of c.args.instance.now s (Listed rows) (family_of c.family.result.now) c.stacks-stacks.ensures
-    (ap family_of c.in-Listed.is) c.family.ensures in
+    let rows = c.in-Listed-Some.events in
+    let same : listed s rows ≡ c.args.indexed.instance.now =
+    made_of c.args.indexed.instance.now s (Listed rows) (family_of c.family.result.now) c.stacks-stacks.ensures
+    (ap family_of c.in-Listed-Some.is-0) c.family.ensures in
     let keep = keeps_log c.args.terms.keep in
     subst (λ (i : Instance). IfOk c.run_listed_from.result (λ (part : Part).
     IsPart i c.args.cursors c.args.terms.limit keep part.cursors part.pops part.stuck part.log))
     same c.run_listed_from.ensures.part
 
-pub returns-in-Cycles-clause-part : goal.returns-in-Cycles-clause-part
-returns-in-Cycles-clause-part c =
+pub returns-in-Cycles-None-clause-part : goal.returns-in-Cycles-None-clause-part
+returns-in-Cycles-None-clause-part c =
     let s = c.stacks-stacks.result.now in
-    let same : cycles (record { stacks = s; heads = c.in-Cycles.arrows }) ≡ c.args.instance.now =
-    made_of c.args.instance.now s (Cycles c.in-Cycles.arrows) (family_of c.family.result.now) c.stacks-stacks.ensures
-    (ap family_of c.in-Cycles.is) c.family.ensures in
+    let same : cycles (record { stacks = s; heads = c.in-Cycles-None.arrows }) ≡ c.args.indexed.instance.now =
+    made_of c.args.indexed.instance.now s (Cycles c.in-Cycles-None.arrows) (family_of c.family.result.now)
+    c.stacks-stacks.ensures (ap family_of c.in-Cycles-None.is-0) c.family.ensures in
     let keep = keeps_log c.args.terms.keep in
     subst (λ (i : Instance). IfOk c.run_cycles_from.result (λ (part : Part).
     IsPart i c.args.cursors c.args.terms.limit keep part.cursors part.pops part.stuck part.log))

@@ -10,7 +10,7 @@ use Rattle.confluence_core.proofs.one_thread.run_until.Goals as goal
 pub returns-clause-run : goal.returns-clause-run
 returns-clause-run c =
     let part = c.in_ok-part.ensures in
-    let Of = IsPartOf c.args.instance.now c.args.cursors c.args.terms.limit (keeps_log c.args.terms.keep) in
+    let Of = IsPartOf c.args.indexed.instance.now c.args.cursors c.args.terms.limit (keeps_log c.args.terms.keep) in
     IfOk-weaker c.into_run.result _ _
     (λ (run : Run) is. subst Of (sym is.are) (record {
       part = part.part;

@@ -9,6 +9,9 @@ use std::alloc::Global;
 use std::process::Abort;
 use std::test::Fail;
 
+/// An event, by its number and the pairs of its cube.
+pub type EventRow = (u32, &'static [(u32, u32)]);
+
 /// The stacks of these rows.
 pub fn stacks(rt: &impl Abort, alloc: Global, table: &[&[u32]]) -> Result<Stacks, Fail> {
     let mut rows = Vec::new(alloc);
@@ -22,16 +25,18 @@ pub fn stacks(rt: &impl Abort, alloc: Global, table: &[&[u32]]) -> Result<Stacks
     Ok(Stacks::new(StackSpec::Given(rows), weights, 1)?)
 }
 
-/// The event of this number and these pairs.
-pub fn event(
-    rt: &impl Abort,
-    alloc: Global,
-    number: u32,
-    pairs: &[(u32, u32)],
-) -> Result<(u32, Cube), Fail> {
+/// The stacks of so many variables, of this height under a key of 32 such bytes.
+pub fn keyed(rt: &impl Abort, key: u8, count: u32, height: u32) -> Result<Stacks, Fail> {
+    assert!(rt; count < 1000);
+    assert!(rt; 0 < height);
+    assert!(rt; height < 1000);
+    Ok(Stacks::new(StackSpec::Key([key; 32]), Weights::pairs(count), height)?)
+}
+
+/// The cube of these pairs.
+pub fn cube(rt: &impl Abort, alloc: Global, pairs: &[(u32, u32)]) -> Result<Cube, Fail> {
     assert!(rt; pairs.len() < 9);
-    let cube = Cube::new(Vec::from_slice(alloc, pairs)?).expect(rt, "a cube");
-    Ok((number, cube))
+    Ok(Cube::new(Vec::from_slice(alloc, pairs)?).expect(rt, "a cube"))
 }
 
 // Whether the numbers rise.
@@ -46,18 +51,21 @@ fn are_rising(rows: &[(u32, Cube)]) -> bool
     true
 }
 
-/// The instance of these stacks and events, whose numbers rise.
-pub fn of_events(
-    rt: &impl Abort,
-    alloc: Global,
-    stacks: Stacks,
-    rows: Vec<(u32, Cube)>,
-) -> Result<Instance, Fail> {
+/// The family of these events, whose numbers rise.
+pub fn family(rt: &impl Abort, alloc: Global, rows: Vec<(u32, Cube)>) -> Result<Family, Fail> {
     assert!(rt; rows.len() < 1000);
     let rising = are_rising(&rows);
     assert!(rt; rising);
-    let events = Events::gather(alloc, rows)?;
-    Ok(Instance::new(stacks, Family::Listed(events)).expect(rt, "an instance"))
+    Ok(Family::Listed(Events::gather(alloc, rows)?))
+}
+
+// The events of these numbers and pairs.
+fn events(rt: &impl Abort, alloc: Global, table: &[EventRow]) -> Result<Vec<(u32, Cube)>, Fail> {
+    let mut rows = Vec::new(alloc);
+    for (number, pairs) in table {
+        rows.push((*number, cube(rt, alloc, pairs)?))?;
+    }
+    Ok(rows)
 }
 
 /// The instance of these rows of entries and the events of these numbers and pairs.
@@ -65,12 +73,10 @@ pub fn listed(
     rt: &impl Abort,
     alloc: Global,
     rows: &[&[u32]],
-    table: &[(u32, &[(u32, u32)])],
+    table: &[EventRow],
 ) -> Result<Instance, Fail> {
+    let events = events(rt, alloc, table)?;
+    let family = family(rt, alloc, events)?;
     let stacks = stacks(rt, alloc, rows)?;
-    let mut events = Vec::new(alloc);
-    for (number, pairs) in table {
-        events.push(event(rt, alloc, *number, pairs)?)?;
-    }
-    of_events(rt, alloc, stacks, events)
+    Ok(Instance::new(stacks, family).expect(rt, "an instance"))
 }

@@ -5,20 +5,30 @@ ghost use Rattle.pop_model.specs.Popping.{AreWithin};
 ghost use Rattle.confluence_core.specs.Runs.{IsEndOver};
 
 use super::instances::listed;
-use super::{Want, is_end};
+use super::{Case, Want, is_end, opening, same, same_at};
 use crate::{
-    End, Keep, Run, Terms, Units, first_poppable, occurring, run_events, run_first, run_until,
+    End, Indexed, Keep, Run, Terms, first_poppable, occurring, run_events, run_first, run_until,
 };
-use pop_instance::{Cursors, Family, Index, Instance};
+use pop_instance::{Cursors, Family, Index, Instance, Values};
 use pop_stacks::Reader;
 use std::alloc::{AllocError, Global};
 use std::process::Abort;
 use std::test::Fail;
 
 // Two variables with the entries 0, 0, 1 and 0, 1; the events have the value 0 of each.
+static TWO_EVENTS: Case = Case {
+    rows: &[&[0, 0, 1], &[0, 1]],
+    events: &[(1, &[(0, 0)]), (2, &[(1, 0)])],
+    want: Want {
+        cursors: &[2, 1],
+        pops: 3,
+        stuck: &[],
+    },
+};
+
+// Their instance.
 fn two_events(rt: &impl Abort, alloc: Global) -> Result<Instance, Fail> {
-    let events: [(u32, &[(u32, u32)]); 2] = [(1, &[(0, 0)]), (2, &[(1, 0)])];
-    listed(rt, alloc, &[&[0, 0, 1], &[0, 1]], &events)
+    listed(rt, alloc, TWO_EVENTS.rows, TWO_EVENTS.events)
 }
 
 // A run from zeros with every unit a suspect, to this many pops.
@@ -27,50 +37,97 @@ fn run_to(alloc: Global, instance: &Instance, limit: u64) -> Result<Run, AllocEr
         variables_of instance.now.stacks ≡ length run.end.cursors) }
     ensures within { IfOk result (λ run. AreWithin instance.now.stacks run.end.cursors) }
 {
-    let mut reader = Reader::new(instance.stacks());
-    let cursors = Cursors::zeros(alloc, instance.stacks().count())?;
-    let suspects = Units::all(alloc, instance.units())?;
+    let index = instance.index(alloc)?;
+    let indexed = Indexed {
+        instance,
+        index: &index,
+    };
     let keep = Keep::Log;
     let terms = Terms { limit, keep };
-    let run = run_until(alloc, instance, &mut reader, cursors, suspects, terms)?;
-    Ok(run)
+    let (zeros, suspects) = opening(alloc, instance)?;
+    let mut reader = Reader::new(instance.stacks());
+    run_until(alloc, indexed, &mut reader, zeros, suspects, terms)
 }
 
-// Whether an event is poppable at cursors, and how many events occur there.
-fn looks(alloc: Global, instance: &Instance, cursors: &Cursors) -> Result<(bool, u64), AllocError>
+// Whether an event is poppable at cursors.
+fn goes_on(alloc: Global, instance: &Instance, cursors: &Cursors) -> Result<bool, AllocError>
     requires count { variables_of instance.now.stacks ≡ length cursors.now }
     requires within { AreWithin instance.now.stacks cursors.now }
 {
     let mut reader = Reader::new(instance.stacks());
     let next = first_poppable(alloc, instance, &mut reader, cursors)?;
-    let stuck = occurring(alloc, instance, &mut reader, cursors)?;
-    Ok((next.is_some(), stuck.len()))
+    Ok(next.is_some())
 }
+
+// How many events occur at cursors.
+fn stuck_at(alloc: Global, instance: &Instance, cursors: &Cursors) -> Result<u64, AllocError>
+    requires count { variables_of instance.now.stacks ≡ length cursors.now }
+    requires within { AreWithin instance.now.stacks cursors.now }
+{
+    let mut reader = Reader::new(instance.stacks());
+    let stuck = occurring(alloc, instance, &mut reader, cursors)?;
+    Ok(stuck.len())
+}
+
+// Compares what a run leaves: its pops, which its log has too, and its stuck events.
+fn leaves(rt: &impl Abort, run: &Run, pops: u64, stuck: u64) {
+    same(rt, run.end.pops, pops, "pops");
+    same(rt, stuck, run.end.stuck.len(), "stuck events");
+    let Some(log) = &run.log else {
+        panic!(rt; "no log");
+    };
+    same(rt, log.len(), pops, "records");
+}
+
+// Compares a run to a limit, of which the whole has 3 pops.
+fn stops_at(
+    rt: &impl Abort,
+    alloc: Global,
+    instance: &Instance,
+    limit: u64,
+    pops: u64,
+) -> Result<(), Fail> {
+    let run = run_to(alloc, instance, limit)?;
+    let goes_on = goes_on(alloc, instance, &run.end.cursors)?;
+    assert!(rt; goes_on == (pops < 3), "limit {limit}");
+    let stuck = stuck_at(alloc, instance, &run.end.cursors)?;
+    leaves(rt, &run, pops, stuck);
+    Ok(())
+}
+
+// Limits, and the pops of the runs to them.
+static LIMITS: [(u64, u64); 5] = [(0, 0), (1, 1), (2, 2), (3, 3), (9, 3)];
 
 // Worked by hand: the whole run pops event 0 twice and event 1 once.
 #[test]
 fn a_run_stops_at_its_limit(rt: HostRuntime) -> Result<(), Fail> {
     let alloc = rt.alloc();
     let instance = two_events(&rt, alloc)?;
-    for (limit, pops) in [(0, 0), (1, 1), (2, 2), (3, 3), (9, 3)] {
-        let run = run_to(alloc, &instance, limit)?;
-        assert_eq!(&rt; run.end.pops, pops, "limit {limit}");
-        let (goes_on, stuck) = looks(alloc, &instance, &run.end.cursors)?;
-        assert_eq!(&rt; goes_on, pops < 3, "limit {limit}");
-        assert_eq!(&rt; stuck, run.end.stuck.len(), "limit {limit}");
-        let log = run.log.expect(&rt, "a log");
-        assert_eq!(&rt; log.len(), pops, "limit {limit}");
+    for (limit, pops) in LIMITS.iter() {
+        stops_at(&rt, alloc, &instance, *limit, *pops)?;
     }
     Ok(())
 }
 
-// The value of a variable at an end.
-fn value(rt: &impl Abort, instance: &Instance, end: &End, v: u32) -> u32
+// How many values an end has: one for each variable.
+fn values_count(instance: &Instance, end: &End) -> u32
     requires over { IsEndOver instance.now.stacks end.now }
+    ensures { result ≡ length end.now.values }
 {
-    assert!(rt; v < instance.stacks().count());
-    end.values.get(v)
+    instance.stacks().count()
 }
+
+// Compares so many values.
+fn are_values(rt: &impl Abort, values: &Values, count: u32, want: &[u32])
+    requires { count ≡ length values.now }
+{
+    assert!(rt; want.len() == count as usize);
+    for v in 0..count {
+        same_at(rt, values.get(v), want[v as usize], "value", v as u64);
+    }
+}
+
+static VALUES: &[u32] = &[1, 1];
 
 // Worked by hand.
 #[test]
@@ -78,8 +135,21 @@ fn an_end_has_the_values_at_its_cursors(rt: HostRuntime) -> Result<(), Fail> {
     let alloc = rt.alloc();
     let instance = two_events(&rt, alloc)?;
     let end = run_first(alloc, &instance)?;
-    assert_eq!(&rt; value(&rt, &instance, &end, 0), 1);
-    assert_eq!(&rt; value(&rt, &instance, &end, 1), 1);
+    let count = values_count(&instance, &end);
+    are_values(&rt, &end.values, count, VALUES);
+    Ok(())
+}
+
+// Compares the end of a run by an index that is made apart.
+fn ends_by_index(rt: &impl Abort, alloc: Global, instance: &Instance) -> Result<(), Fail> {
+    let _units = instance.units();
+    let stacks = instance.stacks();
+    let Family::Listed(events) = instance.family() else {
+        panic!(rt; "a listed family");
+    };
+    let index = Index::build(alloc, events, stacks.count())?;
+    let end = run_events(alloc, stacks, events, &index)?;
+    is_end(rt, &end, stacks.count(), &TWO_EVENTS.want);
     Ok(())
 }
 
@@ -88,18 +158,5 @@ fn an_end_has_the_values_at_its_cursors(rt: HostRuntime) -> Result<(), Fail> {
 fn an_index_that_is_at_hand_serves(rt: HostRuntime) -> Result<(), Fail> {
     let alloc = rt.alloc();
     let instance = two_events(&rt, alloc)?;
-    let want = Want {
-        cursors: &[2, 1],
-        pops: 3,
-        stuck: &[],
-    };
-    let _units = instance.units();
-    let stacks = instance.stacks();
-    let Family::Listed(events) = instance.family() else {
-        panic!(&rt; "a listed family");
-    };
-    let index = Index::build(alloc, events, stacks.count())?;
-    let end = run_events(alloc, stacks, events, &index)?;
-    is_end(&rt, &end, stacks.count(), &want);
-    Ok(())
+    ends_by_index(&rt, alloc, &instance)
 }

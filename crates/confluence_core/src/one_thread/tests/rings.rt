@@ -1,29 +1,37 @@
 //! Rings of variables, each with an arrow to the next one and an arrow to the variable before it.
 ghost use Rattle.std.specs.Prelude.{◌<◌};
 
-use super::instances::stacks;
-use super::{pops_and_stuck, run_from_zeros};
-use crate::Keep;
+use super::instances::{keyed, stacks};
+use super::{Term, logs, pops_and_stuck, same};
 use pop_instance::{Arrows, Family, Instance};
-use pop_stacks::{StackSpec, Stacks, Weights};
+use pop_stacks::Stacks;
 use std::alloc::{AllocError, Global};
 use std::process::Abort;
 use std::test::Fail;
 
-// The two heads of each of so many variables in rings of this size, of which the last may be
-// shorter. Each leads to the next one of its ring, and to the variable before it; variable 0 to the
-// root.
+// Where a variable leads in rings of this size, of which the last may be shorter: to the next one
+// of its ring.
+fn next_of(v: u32, count: u32, size: u32) -> u32
+    requires some { 0 < size }
+    requires known { v < count }
+    requires few { count < 1000 }
+{
+    if (v + 1) % size == 0 || v + 1 == count {
+        v - v % size
+    } else {
+        v + 1
+    }
+}
+
+// The two heads of each of so many variables in rings of this size. Each leads to the next one of
+// its ring, and to the variable before it; variable 0 to the root.
 fn heads(alloc: Global, count: u32, size: u32) -> Result<Vec<[Option<u32>; 2]>, AllocError>
     requires some { 0 < size }
     requires few { count < 1000 }
 {
     let mut heads = Vec::new(alloc);
     for v in 0..count {
-        let next = if (v + 1) % size == 0 || v + 1 == count {
-            v - v % size
-        } else {
-            v + 1
-        };
+        let next = next_of(v, count, size);
         heads.push([Some(next), v.checked_sub(1)])?;
     }
     Ok(heads)
@@ -39,57 +47,132 @@ fn arrows_of(rt: &impl Abort, alloc: Global, heads: &[[Option<u32>; 2]]) -> Resu
     Ok(Arrows::new(rows).expect(rt, "arrows"))
 }
 
-// The instance of such rings, over stacks of this height under a key of 32 such bytes.
-fn rings(
-    rt: &impl Abort,
-    alloc: Global,
-    count: u32,
-    size: u32,
-    key: u8,
-    height: u32,
-) -> Result<Instance, Fail> {
+// The arrows of such rings.
+fn ring_arrows(rt: &impl Abort, alloc: Global, count: u32, size: u32) -> Result<Arrows, Fail> {
     assert!(rt; 0 < size);
     assert!(rt; count < 1000);
-    assert!(rt; 0 < height);
-    assert!(rt; height < 1000);
     let heads = heads(alloc, count, size)?;
-    let arrows = arrows_of(rt, alloc, &heads)?;
-    let stacks = Stacks::new(StackSpec::Key([key; 32]), Weights::pairs(count), height)?;
-    Ok(Instance::new(stacks, Family::Cycles(arrows)).expect(rt, "an instance"))
+    arrows_of(rt, alloc, &heads)
 }
 
-// Runs such rings under several keys and heights. Returns the most pops, and the most stuck cycles.
-fn most_of(rt: &impl Abort, alloc: Global, count: u32, size: u32) -> Result<(u64, u64), Fail> {
-    let mut most_pops = 0;
-    let mut most_stuck = 0;
-    for key in [0, 3, 77, 200] {
-        for height in [1, 2, 3, 5, 900] {
-            let rings = rings(rt, alloc, count, size, key, height)?;
-            let (pops, stuck) = pops_and_stuck(rt, alloc, &rings)?;
-            assert!(rt; height > 1 || pops == 0, "a stack of one entry has no next");
-            most_pops = most_pops.max(pops);
-            most_stuck = most_stuck.max(stuck);
+// The instance of these stacks and the cycles of these arrows.
+fn cycles_of(rt: &impl Abort, stacks: Stacks, arrows: Arrows) -> Instance {
+    Instance::new(stacks, Family::Cycles(arrows)).expect(rt, "an instance")
+}
+
+// Rings: how many variables there are, and the size of a ring.
+struct Rings {
+    count: u32,
+    size: u32,
+}
+
+// Runs rings over stacks of this height under a key of 32 such bytes. Returns their pops, and how
+// many cycles are stuck.
+fn run_rings(
+    rt: &impl Abort,
+    alloc: Global,
+    rings: &Rings,
+    key: u8,
+    height: u32,
+) -> Result<(u64, u64), Fail> {
+    let arrows = ring_arrows(rt, alloc, rings.count, rings.size)?;
+    let stacks = keyed(rt, key, rings.count, height)?;
+    let instance = cycles_of(rt, stacks, arrows);
+    pops_and_stuck(rt, alloc, &instance)
+}
+
+// The most pops and the most stuck cycles of some runs.
+#[derive(Clone, Copy)]
+struct Most {
+    pops: u64,
+    stuck: u64,
+}
+
+impl Most {
+    // Before any run.
+    fn none() -> Most {
+        Most { pops: 0, stuck: 0 }
+    }
+
+    // Those of other runs too.
+    fn with(self, other: Most) -> Most {
+        Most {
+            pops: self.pops.max(other.pops),
+            stuck: self.stuck.max(other.stuck),
         }
     }
-    Ok((most_pops, most_stuck))
 }
 
-// How many variables there are, and the size of their rings.
-static RINGS: [(u32, u32); 7] = [(1, 1), (2, 2), (5, 5), (9, 3), (12, 5), (20, 4), (30, 30)];
+static HEIGHTS: [u32; 5] = [1, 2, 3, 5, 900];
+
+// Runs rings under a key at several heights.
+fn most_of_key(rt: &impl Abort, alloc: Global, rings: &Rings, key: u8) -> Result<Most, Fail> {
+    let mut most = Most::none();
+    for height in HEIGHTS.iter() {
+        let (pops, stuck) = run_rings(rt, alloc, rings, key, *height)?;
+        assert!(rt;
+            *height > 1 || pops == 0,
+            "a stack of one entry has no next"
+        );
+        most = most.with(Most { pops, stuck });
+    }
+    Ok(most)
+}
+
+static KEYS: [u8; 4] = [0, 3, 77, 200];
+
+// Runs rings under several keys and heights.
+fn most_of(rt: &impl Abort, alloc: Global, rings: &Rings) -> Result<Most, Fail> {
+    let mut most = Most::none();
+    for key in KEYS.iter() {
+        most = most.with(most_of_key(rt, alloc, rings, *key)?);
+    }
+    Ok(most)
+}
+
+static RINGS: [Rings; 7] = [
+    Rings { count: 1, size: 1 },
+    Rings { count: 2, size: 2 },
+    Rings { count: 5, size: 5 },
+    Rings { count: 9, size: 3 },
+    Rings { count: 12, size: 5 },
+    Rings { count: 20, size: 4 },
+    Rings {
+        count: 30,
+        size: 30,
+    },
+];
 
 #[test]
 fn both_runs_of_rings_end_alike(rt: HostRuntime) -> Result<(), Fail> {
     let alloc = rt.alloc();
-    let mut most_pops = 0;
-    let mut most_stuck = 0;
-    for (count, size) in RINGS.iter() {
-        let (pops, stuck) = most_of(&rt, alloc, *count, *size)?;
-        most_pops = most_pops.max(pops);
-        most_stuck = most_stuck.max(stuck);
+    let mut most = Most::none();
+    for rings in RINGS.iter() {
+        most = most.with(most_of(&rt, alloc, rings)?);
     }
-    assert!(&rt; most_pops > 50);
-    assert!(&rt; most_stuck > 2);
+    assert!(&rt; most.pops > 50);
+    assert!(&rt; most.stuck > 2);
     Ok(())
+}
+
+// The heads of variables, and the rows of their entries.
+struct Case {
+    heads: &'static [[Option<u32>; 2]],
+    rows: &'static [&'static [u32]],
+}
+
+static TWO_ARROWS: Case = Case {
+    heads: &[[None, Some(1)], [Some(0), None]],
+    rows: &[&[1, 0], &[0, 0]],
+};
+
+static TERMS: &[&[Term]] = &[&[(0, 1, 0), (1, 0, 0)]];
+
+// Their instance.
+fn two_arrows(rt: &impl Abort, alloc: Global) -> Result<Instance, Fail> {
+    let arrows = arrows_of(rt, alloc, TWO_ARROWS.heads)?;
+    let stacks = stacks(rt, alloc, TWO_ARROWS.rows)?;
+    Ok(cycles_of(rt, stacks, arrows))
 }
 
 // Worked by hand. Variable 0 leads to the root or to variable 1, and this to variable 0 or to the
@@ -97,21 +180,9 @@ fn both_runs_of_rings_end_alike(rt: HostRuntime) -> Result<(), Fail> {
 #[test]
 fn the_log_has_the_cycle_with_its_entries(rt: HostRuntime) -> Result<(), Fail> {
     let alloc = rt.alloc();
-    let arrows = arrows_of(&rt, alloc, &[[None, Some(1)], [Some(0), None]])?;
-    let stacks = stacks(&rt, alloc, &[&[1, 0], &[0, 0]])?;
-    let instance = Instance::new(stacks, Family::Cycles(arrows)).expect(&rt, "an instance");
-    assert_eq!(&rt; pops_and_stuck(&rt, alloc, &instance)?, (1, 0));
-    let log = run_from_zeros(alloc, &instance, Keep::Log)?
-        .log
-        .expect(&rt, "a log");
-    assert!(&rt; log.len() == 1);
-    let popped = log.at(0);
-    assert_eq!(&rt; popped.unit(), 0);
-    assert!(&rt; popped.cube().len() == 2);
-    assert_eq!(&rt;
-        (popped.cube().pair(0), popped.cube().pair(1)),
-        ((0, 1), (1, 0))
-    );
-    assert_eq!(&rt; (popped.entry(0), popped.entry(1)), (0, 0));
-    Ok(())
+    let instance = two_arrows(&rt, alloc)?;
+    let (pops, stuck) = pops_and_stuck(&rt, alloc, &instance)?;
+    same(&rt, pops, 1, "pops");
+    same(&rt, stuck, 0, "stuck cycles");
+    logs(&rt, alloc, &instance, 0, TERMS)
 }

@@ -5,8 +5,8 @@ use Rattle.confluence_core.specs.Records.{record_at}
 use Rattle.confluence_core.proofs.LoopCubes.{one_cube, cube_all, first_is}
 use Rattle.confluence_core.proofs.walked.Walked.keep_record.Goals as goal
 
-pub at-requires : goal.at-requires
-at-requires c = record {
+pub of-requires : goal.of-requires
+of-requires c = record {
   known = cube_all c.args.current.now c.args.self.now.cursors c.args.members.now c.in_ok-cube.cube
       c.in_ok-cube.ensures.cube
       (λ v. v < length c.args.self.now.cursors)

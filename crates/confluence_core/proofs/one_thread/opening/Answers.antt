@@ -2,14 +2,14 @@ use Rattle.std.proofs.Common.{ap, ◌∙◌}
 use Rattle.std.specs.List.{range_with_len}
 use Rattle.pop_model.specs.Families.{units_of}
 use Rattle.confluence_core.proofs.Suspects.{all_known, all_miss_none}
-use Rattle.confluence_core.proofs.one_thread.tests.parts.run_to.Goals as goal
+use Rattle.confluence_core.proofs.one_thread.opening.Goals as goal
 
-pub run_until-requires-clause-units : goal.run_until-requires-clause-units
-run_until-requires-clause-units c =
+pub returns-clause-units : goal.returns-clause-units
+returns-clause-units c =
     all_known (units_of c.args.instance.now.family) c.in_ok-suspects.suspects
     (c.in_ok-suspects.ensures ∙ ap (range_with_len 0) c.units.ensures.units)
 
-pub run_until-requires-clause-suspects : goal.run_until-requires-clause-suspects
-run_until-requires-clause-suspects c =
-    all_miss_none c.args.instance.now c.in_ok-cursors.cursors c.in_ok-suspects.suspects
+pub returns-clause-suspects : goal.returns-clause-suspects
+returns-clause-suspects c =
+    all_miss_none c.args.instance.now c.in_ok-zeros.zeros c.in_ok-suspects.suspects
     (c.in_ok-suspects.ensures ∙ ap (range_with_len 0) c.units.ensures.units)

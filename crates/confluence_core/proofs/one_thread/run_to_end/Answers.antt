@@ -4,7 +4,7 @@ use Rattle.confluence_core.specs.declared.terms.Terms.{Terms}
 use Rattle.confluence_core.specs.Kept.{keeps_log}
 use Rattle.confluence_core.specs.Runs.{IsPartOf}
 use Rattle.confluence_core.proofs.SoFar.{run_of_part}
-use Rattle.confluence_core.proofs.one_thread.run_from.Goals as goal
+use Rattle.confluence_core.proofs.one_thread.run_to_end.Goals as goal
 
 -- what follows from two things that hold of the value, if there is one
 both : {T E : Type 0} (r : Result T E) (P Q R : T → Type 0) → ((x : T) → P x → Q x → R x) → IfOk r P → IfOk r Q
@@ -14,7 +14,7 @@ both (Err e) P Q R then' p q = tt
 
 pub returns : goal.returns
 returns c =
-    let i = c.args.instance.now in
+    let i = c.args.indexed.instance.now in
     let start = c.args.cursors in
     let keep = keeps_log c.args.keep in
     let part : IfOk c.run_until.result (IsPartOf i start (2 ^ 64 - 1) keep) =
