@@ -39,5 +39,6 @@ pub mod PausedAlone
 pub mod OptionsSoFar
 -- the command word, and what is read behind it
 pub mod CommandWords
--- worked values
+-- worked values, of options and of whole lines
+mod ValueVectors
 mod Vectors

@@ -1,9 +1,11 @@
 mod certificates;
+mod limits;
 mod lines;
 
 use crate::{BoardKind, Job, WordFault, read_words};
 use certificates::{CERTIFIED, UNCERTIFIED};
-use lines::{ACCEPTED, LIMITS, REFUSED};
+use limits::LIMITS;
+use lines::{ACCEPTED, REFUSED};
 use pop_stacks::StackSpec;
 use std::alloc::{AllocError, Global};
 use std::process::Abort;
