@@ -5,6 +5,7 @@ ghost use Rattle.claim_words.specs.Passes.{IsOf, IsIdle, IsHelper, view, instanc
 
 use super::instances::{chain, tree};
 use super::working::work;
+use super::{same, same_at};
 use crate::{Board, Closed, Pass};
 use confluence_core::{End, Keep, run_first};
 use pop_instance::{Cursors, Instance};
@@ -96,6 +97,25 @@ fn close_together<R: Threads + Abort + Sync>(
     Ok(closed)
 }
 
+// Compares the cursors of so many variables.
+fn cursors_alike(rt: &impl Abort, cursors: &Cursors, others: &Cursors, count: u32)
+    requires cursors { count ≡ length cursors.now }
+    requires others { count ≡ length others.now }
+{
+    for v in 0..count {
+        same_at(rt, cursors.get(v), others.get(v), "variable", v);
+    }
+}
+
+// Compares what a board left with an end: its pops, which its log has too.
+fn pops_alike(rt: &impl Abort, closed: &Closed, pops: u64) {
+    same(rt, closed.pops, pops, "pops");
+    let Some(log) = &closed.log else {
+        panic!(rt; "no log");
+    };
+    same(rt, log.len(), pops, "tickets");
+}
+
 // Compares what a board left with the one-thread run: the pops that the threads made.
 fn ends_alike<R: Threads + Abort + Sync>(
     rt: &R,
@@ -104,12 +124,8 @@ fn ends_alike<R: Threads + Abort + Sync>(
 ) -> Result<u64, Fail> {
     let end: End = run_first(alloc, instance)?;
     let closed = close_together(rt, alloc, instance)?;
-    assert_eq!(rt; closed.pops, end.pops);
-    assert_eq!(rt; closed.log.expect(rt, "a log").len(), end.pops);
-    let count = instance.stacks().count();
-    for v in 0..count {
-        assert_eq!(rt; closed.cursors.get(v), end.cursors.get(v), "variable {v}");
-    }
+    pops_alike(rt, &closed, end.pops);
+    cursors_alike(rt, &closed.cursors, &end.cursors, instance.stacks().count());
     Ok(end.pops)
 }
 

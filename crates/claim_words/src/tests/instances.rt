@@ -1,11 +1,11 @@
-//! Small random instances of both families.
+//! Small random instances of both families, and listed ones by tables.
 ghost use Rattle.std.specs.Prelude.{◌≡◌, ◌<◌, ◌≤◌, ◌^◌, length, map, All, IfOk};
 ghost use Rattle.std.specs.Bool.{OnTrue};
 ghost use Rattle.std.specs.List.Sorted.{IsStrictlyIncreasing};
 ghost use Rattle.pop_instance.specs.Arrows.{heads_of};
 
 use pop_instance::{Arrows, Cube, Events, Family, Instance};
-use pop_stacks::{StackSpec, Stacks, Weights};
+use pop_stacks::{Rows, StackSpec, Stacks, Weights};
 use std::alloc::{AllocError, Global};
 use std::process::Abort;
 use std::test::Fail;
@@ -42,25 +42,98 @@ fn are_rising(rows: &[(u32, Cube)]) -> bool
     true
 }
 
-// A chain of up to 6 events of three variables. Each shares its last variable with the next, of
-// which they demand different values: so they are extremal.
-pub(super) fn chain(rt: &impl Abort, alloc: Global, state: &mut u64) -> Result<Instance, Fail> {
-    let links = 1 + below(state, 6);
+// The family of these events, whose numbers rise.
+fn family(rt: &impl Abort, alloc: Global, rows: Vec<(u32, Cube)>) -> Result<Family, Fail> {
+    assert!(rt; rows.len() < 1000);
+    let rising = are_rising(&rows);
+    assert!(rt; rising);
+    Ok(Family::Listed(Events::gather(alloc, rows)?))
+}
+
+// The cube of these pairs.
+fn cube(rt: &impl Abort, alloc: Global, pairs: &[(u32, u32)]) -> Result<Cube, Fail> {
+    assert!(rt; pairs.len() < 9);
+    let pairs = Vec::from_slice(alloc, pairs)?;
+    let cube = Cube::new(pairs).expect(rt, "a cube");
+    Ok(cube)
+}
+
+// The stacks of these rows, of variables with two values each.
+fn given(rt: &impl Abort, alloc: Global, table: &[&[u32]]) -> Result<Stacks, Fail> {
+    let mut rows = Vec::new(alloc);
+    for row in table {
+        assert!(rt; row.len() < 9);
+        rows.push(Vec::from_slice(alloc, row)?)?;
+    }
+    assert!(rt; rows.len() < 9);
+    let rows = Rows::of(rows);
+    let weights = Weights::pairs(rows.count());
+    Ok(Stacks::new(StackSpec::Given(rows), weights, 1)?)
+}
+
+// An event, by its number and the pairs of its cube.
+pub(super) type EventRow = (u32, &'static [(u32, u32)]);
+
+// The events of these numbers and pairs.
+fn events(rt: &impl Abort, alloc: Global, table: &[EventRow]) -> Result<Vec<(u32, Cube)>, Fail> {
+    let mut rows = Vec::new(alloc);
+    for (number, pairs) in table {
+        rows.push((*number, cube(rt, alloc, pairs)?))?;
+    }
+    Ok(rows)
+}
+
+// The instance of these rows of entries and the events of these numbers and pairs.
+pub(super) fn listed(
+    rt: &impl Abort,
+    alloc: Global,
+    rows: &[&[u32]],
+    table: &[EventRow],
+) -> Result<Instance, Fail> {
+    let events = events(rt, alloc, table)?;
+    let family = family(rt, alloc, events)?;
+    let stacks = given(rt, alloc, rows)?;
+    Ok(Instance::new(stacks, family).expect(rt, "an instance"))
+}
+
+// The event that variables 2i, 2i + 1 and 2i + 2 have these values.
+fn link(rt: &impl Abort, alloc: Global, i: u32, values: [u32; 3]) -> Result<Cube, Fail> {
+    assert!(rt; i < 1000);
+    let pairs = [
+        (2 * i, values[0]),
+        (2 * i + 1, values[1]),
+        (2 * i + 2, values[2]),
+    ];
+    cube(rt, alloc, &pairs)
+}
+
+// So many events of three variables. Each shares its last variable with the next, of which they
+// demand different values: so they are extremal.
+fn links_of(
+    rt: &impl Abort,
+    alloc: Global,
+    state: &mut u64,
+    links: u32,
+) -> Result<Vec<(u32, Cube)>, Fail> {
     let mut rows = Vec::new(alloc);
     let mut first = below(state, 2);
     for i in 0..links {
         let next = below(state, 2);
         let middle = below(state, 2);
-        let pairs = vec![in alloc; (2 * i, first), (2 * i + 1, middle), (2 * i + 2, 1 - next)]?;
-        rows.push((i + 1, Cube::new(pairs).expect(rt, "a cube")))?;
+        let link = link(rt, alloc, i, [first, middle, 1 - next])?;
+        rows.push((i + 1, link))?;
         first = next;
     }
-    assert!(rt; rows.len() < 1000);
-    let rising = are_rising(&rows);
-    assert!(rt; rising);
-    let events = Events::gather(alloc, rows)?;
+    Ok(rows)
+}
+
+// A chain of up to 6 such events.
+pub(super) fn chain(rt: &impl Abort, alloc: Global, state: &mut u64) -> Result<Instance, Fail> {
+    let links = 1 + below(state, 6);
+    let rows = links_of(rt, alloc, state, links)?;
+    let family = family(rt, alloc, rows)?;
     let stacks = stacks(rt, state, 2 * links + 1)?;
-    Ok(Instance::new(stacks, Family::Listed(events)).expect(rt, "an instance"))
+    Ok(Instance::new(stacks, family).expect(rt, "an instance"))
 }
 
 // The heads of so many variables. Each has an arrow to a variable before it or to the root, and one
@@ -84,7 +157,8 @@ fn heads(alloc: Global, state: &mut u64, count: u32) -> Result<Vec<Vec<Option<u3
 // Such arrows of up to 6 variables.
 pub(super) fn tree(rt: &impl Abort, alloc: Global, state: &mut u64) -> Result<Instance, Fail> {
     let count = 1 + below(state, 6);
-    let arrows = Arrows::new(heads(alloc, state, count)?).expect(rt, "arrows");
+    let heads = heads(alloc, state, count)?;
+    let arrows = Arrows::new(heads).expect(rt, "arrows");
     let stacks = stacks(rt, state, count)?;
     Ok(Instance::new(stacks, Family::Cycles(arrows)).expect(rt, "an instance"))
 }
