@@ -1,4 +1,4 @@
-ghost use Rattle.std.specs.Prelude.{◌≡◌, map, All, IfOk};
+ghost use Rattle.std.specs.Prelude.{◌≡◌, ◌++◌, map, All, IfOk};
 ghost use Rattle.pop_model.specs.Popping.{NamesBelow};
 ghost use Rattle.pop_model.specs.Logs.{IsLegal};
 ghost use Rattle.pop_model.specs.Runs.{start_of};
@@ -6,9 +6,8 @@ ghost use Rattle.pop_log.specs.Layered.{AreSorted, IsLayered};
 ghost use Rattle.pop_log.specs.LayeredTexts.{IsLayeredText};
 
 use crate::Names;
-use crate::layered_printing::text_of;
+use crate::layered_printing::text_behind;
 use crate::placed_record::PlacedRecord;
-use crate::printing::room_for;
 use crate::sorting::sorted;
 use confluence_core::{Log, Record};
 use pop_instance::Instance;
@@ -20,7 +19,6 @@ use std::marker::Model;
 /// lent by the log and not copied. Contracts see a list of records with their layers.
 #[derive(Drop)]
 pub struct LayeredLog<'l> {
-    log: &'l Log,
     placed: Vec<PlacedRecord<'l>>,
 }
 
@@ -44,7 +42,7 @@ impl<'l> LayeredLog<'l> {
         ensures { IfOk result (AreSorted log.now) }
     {
         let placed = sorted(alloc, count, log)?;
-        Ok(LayeredLog { log, placed })
+        Ok(LayeredLog { placed })
     }
 
     /// A log of copies of these records, in this order.
@@ -65,10 +63,23 @@ impl<'l> LayeredLog<'l> {
         requires { IsLegal instance.now (start_of instance.now) (map (λ p. p.0) self.now) }
         ensures { IfOk result (λ bytes. bytes.items ≡ placed_text names.now instance.now self.now) }
     {
+        self.print_behind(Vec::new(alloc), instance, names)
+    }
+
+    /// The same behind a text that is at hand, which isn't copied where it has the room.
+    pub fn print_behind(
+        &self,
+        text: Vec<u8>,
+        instance: &Instance,
+        names: &Names,
+    ) -> Result<Vec<u8>, AllocError>
+        requires { IsLegal instance.now (start_of instance.now) (map (λ p. p.0) self.now) }
+        ensures { IfOk result (λ bytes. bytes.items
+            ≡ text.items ++ placed_text names.now instance.now self.now) }
+    {
         // Read for its contract, which says that the events fit the stacks, and so have names.
         let _units = instance.units();
-        let room = room_for(instance.stacks().count(), self.log);
-        text_of(alloc, names, instance.family(), &self.placed, room)
+        text_behind(names, instance.family(), &self.placed, text)
     }
 }
 

@@ -1,4 +1,4 @@
-ghost use Rattle.std.specs.Prelude.{◌≡◌, ◌++◌, length, flat_map, All, IfOk, OnOk};
+ghost use Rattle.std.specs.Prelude.{◌≡◌, ◌<◌, ◌++◌, length, flat_map, All, IfOk, OnOk};
 ghost use Rattle.pop_instance.specs.Family.{family_of};
 ghost use Rattle.pop_log.specs.LayeredTexts.{layered_head, layered_line, written};
 ghost use Rattle.pop_log.specs.PlacedRecords.{placed_of};
@@ -9,7 +9,41 @@ use crate::placed_record::PlacedRecord;
 use crate::printing::{number_of_event, push_entries};
 use pop_instance::Family;
 use pop_text::Output;
-use std::alloc::{AllocError, Global};
+use std::alloc::AllocError;
+
+// About how many bytes a line has.
+const LINE: usize = 48;
+
+// How many records are looked at ahead of their lines.
+const AHEAD: usize = 32;
+
+// About how many bytes the lines of these records have: for each record its layer and its number,
+// and for each of its pairs a name, about as long as that of the first, and an entry.
+fn room_for_lines(placed: &[PlacedRecord]) -> usize {
+    let mut room = 0usize;
+    for i in 0..placed.len() {
+        let cube = placed[i].popped.cube();
+        let pairs = cube.len() as usize;
+        let (v, _) = cube.pair(0);
+        let digits = if v < 10_000 { 4 } else { 7 };
+        room = room.saturating_add((pairs + 2) * (digits + 4));
+    }
+    room
+}
+
+// Takes room for the lines of the next records, at every so many records. Records of one layer lie
+// anywhere among those of the log, and where several are looked at in one go, the processor fetches
+// them from memory together, and not one after another as they are printed.
+fn look_ahead(out: &mut Output, placed: &[PlacedRecord], i: usize) -> Result<(), AllocError>
+    requires { i < length placed.now }
+    ensures { out.new ≡ out.old }
+{
+    if i % AHEAD != 0 {
+        return Ok(());
+    }
+    let next = &placed[i..];
+    out.reserve(room_for_lines(&next[..next.len().min(AHEAD)]))
+}
 
 // The line of a record with its layer.
 fn push_placed(
@@ -42,25 +76,26 @@ fn push_all_placed(
         placed.now) }
 {
     for i in 0..placed.len() {
+        look_ahead(out, placed, i)?;
         push_placed(out, names, family, &placed[i])?;
     }
     Ok(())
 }
 
-/// The first line, and the line of each record.
-pub(crate) fn text_of(
-    alloc: Global,
+/// A text, and behind it the first line and the line of each record.
+pub(crate) fn text_behind(
     names: &Names,
     family: &Family,
     placed: &[PlacedRecord],
-    room: usize,
+    text: Vec<u8>,
 ) -> Result<Vec<u8>, AllocError>
     requires { All (λ p. IsPrintable (family_of family.now) p.popped.now.event) placed.now }
-    ensures { IfOk result (λ bytes. bytes.items ≡ layered_head (length placed.now)
+    ensures { IfOk result (λ bytes. bytes.items ≡ text.items ++ layered_head (length placed.now)
         ++ flat_map (λ p. layered_line (written names.now (family_of family.now) (placed_of p)))
         placed.now) }
 {
-    let mut out = Output::with_room(alloc, room)?;
+    let mut out = Output::behind(text);
+    out.reserve(placed.len().saturating_mul(LINE))?;
     out.push(b"log 2 ")?;
     out.push_number(placed.len() as u64)?;
     out.push(b"\n")?;

@@ -85,9 +85,9 @@ fn push_records(
     Ok(())
 }
 
-/// About how many bytes the text has: for each record its layer and its number, and for each of its
-/// pairs a name and an entry, mostly of one or two digits.
-pub(crate) fn room_for(count: u32, log: &Log) -> usize {
+// About how many bytes the text has: for each record its number, and for each of its pairs a name
+// and an entry, mostly of one or two digits.
+fn room_for(count: u32, log: &Log) -> usize {
     let digits = Buffer::new().format(count).len();
     let mut room = 32usize;
     for t in 0..log.len() {

@@ -1,4 +1,4 @@
-use Rattle.std.proofs.Common.{◌≡◌, ◌++◌, ℕ, List, All, flat_map, length, map, sym, ap, subst, ◌∙◌}
+use Rattle.std.proofs.Common.{◌≡◌, ◌++◌, ℕ, List, All, flat_map, length, map, sym, ap, subst, ◌∙◌, append_assoc}
 use Rattle.std.proofs.lemmas.Result.{IfOk-weaker}
 use Rattle.pop_model.specs.Families.{Family}
 use Rattle.pop_model.specs.Logs.{IsLegal}
@@ -10,10 +10,10 @@ use Rattle.pop_log.specs.LayeredTexts.{layered_head, layered_line, written, plac
 use Rattle.pop_log.specs.PlacedRecords.{placed_of}
 use Rattle.pop_log.specs.Printable.{IsPrintable}
 use Rattle.pop_log.proofs.LayeredPrinting.{placed_printable, text_is_placed}
-use Rattle.pop_log.proofs.layered_log.LayeredLog.print.Goals as goal
+use Rattle.pop_log.proofs.layered_log.LayeredLog.print_behind.Goals as goal
 
-pub text_of-requires : goal.text_of-requires
-text_of-requires c =
+pub text_behind-requires : goal.text_behind-requires
+text_behind-requires c =
     let i = c.args.instance.now in
     let items : List PlacedRecord = c.self.inside.placed.items in
     let legal : IsLegal i (start_of i) (map (λ p. p.0) (map placed_of items)) =
@@ -27,12 +27,19 @@ pub returns : goal.returns
 returns c =
     let i = c.args.instance.now in
     let names = c.args.names.now in
+    let before : List ℕ = c.args.text.items in
     let items : List PlacedRecord = c.self.inside.placed.items in
-    let text : Family → List PlacedRecord → List ℕ = λ family l.
-    layered_head (length l) ++ flat_map (λ p. layered_line (written names family (placed_of p))) l in
-    IfOk-weaker c.text_of.result (λ bytes. bytes.items ≡ text (family_of c.family.result.now) c.deref.result.now)
-    (λ bytes. bytes.items ≡ placed_text names i c.args.self.now)
-    (λ bytes is. text_is_placed names i items bytes.items
-    (is ∙ ap (text (family_of c.family.result.now)) c.deref.ensures.value ∙ ap (λ f. text f items) c.family.ensures)
-    ∙ ap (placed_text names i) c.self.view_is)
-    c.text_of.ensures
+    let lines : Family → List PlacedRecord → List ℕ = λ family l.
+    flat_map (λ p. layered_line (written names family (placed_of p))) l in
+    let text : Family → List PlacedRecord → List ℕ = λ family l. layered_head (length l) ++ lines family l in
+    let shown : List PlacedRecord = c.deref.result.now in
+    let family : Family = family_of c.family.result.now in
+    let whole : text family shown ≡ placed_text names i c.args.self.now =
+    text_is_placed names i items (text family shown)
+    (ap (text family) c.deref.ensures.value ∙ ap (λ f. text f items) c.family.ensures)
+    ∙ ap (placed_text names i) c.self.view_is in
+    IfOk-weaker c.text_behind.result (λ bytes. bytes.items ≡ before ++ layered_head (length shown) ++ lines family shown)
+    (λ bytes. bytes.items ≡ before ++ placed_text names i c.args.self.now)
+    (λ bytes is. is ∙ append_assoc before (layered_head (length shown)) (lines family shown)
+    ∙ ap (λ l. before ++ l) whole)
+    c.text_behind.ensures
