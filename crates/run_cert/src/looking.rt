@@ -8,7 +8,7 @@ ghost use Rattle.confluence_core.specs.Runs.{IsPartOf};
 ghost use Rattle.run_cert.specs.Looks.{HasPoppable, IsLook, IsSeen, IsStopped};
 
 use crate::{Look, Part, Seen};
-use confluence_core::{End, Keep, Run, Stuck, Terms, Units, occurring, run_until};
+use confluence_core::{End, Indexed, Keep, Run, Stuck, Terms, Units, occurring, run_until};
 use pop_instance::{Cursors, Instance};
 use pop_stacks::Reader;
 use std::alloc::{AllocError, Global};
@@ -76,7 +76,12 @@ fn run_logged(
     let suspects = Units::all(alloc, instance.units())?;
     let keep = Keep::Log;
     let terms = Terms { limit, keep };
-    run_until(alloc, instance, reader, cursors, suspects, terms)
+    let index = instance.index(alloc)?;
+    let indexed = Indexed {
+        instance,
+        index: &index,
+    };
+    run_until(alloc, indexed, reader, cursors, suspects, terms)
 }
 
 /// The run from zeros on one thread, to an end or to so many pops.
