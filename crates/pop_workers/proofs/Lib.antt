@@ -9,8 +9,12 @@ mod HintMoves
 mod Rounds
 -- What the answers of finders say
 mod Looks
+-- The index that workers look in
+mod FamilyIndexes
 -- Lists of jobs
 mod JobLists
 -- Heights that grow: stacks that are raised, and a stage behind others
 pub mod RaisedInstances
+mod KeyedValues
+mod StageEndsLemmas
 mod StageTurns

@@ -1,6 +1,6 @@
 -- One stage behind others. What is poppable when the stacks are raised occurred at the end before, so it is in the
 -- stuck list there; and the log of all stages is legal at each greater height, since no entry depends on the height.
-use Rattle.std.proofs.Common.{◌≡◌, ◌⊎◌, ℕ, ◌-◌, ◌<◌, ◌≤◌, Bool, true, List, [], ◌∷◌, length, map, All, Contains, get_or, inl, inr, refl, sym, ap, subst, ◌∙◌, arith}
+use Rattle.std.proofs.Common.{◌≡◌, ◌⊎◌, ℕ, ◌-◌, ◌<◌, ◌≤◌, Bool, true, List, [], ◌∷◌, Option, Some, None, length, map, All, Contains, get_or, inl, inr, refl, sym, ap, subst, ◌∙◌, arith}
 use Rattle.std.proofs.lemmas.List.{get_or-map, length-map}
 use Rattle.std.proofs.lemmas.List.Elements.{Contains-get_or}
 use Rattle.pop_model.specs.Stacks.{variables_of, height_of, IsKeyed}
@@ -14,6 +14,8 @@ use Rattle.pop_stacks.specs.Readers.{Belongs, ReaderOf}
 use Rattle.confluence_core.specs.declared.run.Run.{Run}
 use Rattle.confluence_core.specs.Runs.{IsSuspected, MissesNone, IsRunOf}
 use Rattle.confluence_core.proofs.EventVariables.{event_below, event_cube}
+use Rattle.pop_workers.specs.declared.alone.Alone.{Alone}
+use Rattle.pop_workers.specs.Alone.{Serves}
 use Rattle.pop_workers.specs.Progressed.{HasProgressed}
 use Rattle.pop_workers.specs.Stages.{height, at_next_height, behind, GoesOnFrom, IsLast, IsToCome, AreStages, HasBegun}
 use Rattle.pop_workers.proofs.JoinedRuns.{run_behind}
@@ -72,12 +74,17 @@ pub some_stuck : (stuck : List Event) → 0 < length stuck → stuck ≡ [] → 
 some_stuck stuck some none = let size = ap length none in omega (arith, some, size)
 
 -- a reader stays one of the raised stacks
-pub belongs_raised : (i : Instance) (h : ℕ) (reader : ReaderOf) → Belongs i.stacks reader
+belongs_raised : (i : Instance) (h : ℕ) (reader : ReaderOf) → Belongs i.stacks reader
     → Belongs (instance_raised h i).stacks reader
 belongs_raised i h reader belongs = record {
   source = source_raised i.stacks.origin reader.stacks.origin h belongs.source;
   weights = belongs.weights;
 }
+
+-- what one worker works with serves the raised instance, which has the same family
+pub serves_raised : (i : Instance) (h : ℕ) (alone : Option Alone) → Serves i alone → Serves (instance_raised h i) alone
+serves_raised i h (Some alone) (belongs, index) = (belongs_raised i h alone.reader belongs, index)
+serves_raised i h None serves = tt
 
 -- the height of a variable is that of all
 pub as_high : (i : Instance) (v : ℕ) → IsKeyed i.stacks.origin → height_of i.stacks v ≡ height i

@@ -3,10 +3,10 @@ ghost use Rattle.std.specs.Prelude.{◌≡◌, ◌<◌, ◌≤◌, length, IfOk,
 ghost use Rattle.pop_model.specs.Stacks.{variables_of};
 ghost use Rattle.pop_model.specs.Popping.{AreWithin};
 ghost use Rattle.pop_model.specs.Tickets.{AreNumbered};
-ghost use Rattle.pop_stacks.specs.Readers.{Belongs};
 ghost use Rattle.confluence_core.specs.Kept.{keeps_log};
 ghost use Rattle.confluence_core.specs.Runs.{IsRunOf};
 ghost use Rattle.pop_workers.specs.Closings.{IsClosed, AreMerged};
+ghost use Rattle.pop_workers.specs.Readers.{AreReadersOf};
 
 use crate::crew::Crew;
 use crate::finishing::{end_here, finish};
@@ -52,25 +52,25 @@ pub fn sample_claimed<R: Threads + Sync, G: Gate + Sync>(
     let reader = Reader::keeping(alloc, instance.stacks())?;
     let (board, mut pass) = Board::start(alloc, instance, from, keep)?;
     let crew = Crew { rt, gate, workers };
-    let mut reader = work_by(alloc, crew, &board, &mut pass, instance, reader)?;
+    let mut readers = work_by(alloc, crew, &board, &mut pass, instance, reader)?;
     match board.close(pass) {
-        Ok(closed) => go_on(alloc, instance, from, closed, keep, &mut reader),
+        Ok(closed) => go_on(alloc, instance, from, closed, keep, &mut readers),
         Err((_, _, failed)) => Err(failed),
     }
 }
 
 // The run that goes on where a board was closed. Where no unit is suspected it has ended there, and
-// what is told of its end is looked up by the reader of a worker, which keeps what it saw.
+// what is told of its end is looked up by the readers of the workers, which keep what they saw.
 fn go_on(
     alloc: Global,
     instance: &Instance,
     from: &Cursors,
     closed: Closed,
     keep: Keep,
-    reader: &mut Reader,
+    readers: &mut [Reader],
 ) -> Result<Outcome, AllocError>
     requires closed { IsClosed instance.now from.now (keeps_log keep) closed }
-    requires belongs { Belongs instance.now.stacks reader.old }
+    requires readers { AreReadersOf instance.now.stacks readers.old }
     ensures { IfOk result (IsRunOf instance.now from.now (keeps_log keep)) }
 {
     let _units = instance.units();
@@ -83,7 +83,7 @@ fn go_on(
     let log = merged(alloc, log)?;
     let left = Progress { cursors, pops, log };
     if suspects.len() == 0 {
-        return end_here(alloc, instance, from, left, keep, reader);
+        return end_here(alloc, instance, from, left, keep, readers);
     }
     finish(alloc, instance, from, left, suspects, keep)
 }

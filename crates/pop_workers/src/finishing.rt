@@ -1,15 +1,15 @@
 ghost use Rattle.std.specs.Prelude.{◌≡◌, ◌<◌, ◌+◌, ◌^◌, All, IfOk};
 ghost use Rattle.pop_model.specs.Families.{units_of};
 ghost use Rattle.pop_model.specs.Runs.{IsEnd};
-ghost use Rattle.pop_stacks.specs.Readers.{Belongs};
 ghost use Rattle.confluence_core.specs.Kept.{keeps_log};
 ghost use Rattle.confluence_core.specs.Runs.{IsRunOf, MissesNone};
 ghost use Rattle.pop_workers.specs.Progressed.{HasProgressed, both_logs};
+ghost use Rattle.pop_workers.specs.Readers.{AreReadersOf};
 ghost use Rattle.pop_workers.specs.Stages.{behind};
 
 use crate::Outcome;
 use crate::progress::Progress;
-use confluence_core::{End, Keep, Log, Units, occurring, run_from};
+use confluence_core::{End, Keep, Log, Units, run_from, stuck_at_end};
 use pop_instance::{Cursors, Instance, Values};
 use pop_stacks::Reader;
 use std::alloc::{AllocError, Global};
@@ -37,28 +37,28 @@ pub(crate) fn finish(
     put_behind(pops, log, more)
 }
 
-/// The run that came to its end where workers left a board that opened from `from`. What occurs
-/// there, and the values, are looked up by this reader.
+/// The run that came to its end where workers left a board that opened from `from`. What is stuck
+/// there, and the values, are looked up by the readers that they left.
 pub(crate) fn end_here(
     alloc: Global,
     instance: &Instance,
     from: &Cursors,
     left: Progress,
     keep: Keep,
-    reader: &mut Reader,
+    readers: &mut [Reader],
 ) -> Result<Outcome, AllocError>
     requires left { HasProgressed instance.now from.now (keeps_log keep) left.cursors left.pops
         left.log }
     requires end { IsEnd instance.now left.cursors }
-    requires belongs { Belongs instance.now.stacks reader.old }
+    requires readers { AreReadersOf instance.now.stacks readers.old }
     ensures { IfOk result (IsRunOf instance.now from.now (keeps_log keep)) }
 {
     let _ = from;
     let _ = keep;
     let _units = instance.units();
     let Progress { cursors, pops, log } = left;
-    let stuck = occurring(alloc, instance, reader, &cursors)?;
-    let values = Values::at(alloc, instance.stacks(), reader, &cursors)?;
+    let stuck = stuck_at_end(alloc, instance, &mut readers[0], &cursors)?;
+    let values = Values::at_by(alloc, instance.stacks(), readers, &cursors)?;
     let end = End {
         cursors,
         pops,
@@ -82,8 +82,8 @@ pub(crate) fn put_behind(pops: u64, log: Option<Log>, run: Outcome) -> Result<Ou
     })
 }
 
-// The log with another behind it, where both are there.
-fn append(log: Option<Log>, more: Option<Log>) -> Result<Option<Log>, AllocError>
+/// The log with another behind it, where both are there.
+pub(crate) fn append(log: Option<Log>, more: Option<Log>) -> Result<Option<Log>, AllocError>
     ensures { IfOk result (λ all. all ≡ both_logs log more) }
 {
     let (Some(log), Some(more)) = (log, more) else {

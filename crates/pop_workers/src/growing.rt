@@ -7,9 +7,10 @@ ghost use Rattle.confluence_core.specs.Kept.{keeps_log};
 ghost use Rattle.confluence_core.specs.Runs.{IsRunOf};
 ghost use Rattle.pop_workers.specs.Stages.{height, AreStages, HasBegun, IsLast, IsToCome};
 
+use crate::stage_end::StageEnd;
 use crate::stages::{StageCrew, first_stage, next_stage};
 use crate::{Gate, Outcome};
-use confluence_core::{End, Keep};
+use confluence_core::{Keep, Part};
 use pop_instance::Instance;
 use std::alloc::{AllocError, Global};
 use std::sync::Wait;
@@ -61,22 +62,23 @@ pub fn sample_grown<R: Threads + Wait + Sync, G: Gate + Sync>(
         claimed,
         keep,
     };
-    let (mut reader, mut left) = first_stage(alloc, &crew, instance)?;
-    'stages: while let Some(height) = height_to_come(instance, &left.end, last) {
-        left = next_stage(alloc, &crew, &mut reader, instance, height, left)?;
+    let (mut alone, run) = first_stage(alloc, &crew, instance)?;
+    let mut left = StageEnd::of(run);
+    'stages: while let Some(height) = height_to_come(instance, &left.part, last) {
+        left = next_stage(alloc, &crew, &mut alone, instance, height, left)?;
     }
-    Ok(left)
+    left.into_run(alloc, &mut alone, instance)
 }
 
-// The height of the stage behind one that came to this end, where there is to be one.
-fn height_to_come(instance: &Instance, end: &End, last: u32) -> Option<u32>
-    requires stuck { IsStuckList instance.now end.now.cursors end.now.stuck }
+// The height of the stage behind one that left this, where there is to be one.
+fn height_to_come(instance: &Instance, left: &Part, last: u32) -> Option<u32>
+    requires stuck { IsStuckList instance.now left.now.cursors left.now.stuck }
     requires keyed { IsKeyed instance.now.stacks.origin }
     requires higher { (v : ℕ) → height_of instance.now.stacks v ≤ last }
-    ensures { MatchOption result (IsLast last instance.now end.now.stuck)
-        (IsToCome last instance.now end.now.stuck) }
+    ensures { MatchOption result (IsLast last instance.now left.now.stuck)
+        (IsToCome last instance.now left.now.stuck) }
 {
-    let stuck = end.stuck.len();
+    let stuck = left.stuck.len();
     if stuck == 0 {
         return None;
     }

@@ -1,6 +1,7 @@
 //! The workers beside the caller, each with a pass and hints of its own.
-ghost use Rattle.std.specs.Prelude.{◌≡◌, ◌+◌, ◌<◌, length, All, IfOk, OnOk};
+ghost use Rattle.std.specs.Prelude.{◌≡◌, ◌+◌, ◌<◌, length, All, IfOk, OnOk, IfSome};
 ghost use Rattle.pop_model.specs.Families.{units_of};
+ghost use Rattle.pop_stacks.specs.Readers.{Belongs};
 ghost use Rattle.claim_words.specs.Passes.{IsOf, IsIdle, IsHelper, view, instance_of};
 ghost use Rattle.pop_workers.specs.Attempts.{IsIndexed};
 
@@ -10,12 +11,14 @@ use crate::shared::Shared;
 use crate::tools::Tools;
 use crate::working::work;
 use claim_words::{Board, Pass};
+use pop_stacks::Reader;
 use std::alloc::{AllocError, Global};
 use std::thread;
 use std::thread::Threads;
 
-/// What a worker beside the caller has. Their places in a list count from worker 1 on.
-pub(crate) type Job<W> = (Pass, Own<W>);
+/// What a worker beside the caller has: its pass, its deque, and its reader once it has worked, or
+/// none where it found no memory. Their places in a list count from worker 1 on.
+pub(crate) type Job<W> = (Pass, Own<W>, Option<Reader>);
 
 /// The caller's own deque, and the jobs of the others.
 #[derive(Drop)]
@@ -58,7 +61,7 @@ fn job_for<W: Range>(board: &Board, pass: &mut Pass, own: Own<W>) -> Job<W>
     ensures helper { IsHelper board.now result.0 }
     ensures share { (view pass.new).share + 1 ≡ (view pass.old).share }
 {
-    (board.split(pass, 1), own)
+    (board.split(pass, 1), own, None)
 }
 
 /// Lets the workers of these jobs work, each in a thread of its own where one can be started.
@@ -76,6 +79,8 @@ pub(crate) fn work_beside<'i, W: Range + Sync + Send, R: Threads + Sync, G: Gate
     requires len { length jobs.old < length shared.now.all.items }
     requires few { length jobs.old < 64 }
     ensures passes { All (λ job. IsHelper board.now job.0) jobs.new }
+    ensures readers { All (λ job.
+        IfSome job.2 (Belongs (instance_of board.now).stacks)) jobs.new }
     ensures len { length jobs.new ≡ length jobs.old }
 {
     let most = jobs.len().max(1);
@@ -91,12 +96,14 @@ pub(crate) fn work_beside<'i, W: Range + Sync + Send, R: Threads + Sync, G: Gate
             requires place { place + 1 < length shared.now.all.items }
             requires few { place < 64 }
             ensures pass { IsHelper board.entry.now job.exit.now.0 }
+            ensures reader { IfSome job.exit.now.2
+                (Belongs (instance_of board.entry.now).stacks) }
         { do_job(board, shared, job, place as u32 + 1, gate) },
     );
 }
 
-// The work of one job. A worker that finds no memory ends its turns; the others and at last the
-// caller finish what it leaves.
+// The work of one job, behind which it has the reader. A worker that finds no memory ends its turns;
+// the others and at last the caller finish what it leaves.
 fn do_job<W: Range, G: Gate>(
     board: &Board,
     shared: &Shared<W>,
@@ -110,44 +117,57 @@ fn do_job<W: Range, G: Gate>(
     requires pass { IsHelper board.now job.old.0 }
     requires worker { worker < length shared.now.all.items }
     ensures pass { IsHelper board.now job.new.0 }
+    ensures reader { IfSome job.new.2 (Belongs (instance_of board.now).stacks) }
 {
     let Ok(mut tools) = Tools::of(shared.alloc, shared.instance, worker) else {
+        job.2 = None;
         return gate.at(worker, 0);
     };
     let _ = work(board, &mut job.0, shared, &mut tools, &mut job.1, gate);
+    job.2 = Some(tools.reader);
 }
 
-/// Takes the passes of all jobs in again. Where a log is kept, memory may be wanting.
+/// Takes the passes of all jobs in again, and their readers, by their workers, with room for one
+/// more. Where a log is kept, a pass wants memory too.
 pub(crate) fn take_back<W: Range>(
+    alloc: Global,
     board: &Board,
     pass: &mut Pass,
     jobs: Vec<Job<W>>,
-) -> Result<(), AllocError>
+) -> Result<Vec<Reader>, AllocError>
     requires pass { IsOf board.now pass.old }
     requires idle { IsIdle pass.old }
     requires passes { All (λ job. IsHelper board.now job.0) jobs.items }
+    requires readers { All (λ job.
+        IfSome job.2 (Belongs (instance_of board.now).stacks)) jobs.items }
     ensures pass { IsOf board.now pass.new }
     ensures idle { IsIdle pass.new }
     ensures share { OnOk result
         ((view pass.new).share ≡ (view pass.old).share + length jobs.items) }
+    ensures readers { IfOk result (λ readers.
+        All (Belongs (instance_of board.now).stacks) readers.items) }
 {
     let mut jobs = jobs;
+    let mut readers = Vec::with_capacity(alloc, jobs.len() + 1)?;
     while let Some(job) = jobs.pop() {
-        take_one(board, pass, job)?;
+        let (other, _, reader) = job;
+        take_one(board, pass, other)?;
+        if let Some(reader) = reader {
+            readers.insert(0, reader)?;
+        }
     }
-    Ok(())
+    Ok(readers)
 }
 
-// Takes the pass of one job in again.
-fn take_one<W: Range>(board: &Board, pass: &mut Pass, job: Job<W>) -> Result<(), AllocError>
+// Takes a pass in again.
+fn take_one(board: &Board, pass: &mut Pass, other: Pass) -> Result<(), AllocError>
     requires pass { IsOf board.now pass.old }
     requires idle { IsIdle pass.old }
-    requires helper { IsHelper board.now job.0 }
+    requires helper { IsHelper board.now other }
     ensures pass { IsOf board.now pass.new }
     ensures idle { IsIdle pass.new }
     ensures share { OnOk result ((view pass.new).share ≡ (view pass.old).share + 1) }
 {
-    let (other, _) = job;
     match board.rejoin(pass, other) {
         Ok(()) => Ok(()),
         Err((_, failed)) => Err(failed),

@@ -2,6 +2,7 @@
 //! The board is a book under a lock, or words that they claim. Stacks may grow on the way.
 #![tactic(auto)]
 
+mod alone;
 mod attempts;
 mod claimed;
 mod crew;
@@ -17,6 +18,7 @@ mod progress;
 mod rounding;
 mod searching;
 mod shared;
+mod stage_end;
 mod stages;
 #[cfg(test)]
 mod tests;

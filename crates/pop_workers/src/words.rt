@@ -1,11 +1,12 @@
 //! Workers on a board of claim words, to its end.
-ghost use Rattle.std.specs.Prelude.{◌≡◌, ◌<◌, ◌≤◌, length, All, IfOk, OnOk};
+ghost use Rattle.std.specs.Prelude.{◌≡◌, ◌<◌, ◌≤◌, length, All, IfOk, OnOk, IfSome};
 ghost use Rattle.pop_model.specs.Families.{units_of};
 ghost use Rattle.pop_model.specs.Runs.{IsEnd};
 ghost use Rattle.pop_stacks.specs.Readers.{Belongs};
 ghost use Rattle.claim_words.specs.Passes.{IsOf, IsIdle, IsHelper, IsSole, view, instance_of, opening_of};
 ghost use Rattle.claim_words.specs.TicketLogs.{vector};
 ghost use Rattle.pop_workers.specs.Attempts.{IsIndexed};
+ghost use Rattle.pop_workers.specs.Readers.{AreReadersOf};
 
 use crate::crew::Crew;
 use crate::hints::{Other, Own, Range, deal};
@@ -17,7 +18,7 @@ use crate::turns::Worker;
 use crate::working::work;
 use crate::{Gate, NoGate};
 use claim_words::{Board, Pass};
-use pop_instance::{Family, Index, Instance};
+use pop_instance::Instance;
 use pop_stacks::Reader;
 use std::alloc::{AllocError, Global};
 use std::marker::Brand;
@@ -65,7 +66,8 @@ pub fn work_claimed<'i, R: Threads + Sync, G: Gate + Sync>(
     Ok(())
 }
 
-/// The same, with the reader of worker 0, which comes back with what it keeps.
+/// The same, with the reader of worker 0. It comes back before those of the others, with what each
+/// of them keeps.
 pub(crate) fn work_by<'i, R: Threads + Sync, G: Gate + Sync>(
     alloc: Global,
     crew: Crew<R, G>,
@@ -73,7 +75,7 @@ pub(crate) fn work_by<'i, R: Threads + Sync, G: Gate + Sync>(
     pass: &mut Pass,
     instance: &'i Instance,
     reader: Reader,
-) -> Result<Reader, AllocError>
+) -> Result<Vec<Reader>, AllocError>
     requires board { instance_of board.now ≡ instance.now }
     requires pass { IsOf board.now pass.old }
     requires idle { IsIdle pass.old }
@@ -86,7 +88,7 @@ pub(crate) fn work_by<'i, R: Threads + Sync, G: Gate + Sync>(
     ensures sole { OnOk result (IsSole pass.new) }
     ensures end { OnOk result
         (IsEnd instance.now (vector (opening_of board.now) (view pass.new).mine)) }
-    ensures reader { IfOk result (Belongs instance.now.stacks) }
+    ensures readers { IfOk result (λ readers. AreReadersOf instance.now.stacks readers.items) }
 {
     work_over::<Brand, R, G>(alloc, crew, board, pass, instance, reader)
 }
@@ -99,7 +101,7 @@ fn work_over<'i, W: Range + Send + Sync, R: Threads + Sync, G: Gate + Sync>(
     pass: &mut Pass,
     instance: &'i Instance,
     reader: Reader,
-) -> Result<Reader, AllocError>
+) -> Result<Vec<Reader>, AllocError>
     requires board { instance_of board.now ≡ instance.now }
     requires pass { IsOf board.now pass.old }
     requires idle { IsIdle pass.old }
@@ -113,13 +115,14 @@ fn work_over<'i, W: Range + Send + Sync, R: Threads + Sync, G: Gate + Sync>(
     ensures sole { OnOk result (IsSole pass.new) }
     ensures end { OnOk result
         (IsEnd instance.now (vector (opening_of board.now) (view pass.new).mine)) }
-    ensures reader { IfOk result (Belongs instance.now.stacks) }
+    ensures readers { IfOk result (λ readers. AreReadersOf instance.now.stacks readers.items) }
 {
     let deques: Vec<Own<W>> = deal_all(alloc, crew.workers, instance.units())?;
+    let index = instance.index(alloc)?;
     let shared = Shared {
         alloc,
         instance,
-        index: index_of(alloc, instance)?,
+        index,
         all: for_others(alloc, &deques)?,
     };
     work_with(crew, board, pass, &shared, deques, reader)
@@ -133,7 +136,7 @@ fn work_with<'i, W: Range + Send + Sync, R: Threads + Sync, G: Gate + Sync>(
     shared: &Shared<'i, W>,
     deques: Vec<Own<W>>,
     reader: Reader,
-) -> Result<Reader, AllocError>
+) -> Result<Vec<Reader>, AllocError>
     requires board { instance_of board.now ≡ shared.now.instance.now }
     requires pass { IsOf board.now pass.old }
     requires idle { IsIdle pass.old }
@@ -149,7 +152,8 @@ fn work_with<'i, W: Range + Send + Sync, R: Threads + Sync, G: Gate + Sync>(
     ensures sole { OnOk result (IsSole pass.new) }
     ensures end { OnOk result
         (IsEnd (instance_of board.now) (vector (opening_of board.now) (view pass.new).mine)) }
-    ensures reader { IfOk result (Belongs shared.now.instance.now.stacks) }
+    ensures readers { IfOk result
+        (λ readers. AreReadersOf shared.now.instance.now.stacks readers.items) }
 {
     let Crew { rt, gate, .. } = crew;
     let mut deques = deques;
@@ -171,29 +175,18 @@ fn work_with<'i, W: Range + Send + Sync, R: Threads + Sync, G: Gate + Sync>(
             requires len { length others.now.items < length shared.now.all.items }
             requires few { length others.now.items < 64 }
             ensures passes { All (λ job. IsHelper board.entry.now job.0) others.exit.now.items }
+            ensures readers { All (λ job. IfSome job.2
+                (Belongs (instance_of board.entry.now).stacks)) others.exit.now.items }
             ensures len { length others.exit.now.items ≡ length others.entry.now.items }
         { work_beside(rt, board, shared, others, gate) },
     );
     let Jobs { own, others } = jobs;
     let mut own = own;
-    take_back(board, pass, others)?;
+    let mut readers = take_back(shared.alloc, board, pass, others)?;
     work(board, pass, shared, &mut tools, &mut own, &NoGate)?;
     round_off(board, pass, shared, &mut tools, &mut own)?;
-    Ok(tools.reader)
-}
-
-// The index of a listed family.
-fn index_of(alloc: Global, instance: &Instance) -> Result<Option<Index>, AllocError>
-    ensures { IfOk result (IsIndexed instance.now) }
-{
-    let _units = instance.units();
-    match instance.family() {
-        Family::Listed(events) => {
-            let index = Index::build(alloc, events, instance.stacks().count())?;
-            Ok(Some(index))
-        }
-        Family::Cycles(_) => Ok(None),
-    }
+    readers.insert(0, tools.reader)?;
+    Ok(readers)
 }
 
 // The deques of so many workers, with their first hints.
