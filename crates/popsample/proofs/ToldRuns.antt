@@ -1,7 +1,7 @@
 -- A run as it is told: its end, and behind it what is asked for of its log, by the layered log.
 use Rattle.std.proofs.Common.{◌≡◌, ℕ, ◌++◌, Bool, true, false, ◌&&◌, ◌||◌, if◌then◌else◌, List, [], Option, None, Some, is_some, Result, Ok, Err, IfOk, length, zip, refl, sym, ap, ap₂, subst, ◌∙◌, append_assoc, true≢false}
 use Rattle.std.proofs.lemmas.Bool.{or_parts}
-use Rattle.std.proofs.lemmas.List.{length-map}
+use Rattle.std.proofs.lemmas.List.{append-nil, length-map}
 use Rattle.std.proofs.lemmas.List.Sorted.{length_permutation}
 use Rattle.pop_model.specs.Families.{Event}
 use Rattle.pop_model.specs.Instances.{Instance, IsInstance}
@@ -26,7 +26,7 @@ use Rattle.popsample.specs.Names.{names_for}
 use Rattle.popsample.specs.Reports.{reports_text, report_if, asks_report}
 use Rattle.popsample.specs.Witnesses.{IsWitness, witness_text}
 use Rattle.popsample.specs.Witnesses.Witness.{Unasked}
-use Rattle.popsample.specs.Tellings.{records_of, IsToldOf, layered_text, telling_text, LeadsToEnd, TellsRecords, TellsLog, TellsRun, tells_watchers, looks_at_records, asks_for_log}
+use Rattle.popsample.specs.Tellings.{records_of, GoesOn, IsToldOf, layered_text, telling_text, LeadsToEnd, TellsRecords, TellsLog, TellsRun, tells_watchers, looks_at_records, asks_for_log}
 use Rattle.popsample.specs.Outcomes.{AnswersBy, end_status}
 use Rattle.popsample.specs.Outcomes.Outcome.{Ended, Resampled}
 use Rattle.popsample.specs.Sampling.{IsToldOfFirst, EndsWithin, IsEndOf}
@@ -123,6 +123,26 @@ told_log asked ws names i log placed missing shown rest text sorted front t text
           ∙ sym (append_assoc (layered_text names i kept) witness reports);
     }
 
+-- it goes on behind the text that was at hand
+pub told_behind : (asked : Asked) (ws : List Watcher) (names : Names) (i : Instance) (log : List LogRecord)
+    (placed : List Placed) (missing : Bool) (before shown rest text : List ℕ) → AreSorted log placed
+    → shown ≡ before ++ layered_text names i (if asked.log then Some placed else None)
+    → TellsRecords asked ws names i (records_of placed) missing rest → text ≡ shown ++ rest
+    → GoesOn before (TellsLog asked ws names i log missing) text
+told_behind asked ws names i log placed missing before shown rest text sorted front t text_is =
+    let own : List ℕ = layered_text names i (if asked.log then Some placed else None) in
+    record {
+      told = own ++ rest;
+      says = told_log asked ws names i log placed missing own rest (own ++ rest) sorted refl t refl;
+      text_is = text_is ∙ ap (λ l. l ++ rest) front ∙ append_assoc before own rest;
+    }
+
+-- a text behind which nothing is printed
+pub unprinted_behind : (names : Names) (i : Instance) (placed : List Placed) (printed : Bool) (text : List ℕ)
+    → printed ≡ false → text ≡ text ++ layered_text names i (if printed then Some placed else None)
+unprinted_behind names i placed printed text hidden =
+    sym (append-nil text) ∙ ap (λ l. text ++ l) (unprinted names i placed printed [] hidden refl)
+
 -- what is told of the log that a run kept
 pub told_kept : (asked : Asked) (ws : List Watcher) (names : Names) (i : Instance) (keeps : Bool) (cursors : List ℕ)
     (pops : ℕ) (stuck : List Event) (kept : Option (List LogRecord)) (log : List LogRecord) (missing : Bool)
@@ -155,25 +175,33 @@ told_unkept asked ws names i false cursors pops stuck kept missing text is asks 
           (nothing_of_records asked parts.1 ws names i (records_of placed) missing text there empty) refl;
     }
 
--- the same of results
+-- the same of results, behind the text that was at hand
 pub kept_result : {E : Type 0} (asked : Asked) (ws : List Watcher) (names : Names) (i : Instance) (keeps : Bool)
     (cursors : List ℕ) (pops : ℕ) (stuck : List Event) (kept : Option (List LogRecord)) (log : List LogRecord)
-    (r : Result LogText E) → kept ≡ Some log → IsRun i (start_of i) keeps cursors pops stuck kept
-    → IfOk r (λ t. TellsLog asked ws names i log t.missing t.bytes.items)
-    → IfOk r (λ t. TellsRun asked ws names i cursors pops stuck t.missing t.bytes.items)
-kept_result asked ws names i keeps cursors pops stuck kept log (Ok t) is run told =
-    told_kept asked ws names i keeps cursors pops stuck kept log t.missing t.bytes.items is run told
-kept_result asked ws names i keeps cursors pops stuck kept log (Err e) is run told = tt
+    (before : List ℕ) (r : Result LogText E) → kept ≡ Some log → IsRun i (start_of i) keeps cursors pops stuck kept
+    → IfOk r (λ t. GoesOn before (TellsLog asked ws names i log t.missing) t.bytes.items)
+    → IfOk r (λ t. GoesOn before (TellsRun asked ws names i cursors pops stuck t.missing) t.bytes.items)
+kept_result asked ws names i keeps cursors pops stuck kept log before (Ok t) is run on =
+    record {
+      told = on.told;
+      says = told_kept asked ws names i keeps cursors pops stuck kept log t.missing on.told is run on.says;
+      text_is = on.text_is;
+    }
+kept_result asked ws names i keeps cursors pops stuck kept log before (Err e) is run on = tt
 
-pub unkept_result : {E : Type 0} (asked : Asked) (ws : List Watcher) (names : Names) (i : Instance) (keeps : Bool)
-    (cursors : List ℕ) (pops : ℕ) (stuck : List Event) (kept : Option (List LogRecord)) (r : Result LogText E)
+-- of a run that kept none, nothing is told behind it
+pub unkept_behind : (asked : Asked) (ws : List Watcher) (names : Names) (i : Instance) (keeps : Bool)
+    (cursors : List ℕ) (pops : ℕ) (stuck : List Event) (kept : Option (List LogRecord)) (before : List ℕ)
     → kept ≡ None → keeps ≡ asks_for_log asked → IsInstance i → IsRun i (start_of i) keeps cursors pops stuck kept
-    → IfOk r (λ t. t.missing ≡ false) → IfOk r (λ t. t.bytes.items ≡ [])
-    → IfOk r (λ t. TellsRun asked ws names i cursors pops stuck t.missing t.bytes.items)
-unkept_result asked ws names i keeps cursors pops stuck kept (Ok t) is asks instance run there empty =
-    told_unkept asked ws names i keeps cursors pops stuck kept t.missing t.bytes.items is asks instance run there empty
-unkept_result asked ws names i keeps cursors pops stuck kept (Err e) is asks instance run there empty = tt
+    → GoesOn before (TellsRun asked ws names i cursors pops stuck false) before
+unkept_behind asked ws names i keeps cursors pops stuck kept before is asks instance run =
+    record {
+      told = [];
+      says = told_unkept asked ws names i keeps cursors pops stuck kept false [] is asks instance run refl refl;
+      text_is = sym (append-nil before);
+    }
 
+-- where the records aren't looked at, nothing is told of them
 pub nothing_result : {E : Type 0} (asked : Asked) (ws : List Watcher) (names : Names) (i : Instance)
     (log : List LogRecord) (r : Result LogText E) → looks_at_records asked ≡ false → IfOk r (λ t. t.missing ≡ false)
     → IfOk r (λ t. t.bytes.items ≡ []) → IfOk r (λ t. TellsRecords asked ws names i log t.missing t.bytes.items)
@@ -263,11 +291,11 @@ told_history asked ws facts i names cursors pops stuck missing status text told 
 
 -- what is told of a log is told of it under another name
 pub same_told : {E : Type 0} (asked : Asked) (ws : List Watcher) (names : Names) (i : Instance)
-    (log other : List LogRecord) (r : Result LogText E) → log ≡ other
-    → IfOk r (λ t. TellsLog asked ws names i log t.missing t.bytes.items)
-    → IfOk r (λ t. TellsLog asked ws names i other t.missing t.bytes.items)
-same_told asked ws names i log other r same told =
-    subst (λ l. IfOk r (λ t. TellsLog asked ws names i l t.missing t.bytes.items)) same told
+    (log other : List LogRecord) (before : List ℕ) (r : Result LogText E) → log ≡ other
+    → IfOk r (λ t. GoesOn before (TellsLog asked ws names i log t.missing) t.bytes.items)
+    → IfOk r (λ t. GoesOn before (TellsLog asked ws names i other t.missing) t.bytes.items)
+same_told asked ws names i log other before r same on =
+    subst (λ l. IfOk r (λ t. GoesOn before (TellsLog asked ws names i l t.missing) t.bytes.items)) same on
 
 -- with the log that it kept
 pub told_history_with : (asked : Asked) (ws : List Watcher) (facts : Facts) (i : Instance) (names : Names)

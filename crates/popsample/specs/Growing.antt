@@ -1,7 +1,9 @@
 -- Stacks that begin with a height and grow to another one.
-use Rattle.std.specs.Prelude.{ℕ, ◌<◌, ◌≤◌, ◌^◌, Option, None, Some, ⊤}
+use Rattle.std.specs.Prelude.{ℕ, ◌<◌, ◌≤◌, ◌^◌, List, Option, None, Some, ⊤}
 use Rattle.pop_model.specs.Stacks.{StackTable, height_of, IsKeyed, stacks_raised}
+use Rattle.pop_model.specs.Families.{Family}
 use Rattle.pop_model.specs.Instances.{Instance, instance_raised}
+use Rattle.pop_instance.specs.Index.{IsFamilyIndex}
 
 -- the stacks at the height to which they grow, if they do
 abbrev pub grown : Option ℕ → StackTable → StackTable
@@ -17,3 +19,8 @@ instance_grown (Some last) i = instance_raised last i
 abbrev pub MayGrowTo : Option ℕ → StackTable → Type 0
 MayGrowTo None s = ⊤
 MayGrowTo (Some last) s = IsKeyed s.origin × ((v : ℕ) → height_of s v ≤ last) × (last < 2 ^ 31)
+
+-- what is at hand is the index of the family, or nothing
+abbrev pub MayIndex : Family → Option (List (List ℕ)) → Type 0
+MayIndex family None = ⊤
+MayIndex family (Some index) = IsFamilyIndex family (Some index)

@@ -81,6 +81,12 @@ pub record TellsRun (asked : Asked) (watchers : List Watcher) (names : Names) (i
   pub pops_are : pops ≡ length log
   pub told : TellsLog asked watchers names i log missing text
 
+-- a text, and behind it one that says this
+pub record GoesOn (before : List ℕ) (Says : List ℕ → Type 0) (text : List ℕ) : Type 0 where
+  pub told : List ℕ
+  pub says : Says told
+  pub text_is : text ≡ before ++ told
+
 -- the watchers are told the log: where the order of pops is free, and else for a report
 abbrev pub tells_watchers : Asked → Bool
 tells_watchers asked = asked.free || asks_report asked.reports

@@ -11,10 +11,10 @@ ghost use Rattle.pop_batch.specs.Batches.{AreEnds};
 ghost use Rattle.prs_rounds.specs.Rounds.{IsRoundsEnd};
 ghost use Rattle.prs_rounds.specs.Units.{IsIndexOf};
 ghost use Rattle.pop_print.specs.Rounds.{IsShownAt};
-ghost use Rattle.popsample.specs.Growing.{MayGrowTo};
+ghost use Rattle.popsample.specs.Growing.{MayGrowTo, MayIndex};
 
 use crate::growing_instance::GrowingInstance;
-use confluence_core::{Keep, run_from_zeros};
+use confluence_core::{Indexed, Keep, run_from_zeros, run_indexed};
 use pop_batch::{Ends, batch};
 use pop_instance::{Cursors, Index, Instance};
 use pop_words::BoardKind;
@@ -46,6 +46,26 @@ impl<'a, R, G> Model for Crew<'a, R, G> {
     ghost invariant = { λ a. (0 < a.workers) × (a.workers ≤ 64) };
 }
 
+// A run of the instance from zeros on this thread, by the index that is at hand, or a new one.
+fn run_alone(
+    alloc: Global,
+    instance: &Instance,
+    at_hand: Option<Index>,
+    keep: Keep,
+) -> Result<Outcome, AllocError>
+    requires { MayIndex instance.now.family at_hand }
+    ensures { IfOk result (IsRunOf instance.now (start_of instance.now) (keeps_log keep)) }
+{
+    if at_hand.is_none() {
+        return run_from_zeros(alloc, instance, keep);
+    }
+    let indexed = Indexed {
+        instance,
+        index: &at_hand,
+    };
+    run_indexed(alloc, indexed, keep)
+}
+
 impl<'a, R: Threads + Wait + Sync, G: Gate + Sync> Crew<'a, R, G> {
     /// A crew of so many workers on this board.
     pub fn new(rt: &'a R, gate: &'a G, workers: u32, board: BoardKind) -> Crew<'a, R, G>
@@ -72,11 +92,13 @@ impl<'a, R: Threads + Wait + Sync, G: Gate + Sync> Crew<'a, R, G> {
         ensures instance { IfOk result (λ ran. ran.1 ≡ growing) }
         ensures run { IfOk result (λ ran. IsRunOf ran.1 (start_of ran.1) (keeps_log keep) ran.0) }
     {
-        let (mut instance, last) = growing.into_parts();
+        let (mut instance, last, index) = growing.into_parts();
         let Some(last) = last else {
-            let run = self.run_at_once(alloc, &instance, keep)?;
+            let run = self.run_at_once(alloc, &instance, index, keep)?;
             return Ok((run, instance));
         };
+        // Stages build their own.
+        drop(index);
         let run = self.run_in_stages(alloc, &mut instance, last, keep)?;
         Ok((run, instance))
     }
@@ -102,19 +124,22 @@ impl<'a, R: Threads + Wait + Sync, G: Gate + Sync> Crew<'a, R, G> {
     }
 
     // A run of the instance from zeros. One worker makes it alone, behind the gate and with no
-    // board.
+    // board. It goes by the index that is at hand; several build their own, without it.
     fn run_at_once(
         &self,
         alloc: Global,
         instance: &Instance,
+        index: Option<Index>,
         keep: Keep,
     ) -> Result<Outcome, AllocError>
+        requires index { MayIndex instance.now.family index }
         ensures { IfOk result (IsRunOf instance.now (start_of instance.now) (keeps_log keep)) }
     {
         if self.workers == 1 {
             self.gate.at(0, 0);
-            return run_from_zeros(alloc, instance, keep);
+            return run_alone(alloc, instance, index, keep);
         }
+        drop(index);
         let zeros = zeros_of(alloc, instance)?;
         self.run_from(alloc, instance, &zeros, keep)
     }

@@ -15,6 +15,7 @@ mod growing_stacks;
 mod instances;
 pub mod laws;
 mod making;
+mod named;
 mod names;
 mod orientation;
 mod origin;

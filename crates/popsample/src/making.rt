@@ -15,6 +15,7 @@ ghost use Rattle.pop_watch.specs.Telling.{Watcher};
 ghost use Rattle.pop_print.specs.Ends.{AreFactsOf};
 ghost use Rattle.pop_print.specs.declared.facts.Facts.TheVariants.{Formula as FormulaFacts};
 ghost use Rattle.popsample.specs.declared.asked.Asked.{Asked};
+ghost use Rattle.popsample.specs.Growing.{MayIndex};
 ghost use Rattle.popsample.specs.Batches.{AreFew};
 ghost use Rattle.popsample.specs.Results.{ComesRefused, IsTooManyRefusal, IsCutOffRefusal};
 ghost use Rattle.popsample.specs.Sampling.{pair_weights, IsEndOf, ComesOfSampling};
@@ -67,24 +68,26 @@ pub struct Made {
     pub instance: GrowingInstance,
 }
 
-/// Refuses events over so many variables of which two clash, where they may not.
+/// Refuses events over so many variables of which two clash, where they may not. They are searched
+/// by their index, which is handed out; where they may clash, none is built.
 pub fn refuse_clash(
     alloc: Global,
     may_clash: bool,
     variables: u32,
     events: &Events,
-) -> Result<(), Refusal>
+) -> Result<Option<Index>, Refusal>
     requires { FitVariables variables events.now }
+    ensures index { IfOk result (MayIndex (Listed events.now)) }
     ensures extremal { may_clash ≡ false → OnOk result (IsExtremal (Listed events.now)) }
     ensures clash { IfErr result (IsClashIn may_clash events.now) }
 {
     if may_clash {
-        return Ok(());
+        return Ok(None);
     }
     let index = Index::build(alloc, events, variables)?;
     match check(alloc, events, &index)? {
         Verdict::Clash(number, other) => Err(Refusal::Clashes(number, other)),
-        Verdict::Extremal => Ok(()),
+        Verdict::Extremal => Ok(Some(index)),
     }
 }
 
@@ -111,8 +114,8 @@ pub fn make_formula(
     let facts = Facts::Formula(variables);
     let stacks = origin.stacks(&facts, Weights::pairs(variables))?;
     let events = formula.events(alloc)?;
-    refuse_clash(alloc, may_clash, variables, &events)?;
-    let instance = of_events(variables, stacks, events);
+    let index = refuse_clash(alloc, may_clash, variables, &events)?;
+    let instance = of_events(variables, stacks, events, index);
     Ok(Made { facts, instance })
 }
 
@@ -134,7 +137,7 @@ pub fn make_orientation(
     refuse_too_many(count, edges)?;
     let facts = Facts::Orient(graph);
     let stacks = origin.stacks(&facts, Weights::pairs(edges))?;
-    let instance = of_events(edges, stacks, events);
+    let instance = of_events(edges, stacks, events, None);
     Ok(Made { facts, instance })
 }
 

@@ -61,7 +61,7 @@ pub fn sample_rounds<R: Threads + Wait + Sync, G: Gate + Sync>(
     let stacks = origin.stacks(&facts, Weights::pairs(variables))?;
     let events = formula.events(call.alloc)?;
     let index = Index::build(call.alloc, &events, variables)?;
-    let growing = of_events(variables, stacks, events);
+    let growing = of_events(variables, stacks, events, None);
     let instance = growing.raised();
     Ok(round_and_tell(call, variables, &instance, &index)?)
 }

@@ -1,5 +1,5 @@
 //! A run of an instance, and how it is told.
-ghost use Rattle.std.specs.Prelude.{◌≡◌, List, true, false, ◌&&◌, Some, None, map, length, IfOk, if◌then◌else◌};
+ghost use Rattle.std.specs.Prelude.{◌≡◌, ◌++◌, List, true, false, ◌&&◌, Some, None, map, length, IfOk, if◌then◌else◌};
 ghost use Rattle.pop_model.specs.Stacks.{variables_of};
 ghost use Rattle.pop_model.specs.Extremal.{IsExtremal};
 ghost use Rattle.pop_model.specs.Logs.{LogRecord, IsLegal, replay};
@@ -12,12 +12,13 @@ ghost use Rattle.popsample.specs.Reports.{reports_text};
 ghost use Rattle.popsample.specs.Witnesses.{TellsWitness};
 ghost use Rattle.popsample.specs.Sampling.{EndsWithin, IsEndOf};
 ghost use Rattle.popsample.specs.Resamplings.{IsHistoryOf, IsHistoryWith};
-ghost use Rattle.popsample.specs.Tellings.{TellsRecords, TellsLog, TellsRun, asks_for_log, layered_text, records_of};
+ghost use Rattle.popsample.specs.Tellings.{GoesOn, TellsRecords, TellsLog, TellsRun, asks_for_log, layered_text, records_of};
 
 use crate::answer::Answer;
 use crate::asked::Asked;
 use crate::call::Call;
 use crate::growing_instance::GrowingInstance;
+use crate::named::Named;
 use crate::names::names_of;
 use crate::reporting::report_log;
 use crate::witness::{LogText, witness_of};
@@ -134,46 +135,47 @@ fn tell_in_layers<R, G>(
     tell_records(call, instance, names, cursors, &layered, asked)
 }
 
-// The text of a layered log, where it is printed; else nothing.
+// A text, and behind it that of a layered log, where it is printed.
 fn text_if(
-    alloc: Global,
+    text: Vec<u8>,
     instance: &Instance,
     names: &Names,
     placed: &LayeredLog,
     printed: bool,
 ) -> Result<Vec<u8>, AllocError>
     requires { IsLegal instance.now (start_of instance.now) (records_of placed.now) }
-    ensures { IfOk result (λ bytes. bytes.items ≡ layered_text names.now instance.now
+    ensures { IfOk result (λ bytes. bytes.items ≡ text.items ++ layered_text names.now instance.now
         (if printed then Some placed.now else None)) }
 {
     if !printed {
-        return Ok(Vec::new(alloc));
+        return Ok(text);
     }
-    placed.print(alloc, instance, names)
+    placed.print_behind(text, instance, names)
 }
 
-// What is told of a log: its text in its layered order, the witness and the reports, each where it
-// is asked for.
+// A text, and behind it what is told of a log: its text in its layered order, the witness and the
+// reports, each where it is asked for.
 fn text_of_log<R, G>(
     call: &mut Call<R, G>,
-    instance: &Instance,
-    names: &Names,
+    named: &Named,
     cursors: &Cursors,
     log: &Log,
     asked: Asked,
+    text: Vec<u8>,
 ) -> Result<LogText, AllocError>
-    requires count { variables_of instance.now.stacks ≡ length cursors.now }
-    requires legal { IsLegal instance.now (start_of instance.now) log.now }
-    requires leads { cursors.now ≡ replay (start_of instance.now) log.now }
-    ensures { IfOk result (λ t. TellsLog asked
-        (map (λ b. (kind b, state b)) call.old.watchers.items) names.now instance.now log.now
-        t.missing t.bytes.items) }
+    requires count { variables_of named.now.instance.now.stacks ≡ length cursors.now }
+    requires legal { IsLegal named.now.instance.now (start_of named.now.instance.now) log.now }
+    requires leads { cursors.now ≡ replay (start_of named.now.instance.now) log.now }
+    ensures { IfOk result (λ t. GoesOn text.items (TellsLog asked
+        (map (λ b. (kind b, state b)) call.old.watchers.items) named.now.names.now
+        named.now.instance.now log.now t.missing) t.bytes.items) }
 {
+    let instance = named.instance;
     // Read for its contract, which says what holds of every instance.
     let _units = instance.units();
     let placed = LayeredLog::of(call.alloc, instance.stacks().count(), log)?;
-    let mut bytes = text_if(call.alloc, instance, names, &placed, asked.log)?;
-    let told = tell_in_layers(call, instance, names, cursors, &placed, asked)?;
+    let mut bytes = text_if(text, instance, named.names, &placed, asked.log)?;
+    let told = tell_in_layers(call, instance, named.names, cursors, &placed, asked)?;
     bytes.extend_from_slice(&told.bytes)?;
     Ok(LogText {
         missing: told.missing,
@@ -181,30 +183,35 @@ fn text_of_log<R, G>(
     })
 }
 
-// What is told of a run behind its end. It kept its log where something of it is asked for. The log
-// is let go of.
+// A text, and behind it what is told of a run behind its end. It kept its log where something of it
+// is asked for. The log is let go of.
 fn tell_run<R, G>(
     call: &mut Call<R, G>,
-    instance: &Instance,
-    names: &Names,
+    named: &Named,
     end: &End,
     log: Option<Log>,
     asked: Asked,
+    text: Vec<u8>,
 ) -> Result<LogText, AllocError>
-    requires { IsRunOf instance.now (start_of instance.now) (asks_for_log asked)
-        (record { end = end.now; log = log }) }
-    ensures run { IfOk result (λ t. TellsRun asked
-        (map (λ b. (kind b, state b)) call.old.watchers.items) names.now instance.now
-        end.now.cursors end.now.pops end.now.stuck t.missing t.bytes.items) }
-    ensures kept { (kept : List LogRecord) → log ≡ Some kept → IfOk result (λ t. TellsLog asked
-        (map (λ b. (kind b, state b)) call.old.watchers.items) names.now instance.now kept
-        t.missing t.bytes.items) }
+    requires { IsRunOf named.now.instance.now (start_of named.now.instance.now)
+        (asks_for_log asked) (record { end = end.now; log = log }) }
+    ensures run { IfOk result (λ t. GoesOn text.items (TellsRun asked
+        (map (λ b. (kind b, state b)) call.old.watchers.items) named.now.names.now
+        named.now.instance.now end.now.cursors end.now.pops end.now.stuck t.missing)
+        t.bytes.items) }
+    ensures kept { (kept : List LogRecord) → log ≡ Some kept
+        → IfOk result (λ t. GoesOn text.items (TellsLog asked
+        (map (λ b. (kind b, state b)) call.old.watchers.items) named.now.names.now
+        named.now.instance.now kept t.missing) t.bytes.items) }
 {
     // Read for its contract, which says what holds of every instance.
-    let _units = instance.units();
+    let _units = named.instance.units();
     match log {
-        Some(log) => text_of_log(call, instance, names, &end.cursors, &log, asked),
-        None => LogText::nothing(call.alloc),
+        Some(log) => text_of_log(call, named, &end.cursors, &log, asked, text),
+        None => Ok(LogText {
+            missing: false,
+            bytes: text,
+        }),
     }
 }
 
@@ -234,13 +241,16 @@ pub fn tell_end<R, G>(
     // Read for its contract, which says what holds of every instance.
     let _units = instance.units();
     let Outcome { end, log } = run;
-    let mut text = text(call.alloc, facts, instance, &end)?;
+    let text = text(call.alloc, facts, instance, &end)?;
     let names = names_of(facts);
-    let told = tell_run(call, instance, &names, &end, log, asked)?;
-    text.extend_from_slice(&told.bytes)?;
+    let named = Named {
+        instance,
+        names: &names,
+    };
+    let told = tell_run(call, &named, &end, log, asked, text)?;
     Ok(Answer {
         status: status_with(&end, asked.free, told.missing),
-        text,
+        text: told.bytes,
     })
 }
 

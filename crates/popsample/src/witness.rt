@@ -14,8 +14,8 @@ use pop_log::Names;
 use std::alloc::{AllocError, Global};
 use witness_trees::{find_pop, print_missing, print_tree, tree};
 
-/// What is told of a log, or a part of it, and whether the pop whose witness is asked for is
-/// missing.
+/// What is told of a log, or a part of it, maybe behind a text that was at hand, and whether the pop
+/// whose witness is asked for is missing.
 #[derive(Drop)]
 pub struct LogText {
     pub missing: bool,

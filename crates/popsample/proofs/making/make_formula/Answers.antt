@@ -10,19 +10,19 @@ use Rattle.popsample.proofs.FormulaRuns.{clash_refused, few_pairs}
 use Rattle.popsample.proofs.making.make_formula.Goals as goal
 
 -- the events clash
-pub returns-in_err-refuse_clash-clause-refused : goal.returns-in_err-refuse_clash-clause-refused
-returns-in_err-refuse_clash-clause-refused c asked ws =
+pub returns-in_err-index-clause-refused : goal.returns-in_err-index-clause-refused
+returns-in_err-index-clause-refused c asked ws =
     let f = c.args.formula.now in
     let sound : IsSound c.args.origin (pair_weights f.variables) =
     subst (IsSound c.args.origin) (c.pairs.ensures ∙ ap pair_weights c.variables-variables.ensures.count)
     c.in_ok-stacks.ensures.sound in
     refused_error
     (ComesRefused (ComesOfSampling (FormulaFacts f.variables) c.args.origin (pair_weights f.variables) c.args.count
-    (RunsFormula c.args.may_clash c.args.origin asked ws f))) c.from_residual-in_err-refuse_clash.result
-    c.in_err-refuse_clash.field-0.0 c.from_residual-in_err-refuse_clash.ensures.1
+    (RunsFormula c.args.may_clash c.args.origin asked ws f))) c.from_residual-in_err-index.result
+    c.in_err-index.field-0.0 c.from_residual-in_err-index.ensures.1
     (clash_refused c.args.may_clash c.args.origin asked ws c.args.count f c.in_ok-events.events
-    c.variables-variables.result c.in_err-refuse_clash.field-0.0 c.variables-variables.ensures.count sound
-    c.in_ok-refuse_too_many.ensures.few c.in_ok-events.ensures.events c.in_err-refuse_clash.ensures.clash)
+    c.variables-variables.result c.in_err-index.field-0.0 c.variables-variables.ensures.count sound
+    c.in_ok-refuse_too_many.ensures.few c.in_ok-events.ensures.events c.in_err-index.ensures.clash)
 
 pub returns-clause-made : goal.returns-clause-made
 returns-clause-made c =
@@ -36,7 +36,7 @@ returns-clause-made c =
     record {
       events = events;
       of_formula = c.in_ok-events.ensures.events;
-      extremal = c.in_ok-refuse_clash.ensures.extremal;
+      extremal = c.in_ok-index.ensures.extremal;
       is = record {
         facts_are = ap FormulaFacts count;
         instance_is = same ∙ ap (λ k. instance_of c.args.origin k events) count;
