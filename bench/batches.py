@@ -94,12 +94,17 @@ def print_turns(name, turns):
 
 
 def print_peer(name, peer, text, folder, limit):
-    """The row of another program, of which each sample is a run."""
-    runs = [run_once(peer.command(seed + 1), text, folder, limit) for seed in range(SAMPLES)]
-    if not all(map(answered, runs)):
+    """The row of another program: as many samples in one process, which reads the text once, and by a run each."""
+    batch = run_once(peer.command(1, SAMPLES), text, folder, limit)
+    apart = [run_once(peer.command(seed + 1), text, folder, limit) for seed in range(SAMPLES)]
+    if not all(map(answered, [batch, *apart])):
         return print_row(f"{name}, {peer.name}", "took too long or failed", "", "", "", "", "", "", "")
-    seconds = sum(run.seconds for run in runs)
-    print_row(f"{name}, {peer.name}", "", "", peak_of(runs), "", f"{seconds / SAMPLES:.3f}", "", "", f"{seconds:.3f}")
+    seconds = sum(run.seconds for run in apart)
+    print_row(
+        f"{name}, {peer.name}",
+        f"{batch.seconds:.3f}", f"{batch.processor:.3f}", peak_of([batch]), "",
+        f"{seconds / SAMPLES:.3f}", "", "", f"{seconds:.3f}",
+    )
 
 
 def arguments():

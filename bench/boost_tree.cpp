@@ -1,4 +1,4 @@
-// A random spanning tree by Boost Graph: boost_tree SEED < graph
+// Random spanning trees by Boost Graph, one if no number is given: boost_tree SEED [TREES] < graph
 #include "graph_text.hpp"
 
 #include <boost/graph/adjacency_list.hpp>
@@ -35,9 +35,14 @@ static std::vector<Vertex> sample(const Graph& graph, bool weights, std::mt19937
 
 int main(int count, char** words) {
     std::mt19937 generator(count > 1 ? unsigned(atoi(words[1])) : 1);
+    const int trees = count > 2 ? atoi(words[2]) : 1;
     const TextGraph text = read_graph();
-    const std::vector<Vertex> next = sample(graph_of(text), has_weights(text), generator);
+    const bool weights = has_weights(text);
+    const Graph graph = graph_of(text);
     std::string lines;
-    for (Vertex vertex = 1; vertex < next.size(); vertex++) append_edge(lines, vertex, next[vertex]);
+    for (int tree = 0; tree < trees; tree++) {
+        const std::vector<Vertex> next = sample(graph, weights, generator);
+        for (Vertex vertex = 1; vertex < next.size(); vertex++) append_edge(lines, vertex, next[vertex]);
+    }
     print(lines);
 }

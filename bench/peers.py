@@ -9,10 +9,10 @@ BOOST_HEADER = "boost/graph/random_spanning_tree.hpp"
 
 
 class Peer(NamedTuple):
-    """A program beside popsample, with its command for a seed."""
+    """A program beside popsample, with its command for a seed and, where more than one is asked for, so many trees."""
 
     name: str
-    command: Callable[[int], List[str]]
+    command: Callable[..., List[str]]
     takes_weights: bool
 
 
@@ -33,7 +33,7 @@ def built(name, source, takes_weights, folder, more=()):
     command = ["g++", "-O3", "-std=c++17", os.path.join(HERE, source), "-o", program, *more]
     if subprocess.run(command, check=False).returncode != 0:
         return None
-    return Peer(name, lambda seed: [program, str(seed)], takes_weights)
+    return Peer(name, lambda *numbers: [program, *map(str, numbers)], takes_weights)
 
 
 def boost(folder):
@@ -55,7 +55,7 @@ def igraph_in_r():
     if not succeeds(["Rscript", "-e", "library(igraph)"]):
         return None
     script = os.path.join(HERE, "igraph_tree.R")
-    return Peer("igraph in R", lambda seed: ["Rscript", script, str(seed)], False)
+    return Peer("igraph in R", lambda *numbers: ["Rscript", script, *map(str, numbers)], False)
 
 
 def find_peers(folder):
