@@ -1,0 +1,72 @@
+//! Random multigraphs, and what is drawn with each.
+ghost use Rattle.std.specs.Prelude.{◌<◌, ◌^◌};
+
+use std::alloc::{AllocError, Global};
+
+// The next pseudo-random number below a bound: the high bits of a linear congruential step with
+// Knuth's numbers for MMIX.
+fn below(state: &mut u64, bound: u32) -> u32
+    requires { 0 < bound }
+    ensures { result < bound }
+{
+    *state = state
+        .wrapping_mul(6364136223846793005)
+        .wrapping_add(1442695040888963407);
+    (*state >> 33) as u32 % bound
+}
+
+// The ends of edge i, from 0. The first edges join vertex i + 2 to a vertex before it, so that each
+// is joined to vertex 1; the ends of the others are any vertices.
+fn ends(state: &mut u64, vertices: u32, i: u32) -> (u32, u32)
+    requires { 0 < vertices }
+{
+    if i < vertices - 1 {
+        (i + 2, 1 + below(state, i + 1))
+    } else {
+        (1 + below(state, vertices), 1 + below(state, vertices))
+    }
+}
+
+// Adds edge i, with a weight from 1 to 5.
+fn push_edge(text: &mut String, state: &mut u64, vertices: u32, i: u32) -> Result<(), AllocError>
+    requires some { 0 < vertices }
+    requires few { vertices < 1000 }
+{
+    let (u, v) = ends(state, vertices, i);
+    let weight = 1 + below(state, 5);
+    write!(text, "e {u} {v} {weight}\n")
+}
+
+/// The text of a connected graph of so many vertices, with edges of the weights 1 to 5.
+pub fn connected(alloc: Global, state: &mut u64, vertices: u32) -> Result<String, AllocError>
+    requires some { 0 < vertices }
+    requires few { vertices < 1000 }
+{
+    let edges = vertices - 1 + below(state, 2 * vertices);
+    let mut text = format!(in alloc; "p edge {vertices} {edges}\n")?;
+    for i in 0..edges {
+        push_edge(&mut text, state, vertices, i)?;
+    }
+    Ok(text)
+}
+
+/// What a case draws: the root, the byte of its key, and the height.
+#[derive(Clone, Copy)]
+pub struct Draw {
+    pub root: u32,
+    pub key: u8,
+    pub height: u32,
+}
+
+/// Draws the root, the key and the height of graph i.
+pub fn drawn(state: &mut u64, vertices: u32, i: u32) -> Draw
+    requires some { 0 < vertices }
+    requires few { vertices < 1000 }
+    ensures height { 0 < result.height }
+    ensures short { result.height < 2 ^ 31 }
+{
+    let root = 1 + below(state, vertices);
+    let key = below(state, 256) as u8;
+    let height = if i % 5 == 0 { 5000 } else { i % 5 };
+    Draw { root, key, height }
+}
