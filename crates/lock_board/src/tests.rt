@@ -4,7 +4,7 @@ ghost use Rattle.pop_model.specs.Runs.{start_of};
 ghost use Rattle.pop_instance.specs.Arrows.{heads_of};
 
 use crate::{Attempt, Book, Site};
-use confluence_core::Log;
+use confluence_core::{Log, Record};
 use pop_instance::{Arrows, Cube, Cursors, Events, Family, Instance};
 use pop_stacks::{Reader, Rows, StackSpec, Stacks, Weights};
 use std::alloc::{AllocError, Global};
@@ -20,6 +20,25 @@ struct Tried {
     log: Log,
 }
 
+// Attempts these units of a book in turn.
+fn answers<N: Site>(
+    rt: &impl Abort,
+    alloc: Global,
+    instance: &Instance,
+    book: &mut Book<N>,
+    units: &[u32],
+) -> Result<Vec<Attempt>, Fail>
+    requires site { instance.now ≡ N.instance }
+{
+    let mut reader = Reader::new(instance.stacks());
+    let mut answers = Vec::new(alloc);
+    for unit in units {
+        assert!(rt; *unit < instance.units());
+        answers.push(book.attempt(alloc, &mut reader, *unit))?;
+    }
+    Ok(answers)
+}
+
 // Attempts these units of a new book in turn.
 fn try_units<N: Site>(
     rt: &impl Abort,
@@ -32,12 +51,7 @@ fn try_units<N: Site>(
     ensures { IfOk result (λ tried. variables_of instance.now.stacks ≡ length tried.cursors) }
 {
     let mut book = Book::<N>::new(alloc, instance)?;
-    let mut reader = Reader::new(instance.stacks());
-    let mut answers = Vec::new(alloc);
-    for unit in units {
-        assert!(rt; *unit < instance.units());
-        answers.push(book.attempt(alloc, &mut reader, *unit))?;
-    }
+    let answers = answers(rt, alloc, instance, &mut book, units)?;
     let (cursors, log) = book.into_parts();
     Ok(Tried {
         answers,
@@ -58,45 +72,128 @@ fn attempts(
     try_units::<Brand>(rt, alloc, instance, units)
 }
 
-// The instance of one variable with these entries, whose event is that it has the value 0.
-fn clause(rt: &impl Abort, alloc: Global, entries: &[u32]) -> Result<Instance, Fail> {
+// The stacks of one variable with these entries.
+fn one_stack(rt: &impl Abort, alloc: Global, entries: &[u32]) -> Result<Stacks, Fail> {
     assert!(rt; entries.len() < 9);
-    let rows = Rows::of(vec![in alloc; Vec::from_slice(alloc, entries)?]?);
-    let stacks = Stacks::new(StackSpec::Given(rows), Weights::pairs(1), 1)?;
+    let row = Vec::from_slice(alloc, entries)?;
+    let rows = Rows::of(vec![in alloc; row]?);
+    Ok(Stacks::new(StackSpec::Given(rows), Weights::pairs(1), 1)?)
+}
+
+// The event that variable 0 has the value 0.
+fn one_event(rt: &impl Abort, alloc: Global) -> Result<Family, Fail> {
     let cube = Cube::new(vec![in alloc; (0, 0)]?).expect(rt, "a cube");
     let events = Events::gather(alloc, vec![in alloc; (1, cube)]?)?;
-    Ok(Instance::new(stacks, Family::Listed(events)).expect(rt, "an instance"))
+    Ok(Family::Listed(events))
+}
+
+// The instance of one variable with these entries, whose event is that it has the value 0.
+fn clause(rt: &impl Abort, alloc: Global, entries: &[u32]) -> Result<Instance, Fail> {
+    let family = one_event(rt, alloc)?;
+    let stacks = one_stack(rt, alloc, entries)?;
+    Ok(Instance::new(stacks, family).expect(rt, "an instance"))
+}
+
+// Compares two counts. Tests compare by this call and the next, so that what tells of numbers that
+// differ is proved once.
+fn same(rt: &impl Abort, found: u64, want: u64, what: &str) {
+    assert_eq!(rt; found, want, "{what}");
+}
+
+// Compares two numbers at a place.
+fn same_at(rt: &impl Abort, found: u32, want: u32, what: &str, place: u32) {
+    assert_eq!(rt; found, want, "{what} {place}");
+}
+
+// Compares what attempts answered.
+fn are_answers(rt: &impl Abort, answers: &[Attempt], want: &[Attempt]) {
+    assert_eq!(rt; answers, want);
+}
+
+// Compares what attempts answered, and how many pops they left in the log.
+fn came_to(rt: &impl Abort, tried: &Tried, want: &[Attempt], pops: u64) {
+    are_answers(rt, tried.answers.as_slice(), want);
+    same(rt, tried.log.len(), pops, "records");
+}
+
+// What is attempted over these entries of each variable, and what it comes to.
+struct Case {
+    entries: &'static [u32],
+    units: &'static [u32],
+    answers: &'static [Attempt],
+    pops: u64,
+}
+
+// Compares the attempts of a case over an instance.
+fn case_comes(
+    rt: &impl Abort,
+    alloc: Global,
+    instance: &Instance,
+    case: &Case,
+) -> Result<(), Fail> {
+    let tried = attempts(rt, alloc, instance, case.units)?;
+    came_to(rt, &tried, case.answers, case.pops);
+    Ok(())
 }
 
 // Worked by hand: the entries 0 and 0 are popped, and at 1 the event doesn't occur.
-#[test]
-fn a_listed_event_is_popped_until_it_is_absent(rt: HostRuntime) -> Result<(), Fail> {
-    let alloc = rt.alloc();
-    let instance = clause(&rt, alloc, &[0, 0, 1])?;
-    let tried = attempts(&rt, alloc, &instance, &[0, 0, 0])?;
-    let wanted = [Attempt::Popped, Attempt::Popped, Attempt::Absent];
-    assert_eq!(&rt; tried.answers.as_slice(), wanted.as_slice());
-    assert!(&rt; tried.log.len() == 2);
-    assert_eq!(&rt; tried.log.at(1).unit(), 0);
-    assert!(&rt; tried.log.at(1).cube().len() == 1);
-    assert_eq!(&rt; tried.log.at(1).entry(0), 1);
-    assert!(&rt; instance.stacks().count() == 1);
-    assert_eq!(&rt; tried.cursors.get(0), 2);
+static POPPED_TWICE: Case = Case {
+    entries: &[0, 0, 1],
+    units: &[0, 0, 0],
+    answers: &[Attempt::Popped, Attempt::Popped, Attempt::Absent],
+    pops: 2,
+};
+
+// Compares a record of the one event: its entry.
+fn is_of_event(rt: &impl Abort, popped: &Record, entry: u32) {
+    same(rt, popped.unit() as u64, 0, "unit");
+    assert!(rt; popped.cube().len() == 1);
+    same(rt, popped.entry(0) as u64, entry as u64, "entry");
+}
+
+// Compares what the two pops leave: the second record, and the cursor.
+fn left_by_two_pops(rt: &impl Abort, tried: &Tried)
+    requires { 1 ≡ length tried.now.cursors }
+{
+    assert!(rt; tried.log.len() == 2);
+    is_of_event(rt, tried.log.at(1), 1);
+    same(rt, tried.cursors.get(0) as u64, 2, "cursor");
+}
+
+// Compares what the case of two pops leaves of its instance.
+fn two_pops_leave(rt: &impl Abort, alloc: Global, instance: &Instance) -> Result<(), Fail> {
+    assert!(rt; instance.stacks().count() == 1);
+    let tried = attempts(rt, alloc, instance, POPPED_TWICE.units)?;
+    left_by_two_pops(rt, &tried);
     Ok(())
 }
 
+// Compares the attempts of that case, and what they leave.
+fn is_popped_twice(rt: &impl Abort, alloc: Global, instance: &Instance) -> Result<(), Fail> {
+    case_comes(rt, alloc, instance, &POPPED_TWICE)?;
+    two_pops_leave(rt, alloc, instance)
+}
+
+#[test]
+fn a_listed_event_is_popped_until_it_is_absent(rt: HostRuntime) -> Result<(), Fail> {
+    let alloc = rt.alloc();
+    let instance = clause(&rt, alloc, POPPED_TWICE.entries)?;
+    is_popped_twice(&rt, alloc, &instance)
+}
+
 // Worked by hand: the entry 0 is popped, and the last one is 0 too.
+static STUCK_EVENT: Case = Case {
+    entries: &[0, 0],
+    units: &[0, 0],
+    answers: &[Attempt::Popped, Attempt::Stuck],
+    pops: 1,
+};
+
 #[test]
 fn a_listed_event_is_stuck_at_the_last_entry(rt: HostRuntime) -> Result<(), Fail> {
     let alloc = rt.alloc();
-    let instance = clause(&rt, alloc, &[0, 0])?;
-    let tried = attempts(&rt, alloc, &instance, &[0, 0])?;
-    assert_eq!(&rt;
-        tried.answers.as_slice(),
-        [Attempt::Popped, Attempt::Stuck].as_slice()
-    );
-    assert_eq!(&rt; tried.log.len(), 1);
-    Ok(())
+    let instance = clause(&rt, alloc, STUCK_EVENT.entries)?;
+    case_comes(&rt, alloc, &instance, &STUCK_EVENT)
 }
 
 // The heads of so many variables, each with an arrow to the next one and one to the root; the last
@@ -115,6 +212,31 @@ fn heads(alloc: Global, count: u32, back: u32) -> Result<Vec<Vec<Option<u32>>>, 
     Ok(heads)
 }
 
+// Their arrows.
+fn lasso_arrows(rt: &impl Abort, alloc: Global, count: u32, back: u32) -> Result<Family, Fail> {
+    assert!(rt; count < 1000);
+    let heads = heads(alloc, count, back)?;
+    Ok(Family::Cycles(Arrows::new(heads).expect(rt, "arrows")))
+}
+
+// The stacks of so many variables with these entries each.
+fn lasso_stacks(
+    rt: &impl Abort,
+    alloc: Global,
+    count: u32,
+    entries: &[u32],
+) -> Result<Stacks, Fail> {
+    assert!(rt; entries.len() < 9);
+    let mut rows = Vec::new(alloc);
+    'rows: for _ in 0..count {
+        rows.push(Vec::from_slice(alloc, entries)?)?;
+    }
+    assert!(rt; rows.len() < 1000);
+    let rows = Rows::of(rows);
+    let weights = Weights::pairs(rows.count());
+    Ok(Stacks::new(StackSpec::Given(rows), weights, 1)?)
+}
+
 // Such variables, each with these entries.
 fn lasso(
     rt: &impl Abort,
@@ -123,53 +245,101 @@ fn lasso(
     back: u32,
     entries: &[u32],
 ) -> Result<Instance, Fail> {
-    assert!(rt; count < 1000);
-    assert!(rt; entries.len() < 9);
-    let arrows = Arrows::new(heads(alloc, count, back)?).expect(rt, "arrows");
-    let mut rows = Vec::new(alloc);
-    'rows: for _ in 0..count {
-        rows.push(Vec::from_slice(alloc, entries)?)?;
-    }
-    assert!(rt; rows.len() < 1000);
-    let stacks = Stacks::new(StackSpec::Given(Rows::of(rows)), Weights::pairs(count), 1)?;
-    Ok(Instance::new(stacks, Family::Cycles(arrows)).expect(rt, "an instance"))
+    let family = lasso_arrows(rt, alloc, count, back)?;
+    let stacks = lasso_stacks(rt, alloc, count, entries)?;
+    Ok(Instance::new(stacks, family).expect(rt, "an instance"))
 }
+
+// The cycle is popped, and then the arrows lead to the root.
+static POPPED_CYCLE: Case = Case {
+    entries: &[0, 1],
+    units: &[0, 0],
+    answers: &[Attempt::Popped, Attempt::Absent],
+    pops: 1,
+};
+
+// Compares cursors of so many variables, of which those from one on were popped once.
+fn are_popped_from(rt: &impl Abort, cursors: &Cursors, count: u32, back: u32)
+    requires { count ≡ length cursors.now }
+{
+    for v in 0..count {
+        same_at(rt, cursors.get(v), u32::from(v >= back), "variable", v);
+    }
+}
+
+// Compares the first record of a log: its unit, and how many variables it names.
+fn is_first_cycle(rt: &impl Abort, log: &Log, unit: u32, size: u32) {
+    assert!(rt; log.len() == 1);
+    let popped = log.at(0);
+    same(rt, popped.unit() as u64, unit as u64, "unit");
+    same(rt, popped.cube().len() as u64, size as u64, "size");
+}
+
+// Compares what is left of so many variables by the pop of the cycle from one on.
+fn left_by_cycle(rt: &impl Abort, tried: &Tried, count: u32, back: u32)
+    requires count { count ≡ length tried.now.cursors }
+    requires back { back < count }
+{
+    came_to(rt, tried, POPPED_CYCLE.answers, POPPED_CYCLE.pops);
+    is_first_cycle(rt, &tried.log, back, count - back);
+    are_popped_from(rt, &tried.cursors, count, back);
+}
+
+// Pops the cycle of an instance of so many variables, and compares what is left.
+fn cycle_leaves(
+    rt: &impl Abort,
+    alloc: Global,
+    instance: &Instance,
+    count: u32,
+    back: u32,
+) -> Result<(), Fail>
+    requires back { back < count }
+{
+    assert!(rt; instance.stacks().count() == count);
+    let tried = attempts(rt, alloc, instance, POPPED_CYCLE.units)?;
+    left_by_cycle(rt, &tried, count, back);
+    Ok(())
+}
+
+// Pops the cycle of a lasso of so many variables.
+fn lasso_pops(rt: &impl Abort, alloc: Global, count: u32, back: u32) -> Result<(), Fail>
+    requires back { back < count }
+{
+    let instance = lasso(rt, alloc, count, back, POPPED_CYCLE.entries)?;
+    cycle_leaves(rt, alloc, &instance, count, back)
+}
+
+// Pops the cycles of as many lassos as there are variables.
+fn lassos_of(rt: &impl Abort, alloc: Global, count: u32) -> Result<(), Fail> {
+    for back in 0..count {
+        lasso_pops(rt, alloc, count, back)?;
+    }
+    Ok(())
+}
+
+static COUNTS: [u32; 8] = [1, 2, 3, 4, 7, 8, 9, 40];
 
 // The arrows lead from variable 0 to the last one and back to some variable: these are the cycle,
 // which is popped once, under its least variable. Then they all lead to the root.
 #[test]
 fn the_cycle_that_the_arrows_lead_to_is_popped(rt: HostRuntime) -> Result<(), Fail> {
     let alloc = rt.alloc();
-    for count in [1, 2, 3, 4, 7, 8, 9, 40] {
-        for back in 0..count {
-            let instance = lasso(&rt, alloc, count, back, &[0, 1])?;
-            let tried = attempts(&rt, alloc, &instance, &[0, 0])?;
-            assert_eq!(&rt;
-                tried.answers.as_slice(),
-                [Attempt::Popped, Attempt::Absent].as_slice()
-            );
-            assert!(&rt; tried.log.len() == 1);
-            let popped = tried.log.at(0);
-            assert_eq!(&rt; popped.unit(), back);
-            assert_eq!(&rt; popped.cube().len(), count - back);
-            assert!(&rt; instance.stacks().count() == count);
-            for v in 0..count {
-                assert_eq!(&rt; tried.cursors.get(v), u32::from(v >= back), "variable {v}");
-            }
-        }
+    for count in COUNTS.iter() {
+        lassos_of(&rt, alloc, *count)?;
     }
     Ok(())
 }
 
+static STUCK_CYCLE: Case = Case {
+    entries: &[0],
+    units: &[4, 0],
+    answers: &[Attempt::Stuck, Attempt::Stuck],
+    pops: 0,
+};
+
 #[test]
 fn a_cycle_is_stuck_at_the_last_entry(rt: HostRuntime) -> Result<(), Fail> {
     let alloc = rt.alloc();
-    let instance = lasso(&rt, alloc, 5, 2, &[0])?;
-    let tried = attempts(&rt, alloc, &instance, &[4, 0])?;
-    assert_eq!(&rt;
-        tried.answers.as_slice(),
-        [Attempt::Stuck, Attempt::Stuck].as_slice()
-    );
-    assert_eq!(&rt; tried.log.len(), 0);
-    Ok(())
+    let instance = lasso(&rt, alloc, 5, 2, STUCK_CYCLE.entries)?;
+    case_comes(&rt, alloc, &instance, &STUCK_CYCLE)
 }

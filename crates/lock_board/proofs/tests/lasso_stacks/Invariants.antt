@@ -1,6 +1,6 @@
 use Rattle.std.proofs.Common.{◌≡◌, ◌<◌, ◌^◌, length, All}
 use Rattle.pop_stacks.specs.Rows.{lists_of}
-use Rattle.lock_board.proofs.tests.lasso.Given as goal
+use Rattle.lock_board.proofs.tests.lasso_stacks.Given as goal
 
 -- none of the rows is long
 abbrev pub invariant-rows : goal.invariant-rows
