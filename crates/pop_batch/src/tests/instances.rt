@@ -14,6 +14,9 @@ use std::alloc::{AllocError, Global};
 use std::process::Abort;
 use std::test::Fail;
 
+/// An event, by its number and the pairs of its cube.
+pub type EventRow = (u32, &'static [(u32, u32)]);
+
 // The stacks of so many variables with two values each, under the key of zeros.
 fn stacks(rt: &impl Abort, count: u32, height: u32) -> Result<Stacks, Fail>
     ensures { IfOk result (λ stacks. IsKeyed stacks.origin) }
@@ -24,16 +27,19 @@ fn stacks(rt: &impl Abort, count: u32, height: u32) -> Result<Stacks, Fail>
     Ok(Stacks::new(StackSpec::Key([0; 32]), Weights::pairs(count), height)?)
 }
 
-// The event of this number and these pairs.
-fn event(
-    rt: &impl Abort,
-    alloc: Global,
-    number: u32,
-    pairs: &[(u32, u32)],
-) -> Result<(u32, Cube), Fail> {
+// The cube of these pairs.
+fn cube(rt: &impl Abort, alloc: Global, pairs: &[(u32, u32)]) -> Result<Cube, Fail> {
     assert!(rt; pairs.len() < 9);
-    let cube = Cube::new(Vec::from_slice(alloc, pairs)?).expect(rt, "a cube");
-    Ok((number, cube))
+    Ok(Cube::new(Vec::from_slice(alloc, pairs)?).expect(rt, "a cube"))
+}
+
+// The events of these numbers and pairs.
+fn events(rt: &impl Abort, alloc: Global, table: &[EventRow]) -> Result<Vec<(u32, Cube)>, Fail> {
+    let mut rows = Vec::new(alloc);
+    for (number, pairs) in table {
+        rows.push((*number, cube(rt, alloc, pairs)?))?;
+    }
+    Ok(rows)
 }
 
 // Whether the numbers rise.
@@ -46,6 +52,14 @@ fn are_rising(rows: &[(u32, Cube)]) -> bool
         }
     }
     true
+}
+
+// The family of these events, whose numbers rise.
+fn family(rt: &impl Abort, alloc: Global, rows: Vec<(u32, Cube)>) -> Result<Family, Fail> {
+    assert!(rt; rows.len() < 1000);
+    let rising = are_rising(&rows);
+    assert!(rt; rising);
+    Ok(Family::Listed(Events::gather(alloc, rows)?))
 }
 
 // Stops the test where two listed events of the instance clash.
@@ -63,38 +77,34 @@ fn expect_extremal(rt: &impl Abort, alloc: Global, instance: &Instance) -> Resul
     }
 }
 
-// The instance of these stacks and events, whose numbers rise.
+// The instance of so many variables of this height and the events of a table.
 fn of_events(
     rt: &impl Abort,
     alloc: Global,
-    stacks: Stacks,
-    rows: Vec<(u32, Cube)>,
+    count: u32,
+    height: u32,
+    table: &[EventRow],
 ) -> Result<Instance, Fail>
-    ensures { IfOk result (λ i. i.stacks ≡ stacks) }
+    ensures { IfOk result (λ i. IsKeyed i.stacks.origin) }
 {
-    assert!(rt; rows.len() < 1000);
-    let rising = are_rising(&rows);
-    assert!(rt; rising);
-    let events = Events::gather(alloc, rows)?;
-    Ok(Instance::new(stacks, Family::Listed(events)).expect(rt, "an instance"))
+    let events = events(rt, alloc, table)?;
+    let family = family(rt, alloc, events)?;
+    let stacks = stacks(rt, count, height)?;
+    Ok(Instance::new(stacks, family).expect(rt, "an instance"))
 }
 
-/// The instance of so many variables of this height and the events of a table.
+/// The same, where no two events clash.
 pub fn listed(
     rt: &impl Abort,
     alloc: Global,
     count: u32,
     height: u32,
-    table: &[(u32, &[(u32, u32)])],
+    table: &[EventRow],
 ) -> Result<Instance, Fail>
     ensures keyed { IfOk result (λ i. IsKeyed i.stacks.origin) }
     ensures extremal { IfOk result (λ i. IsExtremal i.family) }
 {
-    let mut rows = Vec::new(alloc);
-    for (number, pairs) in table {
-        rows.push(event(rt, alloc, *number, pairs)?)?;
-    }
-    let instance = of_events(rt, alloc, stacks(rt, count, height)?, rows)?;
+    let instance = of_events(rt, alloc, count, height, table)?;
     expect_extremal(rt, alloc, &instance)?;
     Ok(instance)
 }
@@ -110,6 +120,13 @@ fn heads(alloc: Global, table: &[[Option<u32>; 2]]) -> Result<Vec<Vec<Option<u32
     Ok(heads)
 }
 
+// The arrows with these heads.
+fn arrows(rt: &impl Abort, alloc: Global, table: &[[Option<u32>; 2]]) -> Result<Arrows, Fail> {
+    let heads = heads(alloc, table)?;
+    assert!(rt; heads.len() < 1000);
+    Ok(Arrows::new(heads).expect(rt, "heads that are variables or the root"))
+}
+
 /// The instance of the cycles of arrows with these heads, two for each variable, at this height.
 pub fn cycles(
     rt: &impl Abort,
@@ -120,9 +137,7 @@ pub fn cycles(
     ensures keyed { IfOk result (λ i. IsKeyed i.stacks.origin) }
     ensures extremal { IfOk result (λ i. IsExtremal i.family) }
 {
-    let heads = heads(alloc, table)?;
-    assert!(rt; heads.len() < 1000);
-    let arrows = Arrows::new(heads).expect(rt, "heads that are variables or the root");
+    let arrows = arrows(rt, alloc, table)?;
     let stacks = stacks(rt, arrows.count(), height)?;
     let instance = Instance::new(stacks, Family::Cycles(arrows)).expect(rt, "two slots for each");
     Ok(instance)

@@ -6,5 +6,5 @@ use Rattle.pop_batch.proofs.tests.instances.cycles.Goals as goal
 
 pub returns-clause-extremal : goal.returns-clause-extremal
 returns-clause-extremal g c =
-    let is = rw c.expect-instance.ensures at c.new-2.ensures in
-    subst IsExtremal (sym (ap (λ (i : Instance). i.family) is)) (family.cycles_extremal c.expect-arrows.result)
+    let is = rw c.expect-instance.ensures at c.new.ensures in
+    subst IsExtremal (sym (ap (λ (i : Instance). i.family) is)) (family.cycles_extremal c.in_ok-arrows.arrows)
