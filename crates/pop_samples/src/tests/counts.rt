@@ -20,6 +20,18 @@ fn total(rt: &impl Abort, all: &[Finish], sample: u32, place: u32) -> (u64, u64)
     (count, weight)
 }
 
+// Compares how many rows finish with a sample at these cursors.
+fn finish_with(rt: &impl Abort, all: &[Finish], sample: u32, place: u32, want: u64) {
+    let (count, _) = total(rt, all, sample, place);
+    same_of(rt, count, want, "rows of sample", sample);
+}
+
+// Compares numbers of two samples at these cursors.
+fn same_at(rt: &impl Abort, found: u64, want: u64, samples: (u32, u32), place: u32) {
+    let (w, x) = samples;
+    assert_eq!(rt; found, want, "{w} and {x} at {place}");
+}
+
 // Compares the counts and the weights of two samples, unless one of them is none.
 fn are_proportional(
     rt: &impl Abort,
@@ -34,61 +46,83 @@ fn are_proportional(
     }
     let (count, weight) = total(rt, all, w, place);
     let (other_count, other_weight) = total(rt, all, x, place);
-    assert_eq!(rt; count, other_count, "{w} and {x} at {place}");
-    assert_eq!(rt;
-        times(rt, weight, sample_weight(rt, x)),
-        times(rt, other_weight, sample_weight(rt, w)),
-        "{w} and {x} at {place}"
-    );
+    same_at(rt, count, other_count, samples, place);
+    let one = times(rt, weight, sample_weight(rt, x));
+    let other = times(rt, other_weight, sample_weight(rt, w));
+    same_at(rt, one, other, samples, place);
 }
 
-// The numbers of rows were counted by another program. Where no cursor moved, all rows that have a
-// sample as their first entries finish: 64.
+// Compares any two samples at these cursors.
+fn all_proportional(rt: &impl Abort, which: usize, all: &[Finish], place: u32) {
+    for pair in 0..64 {
+        are_proportional(rt, which, all, place, (pair % 8, pair / 8));
+    }
+}
+
+// Compares how many rows finish with each sample, at any cursors and where none moved.
+fn finish_with_each(rt: &impl Abort, which: usize, all: &[Finish], rows: u64) {
+    for sample in 0..8 {
+        let one = is_sample(rt, which, sample);
+        finish_with(rt, all, sample, ANY, if one { rows } else { 0 });
+        finish_with(rt, all, sample, 0, if one { 64 } else { 0 });
+    }
+}
+
+// Instances, and how many rows finish with each sample of theirs. The numbers were counted by
+// another program. Where no cursor moved, all rows that have a sample as their first entries
+// finish: 64.
+static COUNTS: [(usize, u64); 3] = [(FORMULA, 112), (TRIANGLE, 154), (PATH, 112)];
+
 #[test]
 fn as_many_rows_finish_with_each_sample(rt: HostRuntime) -> Result<(), Fail> {
     let alloc = rt.alloc();
-    for (which, rows) in [(FORMULA, 112), (TRIANGLE, 154), (PATH, 112)] {
-        let all = finishes(&rt, alloc, which)?;
-        for sample in 0..8 {
-            let one = is_sample(&rt, which, sample);
-            assert_eq!(&rt; total(&rt, &all, sample, ANY).0, if one { rows } else { 0 });
-            assert_eq!(&rt; total(&rt, &all, sample, 0).0, if one { 64 } else { 0 });
-        }
-        for pair in 0..64 {
-            are_proportional(&rt, which, &all, ANY, (pair % 8, pair / 8));
-        }
+    for (which, rows) in COUNTS.iter() {
+        let all = finishes(&rt, alloc, *which)?;
+        finish_with_each(&rt, *which, &all, *rows);
+        all_proportional(&rt, *which, &all, ANY);
     }
     Ok(())
+}
+
+// Compares any two samples at each cursors.
+fn proportional_at_each(rt: &impl Abort, which: usize, all: &[Finish]) {
+    for place in 0..27 {
+        all_proportional(rt, which, all, place);
+    }
 }
 
 #[test]
 fn as_many_rows_finish_with_each_sample_at_each_cursors(rt: HostRuntime) -> Result<(), Fail> {
     let alloc = rt.alloc();
-    for which in [FORMULA, TRIANGLE, PATH] {
-        let all = finishes(&rt, alloc, which)?;
-        for pair in 0..64 {
-            for place in 0..27 {
-                are_proportional(&rt, which, &all, place, (pair % 8, pair / 8));
-            }
-        }
+    for which in EXTREMAL.iter() {
+        let all = finishes(&rt, alloc, *which)?;
+        proportional_at_each(&rt, *which, &all);
     }
     Ok(())
 }
 
-// The numbers of rows were counted by another program.
+// The samples of the clauses that clash, and how many rows finish with each. The numbers were
+// counted by another program.
+static CLASHING_COUNTS: [(u32, u64); 5] = [
+    (0b010, 84),
+    (0b011, 108),
+    (0b101, 108),
+    (0b110, 84),
+    (0b111, 108),
+];
+
+// Compares how many rows of the clauses that clash finish with each of these samples.
+fn clashing_finish(rt: &impl Abort, all: &[Finish], counts: &[(u32, u64)]) {
+    for (sample, rows) in counts {
+        let one = is_sample(rt, CLASHING, *sample);
+        assert!(rt; one);
+        finish_with(rt, all, *sample, ANY, *rows);
+    }
+}
+
 #[test]
 fn not_as_many_finish_with_each_where_clauses_clash(rt: HostRuntime) -> Result<(), Fail> {
-    let alloc = rt.alloc();
-    let all = finishes(&rt, alloc, CLASHING)?;
-    for (sample, rows) in [
-        (0b010, 84),
-        (0b011, 108),
-        (0b101, 108),
-        (0b110, 84),
-        (0b111, 108),
-    ] {
-        assert!(&rt; is_sample(&rt, CLASHING, sample));
-        assert_eq!(&rt; total(&rt, &all, sample, ANY).0, rows, "sample {sample}");
-    }
+    let all = finishes(&rt, rt.alloc(), CLASHING)?;
+    clashing_finish(&rt, &all, &CLASHING_COUNTS);
     Ok(())
 }

@@ -69,22 +69,32 @@ fn finished_places(rt: &impl Abort, which: usize, rows: u32) -> u32 {
     finished
 }
 
+// Compares where logs of these rows finish with where their run ends: nowhere where it is stuck.
+fn finish_at_end(rt: &impl Abort, which: usize, all: &[Finish], rows: u32) {
+    let end = finish_of(rt, all, rows);
+    let places = finished_places(rt, which, rows);
+    assert!(rt; end.place < 28);
+    let place = if end.place == STUCK {
+        0
+    } else {
+        1 << end.place
+    };
+    assert_eq!(rt; places, place, "rows {rows} of instance {which}");
+}
+
+// Compares them for all rows.
+fn all_finish_at_end(rt: &impl Abort, which: usize, all: &[Finish]) {
+    for rows in 0..512 {
+        finish_at_end(rt, which, all, rows);
+    }
+}
+
 #[test]
 fn some_log_finishes_where_the_run_ends_with_nothing_stuck(rt: HostRuntime) -> Result<(), Fail> {
     let alloc = rt.alloc();
-    for which in [FORMULA, TRIANGLE, PATH] {
-        let all = finishes(&rt, alloc, which)?;
-        for rows in 0..512 {
-            let end = finish_of(&rt, &all, rows);
-            let places = finished_places(&rt, which, rows);
-            assert!(&rt; end.place < 28);
-            let place = if end.place == STUCK {
-                0
-            } else {
-                1 << end.place
-            };
-            assert_eq!(&rt; places, place, "rows {rows} of instance {which}");
-        }
+    for which in EXTREMAL.iter() {
+        let all = finishes(&rt, alloc, *which)?;
+        all_finish_at_end(&rt, *which, &all);
     }
     Ok(())
 }
@@ -100,6 +110,21 @@ fn logs_finish_at_several_cursors_where_clauses_clash(rt: HostRuntime) {
     assert!(&rt; several > 0);
 }
 
+// Compares numbers of rows with this sample in place of the entries at their end.
+fn same_with(rt: &impl Abort, found: u64, want: u64, rows: u32, sample: u32) {
+    assert_eq!(rt; found, want, "rows {rows} with {sample}");
+}
+
+// Compares the ends of rows and of others with this sample in place of the entries there.
+fn is_exchanged(rt: &impl Abort, end: &Finish, other: &Finish, rows: u32, sample: u32) {
+    same_with(rt, other.place as u64, end.place as u64, rows, sample);
+    same_with(rt, other.pops, end.pops, rows, sample);
+    same_with(rt, other.sample as u64, sample as u64, rows, sample);
+    let one = times(rt, other.weight, sample_weight(rt, end.sample));
+    let two = times(rt, end.weight, sample_weight(rt, sample));
+    same_with(rt, one, two, rows, sample);
+}
+
 // Tries a sample in place of the entries at the end of these rows.
 fn try_sample(rt: &impl Abort, which: usize, all: &[Finish], rows: u32, sample: u32) {
     let end = finish_of(rt, all, rows);
@@ -109,14 +134,26 @@ fn try_sample(rt: &impl Abort, which: usize, all: &[Finish], rows: u32, sample: 
         assert!(rt; other.place != end.place, "rows {rows} with {sample}");
         return;
     }
-    assert_eq!(rt; other.place, end.place, "rows {rows} with {sample}");
-    assert_eq!(rt; other.pops, end.pops, "rows {rows} with {sample}");
-    assert_eq!(rt; other.sample, sample, "rows {rows}");
-    assert_eq!(rt; exchange(others, end.place, end.sample), rows);
-    assert_eq!(rt;
-        times(rt, other.weight, sample_weight(rt, end.sample)),
-        times(rt, end.weight, sample_weight(rt, sample))
-    );
+    is_exchanged(rt, &end, &other, rows, sample);
+    let back = exchange(others, end.place, end.sample);
+    same_with(rt, back as u64, rows as u64, rows, sample);
+}
+
+// Tries each sample in place of the entries at the end of these rows, unless an event is stuck.
+fn try_samples(rt: &impl Abort, which: usize, all: &[Finish], rows: u32) {
+    if finish_of(rt, all, rows).place == STUCK {
+        return;
+    }
+    for sample in 0..8 {
+        try_sample(rt, which, all, rows, sample);
+    }
+}
+
+// Tries each sample in place of the entries at the end of all rows.
+fn try_all(rt: &impl Abort, which: usize, all: &[Finish]) {
+    for rows in 0..512 {
+        try_samples(rt, which, all, rows);
+    }
 }
 
 #[test]
@@ -124,17 +161,16 @@ fn every_sample_may_be_exchanged_for_the_one_at_an_end_and_nothing_else(
     rt: HostRuntime,
 ) -> Result<(), Fail> {
     let alloc = rt.alloc();
-    for which in [FORMULA, TRIANGLE, PATH] {
-        let all = finishes(&rt, alloc, which)?;
-        for rows in 0..512 {
-            for sample in 0..8 {
-                if finish_of(&rt, &all, rows).place != STUCK {
-                    try_sample(&rt, which, &all, rows, sample);
-                }
-            }
-        }
+    for which in EXTREMAL.iter() {
+        let all = finishes(&rt, alloc, *which)?;
+        try_all(&rt, *which, &all);
     }
     Ok(())
+}
+
+// Compares numbers of two rows.
+fn same_for(rt: &impl Abort, found: u64, want: u64, rows: u32, others: u32) {
+    assert_eq!(rt; found, want, "rows {rows} and {others}");
 }
 
 // Compares the ends of two rows that agree below the end of the first, and have a sample there.
@@ -145,39 +181,57 @@ fn compare(rt: &impl Abort, which: usize, all: &[Finish], rows: u32, others: u32
     }
     if is_sample(rt, which, sample_at(others, end.place)) {
         let other = finish_of(rt, all, others);
-        assert_eq!(rt; other.place, end.place, "rows {rows} and {others}");
-        assert_eq!(rt; other.pops, end.pops, "rows {rows} and {others}");
+        same_for(rt, other.place as u64, end.place as u64, rows, others);
+        same_for(rt, other.pops, end.pops, rows, others);
+    }
+}
+
+// Compares the end of these rows with those of all others.
+fn compare_with_all(rt: &impl Abort, which: usize, all: &[Finish], rows: u32) {
+    for others in 0..512 {
+        compare(rt, which, all, rows, others);
+    }
+}
+
+// Compares the ends of any two rows.
+fn compare_all(rt: &impl Abort, which: usize, all: &[Finish]) {
+    for rows in 0..512 {
+        compare_with_all(rt, which, all, rows);
     }
 }
 
 #[test]
 fn the_pops_hang_on_the_entries_below_the_end_alone(rt: HostRuntime) -> Result<(), Fail> {
     let alloc = rt.alloc();
-    for which in [FORMULA, TRIANGLE, PATH] {
-        let all = finishes(&rt, alloc, which)?;
-        for rows in 0..512 {
-            for others in 0..512 {
-                compare(&rt, which, &all, rows, others);
-            }
-        }
+    for which in EXTREMAL.iter() {
+        let all = finishes(&rt, alloc, *which)?;
+        compare_all(&rt, *which, &all);
     }
     Ok(())
+}
+
+// Whether the rows of which each entry is that of a sample end before any pop, exactly where it is
+// one.
+fn ends_at_once(rt: &impl Abort, which: usize, all: &[Finish], sample: u32) {
+    let rows = 7 * bit(sample, 0) + 56 * bit(sample, 1) + 448 * bit(sample, 2);
+    let end = finish_of(rt, all, rows);
+    let one = is_sample(rt, which, sample);
+    assert!(rt; (end.place == 0) == one, "sample {sample}");
+}
+
+// Looks at the rows of each sample.
+fn end_at_once(rt: &impl Abort, which: usize, all: &[Finish]) {
+    for sample in 0..8 {
+        ends_at_once(rt, which, all, sample);
+    }
 }
 
 #[test]
 fn every_sample_is_reached_before_any_pop(rt: HostRuntime) -> Result<(), Fail> {
     let alloc = rt.alloc();
-    for which in [FORMULA, TRIANGLE, PATH] {
-        let all = finishes(&rt, alloc, which)?;
-        for sample in 0..8 {
-            let rows = 7 * bit(sample, 0) + 56 * bit(sample, 1) + 448 * bit(sample, 2);
-            let end = finish_of(&rt, &all, rows);
-            assert_eq!(&rt;
-                end.place == 0,
-                is_sample(&rt, which, sample),
-                "sample {sample}"
-            );
-        }
+    for which in EXTREMAL.iter() {
+        let all = finishes(&rt, alloc, *which)?;
+        end_at_once(&rt, *which, &all);
     }
     Ok(())
 }

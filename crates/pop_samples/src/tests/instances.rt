@@ -1,9 +1,9 @@
 //! Rows are a number of nine bits: entry k of variable v is bit 3v + k. A sample is a number of
 //! three bits, and cursors are a number of three digits to base 3, that of variable 0 lowest.
-ghost use Rattle.std.specs.Prelude.{◌<◌, ◌^◌};
+ghost use Rattle.std.specs.Prelude.{◌≡◌, ◌<◌, ◌^◌, length};
 
-use confluence_core::run_first;
-use pop_instance::{Arrows, Cube, Events, Family, Instance};
+use confluence_core::{End, run_first};
+use pop_instance::{Arrows, Cube, Cursors, Events, Family, Instance};
 use pop_stacks::{Rows, StackSpec, Stacks, Weights};
 use std::alloc::{AllocError, Global};
 use std::process::Abort;
@@ -18,9 +18,12 @@ pub const PATH: usize = 2;
 /// A formula of two clauses that share a variable and may be false together: it isn't extremal.
 pub const CLASHING: usize = 3;
 
+/// The instances that are extremal.
+pub static EXTREMAL: [usize; 3] = [FORMULA, TRIANGLE, PATH];
+
 // The events of each instance: the variables that they name, and their values, in bits. The last is
 // repeated where there are two.
-const EVENTS: [[(u32, u32); 3]; 4] = [
+static EVENTS: [[(u32, u32); 3]; 4] = [
     [(0b011, 0b000), (0b110, 0b010), (0b110, 0b010)],
     [(0b101, 0b001), (0b011, 0b010), (0b110, 0b100)],
     [(0b011, 0b001), (0b110, 0b010), (0b110, 0b010)],
@@ -28,7 +31,7 @@ const EVENTS: [[(u32, u32); 3]; 4] = [
 ];
 
 // The weights of the values 0 and 1 of each variable.
-const WEIGHTS: [[u64; 2]; 3] = [[2, 1], [1, 3], [3, 2]];
+static WEIGHTS: [[u64; 2]; 3] = [[2, 1], [1, 3], [3, 2]];
 
 /// The cursors of rows where an event is stuck.
 pub const STUCK: u32 = 27;
@@ -86,6 +89,11 @@ pub fn is_sample(rt: &impl Abort, which: usize, sample: u32) -> bool {
     true
 }
 
+/// Compares numbers of a sample.
+pub fn same_of(rt: &impl Abort, found: u64, want: u64, what: &str, sample: u32) {
+    assert_eq!(rt; found, want, "{what} {sample}");
+}
+
 pub fn plus(rt: &impl Abort, a: u64, b: u64) -> u64 {
     a.checked_add(b).expect(rt, "a sum of 64 bits")
 }
@@ -120,15 +128,21 @@ fn rows_weight(rt: &impl Abort, rows: u32) -> u64 {
     product
 }
 
-// The cube of an event.
-fn cube(rt: &impl Abort, alloc: Global, which: usize, e: usize) -> Result<Cube, Fail> {
-    let (names, values) = event(rt, which, e);
+// The pairs of an event.
+fn pairs(alloc: Global, names: u32, values: u32) -> Result<Vec<(u32, u32)>, AllocError> {
     let mut pairs = Vec::new(alloc);
     for v in 0..3 {
         if bit(names, v) == 1 {
             pairs.push((v, bit(values, v)))?;
         }
     }
+    Ok(pairs)
+}
+
+// The cube of an event.
+fn cube(rt: &impl Abort, alloc: Global, which: usize, e: usize) -> Result<Cube, Fail> {
+    let (names, values) = event(rt, which, e);
+    let pairs = pairs(alloc, names, values)?;
     assert!(rt; pairs.len() < 9);
     Ok(Cube::new(pairs).expect(rt, "a cube"))
 }
@@ -188,23 +202,48 @@ fn stacks(rt: &impl Abort, alloc: Global, n: u32) -> Result<Stacks, Fail> {
     Ok(Stacks::new(StackSpec::Given(rows), weights, 3)?)
 }
 
-// Runs the instance of these rows.
-fn end_of(rt: &impl Abort, alloc: Global, which: usize, rows: u32) -> Result<Finish, Fail> {
+// The instance of these rows.
+fn instance(rt: &impl Abort, alloc: Global, which: usize, rows: u32) -> Result<Instance, Fail> {
     let family = family(rt, alloc, which)?;
-    let instance = Instance::new(stacks(rt, alloc, rows)?, family).expect(rt, "an instance");
-    let end = run_first(alloc, &instance)?;
-    assert!(rt; instance.stacks().count() == 3);
-    let (a, b, c) = (end.cursors.get(0), end.cursors.get(1), end.cursors.get(2));
+    let stacks = stacks(rt, alloc, rows)?;
+    Ok(Instance::new(stacks, family).expect(rt, "an instance"))
+}
+
+// Three cursors as one number.
+fn place_of(rt: &impl Abort, cursors: &Cursors) -> u32
+    requires { 3 ≡ length cursors.now }
+{
+    let (a, b, c) = (cursors.get(0), cursors.get(1), cursors.get(2));
     assert!(rt; a < 3);
     assert!(rt; b < 3);
     assert!(rt; c < 3);
-    let place = a + 3 * b + 9 * c;
-    Ok(Finish {
+    a + 3 * b + 9 * c
+}
+
+// What an end of these rows is.
+fn finish_at(rt: &impl Abort, end: &End, rows: u32) -> Finish
+    requires { 3 ≡ length end.now.cursors }
+{
+    let place = place_of(rt, &end.cursors);
+    Finish {
         place: if end.stuck.len() == 0 { place } else { STUCK },
         sample: sample_at(rows, place),
         pops: end.pops,
         weight: rows_weight(rt, rows),
-    })
+    }
+}
+
+// Runs an instance of these rows.
+fn run_of(rt: &impl Abort, alloc: Global, instance: &Instance, rows: u32) -> Result<Finish, Fail> {
+    assert!(rt; instance.stacks().count() == 3);
+    let end = run_first(alloc, instance)?;
+    Ok(finish_at(rt, &end, rows))
+}
+
+// Makes the instance of these rows, and runs it.
+fn end_of(rt: &impl Abort, alloc: Global, which: usize, rows: u32) -> Result<Finish, Fail> {
+    let instance = instance(rt, alloc, which, rows)?;
+    run_of(rt, alloc, &instance, rows)
 }
 
 /// The ends of all rows.
