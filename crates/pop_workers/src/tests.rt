@@ -3,8 +3,8 @@ ghost use Rattle.pop_model.specs.Stacks.{variables_of, height_of, IsKeyed};
 
 use crate::{Gate, NoGate, Outcome, sample_claimed, sample_locked, zeros_of};
 use confluence_core::{End, Keep, run_first};
-use pop_instance::{Cube, Events, Family, Instance};
-use pop_stacks::{Rows, StackSpec, Stacks, Weights};
+use pop_instance::{Cursors, Family, Instance};
+use pop_stacks::{StackSpec, Stacks, Weights};
 use std::alloc::{AllocError, Global};
 use std::process::Abort;
 use std::sync::Wait;
@@ -14,9 +14,21 @@ use std::thread::Threads;
 mod chains;
 mod heights;
 mod hints;
+mod instances;
 mod one_pop;
 mod schedules;
 mod trees;
+
+// Compares two counts. Tests compare by this call and the next, so that what tells of numbers that
+// differ is proved once.
+fn same(rt: &impl Abort, found: u64, want: u64, what: &str) {
+    assert_eq!(rt; found, want, "{what}");
+}
+
+// Compares two numbers at a place.
+fn same_at(rt: &impl Abort, found: u32, want: u32, what: &str, place: u64) {
+    assert_eq!(rt; found, want, "{what} {place}");
+}
 
 // Events over so many variables of two values, with stacks of this height under a key of 32 such
 // bytes.
@@ -38,14 +50,6 @@ fn under_key(
     Ok(Instance::new(stacks, family).expect(rt, "an instance"))
 }
 
-// Two variables with the entries 0 and 1, and the events of two cubes, whose numbers are 1 and 2.
-fn two_events(rt: &impl Abort, alloc: Global, first: Cube, second: Cube) -> Result<Instance, Fail> {
-    let rows = Rows::of(vec![in alloc; vec![in alloc; 0, 1]?, vec![in alloc; 0, 1]?]?);
-    let stacks = Stacks::new(StackSpec::Given(rows), Weights::pairs(2), 1)?;
-    let events = Events::gather(alloc, vec![in alloc; (1, first), (2, second)]?)?;
-    Ok(Instance::new(stacks, Family::Listed(events)).expect(rt, "an instance"))
-}
-
 // The run of so many workers, on claim words or else under a lock.
 fn sample<R: Threads + Wait + Sync, G: Gate + Sync>(
     rt: &R,
@@ -65,17 +69,83 @@ fn sample<R: Threads + Wait + Sync, G: Gate + Sync>(
     sample_locked(rt, alloc, instance, &from, workers, Keep::Log, gate)
 }
 
-// Compares an end by workers with that of the one-thread run.
-fn is_alike(rt: &impl Abort, outcome: Outcome, first: &End, count: u32)
-    requires { (count ≡ length outcome.end.cursors) × (count ≡ length first.now.cursors) }
+// Compares the cursors of so many variables.
+fn cursors_alike(rt: &impl Abort, cursors: &Cursors, others: &Cursors, count: u32)
+    requires cursors { count ≡ length cursors.now }
+    requires others { count ≡ length others.now }
 {
-    let Outcome { end, log } = outcome;
     for v in 0..count {
-        assert_eq!(rt; end.cursors.get(v), first.cursors.get(v), "variable {v}");
+        same_at(rt, cursors.get(v), others.get(v), "variable", v as u64);
     }
-    assert_eq!(rt; end.pops, first.pops);
-    assert_eq!(rt; end.stuck.len(), first.stuck.len());
-    assert_eq!(rt; log.expect(rt, "a log").len(), end.pops);
+}
+
+// Compares how long the log of a run is with its pops.
+fn logs_each_pop(rt: &impl Abort, run: &Outcome) {
+    let Some(log) = &run.log else {
+        panic!(rt; "no log");
+    };
+    same(rt, log.len(), run.end.pops, "records");
+}
+
+// Compares an end by workers with that of the one-thread run.
+fn is_alike(rt: &impl Abort, run: &Outcome, first: &End, count: u32)
+    requires run { count ≡ length run.now.end.cursors }
+    requires first { count ≡ length first.now.cursors }
+{
+    cursors_alike(rt, &run.end.cursors, &first.cursors, count);
+    same(rt, run.end.pops, first.pops, "pops");
+    same(rt, run.end.stuck.len(), first.stuck.len(), "stuck events");
+    logs_each_pop(rt, run);
+}
+
+// Compares the end of one run with that of the one-thread run.
+fn run_alike<R: Threads + Wait + Abort + Sync>(
+    rt: &R,
+    alloc: Global,
+    instance: &Instance,
+    claimed: bool,
+    workers: u32,
+    first: &End,
+) -> Result<(), Fail>
+    requires workers { (0 < workers) × (workers ≤ 64) }
+    requires first { variables_of instance.now.stacks ≡ length first.now.cursors }
+{
+    let outcome = sample(rt, alloc, instance, claimed, workers, &NoGate)?;
+    is_alike(rt, &outcome, first, instance.stacks().count());
+    Ok(())
+}
+
+// Compares the ends of so many workers on both boards.
+fn runs_alike<R: Threads + Wait + Abort + Sync>(
+    rt: &R,
+    alloc: Global,
+    instance: &Instance,
+    workers: u32,
+    first: &End,
+) -> Result<(), Fail>
+    requires first { variables_of instance.now.stacks ≡ length first.now.cursors }
+{
+    assert!(rt; 0 < workers);
+    assert!(rt; workers <= 64);
+    run_alike(rt, alloc, instance, false, workers, first)?;
+    run_alike(rt, alloc, instance, true, workers, first)
+}
+
+static WORKERS: [u32; 4] = [1, 2, 8, 64];
+
+// Compares the ends of each number of workers.
+fn all_alike<R: Threads + Wait + Abort + Sync>(
+    rt: &R,
+    alloc: Global,
+    instance: &Instance,
+    first: &End,
+) -> Result<(), Fail>
+    requires first { variables_of instance.now.stacks ≡ length first.now.cursors }
+{
+    for workers in WORKERS.iter() {
+        runs_alike(rt, alloc, instance, *workers, first)?;
+    }
+    Ok(())
 }
 
 // Runs the instance on one thread and by several numbers of workers on both boards, and compares
@@ -85,14 +155,12 @@ fn ends_alike<R: Threads + Wait + Abort + Sync>(
     alloc: Global,
     instance: &Instance,
 ) -> Result<(u64, u64), Fail> {
-    let _units = instance.units();
     let first = run_first(alloc, instance)?;
-    let count = instance.stacks().count();
-    for workers in [1, 2, 8, 64] {
-        for claimed in [false, true] {
-            let outcome = sample(rt, alloc, instance, claimed, workers, &NoGate)?;
-            is_alike(rt, outcome, &first, count);
-        }
-    }
+    all_alike(rt, alloc, instance, &first)?;
     Ok((first.pops, first.stuck.len()))
+}
+
+// The greater of both numbers of two pairs.
+fn greater(one: (u64, u64), other: (u64, u64)) -> (u64, u64) {
+    (one.0.max(other.0), one.1.max(other.1))
 }

@@ -1,13 +1,14 @@
 //! Heights that grow.
-ghost use Rattle.std.specs.Prelude.{◌≡◌, length, IfOk};
-ghost use Rattle.pop_model.specs.Stacks.{variables_of};
+ghost use Rattle.std.specs.Prelude.{◌≡◌, ◌<◌, ◌≤◌, ℕ, length, IfOk};
+ghost use Rattle.pop_model.specs.Stacks.{variables_of, height_of, IsKeyed};
 
-use super::chains::{are_rising, chain};
-use super::trees::arrows;
-use super::{is_alike, under_key};
+use super::chains::chain_under_key;
+use super::instances::{cube, family};
+use super::trees::tree_under_key;
+use super::{is_alike, same_at, under_key};
 use crate::{NoGate, Outcome, sample_grown};
-use confluence_core::{Keep, Log, run_first};
-use pop_instance::{Cube, Events, Family, Instance};
+use confluence_core::{Keep, run_first};
+use pop_instance::{Family, Instance};
 use pop_log::{Replay, replay};
 use std::alloc::Global;
 use std::process::Abort;
@@ -18,43 +19,24 @@ use std::thread::Threads;
 // Whether workers claim words, else share a book, and how many there are.
 static BOARDS: [(bool, u32); 5] = [(false, 1), (true, 1), (false, 2), (true, 2), (true, 8)];
 
-// A key of 32 such bytes, and the heights at first and at last.
-#[derive(Clone, Copy)]
-struct Growth {
-    key: u8,
-    first: u32,
-    last: u32,
-}
-
-// Runs events over so many variables in stages: the instance that is left, and what the run left.
+// Runs an instance in stages, up to this height.
 fn grown<R: Threads + Wait + Abort + Sync>(
     rt: &R,
     alloc: Global,
-    count: u32,
-    family: Family,
-    growth: Growth,
+    instance: &mut Instance,
+    last: u32,
     board: (bool, u32),
-) -> Result<(Instance, Outcome), Fail>
-    ensures { IfOk result (λ r. variables_of r.0.stacks ≡ length r.1.end.cursors) }
+) -> Result<Outcome, Fail>
+    requires keyed { IsKeyed instance.old.stacks.origin }
+    requires higher { (v : ℕ) → height_of instance.old.stacks v ≤ last }
+    requires short { last < 1000 }
+    ensures { IfOk result (λ run. variables_of instance.new.stacks ≡ length run.end.cursors) }
 {
-    let Growth { key, first, last } = growth;
     let (claimed, workers) = board;
     assert!(rt; 0 < workers);
     assert!(rt; workers <= 64);
-    assert!(rt; first <= last);
-    assert!(rt; last < 1000);
-    let mut instance = under_key(rt, count, key, first, family)?;
-    let run = sample_grown(
-        rt,
-        alloc,
-        &mut instance,
-        last,
-        claimed,
-        workers,
-        Keep::Log,
-        &NoGate,
-    )?;
-    Ok((instance, run))
+    let keep = Keep::Log;
+    Ok(sample_grown(rt, alloc, instance, last, claimed, workers, keep, &NoGate)?)
 }
 
 // The values of variable 0 under the key of zeros (RFC 8439, A.1, vector 1: the high bits of every
@@ -65,13 +47,19 @@ static VALUES: [u32; 8] = [1, 0, 0, 1, 1, 0, 0, 1];
 fn each_value(rt: &impl Abort, alloc: Global, values: &[u32]) -> Result<Family, Fail> {
     let mut rows = Vec::new(alloc);
     for value in values {
-        let cube = Cube::new(vec![in alloc; (0, *value)]?).expect(rt, "a cube");
+        let cube = cube(rt, alloc, &[(0, *value)])?;
         rows.push((*value, cube))?;
     }
-    assert!(rt; rows.len() < 1000);
-    let rising = are_rising(&rows);
-    assert!(rt; rising);
-    Ok(Family::Listed(Events::gather(alloc, rows)?))
+    family(rt, alloc, rows)
+}
+
+// These events over stacks of this height under the key of zeros.
+fn of_values(rt: &impl Abort, alloc: Global, values: &[u32], height: u32) -> Result<Instance, Fail>
+    ensures keyed { IfOk result (λ i. IsKeyed i.stacks.origin) }
+    ensures height { IfOk result (λ i. (v : ℕ) → height_of i.stacks v ≡ height) }
+{
+    let family = each_value(rt, alloc, values)?;
+    under_key(rt, 1, 0, height, family)
 }
 
 // The heights at first and at last; the pops, the stuck events, and the height that is left.
@@ -140,26 +128,54 @@ static BOTH_VALUES: [Row; 3] = [
     },
 ];
 
+// Compares two counts of a row.
+fn same_in(rt: &impl Abort, found: u64, want: u64, what: &str, row: &Row) {
+    let Row { first, last, .. } = row;
+    assert_eq!(rt; found, want, "{what} from {first} to {last}");
+}
+
 // Compares what stages leave of one variable with a row.
 fn is_left(rt: &impl Abort, instance: &Instance, run: &Outcome, row: &Row) {
-    let Row { first, last, .. } = row;
-    assert_eq!(rt; run.end.pops, row.pops, "from {first} to {last}");
-    assert_eq!(rt; run.end.stuck.len(), row.stuck, "from {first} to {last}");
+    same_in(rt, run.end.pops, row.pops, "pops", row);
+    same_in(rt, run.end.stuck.len(), row.stuck, "stuck events", row);
     assert!(rt; instance.stacks().count() == 1);
-    assert_eq!(rt;
-        instance.stacks().height(0),
-        row.left,
-        "from {first} to {last}"
-    );
+    let height = instance.stacks().height(0);
+    same_in(rt, height as u64, row.left as u64, "height", row);
+    let Some(log) = &run.log else {
+        panic!(rt; "no log");
+    };
+    same_in(rt, log.len(), row.pops, "records", row);
 }
 
 // Compares the log of pops of variable 0 with its values: the unit of each event is its value.
-fn are_values(rt: &impl Abort, log: &Log) {
+fn are_values(rt: &impl Abort, run: &Outcome) {
+    let Some(log) = &run.log else {
+        panic!(rt; "no log");
+    };
     for (i, value) in VALUES.iter().enumerate() {
-        if (i as u64) < log.len() {
-            assert_eq!(rt; log.at(i as u64).unit(), *value, "pop {i}");
+        let place = i as u64;
+        if place < log.len() {
+            same_at(rt, log.at(place).unit(), *value, "pop", place);
         }
     }
+}
+
+// Runs an instance by the heights of a row, on one board.
+fn leaves<R: Threads + Wait + Abort + Sync>(
+    rt: &R,
+    alloc: Global,
+    instance: &mut Instance,
+    row: &Row,
+    board: (bool, u32),
+) -> Result<Outcome, Fail>
+    requires keyed { IsKeyed instance.old.stacks.origin }
+    requires height { (v : ℕ) → height_of instance.old.stacks v ≡ row.now.first }
+{
+    assert!(rt; row.first <= row.last);
+    assert!(rt; row.last < 1000);
+    let run = grown(rt, alloc, instance, row.last, board)?;
+    is_left(rt, instance, &run, row);
+    Ok(run)
 }
 
 // Runs the events of these values by the heights of a row, on one board.
@@ -169,26 +185,41 @@ fn grows_as<R: Threads + Wait + Abort + Sync>(
     values: &[u32],
     row: &Row,
     board: (bool, u32),
-) -> Result<Log, Fail> {
-    let family = each_value(rt, alloc, values)?;
-    let growth = Growth {
-        key: 0,
-        first: row.first,
-        last: row.last,
-    };
-    let (instance, run) = grown(rt, alloc, 1, family, growth, board)?;
-    is_left(rt, &instance, &run, row);
-    Ok(run.log.expect(rt, "a log"))
+) -> Result<Outcome, Fail> {
+    let mut instance = of_values(rt, alloc, values, row.first)?;
+    leaves(rt, alloc, &mut instance, row, board)
+}
+
+// The same on each board, for the event of value 1.
+fn one_value_grows<R: Threads + Wait + Abort + Sync>(
+    rt: &R,
+    alloc: Global,
+    row: &Row,
+) -> Result<(), Fail> {
+    for board in BOARDS.iter() {
+        let _run = grows_as(rt, alloc, &[1], row, *board)?;
+    }
+    Ok(())
 }
 
 #[test]
 fn heights_grow_until_no_event_occurs(rt: HostRuntime) -> Result<(), Fail> {
     let alloc = rt.alloc();
     for row in ONE_VALUE.iter() {
-        for board in BOARDS.iter() {
-            let log = grows_as(&rt, alloc, &[1], row, *board)?;
-            assert_eq!(&rt; log.len(), row.pops);
-        }
+        one_value_grows(&rt, alloc, row)?;
+    }
+    Ok(())
+}
+
+// The same on each board, for the events of both values.
+fn both_values_grow<R: Threads + Wait + Abort + Sync>(
+    rt: &R,
+    alloc: Global,
+    row: &Row,
+) -> Result<(), Fail> {
+    for board in BOARDS.iter() {
+        let run = grows_as(rt, alloc, &[0, 1], row, *board)?;
+        are_values(rt, &run);
     }
     Ok(())
 }
@@ -197,29 +228,44 @@ fn heights_grow_until_no_event_occurs(rt: HostRuntime) -> Result<(), Fail> {
 fn stages_use_the_entries_in_their_order_up_to_the_last(rt: HostRuntime) -> Result<(), Fail> {
     let alloc = rt.alloc();
     for row in BOTH_VALUES.iter() {
-        for board in BOARDS.iter() {
-            let log = grows_as(&rt, alloc, &[0, 1], row, *board)?;
-            assert_eq!(&rt; log.len(), row.pops);
-            are_values(&rt, &log);
-        }
+        both_values_grow(&rt, alloc, row)?;
     }
     Ok(())
 }
 
-// Whether the log of a run is legal for the instance.
+// Tests that the log of a run is legal for the instance.
 fn is_legal(
     rt: &impl Abort,
     alloc: Global,
     instance: &Instance,
     run: &Outcome,
-) -> Result<bool, Fail> {
+) -> Result<(), Fail> {
     let Some(log) = &run.log else {
         panic!(rt; "no log");
     };
-    match replay(alloc, instance, log)? {
-        Replay::Legal(_) => Ok(true),
-        Replay::NotLegal(_) => Ok(false),
-    }
+    let replay = replay(alloc, instance, log)?;
+    let legal = match replay {
+        Replay::Legal(_) => true,
+        Replay::NotLegal(_) => false,
+    };
+    assert!(rt; legal);
+    Ok(())
+}
+
+// Compares a run over so many variables with the one-thread run. Returns how many events are stuck.
+fn ends_as_first(
+    rt: &impl Abort,
+    alloc: Global,
+    tall: &Instance,
+    run: &Outcome,
+    count: u32,
+) -> Result<u64, Fail>
+    requires tall { variables_of tall.now.stacks ≡ count }
+    requires run { length run.now.end.cursors ≡ count }
+{
+    let first = run_first(alloc, tall)?;
+    is_alike(rt, run, &first, count);
+    Ok(first.stuck.len())
 }
 
 // Compares what stages left with the one-thread run at the last height, where their log is to be
@@ -229,67 +275,124 @@ fn ends_as(
     alloc: Global,
     tall: &Instance,
     instance: &Instance,
-    run: Outcome,
+    run: &Outcome,
 ) -> Result<u64, Fail>
-    requires { variables_of instance.now.stacks ≡ length run.end.cursors }
+    requires { variables_of instance.now.stacks ≡ length run.now.end.cursors }
 {
-    let first = run_first(alloc, tall)?;
     let count = tall.stacks().count();
     assert!(rt; instance.stacks().count() == count);
-    assert!(rt; is_legal(rt, alloc, tall, &run)?);
-    is_alike(rt, run, &first, count);
-    Ok(first.stuck.len())
+    is_legal(rt, alloc, tall, run)?;
+    ends_as_first(rt, alloc, tall, run, count)
 }
 
-// Grows a chain of 20 links, and compares what is left.
-fn chain_grows<R: Threads + Wait + Abort + Sync>(
+// A chain of 20 links, or random arrows of 70 variables.
+#[derive(Clone, Copy)]
+enum Kind {
+    Chain,
+    Tree,
+}
+
+// A key of 32 such bytes, and the heights at first and at last.
+#[derive(Clone, Copy)]
+struct Growth {
+    kind: Kind,
+    key: u8,
+    first: u32,
+    last: u32,
+}
+
+// The instance of such a kind.
+fn of_kind(
+    rt: &impl Abort,
+    alloc: Global,
+    kind: Kind,
+    key: u8,
+    height: u32,
+) -> Result<Instance, Fail>
+    ensures keyed { IfOk result (λ i. IsKeyed i.stacks.origin) }
+    ensures height { IfOk result (λ i. (v : ℕ) → height_of i.stacks v ≡ height) }
+{
+    match kind {
+        Kind::Chain => chain_under_key(rt, alloc, 20, key, height),
+        Kind::Tree => tree_under_key(rt, alloc, &mut 2026, 70, key, height),
+    }
+}
+
+// Grows an instance to the height of a tall one, and compares what is left.
+fn grows_to<R: Threads + Wait + Abort + Sync>(
     rt: &R,
     alloc: Global,
-    growth: Growth,
+    tall: &Instance,
+    instance: &mut Instance,
+    growth: &Growth,
     board: (bool, u32),
-) -> Result<u64, Fail> {
-    let tall = under_key(rt, 41, growth.key, growth.last, chain(rt, alloc, 20)?)?;
-    let family = chain(rt, alloc, 20)?;
-    let (instance, run) = grown(rt, alloc, 41, family, growth, board)?;
-    ends_as(rt, alloc, &tall, &instance, run)
+) -> Result<u64, Fail>
+    requires keyed { IsKeyed instance.old.stacks.origin }
+    requires height { (v : ℕ) → height_of instance.old.stacks v ≡ growth.now.first }
+{
+    assert!(rt; growth.first <= growth.last);
+    assert!(rt; growth.last < 1000);
+    let run = grown(rt, alloc, instance, growth.last, board)?;
+    ends_as(rt, alloc, tall, instance, &run)
 }
 
-// Grows random arrows of 70 variables, and compares what is left.
-fn tree_grows<R: Threads + Wait + Abort + Sync>(
+// Grows an instance to the height of a tall one.
+fn grows_beside<R: Threads + Wait + Abort + Sync>(
     rt: &R,
     alloc: Global,
-    growth: Growth,
+    tall: &Instance,
+    growth: &Growth,
     board: (bool, u32),
 ) -> Result<u64, Fail> {
-    let tall = under_key(
-        rt,
-        70,
-        growth.key,
-        growth.last,
-        arrows(rt, alloc, &mut 2026, 70)?,
-    )?;
-    let family = arrows(rt, alloc, &mut 2026, 70)?;
-    let (instance, run) = grown(rt, alloc, 70, family, growth, board)?;
-    ends_as(rt, alloc, &tall, &instance, run)
+    let mut instance = of_kind(rt, alloc, growth.kind, growth.key, growth.first)?;
+    grows_to(rt, alloc, tall, &mut instance, growth, board)
 }
 
+// Grows an instance, and compares what is left.
+fn grows<R: Threads + Wait + Abort + Sync>(
+    rt: &R,
+    alloc: Global,
+    growth: &Growth,
+    board: (bool, u32),
+) -> Result<u64, Fail> {
+    let tall = of_kind(rt, alloc, growth.kind, growth.key, growth.last)?;
+    grows_beside(rt, alloc, &tall, growth, board)
+}
+
+// Keys, and the heights at first and at last, of chains.
 static CHAINS: [(u8, u32, u32); 4] = [(3, 1, 900), (77, 2, 900), (3, 1, 2), (200, 1, 4)];
 
+// The same of trees.
 static TREES: [(u8, u32, u32); 4] = [(0, 1, 900), (77, 2, 900), (5, 1, 2), (200, 1, 3)];
+
+// Grows the instances of a table on one board: the most events that are stuck.
+fn all_grow<R: Threads + Wait + Abort + Sync>(
+    rt: &R,
+    alloc: Global,
+    kind: Kind,
+    table: &[(u8, u32, u32)],
+    board: (bool, u32),
+) -> Result<u64, Fail> {
+    let mut most = 0;
+    for (key, first, last) in table {
+        let growth = Growth {
+            kind,
+            key: *key,
+            first: *first,
+            last: *last,
+        };
+        most = grows(rt, alloc, &growth, board)?.max(most);
+    }
+    Ok(most)
+}
 
 #[test]
 fn stages_end_as_the_one_thread_run_at_the_last_height(rt: HostRuntime) -> Result<(), Fail> {
     let alloc = rt.alloc();
     let mut most_stuck = 0;
     for board in BOARDS.iter() {
-        for (key, first, last) in CHAINS {
-            let growth = Growth { key, first, last };
-            most_stuck = most_stuck.max(chain_grows(&rt, alloc, growth, *board)?);
-        }
-        for (key, first, last) in TREES {
-            let growth = Growth { key, first, last };
-            most_stuck = most_stuck.max(tree_grows(&rt, alloc, growth, *board)?);
-        }
+        most_stuck = all_grow(&rt, alloc, Kind::Chain, &CHAINS, *board)?.max(most_stuck);
+        most_stuck = all_grow(&rt, alloc, Kind::Tree, &TREES, *board)?.max(most_stuck);
     }
     assert!(&rt; most_stuck > 0);
     Ok(())

@@ -1,5 +1,6 @@
 //! Which hint comes next.
-ghost use Rattle.std.specs.Prelude.{◌≡◌, ◌<◌, length};
+ghost use Rattle.std.specs.Prelude.{◌≡◌, ◌<◌, length, IfOk, IfSome};
+ghost use Rattle.std.specs.Bool.{OnTrue};
 
 use crate::hints::{Other, Own, Range, deal, next};
 use crate::turns::Worker;
@@ -16,22 +17,61 @@ fn hints_of<W: Range>(alloc: Global, number: u32) -> Result<Own<W>, AllocError>
     deal(alloc, Worker { number, workers: 2 }, 4)
 }
 
-// Worked by hand: the worker begins with 0 and 1, the other one with 2 and 3, and the first hint of
-// each deque is its greatest. Behind each meeting another hint comes, as long as there is one, and
-// the hint of the meeting behind it.
+// The hint of a meeting, if there was one, and the hint that comes next. Worked by hand: the worker
+// begins with 0 and 1, the other one with 2 and 3, and the first hint of each deque is its greatest.
+// Behind each meeting another hint comes, as long as there is one, and the hint of the meeting
+// behind it.
+static NEXT: [(Option<u32>, Option<u32>); 9] = [
+    (None, Some(0)),
+    (Some(0), Some(1)),
+    (None, Some(0)),
+    (Some(0), Some(3)),
+    (Some(3), Some(0)),
+    (None, Some(3)),
+    (None, Some(2)),
+    (Some(2), Some(2)),
+    (None, None),
+];
+
+// Whether a meeting was at one of four units, where there was one.
+fn is_known(met: Option<u32>) -> bool
+    ensures { OnTrue result (IfSome met (λ unit. unit < 4)) }
+{
+    match met {
+        Some(unit) => unit < 4,
+        None => true,
+    }
+}
+
+// Compares a hint.
+fn same_hint(rt: &impl Abort, found: Option<u32>, want: Option<u32>, place: u64) {
+    assert_eq!(rt; found, want, "hint {place}");
+}
+
+// Takes the hints of the table.
 fn takes_in_turn<W: Range>(rt: &impl Abort, own: &mut Own<W>, all: &[Other<W>])
     requires range { W.units ≡ 4 }
     requires workers { length all.now ≡ 2 }
 {
-    assert_eq!(rt; next(own, all, 0, None), Some(0));
-    assert_eq!(rt; next(own, all, 0, Some(0)), Some(1));
-    assert_eq!(rt; next(own, all, 0, None), Some(0));
-    assert_eq!(rt; next(own, all, 0, Some(0)), Some(3));
-    assert_eq!(rt; next(own, all, 0, Some(3)), Some(0));
-    assert_eq!(rt; next(own, all, 0, None), Some(3));
-    assert_eq!(rt; next(own, all, 0, None), Some(2));
-    assert_eq!(rt; next(own, all, 0, Some(2)), Some(2));
-    assert_eq!(rt; next(own, all, 0, None), None);
+    for (i, (met, want)) in NEXT.iter().enumerate() {
+        let known = is_known(*met);
+        assert!(rt; known);
+        same_hint(rt, next(own, all, 0, *met), *want, i as u64);
+    }
+}
+
+// Two deques, to steal from.
+fn for_both<W: Range>(
+    alloc: Global,
+    own: &Own<W>,
+    other: &Own<W>,
+) -> Result<Vec<Other<W>>, AllocError>
+    ensures { IfOk result (λ all. length all.items ≡ 2) }
+{
+    let mut all = Vec::with_capacity(alloc, 2)?;
+    all.push_reserved(own.stealer()?);
+    all.push_reserved(other.stealer()?);
+    Ok(all)
 }
 
 // The same, where the number of units was picked.
@@ -40,7 +80,7 @@ fn takes_of_two<W: Range>(rt: &impl Abort, alloc: Global) -> Result<(), Fail>
 {
     let mut own: Own<W> = hints_of(alloc, 0)?;
     let other: Own<W> = hints_of(alloc, 1)?;
-    let all = vec![in alloc; own.stealer()?, other.stealer()?]?;
+    let all = for_both(alloc, &own, &other)?;
     takes_in_turn(rt, &mut own, &all);
     Ok(())
 }

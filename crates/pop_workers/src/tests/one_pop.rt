@@ -1,37 +1,43 @@
 //! One pop on a board of claim words, step by step, up to the merged log.
-ghost use Rattle.std.specs.Prelude.{◌≡◌, ◌≤◌, ◌<◌, ◌+◌, ◌++◌, ◌∷◌, [], length, IfOk, IfSome};
+ghost use Rattle.std.specs.Prelude.{◌≡◌, ◌≤◌, ◌<◌, ◌+◌, ◌++◌, ◌∷◌, [], length, IfOk, IfSome, OnOk};
 ghost use Rattle.pop_model.specs.Stacks.{variables_of};
-ghost use Rattle.pop_model.specs.Popping.{variables};
+ghost use Rattle.pop_model.specs.Popping.{variables, AreWithin};
 ghost use Rattle.pop_model.specs.Tickets.{AreNumbered};
+ghost use Rattle.pop_model.specs.Runs.{IsFirstPoppable};
+ghost use Rattle.confluence_core.specs.Stuck.{event_of};
 ghost use Rattle.claim_words.specs.KeptLogs.{HasRoom};
 ghost use Rattle.claim_words.specs.Maps.{Each};
 ghost use Rattle.claim_words.specs.Openings.{height, marks_in};
 ghost use Rattle.claim_words.specs.Passes.{IsOf, IsIdle, IsSole, HoldsAll, SameMarks, SameRoom, view, spare, log_spare, count_of, marks_of, instance_of, opening_of};
+ghost use Rattle.claim_words.specs.Steps.{fresh};
 
-use super::two_events;
+use super::instances::{EventRow, listed};
+use super::same;
 use claim_words::{Board, Claim, Closed, Pass};
-use confluence_core::{Keep, first_poppable};
+use confluence_core::{Keep, Log, Tickets, first_poppable};
 use pop_instance::{Cube, Cursors, Family, Instance};
 use pop_log::merge;
 use pop_stacks::Reader;
-use std::alloc::Global;
+use std::alloc::{AllocError, Global};
 use std::process::Abort;
 use std::test::Fail;
 
+// Two variables with the entries 0 and 1.
+static ROWS: [&[u32]; 2] = [&[0, 1], &[0, 1]];
+
 // The clauses `1 2` and `-1 2`: unit 0 demands 0 of both variables, unit 1 demands 1 and 0.
-fn two_clauses(rt: &impl Abort, alloc: Global) -> Result<Instance, Fail>
-    ensures count { IfOk result (λ instance. variables_of instance.stacks ≡ 2) }
-    ensures marks { IfOk result (λ instance. marks_in instance.family ≡ 2) }
+static EVENTS: [EventRow; 2] = [(1, &[(0, 0), (1, 0)]), (2, &[(0, 1), (1, 0)])];
+
+// Tests that there are two variables and two listed events.
+fn are_two(rt: &impl Abort, instance: &Instance)
+    ensures count { variables_of instance.now.stacks ≡ 2 }
+    ensures marks { marks_in instance.now.family ≡ 2 }
 {
-    let first = Cube::new(vec![in alloc; (0, 0), (1, 0)]?).expect(rt, "a cube");
-    let second = Cube::new(vec![in alloc; (0, 1), (1, 0)]?).expect(rt, "a cube");
-    let instance = two_events(rt, alloc, first, second)?;
     let Family::Listed(events) = instance.family() else {
         panic!(rt; "a listed family");
     };
-    assert_eq!(rt; events.count(), 2);
-    assert_eq!(rt; instance.stacks().count(), 2);
-    Ok(instance)
+    assert!(rt; events.count() == 2);
+    assert!(rt; instance.stacks().count() == 2);
 }
 
 // Takes the mark of a unit, which is set, and looks at it again: it is gone.
@@ -89,13 +95,20 @@ fn claim_again(rt: &impl Abort, board: &Board, pass: &mut Pass, v: u32) -> u64
     }
 }
 
+// Two cursors.
+fn cursors_of(alloc: Global, first: u32, second: u32) -> Result<Cursors, AllocError>
+    ensures { IfOk result (λ cursors. cursors ≡ first ∷ second ∷ []) }
+{
+    Ok(Cursors::of(vec![in alloc; first, second]?))
+}
+
 // Claims both variables, the first of them twice: their cursors. Bit 63 is 9223372036854775808.
 fn claim_both(
     rt: &impl Abort,
     alloc: Global,
     board: &Board,
     pass: &mut Pass,
-) -> Result<Cursors, Fail>
+) -> Result<Cursors, AllocError>
     requires pass { IsOf board.now pass.old }
     requires free { (view pass.old).held ≡ [] }
     requires count { count_of board.now ≡ 2 }
@@ -108,8 +121,35 @@ fn claim_both(
     let first = claim_free(rt, board, pass, 0);
     let word = claim_again(rt, board, pass, 0);
     let second = claim_free(rt, board, pass, 1);
-    assert_eq!(rt; (first, word, second), (0, 9223372036854775808, 0));
-    Ok(Cursors::of(vec![in alloc; first, second]?))
+    same(rt, first as u64, 0, "variable 0");
+    same(rt, word, 9223372036854775808, "word of variable 0");
+    same(rt, second as u64, 0, "variable 1");
+    cursors_of(alloc, first, second)
+}
+
+// The poppable event of least unit.
+fn first_event(
+    rt: &impl Abort,
+    alloc: Global,
+    instance: &Instance,
+    cursors: &Cursors,
+) -> Result<(u32, Cube), Fail>
+    requires count { variables_of instance.now.stacks ≡ length cursors.now }
+    requires within { AreWithin instance.now.stacks cursors.now }
+    ensures { IfOk result (λ e. IsFirstPoppable instance.now cursors.now (event_of e)) }
+{
+    let mut reader = Reader::new(instance.stacks());
+    let found = first_poppable(alloc, instance, &mut reader, cursors)?;
+    Ok(found.expect(rt, "a poppable event"))
+}
+
+// Tests that an event is the first one, of two variables.
+fn is_first(rt: &impl Abort, unit: u32, cube: &Cube)
+    ensures unit { unit ≡ 0 }
+    ensures len { length cube.now ≡ 2 }
+{
+    assert!(rt; unit == 0);
+    assert!(rt; cube.len() == 2);
 }
 
 // Pops the first event, which is poppable at these cursors, where the pass holds both variables.
@@ -134,12 +174,10 @@ fn pop_first(
     ensures share { (view pass.new).share ≡ (view pass.old).share }
 {
     let _units = instance.units();
-    let mut reader = Reader::new(instance.stacks());
-    let found = first_poppable(alloc, instance, &mut reader, cursors)?;
-    let (unit, cube) = found.expect(rt, "a poppable event");
-    assert!(rt; unit == 0);
-    assert!(rt; cube.len() == 2);
-    assert_eq!(rt; board.pop(pass, unit, &cube), 0);
+    let (unit, cube) = first_event(rt, alloc, instance, cursors)?;
+    is_first(rt, unit, &cube);
+    let ticket = board.pop(pass, unit, &cube);
+    same(rt, ticket, 0, "ticket");
     Ok(())
 }
 
@@ -174,6 +212,44 @@ fn close(rt: &impl Abort, board: Board, pass: Pass) -> Closed
     closed
 }
 
+// A board from zeros, and its first pass.
+fn started<'i>(alloc: Global, instance: &'i Instance) -> Result<(Board<'i>, Pass), AllocError>
+    requires count { variables_of instance.now.stacks ≡ 2 }
+    ensures instance { IfOk result (λ r. instance_of r.0 ≡ instance.now) }
+    ensures pass { IfOk result (λ r. IsOf r.0 r.1) }
+    ensures fresh { IfOk result (λ r. view r.1 ≡ fresh (opening_of r.0)) }
+{
+    let _units = instance.units();
+    let from = Cursors::zeros(alloc, 2)?;
+    Board::start(alloc, instance, &from, Keep::Log)
+}
+
+// Pops the first event on a fresh board, and lets go of all.
+fn pop_on(
+    rt: &impl Abort,
+    alloc: Global,
+    board: &Board,
+    pass: &mut Pass,
+    instance: &Instance,
+) -> Result<(), Fail>
+    requires pass { IsOf board.now pass.old }
+    requires fresh { view pass.old ≡ fresh (opening_of board.now) }
+    requires instance { instance_of board.now ≡ instance.now }
+    requires count { variables_of instance.now.stacks ≡ 2 }
+    requires marks { marks_in instance.now.family ≡ 2 }
+    ensures pass { IsOf board.now pass.new }
+    ensures idle { OnOk result (IsIdle pass.new) }
+    ensures share { OnOk result (IsSole pass.new) }
+{
+    same(rt, pass.share() as u64, 64, "shares");
+    board.reserve(pass, 3)?;
+    take_once(rt, board, pass, 0);
+    let cursors = claim_both(rt, alloc, board, pass)?;
+    pop_first(rt, alloc, board, pass, instance, &cursors)?;
+    let_go(board, pass);
+    Ok(())
+}
+
 // What a board leaves on which the first event is popped.
 fn close_after_pop(rt: &impl Abort, alloc: Global, instance: &Instance) -> Result<Closed, Fail>
     requires count { variables_of instance.now.stacks ≡ 2 }
@@ -181,32 +257,52 @@ fn close_after_pop(rt: &impl Abort, alloc: Global, instance: &Instance) -> Resul
     ensures count { IfOk result (λ closed. length closed.cursors ≡ 2) }
     ensures numbered { IfOk result (λ closed. IfSome closed.log AreNumbered) }
 {
-    let _units = instance.units();
-    let from = Cursors::zeros(alloc, 2)?;
-    let (board, mut pass) = Board::start(alloc, instance, &from, Keep::Log)?;
-    assert_eq!(rt; pass.share(), 64);
-    board.reserve(&mut pass, 3)?;
-    take_once(rt, &board, &mut pass, 0);
-    let cursors = claim_both(rt, alloc, &board, &mut pass)?;
-    pop_first(rt, alloc, &board, &mut pass, instance, &cursors)?;
-    let_go(&board, &mut pass);
+    let (board, mut pass) = started(alloc, instance)?;
+    pop_on(rt, alloc, &board, &mut pass, instance)?;
     Ok(close(rt, board, pass))
+}
+
+// Compares what is left: cursors, pops and suspects.
+fn is_after_pop(rt: &impl Abort, closed: &Closed)
+    requires { length closed.now.cursors ≡ 2 }
+{
+    same(rt, closed.cursors.get(0) as u64, 1, "variable 0");
+    same(rt, closed.cursors.get(1) as u64, 1, "variable 1");
+    same(rt, closed.pops, 1, "pops");
+    let suspects = &closed.suspects;
+    assert!(rt; suspects.len() == 2);
+    same(rt, suspects.at(0) as u64, 0, "suspect 0");
+    same(rt, suspects.at(1) as u64, 1, "suspect 1");
+}
+
+// Tests that there is one ticket.
+fn is_one_ticket(rt: &impl Abort, tickets: &Tickets) {
+    assert!(rt; tickets.len() == 1);
+    same(rt, tickets.at(0).ticket, 0, "ticket");
+}
+
+// Tests that there is one record, of the first event.
+fn is_one_record(rt: &impl Abort, log: &Log) {
+    assert!(rt; log.len() == 1);
+    same(rt, log.at(0).unit() as u64, 0, "unit");
+}
+
+// Compares what is left of a board of two events, up to its merged log.
+fn leaves_one_record(rt: &impl Abort, alloc: Global, instance: &Instance) -> Result<(), Fail> {
+    are_two(rt, instance);
+    let closed = close_after_pop(rt, alloc, instance)?;
+    is_after_pop(rt, &closed);
+    let tickets = closed.log.expect(rt, "a log");
+    is_one_ticket(rt, &tickets);
+    let log = merge(alloc, tickets)?;
+    is_one_record(rt, &log);
+    Ok(())
 }
 
 // Worked by hand.
 #[test]
 fn one_pop_leaves_a_log_of_one_record(rt: HostRuntime) -> Result<(), Fail> {
     let alloc = rt.alloc();
-    let instance = two_clauses(&rt, alloc)?;
-    let closed = close_after_pop(&rt, alloc, &instance)?;
-    assert_eq!(&rt; (closed.cursors.get(0), closed.cursors.get(1)), (1, 1));
-    assert_eq!(&rt; (closed.pops, closed.suspects.len()), (1, 2));
-    assert_eq!(&rt; (closed.suspects.at(0), closed.suspects.at(1)), (0, 1));
-    let tickets = closed.log.expect(&rt, "a log");
-    assert_eq!(&rt; tickets.len(), 1);
-    assert_eq!(&rt; tickets.at(0).ticket, 0);
-    let log = merge(alloc, tickets)?;
-    assert_eq!(&rt; log.len(), 1);
-    assert_eq!(&rt; log.at(0).unit(), 0);
-    Ok(())
+    let instance = listed(&rt, alloc, &ROWS, &EVENTS)?;
+    leaves_one_record(&rt, alloc, &instance)
 }

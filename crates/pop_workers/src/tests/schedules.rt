@@ -1,7 +1,8 @@
 //! A gate may hold a worker: the log tells which worker popped first.
-use super::{sample, two_events};
-use crate::Gate;
-use pop_instance::{Cube, Instance};
+use super::instances::{EventRow, listed};
+use super::{same, sample};
+use crate::{Gate, Outcome};
+use pop_instance::Instance;
 use std::alloc::Global;
 use std::process::Abort;
 use std::sync::Wait;
@@ -55,36 +56,95 @@ impl Gate for Holds {
 }
 
 // Two variables with the entries 0 and 1, and the two events that one of them has the value 0.
-fn two_clauses(rt: &impl Abort, alloc: Global) -> Result<Instance, Fail> {
-    let first = Cube::new(vec![in alloc; (0, 0)]?).expect(rt, "a cube");
-    let second = Cube::new(vec![in alloc; (1, 0)]?).expect(rt, "a cube");
-    two_events(rt, alloc, first, second)
-}
+static ROWS: [&[u32]; 2] = [&[0, 1], &[0, 1]];
 
-// The units that two workers pop, where the first is held until the other has come to its second
-// turn.
-fn popped_units<R: Threads + Wait + Abort + Sync>(
+static EVENTS: [EventRow; 2] = [(1, &[(0, 0)]), (2, &[(1, 0)])];
+
+// The run of two workers, where the first is held until the other has come to its second turn.
+fn held_run<R: Threads + Wait + Abort + Sync>(
     rt: &R,
     alloc: Global,
+    instance: &Instance,
     claimed: bool,
     held: u32,
     other: u32,
-) -> Result<(u32, u32), Fail> {
-    let instance = two_clauses(rt, alloc)?;
+) -> Result<Outcome, Fail> {
     let gate = Holds::new(held, other);
-    let outcome = sample(rt, alloc, &instance, claimed, 2, &gate)?;
-    assert!(rt; !gate.gave_up.load(SeqCst), "the other worker never came");
-    let log = outcome.log.expect(rt, "a log");
+    let outcome = sample(rt, alloc, instance, claimed, 2, &gate)?;
+    let gave_up = gate.gave_up.load(SeqCst);
+    assert!(rt; !gave_up, "the other worker never came");
+    Ok(outcome)
+}
+
+// Compares the units of a log of two pops.
+fn are_units(rt: &impl Abort, run: &Outcome, want: (u32, u32)) {
+    let Some(log) = &run.log else {
+        panic!(rt; "no log");
+    };
     assert!(rt; log.len() == 2);
-    Ok((log.at(0).unit(), log.at(1).unit()))
+    same(rt, log.at(0).unit() as u64, want.0 as u64, "unit of pop 0");
+    same(rt, log.at(1).unit() as u64, want.1 as u64, "unit of pop 1");
+}
+
+// A worker that is held, the other one, and the units that are popped.
+struct Row {
+    held: u32,
+    other: u32,
+    units: (u32, u32),
+}
+
+static HELD: [Row; 2] = [
+    Row {
+        held: 0,
+        other: 1,
+        units: (1, 0),
+    },
+    Row {
+        held: 1,
+        other: 0,
+        units: (0, 1),
+    },
+];
+
+// Compares the units that two workers pop with a row.
+fn pops_last<R: Threads + Wait + Abort + Sync>(
+    rt: &R,
+    alloc: Global,
+    instance: &Instance,
+    claimed: bool,
+    row: &Row,
+) -> Result<(), Fail> {
+    let run = held_run(rt, alloc, instance, claimed, row.held, row.other)?;
+    are_units(rt, &run, row.units);
+    Ok(())
+}
+
+// Holds each of the two workers.
+fn each_pops_last<R: Threads + Wait + Abort + Sync>(
+    rt: &R,
+    alloc: Global,
+    instance: &Instance,
+    claimed: bool,
+) -> Result<(), Fail> {
+    for row in HELD.iter() {
+        pops_last(rt, alloc, instance, claimed, row)?;
+    }
+    Ok(())
+}
+
+// Holds each of the two workers on both boards.
+fn all_pop_last<R: Threads + Wait + Abort + Sync>(
+    rt: &R,
+    alloc: Global,
+    instance: &Instance,
+) -> Result<(), Fail> {
+    each_pops_last(rt, alloc, instance, false)?;
+    each_pops_last(rt, alloc, instance, true)
 }
 
 #[test]
 fn the_worker_that_is_held_pops_last(rt: HostRuntime) -> Result<(), Fail> {
     let alloc = rt.alloc();
-    for claimed in [false, true] {
-        assert_eq!(&rt; popped_units(&rt, alloc, claimed, 0, 1)?, (1, 0));
-        assert_eq!(&rt; popped_units(&rt, alloc, claimed, 1, 0)?, (0, 1));
-    }
-    Ok(())
+    let instance = listed(&rt, alloc, &ROWS, &EVENTS)?;
+    all_pop_last(&rt, alloc, &instance)
 }

@@ -14,14 +14,14 @@ use Rattle.claim_words.proofs.HeldWhole.{ready_all, owed_below}
 use Rattle.pop_workers.proofs.tests.one_pop.pop_first.Goals as goal
 
 -- what is poppable at the cursors of a pass that holds all variables may be popped
-pub pop-requires-clause-poppable : goal.pop-requires-clause-poppable
-pop-requires-clause-poppable g c =
+pub pop-ticket-requires-clause-poppable : goal.pop-ticket-requires-clause-poppable
+pop-ticket-requires-clause-poppable g c =
     let i : Instance = c.args.instance.now in
     let d : View = view c.args.pass.now in
     let cs : List ℕ = c.args.cursors.now in
-    let unit : ℕ = c.expect-unit.result.0 in
-    let cube : Cube = c.expect-unit.result.1 in
-    let first = rw c.expect-unit.ensures at c.in_ok-found.ensures.first in
+    let unit : ℕ = c.in_ok-unit.unit in
+    let cube : Cube = c.in_ok-unit.cube in
+    let first = c.in_ok-unit.ensures in
     let all = c.requires.held in
     let count : variables_of i.stacks ≡ length cs =
     sym (all.count ∙ ap (λ (x : Instance). variables_of x.stacks) c.requires.instance) in
@@ -34,16 +34,16 @@ pop-requires-clause-poppable g c =
 
 pub returns-clause-held : goal.returns-clause-held
 returns-clause-held g c =
-    ap (λ (x : View). variables x.held) c.pop.ensures.step
-    ∙ variables-raise_all c.expect-unit.result.1 (view c.args.pass.now).held
+    ap (λ (x : View). variables x.held) c.pop-ticket.ensures.step
+    ∙ variables-raise_all c.in_ok-unit.cube (view c.args.pass.now).held
 
 -- each mark that is owed is one of the board
 pub returns-clause-owed : goal.returns-clause-owed
 returns-clause-owed g c =
     let d : View = view c.args.pass.now in
-    let cube : Cube = c.expect-unit.result.1 in
+    let cube : Cube = c.in_ok-unit.cube in
     let i : Instance = instance_of c.args.board.now in
-    let owed : (view c.pop.new.pass).owed ≡ sharing i.family cube =
-    ap (λ (x : View). x.owed) c.pop.ensures.step ∙ ap (λ (l : List ℕ). l ++ sharers d.opening cube) c.requires.owed
+    let owed : (view c.pop-ticket.new.pass).owed ≡ sharing i.family cube =
+    ap (λ (x : View). x.owed) c.pop-ticket.ensures.step ∙ ap (λ (l : List ℕ). l ++ sharers d.opening cube) c.requires.owed
     ∙ ap (λ (o : Option Opening). sharers o cube) c.requires.pass.0.1 in
     subst (Each (λ u. u < marks_of c.args.board.now)) (sym owed) (owed_below i.family cube)

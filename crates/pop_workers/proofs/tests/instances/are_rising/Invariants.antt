@@ -1,5 +1,5 @@
 use Rattle.std.proofs.Common.{ℕ, ◌<◌, ◌+◌, [], get_or}
-use Rattle.pop_workers.proofs.tests.chains.are_rising.Given as goal
+use Rattle.pop_workers.proofs.tests.instances.are_rising.Given as goal
 
 -- the numbers up to here rise
 abbrev pub invariant-loop-i : goal.invariant-loop-i

@@ -1,7 +1,7 @@
 use Rattle.std.proofs.Common.{◌≡◌, ℕ, ◌+◌, ◌<◌, [], length, map, arith}
 use Rattle.std.proofs.lemmas.List.{length-map, get_or-map}
 use Rattle.pop_model.specs.Popping.{Cube}
-use Rattle.pop_workers.proofs.tests.chains.are_rising.Goals as goal
+use Rattle.pop_workers.proofs.tests.instances.are_rising.Goals as goal
 
 pub returns : goal.returns
 returns c = λ k within.
