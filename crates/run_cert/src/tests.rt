@@ -1,8 +1,25 @@
 //! Tests of certificates and of runs that are stopped.
 use super::*;
+use std::process::Abort;
 
 mod judging;
 mod paused;
 mod printed;
 mod rings;
 mod stopping;
+
+// Compares two numbers at a place. Tests compare by these calls, so that what tells of values that
+// differ is proved once.
+fn same_at(rt: &impl Abort, found: u64, want: u64, what: &str, place: u64) {
+    assert_eq!(rt; found, want, "{what} {place}");
+}
+
+// Compares two looks at a place.
+fn looks_at(rt: &impl Abort, found: Look, want: Look, place: u64) {
+    assert!(rt; found == want, "look {place}");
+}
+
+// Compares bytes.
+fn same_bytes(rt: &impl Abort, found: &[u8], want: &[u8], what: &str) {
+    assert!(rt; found == want, "{what}");
+}

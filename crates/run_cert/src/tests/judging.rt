@@ -17,18 +17,26 @@ enum Verdict {
     OutOfMemory,
 }
 
+// How a certificate is judged.
+fn judge_cert(cert: &Cert) -> Verdict {
+    if is_it(cert) {
+        return Verdict::Itself;
+    }
+    Verdict::Another
+}
+
 fn judge(alloc: Global, text: &[u8]) -> Verdict {
     match read_cert(alloc, text) {
-        Ok(cert) => {
-            if is_it(&cert) {
-                Verdict::Itself
-            } else {
-                Verdict::Another
-            }
-        }
+        Ok(cert) => judge_cert(&cert),
         Err(CertRefusal::Malformed(line, code)) => Verdict::Refused(line, code),
         Err(CertRefusal::OutOfMemory) => Verdict::OutOfMemory,
     }
+}
+
+// Compares how a text is judged.
+fn is_judged(rt: &impl Abort, alloc: Global, text: &[u8], wanted: Verdict, what: &str, place: u64) {
+    let verdict = judge(alloc, text);
+    assert!(rt; verdict == wanted, "{what} {place}");
 }
 
 // How the first bytes of the text are to be judged: its lines end behind the bytes 15, 28 and 37,
@@ -48,8 +56,8 @@ fn cut_verdict(length: usize) -> Verdict {
 fn each_cut_is_judged_at_its_line(rt: HostRuntime) -> Result<(), Fail> {
     let alloc = rt.alloc();
     for length in 0..72 {
-        let verdict = judge(alloc, &TEXT[..length]);
-        assert!(&rt; verdict == cut_verdict(length), "{length} bytes");
+        let wanted = cut_verdict(length);
+        is_judged(&rt, alloc, &TEXT[..length], wanted, "bytes", length as u64);
     }
     Ok(())
 }
@@ -78,7 +86,7 @@ fn judge_changes(rt: &impl Abort, alloc: Global, at: usize) {
     let byte = text[at];
     for change in 1..=255u8 {
         text[at] = byte ^ change;
-        let verdict = judge(alloc, &text);
+        let verdict = judge(alloc, text.as_slice());
         let wanted = changed_verdict(at, byte ^ change);
         assert!(rt; verdict == wanted, "{change} at {at}");
     }
@@ -124,8 +132,8 @@ static HEADS: [(&str, u64, u32); 24] = [
 fn heads_are_refused_at_their_first_bad_line(rt: HostRuntime) -> Result<(), Fail> {
     let alloc = rt.alloc();
     for (head, line, code) in HEADS.iter() {
-        let verdict = judge(alloc, head.as_bytes());
-        assert!(&rt; verdict == Verdict::Refused(*line, *code), "{head}");
+        let wanted = Verdict::Refused(*line, *code);
+        is_judged(&rt, alloc, head.as_bytes(), wanted, head, *line);
     }
     Ok(())
 }
@@ -171,8 +179,7 @@ fn a_key_is_read_as_it_is_printed(rt: HostRuntime) -> Result<(), Fail> {
     let alloc = rt.alloc();
     for (digits, rest, wanted) in KEYED.iter() {
         let text = keyed(alloc, digits, rest)?;
-        let verdict = judge(alloc, text.as_bytes());
-        assert!(&rt; verdict == *wanted, "{digits}{rest}");
+        is_judged(&rt, alloc, text.as_bytes(), *wanted, text.as_str(), 0);
     }
     Ok(())
 }

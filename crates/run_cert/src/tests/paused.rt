@@ -12,7 +12,7 @@ pub static TEXT: [u8; 71] =
 pub static INPUT: [u8; 14] = *b"p cnf 1 1\n1 0\n";
 
 /// Its log text.
-pub static LOG_TEXT: [u8; 20] = *b"log 2 1\npop 1 1 1:0\n";
+pub const LOG_TEXT: &str = "log 2 1\npop 1 1 1:0\n";
 
 // Whether these are the one row 0, 0, 1.
 fn are_its_rows(rows: &Rows) -> bool {
@@ -33,5 +33,5 @@ pub fn is_it(cert: &Cert) -> bool {
         && are_its_stacks(cert.spec())
         && (cert.height(), cert.root()) == (1 << 20, 1)
         && cert.input() == INPUT.as_slice()
-        && cert.log_text() == LOG_TEXT.as_slice()
+        && cert.log_text() == LOG_TEXT.as_bytes()
 }

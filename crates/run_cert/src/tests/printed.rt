@@ -5,12 +5,18 @@ use std::alloc::{AllocError, Global};
 use std::process::Abort;
 use std::test::Fail;
 
-/// The job of a line, whose words have one space between them.
-pub fn job_of(alloc: Global, line: &str) -> Result<Job, WordFault> {
+// The words of a line, which have one space between them.
+fn words_of(alloc: Global, line: &str) -> Result<Vec<String>, AllocError> {
     let mut words = Vec::new(alloc);
     for word in line.split(' ') {
         words.push(String::from_str(alloc, word)?)?;
     }
+    Ok(words)
+}
+
+/// The job of a line, whose words have one space between them.
+pub fn job_of(alloc: Global, line: &str) -> Result<Job, WordFault> {
+    let words = words_of(alloc, line)?;
     read_words(alloc, &words)
 }
 
@@ -57,19 +63,31 @@ fn whole(alloc: Global, head: &str) -> Result<String, AllocError> {
 // Prints the certificate of a job with that input and that log text, and compares it.
 fn prints(rt: &impl Abort, alloc: Global, job: &Job, text: &str) -> Result<(), Fail> {
     let printed = print_cert(alloc, job, b"a\nb", b"log 2 0\n")?;
-    assert!(rt; printed.as_slice() == text.as_bytes(), "{text}");
+    same_bytes(rt, &printed, text.as_bytes(), text);
     Ok(())
+}
+
+// Compares what a certificate says with the job.
+fn says(rt: &impl Abort, cert: &Cert, job: &Job, text: &str) {
+    assert!(rt; cert.command() == job.command, "{text}");
+    same_at(rt, cert.height() as u64, job.height as u64, text, 0);
+    same_at(rt, cert.root() as u64, job.root as u64, text, 1);
+    same_bytes(rt, cert.input(), b"a\nb", text);
+    same_bytes(rt, cert.log_text(), b"log 2 0\n", text);
 }
 
 // Reads the text, and compares what it says with the job.
 fn reads(rt: &impl Abort, alloc: Global, job: &Job, text: &str) -> Result<(), Fail> {
     let cert = read_cert(alloc, text.as_bytes())?;
-    assert!(rt; cert.command() == job.command, "{text}");
-    assert_eq!(rt; cert.height(), job.height, "{text}");
-    assert_eq!(rt; cert.root(), job.root, "{text}");
-    assert!(rt; cert.input() == b"a\nb".as_slice(), "{text}");
-    assert!(rt; cert.log_text() == b"log 2 0\n".as_slice(), "{text}");
+    says(rt, &cert, job, text);
     Ok(())
+}
+
+// Prints the certificate of a job that has this head, and reads it.
+fn is_told(rt: &impl Abort, alloc: Global, job: &Job, head: &str) -> Result<(), Fail> {
+    let text = whole(alloc, head)?;
+    prints(rt, alloc, job, text.as_str())?;
+    reads(rt, alloc, job, text.as_str())
 }
 
 #[test]
@@ -77,9 +95,7 @@ fn what_is_printed_is_read_back(rt: HostRuntime) -> Result<(), Fail> {
     let alloc = rt.alloc();
     for (line, head) in HEADS.iter() {
         let job = job_of(alloc, line)?;
-        let text = whole(alloc, head)?;
-        prints(&rt, alloc, &job, text.as_str())?;
-        reads(&rt, alloc, &job, text.as_str())?;
+        is_told(&rt, alloc, &job, head)?;
     }
     Ok(())
 }

@@ -2,6 +2,7 @@
 //! whose runs are stopped at every limit and compared with the run of first events.
 ghost use Rattle.std.specs.Prelude.{◌≡◌, length};
 ghost use Rattle.pop_model.specs.Stacks.{variables_of};
+ghost use Rattle.pop_model.specs.Popping.{AreWithin};
 
 use super::*;
 use confluence_core::{End, run_first};
@@ -32,6 +33,21 @@ fn arrows_of(rt: &impl Abort, alloc: Global, heads: &[[Option<u32>; 2]]) -> Resu
     Ok(Arrows::new(rows).expect(rt, "arrows"))
 }
 
+// The cycles of a ring of so many variables.
+fn cycles(rt: &impl Abort, alloc: Global, count: u32) -> Result<Family, Fail> {
+    let heads = heads(alloc, count)?;
+    let arrows = arrows_of(rt, alloc, &heads)?;
+    Ok(Family::Cycles(arrows))
+}
+
+// The stacks of so many variables, of this height under a key of 32 such bytes.
+fn keyed(rt: &impl Abort, count: u32, key: u8, height: u32) -> Result<Stacks, Fail> {
+    assert!(rt; count < 1000);
+    assert!(rt; 0 < height);
+    assert!(rt; height < 1000);
+    Ok(Stacks::new(StackSpec::Key([key; 32]), Weights::pairs(count), height)?)
+}
+
 // A ring of so many variables, over stacks of this height under a key of 32 such bytes.
 fn ring(
     rt: &impl Abort,
@@ -40,26 +56,20 @@ fn ring(
     key: u8,
     height: u32,
 ) -> Result<Instance, Fail> {
-    assert!(rt; count < 1000);
-    assert!(rt; 0 < height);
-    assert!(rt; height < 1000);
-    let heads = heads(alloc, count)?;
-    let arrows = arrows_of(rt, alloc, &heads)?;
-    let stacks = Stacks::new(StackSpec::Key([key; 32]), Weights::pairs(count), height)?;
-    Ok(Instance::new(stacks, Family::Cycles(arrows)).expect(rt, "an instance"))
+    let stacks = keyed(rt, count, key, height)?;
+    let family = cycles(rt, alloc, count)?;
+    Ok(Instance::new(stacks, family).expect(rt, "an instance"))
 }
 
 // Compares what a run to a limit leaves with the end of the run of first events: as many records as
 // the limit says, or as many as the end has pops; open exactly where there are fewer.
 fn is_stopped(rt: &impl Abort, part: &Part, limit: u64, end: &End) {
-    assert_eq!(rt; part.log.len(), limit.min(end.pops), "limit {limit}");
+    same_at(rt, part.log.len(), limit.min(end.pops), "limit", limit);
     let is_open = part.seen.look == Look::Open;
     assert!(rt; is_open == (limit < end.pops), "limit {limit}");
     let is_finished = part.seen.look == Look::Finished;
-    assert!(rt;
-        is_finished == (part.seen.stuck.len() == 0),
-        "limit {limit}"
-    );
+    let is_free = part.seen.stuck.len() == 0;
+    assert!(rt; is_finished == is_free, "limit {limit}");
 }
 
 // Compares what a run that wasn't stopped leaves with the end of the run of first events.
@@ -68,9 +78,29 @@ fn is_end(rt: &impl Abort, count: u32, part: &Part, end: &End)
     requires end { count ≡ length end.now.cursors }
 {
     for v in 0..count {
-        assert_eq!(rt; part.cursors.get(v), end.cursors.get(v), "variable {v}");
+        let found = part.cursors.get(v) as u64;
+        let want = end.cursors.get(v) as u64;
+        same_at(rt, found, want, "variable", v as u64);
     }
-    assert_eq!(rt; part.seen.stuck.len(), end.stuck.len());
+    same_at(rt, part.seen.stuck.len(), end.stuck.len(), "end", end.pops);
+}
+
+// Looks once more at what a run to a limit leaves.
+fn looks_again(
+    rt: &impl Abort,
+    alloc: Global,
+    instance: &Instance,
+    part: &Part,
+    limit: u64,
+) -> Result<(), Fail>
+    requires count { variables_of instance.now.stacks ≡ length part.now.cursors }
+    requires within { AreWithin instance.now.stacks part.now.cursors }
+{
+    let seen = look(alloc, instance, &part.cursors)?;
+    looks_at(rt, seen.look, part.seen.look, limit);
+    let stuck = part.seen.stuck.len();
+    same_at(rt, seen.stuck.len(), stuck, "limit", limit);
+    Ok(())
 }
 
 // Stops the run of an instance at a limit, and looks at what it leaves.
@@ -88,10 +118,7 @@ fn stop(
     if limit >= end.pops {
         is_end(rt, instance.stacks().count(), &part, end);
     }
-    let seen = look(alloc, instance, &part.cursors)?;
-    assert!(rt; seen.look == part.seen.look, "limit {limit}");
-    assert_eq!(rt; seen.stuck.len(), part.seen.stuck.len(), "limit {limit}");
-    Ok(())
+    looks_again(rt, alloc, instance, &part, limit)
 }
 
 // Stops the run of an instance at each limit, up to two more than its pops. Returns the pops.
@@ -116,13 +143,24 @@ static RINGS: [(u32, u8, u32); 8] = [
     (30, 77, 900),
 ];
 
+// Makes a ring, and stops its run at each limit. Returns the pops.
+fn stop_ring(
+    rt: &impl Abort,
+    alloc: Global,
+    count: u32,
+    key: u8,
+    height: u32,
+) -> Result<u64, Fail> {
+    let ring = ring(rt, alloc, count, key, height)?;
+    stop_at_each(rt, alloc, &ring)
+}
+
 #[test]
 fn rings_stop_at_every_limit(rt: HostRuntime) -> Result<(), Fail> {
     let alloc = rt.alloc();
     let mut most = 0;
     for (count, key, height) in RINGS.iter() {
-        let ring = ring(&rt, alloc, *count, *key, *height)?;
-        let pops = stop_at_each(&rt, alloc, &ring)?;
+        let pops = stop_ring(&rt, alloc, *count, *key, *height)?;
         most = most.max(pops);
     }
     assert!(&rt; most > 5);

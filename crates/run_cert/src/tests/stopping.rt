@@ -1,4 +1,6 @@
 //! A run of one clause that is stopped, told, read and looked at.
+ghost use Rattle.std.specs.Prelude.{◌≡◌, length};
+
 use super::paused::{INPUT, LOG_TEXT, TEXT, is_it};
 use super::printed::job_of;
 use super::*;
@@ -6,18 +8,28 @@ use pop_instance::{Cube, Events, Family, Instance};
 use pop_log::{LogRefusal, Names, print_layered};
 use pop_stacks::{Rows, StackSpec, Stacks, Weights};
 use std::alloc::Global;
-use std::process::Abort;
 use std::test::Fail;
+
+// The stacks of the row 0, 0, 1.
+fn one_row(alloc: Global) -> Result<Stacks, Fail> {
+    let row = vec![in alloc; 0, 0, 1]?;
+    let rows = Rows::of(vec![in alloc; row]?);
+    Ok(Stacks::new(StackSpec::Given(rows), Weights::pairs(1), 1)?)
+}
+
+// The event that the one variable has the value 0.
+fn one_event(rt: &impl Abort, alloc: Global) -> Result<Family, Fail> {
+    let cube = Cube::new(vec![in alloc; (0, 0)]?).expect(rt, "a cube");
+    let events = Events::gather(alloc, vec![in alloc; (1, cube)]?)?;
+    Ok(Family::Listed(events))
+}
 
 // The instance of the clause `1` over the row 0, 0, 1: the event is that its variable has the
 // value 0.
 fn one_clause(rt: &impl Abort, alloc: Global) -> Result<Instance, Fail> {
-    let row = vec![in alloc; 0, 0, 1]?;
-    let rows = Rows::of(vec![in alloc; row]?);
-    let stacks = Stacks::new(StackSpec::Given(rows), Weights::pairs(1), 1)?;
-    let cube = Cube::new(vec![in alloc; (0, 0)]?).expect(rt, "a cube");
-    let events = Events::gather(alloc, vec![in alloc; (1, cube)]?)?;
-    Ok(Instance::new(stacks, Family::Listed(events)).expect(rt, "an instance"))
+    let stacks = one_row(alloc)?;
+    let family = one_event(rt, alloc)?;
+    Ok(Instance::new(stacks, family).expect(rt, "an instance"))
 }
 
 // Limits, and what a run to them leaves: the records of its log, which are as many as the popped
@@ -30,6 +42,19 @@ static LIMITS: [(u64, u64, Look, u64); 5] = [
     (u64::MAX, 2, Look::Finished, 0),
 ];
 
+// Compares how a run of the one variable stands: the records of its log, which are as many as the
+// popped entries, and its look.
+fn stands(rt: &impl Abort, part: &Part, count: u32, wanted: (u64, Look), place: u64)
+    requires { count ≡ length part.now.cursors }
+{
+    let (pops, look) = wanted;
+    same_at(rt, part.log.len(), pops, "records", place);
+    assert!(rt; 0 < count);
+    let popped = part.cursors.get(0) as u64;
+    same_at(rt, popped, pops, "popped entries", place);
+    looks_at(rt, part.seen.look, look, place);
+}
+
 // Compares what a run to a limit leaves.
 fn leaves(
     rt: &impl Abort,
@@ -40,11 +65,16 @@ fn leaves(
 ) -> Result<(), Fail> {
     let (pops, look, stuck) = wanted;
     let part = run_part(alloc, instance, limit)?;
-    assert_eq!(rt; part.log.len(), pops, "limit {limit}");
-    assert!(rt; 0 < instance.stacks().count());
-    assert_eq!(rt; u64::from(part.cursors.get(0)), pops, "limit {limit}");
-    assert!(rt; part.seen.look == look, "limit {limit}");
-    assert_eq!(rt; part.seen.stuck.len(), stuck, "limit {limit}");
+    stands(rt, &part, instance.stacks().count(), (pops, look), limit);
+    same_at(rt, part.seen.stuck.len(), stuck, "stuck events", limit);
+    Ok(())
+}
+
+// Stops the run of that instance at each limit.
+fn leaves_each(rt: &impl Abort, alloc: Global, instance: &Instance) -> Result<(), Fail> {
+    for (limit, pops, look, stuck) in LIMITS.iter() {
+        leaves(rt, alloc, instance, *limit, (*pops, *look, *stuck))?;
+    }
     Ok(())
 }
 
@@ -52,34 +82,54 @@ fn leaves(
 fn a_run_stops_at_its_limit(rt: HostRuntime) -> Result<(), Fail> {
     let alloc = rt.alloc();
     let instance = one_clause(&rt, alloc)?;
-    for (limit, pops, look, stuck) in LIMITS.iter() {
-        leaves(&rt, alloc, &instance, *limit, (*pops, *look, *stuck))?;
-    }
+    leaves_each(&rt, alloc, &instance)
+}
+
+// The log text of a run to one pop.
+fn pause_log(rt: &impl Abort, alloc: Global, instance: &Instance) -> Result<Vec<u8>, Fail> {
+    let part = run_part(alloc, instance, 1)?;
+    looks_at(rt, part.seen.look, Look::Open, 1);
+    Ok(print_layered(alloc, instance, &Names::Plain, &part.log)?)
+}
+
+// The text of the certificate of that run.
+fn pause(rt: &impl Abort, alloc: Global, instance: &Instance) -> Result<Vec<u8>, Fail> {
+    let log_text = pause_log(rt, alloc, instance)?;
+    let job = job_of(alloc, "formula --stacks 0,0,1")?;
+    Ok(print_cert(alloc, &job, INPUT.as_slice(), &log_text)?)
+}
+
+// Reads the text of that certificate.
+fn reads(rt: &impl Abort, alloc: Global, text: &[u8]) -> Result<(), Fail> {
+    let cert = read_cert(alloc, text)?;
+    let is_it = is_it(&cert);
+    assert!(rt; is_it);
     Ok(())
 }
 
-// The text of the certificate of a run to one pop.
-fn pause(rt: &impl Abort, alloc: Global, instance: &Instance) -> Result<Vec<u8>, Fail> {
-    let job = job_of(alloc, "formula --stacks 0,0,1")?;
-    let part = run_part(alloc, instance, 1)?;
-    assert!(rt; part.seen.look == Look::Open);
-    let log_text = print_layered(alloc, instance, &Names::Plain, &part.log)?;
-    Ok(print_cert(alloc, &job, INPUT.as_slice(), &log_text)?)
+// Tells the run of that instance to one pop, and reads what is told.
+fn is_told(rt: &impl Abort, alloc: Global, instance: &Instance) -> Result<(), Fail> {
+    let text = pause(rt, alloc, instance)?;
+    same_bytes(rt, &text, TEXT.as_slice(), "text");
+    reads(rt, alloc, &text)
 }
 
 #[test]
 fn a_paused_run_is_told(rt: HostRuntime) -> Result<(), Fail> {
     let alloc = rt.alloc();
     let instance = one_clause(&rt, alloc)?;
-    let text = pause(&rt, alloc, &instance)?;
-    assert!(&rt; text.as_slice() == TEXT.as_slice());
-    let cert = read_cert(alloc, &text)?;
-    assert!(&rt; is_it(&cert));
-    Ok(())
+    is_told(&rt, alloc, &instance)
 }
 
-// Reads a log text, and compares what it leaves: the popped entries of the one variable, which are
-// as many as the records, and the look.
+// Log texts, and what they leave: the popped entries of the one variable, which are as many as the
+// records, and the look. Worked by hand.
+static TOLD: [(&str, u64, Look); 3] = [
+    ("log 1 0\n", 0, Look::Open),
+    (LOG_TEXT, 1, Look::Open),
+    ("log 1 2\npop 1 1:0\npop 1 1:1\n", 2, Look::Finished),
+];
+
+// Reads a log text, and compares what it leaves.
 fn tells(
     rt: &impl Abort,
     alloc: Global,
@@ -87,37 +137,52 @@ fn tells(
     text: &[u8],
     wanted: (u64, Look),
 ) -> Result<(), Fail> {
-    let (pops, look) = wanted;
     let part = read_part(alloc, instance, &Names::Plain, text)?;
-    assert_eq!(rt; part.log.len(), pops);
-    assert!(rt; 0 < instance.stacks().count());
-    assert_eq!(rt; u64::from(part.cursors.get(0)), pops);
-    assert!(rt; part.seen.look == look);
+    stands(rt, &part, instance.stacks().count(), wanted, wanted.0);
     Ok(())
 }
 
-// Worked by hand.
+// Reads each of these log texts.
+fn tells_each(rt: &impl Abort, alloc: Global, instance: &Instance) -> Result<(), Fail> {
+    for (text, pops, look) in TOLD.iter() {
+        tells(rt, alloc, instance, text.as_bytes(), (*pops, *look))?;
+    }
+    Ok(())
+}
+
 #[test]
 fn a_log_text_tells_how_a_run_stands(rt: HostRuntime) -> Result<(), Fail> {
     let alloc = rt.alloc();
     let instance = one_clause(&rt, alloc)?;
-    tells(&rt, alloc, &instance, b"log 1 0\n", (0, Look::Open))?;
-    tells(&rt, alloc, &instance, LOG_TEXT.as_slice(), (1, Look::Open))?;
-    let whole = b"log 1 2\npop 1 1:0\npop 1 1:1\n";
-    tells(&rt, alloc, &instance, whole, (2, Look::Finished))
+    tells_each(&rt, alloc, &instance)
+}
+
+// Reads a log text whose first record isn't legal.
+fn is_refused(rt: &impl Abort, alloc: Global, instance: &Instance, text: &[u8]) {
+    match read_part(alloc, instance, &Names::Plain, text) {
+        Ok(_) => panic!(rt; "a legal log"),
+        Err(refusal) => assert!(rt; matches!(refusal, LogRefusal::NotLegal(0))),
+    }
+}
+
+// Reads the log text of a certificate of that instance.
+fn reads_refused(
+    rt: &impl Abort,
+    alloc: Global,
+    instance: &Instance,
+    text: &[u8],
+) -> Result<(), Fail> {
+    let cert = read_cert(alloc, text)?;
+    is_refused(rt, alloc, instance, cert.log_text());
+    Ok(())
 }
 
 // The entry 1 isn't that of the first pop.
 #[test]
 fn a_changed_entry_is_no_legal_log(rt: HostRuntime) -> Result<(), Fail> {
     let alloc = rt.alloc();
-    let instance = one_clause(&rt, alloc)?;
     let mut text = TEXT;
     text[69] = b'1';
-    let cert = read_cert(alloc, text.as_slice())?;
-    match read_part(alloc, &instance, &Names::Plain, cert.log_text()) {
-        Ok(_) => panic!(&rt; "a legal log"),
-        Err(refusal) => assert!(&rt; matches!(refusal, LogRefusal::NotLegal(0))),
-    }
-    Ok(())
+    let instance = one_clause(&rt, alloc)?;
+    reads_refused(&rt, alloc, &instance, text.as_slice())
 }
