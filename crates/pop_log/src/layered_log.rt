@@ -126,7 +126,27 @@ mod tests {
     use super::*;
     use crate::instances::listed;
     use confluence_core::{Keep, run_from_zeros};
+    use std::process::Abort;
     use std::test::Fail;
+
+    // The text in layers of the log of a run from zeros.
+    fn text_of_run(rt: &impl Abort, alloc: Global, instance: &Instance) -> Result<Vec<u8>, Fail> {
+        let run = run_from_zeros(alloc, instance, Keep::Log)?;
+        let log = run.log.expect(rt, "a log");
+        Ok(print_layered(alloc, instance, &Names::Plain, &log)?)
+    }
+
+    // Compares a text.
+    fn is_text(rt: &impl Abort, found: &[u8], want: &str) {
+        assert!(rt; found == want.as_bytes(), "{want}");
+    }
+
+    // Compares the text in layers of the log of a run from zeros.
+    fn prints(rt: &impl Abort, alloc: Global, instance: &Instance, want: &str) -> Result<(), Fail> {
+        let text = text_of_run(rt, alloc, instance)?;
+        is_text(rt, &text, want);
+        Ok(())
+    }
 
     // The variables have the entries 0, 0, 1 and 0, 1.
     static ROWS: [&[u32]; 2] = [&[0, 0, 1], &[0, 1]];
@@ -134,17 +154,13 @@ mod tests {
     // The clauses `1` and `2`.
     static CLAUSES: [(u32, &[(u32, u32)]); 2] = [(1, &[(0, 0)]), (2, &[(1, 0)])];
 
+    static TEXT: &str = "log 2 3\npop 1 1 1:0\npop 1 2 2:0\npop 2 1 1:1\n";
+
     // Worked by hand: the second pop of the first clause waits for its first, and no other does.
     #[test]
     fn a_record_stands_in_its_layer(rt: HostRuntime) -> Result<(), Fail> {
         let alloc = rt.alloc();
         let instance = listed(&rt, alloc, &ROWS, &CLAUSES)?;
-        let run = run_from_zeros(alloc, &instance, Keep::Log)?;
-        let log = run.log.expect(&rt, "a log");
-        assert_eq!(&rt;
-            print_layered(alloc, &instance, &Names::Plain, &log)?.as_slice(),
-            b"log 2 3\npop 1 1 1:0\npop 1 2 2:0\npop 2 1 1:1\n".as_slice()
-        );
-        Ok(())
+        prints(&rt, alloc, &instance, TEXT)
     }
 }

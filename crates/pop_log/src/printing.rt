@@ -134,11 +134,25 @@ mod tests {
         Ok(print_log(alloc, instance, &Names::Plain, &log)?)
     }
 
+    // Compares a text.
+    fn is_text(rt: &impl Abort, found: &[u8], want: &str) {
+        assert!(rt; found == want.as_bytes(), "{want}");
+    }
+
+    // Compares the text of the log of a run from zeros.
+    fn prints(rt: &impl Abort, alloc: Global, instance: &Instance, want: &str) -> Result<(), Fail> {
+        let text = text_of_run(rt, alloc, instance)?;
+        is_text(rt, &text, want);
+        Ok(())
+    }
+
     // The variables have the entries 0, 1, 1 and 0, 0, 1.
     static ROWS: [&[u32]; 2] = [&[0, 1, 1], &[0, 0, 1]];
 
     // The clauses `1 2` and `-1 2`, under the numbers 3 and 4.
     static CLAUSES: [(u32, &[(u32, u32)]); 2] = [(3, &[(0, 0), (1, 0)]), (4, &[(0, 1), (1, 0)])];
+
+    static TEXT: &str = "log 1 2\npop 3 1:0 2:0\npop 4 1:1 2:1\n";
 
     // Worked by hand.
     #[test]
@@ -147,10 +161,6 @@ mod tests {
     ) -> Result<(), Fail> {
         let alloc = rt.alloc();
         let instance = listed(&rt, alloc, &ROWS, &CLAUSES)?;
-        assert_eq!(rt;
-            text_of_run(&rt, alloc, &instance)?.as_slice(),
-            b"log 1 2\npop 3 1:0 2:0\npop 4 1:1 2:1\n".as_slice()
-        );
-        Ok(())
+        prints(&rt, alloc, &instance, TEXT)
     }
 }
