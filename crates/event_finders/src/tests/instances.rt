@@ -46,6 +46,27 @@ fn are_rising(rows: &[(u32, Cube)]) -> bool
     true
 }
 
+// The events of these numbers and pairs.
+fn events(
+    rt: &impl Abort,
+    alloc: Global,
+    table: &[(u32, &[(u32, u32)])],
+) -> Result<Vec<(u32, Cube)>, Fail> {
+    let mut events = Vec::new(alloc);
+    for (number, pairs) in table {
+        events.push(event(rt, alloc, *number, pairs)?)?;
+    }
+    Ok(events)
+}
+
+// The family of these events, whose numbers rise.
+fn family(rt: &impl Abort, alloc: Global, rows: Vec<(u32, Cube)>) -> Result<Family, Fail> {
+    assert!(rt; rows.len() < 1000);
+    let rising = are_rising(&rows);
+    assert!(rt; rising);
+    Ok(Family::Listed(Events::gather(alloc, rows)?))
+}
+
 // The instance of these rows of entries, and of the events of these numbers and pairs.
 pub(super) fn listed(
     rt: &impl Abort,
@@ -53,14 +74,8 @@ pub(super) fn listed(
     rows: &[&[u32]],
     table: &[(u32, &[(u32, u32)])],
 ) -> Result<Instance, Fail> {
+    let events = events(rt, alloc, table)?;
+    let family = family(rt, alloc, events)?;
     let stacks = stacks(rt, alloc, rows)?;
-    let mut events = Vec::new(alloc);
-    for (number, pairs) in table {
-        events.push(event(rt, alloc, *number, pairs)?)?;
-    }
-    assert!(rt; events.len() < 1000);
-    let rising = are_rising(&events);
-    assert!(rt; rising);
-    let events = Events::gather(alloc, events)?;
-    Ok(Instance::new(stacks, Family::Listed(events)).expect(rt, "an instance"))
+    Ok(Instance::new(stacks, family).expect(rt, "an instance"))
 }

@@ -1,11 +1,12 @@
 //! Tries at units of boards of one variable or two.
-ghost use Rattle.std.specs.Prelude.{◌≡◌, length, IfOk};
+ghost use Rattle.std.specs.Prelude.{◌≡◌, ◌≤◌, length, IfOk};
 ghost use Rattle.pop_model.specs.Stacks.{variables_of};
 ghost use Rattle.pop_stacks.specs.Readers.{Belongs};
-ghost use Rattle.claim_words.specs.Passes.{IsOf, IsIdle, view, instance_of};
+ghost use Rattle.claim_words.specs.Passes.{IsOf, IsIdle, view, spare, instance_of};
 ghost use Rattle.event_finders.specs.UnitConditions.{Indexes};
 
 use super::instances::listed;
+use super::{Want, is_left};
 use crate::{Tried, try_unit};
 use claim_words::{Board, Claim, Closed, Pass};
 use confluence_core::Keep;
@@ -79,6 +80,19 @@ fn close_after(
     Ok(closed)
 }
 
+// Tries units of a new board, and compares what it leaves.
+fn leaves(
+    rt: &impl Abort,
+    alloc: Global,
+    instance: &Instance,
+    table: &[(u32, Tried)],
+    want: &Want,
+) -> Result<(), Fail> {
+    let closed = close_after(rt, alloc, instance, table)?;
+    is_left(rt, &closed, instance.stacks().count(), want);
+    Ok(())
+}
+
 // Worked by hand. After the pop both variables are at their last entry, whose value is 1.
 static TWO_TRIES: [(u32, Tried); 4] = [
     (0, Tried::Popped(0)),
@@ -87,14 +101,15 @@ static TWO_TRIES: [(u32, Tried); 4] = [
     (0, Tried::Cleared(0, 1)),
 ];
 
+static TWO_LEFT: Want = Want {
+    cursors: &[1, 1],
+    pops: 1,
+};
+
 #[test]
 fn a_cleared_unit_has_no_mark(rt: HostRuntime) -> Result<(), Fail> {
-    let alloc = rt.alloc();
-    let instance = listed(&rt, alloc, &TWO_ROWS, &TWO_EVENTS)?;
-    let closed = close_after(&rt, alloc, &instance, &TWO_TRIES)?;
-    assert_eq!(&rt; closed.pops, 1);
-    assert_eq!(&rt; closed.suspects.len(), 0);
-    Ok(())
+    let instance = listed(&rt, rt.alloc(), &TWO_ROWS, &TWO_EVENTS)?;
+    leaves(&rt, rt.alloc(), &instance, &TWO_TRIES, &TWO_LEFT)
 }
 
 // Worked by hand: the second entry of the only variable is its last, and has the event's value.
@@ -104,17 +119,15 @@ static ONE_TRIES: [(u32, Tried); 3] = [
     (0, Tried::Idle),
 ];
 
+static ONE_LEFT: Want = Want {
+    cursors: &[1],
+    pops: 1,
+};
+
 #[test]
 fn a_stuck_unit_has_no_mark(rt: HostRuntime) -> Result<(), Fail> {
-    let alloc = rt.alloc();
-    let instance = listed(&rt, alloc, &ONE_ROW, &ONE_EVENT)?;
-    let count = instance.stacks().count();
-    assert_eq!(&rt; count, 1);
-    let closed = close_after(&rt, alloc, &instance, &ONE_TRIES)?;
-    assert_eq!(&rt; closed.cursors.get(0), 1);
-    assert_eq!(&rt; closed.pops, 1);
-    assert_eq!(&rt; closed.suspects.len(), 0);
-    Ok(())
+    let instance = listed(&rt, rt.alloc(), &ONE_ROW, &ONE_EVENT)?;
+    leaves(&rt, rt.alloc(), &instance, &ONE_TRIES, &ONE_LEFT)
 }
 
 // Worked by hand: bit 63 is 9223372036854775808.
@@ -125,21 +138,47 @@ static BUSY_TRIES: [(u32, Tried); 2] = [
 
 static FREE_TRIES: [(u32, Tried); 2] = [(0, Tried::Popped(0)), (1, Tried::Cleared(1, 1))];
 
-#[test]
-fn a_unit_that_was_refused_is_marked_again(rt: HostRuntime) -> Result<(), Fail> {
-    let alloc = rt.alloc();
-    let instance = listed(&rt, alloc, &TWO_ROWS, &TWO_EVENTS)?;
+// Compares what a claim found.
+fn is_mine(rt: &impl Abort, claim: &Claim) {
+    assert_eq!(rt; *claim, Claim::Mine(0));
+}
+
+// Tries units while another pass holds variable 1, and then others once it has given it back.
+fn try_beside(
+    rt: &impl Abort,
+    alloc: Global,
+    board: &Board,
+    pass: &mut Pass,
+    other: &mut Pass,
+    instance: &Instance,
+) -> Result<(), Fail>
+    requires pass { IsOf board.now pass.old × IsIdle pass.old }
+    requires other { IsOf board.now other.old × IsIdle other.old }
+    requires room { 1 ≤ spare other.old }
+    requires instance { instance_of board.now ≡ instance.now }
+{
+    assert!(rt; 1 < instance.stacks().count());
+    let claim = board.try_claim(other, 1);
+    is_mine(rt, &claim);
+    try_each(rt, alloc, board, pass, instance, &BUSY_TRIES)?;
+    if let Claim::Mine(_) = claim {
+        board.release(other, 1);
+    }
+    try_each(rt, alloc, board, pass, instance, &FREE_TRIES)
+}
+
+// Tries units of a new board beside another pass of it.
+fn try_apart(rt: &impl Abort, alloc: Global, instance: &Instance) -> Result<(), Fail> {
     let _units = instance.units();
     let from = Cursors::zeros(alloc, instance.stacks().count())?;
-    let (board, mut pass) = Board::start(alloc, &instance, &from, Keep::Nothing)?;
+    let (board, mut pass) = Board::start(alloc, instance, &from, Keep::Nothing)?;
     let mut other = board.split(&mut pass, 1);
     board.reserve(&mut other, 1)?;
-    assert!(&rt; 1 < instance.stacks().count());
-    let claim = board.try_claim(&mut other, 1);
-    assert_eq!(&rt; claim, Claim::Mine(0));
-    try_each(&rt, alloc, &board, &mut pass, &instance, &BUSY_TRIES)?;
-    if let Claim::Mine(_) = claim {
-        board.release(&mut other, 1);
-    }
-    try_each(&rt, alloc, &board, &mut pass, &instance, &FREE_TRIES)
+    try_beside(rt, alloc, &board, &mut pass, &mut other, instance)
+}
+
+#[test]
+fn a_unit_that_was_refused_is_marked_again(rt: HostRuntime) -> Result<(), Fail> {
+    let instance = listed(&rt, rt.alloc(), &TWO_ROWS, &TWO_EVENTS)?;
+    try_apart(&rt, rt.alloc(), &instance)
 }

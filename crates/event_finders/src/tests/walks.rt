@@ -7,6 +7,7 @@ ghost use Rattle.claim_words.specs.Passes.{IsOf, IsIdle, view, instance_of, coun
 ghost use Rattle.event_finders.specs.Trails.{resting};
 
 use super::instances::stacks;
+use super::{Want, is_left};
 use crate::{Stretch, Tried, Walker, try_walk, walk_on};
 use claim_words::{Board, Closed, Pass};
 use confluence_core::Keep;
@@ -132,53 +133,66 @@ fn closed_after(
     Ok(close(rt, board, pass))
 }
 
-// The edges 1-2, 2-3 and 1-3 with the root 1: variable 0 is vertex 2, and variable 1 vertex 3. They
-// point to each other at first, and then 2 to 1 and 3 to 2.
-fn triangle(rt: &impl Abort, alloc: Global) -> Result<Instance, Fail>
-    ensures cycles { IfOk result (λ instance. is_listed instance.family ≡ false) }
-    ensures count { IfOk result (λ instance. variables_of instance.stacks ≡ 2) }
+// Makes walks on a new board, and compares what it leaves.
+fn leaves(
+    rt: &impl Abort,
+    alloc: Global,
+    instance: &Instance,
+    turns: &[Turn],
+    want: &Want,
+) -> Result<(), Fail>
+    requires cycles { is_listed instance.now.family ≡ false }
 {
-    let heads = [[None, Some(1)], [Some(0), None]];
-    let instance = cycles(rt, alloc, &[&[1, 0], &[0, 0]], &heads)?;
-    assert_eq!(rt; instance.stacks().count(), 2);
-    Ok(instance)
+    let closed = closed_after(rt, alloc, instance, turns)?;
+    is_left(rt, &closed, instance.stacks().count(), want);
+    Ok(())
 }
 
+// The edges 1-2, 2-3 and 1-3 with the root 1: variable 0 is vertex 2, and variable 1 vertex 3. They
+// point to each other at first, and then 2 to 1 and 3 to 2.
+static TRIANGLE_HEADS: [[Option<u32>; 2]; 2] = [[None, Some(1)], [Some(0), None]];
+
+static TRIANGLE_ROWS: [&[u32]; 2] = [&[1, 0], &[0, 0]];
+
 // Worked by hand.
+static TRIANGLE_TURNS: [Turn; 3] = [
+    (0, None, Tried::Popped(0)),
+    (0, None, Tried::Cleared(0, 1)),
+    (1, None, Tried::Cleared(1, 1)),
+];
+
+static TRIANGLE_LEFT: Want = Want {
+    cursors: &[1, 1],
+    pops: 1,
+};
+
 #[test]
 fn a_cycle_is_popped_and_then_its_path_is_settled(rt: HostRuntime) -> Result<(), Fail> {
-    let alloc = rt.alloc();
-    let instance = triangle(&rt, alloc)?;
-    let turns = [
-        (0, None, Tried::Popped(0)),
-        (0, None, Tried::Cleared(0, 1)),
-        (1, None, Tried::Cleared(1, 1)),
-    ];
-    let closed = closed_after(&rt, alloc, &instance, &turns)?;
-    assert_eq!(&rt; (closed.cursors.get(0), closed.cursors.get(1)), (1, 1));
-    assert_eq!(&rt; closed.pops, 1);
-    assert_eq!(&rt; closed.suspects.len(), 0);
-    Ok(())
+    let instance = cycles(&rt, rt.alloc(), &TRIANGLE_ROWS, &TRIANGLE_HEADS)?;
+    leaves(&rt, rt.alloc(), &instance, &TRIANGLE_TURNS, &TRIANGLE_LEFT)
 }
 
 // Worked by hand: variable 0 leads to 1, which leads to itself three times and then to the root. So
 // the second walk goes on from variable 1 after its first pop, with 0 still claimed.
+static LOOP_HEADS: [[Option<u32>; 2]; 2] = [[Some(1), None], [None, Some(1)]];
+
+static LOOP_ROWS: [&[u32]; 2] = [&[0, 0], &[1, 1, 1, 0]];
+
+static LOOP_TURNS: [Turn; 3] = [
+    (0, Some(2), Tried::Popped(1)),
+    (0, Some(9), Tried::Cleared(0, 0)),
+    (1, Some(9), Tried::Cleared(1, 3)),
+];
+
+static LOOP_LEFT: Want = Want {
+    cursors: &[0, 3],
+    pops: 3,
+};
+
 #[test]
 fn a_walk_goes_on_where_a_cycle_closed(rt: HostRuntime) -> Result<(), Fail> {
-    let alloc = rt.alloc();
-    let heads = [[Some(1), None], [None, Some(1)]];
-    let instance = cycles(&rt, alloc, &[&[0, 0], &[1, 1, 1, 0]], &heads)?;
-    assert_eq!(&rt; instance.stacks().count(), 2);
-    let turns = [
-        (0, Some(2), Tried::Popped(1)),
-        (0, Some(9), Tried::Cleared(0, 0)),
-        (1, Some(9), Tried::Cleared(1, 3)),
-    ];
-    let closed = closed_after(&rt, alloc, &instance, &turns)?;
-    assert_eq!(&rt; (closed.cursors.get(0), closed.cursors.get(1)), (0, 3));
-    assert_eq!(&rt; closed.pops, 3);
-    assert_eq!(&rt; closed.suspects.len(), 0);
-    Ok(())
+    let instance = cycles(&rt, rt.alloc(), &LOOP_ROWS, &LOOP_HEADS)?;
+    leaves(&rt, rt.alloc(), &instance, &LOOP_TURNS, &LOOP_LEFT)
 }
 
 // A pass that holds a variable.
@@ -197,21 +211,35 @@ fn holder<'i>(board: &Board<'i>, pass: &mut Pass, v: u32) -> Result<Pass, AllocE
 
 // Worked by hand: bit 63 is 9223372036854775808. Where the first walk released variable 0, the
 // second finds it free.
+static BUSY_TURNS: [Turn; 3] = [
+    (0, None, Tried::Busy(1, 9223372036854775808)),
+    (0, Some(2), Tried::Busy(1, 9223372036854775808)),
+    (1, None, Tried::Busy(1, 9223372036854775808)),
+];
+
+// Compares the shares of a pass of which one was split off.
+fn are_shares(rt: &impl Abort, pass: &Pass, other: &Pass) {
+    assert_eq!(rt; (pass.share(), other.share()), (63, 1));
+}
+
+// Makes walks that meet a claim of variable 1, on a new board.
+fn meet_claim(rt: &impl Abort, alloc: Global, instance: &Instance) -> Result<(), Fail>
+    requires cycles { is_listed instance.now.family ≡ false }
+{
+    let _units = instance.units();
+    let count = instance.stacks().count();
+    assert!(rt; 1 < count);
+    let from = Cursors::zeros(alloc, count)?;
+    let mut walker = Walker::new(alloc, count)?;
+    let (board, mut pass) = Board::start(alloc, instance, &from, Keep::Nothing)?;
+    let other = holder(&board, &mut pass, 1)?;
+    walk_in_turn(rt, &board, &mut pass, instance, &mut walker, &BUSY_TURNS);
+    are_shares(rt, &pass, &other);
+    Ok(())
+}
+
 #[test]
 fn a_walk_that_meets_a_claim_holds_nothing(rt: HostRuntime) -> Result<(), Fail> {
-    let alloc = rt.alloc();
-    let instance = triangle(&rt, alloc)?;
-    let _units = instance.units();
-    let from = Cursors::zeros(alloc, 2)?;
-    let mut walker = Walker::new(alloc, 2)?;
-    let (board, mut pass) = Board::start(alloc, &instance, &from, Keep::Nothing)?;
-    let other = holder(&board, &mut pass, 1)?;
-    let turns = [
-        (0, None, Tried::Busy(1, 9223372036854775808)),
-        (0, Some(2), Tried::Busy(1, 9223372036854775808)),
-        (1, None, Tried::Busy(1, 9223372036854775808)),
-    ];
-    walk_in_turn(&rt, &board, &mut pass, &instance, &mut walker, &turns);
-    assert_eq!(&rt; (pass.share(), other.share()), (63, 1));
-    Ok(())
+    let instance = cycles(&rt, rt.alloc(), &TRIANGLE_ROWS, &TRIANGLE_HEADS)?;
+    meet_claim(&rt, rt.alloc(), &instance)
 }
