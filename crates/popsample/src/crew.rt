@@ -92,13 +92,45 @@ impl<'a, R: Threads + Wait + Sync, G: Gate + Sync> Crew<'a, R, G> {
         ensures instance { IfOk result (λ ran. ran.1 ≡ growing) }
         ensures run { IfOk result (λ ran. IsRunOf ran.1 (start_of ran.1) (keeps_log keep) ran.0) }
     {
-        let (mut instance, last, index) = growing.into_parts();
-        let Some(last) = last else {
-            let run = self.run_at_once(alloc, &instance, index, keep)?;
-            return Ok((run, instance));
-        };
-        // Stages build their own.
-        drop(index);
+        let (instance, last, index) = growing.into_parts();
+        match last {
+            None => self.run_whole(alloc, instance, index, keep),
+            Some(last) => {
+                // Stages build their own.
+                drop(index);
+                self.run_grown(alloc, instance, last, keep)
+            }
+        }
+    }
+
+    // A run of the instance from zeros at its height, and the instance.
+    fn run_whole(
+        &self,
+        alloc: Global,
+        instance: Instance,
+        index: Option<Index>,
+        keep: Keep,
+    ) -> Result<(Outcome, Instance), AllocError>
+        requires index { MayIndex instance.family index }
+        ensures instance { IfOk result (λ ran. ran.1 ≡ instance) }
+        ensures run { IfOk result (λ ran. IsRunOf ran.1 (start_of ran.1) (keeps_log keep) ran.0) }
+    {
+        let run = self.run_at_once(alloc, &instance, index, keep)?;
+        Ok((run, instance))
+    }
+
+    // A run of the instance in stages, and the instance at the last height.
+    fn run_grown(
+        &self,
+        alloc: Global,
+        mut instance: Instance,
+        last: u32,
+        keep: Keep,
+    ) -> Result<(Outcome, Instance), AllocError>
+        requires { MayGrowTo (Some last) instance.stacks }
+        ensures instance { IfOk result (λ ran. ran.1 ≡ instance_raised last instance) }
+        ensures run { IfOk result (λ ran. IsRunOf ran.1 (start_of ran.1) (keeps_log keep) ran.0) }
+    {
         let run = self.run_in_stages(alloc, &mut instance, last, keep)?;
         Ok((run, instance))
     }

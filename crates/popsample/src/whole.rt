@@ -1,5 +1,5 @@
 //! A source that is read whole before its bytes are judged.
-ghost use Rattle.std.specs.Prelude.{◌≡◌, ◌<◌, ◌≤◌, ◌^◌, ℕ, List, length, IfOk, OnOk, IsErrOf, Err};
+ghost use Rattle.std.specs.Prelude.{◌≡◌, ◌<◌, ◌≤◌, ◌^◌, ℕ, List, length, vec_len, IfOk, OnOk, IsErrOf, Err};
 ghost use Rattle.std.specs.Io.KnownBytes.{Consumes, IsAtEnd, Keeps};
 ghost use Rattle.pop_model.specs.Faults.{Rose};
 ghost use Rattle.popsample.specs.Whole.{IsReadTo, TakesPiece};
@@ -7,7 +7,7 @@ ghost use Rattle.popsample.specs.declared.stop.Stop.TheVariants.{ReadFault};
 
 use crate::stop::Stop;
 use pop_edge::Source;
-use std::alloc::Global;
+use std::alloc::{AllocError, Global};
 
 // The room of one read.
 const ROOM: usize = 65536;
@@ -65,6 +65,14 @@ fn piece_of(wanted: usize) -> usize
     wanted.min(ROOM)
 }
 
+// So many bytes of 0. The number is a parameter, since a list of a literal's length is written out
+// where it is proved.
+fn zeros(alloc: Global, count: usize) -> Result<Vec<u8>, AllocError>
+    ensures { IfOk result (λ room. vec_len room ≡ count) }
+{
+    Vec::from_elem(alloc, 0, count)
+}
+
 /// Reads the source to its end, or up to the first byte past the limit.
 pub fn read_whole<S: Source>(alloc: Global, source: &mut S, limit: usize) -> Result<Vec<u8>, Stop>
     requires { limit < 2 ^ 63 }
@@ -75,7 +83,7 @@ pub fn read_whole<S: Source>(alloc: Global, source: &mut S, limit: usize) -> Res
         × Consumes (S.left source.old) (S.left source.new) taken × (length taken ≤ limit) }
 {
     let mut bytes = Vec::new(alloc);
-    let mut room = Vec::from_elem(alloc, 0, ROOM)?;
+    let mut room = zeros(alloc, ROOM)?;
     while bytes.len() <= limit {
         let wanted = piece_of(limit + 1 - bytes.len());
         if read_at_most(source, &mut bytes, &mut room, wanted)? == 0 {

@@ -1,7 +1,12 @@
 //! Rooted spanning trees of graphs.
+ghost use Rattle.std.specs.Prelude.{◌<◌};
+
 use super::{Row, ZERO_KEY, answer, are_answered_by_all};
 use std::alloc::Global;
+use std::process::Abort;
+use std::sync::Wait;
 use std::test::Fail;
+use std::thread::Threads;
 
 const TRIANGLE: &str = "p edge 3 3\ne 1 2\ne 2 3\ne 1 3\n";
 
@@ -82,20 +87,36 @@ fn trees_end_as_worked_by_hand(rt: HostRuntime) -> Result<(), Fail> {
     are_answered_by_all(&rt, rt.alloc(), &RUNS)
 }
 
-// A grid of so many rows and columns: each vertex with the one to its right and the one below.
-fn grid(alloc: Global, side: u32) -> Result<String, Fail> {
-    let side = u64::from(side);
+// Adds the edge of two vertices to a text.
+fn push_edge(text: &mut String, u: u64, v: u64) -> Result<(), Fail> {
+    write!(text, "e {u} {v}\n")?;
+    Ok(())
+}
+
+// Adds the edges of a row of a grid: from each vertex to the one at its right and the one below.
+fn push_row(text: &mut String, side: u64, row: u64) -> Result<(), Fail>
+    requires small { side < 1000 }
+    requires within { row < side }
+{
+    for column in 0..side {
+        let vertex = row * side + column + 1;
+        if column + 1 < side {
+            push_edge(text, vertex, vertex + 1)?;
+        }
+        if row + 1 < side {
+            push_edge(text, vertex, vertex + side)?;
+        }
+    }
+    Ok(())
+}
+
+// A grid of so many rows and columns.
+fn grid(alloc: Global, side: u64) -> Result<String, Fail>
+    requires { side < 1000 }
+{
     let mut text = format!(in alloc; "p edge {} 0\n", side * side)?;
     for row in 0..side {
-        for column in 0..side {
-            let vertex = row * side + column + 1;
-            if column + 1 < side {
-                write!(text, "e {vertex} {}\n", vertex + 1)?;
-            }
-            if row + 1 < side {
-                write!(text, "e {vertex} {}\n", vertex + side)?;
-            }
-        }
+        push_row(&mut text, side, row)?;
     }
     Ok(text)
 }
@@ -110,26 +131,47 @@ fn head_in(alloc: Global, text: &str, vertex: u64) -> Result<Option<u64>, Fail> 
     Ok(words.split(' ').next().and_then(|word| word.parse().ok()))
 }
 
-// The way from each vertex along the printed arrows comes to the root, in fewer steps than there
-// are vertices.
-#[test]
-fn the_arrows_of_a_sample_lead_to_the_root(rt: HostRuntime) -> Result<(), Fail> {
-    let alloc = rt.alloc();
-    for (side, root) in [(2, 1u64), (3, 5), (6, 36)] {
-        let input = grid(alloc, side)?;
-        let name = format!(in alloc; "{root}")?;
-        let words = ["tree", "--key", ZERO_KEY, "--root", name.as_str()];
-        let (status, text) = answer(&rt, alloc, &words, input.as_str())?;
-        assert_eq!(&rt; status, 0, "side {side}");
-        let text = str::from_utf8(&text)?;
-        let count = u64::from(side) * u64::from(side);
-        for vertex in 1..count + 1 {
-            let mut at = vertex;
-            for _ in 0..count {
-                at = head_in(alloc, text, at)?.unwrap_or(at);
-            }
-            assert_eq!(&rt; at, root, "from vertex {vertex} at side {side}");
-        }
+// Where the way from a vertex along the printed arrows is after so many steps.
+fn end_of_way(alloc: Global, text: &str, vertex: u64, steps: u64) -> Result<u64, Fail> {
+    let mut at = vertex;
+    for _ in 0..steps {
+        at = head_in(alloc, text, at)?.unwrap_or(at);
+    }
+    Ok(at)
+}
+
+// The way from each of so many vertices along the printed arrows comes to the root, in fewer steps
+// than there are vertices.
+fn all_lead(rt: &impl Abort, alloc: Global, text: &str, count: u64, root: u64) -> Result<(), Fail>
+    requires { count < 1000000 }
+{
+    for vertex in 1..count + 1 {
+        let at = end_of_way(alloc, text, vertex, count)?;
+        assert_eq!(rt; at, root, "from vertex {vertex} of {count}");
     }
     Ok(())
+}
+
+// The way along the arrows of a grid's tree comes to the root.
+fn grid_leads<R: Threads + Wait + Sync + Abort>(
+    rt: &R,
+    alloc: Global,
+    side: u64,
+    root: u64,
+) -> Result<(), Fail>
+    requires { side < 1000 }
+{
+    let input = grid(alloc, side)?;
+    let name = format!(in alloc; "{root}")?;
+    let words = ["tree", "--key", ZERO_KEY, "--root", name.as_str()];
+    let (status, text) = answer(rt, alloc, &words, input.as_str())?;
+    assert_eq!(rt; status, 0, "side {side}");
+    all_lead(rt, alloc, str::from_utf8(&text)?, side * side, root)
+}
+
+#[test]
+fn the_arrows_of_a_sample_lead_to_the_root(rt: HostRuntime) -> Result<(), Fail> {
+    grid_leads(&rt, rt.alloc(), 2, 1)?;
+    grid_leads(&rt, rt.alloc(), 3, 5)?;
+    grid_leads(&rt, rt.alloc(), 6, 36)
 }

@@ -13,7 +13,7 @@ loop-bytes-init g c =
       taken = subst (Consumes start start) (sym c.new-bytes.ensures.items) (Consumes-nil start);
       most = subst (λ (l : List ℕ). length l ≤ c.args.limit + 1) (sym c.new-bytes.ensures.items) (omega arith);
       later = omega arith;
-      room = c.in_ok-room.ensures.len;
+      room = c.in_ok-room.ensures;
     }
 
 pub returns-in_err-read_at_most-clause-short : goal.returns-in_err-read_at_most-clause-short
