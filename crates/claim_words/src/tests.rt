@@ -1,6 +1,8 @@
 ghost use Rattle.std.specs.Prelude.{◌≡◌, ◌<◌, length, IfOk};
 ghost use Rattle.pop_model.specs.Stacks.{variables_of};
-ghost use Rattle.claim_words.specs.Passes.{IsOf, view, count_of, marks_of};
+ghost use Rattle.claim_words.specs.Openings.{marks_in};
+ghost use Rattle.claim_words.specs.Steps.{fresh};
+ghost use Rattle.claim_words.specs.Passes.{IsOf, IsIdle, IsSole, view, count_of, marks_of, instance_of, opening_of};
 
 use crate::{Board, Claim, Closed, Pass};
 use confluence_core::{Keep, Tickets};
@@ -16,20 +18,44 @@ mod working;
 use instances::{EventRow, listed};
 use working::close_after_turns;
 
+// Compares numbers.
+fn same(rt: &impl Abort, found: u64, want: u64, what: &str)
+    ensures { found ≡ want }
+{
+    assert_eq!(rt; found, want, "{what}");
+}
+
+// Compares numbers at a place.
+fn same_at(rt: &impl Abort, found: u32, want: u32, what: &str, place: u32) {
+    assert_eq!(rt; found, want, "{what} {place}");
+}
+
 // Two variables with the entries 0, 1 each. Event 1 demands 0 of both, event 2 demands 1 of the
 // last.
 static ROWS: [&[u32]; 2] = [&[0, 1], &[0, 1]];
 
 static EVENTS: [EventRow; 2] = [(1, &[(0, 0), (1, 0)]), (2, &[(1, 1)])];
 
-// Their instance.
-fn two_events(rt: &impl Abort, alloc: Global) -> Result<Instance, Fail>
-    ensures { IfOk result (λ instance. variables_of instance.stacks ≡ 2) }
+// A board from zeros, and its first pass.
+fn started<'i>(
+    alloc: Global,
+    instance: &'i Instance,
+    keep: Keep,
+) -> Result<(Board<'i>, Pass), AllocError>
+    ensures instance { IfOk result (λ r. instance_of r.0 ≡ instance.now) }
+    ensures pass { IfOk result (λ r. IsOf r.0 r.1) }
+    ensures fresh { IfOk result (λ r. view r.1 ≡ fresh (opening_of r.0)) }
 {
-    let instance = listed(rt, alloc, &ROWS, &EVENTS)?;
-    let count = instance.stacks().count();
-    assert_eq!(rt; count, 2);
-    Ok(instance)
+    let _units = instance.units();
+    let from = Cursors::zeros(alloc, instance.stacks().count())?;
+    Board::start(alloc, instance, &from, keep)
+}
+
+// Tests that there are two variables.
+fn are_two(rt: &impl Abort, instance: &Instance)
+    ensures { variables_of instance.now.stacks ≡ 2 }
+{
+    same(rt, instance.stacks().count() as u64, 2, "variables");
 }
 
 // What a pass finds where it claims variable 0.
@@ -52,25 +78,33 @@ fn claims_of_two(
     requires known { 0 < count_of board.now }
 {
     let mut other = board.split(pass, 1);
-    assert_eq!(rt; pass.share(), 63);
-    assert_eq!(rt; other.share(), 1);
+    same(rt, pass.share() as u64, 63, "shares");
+    same(rt, other.share() as u64, 1, "shares of the other");
     let first = claim_first(board, pass)?;
     let second = claim_first(board, &mut other)?;
     Ok((first, second))
 }
 
+// Compares what a claim found.
+fn same_claim(rt: &impl Abort, found: Claim, want: Claim) {
+    assert_eq!(rt; found, want);
+}
+
 // Worked by hand: bit 63 is 9223372036854775808.
+fn second_is_busy(rt: &impl Abort, alloc: Global, instance: &Instance) -> Result<(), Fail> {
+    are_two(rt, instance);
+    let (board, mut pass) = started(alloc, instance, Keep::Log)?;
+    let (first, second) = claims_of_two(rt, &board, &mut pass)?;
+    same_claim(rt, first, Claim::Mine(0));
+    same_claim(rt, second, Claim::Busy(9223372036854775808));
+    Ok(())
+}
+
 #[test]
 fn a_claimed_variable_is_busy_for_another_pass(rt: HostRuntime) -> Result<(), Fail> {
     let alloc = rt.alloc();
-    let instance = two_events(&rt, alloc)?;
-    let from = Cursors::zeros(alloc, 2)?;
-    let _units = instance.units();
-    let (board, mut pass) = Board::start(alloc, &instance, &from, Keep::Log)?;
-    let (first, second) = claims_of_two(&rt, &board, &mut pass)?;
-    assert_eq!(&rt; first, Claim::Mine(0));
-    assert_eq!(&rt; second, Claim::Busy(9223372036854775808));
-    Ok(())
+    let instance = listed(&rt, alloc, &ROWS, &EVENTS)?;
+    second_is_busy(&rt, alloc, &instance)
 }
 
 // Whether the mark of unit 1 was there, where a pass takes it.
@@ -82,8 +116,8 @@ fn takes(board: &Board, pass: &mut Pass) -> bool
     board.take(pass, 1)
 }
 
-// Whether it was there at first, where it was taken, and where it was set again.
-fn takes_in_turn(board: &Board, pass: &mut Pass) -> (bool, bool, bool)
+// Tests that the mark is there at first, not where it was taken, and again where it was set.
+fn takes_in_turn(rt: &impl Abort, board: &Board, pass: &mut Pass)
     requires pass { IsOf board.now pass.old }
     requires listed { 1 < marks_of board.now }
 {
@@ -91,35 +125,48 @@ fn takes_in_turn(board: &Board, pass: &mut Pass) -> (bool, bool, bool)
     let second = takes(board, pass);
     board.mark(pass, 1);
     let third = takes(board, pass);
-    (first, second, third)
+    assert!(rt; first);
+    assert!(rt; !second);
+    assert!(rt; third);
+}
+
+// Tests that there are two listed events.
+fn are_two_events(rt: &impl Abort, instance: &Instance)
+    ensures { marks_in instance.now.family ≡ 2 }
+{
+    let Family::Listed(events) = instance.family() else {
+        panic!(rt; "a listed family");
+    };
+    same(rt, events.count() as u64, 2, "events");
+}
+
+// Takes and sets a mark on a board from zeros.
+fn mark_is_taken(rt: &impl Abort, alloc: Global, instance: &Instance) -> Result<(), Fail> {
+    are_two(rt, instance);
+    are_two_events(rt, instance);
+    let (board, mut pass) = started(alloc, instance, Keep::Nothing)?;
+    takes_in_turn(rt, &board, &mut pass);
+    Ok(())
 }
 
 #[test]
 fn a_mark_that_was_taken_is_gone_until_it_is_set(rt: HostRuntime) -> Result<(), Fail> {
     let alloc = rt.alloc();
-    let instance = two_events(&rt, alloc)?;
-    let from = Cursors::zeros(alloc, 2)?;
-    let _units = instance.units();
-    let Family::Listed(events) = instance.family() else {
-        return Ok(());
+    let instance = listed(&rt, alloc, &ROWS, &EVENTS)?;
+    mark_is_taken(&rt, alloc, &instance)
+}
+
+// Ends a board by its sole pass.
+fn close(rt: &impl Abort, board: Board, pass: Pass) -> Closed
+    requires pass { IsOf board pass }
+    requires sole { IsSole pass }
+    requires idle { IsIdle pass }
+    ensures { length result.cursors ≡ count_of board.entry }
+{
+    let Ok(closed) = board.close(pass) else {
+        panic!(rt; "out of memory")
     };
-    assert_eq!(&rt; events.count(), 2);
-    let (board, mut pass) = Board::start(alloc, &instance, &from, Keep::Nothing)?;
-    let (first, second, third) = takes_in_turn(&board, &mut pass);
-    assert!(&rt; first);
-    assert!(&rt; !second);
-    assert!(&rt; third);
-    Ok(())
-}
-
-// Compares numbers.
-fn same(rt: &impl Abort, found: u64, want: u64, what: &str) {
-    assert_eq!(rt; found, want, "{what}");
-}
-
-// Compares numbers at a place.
-fn same_at(rt: &impl Abort, found: u32, want: u32, what: &str, place: u32) {
-    assert_eq!(rt; found, want, "{what} {place}");
+    closed
 }
 
 // Compares what the board of two events leaves after one pop of the first.
@@ -145,13 +192,20 @@ fn is_first_ticket(rt: &impl Abort, log: &Tickets) {
 
 // Worked by hand: the first event is popped under ticket 0, and then neither is poppable, but both
 // share a variable with it and so are marked.
+fn leaves_one_ticket(rt: &impl Abort, alloc: Global, instance: &Instance) -> Result<(), Fail> {
+    are_two(rt, instance);
+    let closed = close_after_turns(rt, alloc, instance)?;
+    is_after_one_pop(rt, &closed);
+    let Some(log) = &closed.log else {
+        panic!(rt; "no log");
+    };
+    is_first_ticket(rt, log);
+    Ok(())
+}
+
 #[test]
 fn one_pop_leaves_its_ticket_and_the_marks_it_owed(rt: HostRuntime) -> Result<(), Fail> {
     let alloc = rt.alloc();
-    let instance = two_events(&rt, alloc)?;
-    let closed = close_after_turns(&rt, alloc, &instance)?;
-    is_after_one_pop(&rt, &closed);
-    let log = closed.log.expect(&rt, "a log");
-    is_first_ticket(&rt, &log);
-    Ok(())
+    let instance = listed(&rt, alloc, &ROWS, &EVENTS)?;
+    leaves_one_ticket(&rt, alloc, &instance)
 }

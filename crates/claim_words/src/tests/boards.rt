@@ -1,11 +1,11 @@
 //! Boards that threads work on together, to the end of the one-thread run.
 ghost use Rattle.std.specs.Prelude.{◌≡◌, ◌+◌, ◌<◌, ◌≤◌, length, All, IfOk, IfSome, OnOk};
 ghost use Rattle.pop_model.specs.Stacks.{variables_of};
-ghost use Rattle.claim_words.specs.Passes.{IsOf, IsIdle, IsHelper, view, instance_of};
+ghost use Rattle.claim_words.specs.Passes.{IsOf, IsIdle, IsHelper, IsSole, view, instance_of};
 
 use super::instances::{chain, tree};
 use super::working::work;
-use super::{same, same_at};
+use super::{close, same, same_at, started};
 use crate::{Board, Closed, Pass};
 use confluence_core::{End, Keep, run_first};
 use pop_instance::{Cursors, Instance};
@@ -70,6 +70,49 @@ fn take_back(rt: &impl Abort, board: &Board, pass: &mut Pass, passes: Vec<Option
     }
 }
 
+// Lets the threads work on a board.
+fn work_together<R: Threads + Abort + Sync>(
+    rt: &R,
+    alloc: Global,
+    board: &Board,
+    pass: &mut Pass,
+    instance: &Instance,
+) -> Result<(), Fail>
+    requires pass { IsOf board.now pass.old × IsIdle pass.old }
+    requires share { (view pass.old).share ≡ 64 }
+    requires instance { instance_of board.now ≡ instance.now }
+    ensures { IsOf board.now pass.new × IsIdle pass.new }
+{
+    let passes = hand_out(alloc, board, pass, THREADS)?;
+    let back = thread::map_vec(
+        rt,
+        passes,
+        &|pass: Pass| worked(alloc, board, pass, instance),
+    )?;
+    take_back(rt, board, pass, back);
+    Ok(())
+}
+
+// Works alone to the end of a board, where the pass has all shares again.
+fn work_to_end(
+    rt: &impl Abort,
+    alloc: Global,
+    board: &Board,
+    pass: &mut Pass,
+    instance: &Instance,
+) -> Result<(), Fail>
+    requires pass { IsOf board.now pass.old × IsIdle pass.old }
+    requires instance { instance_of board.now ≡ instance.now }
+    ensures pass { IsOf board.now pass.new }
+    ensures idle { OnOk result (IsIdle pass.new) }
+    ensures sole { OnOk result (IsSole pass.new) }
+{
+    let at_end = work(alloc, board, pass, instance, TURNS)?;
+    assert!(rt; at_end);
+    same(rt, pass.share() as u64, 64, "shares");
+    Ok(())
+}
+
 // Lets the threads work on a board, and then ends it alone.
 fn close_together<R: Threads + Abort + Sync>(
     rt: &R,
@@ -78,23 +121,10 @@ fn close_together<R: Threads + Abort + Sync>(
 ) -> Result<Closed, Fail>
     ensures { IfOk result (λ closed. length closed.cursors ≡ variables_of instance.now.stacks) }
 {
-    let _units = instance.units();
-    let from = Cursors::zeros(alloc, instance.stacks().count())?;
-    let (board, mut pass) = Board::start(alloc, instance, &from, Keep::Log)?;
-    let passes = hand_out(alloc, &board, &mut pass, THREADS)?;
-    let back = thread::map_vec(
-        rt,
-        passes,
-        &|pass: Pass| worked(alloc, &board, pass, instance),
-    )?;
-    take_back(rt, &board, &mut pass, back);
-    let at_end = work(alloc, &board, &mut pass, instance, TURNS)?;
-    assert!(rt; at_end);
-    assert_eq!(rt; pass.share(), 64);
-    let Ok(closed) = board.close(pass) else {
-        panic!(rt; "out of memory")
-    };
-    Ok(closed)
+    let (board, mut pass) = started(alloc, instance, Keep::Log)?;
+    work_together(rt, alloc, &board, &mut pass, instance)?;
+    work_to_end(rt, alloc, &board, &mut pass, instance)?;
+    Ok(close(rt, board, pass))
 }
 
 // Compares the cursors of so many variables.
@@ -116,6 +146,21 @@ fn pops_alike(rt: &impl Abort, closed: &Closed, pops: u64) {
     same(rt, log.len(), pops, "tickets");
 }
 
+// Compares what a board leaves with the end of the one-thread run.
+fn ends_as<R: Threads + Abort + Sync>(
+    rt: &R,
+    alloc: Global,
+    instance: &Instance,
+    end: &End,
+) -> Result<(), Fail>
+    requires { variables_of instance.now.stacks ≡ length end.now.cursors }
+{
+    let closed = close_together(rt, alloc, instance)?;
+    pops_alike(rt, &closed, end.pops);
+    cursors_alike(rt, &closed.cursors, &end.cursors, instance.stacks().count());
+    Ok(())
+}
+
 // Compares what a board left with the one-thread run: the pops that the threads made.
 fn ends_alike<R: Threads + Abort + Sync>(
     rt: &R,
@@ -123,10 +168,32 @@ fn ends_alike<R: Threads + Abort + Sync>(
     instance: &Instance,
 ) -> Result<u64, Fail> {
     let end: End = run_first(alloc, instance)?;
-    let closed = close_together(rt, alloc, instance)?;
-    pops_alike(rt, &closed, end.pops);
-    cursors_alike(rt, &closed.cursors, &end.cursors, instance.stacks().count());
+    ends_as(rt, alloc, instance, &end)?;
     Ok(end.pops)
+}
+
+// The next random instance: a chain for each even board, else a tree.
+fn instance_for(
+    rt: &impl Abort,
+    alloc: Global,
+    board: u32,
+    state: &mut u64,
+) -> Result<Instance, Fail> {
+    if board % 2 == 0 {
+        return chain(rt, alloc, state);
+    }
+    tree(rt, alloc, state)
+}
+
+// Compares the ends of the next board: its pops.
+fn board_ends_alike<R: Threads + Abort + Sync>(
+    rt: &R,
+    alloc: Global,
+    board: u32,
+    state: &mut u64,
+) -> Result<u64, Fail> {
+    let instance = instance_for(rt, alloc, board, state)?;
+    ends_alike(rt, alloc, &instance)
 }
 
 #[test]
@@ -135,12 +202,7 @@ fn threads_end_alike_on_boards_of_both_families(rt: HostRuntime) -> Result<(), F
     let mut state = 2026;
     let mut pops: u64 = 0;
     for board in 0..BOARDS {
-        let instance = if board % 2 == 0 {
-            chain(&rt, alloc, &mut state)?
-        } else {
-            tree(&rt, alloc, &mut state)?
-        };
-        let more = ends_alike(&rt, alloc, &instance)?;
+        let more = board_ends_alike(&rt, alloc, board, &mut state)?;
         pops = more.checked_add(pops).expect(&rt, "few pops");
     }
     assert!(&rt; pops > 100, "{pops} pops");

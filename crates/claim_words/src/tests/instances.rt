@@ -127,13 +127,18 @@ fn links_of(
     Ok(rows)
 }
 
+// An instance of a family over so many variables, with random stacks.
+fn over(rt: &impl Abort, state: &mut u64, count: u32, family: Family) -> Result<Instance, Fail> {
+    let stacks = stacks(rt, state, count)?;
+    Ok(Instance::new(stacks, family).expect(rt, "an instance"))
+}
+
 // A chain of up to 6 such events.
 pub(super) fn chain(rt: &impl Abort, alloc: Global, state: &mut u64) -> Result<Instance, Fail> {
     let links = 1 + below(state, 6);
     let rows = links_of(rt, alloc, state, links)?;
     let family = family(rt, alloc, rows)?;
-    let stacks = stacks(rt, state, 2 * links + 1)?;
-    Ok(Instance::new(stacks, family).expect(rt, "an instance"))
+    over(rt, state, 2 * links + 1, family)
 }
 
 // The heads of so many variables. Each has an arrow to a variable before it or to the root, and one
@@ -159,6 +164,5 @@ pub(super) fn tree(rt: &impl Abort, alloc: Global, state: &mut u64) -> Result<In
     let count = 1 + below(state, 6);
     let heads = heads(alloc, state, count)?;
     let arrows = Arrows::new(heads).expect(rt, "arrows");
-    let stacks = stacks(rt, state, count)?;
-    Ok(Instance::new(stacks, Family::Cycles(arrows)).expect(rt, "an instance"))
+    over(rt, state, count, Family::Cycles(arrows))
 }

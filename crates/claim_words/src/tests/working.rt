@@ -6,8 +6,9 @@ ghost use Rattle.pop_model.specs.Stacks.{variables_of};
 ghost use Rattle.pop_model.specs.Popping.{variables};
 ghost use Rattle.claim_words.specs.Maps.{Each};
 ghost use Rattle.claim_words.specs.Openings.{height};
-ghost use Rattle.claim_words.specs.Passes.{IsOf, IsIdle, HoldsAll, SameMarks, view, spare, count_of, marks_of, instance_of, opening_of};
+ghost use Rattle.claim_words.specs.Passes.{IsOf, IsIdle, IsSole, HoldsAll, SameMarks, view, spare, count_of, marks_of, instance_of, opening_of};
 
+use super::{close, same, started};
 use crate::board::marks_in;
 use crate::{Board, Claim, Closed, Pass};
 use confluence_core::{Keep, first_poppable};
@@ -165,8 +166,54 @@ pub(super) fn work(
     Ok(false)
 }
 
-// What a board leaves after one turn of each of two passes: the first pops, and the second claims
-// all variables, of which the first has let go, and finds nothing to pop.
+// Lets a pass that is split off work, which has one turn and finds nothing to pop, and takes it in.
+fn other_finds_none(
+    rt: &impl Abort,
+    alloc: Global,
+    board: &Board,
+    pass: &mut Pass,
+    other: Pass,
+    instance: &Instance,
+) -> Result<(), Fail>
+    requires pass { IsOf board.now pass.old × IsIdle pass.old }
+    requires other { IsOf board.now other × IsIdle other }
+    requires instance { instance_of board.now ≡ instance.now }
+    ensures pass { IsOf board.now pass.new × IsIdle pass.new }
+{
+    let mut other = other;
+    let at_end = work(alloc, board, &mut other, instance, 1)?;
+    assert!(rt; at_end);
+    if board.rejoin(pass, other).is_err() {
+        panic!(rt; "out of memory");
+    }
+    Ok(())
+}
+
+// One turn of each of two passes: the first pops, and the second claims all variables, of which the
+// first has let go, and finds nothing to pop.
+fn take_turns(
+    rt: &impl Abort,
+    alloc: Global,
+    board: &Board,
+    pass: &mut Pass,
+    instance: &Instance,
+) -> Result<(), Fail>
+    requires pass { IsOf board.now pass.old × IsIdle pass.old }
+    requires share { (view pass.old).share ≡ 64 }
+    requires instance { instance_of board.now ≡ instance.now }
+    ensures pass { IsOf board.now pass.new }
+    ensures idle { OnOk result (IsIdle pass.new) }
+    ensures sole { OnOk result (IsSole pass.new) }
+{
+    let other = board.split(pass, 1);
+    let at_end = work(alloc, board, pass, instance, 1)?;
+    assert!(rt; !at_end);
+    other_finds_none(rt, alloc, board, pass, other, instance)?;
+    same(rt, pass.share() as u64, 64, "shares");
+    Ok(())
+}
+
+// What a board leaves after such turns.
 pub(super) fn close_after_turns(
     rt: &impl Abort,
     alloc: Global,
@@ -174,19 +221,7 @@ pub(super) fn close_after_turns(
 ) -> Result<Closed, Fail>
     ensures { IfOk result (λ closed. length closed.cursors ≡ variables_of instance.now.stacks) }
 {
-    let _units = instance.units();
-    let from = Cursors::zeros(alloc, instance.stacks().count())?;
-    let (board, mut pass) = Board::start(alloc, instance, &from, Keep::Log)?;
-    let mut other = board.split(&mut pass, 1);
-    let first = work(alloc, &board, &mut pass, instance, 1)?;
-    let second = work(alloc, &board, &mut other, instance, 1)?;
-    assert_eq!(rt; (first, second), (false, true));
-    if board.rejoin(&mut pass, other).is_err() {
-        panic!(rt; "out of memory");
-    }
-    assert_eq!(rt; pass.share(), 64);
-    let Ok(closed) = board.close(pass) else {
-        panic!(rt; "out of memory")
-    };
-    Ok(closed)
+    let (board, mut pass) = started(alloc, instance, Keep::Log)?;
+    take_turns(rt, alloc, &board, &mut pass, instance)?;
+    Ok(close(rt, board, pass))
 }
