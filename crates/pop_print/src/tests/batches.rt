@@ -1,25 +1,55 @@
-use super::made::{heads, over_grid};
+ghost use Rattle.std.specs.Prelude.{IfOk};
+ghost use Rattle.pop_model.specs.Stacks.{IsKeyed};
+ghost use Rattle.pop_batch.specs.Batches.{AreEnds};
+ghost use Rattle.pop_print.specs.Ends.{IsOfGrid};
+
+use super::made::{over_grid, two_by_two};
+use super::same_text;
 use crate::{Facts, text_of_batch};
 use graph_read::Graph;
-use pop_batch::batch;
+use pop_batch::{Ends, batch};
+use pop_instance::Instance;
 use pop_stacks::StackSpec;
-use std::alloc::Global;
+use std::alloc::{AllocError, Global};
 use std::process::Abort;
 use std::test::Fail;
 use std::thread::Threads;
 
-// What is printed of the first four samples of the trees of the grid of side 2 under the key of
-// zeros. Its edges are 1 2, 1 3, 2 4 and 3 4.
-fn printed<R: Threads + Abort + Sync>(rt: &R, alloc: Global) -> Result<Vec<u8>, Fail> {
-    let heads = heads(
-        alloc,
-        &[[None, Some(2)], [None, Some(2)], [Some(0), Some(1)]],
-    )?;
-    assert!(rt; heads.len() < 9);
-    let instance = over_grid(rt, 2, StackSpec::Key([0; 32]), heads)?;
-    let ends = batch(rt, alloc, &instance, 4)?;
+// The trees of the grid of side 2 under the key of zeros. Its edges are 1 2, 1 3, 2 4 and 3 4.
+fn trees(rt: &impl Abort, alloc: Global) -> Result<Instance, Fail>
+    ensures grid { IfOk result (IsOfGrid 2) }
+    ensures keyed { IfOk result (λ i. IsKeyed i.stacks.origin) }
+{
+    let heads = two_by_two(rt, alloc)?;
+    over_grid(rt, 2, StackSpec::Key([0; 32]), heads)
+}
+
+// What is printed of four ends.
+fn text_of_ends(alloc: Global, instance: &Instance, ends: &Ends) -> Result<Vec<u8>, AllocError>
+    requires grid { IsOfGrid 2 instance.now }
+    requires ends { AreEnds instance.now 4 ends.now }
+{
     let facts = Facts::Tree(Graph::grid(alloc, 2)?, 1);
-    Ok(text_of_batch(alloc, &facts, &instance, &ends)?)
+    text_of_batch(alloc, &facts, instance, ends)
+}
+
+// What is printed of the first four samples.
+fn text_of_four<R: Threads + Abort + Sync>(
+    rt: &R,
+    alloc: Global,
+    instance: &Instance,
+) -> Result<Vec<u8>, Fail>
+    requires grid { IsOfGrid 2 instance.now }
+    requires keyed { IsKeyed instance.now.stacks.origin }
+{
+    let ends = batch(rt, alloc, instance, 4)?;
+    Ok(text_of_ends(alloc, instance, &ends)?)
+}
+
+// What is printed of the first four samples of these trees.
+fn printed<R: Threads + Abort + Sync>(rt: &R, alloc: Global) -> Result<Vec<u8>, Fail> {
+    let instance = trees(rt, alloc)?;
+    text_of_four(rt, alloc, &instance)
 }
 
 // The entries are by a ChaCha20 of its own (RFC 8439, 2.3), and the cycles were popped by hand.
@@ -57,6 +87,6 @@ pops 1
 #[test]
 fn each_sample_is_printed_behind_its_number(rt: HostRuntime) -> Result<(), Fail> {
     let bytes = printed(&rt, rt.alloc())?;
-    assert_eq!(&rt; bytes.as_slice(), TEXT);
+    same_text(&rt, &bytes, TEXT);
     Ok(())
 }
