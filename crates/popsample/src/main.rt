@@ -1,47 +1,17 @@
-//! The program `popsample`: command words and a text in, a text and a status out. `run` is the
-//! whole of it, over any source and sink; contracts see the words, the bytes that the source has
-//! left and the bytes that the sink holds.
+//! The program `popsample`: `run` of `top_call` on the words behind the program's own name, on
+//! standard input and standard output. Its tests are those of `run`, over sources and sinks in
+//! memory.
 #![tactic(auto)]
 
-mod accepted;
-mod answer;
-mod asked;
-mod batching;
-mod call;
-mod crew;
-mod formula;
-mod growing_instance;
-mod growing_stacks;
-mod instances;
-pub mod laws;
-mod making;
-mod named;
-mod names;
-mod orientation;
-mod origin;
-mod pausing;
-mod reading;
-mod refusal;
-mod replaying;
-mod reporting;
-mod resuming;
-mod rounds;
-mod running;
-mod stop;
-mod telling;
 #[cfg(test)]
 mod tests;
-mod top;
-mod tree;
-mod whole;
-mod witness;
 
 use pop_edge::{StdSink, StdSource};
 use pop_watch::{Heights, Layers, Totals, Watch};
 use pop_workers::NoGate;
 use std::env;
 use std::process::ExitCode;
-pub use top::run;
+use top_call::run;
 
 // The status where the words can't be told, as one that isn't UTF-8, or there is no memory for them
 // or for the watchers.

@@ -1,5 +1,4 @@
 //! Answers of `run`, over sources and sinks in memory.
-use crate::run;
 use pop_edge::{MemSink, MemSource};
 use pop_watch::{Heights, Layers, Totals, Watch};
 use pop_workers::{Gate, NoGate};
@@ -8,6 +7,7 @@ use std::process::Abort;
 use std::sync::Wait;
 use std::test::Fail;
 use std::thread::Threads;
+use top_call::run;
 
 mod batches;
 mod faults;

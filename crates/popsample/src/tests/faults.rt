@@ -1,12 +1,12 @@
 //! Reads and writes that fail, each in turn, and texts that are cut short.
 use super::{answer, each_kind, owned};
-use crate::run;
 use pop_edge::{MemSink, MemSource, Source};
 use pop_workers::NoGate;
 use std::alloc::Global;
 use std::sync::Wait;
 use std::test::Fail;
 use std::thread::Threads;
+use top_call::run;
 
 const WORDS: [&str; 3] = ["formula", "--stacks", "0,0,1"];
 

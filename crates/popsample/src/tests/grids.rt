@@ -3,10 +3,10 @@ use super::{
     CREWS, Row, ZERO_KEY, answer, are_answered_by_all, each_kind, is_answered, is_answered_by,
     owned,
 };
-use crate::run;
 use pop_edge::{MemSink, MemSource, Source};
 use pop_workers::NoGate;
 use std::test::Fail;
+use top_call::run;
 
 // What is printed of larger grids under the key of zeros, by a program of the definitions that has
 // nothing of this one.

@@ -1,9 +1,9 @@
 //! Runs that stop after so many pops.
 use super::{Row, are_answered, each_kind, owned};
-use crate::run;
 use pop_edge::{MemSink, MemSource};
 use pop_workers::NoGate;
 use std::test::Fail;
+use top_call::run;
 
 // Worked by hand from the definitions. The first variable has the entries 0, 0, 1, so the run of
 // its clause has two pops.

@@ -2,7 +2,6 @@
 ghost use Rattle.std.specs.Prelude.{[], ◌∷◌};
 
 use super::{each_kind, joined, owned};
-use crate::run;
 use confluence_core::Record;
 use pop_edge::{MemSink, MemSource};
 use pop_instance::Cube;
@@ -13,6 +12,7 @@ use std::sync::atomic::{AtomicU64, Ordering};
 use std::sync::{Arc, Wait};
 use std::test::Fail;
 use std::thread::Threads;
+use top_call::run;
 
 // What is printed of two pops of one clause, but for the reports. Worked by hand.
 static TWO_POPS: [&str; 3] = ["resample", "--stacks", "0,0,1"];

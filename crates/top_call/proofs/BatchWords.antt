@@ -1,0 +1,182 @@
+-- Words that ask for a number of samples. Their command is one that has batches, their entries come from a key, and
+-- nothing of a log is told: what tells of one run and what asks for many exclude each other, so one of them is never set.
+use Rattle.std.proofs.Common.{inl, inr, ◌≡◌, ℕ, ◌-◌, ◌^◌, Bool, true, false, List, Option, None, Some, refl, sym, ap, subst, ◌∙◌}
+use Rattle.std.specs.Prelude.{unwrap_or}
+use Rattle.std.proofs.lemmas.Bool.{false≢true, both_ways}
+use Rattle.std.proofs.lemmas.Option.{none-some}
+use Rattle.pop_model.specs.Stacks.{IsKeyed}
+use Rattle.pop_stacks.specs.declared.stack_spec.StackSpec.{StackSpec}
+use Rattle.pop_stacks.specs.declared.stack_spec.StackSpec.TheVariants.{Key as KeyedStacks, Given as GivenStacks}
+use Rattle.pop_stacks.specs.Tables.{origin_of}
+use Rattle.pop_words.specs.declared.command.Command.{Command}
+use Rattle.pop_words.specs.declared.command.Command.TheVariants.{Formula, Orient, Tree}
+use Rattle.pop_words.specs.declared.field.Field.{Field}
+use Rattle.pop_words.specs.declared.field.Field.TheVariants.{Stacks, Key, Height, Grow, Count, Pops, Workers, Board, Log, Root, Witness, Reports, Size}
+use Rattle.pop_words.specs.declared.job.Job.{Job}
+use Rattle.pop_words.specs.declared.reports.Reports.{Reports as ReportsOf}
+use Rattle.pop_words.specs.Values.{number_between, rows_in, key_in, board_in, switch_in, pair_in, no_reports, reports_in}
+use Rattle.pop_words.specs.Options.{command_row, value_of}
+use Rattle.pop_words.specs.CommandLines.{Asks}
+use Rattle.pop_words.proofs.GivenAlone.{asked_alone}
+use Rattle.top_call.specs.Answers.{last_height, origin_for}
+use Rattle.top_call.proofs.ApartWords.{kept, AreKinds, settled}
+
+-- the commands that have batches
+abbrev pub is_batched : Command → Bool
+is_batched Formula = true
+is_batched Orient = true
+is_batched Tree = true
+is_batched command = false
+
+-- the field is that of the number of samples
+abbrev counts : Field → Bool
+counts Count = true
+counts field = false
+
+-- the field tells of the log of one run
+abbrev tells : Field → Bool
+tells Log = true
+tells Witness = true
+tells Reports = true
+tells field = false
+
+-- what a job tells of its log
+abbrev told : Job → Bool × (Option (ℕ × ℕ) × ReportsOf)
+told job = (job.log, (job.witness, job.reports))
+
+-- what it tells unasked
+abbrev unasked : Command → Bool × (Option (ℕ × ℕ) × ReportsOf)
+unasked command = ((command_row command).log, (None, no_reports))
+
+-- each but `--count` leaves the number of samples
+keeps_count : (f : Field) (word : List ℕ) (job : Job) → counts f ≡ false
+    → (unwrap_or (value_of f word) (λ j. j) job).count ≡ job.count
+keeps_count Stacks word job other =
+    kept (λ (j : Job). j.count) (λ rows j. record j { stacks = GivenStacks rows }) (λ x j. refl) job (rows_in word)
+keeps_count Key word job other =
+    kept (λ (j : Job). j.count) (λ key j. record j { stacks = KeyedStacks key }) (λ x j. refl) job (key_in word)
+keeps_count Height word job other =
+    kept (λ (j : Job). j.count) (λ n j. record j { height = n }) (λ x j. refl) job (number_between 1 (2 ^ 31 - 1) word)
+keeps_count Grow word job other =
+    kept (λ (j : Job). j.count) (λ n j. record j { grow = Some n }) (λ x j. refl) job (number_between 1 (2 ^ 31 - 1) word)
+keeps_count Count word job other = absurd (false≢true (sym other))
+keeps_count Pops word job other =
+    kept (λ (j : Job). j.count) (λ n j. record j { pops = Some n }) (λ x j. refl) job (number_between 1 (2 ^ 32 - 1) word)
+keeps_count Workers word job other =
+    kept (λ (j : Job). j.count) (λ n j. record j { workers = n }) (λ x j. refl) job (number_between 1 64 word)
+keeps_count Board word job other =
+    kept (λ (j : Job). j.count) (λ b j. record j { board = b }) (λ x j. refl) job (board_in word)
+keeps_count Log word job other =
+    kept (λ (j : Job). j.count) (λ log j. record j { log = log }) (λ x j. refl) job (switch_in word)
+keeps_count Root word job other =
+    kept (λ (j : Job). j.count) (λ n j. record j { root = n }) (λ x j. refl) job (number_between 1 (2 ^ 32 - 1) word)
+keeps_count Witness word job other =
+    kept (λ (j : Job). j.count) (λ pair j. record j { witness = Some pair }) (λ x j. refl) job (pair_in word)
+keeps_count Reports word job other =
+    kept (λ (j : Job). j.count) (λ kinds j. record j { reports = kinds }) (λ x j. refl) job (reports_in word)
+keeps_count Size word job other =
+    kept (λ (j : Job). j.count) (λ n j. record j { size = n }) (λ x j. refl) job (number_between 1 2048 word)
+
+-- each that tells nothing leaves what is told
+keeps_told : (f : Field) (word : List ℕ) (job : Job) → tells f ≡ false
+    → told (unwrap_or (value_of f word) (λ j. j) job) ≡ told job
+keeps_told Stacks word job other =
+    kept told (λ rows j. record j { stacks = GivenStacks rows }) (λ x j. refl) job (rows_in word)
+keeps_told Key word job other =
+    kept told (λ key j. record j { stacks = KeyedStacks key }) (λ x j. refl) job (key_in word)
+keeps_told Height word job other =
+    kept told (λ n j. record j { height = n }) (λ x j. refl) job (number_between 1 (2 ^ 31 - 1) word)
+keeps_told Grow word job other =
+    kept told (λ n j. record j { grow = Some n }) (λ x j. refl) job (number_between 1 (2 ^ 31 - 1) word)
+keeps_told Count word job other =
+    kept told (λ n j. record j { count = Some n }) (λ x j. refl) job (number_between 1 65536 word)
+keeps_told Pops word job other =
+    kept told (λ n j. record j { pops = Some n }) (λ x j. refl) job (number_between 1 (2 ^ 32 - 1) word)
+keeps_told Workers word job other =
+    kept told (λ n j. record j { workers = n }) (λ x j. refl) job (number_between 1 64 word)
+keeps_told Board word job other = kept told (λ b j. record j { board = b }) (λ x j. refl) job (board_in word)
+keeps_told Log word job other = absurd (false≢true (sym other))
+keeps_told Root word job other =
+    kept told (λ n j. record j { root = n }) (λ x j. refl) job (number_between 1 (2 ^ 32 - 1) word)
+keeps_told Witness word job other = absurd (false≢true (sym other))
+keeps_told Reports word job other = absurd (false≢true (sym other))
+keeps_told Size word job other =
+    kept told (λ n j. record j { size = n }) (λ x j. refl) job (number_between 1 2048 word)
+
+-- `--count` tells nothing
+counts_no_telling : (f : Field) → counts f ≡ true → tells f ≡ false
+counts_no_telling Count is = refl
+counts_no_telling f is = absurd (false≢true is)
+
+-- it has commands with batches alone, and excludes what tells
+count_or_told : AreKinds counts tells (λ (j : Job). j.count) told is_batched
+count_or_told = record {
+  leaves = keeps_count;
+  others_leave = keeps_told;
+  apart = counts_no_telling;
+  all_fit = refl;
+  all_keep_out = refl;
+}
+
+-- where a number of samples is asked for, the command has batches, and nothing is told of a log
+record IsOfBatch (job : Job) : Type 0 where
+  batched : is_batched job.command ≡ true
+  quiet : told job ≡ unasked job.command
+
+of_batch : (words : List (List ℕ)) (job : Job) → Asks words job → (count : ℕ) → job.count ≡ Some count → IsOfBatch job
+of_batch words job asks count is =
+    elim (settled counts tells (λ (j : Job). j.count) told is_batched count_or_told words job asks) [
+      | inl none ↦ absurd (none-some count (sym none ∙ is))
+      | inr (batched, quiet) ↦ record { batched = batched; quiet = quiet }
+    ]
+
+-- the command of such words has batches
+pub counted_command : (words : List (List ℕ)) (job : Job) → Asks words job → (count : ℕ) → job.count ≡ Some count
+    → is_batched job.command ≡ true
+counted_command words job asks count is = (of_batch words job asks count is).batched
+
+-- so of another command there is one sample
+pub uncounted : (words : List (List ℕ)) (job : Job) → Asks words job → is_batched job.command ≡ false
+    → job.count ≡ None
+uncounted words job asks other = by_count job.count refl
+  where
+    by_count : (count : Option ℕ) → job.count ≡ count → job.count ≡ None
+    by_count None is = is
+    by_count (Some n) is = absurd (both_ways (is_batched job.command) other (counted_command words job asks n is))
+
+-- nothing is told of a log
+pub record IsQuiet (job : Job) : Type 0 where
+  pub log : job.log ≡ false
+  pub witness : job.witness ≡ None
+  pub reports : job.reports ≡ no_reports
+
+-- so it is where no log, no witness and no report is told
+quiet_parts : (job : Job) → told job ≡ (false, (None, no_reports)) → IsQuiet job
+quiet_parts job quiet = record {
+  log = ap (λ (p : Bool × (Option (ℕ × ℕ) × ReportsOf)). p.0) quiet;
+  witness = ap (λ (p : Bool × (Option (ℕ × ℕ) × ReportsOf)). p.1.0) quiet;
+  reports = ap (λ (p : Bool × (Option (ℕ × ℕ) × ReportsOf)). p.1.1) quiet;
+}
+
+-- a command that has batches tells no log unasked
+quiet_by : (command : Command) (job : Job) → is_batched command ≡ true → told job ≡ unasked command → IsQuiet job
+quiet_by Formula job is quiet = quiet_parts job quiet
+quiet_by Orient job is quiet = quiet_parts job quiet
+quiet_by Tree job is quiet = quiet_parts job quiet
+quiet_by command job is quiet = absurd (false≢true is)
+
+-- so it is where a number of samples is asked for
+pub counted_quiet : (words : List (List ℕ)) (job : Job) → Asks words job → (count : ℕ) → job.count ≡ Some count
+    → IsQuiet job
+counted_quiet words job asks count is =
+    let of = of_batch words job asks count is in quiet_by job.command job of.batched of.quiet
+
+-- and the entries come from a key
+pub counted_keyed : (words : List (List ℕ)) (job : Job) → Asks words job → (count : ℕ) → job.count ≡ Some count
+    → IsKeyed (origin_for job)
+counted_keyed words job asks count is = by_stacks job.stacks refl
+  where
+    by_stacks : (spec : StackSpec) → job.stacks ≡ spec → IsKeyed (origin_of job.stacks (last_height job))
+    by_stacks (GivenStacks rows) from =
+        absurd (none-some count (sym (asked_alone words job asks rows from).1 ∙ is))
+    by_stacks (KeyedStacks key) from = subst (λ s. IsKeyed (origin_of s (last_height job))) (sym from) tt

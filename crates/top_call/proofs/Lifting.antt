@@ -1,0 +1,256 @@
+-- From what comes of a formula or a graph to what comes of its text, and from there to what comes of the words.
+use Rattle.std.proofs.Common.{inl, inr, ◌≡◌, ◌⊎◌, ℕ, true, false, List, Option, Some, Result, Ok, refl, sym, ap, subst, ◌∙◌}
+use Rattle.pop_model.specs.Stacks.{Origin}
+use Rattle.pop_edge.specs.declared.refusal.ReadRefusal.{ReadRefusal}
+use Rattle.pop_edge.specs.declared.refusal.ReadRefusal.TheVariants.{Malformed as MalformedLine, Count as WrongCount, EmptyClause as NoLiteral, Limit as PassedLimit}
+use Rattle.dimacs_read.specs.Cnf.{Cnf}
+use Rattle.dimacs_read.specs.CnfText.{AnswersCnf}
+use Rattle.graph_read.specs.Graphs.{GraphOf}
+use Rattle.graph_read.specs.GraphText.{AnswersGraph}
+use Rattle.pop_words.specs.declared.command.Command.{Command}
+use Rattle.pop_words.specs.declared.command.Command.TheVariants.{Formula, Orient, Tree, Resample, Check, Make, Rounds, Replay, Resume}
+use Rattle.pop_words.specs.declared.job.Job.{Job}
+use Rattle.pop_words.specs.CommandLines.{Asks}
+use Rattle.pop_words.proofs.OneJob.{same_job}
+use Rattle.pop_watch.specs.Telling.{Watcher}
+use Rattle.pop_model.specs.Instances.{Instance}
+use Rattle.pop_log.specs.Layers.{Placed}
+use Rattle.run_cert.specs.declared.look_kind.Look.{Look}
+use Rattle.pop_print.specs.declared.facts.Facts.{Facts}
+use Rattle.pop_print.specs.declared.facts.Facts.TheVariants.{Formula as FormulaFacts}
+use Rattle.top_call.specs.declared.answer.Answer.{Answer}
+use Rattle.top_call.specs.declared.asked.Asked.{Asked}
+use Rattle.top_call.specs.declared.stop.Stop.TheVariants.{ReadFault, OutOfMemory}
+use Rattle.top_call.specs.declared.refusal.Refusal.{Refusal}
+use Rattle.top_call.specs.declared.refusal.Refusal.TheVariants.{Malformed, Count, EmptyClause, Limit, Stopped}
+use Rattle.top_call.specs.Outcomes.{Outcome}
+use Rattle.top_call.specs.Outcomes.Outcome.{Usage, Unread, Isolated, NoRoot, CutOff, TooMany, Unsound, Clashes, Extremal, Ended, Resampled, Rounded, Batched, Paused, Replayed, NotLegal}
+use Rattle.top_call.specs.Results.{ComesRefused, IsResultOf, IsRefusalOf}
+use Rattle.top_call.specs.Sampling.{pair_weights, ComesOfSampling}
+use Rattle.top_call.specs.Formulas.{ComesOfFormula, ComesOfChecking}
+use Rattle.top_call.specs.Resamplings.{RunsFormula, ComesOfResampling}
+use Rattle.top_call.specs.Rounds.{ComesOfRounds}
+use Rattle.top_call.specs.Orientations.{ComesOfOrienting}
+use Rattle.top_call.specs.Trees.{ComesOfTree}
+use Rattle.top_call.specs.Grids.{ComesOfGrid}
+use Rattle.top_call.specs.Answers.{ComesOfCnf, ComesOfGraph, origin_for, has_free_order, asked_by, ComesOfCommand, Refuses, ComesOf, ComesBy, IsOutcome, AskForGrid, IsInput}
+use Rattle.top_call.proofs.Carrying.{carried}
+use Rattle.top_call.proofs.ByCommand.{no_bad_word}
+
+-- no command finds fault with the words
+no_usage : (command : Command) (job : Job) (ws : List Watcher) (text : List ℕ) (place : ℕ)
+    → ComesOfCommand command job ws text (Usage place) → ⊥
+no_usage Formula job ws text place h = h.comes.1.end
+no_usage Orient job ws text place h = h.comes.1.1.end
+no_usage Tree job ws text place h = h.comes.2.1
+no_usage Resample job ws text place h = h.comes.1.history
+no_usage Check job ws text place h = h.comes
+no_usage Make job ws text place h = h.1
+no_usage Rounds job ws text place h = h.comes.1.end
+no_usage Replay job ws text place h = h
+no_usage Resume job ws text place h = h
+
+-- nor, once the text is read, with the text
+no_refusal : (command : Command) (job : Job) (ws : List Watcher) (text : List ℕ) (refusal : ReadRefusal)
+    → ComesOfCommand command job ws text (Unread refusal) → ⊥
+no_refusal Formula job ws text refusal h = h.comes.1.end
+no_refusal Orient job ws text refusal h = h.comes.1.1.end
+no_refusal Tree job ws text refusal h = h.comes.2.1
+no_refusal Resample job ws text refusal h = h.comes.1.history
+no_refusal Check job ws text refusal h = h.comes
+no_refusal Make job ws text refusal h = h.1
+no_refusal Rounds job ws text refusal h = h.comes.1.end
+no_refusal Replay job ws text refusal h = h
+no_refusal Resume job ws text refusal h = h
+
+-- nor does it stop a run
+no_pause : (command : Command) (job : Job) (ws : List Watcher) (text : List ℕ) (told : Job) (input : List ℕ)
+    (facts : Facts) (i : Instance) (placed : List Placed)
+    → ComesOfCommand command job ws text (Paused told input facts i placed) → ⊥
+no_pause Formula job ws text told input facts i placed h = h.comes.1.end
+no_pause Orient job ws text told input facts i placed h = h.comes.1.1.end
+no_pause Tree job ws text told input facts i placed h = h.comes.2.1
+no_pause Resample job ws text told input facts i placed h = h.comes.1.history
+no_pause Check job ws text told input facts i placed h = h.comes
+no_pause Make job ws text told input facts i placed h = h.1
+no_pause Rounds job ws text told input facts i placed h = h.comes.1.end
+no_pause Replay job ws text told input facts i placed h = h
+no_pause Resume job ws text told input facts i placed h = h
+
+-- nor does it replay a log
+pub no_replay : (command : Command) (job : Job) (ws : List Watcher) (text : List ℕ) (i : Instance) (c : List ℕ)
+    (n : ℕ) (k : Look) → ComesOfCommand command job ws text (Replayed i c n k) → ⊥
+no_replay Formula job ws text i c n k h = h.comes.1.end
+no_replay Orient job ws text i c n k h = h.comes.1.1.end
+no_replay Tree job ws text i c n k h = h.comes.2.1
+no_replay Resample job ws text i c n k h = h.comes.1.history
+no_replay Check job ws text i c n k h = h.comes
+no_replay Make job ws text i c n k h = h.1
+no_replay Rounds job ws text i c n k h = h.comes.1.end
+no_replay Replay job ws text i c n k h = h
+no_replay Resume job ws text i c n k h = h
+
+-- what a job's command makes of a text comes of the job and the text
+pub of_command : (job : Job) (ws : List Watcher) (text : List ℕ) (o : Outcome)
+    → ComesOfCommand job.command job ws text o → ComesOf job ws text o
+of_command job ws text (Usage p) h =
+    absurd (no_usage job.command job ws text p h)
+of_command job ws text (Unread r) h =
+    absurd (no_refusal job.command job ws text r h)
+of_command job ws text (Isolated w) h = h
+of_command job ws text (NoRoot r) h = h
+of_command job ws text (CutOff w) h = h
+of_command job ws text (TooMany n) h = h
+of_command job ws text (Unsound t f) h = h
+of_command job ws text (Clashes i j) h = h
+of_command job ws text (Extremal n) h = h
+of_command job ws text (Ended t i c n s a) h = h
+of_command job ws text (Resampled t i l s a) h = h
+of_command job ws text (Rounded t i c n s v) h = h
+of_command job ws text (Batched t i es) h = h
+of_command job ws text (Paused j w t i l) h = absurd (no_pause job.command job ws text j w t i l h)
+of_command job ws text (Replayed i c n k) h = h
+of_command job ws text (NotLegal p) h = h
+
+-- what comes of a job comes of the words that ask for it
+pub of_words : (words : List (List ℕ)) (job : Job) (ws : List Watcher) (text : List ℕ) → Asks words job → (o : Outcome)
+    → ComesBy job.command job ws text o → IsOutcome words ws text o
+of_words words job ws text asks (Usage p) comes = absurd (no_bad_word job.command job ws text p comes)
+of_words words job ws text asks (Unread refusal) comes = record { job = job; asks = asks; comes = comes }
+of_words words job ws text asks (Isolated w) comes = record { job = job; asks = asks; comes = comes }
+of_words words job ws text asks (NoRoot r) comes = record { job = job; asks = asks; comes = comes }
+of_words words job ws text asks (CutOff w) comes = record { job = job; asks = asks; comes = comes }
+of_words words job ws text asks (TooMany n) comes = record { job = job; asks = asks; comes = comes }
+of_words words job ws text asks (Unsound t f) comes = record { job = job; asks = asks; comes = comes }
+of_words words job ws text asks (Clashes i j) comes = record { job = job; asks = asks; comes = comes }
+of_words words job ws text asks (Extremal n) comes = record { job = job; asks = asks; comes = comes }
+of_words words job ws text asks (Ended t i c n s a) comes = record { job = job; asks = asks; comes = comes }
+of_words words job ws text asks (Resampled t i l s a) comes = record { job = job; asks = asks; comes = comes }
+of_words words job ws text asks (Rounded t i c n s v) comes = record { job = job; asks = asks; comes = comes }
+of_words words job ws text asks (Batched t i es) comes = record { job = job; asks = asks; comes = comes }
+of_words words job ws text asks (Paused j w t i l) comes = record { job = job; asks = asks; comes = comes }
+of_words words job ws text asks (Replayed i c n k) comes = record { job = job; asks = asks; comes = comes }
+of_words words job ws text asks (NotLegal p) comes = record { job = job; asks = asks; comes = comes }
+
+-- what a command makes of a text is what the job's command makes
+pub by_command : (job : Job) (ws : List Watcher) (text : List ℕ) (command : Command) → job.command ≡ command → (o : Outcome)
+    → ComesOfCommand command job ws text o → ComesOf job ws text o
+by_command job ws text command is o h =
+    of_command job ws text o (subst (λ k. ComesOfCommand k job ws text o) (sym is) h)
+
+-- the result of the formula that a text spells is that of the job and the text
+of_cnf : (job : Job) (ws : List Watcher) (text : List ℕ) (command : Command) (f : Cnf) (Comes : Cnf → Outcome → Type 0)
+    (r : Result Answer Refusal) → job.command ≡ command
+    → ((o : Outcome) → ComesOfCnf Comes text o → ComesOfCommand command job ws text o) → AnswersCnf text (Ok f)
+    → IsResultOf (Comes f) r → IsResultOf (ComesOf job ws text) r
+of_cnf job ws text command f Comes r is lifts spelled =
+    carried (Comes f) (ComesOf job ws text) r
+    (λ o h. by_command job ws text command is o (lifts o (record { formula = f; spelled = spelled; comes = h })))
+
+-- and that of the graph that it spells
+of_graph : (job : Job) (ws : List Watcher) (text : List ℕ) (command : Command) (g : GraphOf)
+    (Comes : GraphOf → Outcome → Type 0) (r : Result Answer Refusal) → job.command ≡ command
+    → ((o : Outcome) → ComesOfGraph Comes text o → ComesOfCommand command job ws text o) → AnswersGraph text (Ok g)
+    → IsResultOf (Comes g) r → IsResultOf (ComesOf job ws text) r
+of_graph job ws text command g Comes r is lifts spelled =
+    carried (Comes g) (ComesOf job ws text) r
+    (λ o h. by_command job ws text command is o (lifts o (record { graph = g; spelled = spelled; comes = h })))
+
+-- The results of the commands, with the origin and what is asked for as the job has them.
+pub lifted_formula : (job : Job) (ws : List Watcher) (text : List ℕ) (f : Cnf) (origin : Origin) (asked : Asked)
+    (r : Result Answer Refusal) → job.command ≡ Formula → origin ≡ origin_for job → asked ≡ asked_by job
+    → AnswersCnf text (Ok f)
+    → IsResultOf (ComesOfSampling (FormulaFacts f.variables) origin (pair_weights f.variables) asked.count
+    (RunsFormula false origin asked ws f)) r → IsResultOf (ComesOf job ws text) r
+lifted_formula job ws text f origin asked r is from asked_is spelled comes =
+    of_cnf job ws text Formula f (ComesOfFormula (origin_for job) (asked_by job) ws) r is (λ o h. h) spelled
+    (subst (λ s. IsResultOf (ComesOfFormula s (asked_by job) ws f) r) from
+    (subst (λ a. IsResultOf (ComesOfFormula origin a ws f) r) asked_is comes))
+
+-- of a formula that is resampled
+pub lifted_resample : (job : Job) (ws : List Watcher) (text : List ℕ) (f : Cnf) (origin : Origin) (asked : Asked)
+    (r : Result Answer Refusal) → job.command ≡ Resample → origin ≡ origin_for job → asked ≡ asked_by job
+    → AnswersCnf text (Ok f)
+    → IsResultOf (ComesOfSampling (FormulaFacts f.variables) origin (pair_weights f.variables) asked.count
+    (RunsFormula true origin asked ws f)) r → IsResultOf (ComesOf job ws text) r
+lifted_resample job ws text f origin asked r is from asked_is spelled comes =
+    of_cnf job ws text Resample f (ComesOfResampling (origin_for job) (asked_by job) ws) r is (λ o h. h) spelled
+    (subst (λ s. IsResultOf (ComesOfResampling s (asked_by job) ws f) r) from
+    (subst (λ a. IsResultOf (ComesOfResampling origin a ws f) r) asked_is comes))
+
+-- of one that is sampled by rounds
+pub lifted_rounds : (job : Job) (ws : List Watcher) (text : List ℕ) (f : Cnf) (origin : Origin)
+    (r : Result Answer Refusal) → job.command ≡ Rounds → origin ≡ origin_for job → AnswersCnf text (Ok f)
+    → IsResultOf (ComesOfRounds origin f) r → IsResultOf (ComesOf job ws text) r
+lifted_rounds job ws text f origin r is from spelled comes =
+    of_cnf job ws text Rounds f (ComesOfRounds (origin_for job)) r is (λ o h. h) spelled
+    (subst (λ s. IsResultOf (ComesOfRounds s f) r) from comes)
+
+-- of one that is checked
+pub lifted_check : (job : Job) (ws : List Watcher) (text : List ℕ) (f : Cnf) (r : Result Answer Refusal)
+    → job.command ≡ Check → AnswersCnf text (Ok f) → IsResultOf (ComesOfChecking f) r
+    → IsResultOf (ComesOf job ws text) r
+lifted_check job ws text f r is spelled comes =
+    of_cnf job ws text Check f ComesOfChecking r is (λ o h. h) spelled comes
+
+-- of a graph that is oriented
+pub lifted_orient : (job : Job) (ws : List Watcher) (text : List ℕ) (g : GraphOf) (origin : Origin) (asked : Asked)
+    (r : Result Answer Refusal) → job.command ≡ Orient → origin ≡ origin_for job → asked ≡ asked_by job
+    → AnswersGraph text (Ok g) → IsResultOf (ComesOfOrienting origin asked ws g) r → IsResultOf (ComesOf job ws text) r
+lifted_orient job ws text g origin asked r is from asked_is spelled comes =
+    of_graph job ws text Orient g (ComesOfOrienting (origin_for job) (asked_by job) ws) r is (λ o h. h) spelled
+    (subst (λ s. IsResultOf (ComesOfOrienting s (asked_by job) ws g) r) from
+    (subst (λ a. IsResultOf (ComesOfOrienting origin a ws g) r) asked_is comes))
+
+-- of one of which a tree is asked
+pub lifted_tree : (job : Job) (ws : List Watcher) (text : List ℕ) (g : GraphOf) (origin : Origin) (asked : Asked)
+    (r : Result Answer Refusal) → job.command ≡ Tree → origin ≡ origin_for job → asked ≡ asked_by job
+    → AnswersGraph text (Ok g) → IsResultOf (ComesOfTree origin asked ws job.root g) r
+    → IsResultOf (ComesOf job ws text) r
+lifted_tree job ws text g origin asked r is from asked_is spelled comes =
+    of_graph job ws text Tree g (ComesOfTree (origin_for job) (asked_by job) ws job.root) r is (λ o h. h) spelled
+    (subst (λ s. IsResultOf (ComesOfTree s (asked_by job) ws job.root g) r) from
+    (subst (λ a. IsResultOf (ComesOfTree origin a ws job.root g) r) asked_is comes))
+
+-- of a grid
+pub lifted_grid : (job : Job) (ws : List Watcher) (text : List ℕ) (origin : Origin) (asked : Asked)
+    (r : Result Answer Refusal) → job.command ≡ Make → origin ≡ origin_for job → asked ≡ asked_by job
+    → IsResultOf (ComesOfGrid origin asked ws job.size) r → IsResultOf (ComesOf job ws text) r
+lifted_grid job ws text origin asked r is from asked_is comes =
+    carried (ComesOfGrid (origin_for job) (asked_by job) ws job.size) (ComesOf job ws text) r
+    (by_command job ws text Make is)
+    (subst (λ s. IsResultOf (ComesOfGrid s (asked_by job) ws job.size) r) from
+    (subst (λ a. IsResultOf (ComesOfGrid origin a ws job.size) r) asked_is comes))
+
+-- a refusal of a text, which the grammar of a job's command refuses so, comes of the job and the text
+pub read_refused : (job : Job) (ws : List Watcher) (text : List ℕ) (Refused : ReadRefusal → Type 0) (r : Refusal)
+    → ((cause : ReadRefusal) → Refused cause → Refuses job.command text cause) → IsRefusalOf Refused r
+    → (r ≡ Stopped ReadFault → ⊥) → ComesRefused (ComesOf job ws text) r
+read_refused job ws text Refused (Malformed l c) refuses h read = (tt, refuses (MalformedLine l c) h)
+read_refused job ws text Refused (Count d f) refuses h read = (tt, refuses (WrongCount d f) h)
+read_refused job ws text Refused (EmptyClause n) refuses h read = (tt, refuses (NoLiteral n) h)
+read_refused job ws text Refused (Limit k l) refuses h read = (tt, refuses (PassedLimit k l) h)
+read_refused job ws text Refused (Stopped ReadFault) refuses h read = absurd (read refl)
+read_refused job ws text Refused (Stopped OutOfMemory) refuses h read = refl
+read_refused job ws text Refused r refuses h read = absurd h
+
+-- a refusal by the grammar of a command is one by that of a job whose command it is
+pub refuses_as : (job : Job) (command : Command) (text : List ℕ) → job.command ≡ command → (cause : ReadRefusal)
+    → Refuses command text cause → Refuses job.command text cause
+refuses_as job command text is cause h = subst (λ k. Refuses k text cause) (sym is) h
+
+-- whether the order of pops is free goes by the command
+pub free_by : (job : Job) (asked : Asked) (command : Command) → asked ≡ asked_by job → job.command ≡ command
+    → asked.free ≡ has_free_order command
+free_by job asked command asked_is is = ap (λ (a : Asked). a.free) asked_is ∙ ap has_free_order is
+
+-- The input of words that ask for a job is what the source has left, or the job is that of a grid.
+pub input_of_job : (words : List (List ℕ)) (job : Job) (left : Option (List ℕ)) (text : List ℕ) → Asks words job
+    → IsInput words left text → (left ≡ Some text) ⊎ (job.command ≡ Make)
+input_of_job words job left text asks (inl known) = inl known
+input_of_job words job left text asks (inr (other, asks', make)) =
+    inr (ap (λ (j : Job). j.command) (same_job words job other asks asks') ∙ make)
+
+-- the job of words that ask for a grid is that of a grid
+pub grid_job : (words : List (List ℕ)) (job : Job) → Asks words job → AskForGrid words → job.command ≡ Make
+grid_job words job asks (other, asks', make) = ap (λ (j : Job). j.command) (same_job words job other asks asks') ∙ make

@@ -1,0 +1,217 @@
+-- From the run of what is made to what comes of the job: its end, or its pause.
+use Rattle.std.proofs.Common.{inl, inr, ◌≡◌, ◌≢◌, ◌≤◌, ◌<◌, ℕ, true, false, List, length, None, Some, Result, Ok, Err, IfOk, refl, sym, ap, subst, ◌∙◌}
+use Rattle.std.proofs.Math.Nat.{eq-or-lt_of_le}
+use Rattle.pop_model.specs.Instances.{Instance, IsInstance}
+use Rattle.pop_model.specs.Logs.{LogRecord, IsLegal, replay}
+use Rattle.pop_model.specs.Runs.{start_of}
+use Rattle.pop_log.specs.Layers.{Placed}
+use Rattle.pop_log.specs.Layered.{AreSorted}
+use Rattle.pop_log.proofs.UnitEvents.{HaveCubes, family_cubes}
+use Rattle.pop_log.proofs.LayeredLaws.{layered_is_legal, placed_in_layers}
+use Rattle.pop_model.specs.Runs.{IsEnd, IsFirstEnd}
+use Rattle.pop_model.proofs.FirstRun.{FirstRunOf, first_run}
+use Rattle.run_cert.specs.declared.part.Part.{Part}
+use Rattle.run_cert.specs.declared.look_kind.Look.TheVariants.{Open}
+use Rattle.run_cert.specs.Looks.{HasPoppable, IsSoFar, IsStopped}
+use Rattle.pop_model.specs.Extremal.{IsExtremal}
+use Rattle.pop_words.specs.declared.command.Command.{Command}
+use Rattle.pop_words.specs.declared.command.Command.TheVariants.{Formula, Orient, Tree, Resample}
+use Rattle.pop_words.specs.declared.job.Job.{Job}
+use Rattle.pop_watch.specs.Telling.{Watcher}
+use Rattle.pop_print.specs.declared.facts.Facts.{Facts}
+use Rattle.top_call.specs.declared.asked.Asked.{Asked}
+use Rattle.top_call.specs.Outcomes.{Outcome, AnswersBy}
+use Rattle.top_call.specs.Outcomes.Outcome.{Paused}
+use Rattle.top_call.specs.Tellings.{records_of}
+use Rattle.top_call.specs.Sampling.{IsEndOf}
+use Rattle.top_call.specs.Resamplings.{IsHistoryOf}
+use Rattle.top_call.specs.Made.{IsMadeFormula, IsMadeOrientation, IsMadeTree, IsMade}
+use Rattle.top_call.specs.Pauses.{IsPause, IsPausedAt}
+use Rattle.top_call.specs.Answers.{origin_for, has_free_order, asked_by, ComesOf, IsJobOf}
+use Rattle.top_call.specs.declared.answer.Answer.{Answer}
+use Rattle.top_call.specs.declared.refusal.Refusal.{Refusal}
+use Rattle.top_call.specs.Results.{ComesRefused, IsResultOf}
+use Rattle.std.specs.Result.{IsErrAnd}
+use Rattle.pop_model.specs.Stacks.{Origin}
+use Rattle.top_call.proofs.Carrying.{answered, refused_result}
+use Rattle.top_call.proofs.Lifting.{by_command, free_by}
+use Rattle.top_call.proofs.FormulaRuns.{formula_ends, formula_histories}
+use Rattle.top_call.proofs.GoodForms.{orientation_ends, tree_ends}
+use Rattle.top_call.proofs.ToldRuns.{placed_size}
+use Rattle.top_call.proofs.MadeExtremal.{made_extremal}
+
+-- the end of the run of what is made comes of the job, where the order of pops isn't free
+pub end_comes : (command : Command) (job : Job) (ws : List Watcher) (text : List ℕ) (facts : Facts) (i : Instance)
+    → job.command ≡ command → command ≢ Resample → job.count ≡ None
+    → IsMade command (origin_for job) job.root text facts i → (o : Outcome) → IsEndOf (asked_by job) ws facts i o
+    → ComesOf job ws text o
+end_comes Formula job ws text facts i is ordered once made o end =
+    by_command job ws text Formula is o (record {
+      formula = made.formula;
+      spelled = made.spelled;
+      comes = formula_ends (origin_for job) (asked_by job) ws made.formula facts i
+          (subst (λ n. IsMadeFormula false (origin_for job) n made.formula facts i) (sym once) made.made) o end;
+    })
+end_comes Orient job ws text facts i is ordered once made o end =
+    by_command job ws text Orient is o (record {
+      graph = made.graph;
+      spelled = made.spelled;
+      comes = orientation_ends (origin_for job) (asked_by job) ws made.graph facts i
+          (subst (λ n. IsMadeOrientation (origin_for job) n made.graph facts i) (sym once) made.made) o end;
+    })
+end_comes Tree job ws text facts i is ordered once made o end =
+    by_command job ws text Tree is o (record {
+      graph = made.graph;
+      spelled = made.spelled;
+      comes = tree_ends (origin_for job) (asked_by job) ws job.root made.graph facts i
+          (subst (λ n. IsMadeTree (origin_for job) n job.root made.graph facts i) (sym once) made.made) o end;
+    })
+end_comes Resample job ws text facts i is ordered once made o end = absurd (ordered refl)
+end_comes command job ws text facts i is ordered once made o end = absurd made
+
+-- and its history, where it is
+pub history_comes : (job : Job) (ws : List Watcher) (text : List ℕ) (facts : Facts) (i : Instance)
+    → job.command ≡ Resample → job.count ≡ None → IsMade Resample (origin_for job) job.root text facts i
+    → (o : Outcome) → IsHistoryOf (asked_by job) ws facts i o → ComesOf job ws text o
+history_comes job ws text facts i is once made o history =
+    by_command job ws text Resample is o (record {
+      formula = made.formula;
+      spelled = made.spelled;
+      comes = formula_histories (origin_for job) (asked_by job) ws made.formula facts i
+          (subst (λ n. IsMadeFormula true (origin_for job) n made.formula facts i) (sym once) made.made) o history;
+    })
+
+-- so the answer that tells the end
+ordered_comes : (command : Command) → command ≢ Resample → has_free_order command ≡ false → (job : Job)
+    (ws : List Watcher) (text : List ℕ) (facts : Facts) (i : Instance) (asked : Asked) (status : ℕ) (out : List ℕ)
+    → job.command ≡ command → asked ≡ asked_by job → job.count ≡ None
+    → IsMade command (origin_for job) job.root text facts i
+    → (asked.free ≡ false → asked.count ≡ None → IsExtremal i.family → AnswersBy (IsEndOf asked ws facts i) status out)
+    → AnswersBy (ComesOf job ws text) status out
+ordered_comes command ordered free job ws text facts i asked status out is asks once made ended =
+    answered (IsEndOf (asked_by job) ws facts i) (ComesOf job ws text) status out
+    (end_comes command job ws text facts i is ordered once made)
+    (subst (λ a. AnswersBy (IsEndOf a ws facts i) status out) asks
+    (ended (free_by job asked command asks is ∙ free) (ap (λ (a : Asked). a.count) asks ∙ once)
+    (made_extremal command (origin_for job) job.root text facts i ordered made)))
+
+pub ended_comes : (command : Command) (job : Job) (ws : List Watcher) (text : List ℕ) (facts : Facts) (i : Instance)
+    (asked : Asked) (status : ℕ) (out : List ℕ) → job.command ≡ command → asked ≡ asked_by job → job.count ≡ None
+    → IsMade command (origin_for job) job.root text facts i
+    → (asked.free ≡ false → asked.count ≡ None → IsExtremal i.family → AnswersBy (IsEndOf asked ws facts i) status out)
+    → (asked.free ≡ true → AnswersBy (IsHistoryOf asked ws facts i) status out)
+    → AnswersBy (ComesOf job ws text) status out
+ended_comes Formula job ws text facts i asked status out is asks once made ended history =
+    ordered_comes Formula (λ same. absurd (cc)) refl job ws text facts i asked status out is asks once made ended
+ended_comes Orient job ws text facts i asked status out is asks once made ended history =
+    ordered_comes Orient (λ same. absurd (cc)) refl job ws text facts i asked status out is asks once made ended
+ended_comes Tree job ws text facts i asked status out is asks once made ended history =
+    ordered_comes Tree (λ same. absurd (cc)) refl job ws text facts i asked status out is asks once made ended
+ended_comes Resample job ws text facts i asked status out is asks once made ended history =
+    answered (IsHistoryOf (asked_by job) ws facts i) (ComesOf job ws text) status out
+    (history_comes job ws text facts i is once made)
+    (subst (λ a. AnswersBy (IsHistoryOf a ws facts i) status out) asks (history (free_by job asked Resample asks is)))
+ended_comes command job ws text facts i asked status out is asks once made ended history = absurd made
+
+-- a run that has no fewer pops than it may have has so many
+pub full : (n pops : ℕ) → n ≤ pops → (n < pops → ⊥) → n ≡ pops
+full n pops most never = elim (eq-or-lt_of_le most) [
+  | inl same ↦ same
+  | inr less ↦ absurd (never less)
+]
+
+-- the layered order of a legal log behind which an event is poppable is a pause
+pub pause_of : (i : Instance) → IsInstance i → (log : List LogRecord) (placed : List Placed)
+    → IsLegal i (start_of i) log → AreSorted log placed → HasPoppable i (replay (start_of i) log)
+    → IsPause i (length log) placed
+pause_of i is log placed legal sorted still =
+    let cubes : HaveCubes i.family = family_cubes i.family is.family in
+    let of = layered_is_legal i cubes (start_of i) log (records_of placed) legal
+    (record { placed = placed; sorted = sorted; records = refl }) in
+    record {
+      legal = of.0;
+      layered = placed_in_layers i cubes (start_of i) log legal placed sorted;
+      count = sym (placed_size log placed sorted);
+      poppable = subst (HasPoppable i) (sym of.1) still;
+    }
+
+-- a run so far that is open
+pub open_part : (i : Instance) (limit : ℕ) (part : Part) → IsStopped i limit part → part.seen.look ≡ Open
+    → HasPoppable i (replay (start_of i) part.log)
+open_part i limit part stopped is =
+    subst (HasPoppable i) stopped.run.cursors_are (stopped.run.seen.look.open_is.0 is)
+
+-- it has as many pops as it may have
+pub full_part : (i : Instance) (limit pops : ℕ) (part : Part) → IsStopped i limit part → limit ≡ pops
+    → part.seen.look ≡ Open → length part.log ≡ pops
+full_part i limit pops part stopped same is =
+    full (length part.log) limit stopped.most (λ less. stopped.fewer less is) ∙ same
+
+-- a run to an end is that of the one-thread run, where the instance is extremal
+pub first_of_part : (i : Instance) (part : Part) → IsSoFar i part → IsEnd i part.cursors → IsExtremal i.family
+    → IsFirstEnd i part.cursors (length part.log) part.seen.stuck
+first_of_part i part run end extremal =
+    let start : List ℕ = start_of i in
+    let at : IsEnd i (replay start part.log) = subst (IsEnd i) run.cursors_are end in
+    let one : FirstRunOf i start part.log = first_run i extremal start part.log run.legal at in
+    record {
+      run = (one.first, one.run, run.cursors_are ∙ sym one.end, sym one.size);
+      stuck_list = run.seen.stuck_list;
+    }
+
+-- a pause of what is made comes of the job
+paused_comes : (job : Job) (ws : List Watcher) (text : List ℕ) (facts : Facts) (i : Instance) (pops : ℕ)
+    → IsMade job.command (origin_for job) job.root text facts i → job.pops ≡ Some pops → job.count ≡ None
+    → (o : Outcome) → IsPausedAt job text facts i pops o → ComesOf job ws text o
+paused_comes job ws text facts i pops made stop once (Paused told input also j placed)
+    (told_is, input_is, also_is, j_is, pause) = (
+      told_is,
+      input_is,
+      subst (λ t. IsMade job.command (origin_for job) job.root text t j) (sym also_is)
+          (subst (IsMade job.command (origin_for job) job.root text facts) (sym j_is) made),
+      (pops, stop, subst (λ k. IsPause k pops placed) (sym j_is) pause),
+      once,
+    )
+paused_comes job ws text facts i pops made stop once o h = absurd h
+
+pub paused_answers : (job : Job) (ws : List Watcher) (text : List ℕ) (facts : Facts) (i : Instance) (n pops : ℕ)
+    (status : ℕ) (out : List ℕ) → IsMade job.command (origin_for job) job.root text facts i → job.pops ≡ Some pops
+    → job.count ≡ None → n ≡ pops → AnswersBy (IsPausedAt job text facts i n) status out
+    → AnswersBy (ComesOf job ws text) status out
+paused_answers job ws text facts i n pops status out made stop once same told =
+    answered (IsPausedAt job text facts i pops) (ComesOf job ws text) status out
+    (paused_comes job ws text facts i pops made stop once)
+    (subst (λ k. AnswersBy (IsPausedAt job text facts i k) status out) same told)
+
+-- the same of results
+pub paused_result : {E : Type 0} (job : Job) (ws : List Watcher) (text : List ℕ) (facts : Facts) (i made_i : Instance)
+    (n pops : ℕ) (r : Result Answer E) → i ≡ made_i → IsMade job.command (origin_for job) job.root text facts made_i
+    → job.pops ≡ Some pops → job.count ≡ None → n ≡ pops
+    → IfOk r (λ a. AnswersBy (IsPausedAt job text facts i n) a.status a.text.items)
+    → IfOk r (λ a. AnswersBy (ComesOf job ws text) a.status a.text.items)
+paused_result job ws text facts i made_i n pops (Ok a) is made stop once same told =
+    paused_answers job ws text facts i n pops a.status a.text.items
+    (subst (IsMade job.command (origin_for job) job.root text facts) (sym is) made) stop once same told
+paused_result job ws text facts i made_i n pops (Err e) is made stop once same told = tt
+
+pub ended_result : {E : Type 0} (job : Job) (ws : List Watcher) (text : List ℕ) (facts : Facts) (i made_i : Instance)
+    (asked : Asked) (r : Result Answer E) → i ≡ made_i
+    → IsMade job.command (origin_for job) job.root text facts made_i → asked ≡ asked_by job → job.count ≡ None
+    → (asked.free ≡ false → asked.count ≡ None → IsExtremal i.family
+    → IfOk r (λ a. AnswersBy (IsEndOf asked ws facts i) a.status a.text.items))
+    → (asked.free ≡ true → IfOk r (λ a. AnswersBy (IsHistoryOf asked ws facts i) a.status a.text.items))
+    → IfOk r (λ a. AnswersBy (ComesOf job ws text) a.status a.text.items)
+ended_result job ws text facts i made_i asked (Ok a) is made asks once ended history =
+    ended_comes job.command job ws text facts i asked a.status a.text.items refl asks once
+    (subst (IsMade job.command (origin_for job) job.root text facts) (sym is) made) ended history
+ended_result job ws text facts i made_i asked (Err e) is made asks once ended history = tt
+
+-- a refusal of what is to be made is the result
+pub made_error : (job : Job) (ws : List Watcher) (text : List ℕ) (origin : Origin) (r : Result Answer Refusal)
+    (e : Refusal) → IsErrAnd r (λ x. x ≡ e)
+    → ((other : Job) (others : List Watcher) → IsJobOf other job.command origin job.root
+    → ComesRefused (ComesOf other others text) e) → origin ≡ origin_for job → job.count ≡ None
+    → IsResultOf (ComesOf job ws text) r
+made_error job ws text origin r e is h from once =
+    refused_result (ComesOf job ws text) r e is
+    (h job ws (record { command_is = refl; origin_is = sym from; root_is = refl; once = once }))

@@ -1,0 +1,208 @@
+-- What comes of a certificate that is accepted, or refused, comes of the bytes that are it.
+use Rattle.std.proofs.Common.{inl, inr, ◌≡◌, ◌≢◌, ◌<◌, ◌≤◌, ◌⊎◌, ℕ, List, [], length, Option, Some, None, Result, Ok, Err, IfOk, IfErr, refl, sym, ap, subst, ◌∙◌, arith}
+use Rattle.std.specs.Result.{IsErrAnd, IsErrOf}
+use Rattle.std.specs.Io.KnownBytes.{IsAtEnd}
+use Rattle.pop_model.specs.Instances.{Instance}
+use Rattle.pop_model.specs.Logs.{replay}
+use Rattle.pop_model.specs.Runs.{start_of}
+use Rattle.pop_edge.specs.declared.refusal.ReadRefusal.TheVariants.{Malformed as MalformedLine, Limit as PassedLimit}
+use Rattle.pop_print.specs.declared.facts.Facts.{Facts}
+use Rattle.pop_log.specs.declared.log_refusal.LogRefusal.{LogRefusal}
+use Rattle.pop_log.specs.Refusals.{IsLogRefusal}
+use Rattle.run_cert.specs.declared.cert_refusal.CertRefusal.{CertRefusal}
+use Rattle.run_cert.specs.declared.look_kind.Look.{Look}
+use Rattle.run_cert.specs.declared.look_kind.Look.TheVariants.{Finished, Exhausted, Open}
+use Rattle.run_cert.specs.Certificates.{Certificate, IsCertOf}
+use Rattle.run_cert.specs.Refusals.{IsCertRefusal}
+use Rattle.top_call.specs.declared.accepted.Accepted.{Accepted}
+use Rattle.top_call.specs.declared.refusal.Refusal.{Refusal}
+use Rattle.top_call.specs.declared.refusal.Refusal.TheVariants.{Usage, Stopped}
+use Rattle.top_call.specs.declared.stop.Stop.{Stop}
+use Rattle.top_call.specs.declared.stop.Stop.TheVariants.{ReadFault, OutOfMemory}
+use Rattle.top_call.specs.Names.{names_for}
+use Rattle.top_call.specs.ReplayTexts.{look_status, replay_text}
+use Rattle.top_call.specs.Outcomes.{Outcome, IsTextStatus, AnswersBy}
+use Rattle.top_call.specs.Outcomes.Outcome.{Unread, Replayed}
+use Rattle.top_call.specs.declared.answer.Answer.{Answer}
+use Rattle.top_call.specs.Results.{ComesRefused, IsResultOf, IsPastWords, IsLogRefusalOf, uncertified, log_refusal}
+use Rattle.top_call.specs.Replays.{cert_limit, job_of, ByLine, IsNoCert, ComesOfCert, IsNoRun, IsCertified, IsLogRefused, IsRefusedCert, IsRefused, HasLog, IsReplayed, ComesOfReplaying}
+use Rattle.top_call.specs.Accepted.{IsHeldBy, IsAccepted}
+use Rattle.top_call.specs.Answers.{ComesOf}
+use Rattle.top_call.proofs.ByCommand.{refused_no_usage}
+use Rattle.top_call.proofs.Carrying.{refused, passed_on, refused_result}
+use Rattle.top_call.proofs.CertRefusals.{no_run, log_refused, cert_refused}
+use Rattle.top_call.proofs.ReadToEnd.{read_to}
+use Rattle.top_call.specs.Whole.{IsReadTo}
+
+-- a refusal that is passed on refuses so
+pub refused_as : {T : Type 0} (Comes : Outcome → Type 0) (r : Result T Refusal) (e : Refusal)
+    → IsErrAnd r (λ x. x ≡ e) → ComesRefused Comes e → IfErr r (ComesRefused Comes)
+refused_as Comes r e is comes = subst (λ q. IfErr q (ComesRefused Comes)) (sym (passed_on r e is)) comes
+
+-- what refuses the line of the certificate's command refuses the certificate
+pub line_refused : (Line : ByLine) (cert : Certificate) (r : Refusal)
+    → ComesRefused (Line (job_of cert.head) [] cert.input) r → ComesRefused (IsRefusedCert Line cert) r
+line_refused Line cert r h =
+    refused (λ o. IsNoRun o × Line (job_of cert.head) [] cert.input o) (IsRefusedCert Line cert) r (λ o bad. inl bad)
+    (no_run (Line (job_of cert.head) [] cert.input) r h)
+
+-- so does what refuses its log text
+pub text_refused : (Line : ByLine) (cert : Certificate) (facts : Facts) (i : Instance) (r : Refusal)
+    → IsCertified cert facts i → IsLogRefusalOf (IsLogRefusal (names_for facts) i cert.log_text) r
+    → ComesRefused (IsRefusedCert Line cert) r
+text_refused Line cert facts i r certified (cause, is, same) =
+    subst (ComesRefused (IsRefusedCert Line cert)) (sym same)
+    (log_refused (IsRefusedCert Line cert) cause (λ some. inr (record {
+      facts = facts;
+      instance = i;
+      certified = certified;
+      refusal = cause;
+      of_text = some;
+      is = is;
+      told = refl;
+    })))
+
+-- bytes past the limit are refused
+pub long_refused : (Line : ByLine) (bytes : List ℕ) → cert_limit < length bytes
+    → IsRefused Line bytes (Unread (PassedLimit 8 1))
+long_refused Line bytes long = inl (refl, refl, long)
+
+-- bytes that are no certificate
+pub bytes_refused : (Line : ByLine) (bytes : List ℕ) (cause : CertRefusal) → length bytes ≤ cert_limit
+    → IsCertRefusal bytes cause → ComesRefused (IsRefused Line bytes) (uncertified cause)
+bytes_refused Line bytes cause short is =
+    refused (IsNoCert bytes) (IsRefused Line bytes) (uncertified cause) (λ o bad. inl bad)
+    (cert_refused bytes cause short is)
+
+-- and those of a certificate that is refused
+pub of_cert : (Line : ByLine) (bytes : List ℕ) (cert : Certificate) (r : Refusal) → length bytes ≤ cert_limit
+    → IsCertOf bytes cert → ComesRefused (IsRefusedCert Line cert) r → ComesRefused (IsRefused Line bytes) r
+of_cert Line bytes cert r short is h =
+    refused (IsRefusedCert Line cert) (IsRefused Line bytes) r
+    (λ o comes. inr (record { short = short; cert = cert; is = is; comes = comes })) h
+
+-- bytes past the limit are no certificate, as the longer text that they are a front of
+longer_no_cert : (bytes text : List ℕ) → cert_limit < length bytes → cert_limit < length text → (o : Outcome)
+    → IsNoCert bytes o → IsNoCert text o
+longer_no_cert bytes text long longer (Unread (PassedLimit k l)) bad = (bad.0, bad.1, longer)
+longer_no_cert bytes text long longer (Unread (MalformedLine l c)) bad =
+    let short = bad.0 in absurd (omega (arith, long, short))
+longer_no_cert bytes text long longer o bad = absurd bad
+
+-- so they are refused as it
+longer_refused : (Line : ByLine) (bytes text : List ℕ) → cert_limit < length bytes → cert_limit < length text
+    → (o : Outcome) → IsRefused Line bytes o → IsRefused Line text o
+longer_refused Line bytes text long longer o (inl bad) = inl (longer_no_cert bytes text long longer o bad)
+longer_refused Line bytes text long longer o (inr comes) = let short = comes.short in absurd (omega (arith, long, short))
+
+-- what was read of a text is refused as the text
+pub read_refused : (Line : ByLine) (text : List ℕ) (left' : Option (List ℕ)) (bytes : List ℕ) (r : Refusal)
+    → IsReadTo cert_limit (Some text) left' bytes → ComesRefused (IsRefused Line bytes) r
+    → ComesRefused (IsRefused Line text) r
+read_refused Line text left' bytes r read h = elim (read_to cert_limit text left' bytes read) [
+  | inl (short, same) ↦ subst (λ t. ComesRefused (IsRefused Line t) r) (sym same) h
+  | inr (long, longer) ↦
+      refused (IsRefused Line bytes) (IsRefused Line text) r (longer_refused Line bytes text long longer) h
+]
+
+-- and accepted as it
+pub read_accepted : (text : List ℕ) (left' : Option (List ℕ)) (bytes : List ℕ) (a : Accepted)
+    → IsReadTo cert_limit (Some text) left' bytes → IsAccepted bytes a → IsAccepted text a
+read_accepted text left' bytes a read h = elim (read_to cert_limit text left' bytes read) [
+  | inl (short, same) ↦ subst (λ t. IsAccepted t a) (sym same) h
+  | inr (long, longer) ↦ let short = h.short in absurd (omega (arith, long, short))
+]
+
+-- the log of a certificate that is accepted
+abbrev pub held_log : (cert : Certificate) (a : Accepted) → IsHeldBy cert a → HasLog cert
+held_log cert a held = record {
+  facts = a.facts;
+  instance = a.instance;
+  certified = held.certified;
+  log = a.part.log;
+  read = held.read;
+}
+
+-- what is told of its replay
+pub replay_told : (Line : ByLine) (bytes : List ℕ) (a : Accepted) (status : ℕ) (out : List ℕ) → IsAccepted bytes a
+    → status ≡ look_status a.part.seen.look
+    → out ≡ replay_text (length a.part.log) a.part.cursors a.part.seen.look
+    → AnswersBy (ComesOfReplaying Line bytes) status out
+replay_told Line bytes a status out h status_is out_is = (
+  Replayed a.instance a.part.cursors (length a.part.log) a.part.seen.look,
+  inr (record {
+    short = h.short;
+    cert = h.cert;
+    is = h.is;
+    comes = record {
+      has = held_log h.cert a h.held;
+      is = record {
+        cursors = a.part.cursors;
+        cursors_are = h.held.run.cursors_are;
+        look = a.part.seen.look;
+        is = h.held.run.seen.look;
+        told = refl;
+      };
+    };
+  }),
+  record { status_is = status_is; out_is = out_is },
+)
+
+-- what refuses bytes is no refusal of words
+pub refused_past_words : (bytes : List ℕ) (r : Refusal) → ComesRefused (IsRefused ComesOf bytes) r → IsPastWords r
+refused_past_words bytes (Usage p) h = absurd (refused_no_usage bytes p h)
+refused_past_words bytes r h = tt
+
+-- nor a fault of the source
+pub refused_no_fault : {T : Type 0} (Comes : Outcome → Type 0) (r : Result T Refusal)
+    → IfErr r (ComesRefused Comes) → r ≡ Err (Stopped ReadFault) → ⊥
+refused_no_fault Comes r h is =
+    let memory : ReadFault ≡ OutOfMemory = subst (λ q. IfErr q (ComesRefused Comes)) is h in absurd (cc)
+
+-- what stops the call, and is no fault of the source, may always come
+pub stop_refused : {T : Type 0} (Comes : Outcome → Type 0) (r : Result T Refusal) (stop : Stop) → r ≡ Err (Stopped stop)
+    → (r ≡ Err (Stopped ReadFault) → ⊥) → IfErr r (ComesRefused Comes)
+stop_refused Comes r ReadFault is not = absurd (not is)
+stop_refused Comes r OutOfMemory is not = subst (λ q. IfErr q (ComesRefused Comes)) (sym is) refl
+
+-- what holds of each refusal
+pub if_err : {T E : Type 0} (P Q : E → Type 0) (r : Result T E) → ((e : E) → P e → Q e) → IfErr r P → IfErr r Q
+if_err P Q (Ok x) f holds = tt
+if_err P Q (Err e) f holds = f e holds
+
+-- what is read of a source that is accepted was read to its end
+pub accepted_end : (left left' : Option (List ℕ)) (bytes : List ℕ) (a : Accepted) → IsReadTo cert_limit left left' bytes
+    → IsAccepted bytes a → IsAtEnd left'
+accepted_end left left' bytes a read h = read.whole h.short
+
+-- what refuses the bytes that were read refuses the text of the source
+pub read_result : {T : Type 0} (left left' : Option (List ℕ)) (text bytes input : List ℕ) (r : Result T Refusal)
+    → left ≡ Some text → IsReadTo cert_limit left left' bytes → input ≡ bytes
+    → IfErr r (ComesRefused (IsRefused ComesOf input)) → IfErr r (ComesRefused (IsRefused ComesOf text))
+read_result left left' text bytes input r known read same =
+    if_err _ _ r (λ e h. read_refused ComesOf text left' bytes e
+    (subst (λ l. IsReadTo cert_limit l left' bytes) known read)
+    (subst (λ b. ComesRefused (IsRefused ComesOf b) e) same h))
+
+-- a refusal of the text is one of what is replayed
+pub replay_refused : (text : List ℕ) (r : Result Answer Refusal) (e : Refusal) → IsErrAnd r (λ x. x ≡ e)
+    → ComesRefused (IsRefused ComesOf text) e → IsResultOf (ComesOfReplaying ComesOf text) r
+replay_refused text r e is h =
+    refused_result (ComesOfReplaying ComesOf text) r e is
+    (refused (IsRefused ComesOf text) (ComesOfReplaying ComesOf text) e (λ o comes. inl comes) h)
+
+-- and the replay of what is read of the source is told of its text
+pub replay_result : (left left' : Option (List ℕ)) (text : List ℕ) (a : Accepted) (status : ℕ) (out : List ℕ)
+    → left ≡ Some text → ((bytes : List ℕ) × IsReadTo cert_limit left left' bytes × IsAccepted bytes a)
+    → status ≡ look_status a.part.seen.look
+    → out ≡ replay_text (length a.part.log) a.part.cursors a.part.seen.look
+    → AnswersBy (ComesOfReplaying ComesOf text) status out
+replay_result left left' text a status out known (bytes, read, accepted) status_is out_is =
+    replay_told ComesOf text a status out
+    (read_accepted text left' bytes a (subst (λ l. IsReadTo cert_limit l left' bytes) known read) accepted) status_is
+    out_is
+
+-- a fault of the source that is passed on is one
+pub same_fault : {T U : Type 0} (r : Result T Refusal) (e : Refusal) → IsErrAnd r (λ x. x ≡ e)
+    → IsErrOf {T = U} (Err e) (Stopped ReadFault) → IsErrOf r (Stopped ReadFault)
+same_fault {T} {U} r e is failed = let same : e ≡ Stopped ReadFault = cc in passed_on r e is ∙ ap (λ x. Err x) same

@@ -1,0 +1,145 @@
+-- The run of a certificate that goes on to an end comes of the bytes that are it: as the line of its command tells its
+-- end, and where that tells its log, with the log of both parts.
+use Rattle.std.proofs.Common.{inl, inr, ◌≡◌, ◌≢◌, ℕ, Bool, true, false, ◌||◌, if◌then◌else◌, List, Option, None, Some, Result, Ok, Err, IfOk, refl, sym, ap, subst, ◌∙◌}
+use Rattle.std.proofs.lemmas.Bool.{cases_Bool, false≢true}
+use Rattle.std.proofs.lemmas.Option.{none-some}
+use Rattle.pop_model.specs.Instances.{Instance}
+use Rattle.pop_model.specs.Extremal.{IsExtremal}
+use Rattle.pop_model.specs.Logs.{LogRecord}
+use Rattle.pop_model.specs.Runs.{start_of}
+use Rattle.confluence_core.specs.declared.run.Run.{Run}
+use Rattle.confluence_core.specs.Runs.{IsRunOf}
+use Rattle.pop_words.specs.declared.command.Command.{Command}
+use Rattle.pop_words.specs.declared.command.Command.TheVariants.{Formula, Orient, Tree, Resample, Check, Make, Rounds, Replay, Resume}
+use Rattle.pop_words.specs.Options.{default_job}
+use Rattle.pop_watch.specs.Telling.{Watcher}
+use Rattle.pop_print.specs.declared.facts.Facts.{Facts}
+use Rattle.run_cert.specs.Certificates.{Certificate}
+use Rattle.top_call.specs.declared.accepted.Accepted.{Accepted}
+use Rattle.top_call.specs.declared.answer.Answer.{Answer}
+use Rattle.top_call.specs.declared.asked.Asked.{Asked}
+use Rattle.top_call.specs.Whole.{IsReadTo}
+use Rattle.top_call.specs.Outcomes.{Outcome, IsTextStatus, AnswersBy}
+use Rattle.top_call.specs.Outcomes.Outcome.{Ended, Resampled, Batched}
+use Rattle.top_call.specs.Tellings.{asks_for_log}
+use Rattle.top_call.specs.Sampling.{IsEndOf}
+use Rattle.top_call.specs.Resamplings.{IsHistoryOf, IsHistoryWith}
+use Rattle.top_call.specs.Made.{IsMade}
+use Rattle.top_call.specs.Replays.{cert_limit, job_of}
+use Rattle.top_call.specs.Resumes.{IsJoined, IsJoinedLog, GoesOnFrom, IsResumed, ComesOfResuming}
+use Rattle.top_call.specs.Accepted.{IsHeldBy, IsAccepted}
+use Rattle.top_call.specs.Answers.{origin_for, has_free_order, asked_by, ComesOf}
+use Rattle.top_call.proofs.Carrying.{answered, if_ok}
+use Rattle.top_call.proofs.PausedComes.{end_comes, history_comes}
+use Rattle.top_call.proofs.ReplayedCerts.{held_log, read_accepted}
+use Rattle.top_call.proofs.Statuses.{resumed_status_is}
+
+-- the order of pops is free where a formula is resampled
+free_command : (k : Command) → has_free_order k ≡ true → k ≡ Resample
+free_command Resample is = refl
+free_command Formula is = absurd (false≢true is)
+free_command Orient is = absurd (false≢true is)
+free_command Tree is = absurd (false≢true is)
+free_command Check is = absurd (false≢true is)
+free_command Make is = absurd (false≢true is)
+free_command Rounds is = absurd (false≢true is)
+free_command Replay is = absurd (false≢true is)
+free_command Resume is = absurd (false≢true is)
+
+-- an end of one run goes on
+end_goes_on : (log : List LogRecord) (asked : Asked) (ws : List Watcher) (facts : Facts) (i : Instance)
+    → asked.count ≡ None → (o : Outcome) → IsEndOf asked ws facts i o → GoesOnFrom log o
+end_goes_on log asked ws facts i once (Ended t j c n s a) h = tt
+end_goes_on log asked ws facts i once (Batched t j es) h = absurd (none-some h.2.count (sym once ∙ h.2.asked_is))
+end_goes_on log asked ws facts i once o h = absurd h
+
+-- so does a history with the log of both parts
+history_goes_on : (first log : List LogRecord) (asked : Asked) (ws : List Watcher) (facts : Facts) (i : Instance)
+    → IsJoined i first log → (o : Outcome) → IsHistoryWith log asked ws facts i o → GoesOnFrom first o
+history_goes_on first log asked ws facts i joined (Resampled t j l s a) h =
+    (log, subst (λ k. IsJoined k first log) (sym h.0.1) joined, h.1)
+history_goes_on first log asked ws facts i joined o h = absurd h.1
+
+-- what is asked for of a certificate that is accepted
+held_asked : (cert : Certificate) (a : Accepted) (asked : Asked) → IsHeldBy cert a
+    → asked ≡ asked_by (default_job a.command) → asked ≡ asked_by (job_of cert.head)
+held_asked cert a asked held is = is ∙ ap (λ k. asked_by (default_job k)) held.command_is
+
+-- the end of a run that goes on
+resumed_end : (cert : Certificate) (a : Accepted) (ws : List Watcher) (asked : Asked) → IsHeldBy cert a
+    → asked ≡ asked_by (default_job a.command) → cert.head.command ≢ Resample → (o : Outcome)
+    → IsEndOf asked ws a.facts a.instance o → IsResumed ComesOf ws cert o
+resumed_end cert a ws asked held is ordered o end =
+    let job = job_of cert.head in
+    let own : IsEndOf (asked_by job) ws a.facts a.instance o =
+    subst (λ q. IsEndOf q ws a.facts a.instance o) (held_asked cert a asked held is) end in
+    record {
+      has = held_log cert a held;
+      goes_on = end_goes_on a.part.log (asked_by job) ws a.facts a.instance refl o own;
+      comes = end_comes cert.head.command job ws cert.input a.facts a.instance refl ordered refl held.certified.made o own;
+    }
+
+-- its history
+resumed_history : (cert : Certificate) (a : Accepted) (ws : List Watcher) (asked : Asked) → IsHeldBy cert a
+    → asked ≡ asked_by (default_job a.command) → cert.head.command ≡ Resample → (log : List LogRecord)
+    → IsJoined a.instance a.part.log log → (o : Outcome) → IsHistoryWith log asked ws a.facts a.instance o
+    → IsResumed ComesOf ws cert o
+resumed_history cert a ws asked held is free log joined o history =
+    let job = job_of cert.head in
+    let own : IsHistoryWith log (asked_by job) ws a.facts a.instance o =
+    subst (λ q. IsHistoryWith log q ws a.facts a.instance o) (held_asked cert a asked held is) history in
+    let made : IsMade Resample (origin_for job) job.root cert.input a.facts a.instance =
+    subst (λ k. IsMade k (origin_for job) job.root cert.input a.facts a.instance) free held.certified.made in
+    record {
+      has = held_log cert a held;
+      goes_on = history_goes_on a.part.log log (asked_by job) ws a.facts a.instance joined o own;
+      comes = history_comes job ws cert.input a.facts a.instance free refl made o own.0;
+    }
+
+-- the answer that tells it
+pub resumed_result : {E : Type 0} (cert : Certificate) (a : Accepted) (ws : List Watcher) (asked : Asked) (whole : Run)
+    (r : Result Answer E) → IsHeldBy cert a → asked ≡ asked_by (default_job a.command)
+    → IsRunOf a.instance (start_of a.instance) (asks_for_log asked) whole
+    → IsJoinedLog a.instance a.part.log whole.log
+    → (asked.free ≡ false → asked.count ≡ None → IsExtremal a.instance.family
+    → IfOk r (λ x. AnswersBy (IsEndOf asked ws a.facts a.instance) x.status x.text.items))
+    → (asked.free ≡ true → (log : List LogRecord) → whole.log ≡ Some log
+    → IfOk r (λ x. AnswersBy (IsHistoryWith log asked ws a.facts a.instance) x.status x.text.items))
+    → IfOk r (λ x. AnswersBy (IsResumed ComesOf ws cert) x.status x.text.items)
+resumed_result cert a ws asked whole r held is run joined ended history =
+    elim (cases_Bool (has_free_order a.command)) [
+      | inl free ↦
+          let command : a.command ≡ Resample = free_command a.command free in
+          let keeps : asks_for_log asked ≡ true = ap asks_for_log is ∙ ap (λ k. asks_for_log (asked_by (default_job k))) command in
+          let log = run.run.log in
+          let kept : whole.log ≡ Some log =
+          run.run.kept_is ∙ ap (λ b. if b then Some log else None) keeps in
+          if_ok _ _ r (λ x told. answered (IsHistoryWith log asked ws a.facts a.instance) (IsResumed ComesOf ws cert)
+          x.status x.text.items
+          (resumed_history cert a ws asked held is (sym held.command_is ∙ command) log (joined log kept)) told)
+          (history (ap (λ (q : Asked). q.free) is ∙ free) log kept)
+      | inr ordered ↦
+          let other : cert.head.command ≢ Resample =
+          λ same. false≢true (sym ordered ∙ ap has_free_order (held.command_is ∙ same)) in
+          if_ok _ _ r (λ x told. answered (IsEndOf asked ws a.facts a.instance) (IsResumed ComesOf ws cert) x.status
+          x.text.items (resumed_end cert a ws asked held is other) told)
+          (ended (ap (λ (q : Asked). q.free) is ∙ ordered) (ap (λ (q : Asked). q.count) is) (held.extremal other))
+    ]
+
+-- what is told of the run of what is read of a source comes of its text
+pub resume_result : (left left' : Option (List ℕ)) (text : List ℕ) (a : Accepted) (ws : List Watcher) (status : ℕ)
+    (out : List ℕ) → left ≡ Some text → ((bytes : List ℕ) × IsReadTo cert_limit left left' bytes × IsAccepted bytes a)
+    → ((cert : Certificate) → IsHeldBy cert a → AnswersBy (IsResumed ComesOf ws cert) status out)
+    → AnswersBy (ComesOfResuming ComesOf ws text) status out
+resume_result left left' text a ws status out known (bytes, read, accepted) told =
+    let acc : IsAccepted text a =
+    read_accepted text left' bytes a (subst (λ l. IsReadTo cert_limit l left' bytes) known read) accepted in
+    answered (IsResumed ComesOf ws acc.cert) (ComesOfResuming ComesOf ws text) status out
+    (λ o h. inr (record { short = acc.short; cert = acc.cert; is = acc.is; comes = h })) (told acc.cert acc.held)
+
+-- and its status is one of a text
+pub resume_status : (left left' : Option (List ℕ)) (a : Accepted) (ws : List Watcher) (status : ℕ) (out : List ℕ)
+    → ((bytes : List ℕ) × IsReadTo cert_limit left left' bytes × IsAccepted bytes a)
+    → ((cert : Certificate) → IsHeldBy cert a → AnswersBy (IsResumed ComesOf ws cert) status out) → IsTextStatus status
+resume_status left left' a ws status out (bytes, read, accepted) told =
+    resumed_status_is ComesOf ws accepted.cert status out (told accepted.cert accepted.held)

@@ -1,0 +1,58 @@
+-- The results of words: of those that are no command line, and of those that ask for a job.
+use Rattle.std.proofs.Common.{◌≡◌, ◌≢◌, ℕ, List, Result, Ok, Err, IfOk, MatchResult, refl, sym, subst}
+use Rattle.pop_words.specs.declared.fault.WordFault.{WordFault}
+use Rattle.pop_words.specs.declared.fault.WordFault.TheVariants.{Usage as BadWord, OutOfMemory as WordMemory}
+use Rattle.pop_words.specs.CommandLines.{IsBadPlace, IsWordFault}
+use Rattle.pop_watch.specs.Telling.{Watcher}
+use Rattle.top_call.specs.declared.answer.Answer.{Answer}
+use Rattle.top_call.specs.declared.stop.Stop.TheVariants.{ReadFault}
+use Rattle.top_call.specs.declared.refusal.Refusal.{Refusal}
+use Rattle.top_call.specs.declared.refusal.Refusal.TheVariants.{Usage, Stopped}
+use Rattle.top_call.specs.Outcomes.{IsAnswerStatus}
+use Rattle.top_call.specs.Answers.{IsOutcome}
+use Rattle.top_call.specs.Results.{unworded, ComesRefused, IsResultOf, IsTextResult, IsOfWords}
+
+-- a fault of words is an outcome of theirs
+refused_by : (words : List (List ℕ)) (ws : List Watcher) (text : List ℕ) (fault : WordFault) → IsWordFault words fault
+    → ComesRefused (IsOutcome words ws text) (unworded fault)
+refused_by words ws text (BadWord place) bad = bad
+refused_by words ws text WordMemory bad = refl
+
+-- bad words are refused at their first bad place
+pub words_refused : (words : List (List ℕ)) (ws : List Watcher) (text : List ℕ) (fault : WordFault)
+    (r : Result Answer Refusal) → r ≡ Err (unworded fault) → IsWordFault words fault
+    → IsResultOf (IsOutcome words ws text) r
+words_refused words ws text fault r is bad =
+    subst (IsResultOf (IsOutcome words ws text)) (sym is) (refused_by words ws text fault bad)
+
+-- and the place is bad that they are refused at
+pub words_bad : (words : List (List ℕ)) (fault : WordFault) (r : Result Answer Refusal) (place : ℕ)
+    → r ≡ Err (unworded fault) → IsWordFault words fault → r ≡ Err (Usage place) → IsBadPlace words place
+words_bad words (BadWord p) r place is bad usage = let same : p ≡ place = cc in subst (IsBadPlace words) same bad
+words_bad words WordMemory r place is bad usage = absurd (cc)
+
+-- no other refusal comes of words
+pub words_only : (fault : WordFault) (r : Result Answer Refusal) → r ≡ Err (unworded fault)
+    → MatchResult r (λ a. ⊥) IsOfWords
+words_only (BadWord p) r is = subst (λ q. MatchResult q (λ a. ⊥) IsOfWords) (sym is) tt
+words_only WordMemory r is = subst (λ q. MatchResult q (λ a. ⊥) IsOfWords) (sym is) tt
+
+-- nor a fault of the source
+pub words_no_fault : (fault : WordFault) (r : Result Answer Refusal) → r ≡ Err (unworded fault)
+    → r ≡ Err (Stopped ReadFault) → ⊥
+words_no_fault (BadWord p) r is failed = absurd (cc)
+words_no_fault WordMemory r is failed = absurd (cc)
+
+-- the answer to a job's text isn't one of words
+pub job_low : (r : Result Answer Refusal) → IsTextResult r → IfOk r (λ a. IsAnswerStatus a.status)
+job_low (Ok a) is = is.answers
+job_low (Err e) is = tt
+
+-- nor has it the status of words
+pub job_no_usage : (r : Result Answer Refusal) → IsTextResult r → IfOk r (λ a. a.status ≢ 2)
+job_no_usage (Ok a) is = is.no_usage
+job_no_usage (Err e) is = tt
+
+-- nor is it a refusal of words
+pub job_past_words : (r : Result Answer Refusal) (place : ℕ) → IsTextResult r → r ≡ Err (Usage place) → ⊥
+job_past_words r place is usage = subst IsTextResult usage is

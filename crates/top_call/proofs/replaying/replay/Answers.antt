@@ -1,0 +1,23 @@
+use Rattle.std.proofs.Common.{sym, subst}
+use Rattle.top_call.specs.Outcomes.{IsTextStatus}
+use Rattle.top_call.proofs.ReplayedCerts.{replay_refused, replay_result, same_fault}
+use Rattle.top_call.proofs.Statuses.{look_status_is}
+use Rattle.top_call.proofs.replaying.replay.Goals as goal
+
+-- the text is refused
+pub returns-in_err-accepted-clause-answer : goal.returns-in_err-accepted-clause-answer
+returns-in_err-accepted-clause-answer g c text known failed =
+    replay_refused text c.from_residual.result c.in_err-accepted.field-0.0 c.from_residual.ensures.1
+    (c.in_err-accepted.ensures.refused text known
+    (λ is. failed (same_fault c.from_residual.result c.in_err-accepted.field-0.0 c.from_residual.ensures.1 is)))
+
+-- or its log is legal
+pub returns-clause-answer : goal.returns-clause-answer
+returns-clause-answer g c text known failed =
+    replay_result (g.S.Source.left c.args.source.now) (g.S.Source.left c.read_accepted.new.source) text
+    c.in_ok-accepted.accepted c.in_ok-tell_replay.field-0.status c.in_ok-tell_replay.field-0.text.items known
+    c.in_ok-accepted.ensures.accepted c.in_ok-tell_replay.ensures.status c.in_ok-tell_replay.ensures.text
+
+pub returns-clause-status : goal.returns-clause-status
+returns-clause-status g c =
+    subst IsTextStatus (sym c.in_ok-tell_replay.ensures.status) (look_status_is c.in_ok-accepted.accepted.part.seen.look)

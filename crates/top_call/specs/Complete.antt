@@ -1,0 +1,95 @@
+-- When words and a text have a sample, an exhausted end or a verdict.
+use Rattle.std.specs.Prelude.{◌≡◌, ◌≢◌, ◌⊎◌, ◌≤◌, ℕ, List, length, None, false, ⊤}
+use Rattle.pop_model.specs.Popping.{Cube}
+use Rattle.pop_model.specs.Families.Family.{Listed}
+use Rattle.pop_model.specs.Extremal.{IsExtremal}
+use Rattle.pop_stacks.specs.Faults.{IsSound}
+use Rattle.dimacs_read.specs.Cnf.{Cnf, first_empty}
+use Rattle.dimacs_read.specs.Grammar.{IsCnfText}
+use Rattle.dimacs_read.specs.Falsifying.{AreEventsOf}
+use Rattle.graph_read.specs.Graphs.{GraphOf}
+use Rattle.graph_read.specs.Grids.{grid_of}
+use Rattle.graph_read.specs.Grammar.{IsGraphText}
+use Rattle.graph_read.specs.Paths.{IsConnected}
+use Rattle.sink_popping.specs.Sinks.{IsIsolated}
+use Rattle.cycle_popping.specs.Trees.{weights_of_tree}
+use Rattle.pop_words.specs.declared.command.Command.{Command}
+use Rattle.pop_words.specs.declared.command.Command.TheVariants.{Formula, Orient, Tree, Resample, Check, Make, Rounds, Replay, Resume}
+use Rattle.pop_words.specs.declared.job.Job.{Job}
+use Rattle.pop_words.specs.CommandLines.{Asks}
+use Rattle.pop_watch.specs.Telling.{Watcher}
+use Rattle.top_call.specs.Witnesses.{is_missing}
+use Rattle.top_call.specs.Batches.{AreFew}
+use Rattle.top_call.specs.Outcomes.{Outcome, AnswersBy}
+use Rattle.top_call.specs.Outcomes.Outcome.{Resampled}
+use Rattle.top_call.specs.Sampling.{pair_weights}
+use Rattle.run_cert.specs.Certificates.{Certificate, IsCertOf}
+use Rattle.top_call.specs.Replays.{cert_limit, HasLog}
+use Rattle.top_call.specs.Answers.{IsOutcome, origin_for}
+
+-- the text is that of the formula, within the limits, and no clause of it is empty
+pub record Spells (text : List ℕ) (f : Cnf) : Type 0 where
+  pub is : IsCnfText text f
+  pub full : first_empty f ≡ None
+
+-- its events are extremal
+abbrev pub HasExtremalEvents : Cnf → Type 0
+HasExtremalEvents f = (events : List (ℕ × Cube)) → AreEventsOf f.clauses events
+    → IsExtremal (Listed events)
+
+-- the samples that are asked for aren't too many, and the stacks of these weights have no fault
+abbrev pub CanBeSampled : Job → List (List ℕ) → Type 0
+CanBeSampled job weights = AreFew job.count (length weights) × IsSound (origin_for job) weights
+
+-- the text is a certificate within the limit, and nothing stands against its input, its stacks and
+-- its log
+pub record CanBeReplayed (text : List ℕ) : Type 0 where
+  pub short : length text ≤ cert_limit
+  pub cert : Certificate
+  pub is : IsCertOf text cert
+  pub has : HasLog cert
+
+-- nothing stands against a command and a text: the text is in its grammar, within the limits; the
+-- graph has no isolated vertex, or each vertex is joined to the root; samples aren't too many; the
+-- stacks have no fault; and where it is asked for, the events are extremal
+abbrev pub CanBeDone : Command → Job → List ℕ → Type 0
+CanBeDone Formula job text =
+    (f : Cnf) × Spells text f × CanBeSampled job (pair_weights f.variables)
+    × HasExtremalEvents f
+CanBeDone Orient job text =
+    (g : GraphOf) × IsGraphText text g × ((w : ℕ) → IsIsolated g w → ⊥)
+    × CanBeSampled job (pair_weights (length g.edges))
+CanBeDone Tree job text =
+    (g : GraphOf) × IsGraphText text g × (job.root ≤ g.vertices) × IsConnected g job.root
+    × CanBeSampled job (weights_of_tree g job.root)
+CanBeDone Resample job text =
+    (f : Cnf) × Spells text f × CanBeSampled job (pair_weights f.variables)
+CanBeDone Check job text = (f : Cnf) × Spells text f × HasExtremalEvents f
+CanBeDone Make job text = CanBeSampled job (weights_of_tree (grid_of job.size) 1)
+CanBeDone Rounds job text =
+    (f : Cnf) × Spells text f × IsSound (origin_for job) (pair_weights f.variables)
+CanBeDone Replay job text = CanBeReplayed text
+CanBeDone Resume job text = CanBeReplayed text
+
+-- the pop whose witness is asked for is there, where one is asked for
+abbrev pub HasWitness : Outcome → Type 0
+HasWitness (Resampled facts i placed stuck telling) = is_missing telling.witness ≡ false
+HasWitness o = ⊤
+
+-- an answer whose witness is there
+abbrev pub IsWitnessedAnswer : List (List ℕ) → List Watcher → List ℕ → ℕ → List ℕ → Type 0
+IsWitnessedAnswer words watchers text status out =
+    AnswersBy (λ o. IsOutcome words watchers text o × HasWitness o) status out
+
+-- the status of a run: 0 or 1; or 10, where it may stop after so many pops, or is replayed
+abbrev pub IsDone : Job → ℕ → Type 0
+IsDone job status =
+    (status ≡ 0)
+    ⊎ ((status ≡ 1) ⊎ ((status ≡ 10) × ((job.pops ≢ None) ⊎ (job.command ≡ Replay))))
+
+-- where nothing stands against the job of the words and the text, and the witness is there, the
+-- status is that of a run
+abbrev pub Complete : Type 0
+Complete = (words : List (List ℕ)) (watchers : List Watcher) (text : List ℕ) (job : Job)
+    (status : ℕ) (out : List ℕ) → Asks words job → CanBeDone job.command job text
+    → IsWitnessedAnswer words watchers text status out → IsDone job status

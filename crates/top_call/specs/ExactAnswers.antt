@@ -1,0 +1,67 @@
+-- The exact law, said of answers: into given rows any sample may be written in place of the one
+-- with which their run ends (Propp and Wilson 1998; Guo, Jerrum and Liu 2019).
+use Rattle.std.specs.Prelude.{◌≡◌, ℕ, ◌<◌, List, [], length, map, replicate, All}
+use Rattle.pop_model.specs.Popping.{values_at}
+use Rattle.pop_model.specs.Instances.{Instance}
+use Rattle.pop_stacks.specs.declared.stack_spec.StackSpec.TheVariants.{Given}
+use Rattle.pop_stacks.specs.Faults.{AreLight}
+use Rattle.pop_samples.specs.Frames.{Rows, Frame, IsSampleOf}
+use Rattle.pop_samples.specs.Exchange.{exchange}
+use Rattle.pop_words.specs.declared.job.Job.{Job}
+use Rattle.pop_words.specs.CommandLines.{Asks}
+use Rattle.pop_watch.specs.Telling.{Watcher}
+use Rattle.pop_print.specs.declared.facts.Facts.{Facts}
+use Rattle.top_call.specs.Tellings.{Telling}
+use Rattle.top_call.specs.Outcomes.Outcome.{Ended}
+use Rattle.top_call.specs.Answers.{IsOutcome}
+use Rattle.top_call.specs.Subjects.{Subject, IsSubjectOf}
+
+-- the job with these rows for its stacks
+abbrev pub over_rows : Job → Rows → Job
+over_rows job rows = record job { stacks = Given rows }
+
+-- what is settled of an instance before its rows are, if they have these heights
+abbrev pub frame_of : Instance → List ℕ → Frame
+frame_of i heights =
+    record { family = i.family; weights = i.stacks.weights; heights = heights }
+
+-- what is settled of a subject, if its rows have these heights
+abbrev pub frame_over : Subject → List ℕ → Frame
+frame_over s heights = record { family = s.family; weights = s.weights; heights = heights }
+
+-- Words and a text are answered by this sample: by a run that ends at these cursors, after so many
+-- pops, where no event occurs and the values are these; and this is told behind it.
+pub record IsSampledBy (words : List (List ℕ)) (watchers : List Watcher) (text : List ℕ)
+    (facts : Facts) (values cursors : List ℕ) (pops : ℕ) (telling : Telling) : Type 0 where
+  pub instance : Instance
+  pub outcome : IsOutcome words watchers text (Ended facts instance cursors pops [] telling)
+  pub sample : values_at instance.stacks cursors ≡ values
+
+-- Where words over given rows are answered by a sample, words over the rows with another sample in
+-- its place are answered by that: the lines of cursors and pops are the same, and so are the log,
+-- the witness and the reports that are asked for.
+abbrev pub ExchangedAnswers : Type 0
+ExchangedAnswers = (job : Job) (rows : Rows) (words others : List (List ℕ))
+    (watchers : List Watcher) (text : List ℕ)
+    (facts : Facts) (i : Instance) (cursors : List ℕ) (pops : ℕ) (telling : Telling) (x : List ℕ)
+    → Asks words (over_rows job rows) → Asks others (over_rows job (exchange rows cursors x))
+    → IsOutcome words watchers text (Ended facts i cursors pops [] telling)
+    → IsSampleOf (frame_of i (map length rows)) x
+    → IsSampledBy others watchers text facts x cursors pops telling
+
+-- rows of these heights, with which words are answered by this sample before any pop
+pub record IsReached (job : Job) (text : List ℕ) (s : Subject) (heights x : List ℕ)
+    : Type 0 where
+  pub rows : Rows
+  pub lengths : map length rows ≡ heights
+  pub answers : (words : List (List ℕ)) (watchers : List Watcher) → Asks words (over_rows job rows)
+      → (telling : Telling)
+      × IsSampledBy words watchers text s.facts x (replicate (length x) 0) 0 telling
+
+-- Each sample of what a job and a text ask for is the answer to some rows, of any heights: each
+-- assignment under which no event occurs, each orientation without a sink, each tree to the root.
+abbrev pub ReachedAnswers : Type 0
+ReachedAnswers = (job : Job) (text : List ℕ) (s : Subject) (heights x : List ℕ)
+    → IsSubjectOf job.command job text s → AreLight s.weights
+    → length heights ≡ length s.weights → All (λ h. 0 < h) heights
+    → IsSampleOf (frame_over s heights) x → IsReached job text s heights x

@@ -1,0 +1,131 @@
+-- Laws of answers.
+use Rattle.std.specs.Prelude.{◌≡◌, ◌≢◌, ◌⊎◌, ℕ, ◌<◌, ◌≤◌, List, length, Option, None, Some, slice_get, ⊤}
+use Rattle.pop_words.specs.declared.command.Command.TheVariants.{Resample, Resume}
+use Rattle.pop_words.specs.declared.job.Job.{Job}
+use Rattle.pop_words.specs.CommandLines.{Asks}
+use Rattle.pop_words.specs.declared.reports.Reports.{Reports}
+use Rattle.pop_watch.specs.Telling.{Watcher, log_told}
+use Rattle.pop_model.specs.Families.{Event}
+use Rattle.pop_model.specs.Instances.{Instance, instance_for}
+use Rattle.pop_model.specs.Logs.{LogRecord, replay}
+use Rattle.pop_model.specs.Runs.{IsFinished, IsFirstEnd, start_of}
+use Rattle.confluence_core.specs.declared.end.End.{End}
+use Rattle.confluence_core.specs.Laws.{RunsToEnd}
+use Rattle.top_call.specs.Outcomes.{Outcome, status_of, AnswersBy}
+use Rattle.top_call.specs.Outcomes.Outcome.{Ended, Resampled, Rounded, Paused, Replayed, Batched}
+use Rattle.pop_log.specs.Layers.{Placed}
+use Rattle.top_call.specs.Reports.{reports_text}
+use Rattle.top_call.specs.Tellings.{records_of, LeadsToEnd}
+use Rattle.top_call.specs.Pauses.{IsPause}
+use Rattle.top_call.specs.Answers.{IsOutcome, IsAnswer}
+
+-- the words ask neither for a resampling, whose order of pops is free, nor for a run that goes on,
+-- which may be one, nor for one that may stop before its end, which is free in what it popped by
+-- then
+abbrev pub AskForOneEnd : List (List ℕ) → Type 0
+AskForOneEnd words = (job : Job) → Asks words job
+    → (job.command ≢ Resample) × (job.command ≢ Resume) × (job.pops ≡ None)
+
+-- Watchers that report alike of every log, where these reports are asked for: so do the same
+-- watchers, and any where none is.
+abbrev pub ReportAlike : Reports → List Watcher → List Watcher → Type 0
+ReportAlike asked watchers others = (log : List LogRecord)
+    → reports_text asked (log_told log watchers) ≡ reports_text asked (log_told log others)
+
+-- the watchers report alike where the words ask for them, but of a resampling
+abbrev pub AskForLike : List (List ℕ) → List Watcher → List Watcher → Type 0
+AskForLike words watchers others = (job : Job) → Asks words job → job.command ≢ Resample
+    → ReportAlike job.reports watchers others
+
+-- such words and a text have one answer with watchers that report alike: one status and one output
+abbrev pub OneAnswer : Type 0
+OneAnswer = (words : List (List ℕ)) (watchers others : List Watcher) (text : List ℕ)
+    (status other : ℕ) (out out' : List ℕ) → AskForOneEnd words → AskForLike words watchers others
+    → IsAnswer words watchers text status out → IsAnswer words others text other out'
+    → (status ≡ other) × (out ≡ out')
+
+-- a run to an end, and one of the same instance that stopped after so many pops, of which the first
+-- has no more
+abbrev pub EndsAndPauses : Instance → List Placed → List Event → List Placed → Type 0
+EndsAndPauses i placed stuck stopped =
+    LeadsToEnd i (records_of placed) stuck × (length placed ≤ length stopped)
+    × IsPause i (length stopped) stopped
+
+-- Both are runs of one instance, each with its log: to an end, or to a pause. Two that stop do it
+-- after as many pops, of the same job and input.
+abbrev pub AreHistories : Outcome → Outcome → Type 0
+AreHistories (Resampled facts i placed stuck telling) (Resampled told j other rest another) =
+    (facts ≡ told) × (i ≡ j) × LeadsToEnd i (records_of placed) stuck
+    × LeadsToEnd i (records_of other) rest
+AreHistories (Resampled facts i placed stuck telling) (Paused job input told j other) =
+    (facts ≡ told) × (i ≡ j) × EndsAndPauses i placed stuck other
+AreHistories (Paused job input told j other) (Resampled facts i placed stuck telling) =
+    (facts ≡ told) × (i ≡ j) × EndsAndPauses i placed stuck other
+AreHistories (Paused job input facts i placed) (Paused asked read told j other) =
+    (job ≡ asked) × (input ≡ read) × (facts ≡ told) × (i ≡ j)
+    × IsPause i (length other) placed × IsPause i (length other) other
+AreHistories o p = ⊥
+
+-- one outcome, or two runs of one instance
+abbrev pub Agree : Outcome → Outcome → Type 0
+Agree o p = (o ≡ p) ⊎ AreHistories o p
+
+-- Words and a text have one outcome with watchers that report alike, but for the order of pops and
+-- what is told of them where a resampling is asked for, and for the pops up to a pause.
+abbrev pub OneOutcome : Type 0
+OneOutcome = (words : List (List ℕ)) (watchers others : List Watcher) (text : List ℕ)
+    (o p : Outcome) → AskForLike words watchers others
+    → IsOutcome words watchers text o → IsOutcome words others text p → Agree o p
+
+-- the layered log that an outcome shows, if any
+abbrev pub shown_log : Outcome → Option (List Placed)
+shown_log (Ended facts i cursors pops stuck telling) = telling.log
+shown_log (Resampled facts i placed stuck telling) = Some placed
+shown_log (Paused job input facts i placed) = Some placed
+shown_log o = None
+
+-- an answer that shows this log, or none
+abbrev pub IsAnswerShowing : List (List ℕ) → List Watcher → List ℕ → Option (List Placed) → ℕ
+    → List ℕ → Type 0
+IsAnswerShowing words watchers text log status out =
+    AnswersBy (λ o. IsOutcome words watchers text o × (shown_log o ≡ log)) status out
+
+-- Words, watchers and a text have one answer that shows a log: the order of pops is all that is
+-- free where a resampling is asked for, and the pops are where a run stops.
+abbrev pub OneLoggedAnswer : Type 0
+OneLoggedAnswer = (words : List (List ℕ)) (watchers : List Watcher) (text : List ℕ)
+    (log : Option (List Placed)) (status other : ℕ) (out out' : List ℕ)
+    → IsAnswerShowing words watchers text log status out
+    → IsAnswerShowing words watchers text log other out' → (status ≡ other) × (out ≡ out')
+
+-- no event occurs at the end of a run or of a replay, or of a batch at that of each sample
+abbrev pub EndsFinished : Outcome → Type 0
+EndsFinished (Ended facts i cursors pops stuck telling) = IsFinished i cursors
+EndsFinished (Resampled facts i placed stuck telling) =
+    IsFinished i (replay (start_of i) (records_of placed))
+EndsFinished (Rounded facts i cursors rounds stuck short) = IsFinished i cursors
+EndsFinished (Replayed i cursors records look) = IsFinished i cursors
+EndsFinished (Batched facts i ends) = (j : ℕ) (end : End) → slice_get ends j ≡ Some end
+    → IsFinished (instance_for j i) end.cursors
+EndsFinished o = ⊤
+
+-- A run with status 0 is one at whose end no event occurs: each clause is satisfied, each vertex
+-- has an edge that leaves it, or the arrows have no cycle.
+abbrev pub SampleFinished : Type 0
+SampleFinished = (words : List (List ℕ)) (watchers : List Watcher) (text : List ℕ) (o : Outcome)
+    → IsOutcome words watchers text o → status_of o ≡ 0 → EndsFinished o
+
+-- an outcome of a run that may stop after so many pops tells a pause exactly where each run to an
+-- end has more: so it tells the end of the one-thread run exactly where that one has no more
+abbrev pub TellsPause : ℕ → Outcome → Type 0
+TellsPause most (Paused job input facts i placed) = (log : List LogRecord)
+    → RunsToEnd i (start_of i) log → most < length log
+TellsPause most (Ended facts i cursors pops stuck telling) =
+    IsFirstEnd i cursors pops stuck × (pops ≤ most)
+TellsPause most o = ⊤
+
+-- so does each outcome of such words, where the order of pops isn't free
+abbrev pub PausedExactly : Type 0
+PausedExactly = (words : List (List ℕ)) (watchers : List Watcher) (text : List ℕ) (job : Job)
+    (most : ℕ) (o : Outcome) → Asks words job → job.command ≢ Resample → job.pops ≡ Some most
+    → IsOutcome words watchers text o → TellsPause most o

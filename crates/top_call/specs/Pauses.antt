@@ -1,0 +1,30 @@
+-- Runs that stop after so many pops.
+use Rattle.std.specs.Prelude.{◌≡◌, ℕ, List, [], length, Option, Some}
+use Rattle.pop_model.specs.Instances.{Instance}
+use Rattle.pop_model.specs.Logs.{IsLegal, replay}
+use Rattle.pop_model.specs.Runs.{start_of}
+use Rattle.pop_log.specs.Layers.{Placed}
+use Rattle.pop_log.specs.Layered.{AreInLayers}
+use Rattle.pop_words.specs.declared.job.Job.{Job}
+use Rattle.pop_print.specs.declared.facts.Facts.{Facts}
+use Rattle.run_cert.specs.Looks.{HasPoppable}
+use Rattle.top_call.specs.Tellings.{records_of}
+use Rattle.top_call.specs.Outcomes.{Outcome}
+use Rattle.top_call.specs.Outcomes.Outcome.{Paused}
+
+-- a legal log of exactly so many pops, layered as it stands, behind which an event is poppable
+pub record IsPause (i : Instance) (pops : ℕ) (placed : List Placed) : Type 0 where
+  pub legal : IsLegal i (start_of i) (records_of placed)
+  pub layered : AreInLayers [] placed
+  pub count : length placed ≡ pops
+  pub poppable : HasPoppable i (replay (start_of i) (records_of placed))
+
+-- the outcome tells such a pause of the run of a job and its input
+abbrev pub IsPausedAt : Job → List ℕ → Facts → Instance → ℕ → Outcome → Type 0
+IsPausedAt job input facts i pops (Paused told read also j placed) =
+    (told ≡ job) × (read ≡ input) × (also ≡ facts) × (j ≡ i) × IsPause i pops placed
+IsPausedAt job input facts i pops o = ⊥
+
+-- where a run may stop after so many pops, it paused there
+abbrev pub PausesAt : Option ℕ → Instance → List Placed → Type 0
+PausesAt asked i placed = (pops : ℕ) × (asked ≡ Some pops) × IsPause i pops placed

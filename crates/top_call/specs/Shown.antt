@@ -1,0 +1,145 @@
+-- What the output of an end shows of the text that was read: of each command the sample, or else
+-- the events that still occur.
+use Rattle.std.specs.Prelude.{◌≡◌, ◌⊎◌, ℕ, List, [], ◌∷◌, ◌++◌, length, flat_map, slice_get, Option, None, Some, ⊤}
+use Rattle.std.specs.List.{enumerate_from}
+use Rattle.pop_model.specs.Stacks.{Origin, StackTable, origin_for as origin_of_sample}
+use Rattle.pop_model.specs.Families.{Event}
+use Rattle.dimacs_read.specs.CnfText.{cnf_of}
+use Rattle.graph_read.specs.Grids.{grid_of}
+use Rattle.graph_read.specs.GraphText.{graph_of}
+use Rattle.cycle_popping.specs.Trees.{weights_of_tree}
+use Rattle.pop_words.specs.declared.command.Command.{Command}
+use Rattle.pop_words.specs.declared.command.Command.TheVariants.{Formula, Orient, Tree, Resample, Check, Make, Rounds, Replay, Resume}
+use Rattle.pop_words.specs.declared.job.Job.{Job}
+use Rattle.pop_words.specs.CommandLines.{Asks}
+use Rattle.pop_watch.specs.Telling.{Watcher}
+use Rattle.pop_print.specs.Batches.{batch_line, sample_line}
+use Rattle.printed_samples.specs.Assignments.{ShowsAssignment}
+use Rattle.printed_samples.specs.Orientations.{ShowsOrientation}
+use Rattle.printed_samples.specs.Stuck.{ShowsFalse, ShowsSinks}
+use Rattle.printed_trees.specs.Trees.{ShowsTree}
+use Rattle.printed_trees.specs.ArrowCycles.{ShowsCycles}
+use Rattle.printed_trees.specs.Made.{ShowsMade, CountsCycles}
+use Rattle.top_call.specs.Sampling.{pair_weights}
+use Rattle.run_cert.specs.Certificates.{Certificate, IsCertOf}
+use Rattle.top_call.specs.Replays.{job_of}
+use Rattle.top_call.specs.Answers.{IsAnswer, origin_for}
+
+-- the text begins with one that shows this
+abbrev pub BeginsWith : (List ℕ → Type 0) → List ℕ → Type 0
+BeginsWith Shows out = (front : List ℕ) × (rest : List ℕ) × (out ≡ front ++ rest) × Shows front
+
+-- the stacks of an origin, of these weights
+abbrev pub stacks_by : Origin → List (List ℕ) → StackTable
+stacks_by origin weights = record { origin = origin; weights = weights }
+
+-- the stacks of a formula's variables, of a graph's edges, and of its vertices but the root
+abbrev pub stacks_of_text : Command → Job → Origin → List ℕ → StackTable
+stacks_of_text Formula job origin text = stacks_by origin (pair_weights (cnf_of text).variables)
+stacks_of_text Orient job origin text =
+    stacks_by origin (pair_weights (length (graph_of text).edges))
+stacks_of_text Tree job origin text = stacks_by origin (weights_of_tree (graph_of text) job.root)
+stacks_of_text Resample job origin text = stacks_by origin (pair_weights (cnf_of text).variables)
+stacks_of_text Check job origin text = stacks_by origin []
+stacks_of_text Make job origin text = stacks_by origin (weights_of_tree (grid_of job.size) 1)
+stacks_of_text Rounds job origin text = stacks_by origin (pair_weights (cnf_of text).variables)
+stacks_of_text Replay job origin text = stacks_by origin []
+stacks_of_text Resume job origin text = stacks_by origin []
+
+-- what an output with status 0 shows of a line; of a verdict nothing
+abbrev pub ShowsSample : Command → Job → List ℕ → List ℕ → Type 0
+ShowsSample Formula job text out = ShowsAssignment (cnf_of text) out
+ShowsSample Orient job text out = ShowsOrientation (graph_of text) out
+ShowsSample Tree job text out = ShowsTree (graph_of text) job.root out
+ShowsSample Resample job text out = ShowsAssignment (cnf_of text) out
+ShowsSample Check job text out = ⊤
+ShowsSample Make job text out = BeginsWith (ShowsMade job.size) out
+ShowsSample Rounds job text out = ShowsAssignment (cnf_of text) out
+ShowsSample Replay job text out = ⊥
+ShowsSample Resume job text out = ⊥
+
+-- what an output with status 1 shows, of stacks of this origin; there is no such verdict
+abbrev pub ShowsExhausted : Command → Job → Origin → List ℕ → List ℕ → Type 0
+ShowsExhausted Formula job origin text out =
+    ShowsFalse (cnf_of text) (stacks_of_text Formula job origin text) out
+ShowsExhausted Orient job origin text out =
+    ShowsSinks (graph_of text) (stacks_of_text Orient job origin text) out
+ShowsExhausted Tree job origin text out =
+    ShowsCycles (graph_of text) job.root (stacks_of_text Tree job origin text) out
+ShowsExhausted Resample job origin text out =
+    ShowsFalse (cnf_of text) (stacks_of_text Resample job origin text) out
+ShowsExhausted Check job origin text out = ⊥
+ShowsExhausted Make job origin text out =
+    BeginsWith (CountsCycles job.size (stacks_of_text Make job origin text)) out
+ShowsExhausted Rounds job origin text out =
+    ShowsFalse (cnf_of text) (stacks_of_text Rounds job origin text) out
+ShowsExhausted Replay job origin text out = ⊥
+ShowsExhausted Resume job origin text out = ⊥
+
+-- what an output shows whose text is of an end with these events
+abbrev pub ShowsEnd : Command → Job → Origin → List ℕ → List Event → List ℕ → Type 0
+ShowsEnd command job origin text [] out = ShowsSample command job text out
+ShowsEnd command job origin text (e ∷ stuck) out = ShowsExhausted command job origin text out
+
+-- the texts of samples, each behind its number, from 0
+abbrev pub numbered : List (List ℕ) → List ℕ
+numbered texts = flat_map (λ p. sample_line p.0 ++ p.1) (enumerate_from 0 texts)
+
+-- an output of so many samples, of which the text of each shows this
+pub record ShowsEach (count : ℕ) (Shows : ℕ → List ℕ → Type 0) (out : List ℕ) : Type 0 where
+  pub texts : List (List ℕ)
+  pub count_is : length texts ≡ count
+  pub out_is : out ≡ batch_line count ++ numbered texts
+  pub each : (j : ℕ) (t : List ℕ) → slice_get texts j ≡ Some t → Shows j t
+
+-- an output of so many samples, of which some shows this, and each of the others that
+pub record ShowsSome (count : ℕ) (Shows Others : ℕ → List ℕ → Type 0) (out : List ℕ)
+    : Type 0 where
+  pub all : ShowsEach count (λ j t. Shows j t ⊎ Others j t) out
+  pub some : (j : ℕ) × (t : List ℕ) × (slice_get all.texts j ≡ Some t) × Shows j t
+
+-- what an output with status 0 shows: a sample; or where a number is asked for, as many
+abbrev pub ShowsSamples : Option ℕ → Job → List ℕ → List ℕ → Type 0
+ShowsSamples None job text out = ShowsSample job.command job text out
+ShowsSamples (Some count) job text out =
+    ShowsEach count (λ j t. ShowsSample job.command job text t) out
+
+-- what an output with status 1 shows: the events that still occur; or where a number of samples is
+-- asked for, these of some sample j, of its own stacks
+abbrev pub ShowsStuckSamples : Option ℕ → Job → List ℕ → List ℕ → Type 0
+ShowsStuckSamples None job text out = ShowsExhausted job.command job (origin_for job) text out
+ShowsStuckSamples (Some count) job text out =
+    ShowsSome count
+    (λ j t. ShowsExhausted job.command job (origin_of_sample j (origin_for job)) text t)
+    (λ j t. ShowsSample job.command job text t) out
+
+-- what an output with status 0 shows of a command: of the line of its own, of that of the
+-- certificate that is resumed, or of one that is replayed nothing
+abbrev pub ShowsEndOf : Command → Job → List ℕ → List ℕ → Type 0
+ShowsEndOf Replay job text out = ⊤
+ShowsEndOf Resume job text out =
+    (cert : Certificate) × IsCertOf text cert × ShowsSamples None (job_of cert.head) cert.input out
+ShowsEndOf command job text out = ShowsSamples job.count job text out
+
+-- and what one with status 1 shows
+abbrev pub ShowsStuckOf : Command → Job → List ℕ → List ℕ → Type 0
+ShowsStuckOf Replay job text out = ⊤
+ShowsStuckOf Resume job text out =
+    (cert : Certificate) × IsCertOf text cert
+    × ShowsStuckSamples None (job_of cert.head) cert.input out
+ShowsStuckOf command job text out = ShowsStuckSamples job.count job text out
+
+-- An output with status 0 shows of a formula an assignment that satisfies each clause, of a graph
+-- that is oriented an orientation in which an arrow leaves each vertex, and else a spanning tree,
+-- whose arrows lead to the root. Where a number of samples is asked for, it shows so many.
+abbrev pub SampleShown : Type 0
+SampleShown = (words : List (List ℕ)) (watchers : List Watcher) (text out : List ℕ)
+    → IsAnswer words watchers text 0 out
+    → (job : Job) × Asks words job × ShowsEndOf job.command job text out
+
+-- an output with status 1 shows the events that still occur: the clauses that are false, the
+-- vertices that no arrow leaves, or the cycles of the arrows; of a batch those of some sample
+abbrev pub ExhaustedShown : Type 0
+ExhaustedShown = (words : List (List ℕ)) (watchers : List Watcher) (text out : List ℕ)
+    → IsAnswer words watchers text 1 out
+    → (job : Job) × Asks words job × ShowsStuckOf job.command job text out

@@ -1,0 +1,25 @@
+-- Words whose stacks grow up to a height, and words whose stacks have it from the start.
+use Rattle.std.specs.Prelude.{◌≡◌, ℕ, List, None}
+use Rattle.pop_words.specs.declared.job.Job.{Job}
+use Rattle.pop_words.specs.CommandLines.{Asks}
+use Rattle.pop_watch.specs.Telling.{Watcher}
+use Rattle.top_call.specs.Answers.{last_height, IsAnswer}
+
+-- the job whose stacks have their last height from the start
+abbrev pub at_last_height : Job → Job
+at_last_height job = record job { height = last_height job; grow = None }
+
+-- The words ask for jobs that are one job, once the stacks of each have their last height from the
+-- start. So do words with `--height H --grow T` and those with `--height T` in its place.
+pub record DifferInStages (words others : List (List ℕ)) : Type 0 where
+  pub job : Job
+  pub other : Job
+  pub asks : Asks words job
+  pub asks_other : Asks others other
+  pub same : at_last_height job ≡ at_last_height other
+
+-- such words have the same answers to each text, with any watchers
+abbrev pub GrownAlike : Type 0
+GrownAlike = (words others : List (List ℕ)) (watchers : List Watcher) (text : List ℕ) (status : ℕ)
+    (out : List ℕ) → DifferInStages words others → IsAnswer words watchers text status out
+    → IsAnswer others watchers text status out

@@ -1,0 +1,65 @@
+-- What the top call leaves at its source and its sink.
+use Rattle.std.specs.Prelude.{◌≡◌, ◌⊎◌, ℕ, List, Option}
+use Rattle.std.specs.Io.KnownBytes.{Appends, Consumes}
+use Rattle.pop_model.specs.Faults.{Rose}
+use Rattle.pop_edge.specs.Devices.{AppendsFront}
+use Rattle.pop_edge.specs.declared.refusal.ReadRefusal.TheVariants.{ReadFault, OutOfMemory}
+use Rattle.pop_words.specs.declared.job.Job.{Job}
+use Rattle.pop_words.specs.CommandLines.{Asks, IsBadPlace}
+use Rattle.pop_watch.specs.Telling.{Watcher}
+use Rattle.top_call.specs.Refusals.{usage_line, reading_line}
+use Rattle.top_call.specs.Answers.{IsAnswer, MayFailBehind}
+
+-- a fault of a device or want of memory, and no answer to words and a text
+abbrev pub IsBreak : ℕ → Type 0
+IsBreak status = (status ≡ 7) ⊎ ((status ≡ 8) ⊎ (status ≡ 9))
+
+-- the sink holds just the text of the answer more
+pub record Answered (words : List (List ℕ)) (watchers : List Watcher) (text : List ℕ)
+    (old new : Option (List ℕ)) (status : ℕ) : Type 0 where
+  pub out : List ℕ
+  pub answer : IsAnswer words watchers text status out
+  pub held : Appends old new out
+
+-- the sink holds just the line of the first bad word more
+pub record AnsweredUsage (words : List (List ℕ)) (old new : Option (List ℕ)) : Type 0 where
+  pub place : ℕ
+  pub bad : IsBadPlace words place
+  pub held : Appends old new (usage_line place)
+
+-- The source failed: its count rose, the words ask for a job that reads, what was taken is within
+-- the limit, and, but where it is read whole before, no line of it whose end was taken is refused.
+pub record HasReadFault (words : List (List ℕ)) (left left' : Option (List ℕ))
+    (faults faults' : ℕ) : Type 0 where
+  pub rose : Rose faults faults'
+  pub job : Job
+  pub asks : Asks words job
+  pub taken : List ℕ
+  pub consumed : Consumes left left' taken
+  pub no_bad_line : MayFailBehind job.pops job.command taken
+
+-- a text that a call may write: that of an answer, of a fault of the source, or of want of memory
+abbrev pub MayWrite : List (List ℕ) → List Watcher → List ℕ → Type 0 → List ℕ → Type 0
+MayWrite words watchers text fault out =
+    ((status : ℕ) × IsAnswer words watchers text status out)
+    ⊎ ((fault × (out ≡ reading_line ReadFault)) ⊎ (out ≡ reading_line OutOfMemory))
+
+-- the sink holds just a front of such a text more
+pub record IsCutShort (words : List (List ℕ)) (watchers : List Watcher) (text : List ℕ)
+    (fault : Type 0) (old new : Option (List ℕ)) : Type 0 where
+  pub out : List ℕ
+  pub may : MayWrite words watchers text fault out
+  pub held : AppendsFront old new out
+
+-- a text that words outside the grammar are answered by: the line of their first bad word, or that
+-- of want of memory
+abbrev pub MayWriteUsage : List (List ℕ) → List ℕ → Type 0
+MayWriteUsage words out =
+    ((place : ℕ) × IsBadPlace words place × (out ≡ usage_line place))
+    ⊎ (out ≡ reading_line OutOfMemory)
+
+-- the sink holds just a front of such a text more
+pub record IsUsageCutShort (words : List (List ℕ)) (old new : Option (List ℕ)) : Type 0 where
+  pub out : List ℕ
+  pub may : MayWriteUsage words out
+  pub held : AppendsFront old new out

@@ -1,0 +1,234 @@
+//! The answer to command words and a source.
+ghost use Rattle.std.specs.Prelude.{◌≡◌, ◌≢◌, ◌⊎◌, ◌<◌, ◌≤◌, ◌^◌, ℕ, List, None, Some, Contains, map, string_bytes, IfOk, IfErr, MatchResult, IsErrOf, IfSome};
+ghost use Rattle.std.specs.Io.KnownBytes.{IsAtEnd, Consumes};
+ghost use Rattle.pop_model.specs.Faults.{Rose};
+ghost use Rattle.pop_model.specs.Stacks.{IsKeyed};
+ghost use Rattle.pop_words.specs.CommandLines.{AreWords, IsBadPlace};
+ghost use Rattle.pop_words.specs.declared.command.Command.TheVariants.{Make};
+ghost use Rattle.top_call.specs.TopCall.{HasReadFault};
+ghost use Rattle.top_call.specs.Answers.{IsAnswer, IsOutcome, ComesOf, origin_for, AskForGrid, IsInput, HasNoBadLine, MayFailBehind, MayStop, ComesBy, IsOfLine};
+ghost use Rattle.top_call.specs.Outcomes.{IsAnswerStatus, HasRun};
+ghost use Rattle.top_call.specs.Results.{IsResultOf, IsTextResult, IsOfWords};
+ghost use Rattle.top_call.specs.Refusals.{usage_line};
+ghost use Rattle.top_call.specs.declared.refusal.Refusal.TheVariants.{Usage, Stopped};
+ghost use Rattle.top_call.specs.declared.stop.Stop.TheVariants.{ReadFault, OutOfMemory};
+
+use crate::asked::Asked;
+use crate::call::Call;
+use crate::crew::Crew;
+use crate::formula::{check_formula, sample_formula};
+use crate::orientation::orient;
+use crate::origin::StackOrigin;
+use crate::pausing::pause_or_tell;
+use crate::reading::{formula_of, graph_of};
+use crate::refusal::Refusal;
+use crate::replaying::replay;
+use crate::resuming::resume;
+use crate::rounds::sample_rounds;
+use crate::stop::Stop;
+use crate::tree::{tree, tree_of_grid};
+use pop_edge::Source;
+use pop_watch::Watch;
+use pop_words::{Command, Job, read_words};
+use pop_workers::Gate;
+use std::alloc::Global;
+use std::sync::Wait;
+use std::thread::Threads;
+
+/// A status, and the whole text that goes with it.
+#[derive(Drop)]
+pub struct Answer {
+    pub status: u8,
+    pub text: Vec<u8>,
+}
+
+// The answer to a job whose run doesn't stop before its end. A grid is made without the source, and
+// each other command reads it.
+fn run_job<S: Source, R: Threads + Wait + Sync, G: Gate + Sync>(
+    call: &mut Call<R, G>,
+    job: Job,
+    source: &mut S,
+) -> Result<Answer, Refusal>
+    requires line { IsOfLine job.command }
+    requires run_out { job.pops ≡ None }
+    requires some { 0 < job.height }
+    requires short { job.height < 2 ^ 31 }
+    requires grow { IfSome job.grow (λ last. (0 < last) × (last < 2 ^ 31)) }
+    requires root { 1 ≤ job.root }
+    requires side { job.command ≡ Make → (1 ≤ job.size) × (job.size ≤ 2048) }
+    requires keyed { (count : ℕ) → job.count ≡ Some count → IsKeyed (origin_for job) }
+    ensures answer { (text : List ℕ) → (S.left source.old ≡ Some text) ⊎ (job.command ≡ Make)
+        → (IsErrOf result (Stopped ReadFault) → ⊥)
+        → IsResultOf (ComesOf job (map (λ b. (kind b, state b)) call.old.watchers.items) text)
+        result }
+    ensures status { IsTextResult result }
+    ensures unread { job.command ≡ Make → source.new ≡ source.old }
+    ensures whole { IfOk result (λ a.
+        HasRun a.status → job.command ≢ Make → IsAtEnd (S.left source.new)) }
+    ensures read_fault { IsErrOf result (Stopped ReadFault)
+        → Rose (S.faults source.old) (S.faults source.new) }
+    ensures no_bad_line { IsErrOf result (Stopped ReadFault) → (taken : List ℕ)
+        × Consumes (S.left source.old) (S.left source.new) taken
+        × HasNoBadLine job.command taken }
+{
+    let asked = Asked::of(&job);
+    let origin = StackOrigin::new(job.stacks, job.height, job.grow);
+    match job.command {
+        Command::Formula => {
+            sample_formula(call, origin, asked, false, &formula_of(call.alloc, source)?)
+        }
+        Command::Resample => {
+            sample_formula(call, origin, asked, true, &formula_of(call.alloc, source)?)
+        }
+        Command::Check => check_formula(call.alloc, &formula_of(call.alloc, source)?),
+        Command::Orient => orient(call, origin, asked, graph_of(call.alloc, source)?),
+        Command::Tree => tree(call, origin, asked, job.root, graph_of(call.alloc, source)?),
+        Command::Make => tree_of_grid(call, origin, asked, job.size),
+        Command::Rounds => sample_rounds(call, origin, &formula_of(call.alloc, source)?),
+        Command::Replay | Command::Resume => unreachable!(),
+    }
+}
+
+// The answer to a job by the line of its command. One that says after how many pops its run stops
+// reads the source whole first.
+fn answer_line<S: Source, R: Threads + Wait + Sync, G: Gate + Sync>(
+    call: &mut Call<R, G>,
+    job: Job,
+    source: &mut S,
+) -> Result<Answer, Refusal>
+    requires line { IsOfLine job.command }
+    requires some { 0 < job.height }
+    requires short { job.height < 2 ^ 31 }
+    requires grow { IfSome job.grow (λ last. (0 < last) × (last < 2 ^ 31)) }
+    requires root { 1 ≤ job.root }
+    requires side { job.command ≡ Make → (1 ≤ job.size) × (job.size ≤ 2048) }
+    requires stops { (pops : ℕ) → job.pops ≡ Some pops → MayStop job }
+    requires keyed { (count : ℕ) → job.count ≡ Some count → IsKeyed (origin_for job) }
+    ensures answer { (text : List ℕ) → (S.left source.old ≡ Some text) ⊎ (job.command ≡ Make)
+        → (IsErrOf result (Stopped ReadFault) → ⊥)
+        → IsResultOf (ComesOf job (map (λ b. (kind b, state b)) call.old.watchers.items) text)
+        result }
+    ensures status { IsTextResult result }
+    ensures unread { job.command ≡ Make → source.new ≡ source.old }
+    ensures whole { IfOk result (λ a.
+        HasRun a.status → job.command ≢ Make → IsAtEnd (S.left source.new)) }
+    ensures read_fault { IsErrOf result (Stopped ReadFault)
+        → Rose (S.faults source.old) (S.faults source.new) }
+    ensures no_bad_line { IsErrOf result (Stopped ReadFault) → (taken : List ℕ)
+        × Consumes (S.left source.old) (S.left source.new) taken
+        × MayFailBehind job.pops job.command taken }
+{
+    match job.pops {
+        Some(pops) => pause_or_tell(call, &job, pops, source),
+        None => run_job(call, job, source),
+    }
+}
+
+// The answer to a job. A certificate is replayed or resumed.
+fn answer_job<S: Source, R: Threads + Wait + Sync, G: Gate + Sync>(
+    call: &mut Call<R, G>,
+    job: Job,
+    source: &mut S,
+) -> Result<Answer, Refusal>
+    requires some { 0 < job.height }
+    requires short { job.height < 2 ^ 31 }
+    requires grow { IfSome job.grow (λ last. (0 < last) × (last < 2 ^ 31)) }
+    requires root { 1 ≤ job.root }
+    requires side { job.command ≡ Make → (1 ≤ job.size) × (job.size ≤ 2048) }
+    requires stops { (pops : ℕ) → job.pops ≡ Some pops → MayStop job }
+    requires keyed { (count : ℕ) → job.count ≡ Some count → IsKeyed (origin_for job) }
+    ensures answer { (text : List ℕ) → (S.left source.old ≡ Some text) ⊎ (job.command ≡ Make)
+        → (IsErrOf result (Stopped ReadFault) → ⊥)
+        → IsResultOf (ComesBy job.command job (map (λ b. (kind b, state b)) call.old.watchers.items)
+        text) result }
+    ensures status { IsTextResult result }
+    ensures unread { job.command ≡ Make → source.new ≡ source.old }
+    ensures whole { IfOk result (λ a.
+        HasRun a.status → job.command ≢ Make → IsAtEnd (S.left source.new)) }
+    ensures read_fault { IsErrOf result (Stopped ReadFault)
+        → Rose (S.faults source.old) (S.faults source.new) }
+    ensures no_bad_line { IsErrOf result (Stopped ReadFault) → (taken : List ℕ)
+        × Consumes (S.left source.old) (S.left source.new) taken
+        × MayFailBehind job.pops job.command taken }
+{
+    match job.command {
+        Command::Replay => replay(call.alloc, source),
+        Command::Resume => resume(call, source),
+        _ => answer_line(call, job, source),
+    }
+}
+
+// The answer to command words, watchers and the text of a source, or a refusal.
+fn answer_words<S: Source, R: Threads + Wait + Sync, G: Gate + Sync>(
+    rt: &R,
+    alloc: Global,
+    words: &[String],
+    watchers: Vec<Box<dyn Watch>>,
+    gate: &G,
+    source: &mut S,
+) -> Result<Answer, Refusal>
+    ensures answer { (text : List ℕ)
+        → IsInput (map string_bytes words.now) (S.left source.old) text
+        → (IsErrOf result (Stopped ReadFault) → ⊥)
+        → IsResultOf (IsOutcome (map string_bytes words.now)
+        (map (λ b. (kind b, state b)) watchers.items) text) result }
+    ensures status { IfOk result (λ a. IsAnswerStatus a.status) }
+    ensures usage { IfOk result (λ a. a.status ≢ 2) }
+    ensures bad_place { (place : ℕ) → IsErrOf result (Usage place)
+        → IsBadPlace (map string_bytes words.now) place }
+    ensures only_words { (AreWords (map string_bytes words.now) → ⊥)
+        → MatchResult result (λ a. ⊥) IsOfWords }
+    ensures unread { (AreWords (map string_bytes words.now) → ⊥)
+        ⊎ AskForGrid (map string_bytes words.now) → source.new ≡ source.old }
+    ensures whole { IfOk result (λ a. HasRun a.status
+        → (AskForGrid (map string_bytes words.now) → ⊥) → IsAtEnd (S.left source.new)) }
+    ensures read_fault { IsErrOf result (Stopped ReadFault)
+        → HasReadFault (map string_bytes words.now) (S.left source.old) (S.left source.new)
+        (S.faults source.old) (S.faults source.new) }
+{
+    let job = read_words(alloc, words)?;
+    let crew = Crew::new(rt, gate, job.workers, job.board);
+    let mut call = Call {
+        alloc,
+        crew,
+        watchers,
+    };
+    answer_job(&mut call, job, source)
+}
+
+/// The answer to command words, watchers and the text of a source, or why there is none.
+pub fn answer_to<S: Source, R: Threads + Wait + Sync, G: Gate + Sync>(
+    rt: &R,
+    alloc: Global,
+    words: &[String],
+    watchers: Vec<Box<dyn Watch>>,
+    gate: &G,
+    source: &mut S,
+) -> Result<Answer, Stop>
+    ensures answer { (text : List ℕ)
+        → IsInput (map string_bytes words.now) (S.left source.old) text
+        → IfOk result (λ a. IsAnswer (map string_bytes words.now)
+        (map (λ b. (kind b, state b)) watchers.items) text a.status a.text.items) }
+    ensures status { IfOk result (λ a. IsAnswerStatus a.status) }
+
+    // Words outside the grammar are told of whatever the source is.
+    ensures usage { IfOk result (λ a. a.status ≡ 2 → (place : ℕ)
+        × IsBadPlace (map string_bytes words.now) place × (a.text.items ≡ usage_line place)) }
+    ensures only_usage { (AreWords (map string_bytes words.now) → ⊥)
+        → MatchResult result (λ a. a.status ≡ 2) (λ stop. stop ≡ OutOfMemory) }
+
+    // Then the source is left as it was, and so it is where a grid is made.
+    ensures unread { (AreWords (map string_bytes words.now) → ⊥)
+        ⊎ AskForGrid (map string_bytes words.now) → source.new ≡ source.old }
+
+    ensures whole { IfOk result (λ a. HasRun a.status
+        → (AskForGrid (map string_bytes words.now) → ⊥) → IsAtEnd (S.left source.new)) }
+    ensures read_fault { IsErrOf result ReadFault
+        → HasReadFault (map string_bytes words.now) (S.left source.old) (S.left source.new)
+        (S.faults source.old) (S.faults source.new) }
+{
+    match answer_words(rt, alloc, words, watchers, gate, source) {
+        Ok(answer) => Ok(answer),
+        Err(refusal) => refusal.told(alloc),
+    }
+}

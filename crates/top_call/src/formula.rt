@@ -1,0 +1,55 @@
+//! The commands on a formula: `formula` and `resample` sample it, and `check` says whether its
+//! events are extremal.
+ghost use Rattle.std.specs.Prelude.{◌≡◌, ℕ, None, Some, map};
+ghost use Rattle.pop_model.specs.Stacks.{IsKeyed};
+ghost use Rattle.dimacs_read.specs.Cnf.{first_empty};
+ghost use Rattle.pop_print.specs.declared.facts.Facts.TheVariants.{Formula as FormulaFacts};
+ghost use Rattle.top_call.specs.Results.{IsResultOf};
+ghost use Rattle.top_call.specs.Sampling.{pair_weights, ComesOfSampling};
+ghost use Rattle.top_call.specs.Formulas.{ComesOfChecking};
+ghost use Rattle.top_call.specs.Resamplings.{RunsFormula};
+
+use crate::answer::Answer;
+use crate::asked::Asked;
+use crate::batching::sample_and_tell;
+use crate::call::Call;
+use crate::making::{Made, make_formula, refuse_clash};
+use crate::origin::StackOrigin;
+use crate::refusal::{Refusal, told_in_line};
+use dimacs_read::Formula;
+use pop_workers::Gate;
+use std::alloc::Global;
+use std::sync::Wait;
+use std::thread::Threads;
+
+/// Samples the formula: the answer of `formula`, where its events may not clash, and of `resample`,
+/// where they may. That pops in an order of its own, which the log tells.
+pub fn sample_formula<R: Threads + Wait + Sync, G: Gate + Sync>(
+    call: &mut Call<R, G>,
+    origin: StackOrigin,
+    asked: Asked,
+    may_clash: bool,
+    formula: &Formula,
+) -> Result<Answer, Refusal>
+    requires filled { first_empty formula.now ≡ None }
+    requires free { asked.free ≡ may_clash }
+    requires run_out { asked.pops ≡ None }
+    requires keyed { (count : ℕ) → asked.count ≡ Some count → IsKeyed origin }
+    ensures { IsResultOf (ComesOfSampling (FormulaFacts formula.now.variables) origin
+        (pair_weights formula.now.variables) asked.count (RunsFormula may_clash origin asked
+        (map (λ b. (kind b, state b)) call.old.watchers.items) formula.now)) result }
+{
+    let made = make_formula(call.alloc, origin, asked.count, may_clash, formula)?;
+    let Made { facts, instance } = made;
+    Ok(sample_and_tell(call, &facts, instance, asked)?)
+}
+
+/// Says whether the formula's events are extremal: the answer of `check`.
+pub fn check_formula(alloc: Global, formula: &Formula) -> Result<Answer, Refusal>
+    requires filled { first_empty formula.now ≡ None }
+    ensures { IsResultOf (ComesOfChecking formula.now) result }
+{
+    let events = formula.events(alloc)?;
+    refuse_clash(alloc, false, formula.variables(), &events)?;
+    Ok(told_in_line(alloc, 0, "EXTREMAL", &[events.count() as u64])?)
+}

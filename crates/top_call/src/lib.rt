@@ -1,0 +1,37 @@
+//! The top call: command words and a text in, a text and a status out. `run` is the whole of the
+//! program, over any source and sink; contracts see the words, the bytes that the source has left
+//! and the bytes that the sink holds. `laws` says what its answers mean.
+#![tactic(auto)]
+
+mod accepted;
+mod answer;
+mod asked;
+mod batching;
+mod call;
+mod crew;
+mod formula;
+mod growing_instance;
+mod growing_stacks;
+mod instances;
+pub mod laws;
+mod making;
+mod named;
+mod names;
+mod orientation;
+mod origin;
+mod pausing;
+mod reading;
+mod refusal;
+mod replaying;
+mod reporting;
+mod resuming;
+mod rounds;
+mod running;
+mod stop;
+mod telling;
+mod top;
+mod tree;
+mod whole;
+mod witness;
+
+pub use top::run;

@@ -1,0 +1,36 @@
+//! The command on the orientations of a graph: `orient` samples one without a sink.
+ghost use Rattle.std.specs.Prelude.{◌≡◌, false, ℕ, None, Some, map};
+ghost use Rattle.pop_model.specs.Stacks.{IsKeyed};
+ghost use Rattle.top_call.specs.Results.{IsResultOf};
+ghost use Rattle.top_call.specs.Orientations.{ComesOfOrienting};
+
+use crate::answer::Answer;
+use crate::asked::Asked;
+use crate::batching::sample_and_tell;
+use crate::call::Call;
+use crate::making::{Made, make_orientation};
+use crate::origin::StackOrigin;
+use crate::refusal::Refusal;
+use graph_read::Graph;
+use pop_workers::Gate;
+use std::sync::Wait;
+use std::thread::Threads;
+
+/// Orients the graph so that each vertex that an edge touches has an edge that leaves it: the
+/// answer of `orient`. A loop leaves its vertex.
+pub fn orient<R: Threads + Wait + Sync, G: Gate + Sync>(
+    call: &mut Call<R, G>,
+    origin: StackOrigin,
+    asked: Asked,
+    graph: Graph,
+) -> Result<Answer, Refusal>
+    requires ordered { asked.free ≡ false }
+    requires run_out { asked.pops ≡ None }
+    requires keyed { (count : ℕ) → asked.count ≡ Some count → IsKeyed origin }
+    ensures { IsResultOf (ComesOfOrienting origin asked
+        (map (λ b. (kind b, state b)) call.old.watchers.items) graph) result }
+{
+    let made = make_orientation(call.alloc, origin, asked.count, graph)?;
+    let Made { facts, instance } = made;
+    Ok(sample_and_tell(call, &facts, instance, asked)?)
+}

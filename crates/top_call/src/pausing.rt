@@ -1,0 +1,193 @@
+//! Runs that stop after so many pops: where an event is poppable then, the answer is a certificate
+//! of the run so far, and else that of the run to its end.
+ghost use Rattle.std.specs.Prelude.{◌≡◌, ◌≢◌, ◌<◌, ◌≤◌, ◌^◌, ℕ, List, None, Some, length, map, Contains, IfOk, IsErrOf, if◌then◌else◌};
+ghost use Rattle.std.specs.Io.KnownBytes.{Consumes, IsAtEnd};
+ghost use Rattle.pop_model.specs.Faults.{Rose};
+ghost use Rattle.pop_model.specs.Stacks.{variables_of};
+ghost use Rattle.pop_model.specs.Popping.{AreWithin};
+ghost use Rattle.pop_model.specs.Extremal.{IsExtremal};
+ghost use Rattle.pop_model.specs.Logs.{IsLegal, replay};
+ghost use Rattle.pop_model.specs.Runs.{IsEnd, start_of};
+ghost use Rattle.confluence_core.specs.Kept.{keeps_log};
+ghost use Rattle.confluence_core.specs.Runs.{IsRunOf};
+ghost use Rattle.pop_edge.specs.Lines.{text_limit};
+ghost use Rattle.pop_words.specs.declared.command.Command.TheVariants.{Resample};
+ghost use Rattle.pop_words.specs.Options.{paused};
+ghost use Rattle.pop_print.specs.Ends.{AreFactsOf};
+ghost use Rattle.run_cert.specs.Looks.{HasPoppable, IsSoFar};
+ghost use Rattle.top_call.specs.Answers.{ComesOf, origin_for};
+ghost use Rattle.top_call.specs.Made.{IsMade};
+ghost use Rattle.top_call.specs.Outcomes.{AnswersBy, HasRun};
+ghost use Rattle.top_call.specs.Pauses.{IsPausedAt};
+ghost use Rattle.top_call.specs.Results.{IsResultOf, IsTextResult};
+ghost use Rattle.top_call.specs.declared.refusal.Refusal.TheVariants.{Stopped};
+ghost use Rattle.top_call.specs.declared.stop.Stop.TheVariants.{ReadFault};
+
+use crate::answer::Answer;
+use crate::asked::Asked;
+use crate::call::Call;
+use crate::making::{Made, made_of};
+use crate::names::names_of;
+use crate::origin::{StackOrigin, copy_spec};
+use crate::refusal::Refusal;
+use crate::running::tell_end;
+use crate::whole::read_whole;
+use confluence_core::{End, Keep, Log};
+use pop_edge::Source;
+use pop_instance::{Instance, Values};
+use pop_log::LayeredLog;
+use pop_print::Facts;
+use pop_stacks::Reader;
+use pop_words::Job;
+use pop_workers::Outcome;
+use run_cert::{Look, Part, print_cert, run_part};
+use std::alloc::{AllocError, Global};
+
+// How many bytes an input may have: a longer one is read up to the first byte too many, by which
+// its grammar refuses it.
+const INPUT_LIMIT: usize = 1 << 28;
+
+// The certificate of a run that stopped: the job, its input, and the text of its layered log.
+fn tell_pause(
+    alloc: Global,
+    job: &Job,
+    input: &[u8],
+    facts: &Facts,
+    instance: &Instance,
+    log: &Log,
+) -> Result<Answer, AllocError>
+    requires short { length input.now < 2 ^ 32 }
+    requires legal { IsLegal instance.now (start_of instance.now) log.now }
+    requires open { HasPoppable instance.now (replay (start_of instance.now) log.now) }
+    ensures { IfOk result (λ a. AnswersBy (IsPausedAt job.now input.now facts.now instance.now
+        (length log.now)) a.status a.text.items) }
+{
+    // Read for its contract, which says what holds of every instance.
+    let _units = instance.units();
+    let placed = LayeredLog::of(alloc, instance.stacks().count(), log)?;
+    let names = names_of(facts);
+    let log_text = placed.print(alloc, instance, &names)?;
+    let text = print_cert(alloc, job, input, &log_text)?;
+    Ok(Answer { status: 10, text })
+}
+
+// The log, where it is to be kept.
+fn kept(log: Log, keep: Keep) -> Option<Log>
+    ensures { result ≡ (if keeps_log keep then Some log else None) }
+{
+    match keep {
+        Keep::Log => Some(log),
+        Keep::Nothing => None,
+    }
+}
+
+// A run that came to an end, with its log where it is to be kept.
+fn ended(alloc: Global, instance: &Instance, part: Part, keep: Keep) -> Result<Outcome, AllocError>
+    requires part { IsSoFar instance.now part }
+    requires count { variables_of instance.now.stacks ≡ length part.cursors }
+    requires within { AreWithin instance.now.stacks part.cursors }
+    requires end { IsEnd instance.now part.cursors }
+    ensures run { IfOk result (IsRunOf instance.now (start_of instance.now) (keeps_log keep)) }
+    ensures pops { IfOk result (λ run. run.end.pops ≡ length part.log) }
+{
+    let Part { cursors, log, seen } = part;
+    let mut reader = Reader::keeping(alloc, instance.stacks())?;
+    let values = Values::at(alloc, instance.stacks(), &mut reader, &cursors)?;
+    let end = End {
+        cursors,
+        pops: log.len(),
+        stuck: seen.stuck,
+        values,
+    };
+    Ok(Outcome {
+        end,
+        log: kept(log, keep),
+    })
+}
+
+// Runs the instance up to so many pops, and tells the certificate where an event is poppable then,
+// and else the end.
+fn stop_and_tell<R, G>(
+    call: &mut Call<R, G>,
+    job: &Job,
+    pops: u32,
+    input: &[u8],
+    made: Made,
+) -> Result<Answer, AllocError>
+    requires pops { job.now.pops ≡ Some pops }
+    requires command { Contains paused job.now.command }
+    requires once { job.now.count ≡ None }
+    requires short { length input.now ≤ text_limit }
+    requires made { IsMade job.now.command (origin_for job.now) job.now.root input.now made.facts
+        made.instance }
+    requires told { AreFactsOf made.facts made.instance }
+    requires extremal { job.now.command ≢ Resample → IsExtremal made.instance.family }
+    ensures { IfOk result (λ a. AnswersBy (ComesOf job.now
+        (map (λ b. (kind b, state b)) call.old.watchers.items) input.now) a.status a.text.items) }
+{
+    let Made { facts, instance } = made;
+    let instance = instance.raised();
+    let part = run_part(call.alloc, &instance, u64::from(pops))?;
+    if part.seen.look == Look::Open {
+        return tell_pause(call.alloc, job, input, &facts, &instance, &part.log);
+    }
+    let asked = Asked::of(job);
+    let run = ended(call.alloc, &instance, part, asked.keep())?;
+    tell_end(call, &facts, &instance, run, asked)
+}
+
+// The answer to a job whose run stops after so many pops, on the bytes that were read.
+fn judge_and_stop<R, G>(
+    call: &mut Call<R, G>,
+    job: &Job,
+    pops: u32,
+    input: &[u8],
+) -> Result<Answer, Refusal>
+    requires pops { job.now.pops ≡ Some pops }
+    requires command { Contains paused job.now.command }
+    requires once { job.now.count ≡ None }
+    requires some { 0 < job.now.height }
+    requires tall { job.now.height < 2 ^ 31 }
+    requires grow { job.now.grow ≡ None }
+    requires root { 1 ≤ job.now.root }
+    ensures answer { IsResultOf (ComesOf job.now
+        (map (λ b. (kind b, state b)) call.old.watchers.items) input.now) result }
+    ensures status { IsTextResult result }
+    ensures short { IfOk result (λ a. HasRun a.status → length input.now ≤ text_limit) }
+{
+    let spec = copy_spec(call.alloc, &job.stacks)?;
+    let origin = StackOrigin::new(spec, job.height, job.grow);
+    let made = made_of(call.alloc, job.command, origin, job.root, input)?;
+    Ok(stop_and_tell(call, job, pops, input, made)?)
+}
+
+/// The answer to a job whose run stops after so many pops. The source is read whole before a byte
+/// of it is judged.
+pub fn pause_or_tell<S: Source, R, G>(
+    call: &mut Call<R, G>,
+    job: &Job,
+    pops: u32,
+    source: &mut S,
+) -> Result<Answer, Refusal>
+    requires pops { job.now.pops ≡ Some pops }
+    requires command { Contains paused job.now.command }
+    requires once { job.now.count ≡ None }
+    requires some { 0 < job.now.height }
+    requires tall { job.now.height < 2 ^ 31 }
+    requires grow { job.now.grow ≡ None }
+    requires root { 1 ≤ job.now.root }
+    ensures answer { (text : List ℕ) → S.left source.old ≡ Some text
+        → (IsErrOf result (Stopped ReadFault) → ⊥)
+        → IsResultOf (ComesOf job.now (map (λ b. (kind b, state b)) call.old.watchers.items) text)
+        result }
+    ensures status { IsTextResult result }
+    ensures whole { IfOk result (λ a. HasRun a.status → IsAtEnd (S.left source.new)) }
+    ensures read_fault { IsErrOf result (Stopped ReadFault)
+        → Rose (S.faults source.old) (S.faults source.new) }
+    ensures short { IsErrOf result (Stopped ReadFault) → (taken : List ℕ)
+        × Consumes (S.left source.old) (S.left source.new) taken
+        × (length taken ≤ text_limit) }
+{
+    let input = read_whole(call.alloc, source, INPUT_LIMIT)?;
+    judge_and_stop(call, job, pops, &input)
+}

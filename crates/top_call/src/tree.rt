@@ -1,0 +1,59 @@
+//! The commands on spanning trees: `tree` samples a rooted one of a graph, and `make` of a grid
+//! that is made from a number.
+ghost use Rattle.std.specs.Prelude.{◌≡◌, false, ℕ, None, Some, ◌≤◌, map};
+ghost use Rattle.pop_model.specs.Stacks.{IsKeyed};
+ghost use Rattle.top_call.specs.Results.{IsResultOf};
+ghost use Rattle.top_call.specs.Trees.{ComesOfTree};
+ghost use Rattle.top_call.specs.Grids.{ComesOfGrid};
+
+use crate::answer::Answer;
+use crate::asked::Asked;
+use crate::batching::sample_and_tell;
+use crate::call::Call;
+use crate::making::{Made, make_grid, make_tree};
+use crate::origin::StackOrigin;
+use crate::refusal::Refusal;
+use graph_read::Graph;
+use pop_workers::Gate;
+use std::sync::Wait;
+use std::thread::Threads;
+
+/// Samples a spanning tree of the graph with this root, from 1: the answer of `tree`.
+pub fn tree<R: Threads + Wait + Sync, G: Gate + Sync>(
+    call: &mut Call<R, G>,
+    origin: StackOrigin,
+    asked: Asked,
+    root: u32,
+    graph: Graph,
+) -> Result<Answer, Refusal>
+    requires ordered { asked.free ≡ false }
+    requires run_out { asked.pops ≡ None }
+    requires keyed { (count : ℕ) → asked.count ≡ Some count → IsKeyed origin }
+    requires root { 1 ≤ root }
+    ensures { IsResultOf (ComesOfTree origin asked
+        (map (λ b. (kind b, state b)) call.old.watchers.items) root graph) result }
+{
+    let made = make_tree(call.alloc, origin, asked.count, root, graph)?;
+    let Made { facts, instance } = made;
+    Ok(sample_and_tell(call, &facts, instance, asked)?)
+}
+
+/// Samples a spanning tree of the grid of so many rows and columns, from 1 to 2048, with its arrows
+/// to vertex 1: the answer of `make`.
+pub fn tree_of_grid<R: Threads + Wait + Sync, G: Gate + Sync>(
+    call: &mut Call<R, G>,
+    origin: StackOrigin,
+    asked: Asked,
+    side: u32,
+) -> Result<Answer, Refusal>
+    requires ordered { asked.free ≡ false }
+    requires run_out { asked.pops ≡ None }
+    requires keyed { (count : ℕ) → asked.count ≡ Some count → IsKeyed origin }
+    requires side { (1 ≤ side) × (side ≤ 2048) }
+    ensures { IsResultOf (ComesOfGrid origin asked
+        (map (λ b. (kind b, state b)) call.old.watchers.items) side) result }
+{
+    let made = make_grid(call.alloc, origin, asked.count, side)?;
+    let Made { facts, instance } = made;
+    Ok(sample_and_tell(call, &facts, instance, asked)?)
+}
