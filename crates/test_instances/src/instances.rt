@@ -1,0 +1,27 @@
+use crate::events::{EventRow, events, family};
+use crate::given::stacks;
+use pop_instance::{Arrows, Family, Instance};
+use pop_stacks::Stacks;
+use std::alloc::Global;
+use std::test::Fail;
+
+/// The instance of these stacks and this family.
+pub fn over(stacks: Stacks, family: Family) -> Result<Instance, Fail> {
+    match Instance::new(stacks, family) {
+        Some(instance) => Ok(instance),
+        None => Err(Fail::new("no instance")),
+    }
+}
+
+/// The instance of these rows of entries and the events of these numbers and pairs, of which the
+/// numbers rise.
+pub fn listed(alloc: Global, rows: &[&[u32]], table: &[EventRow]) -> Result<Instance, Fail> {
+    let events = events(alloc, table)?;
+    let family = family(alloc, events)?;
+    over(stacks(alloc, rows)?, family)
+}
+
+/// The instance of these rows of entries and the cycles of these arrows.
+pub fn cycles(alloc: Global, rows: &[&[u32]], arrows: Arrows) -> Result<Instance, Fail> {
+    over(stacks(alloc, rows)?, Family::Cycles(arrows))
+}
