@@ -191,6 +191,3 @@ pub fn part_from(
         _ => unreachable!(),
     }
 }
-
-#[cfg(test)]
-mod tests;

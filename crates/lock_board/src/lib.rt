@@ -11,8 +11,6 @@ mod book;
 mod cycle_from;
 pub mod laws;
 mod site;
-#[cfg(test)]
-mod tests;
 
 pub use attempt::Attempt;
 pub use book::Book;

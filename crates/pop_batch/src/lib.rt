@@ -7,8 +7,6 @@
 mod batches;
 mod ends;
 pub mod laws;
-#[cfg(test)]
-mod tests;
 
 pub use batches::batch;
 pub use ends::Ends;

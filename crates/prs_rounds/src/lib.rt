@@ -17,8 +17,6 @@ mod rounds;
 mod seen;
 mod shown;
 mod state;
-#[cfg(test)]
-mod tests;
 mod values;
 
 pub use looks::violated;

@@ -1,0 +1,96 @@
+//! Instances by tables, under a key: listed events over variables with two values each, and arrows
+//! with two slots each.
+ghost use Rattle.std.specs.Prelude.{IfOk, OnOk};
+ghost use Rattle.pop_model.specs.Stacks.{IsKeyed};
+ghost use Rattle.pop_model.specs.Extremal.{IsExtremal};
+
+use crate::arrows::arrows_of;
+use extremal_check::{Verdict, check};
+use pop_instance::{Cube, Family, Index, Instance};
+use pop_stacks::{StackSpec, Stacks, Weights};
+use std::alloc::Global;
+use std::process::Abort;
+use std::test::Fail;
+use test_instances::{EventRow, cube, family};
+
+// The stacks of so many variables with two values each, under the key of zeros.
+fn stacks(rt: &impl Abort, count: u32, height: u32) -> Result<Stacks, Fail>
+    ensures { IfOk result (λ stacks. IsKeyed stacks.origin) }
+{
+    assert!(rt; count < 1000);
+    assert!(rt; 0 < height);
+    assert!(rt; height < 1000);
+    Ok(Stacks::new(StackSpec::Key([0; 32]), Weights::pairs(count), height)?)
+}
+
+// The events of these numbers and pairs.
+fn events(alloc: Global, table: &[EventRow]) -> Result<Vec<(u32, Cube)>, Fail> {
+    let mut rows = Vec::new(alloc);
+    for (number, pairs) in table {
+        rows.push((*number, cube(alloc, pairs)?))?;
+    }
+    Ok(rows)
+}
+
+// Stops the test where two listed events of the instance clash.
+fn expect_extremal(rt: &impl Abort, alloc: Global, instance: &Instance) -> Result<(), Fail>
+    ensures { OnOk result (IsExtremal instance.now.family) }
+{
+    let _units = instance.units();
+    let Family::Listed(events) = instance.family() else {
+        panic!(rt; "listed events");
+    };
+    let index = Index::build(alloc, events, instance.stacks().count())?;
+    match check(alloc, events, &index)? {
+        Verdict::Extremal => Ok(()),
+        Verdict::Clash(_, _) => panic!(rt; "events that don't clash"),
+    }
+}
+
+// The instance of so many variables of this height and the events of a table.
+fn of_events(
+    rt: &impl Abort,
+    alloc: Global,
+    count: u32,
+    height: u32,
+    table: &[EventRow],
+) -> Result<Instance, Fail>
+    ensures { IfOk result (λ i. IsKeyed i.stacks.origin) }
+{
+    let events = events(alloc, table)?;
+    let family = family(alloc, events)?;
+    let stacks = stacks(rt, count, height)?;
+    Ok(Instance::new(stacks, family).expect(rt, "an instance"))
+}
+
+/// The same, where no two events clash.
+pub fn listed(
+    rt: &impl Abort,
+    alloc: Global,
+    count: u32,
+    height: u32,
+    table: &[EventRow],
+) -> Result<Instance, Fail>
+    ensures keyed { IfOk result (λ i. IsKeyed i.stacks.origin) }
+    ensures extremal { IfOk result (λ i. IsExtremal i.family) }
+{
+    let instance = of_events(rt, alloc, count, height, table)?;
+    expect_extremal(rt, alloc, &instance)?;
+    Ok(instance)
+}
+
+/// The instance of the cycles of arrows with these heads, two for each variable, at this height.
+pub fn cycles(
+    rt: &impl Abort,
+    alloc: Global,
+    height: u32,
+    table: &[[Option<u32>; 2]],
+) -> Result<Instance, Fail>
+    ensures keyed { IfOk result (λ i. IsKeyed i.stacks.origin) }
+    ensures extremal { IfOk result (λ i. IsExtremal i.family) }
+{
+    let arrows = arrows_of(rt, alloc, table)?;
+    let stacks = stacks(rt, arrows.count(), height)?;
+    let instance = Instance::new(stacks, Family::Cycles(arrows)).expect(rt, "two slots for each");
+    Ok(instance)
+}

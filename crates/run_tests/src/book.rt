@@ -1,0 +1,307 @@
+ghost use Rattle.std.specs.Prelude.{◌≡◌, ◌<◌, length, IfOk};
+ghost use Rattle.pop_model.specs.Stacks.{variables_of};
+ghost use Rattle.pop_model.specs.Runs.{start_of};
+
+use crate::arrows::arrows_of;
+use crate::compare::{same, same_at};
+use confluence_core::{Log, Record};
+use lock_board::{Attempt, Book, Site};
+use pop_instance::{Arrows, Cursors, Instance};
+use pop_stacks::Reader;
+use std::alloc::{AllocError, Global};
+use std::marker::Brand;
+use std::process::Abort;
+use std::test::Fail;
+use test_instances::{EventRow, cycles, listed};
+
+// What attempts answered, and the parts of the book that they left.
+#[derive(Drop)]
+struct Tried {
+    answers: Vec<Attempt>,
+    cursors: Cursors,
+    log: Log,
+}
+
+// Attempts these units of a book in turn.
+fn answers<N: Site>(
+    rt: &impl Abort,
+    alloc: Global,
+    instance: &Instance,
+    book: &mut Book<N>,
+    units: &[u32],
+) -> Result<Vec<Attempt>, Fail>
+    requires site { instance.now ≡ N.instance }
+{
+    let mut reader = Reader::new(instance.stacks());
+    let mut answers = Vec::new(alloc);
+    for unit in units {
+        assert!(rt; *unit < instance.units());
+        answers.push(book.attempt(alloc, &mut reader, *unit))?;
+    }
+    Ok(answers)
+}
+
+// Attempts these units of a new book in turn.
+fn try_units<N: Site>(
+    rt: &impl Abort,
+    alloc: Global,
+    instance: &Instance,
+    units: &[u32],
+) -> Result<Tried, Fail>
+    requires site { instance.now ≡ N.instance }
+    requires start { N.start ≡ start_of N.instance }
+    ensures { IfOk result (λ tried. variables_of instance.now.stacks ≡ length tried.cursors) }
+{
+    let mut book = Book::<N>::new(alloc, instance)?;
+    let answers = answers(rt, alloc, instance, &mut book, units)?;
+    let (cursors, log) = book.into_parts();
+    Ok(Tried {
+        answers,
+        cursors,
+        log,
+    })
+}
+
+// Attempts these units of a new book of the instance in turn.
+fn attempts(
+    rt: &impl Abort,
+    alloc: Global,
+    instance: &Instance,
+    units: &[u32],
+) -> Result<Tried, Fail>
+    ensures { IfOk result (λ tried. variables_of instance.now.stacks ≡ length tried.cursors) }
+{
+    try_units::<Brand>(rt, alloc, instance, units)
+}
+
+// The event that variable 0 has the value 0.
+static ZERO: [EventRow; 1] = [(1, &[(0, 0)])];
+
+// The instance of one variable with these entries, whose event is that it has the value 0.
+fn clause(alloc: Global, entries: &[u32]) -> Result<Instance, Fail> {
+    listed(alloc, &[entries], &ZERO)
+}
+
+// Compares what attempts answered.
+fn are_answers(rt: &impl Abort, answers: &[Attempt], want: &[Attempt]) {
+    assert_eq!(rt; answers, want);
+}
+
+// Compares what attempts answered, and how many pops they left in the log.
+fn came_to(rt: &impl Abort, tried: &Tried, want: &[Attempt], pops: u64) {
+    are_answers(rt, tried.answers.as_slice(), want);
+    same(rt, tried.log.len(), pops, "records");
+}
+
+// What is attempted over these entries of each variable, and what it comes to.
+struct Case {
+    entries: &'static [u32],
+    units: &'static [u32],
+    answers: &'static [Attempt],
+    pops: u64,
+}
+
+// Compares the attempts of a case over an instance.
+fn case_comes(
+    rt: &impl Abort,
+    alloc: Global,
+    instance: &Instance,
+    case: &Case,
+) -> Result<(), Fail> {
+    let tried = attempts(rt, alloc, instance, case.units)?;
+    came_to(rt, &tried, case.answers, case.pops);
+    Ok(())
+}
+
+// Worked by hand: the entries 0 and 0 are popped, and at 1 the event doesn't occur.
+static POPPED_TWICE: Case = Case {
+    entries: &[0, 0, 1],
+    units: &[0, 0, 0],
+    answers: &[Attempt::Popped, Attempt::Popped, Attempt::Absent],
+    pops: 2,
+};
+
+// Compares a record of the one event: its entry.
+fn is_of_event(rt: &impl Abort, popped: &Record, entry: u32) {
+    same(rt, popped.unit() as u64, 0, "unit");
+    assert!(rt; popped.cube().len() == 1);
+    same(rt, popped.entry(0) as u64, entry as u64, "entry");
+}
+
+// Compares what the two pops leave: the second record, and the cursor.
+fn left_by_two_pops(rt: &impl Abort, tried: &Tried)
+    requires { 1 ≡ length tried.now.cursors }
+{
+    assert!(rt; tried.log.len() == 2);
+    is_of_event(rt, tried.log.at(1), 1);
+    same(rt, tried.cursors.get(0) as u64, 2, "cursor");
+}
+
+// Compares what the case of two pops leaves of its instance.
+fn two_pops_leave(rt: &impl Abort, alloc: Global, instance: &Instance) -> Result<(), Fail> {
+    assert!(rt; instance.stacks().count() == 1);
+    let tried = attempts(rt, alloc, instance, POPPED_TWICE.units)?;
+    left_by_two_pops(rt, &tried);
+    Ok(())
+}
+
+// Compares the attempts of that case, and what they leave.
+fn is_popped_twice(rt: &impl Abort, alloc: Global, instance: &Instance) -> Result<(), Fail> {
+    case_comes(rt, alloc, instance, &POPPED_TWICE)?;
+    two_pops_leave(rt, alloc, instance)
+}
+
+#[test]
+fn a_listed_event_is_popped_until_it_is_absent(rt: HostRuntime) -> Result<(), Fail> {
+    let alloc = rt.alloc();
+    let instance = clause(alloc, POPPED_TWICE.entries)?;
+    is_popped_twice(&rt, alloc, &instance)
+}
+
+// Worked by hand: the entry 0 is popped, and the last one is 0 too.
+static STUCK_EVENT: Case = Case {
+    entries: &[0, 0],
+    units: &[0, 0],
+    answers: &[Attempt::Popped, Attempt::Stuck],
+    pops: 1,
+};
+
+#[test]
+fn a_listed_event_is_stuck_at_the_last_entry(rt: HostRuntime) -> Result<(), Fail> {
+    let alloc = rt.alloc();
+    let instance = clause(alloc, STUCK_EVENT.entries)?;
+    case_comes(&rt, alloc, &instance, &STUCK_EVENT)
+}
+
+// The heads of so many variables, each with an arrow to the next one and one to the root; the last
+// has one to this variable in place of the next.
+fn heads(alloc: Global, count: u32, back: u32) -> Result<Vec<[Option<u32>; 2]>, AllocError>
+    requires few { count < 1000 }
+{
+    let mut heads = Vec::new(alloc);
+    for v in 0..count {
+        let next = if v + 1 == count { back } else { v + 1 };
+        heads.push([Some(next), None])?;
+    }
+    Ok(heads)
+}
+
+// Their arrows.
+fn lasso_arrows(rt: &impl Abort, alloc: Global, count: u32, back: u32) -> Result<Arrows, Fail> {
+    assert!(rt; count < 1000);
+    let heads = heads(alloc, count, back)?;
+    arrows_of(rt, alloc, &heads)
+}
+
+// Such variables, each with these entries.
+fn lasso(
+    rt: &impl Abort,
+    alloc: Global,
+    count: u32,
+    back: u32,
+    entries: &[u32],
+) -> Result<Instance, Fail> {
+    let arrows = lasso_arrows(rt, alloc, count, back)?;
+    let rows = Vec::from_elem(alloc, entries, count as usize)?;
+    cycles(alloc, &rows, arrows)
+}
+
+// The cycle is popped, and then the arrows lead to the root.
+static POPPED_CYCLE: Case = Case {
+    entries: &[0, 1],
+    units: &[0, 0],
+    answers: &[Attempt::Popped, Attempt::Absent],
+    pops: 1,
+};
+
+// Compares cursors of so many variables, of which those from one on were popped once.
+fn are_popped_from(rt: &impl Abort, cursors: &Cursors, count: u32, back: u32)
+    requires { count ≡ length cursors.now }
+{
+    for v in 0..count {
+        same_at(
+            rt,
+            cursors.get(v),
+            u32::from(v >= back),
+            "variable",
+            v as u64,
+        );
+    }
+}
+
+// Compares the first record of a log: its unit, and how many variables it names.
+fn is_first_cycle(rt: &impl Abort, log: &Log, unit: u32, size: u32) {
+    assert!(rt; log.len() == 1);
+    let popped = log.at(0);
+    same(rt, popped.unit() as u64, unit as u64, "unit");
+    same(rt, popped.cube().len() as u64, size as u64, "size");
+}
+
+// Compares what is left of so many variables by the pop of the cycle from one on.
+fn left_by_cycle(rt: &impl Abort, tried: &Tried, count: u32, back: u32)
+    requires count { count ≡ length tried.now.cursors }
+    requires back { back < count }
+{
+    came_to(rt, tried, POPPED_CYCLE.answers, POPPED_CYCLE.pops);
+    is_first_cycle(rt, &tried.log, back, count - back);
+    are_popped_from(rt, &tried.cursors, count, back);
+}
+
+// Pops the cycle of an instance of so many variables, and compares what is left.
+fn cycle_leaves(
+    rt: &impl Abort,
+    alloc: Global,
+    instance: &Instance,
+    count: u32,
+    back: u32,
+) -> Result<(), Fail>
+    requires back { back < count }
+{
+    assert!(rt; instance.stacks().count() == count);
+    let tried = attempts(rt, alloc, instance, POPPED_CYCLE.units)?;
+    left_by_cycle(rt, &tried, count, back);
+    Ok(())
+}
+
+// Pops the cycle of a lasso of so many variables.
+fn lasso_pops(rt: &impl Abort, alloc: Global, count: u32, back: u32) -> Result<(), Fail>
+    requires back { back < count }
+{
+    let instance = lasso(rt, alloc, count, back, POPPED_CYCLE.entries)?;
+    cycle_leaves(rt, alloc, &instance, count, back)
+}
+
+// Pops the cycles of as many lassos as there are variables.
+fn lassos_of(rt: &impl Abort, alloc: Global, count: u32) -> Result<(), Fail> {
+    for back in 0..count {
+        lasso_pops(rt, alloc, count, back)?;
+    }
+    Ok(())
+}
+
+static COUNTS: [u32; 8] = [1, 2, 3, 4, 7, 8, 9, 40];
+
+// The arrows lead from variable 0 to the last one and back to some variable: these are the cycle,
+// which is popped once, under its least variable. Then they all lead to the root.
+#[test]
+fn the_cycle_that_the_arrows_lead_to_is_popped(rt: HostRuntime) -> Result<(), Fail> {
+    let alloc = rt.alloc();
+    for count in COUNTS.iter() {
+        lassos_of(&rt, alloc, *count)?;
+    }
+    Ok(())
+}
+
+static STUCK_CYCLE: Case = Case {
+    entries: &[0],
+    units: &[4, 0],
+    answers: &[Attempt::Stuck, Attempt::Stuck],
+    pops: 0,
+};
+
+#[test]
+fn a_cycle_is_stuck_at_the_last_entry(rt: HostRuntime) -> Result<(), Fail> {
+    let alloc = rt.alloc();
+    let instance = lasso(&rt, alloc, 5, 2, STUCK_CYCLE.entries)?;
+    case_comes(&rt, alloc, &instance, &STUCK_CYCLE)
+}

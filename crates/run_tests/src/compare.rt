@@ -1,0 +1,35 @@
+ghost use Rattle.std.specs.Prelude.{◌≡◌, length};
+
+use confluence_core::Stuck;
+use pop_instance::Cursors;
+use std::process::Abort;
+
+/// Compares two counts. Tests compare by this call and the next, so that what tells of numbers that
+/// differ is proved once.
+pub fn same(rt: &impl Abort, found: u64, want: u64, what: &str) {
+    assert_eq!(rt; found, want, "{what}");
+}
+
+/// Compares two numbers at a place.
+pub fn same_at(rt: &impl Abort, found: u32, want: u32, what: &str, place: u64) {
+    assert_eq!(rt; found, want, "{what} {place}");
+}
+
+/// Compares the cursors of so many variables.
+pub fn are_cursors(rt: &impl Abort, cursors: &Cursors, count: u32, want: &[u32])
+    requires { count ≡ length cursors.now }
+{
+    assert!(rt; want.len() == count as usize);
+    for v in 0..count {
+        same_at(rt, cursors.get(v), want[v as usize], "variable", v as u64);
+    }
+}
+
+/// Compares the units of a stuck list.
+pub fn are_stuck(rt: &impl Abort, stuck: &Stuck, want: &[u32]) {
+    assert!(rt; stuck.len() == want.len() as u64);
+    for (i, unit) in want.iter().enumerate() {
+        let place = i as u64;
+        same_at(rt, stuck.at(place).0, *unit, "stuck event", place);
+    }
+}

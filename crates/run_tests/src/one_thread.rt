@@ -1,0 +1,233 @@
+ghost use Rattle.std.specs.Prelude.{◌≡◌, length};
+
+use crate::compare::{are_cursors, are_stuck, same, same_at};
+use confluence_core::{End, Keep, Log, Record, Stuck, run_first, run_from_zeros};
+use pop_instance::{Cursors, Instance};
+use std::alloc::{AllocError, Global};
+use std::process::Abort;
+use std::test::Fail;
+use test_instances::{EventRow, listed};
+
+mod chains;
+mod log;
+mod parts;
+mod rings;
+mod units;
+
+// What an end is to be: its cursors, its pops and the units of its stuck events.
+struct Want {
+    cursors: &'static [u32],
+    pops: u64,
+    stuck: &'static [u32],
+}
+
+// Compares an end over so many variables.
+fn is_end(rt: &impl Abort, end: &End, count: u32, want: &Want)
+    requires { count ≡ length end.now.cursors }
+{
+    are_cursors(rt, &end.cursors, count, want.cursors);
+    same(rt, end.pops, want.pops, "pops");
+    are_stuck(rt, &end.stuck, want.stuck);
+}
+
+// Compares the end of the plain run.
+fn first_ends_with(
+    rt: &impl Abort,
+    alloc: Global,
+    instance: &Instance,
+    want: &Want,
+) -> Result<(), Fail> {
+    let end = run_first(alloc, instance)?;
+    is_end(rt, &end, instance.stacks().count(), want);
+    Ok(())
+}
+
+// Compares the end of the run from zeros.
+fn run_ends_with(
+    rt: &impl Abort,
+    alloc: Global,
+    instance: &Instance,
+    want: &Want,
+) -> Result<(), Fail> {
+    let run = run_from_zeros(alloc, instance, Keep::Nothing)?;
+    is_end(rt, &run.end, instance.stacks().count(), want);
+    Ok(())
+}
+
+// Runs the instance by both calls, and compares their ends.
+fn ends_with(rt: &impl Abort, alloc: Global, instance: &Instance, want: &Want) -> Result<(), Fail> {
+    first_ends_with(rt, alloc, instance, want)?;
+    run_ends_with(rt, alloc, instance, want)
+}
+
+// Compares the cursors of so many variables at two ends.
+fn cursors_alike(rt: &impl Abort, cursors: &Cursors, others: &Cursors, count: u32)
+    requires cursors { count ≡ length cursors.now }
+    requires others { count ≡ length others.now }
+{
+    for v in 0..count {
+        same_at(rt, cursors.get(v), others.get(v), "variable", v as u64);
+    }
+}
+
+// Compares the units of two stuck lists.
+fn stuck_alike(rt: &impl Abort, stuck: &Stuck, others: &Stuck) {
+    let count = others.len();
+    assert!(rt; stuck.len() == count);
+    for i in 0..count {
+        same_at(rt, stuck.at(i).0, others.at(i).0, "stuck event", i);
+    }
+}
+
+// Compares the ends of two runs over so many variables.
+fn ends_alike(rt: &impl Abort, end: &End, other: &End, count: u32)
+    requires end { count ≡ length end.now.cursors }
+    requires other { count ≡ length other.now.cursors }
+{
+    cursors_alike(rt, &end.cursors, &other.cursors, count);
+    same(rt, end.pops, other.pops, "pops");
+    stuck_alike(rt, &end.stuck, &other.stuck);
+}
+
+// Runs an instance by both calls, and compares their ends. Returns the pops and how many events are
+// stuck.
+fn pops_and_stuck(rt: &impl Abort, alloc: Global, instance: &Instance) -> Result<(u64, u64), Fail> {
+    let first = run_first(alloc, instance)?;
+    let run = run_from_zeros(alloc, instance, Keep::Nothing)?;
+    ends_alike(rt, &run.end, &first, instance.stacks().count());
+    Ok((first.pops, first.stuck.len()))
+}
+
+// Rows of entries, listed events, and what the end of their run is to be. Worked by hand.
+struct Case {
+    rows: &'static [&'static [u32]],
+    events: &'static [EventRow],
+    want: Want,
+}
+
+// Runs the instance of a case, and compares its ends.
+fn case_ends(rt: &impl Abort, alloc: Global, case: &Case) -> Result<(), Fail> {
+    let instance = listed(alloc, case.rows, case.events)?;
+    ends_with(rt, alloc, &instance, &case.want)
+}
+
+static PAST_A_STUCK_EVENT: Case = Case {
+    rows: &[&[0], &[0, 0, 1]],
+    events: &[(1, &[(0, 0)]), (2, &[(1, 0)])],
+    want: Want {
+        cursors: &[0, 2],
+        pops: 2,
+        stuck: &[0],
+    },
+};
+
+#[test]
+fn popping_goes_on_past_a_stuck_event(rt: HostRuntime) -> Result<(), Fail> {
+    case_ends(&rt, rt.alloc(), &PAST_A_STUCK_EVENT)
+}
+
+static AT_THE_LAST_ENTRY: Case = Case {
+    rows: &[&[0, 0]],
+    events: &[(1, &[(0, 0)])],
+    want: Want {
+        cursors: &[1],
+        pops: 1,
+        stuck: &[0],
+    },
+};
+
+#[test]
+fn an_event_is_stuck_at_the_last_entry(rt: HostRuntime) -> Result<(), Fail> {
+    case_ends(&rt, rt.alloc(), &AT_THE_LAST_ENTRY)
+}
+
+static EVERY_VARIABLE: Case = Case {
+    rows: &[&[0, 1], &[0, 1]],
+    events: &[(1, &[(0, 0), (1, 0)]), (2, &[(0, 1), (1, 0)])],
+    want: Want {
+        cursors: &[1, 1],
+        pops: 1,
+        stuck: &[],
+    },
+};
+
+#[test]
+fn a_pop_moves_every_variable_of_the_event(rt: HostRuntime) -> Result<(), Fail> {
+    case_ends(&rt, rt.alloc(), &EVERY_VARIABLE)
+}
+
+// The log that a run from zeros keeps, where it is asked for one.
+fn log_of(alloc: Global, instance: &Instance, keep: Keep) -> Result<Option<Log>, AllocError> {
+    let run = run_from_zeros(alloc, instance, keep)?;
+    Ok(run.log)
+}
+
+// Whether a run keeps a log that is asked for none.
+fn logs_unasked(alloc: Global, instance: &Instance) -> Result<bool, AllocError> {
+    let log = log_of(alloc, instance, Keep::Nothing)?;
+    Ok(log.is_some())
+}
+
+// A term of a record: a variable of its cube, its value there, and its entry.
+type Term = (u32, u32, u32);
+
+// Compares a record: its unit and its terms.
+fn is_record(rt: &impl Abort, popped: &Record, unit: u32, terms: &[Term]) {
+    same(rt, popped.unit() as u64, unit as u64, "unit");
+    let cube = popped.cube();
+    assert!(rt; cube.len() as usize == terms.len());
+    for (i, term) in terms.iter().enumerate() {
+        let (v, value) = cube.pair(i as u32);
+        let found = (v, value, popped.entry(i as u32));
+        assert!(rt; found == *term, "term {i}");
+    }
+}
+
+// Compares the records of a log, in each of which this unit is popped with these terms.
+fn is_log(rt: &impl Abort, log: &Log, unit: u32, want: &[&[Term]]) {
+    assert!(rt; log.len() == want.len() as u64);
+    for (i, terms) in want.iter().enumerate() {
+        is_record(rt, log.at(i as u64), unit, terms);
+    }
+}
+
+// Compares the log of a run.
+fn logs(
+    rt: &impl Abort,
+    alloc: Global,
+    instance: &Instance,
+    unit: u32,
+    want: &[&[Term]],
+) -> Result<(), Fail> {
+    let log = log_of(alloc, instance, Keep::Log)?.expect(rt, "a log");
+    is_log(rt, &log, unit, want);
+    Ok(())
+}
+
+static TERMS: &[&[Term]] = &[&[(0, 0, 0)], &[(0, 0, 1)]];
+
+// Variable 0 has the entries 0, 0, 1, and the event has the value 0.
+static TWO_POPS: Case = Case {
+    rows: &[&[0, 0, 1]],
+    events: &[(1, &[(0, 0)])],
+    want: Want {
+        cursors: &[2],
+        pops: 2,
+        stuck: &[],
+    },
+};
+
+// Compares the log of their instance, which is kept only where it is asked for.
+fn two_pops_logged(rt: &impl Abort, alloc: Global, instance: &Instance) -> Result<(), Fail> {
+    let logs_unasked = logs_unasked(alloc, instance)?;
+    assert!(rt; !logs_unasked);
+    logs(rt, alloc, instance, 0, TERMS)
+}
+
+#[test]
+fn the_log_has_each_pop_with_its_entries(rt: HostRuntime) -> Result<(), Fail> {
+    let alloc = rt.alloc();
+    let instance = listed(alloc, TWO_POPS.rows, TWO_POPS.events)?;
+    ends_with(&rt, alloc, &instance, &TWO_POPS.want)?;
+    two_pops_logged(&rt, alloc, &instance)
+}

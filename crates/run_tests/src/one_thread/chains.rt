@@ -1,0 +1,117 @@
+//! Chains of events: each shares a variable with the next, and excludes it there.
+use super::pops_and_stuck;
+use pop_instance::{Cube, Instance};
+use std::alloc::Global;
+use std::process::Abort;
+use std::test::Fail;
+use test_instances::{cube, family, keyed, over};
+
+// The event that variables 2i and 2i + 1 have the value 0 and variable 2i + 2 has the value 1.
+fn link(rt: &impl Abort, alloc: Global, i: u32) -> Result<Cube, Fail> {
+    assert!(rt; i < 1000);
+    let pairs = [(2 * i, 0), (2 * i + 1, 0), (2 * i + 2, 1)];
+    cube(alloc, &pairs)
+}
+
+// So many such events, in their order.
+fn links_of(rt: &impl Abort, alloc: Global, links: u32) -> Result<Vec<(u32, Cube)>, Fail> {
+    let mut rows = Vec::new(alloc);
+    for i in 0..links {
+        let link = link(rt, alloc, i)?;
+        rows.push((i + 1, link))?;
+    }
+    Ok(rows)
+}
+
+// The chain of so many links, with stacks of this height under a key of 32 such bytes.
+fn chain(
+    rt: &impl Abort,
+    alloc: Global,
+    links: u32,
+    key: u8,
+    height: u32,
+) -> Result<Instance, Fail> {
+    assert!(rt; links < 1000);
+    let rows = links_of(rt, alloc, links)?;
+    let family = family(alloc, rows)?;
+    let stacks = keyed(key, 2 * links + 1, height)?;
+    over(stacks, family)
+}
+
+// Runs such a chain. Returns its pops and how many events are stuck.
+fn run_chain(
+    rt: &impl Abort,
+    alloc: Global,
+    links: u32,
+    key: u8,
+    height: u32,
+) -> Result<(u64, u64), Fail> {
+    let chain = chain(rt, alloc, links, key, height)?;
+    pops_and_stuck(rt, alloc, &chain)
+}
+
+static HIGH_KEYS: [u8; 4] = [0, 1, 77, 255];
+
+// Runs the chain of so many links under high stacks and several keys. Returns the most pops.
+fn most_pops(rt: &impl Abort, alloc: Global, links: u32) -> Result<u64, Fail> {
+    let mut most = 0;
+    for key in HIGH_KEYS.iter() {
+        let (pops, stuck) = run_chain(rt, alloc, links, *key, 900)?;
+        assert!(rt; stuck == 0, "{links} links under key {key}");
+        most = most.max(pops);
+    }
+    Ok(most)
+}
+
+static LINKS: [u32; 7] = [1, 2, 3, 7, 20, 99, 400];
+
+#[test]
+fn both_runs_end_alike_under_high_stacks(rt: HostRuntime) -> Result<(), Fail> {
+    let alloc = rt.alloc();
+    let mut most = 0;
+    for links in LINKS.iter() {
+        let pops = most_pops(&rt, alloc, *links)?;
+        most = most.max(pops);
+    }
+    assert!(&rt; most > 50);
+    Ok(())
+}
+
+// Runs the chain of so many links under a key at several heights. Returns the most stuck events.
+fn most_stuck(rt: &impl Abort, alloc: Global, links: u32, key: u8) -> Result<u64, Fail> {
+    let mut most = 0;
+    for height in 1..5 {
+        let (pops, stuck) = run_chain(rt, alloc, links, key, height)?;
+        assert!(rt; height > 1 || pops == 0, "a stack of one entry has no next");
+        most = most.max(stuck);
+    }
+    Ok(most)
+}
+
+// How many links there are, and under which key.
+static TIGHT: [(u32, u8); 12] = [
+    (1, 0),
+    (1, 3),
+    (1, 200),
+    (5, 0),
+    (5, 3),
+    (5, 200),
+    (30, 0),
+    (30, 3),
+    (30, 200),
+    (99, 0),
+    (99, 3),
+    (99, 200),
+];
+
+#[test]
+fn both_runs_end_alike_under_tight_heights(rt: HostRuntime) -> Result<(), Fail> {
+    let alloc = rt.alloc();
+    let mut most = 0;
+    for (links, key) in TIGHT.iter() {
+        let stuck = most_stuck(&rt, alloc, *links, *key)?;
+        most = most.max(stuck);
+    }
+    assert!(&rt; most > 0);
+    Ok(())
+}

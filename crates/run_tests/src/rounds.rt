@@ -1,0 +1,159 @@
+ghost use Rattle.std.specs.Prelude.{◌≡◌, length};
+ghost use Rattle.pop_model.specs.Stacks.{variables_of};
+ghost use Rattle.pop_instance.specs.Events.{cube_at};
+ghost use Rattle.prs_rounds.specs.Units.{IsListed, IsIndexOf};
+
+use crate::compare::{are_cursors, are_stuck};
+use confluence_core::Units;
+use instances::{index_of, many};
+use pop_instance::{Cursors, Index, Instance};
+use prs_rounds::{RoundEnd, resampling_set, run_rounds, violated};
+use std::alloc::Global;
+use std::process::Abort;
+use std::test::Fail;
+use std::thread::Threads;
+use test_instances::{EventRow, listed};
+
+mod instances;
+
+// What is to come of an instance: the places of the events that occur at zeros, and of those of the
+// resampling set there; and the end of the rounds, with the units of its stuck events.
+struct Want {
+    stacks: &'static [&'static [u32]],
+    events: &'static [EventRow],
+    violated: &'static [u32],
+    set: &'static [u32],
+    cursors: &'static [u32],
+    rounds: u64,
+    stuck: &'static [u32],
+    short: Option<u32>,
+}
+
+// Worked by hand.
+static WANTS: [Want; 5] = [
+    // Both events occur, and name variable 0, which moves on once.
+    Want {
+        stacks: &[&[0, 1], &[0, 0], &[0, 0]],
+        events: &[(1, &[(0, 0), (1, 0)]), (2, &[(0, 0), (2, 0)])],
+        violated: &[0, 1],
+        set: &[0, 1],
+        cursors: &[1, 1, 1],
+        rounds: 1,
+        stuck: &[],
+        short: None,
+    },
+    // The second event doesn't occur, agrees at variable 1, and joins.
+    Want {
+        stacks: &[&[0, 1], &[0, 0], &[1, 1]],
+        events: &[(1, &[(0, 0), (1, 0)]), (2, &[(1, 0), (2, 0)])],
+        violated: &[0],
+        set: &[0, 1],
+        cursors: &[1, 1, 1],
+        rounds: 1,
+        stuck: &[],
+        short: None,
+    },
+    // The second event differs at variable 1, and is excluded: variable 2 has no second entry.
+    Want {
+        stacks: &[&[0, 1], &[0, 0], &[0]],
+        events: &[(1, &[(0, 0), (1, 0)]), (2, &[(1, 1), (2, 0)])],
+        violated: &[0],
+        set: &[0],
+        cursors: &[1, 1, 0],
+        rounds: 1,
+        stuck: &[],
+        short: None,
+    },
+    // The third event joins in the second step, beside the second, which joins in the first.
+    Want {
+        stacks: &[&[0, 1], &[0, 1], &[1, 1], &[1, 1]],
+        events: &[
+            (1, &[(0, 0), (1, 0)]),
+            (2, &[(1, 0), (2, 0)]),
+            (3, &[(2, 1), (3, 0)]),
+        ],
+        violated: &[0],
+        set: &[0, 1, 2],
+        cursors: &[1, 1, 1, 1],
+        rounds: 1,
+        stuck: &[],
+        short: None,
+    },
+    // The event occurs again at the last entry of variable 0.
+    Want {
+        stacks: &[&[0, 0]],
+        events: &[(1, &[(0, 0)])],
+        violated: &[0],
+        set: &[0],
+        cursors: &[1],
+        rounds: 1,
+        stuck: &[0],
+        short: Some(0),
+    },
+];
+
+fn are_units(rt: &impl Abort, units: &Units, want: &[u32]) {
+    assert_eq!(rt; units.len(), want.len() as u64);
+    for (i, unit) in want.iter().enumerate() {
+        assert_eq!(rt; units.at(i as u64), *unit, "unit {i}");
+    }
+}
+
+// Compares what comes of an instance.
+fn comes_of<R: Threads + Abort + Sync>(
+    rt: &R,
+    alloc: Global,
+    instance: &Instance,
+    index: &Index,
+    want: &Want,
+) -> Result<(), Fail>
+    requires listed { IsListed instance.now.family }
+    requires index { IsIndexOf instance.now.family index.now }
+    requires variables { length index.now ≡ variables_of instance.now.stacks }
+{
+    let count = instance.stacks().count();
+    let zeros = Cursors::zeros(alloc, count)?;
+    are_units(rt, &violated(rt, alloc, instance, &zeros)?, want.violated);
+    are_units(
+        rt,
+        &resampling_set(rt, alloc, instance, index, &zeros)?,
+        want.set,
+    );
+    let end = run_rounds(rt, alloc, instance, index)?;
+    are_cursors(rt, &end.cursors, count, want.cursors);
+    are_stuck(rt, &end.stuck, want.stuck);
+    assert_eq!(rt; (end.rounds, end.short), (want.rounds, want.short));
+    Ok(())
+}
+
+#[test]
+fn rounds_move_each_variable_of_the_resampling_set_once(rt: HostRuntime) -> Result<(), Fail> {
+    let alloc = rt.alloc();
+    for want in WANTS.iter() {
+        let instance = listed(alloc, want.stacks, want.events)?;
+        let index = index_of(&rt, alloc, &instance)?;
+        comes_of(&rt, alloc, &instance, &index, want)?;
+    }
+    Ok(())
+}
+
+// Worked by hand: just the variables of even number move, once.
+#[test]
+fn many_events_are_looked_at_in_several_threads(rt: HostRuntime) -> Result<(), Fail> {
+    let alloc = rt.alloc();
+    let instance = many(&rt, alloc, 5000)?;
+    let index = index_of(&rt, alloc, &instance)?;
+    let count = instance.stacks().count();
+    let RoundEnd {
+        cursors,
+        rounds,
+        stuck,
+        short,
+        ..
+    } = run_rounds(&rt, alloc, &instance, &index)?;
+    for v in 0..count {
+        assert_eq!(&rt; cursors.get(v), 1 - v % 2, "variable {v}");
+    }
+    assert_eq!(&rt; (rounds, stuck.len(), short), (1, 0, None));
+    Ok(())
+}
