@@ -6,8 +6,6 @@
 mod candidates;
 mod decimals;
 mod first_line;
-#[cfg(test)]
-mod instances;
 pub mod laws;
 mod layer_checking;
 mod layered_log;

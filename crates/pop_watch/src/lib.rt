@@ -7,8 +7,6 @@
 mod heights;
 mod layers;
 mod numbers;
-#[cfg(test)]
-mod tests;
 mod totals;
 mod watch;
 

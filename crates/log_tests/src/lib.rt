@@ -1,0 +1,25 @@
+//! Tests of logs and of what is told of them, by public calls of `pop_log`, `witness_trees` and
+//! `pop_watch`. They stand above these crates, which are proved once so, and not once more with
+//! their tests.
+#![tactic(auto)]
+
+#[cfg(test)]
+mod layers;
+#[cfg(test)]
+mod merging;
+#[cfg(test)]
+mod pops;
+#[cfg(test)]
+mod printing;
+#[cfg(test)]
+mod reading;
+#[cfg(test)]
+mod records;
+#[cfg(test)]
+mod replaying;
+#[cfg(test)]
+mod runs;
+#[cfg(test)]
+mod trees;
+#[cfg(test)]
+mod watchers;

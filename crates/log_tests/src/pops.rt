@@ -1,0 +1,41 @@
+use crate::runs::log_of_run;
+use pop_instance::Instance;
+use std::alloc::Global;
+use std::process::Abort;
+use std::test::Fail;
+use test_instances::{EventRow, listed};
+use witness_trees::find_pop;
+
+// The place of the pop, in a run from zeros, that used this entry of a variable.
+fn place(
+    rt: &impl Abort,
+    alloc: Global,
+    instance: &Instance,
+    v: u32,
+    k: u32,
+) -> Result<Option<u64>, Fail> {
+    let log = log_of_run(rt, alloc, instance)?;
+    assert!(rt; v < instance.stacks().count());
+    Ok(find_pop(&log, v, k))
+}
+
+// The variables have the entries 0, 1, 1, 1 and 0, 0, 1.
+static ROWS: [&[u32]; 2] = [&[0, 1, 1, 1], &[0, 0, 1]];
+
+// The clauses `1 2` and `-1 2`.
+static CLAUSES: [EventRow; 2] = [(1, &[(0, 0), (1, 0)]), (2, &[(0, 1), (1, 0)])];
+
+// Worked by hand: the first pop uses the entries 0 and 0, the second 1 and 1.
+#[test]
+fn a_pop_is_found_by_a_variable_and_its_entry(rt: HostRuntime) -> Result<(), Fail> {
+    let alloc = rt.alloc();
+    let instance = listed(alloc, &ROWS, &CLAUSES)?;
+    for (v, k, want) in [(0, 0, Some(0)), (1, 1, Some(1)), (0, 2, None)] {
+        assert_eq!(rt;
+            place(&rt, alloc, &instance, v, k)?,
+            want,
+            "entry {k} of variable {v}"
+        );
+    }
+    Ok(())
+}

@@ -1,0 +1,90 @@
+ghost use Rattle.pop_model.specs.Logs.{IsLegal};
+ghost use Rattle.pop_model.specs.Runs.{start_of};
+
+use crate::runs::log_of_run;
+use confluence_core::Log;
+use pop_instance::Instance;
+use pop_log::{Names, print_layered, print_log};
+use std::alloc::{AllocError, Global};
+use std::process::Abort;
+use std::test::Fail;
+use test_instances::{EventRow, listed};
+
+// The rows and the events of an instance, and the text of the log of its run from zeros: in layers,
+// or in the order of the log.
+struct Case {
+    rows: &'static [&'static [u32]],
+    events: &'static [EventRow],
+    in_layers: bool,
+    text: &'static str,
+}
+
+// The text of a log, in layers or in its own order.
+fn text_of(
+    alloc: Global,
+    instance: &Instance,
+    log: &Log,
+    in_layers: bool,
+) -> Result<Vec<u8>, AllocError>
+    requires { IsLegal instance.now (start_of instance.now) log.now }
+{
+    if in_layers {
+        return print_layered(alloc, instance, &Names::Plain, log);
+    }
+    print_log(alloc, instance, &Names::Plain, log)
+}
+
+// The text of the log of a run from zeros.
+fn text_of_run(
+    rt: &impl Abort,
+    alloc: Global,
+    instance: &Instance,
+    in_layers: bool,
+) -> Result<Vec<u8>, Fail> {
+    let log = log_of_run(rt, alloc, instance)?;
+    Ok(text_of(alloc, instance, &log, in_layers)?)
+}
+
+// Compares a text.
+fn is_text(rt: &impl Abort, found: &[u8], want: &str) {
+    assert!(rt; found == want.as_bytes(), "{want}");
+}
+
+// Compares the text of the log of a run from zeros.
+fn prints(rt: &impl Abort, alloc: Global, case: &Case) -> Result<(), Fail> {
+    let instance = listed(alloc, case.rows, case.events)?;
+    let text = text_of_run(rt, alloc, &instance, case.in_layers)?;
+    is_text(rt, &text, case.text);
+    Ok(())
+}
+
+// The variables have the entries 0, 1, 1 and 0, 0, 1. The clauses `1 2` and `-1 2`, under the
+// numbers 3 and 4.
+static PLAIN: Case = Case {
+    rows: &[&[0, 1, 1], &[0, 0, 1]],
+    events: &[(3, &[(0, 0), (1, 0)]), (4, &[(0, 1), (1, 0)])],
+    in_layers: false,
+    text: "log 1 2\npop 3 1:0 2:0\npop 4 1:1 2:1\n",
+};
+
+// Worked by hand.
+#[test]
+fn a_record_has_the_number_of_its_event_and_the_entries_used(rt: HostRuntime) -> Result<(), Fail> {
+    let alloc = rt.alloc();
+    prints(&rt, alloc, &PLAIN)
+}
+
+// The variables have the entries 0, 0, 1 and 0, 1. The clauses `1` and `2`.
+static LAYERED: Case = Case {
+    rows: &[&[0, 0, 1], &[0, 1]],
+    events: &[(1, &[(0, 0)]), (2, &[(1, 0)])],
+    in_layers: true,
+    text: "log 2 3\npop 1 1 1:0\npop 1 2 2:0\npop 2 1 1:1\n",
+};
+
+// Worked by hand: the second pop of the first clause waits for its first, and no other does.
+#[test]
+fn a_record_stands_in_its_layer(rt: HostRuntime) -> Result<(), Fail> {
+    let alloc = rt.alloc();
+    prints(&rt, alloc, &LAYERED)
+}

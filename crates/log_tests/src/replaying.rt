@@ -1,0 +1,128 @@
+use crate::records::popped_with;
+use confluence_core::Log;
+use pop_instance::{Arrows, Instance};
+use pop_log::{Replay, replay};
+use std::alloc::{AllocError, Global};
+use std::process::Abort;
+use std::test::Fail;
+use test_instances::{EventRow, cycles, listed};
+
+// The log of pops, each of a unit, a variable below 10 that has value 0, and its entry.
+fn log_of(rt: &impl Abort, alloc: Global, pops: &[(u32, u32, u32)]) -> Result<Log, Fail> {
+    let mut log = Log::new(alloc);
+    for (unit, v, entry) in pops {
+        log.push(popped_with(rt, alloc, 10, *unit, &[*v], &[*entry])?)?;
+    }
+    Ok(log)
+}
+
+// Variable 0 has the entries 0, 0, 0 and variable 1 the entries 1, 0. Events 0 and 1 are that
+// variable 0 and variable 1 have value 0.
+fn two_events(alloc: Global) -> Result<Instance, Fail> {
+    static ROWS: [&[u32]; 2] = [&[0, 0, 0], &[1, 0]];
+    static EVENTS: [EventRow; 2] = [(1, &[(0, 0)]), (2, &[(1, 0)])];
+    listed(alloc, &ROWS, &EVENTS)
+}
+
+// The arrows of a variable that leads to itself by value 0 and to the root by value 1.
+fn arrows(rt: &impl Abort, alloc: Global) -> Result<Arrows, Fail> {
+    let row = vec![in alloc; Some(0), None]?;
+    let heads = vec![in alloc; row]?;
+    Ok(Arrows::new(heads).expect(rt, "arrows"))
+}
+
+// Variable 0 leads to itself by value 0 and to the root by value 1. It has the entries 0, 0, 1.
+fn ring(rt: &impl Abort, alloc: Global) -> Result<Instance, Fail> {
+    static ROWS: [&[u32]; 1] = [&[0, 0, 1]];
+    let arrows = arrows(rt, alloc)?;
+    cycles(alloc, &ROWS, arrows)
+}
+
+// The cursor of variable 0 that a log leaves, or the place of its first record that isn't
+// legal.
+fn left_by(
+    rt: &impl Abort,
+    alloc: Global,
+    instance: &Instance,
+    log: &Log,
+) -> Result<Result<u32, u64>, AllocError> {
+    assert!(rt; 0 < instance.stacks().count());
+    match replay(alloc, instance, log)? {
+        Replay::Legal(cursors) => Ok(Ok(cursors.get(0))),
+        Replay::NotLegal(place) => Ok(Err(place)),
+    }
+}
+
+// The same of the log of pops.
+fn replayed(
+    rt: &impl Abort,
+    alloc: Global,
+    instance: &Instance,
+    pops: &[(u32, u32, u32)],
+) -> Result<Result<u32, u64>, Fail> {
+    let log = log_of(rt, alloc, pops)?;
+    Ok(left_by(rt, alloc, instance, &log)?)
+}
+
+// Replays the pops. Compares the cursor of variable 0 that they leave, or the place of the
+// first that isn't legal.
+fn is_replay(
+    rt: &impl Abort,
+    alloc: Global,
+    instance: &Instance,
+    pops: &[(u32, u32, u32)],
+    want: Result<u32, u64>,
+) -> Result<(), Fail> {
+    let found = replayed(rt, alloc, instance, pops)?;
+    assert_eq!(rt; found, want, "{pops:?}");
+    Ok(())
+}
+
+// Replays each of these.
+fn are_replays(
+    rt: &impl Abort,
+    alloc: Global,
+    instance: &Instance,
+    cases: &[(&[(u32, u32, u32)], Result<u32, u64>)],
+) -> Result<(), Fail> {
+    for (pops, want) in cases {
+        is_replay(rt, alloc, instance, pops, *want)?;
+    }
+    Ok(())
+}
+
+// Pops of the listed events, and the cursor of variable 0 that they leave, or the place of the
+// first that isn't legal. Worked by hand.
+static LOGS: [(&[(u32, u32, u32)], Result<u32, u64>); 9] = [
+    (&[], Ok(0)),
+    (&[(0, 0, 0), (0, 0, 1)], Ok(2)),
+    // an entry again, an entry too early, the last entry
+    (&[(0, 0, 0), (0, 0, 0), (0, 0, 0)], Err(1)),
+    (&[(0, 0, 1), (0, 0, 0)], Err(0)),
+    (&[(0, 0, 0), (0, 0, 1), (0, 0, 2)], Err(2)),
+    // an event that doesn't occur, one under another unit, under no unit, and no event
+    (&[(0, 0, 0), (1, 1, 0)], Err(1)),
+    (&[(1, 0, 0)], Err(0)),
+    (&[(2, 0, 0)], Err(0)),
+    (&[(0, 9, 0)], Err(0)),
+];
+
+#[test]
+fn a_log_is_legal_up_to_its_first_illegal_record(rt: HostRuntime) -> Result<(), Fail> {
+    let alloc = rt.alloc();
+    let instance = two_events(alloc)?;
+    are_replays(&rt, alloc, &instance, &LOGS)
+}
+
+// The same of pops of the ring. Worked by hand.
+static RING_LOGS: [(&[(u32, u32, u32)], Result<u32, u64>); 2] = [
+    (&[(0, 0, 0), (0, 0, 1)], Ok(2)),
+    (&[(1, 0, 0)], Err(0)),
+];
+
+#[test]
+fn cycles_are_replayed_under_their_least_variable(rt: HostRuntime) -> Result<(), Fail> {
+    let alloc = rt.alloc();
+    let instance = ring(&rt, alloc)?;
+    are_replays(&rt, alloc, &instance, &RING_LOGS)
+}

@@ -1,0 +1,137 @@
+// Comparison with a plain search: each record against each vertex, and the preorder by the paths
+// from the root.
+ghost use Rattle.std.specs.Prelude.{◌<◌};
+
+use super::COUNT;
+use crate::records::popped;
+use confluence_core::Log;
+use std::alloc::Global;
+use std::process::Abort;
+use std::test::Fail;
+use witness_trees::tree;
+
+// A vertex that was found by search: the variables of the labels from the root down to it, and its
+// unit.
+#[derive(Drop)]
+struct Found<'a> {
+    path: Vec<&'a [u32]>,
+    unit: u32,
+}
+
+// Whether some variable is in both lists.
+fn meet(variables: &[u32], others: &[u32]) -> bool {
+    variables.iter().any(|v| others.contains(v))
+}
+
+// Whether the first is to be the parent: it is deeper, or as deep and its label is less.
+fn is_before(path: &[&[u32]], other: &[&[u32]]) -> bool {
+    if path.len() != other.len() {
+        return path.len() > other.len();
+    }
+    path.last() < other.last()
+}
+
+// The path of the deepest vertex that meets the variables, of several that of the least label.
+fn parent<'a, 'b>(found: &'b [Found<'a>], variables: &[u32]) -> Option<&'b [&'a [u32]]> {
+    let mut best: Option<&'b [&'a [u32]]> = None;
+    for vertex in found {
+        let meets = vertex
+            .path
+            .last()
+            .is_some_and(|label| meet(label, variables));
+        if meets && best.is_none_or(|path| is_before(&vertex.path, path)) {
+            best = Some(&vertex.path);
+        }
+    }
+    best
+}
+
+// The vertices of the tree of the last pop, in preorder.
+fn search<'a>(alloc: Global, pops: &'a [(u32, Vec<u32>)]) -> Result<Vec<Found<'a>>, Fail> {
+    let mut found: Vec<Found<'a>> = Vec::new(alloc);
+    for (unit, variables) in pops.iter().rev() {
+        let mut path: Vec<&'a [u32]> = Vec::new(alloc);
+        if !found.is_empty() {
+            match parent(&found, variables) {
+                None => continue,
+                Some(above) => path = Vec::from_slice(alloc, above)?,
+            }
+        }
+        path.push(variables.as_slice())?;
+        found.push(Found { path, unit: *unit })?;
+    }
+    found.sort_unstable_by(|vertex, other| vertex.path.cmp(&other.path));
+    Ok(found)
+}
+
+// A number below the bound, and the next state.
+fn draw(state: &mut u64, bound: u64) -> u64
+    requires { 0 < bound }
+    ensures { result < bound }
+{
+    *state = state
+        .wrapping_mul(6364136223846793005)
+        .wrapping_add(1442695040888963407);
+    (*state >> 33) % bound
+}
+
+// One to three of six variables, with a unit of their own.
+fn event(alloc: Global, state: &mut u64) -> Result<(u32, Vec<u32>), Fail> {
+    let (a, b, c) = (draw(state, 6), draw(state, 6), draw(state, 6));
+    let mut unit: u32 = 0;
+    let mut variables = Vec::new(alloc);
+    for v in 0..6 {
+        unit = unit.wrapping_mul(2);
+        if v == a || v == b || v == c {
+            unit = unit.wrapping_add(1);
+            variables.push(v as u32)?;
+        }
+    }
+    Ok((unit, variables))
+}
+
+// One to twelve pops.
+fn draw_pops(alloc: Global, state: &mut u64) -> Result<Vec<(u32, Vec<u32>)>, Fail> {
+    let mut pops = Vec::new(alloc);
+    for _ in 0..draw(state, 12) + 1 {
+        pops.push(event(alloc, state)?)?;
+    }
+    Ok(pops)
+}
+
+// Their log.
+fn logged(rt: &impl Abort, alloc: Global, pops: &[(u32, Vec<u32>)]) -> Result<Log, Fail> {
+    let mut log = Log::new(alloc);
+    for (unit, variables) in pops {
+        log.push(popped(rt, alloc, COUNT, *unit, variables)?)?;
+    }
+    Ok(log)
+}
+
+// Compares the tree of the last pop with what is found by search.
+fn agree(rt: &impl Abort, alloc: Global, pops: &[(u32, Vec<u32>)]) -> Result<(), Fail> {
+    let log = logged(rt, alloc, pops)?;
+    let want = search(alloc, pops)?;
+    assert!(rt; 0 < log.len());
+    let tree = tree(alloc, &log, log.len() - 1)?;
+    assert!(rt; tree.len() == want.len() as u64);
+    for (i, vertex) in want.iter().enumerate() {
+        let i = i as u64;
+        assert!(rt; i < tree.len());
+        assert_eq!(rt; tree.unit(i), vertex.unit, "vertex {i}");
+        let depth = (vertex.path.len() as u64).checked_sub(1);
+        assert!(rt; depth == Some(tree.depth(i)), "the depth of vertex {i}");
+    }
+    Ok(())
+}
+
+#[test]
+fn trees_are_those_that_a_search_finds(rt: HostRuntime) -> Result<(), Fail> {
+    let alloc = rt.alloc();
+    let mut state = 1;
+    for _ in 0..400 {
+        let pops = draw_pops(alloc, &mut state)?;
+        agree(&rt, alloc, &pops)?;
+    }
+    Ok(())
+}
