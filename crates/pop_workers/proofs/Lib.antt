@@ -3,8 +3,6 @@ pub mod JoinedRuns
 -- What a closed board leaves
 mod OneMerged
 mod ClosedBoards
--- Hints in deques
-mod HintMoves
 -- Rounds of a sole pass over all units
 mod Rounds
 -- What the answers of finders say

@@ -1,12 +1,13 @@
 ghost use Rattle.std.specs.Prelude.{◌≡◌, ◌<◌};
 
 use crate::Gate;
-use crate::turns::{Turns, Worker};
+use crate::turns::Turns;
 use lock_board::{Attempt, Book, Site};
 use pop_instance::Instance;
 use pop_stacks::Reader;
 use std::alloc::{AllocError, Global};
 use std::sync::{Mutex, Wait};
+use worker_hints::Worker;
 
 // A worker ends after so many turns.
 const MOST_TURNS: u64 = 1 << 32;

@@ -6,7 +6,6 @@ ghost use Rattle.claim_words.specs.Passes.{IsOf, IsIdle, IsHelper, view, instanc
 ghost use Rattle.pop_workers.specs.Attempts.{IsIndexed};
 
 use crate::Gate;
-use crate::hints::{Own, Range};
 use crate::shared::Shared;
 use crate::tools::Tools;
 use crate::working::work;
@@ -15,6 +14,7 @@ use pop_stacks::Reader;
 use std::alloc::{AllocError, Global};
 use std::thread;
 use std::thread::Threads;
+use worker_hints::{Own, Range};
 
 /// What a worker beside the caller has: its pass, its deque, and its reader once it has worked, or
 /// none where it found no memory. Their places in a list count from worker 1 on.

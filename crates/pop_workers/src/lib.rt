@@ -10,7 +10,6 @@ mod finishing;
 mod found;
 mod gate;
 mod growing;
-mod hints;
 mod jobs;
 mod locked;
 mod opening;
@@ -20,8 +19,6 @@ mod searching;
 mod shared;
 mod stage_end;
 mod stages;
-#[cfg(test)]
-mod tests;
 mod tools;
 mod turns;
 mod words;

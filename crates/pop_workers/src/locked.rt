@@ -8,7 +8,6 @@ ghost use Rattle.lock_board.specs.Books.{IsBook};
 use crate::attempts::attempt_in_turns;
 use crate::finishing::finish;
 use crate::progress::Progress;
-use crate::turns::Worker;
 use crate::{Gate, Outcome};
 use confluence_core::{Keep, Log, Units, run_from};
 use lock_board::{Book, Site};
@@ -18,6 +17,7 @@ use std::marker::Brand;
 use std::sync::{Mutex, Wait};
 use std::thread;
 use std::thread::Threads;
+use worker_hints::Worker;
 
 /// A run by 1 to 64 workers over a book under a lock, from cursors that are below the heights. Each
 /// worker attempts its units in turn; what they leave, the calling thread pops. The result has a

@@ -8,13 +8,13 @@ ghost use Rattle.pop_workers.specs.Attempts.{IsIndexed, AreTools, IsRound};
 
 use crate::NoGate;
 use crate::found::Found;
-use crate::hints::{Own, Range};
 use crate::searching::{search, spread};
 use crate::shared::Shared;
 use crate::tools::Tools;
 use crate::working::work;
 use claim_words::{Board, Pass};
 use std::alloc::AllocError;
+use worker_hints::{Own, Range};
 
 /// Brings a board to its end: rounds of a sole pass over all units, until one pops nothing.
 pub(crate) fn round_off<W: Range>(

@@ -8,12 +8,12 @@ ghost use Rattle.event_finders.specs.UnitConditions.{Indexes};
 ghost use Rattle.pop_workers.specs.Attempts.{IsIndexed, AreTools, Goes, FindsAlone, found_in};
 
 use crate::found::Found;
-use crate::hints::{Own, Range, give, give_all};
 use crate::shared::Shared;
 use crate::tools::Tools;
 use claim_words::{Board, Pass};
 use event_finders::{Stretch, Tried, try_unit, walk_on};
 use pop_instance::{Cube, Family, Index, Instance};
+use worker_hints::{Own, Range, give, give_all};
 
 /// Looks for an event at a unit, and pops it. Of a cycle family the unit is where a walk starts,
 /// which pops so many cycles at most, and one at least.

@@ -1,6 +1,6 @@
-use crate::hints::{Other, Range};
 use pop_instance::{Index, Instance};
 use std::alloc::Global;
+use worker_hints::{Other, Range};
 
 /// What all workers on a board of claim words share.
 #[derive(Drop)]

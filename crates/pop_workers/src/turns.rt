@@ -1,11 +1,6 @@
 ghost use Rattle.std.specs.Prelude.{◌≡◌, ◌<◌, IfSome};
 
-/// Which worker it is, from 0, and of how many.
-#[derive(Clone, Copy)]
-pub(crate) struct Worker {
-    pub number: u32,
-    pub workers: u32,
-}
+use worker_hints::Worker;
 
 /// Which units a worker tries, turn by turn: those that leave its number when they are divided by
 /// the number of workers, from the least on. It goes over them again and again, until it popped

@@ -9,12 +9,10 @@ ghost use Rattle.pop_workers.specs.Attempts.{IsIndexed};
 ghost use Rattle.pop_workers.specs.Readers.{AreReadersOf};
 
 use crate::crew::Crew;
-use crate::hints::{Other, Own, Range, deal};
 use crate::jobs::{Jobs, hand_out, take_back, work_beside};
 use crate::rounding::round_off;
 use crate::shared::Shared;
 use crate::tools::Tools;
-use crate::turns::Worker;
 use crate::working::work;
 use crate::{Gate, NoGate};
 use claim_words::{Board, Pass};
@@ -23,6 +21,7 @@ use pop_stacks::Reader;
 use std::alloc::{AllocError, Global};
 use std::marker::Brand;
 use std::thread::{Threads, join_mut};
+use worker_hints::{Other, Own, Range, Worker, deal};
 
 /// Lets 1 to 64 workers pop the events of a board, which is one of the instance, until none is
 /// poppable. The pass is idle and has all 64 shares, before and after. It is refused only where the

@@ -7,12 +7,12 @@ ghost use Rattle.pop_workers.specs.Attempts.{IsIndexed, AreTools, Goes};
 
 use crate::Gate;
 use crate::found::Found;
-use crate::hints::{Own, Range, give, next};
 use crate::searching::{search, spread};
 use crate::shared::Shared;
 use crate::tools::Tools;
 use claim_words::{Board, Pass};
 use std::alloc::AllocError;
+use worker_hints::{Own, Range, give, next};
 
 // A worker ends after so many turns.
 const MOST_TURNS: u64 = 1 << 32;

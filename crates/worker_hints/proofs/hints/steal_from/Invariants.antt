@@ -1,5 +1,5 @@
 use Rattle.crossbeam_deque.specs.Handles.{IsPassOf, stealer_deque}
-use Rattle.pop_workers.proofs.hints.steal_from.Given as goal
+use Rattle.worker_hints.proofs.hints.steal_from.Given as goal
 
 -- the pass stays one of the other's deque
 abbrev pub invariant-loop : goal.invariant-loop

@@ -1,4 +1,4 @@
-use Rattle.pop_workers.proofs.tests.hints.behind_a_meeting_another_hint_comes.Given as goal
+use Rattle.worker_hints.proofs.tests.behind_a_meeting_another_hint_comes.Given as goal
 
 -- there are four units
 abbrev pub ghosts-takes_of_two : goal.ghosts-takes_of_two

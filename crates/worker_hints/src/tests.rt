@@ -2,8 +2,7 @@
 ghost use Rattle.std.specs.Prelude.{◌≡◌, ◌<◌, length, IfOk, IfSome};
 ghost use Rattle.std.specs.Bool.{OnTrue};
 
-use crate::hints::{Other, Own, Range, deal, next};
-use crate::turns::Worker;
+use crate::{Other, Own, Range, Worker, deal, next};
 use std::alloc::{AllocError, Global};
 use std::marker::Brand;
 use std::process::Abort;

@@ -3,14 +3,14 @@
 //! another hint first. A hint that is lost loses no event.
 ghost use Rattle.std.specs.Prelude.{◌≡◌, ℕ, ◌+◌, ◌*◌, ◌/◌, All, ◌<◌, ◌≤◌, IfSome, length};
 
-use crate::turns::Worker;
+use crate::Worker;
 use crossbeam_deque::protocol::{Outcome, Protocol};
 use crossbeam_deque::{Steal, Stealer, Worker as Deque};
 use std::alloc::{AllocError, Global};
 use std::marker::{Brand, PhantomData};
 
 /// How many units there are; it is picked where the deques are made.
-pub(crate) trait Range {
+pub trait Range {
     ghost units: { ℕ };
 }
 
@@ -19,7 +19,7 @@ impl Range for Brand {
 }
 
 /// The rule of the deques: what lies in them are units.
-pub(crate) struct AreUnits<W> {
+pub struct AreUnits<W> {
     range: PhantomData<W>,
 }
 
@@ -36,20 +36,16 @@ impl<W: Range> Outcome<u32, ()> for AreUnits<W> {
 }
 
 /// The hints of a worker, in its deque, of which it takes the last first.
-pub(crate) type Own<W> = Deque<u32, Global, (), AreUnits<W>>;
+pub type Own<W> = Deque<u32, Global, (), AreUnits<W>>;
 
 /// The same deque, for others.
-pub(crate) type Other<W> = Stealer<u32, Global, (), AreUnits<W>>;
+pub type Other<W> = Stealer<u32, Global, (), AreUnits<W>>;
 
 // How often a worker looks again at a deque of which others take at the same time.
 const MOST_LOOKS: u32 = 64;
 
 /// The first hints of a worker: one block of all units, of which it takes the least first.
-pub(crate) fn deal<W: Range>(
-    alloc: Global,
-    worker: Worker,
-    units: u32,
-) -> Result<Own<W>, AllocError>
+pub fn deal<W: Range>(alloc: Global, worker: Worker, units: u32) -> Result<Own<W>, AllocError>
     requires range { units ≡ W.units }
     requires worker { worker.number < worker.workers }
 {
@@ -63,14 +59,14 @@ pub(crate) fn deal<W: Range>(
 }
 
 /// Puts a hint where its worker takes it next. Where no memory is found for it, it is lost.
-pub(crate) fn give<W: Range>(own: &mut Own<W>, unit: u32)
+pub fn give<W: Range>(own: &mut Own<W>, unit: u32)
     requires { unit < W.units }
 {
     let _ = own.push_as::<AreUnits<W>>(unit);
 }
 
 /// Puts such hints, one behind the other.
-pub(crate) fn give_all<W: Range>(own: &mut Own<W>, units: &[u32])
+pub fn give_all<W: Range>(own: &mut Own<W>, units: &[u32])
     requires { All (λ unit. unit < W.units) units.now }
 {
     for unit in units {
@@ -84,7 +80,7 @@ pub(crate) fn give_all<W: Range>(own: &mut Own<W>, units: &[u32])
 /// `met` is the hint at which its last turn met another worker, and lies in no deque. Then the next
 /// is the first of its own deque; else one of another worker. Behind it `met` is put back; where
 /// there is no other, it comes again.
-pub(crate) fn next<W: Range>(
+pub fn next<W: Range>(
     own: &mut Own<W>,
     all: &[Other<W>],
     worker: u32,

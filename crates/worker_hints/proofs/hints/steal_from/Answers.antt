@@ -1,5 +1,5 @@
-use Rattle.pop_workers.proofs.HintMoves.{takes}
-use Rattle.pop_workers.proofs.hints.steal_from.Goals as goal
+use Rattle.worker_hints.proofs.HintMoves.{takes}
+use Rattle.worker_hints.proofs.hints.steal_from.Goals as goal
 
 pub steal_as-requires-clause-takes : goal.steal_as-requires-clause-takes
 steal_as-requires-clause-takes g c = takes g.W.Range.units _ tt 1

@@ -1,5 +1,5 @@
-use Rattle.pop_workers.proofs.HintMoves.{takes, pops}
-use Rattle.pop_workers.proofs.hints.next.Goals as goal
+use Rattle.worker_hints.proofs.HintMoves.{takes, pops}
+use Rattle.worker_hints.proofs.hints.next.Goals as goal
 
 pub pop_as-last-requires-clause-fifo : goal.pop_as-last-requires-clause-fifo
 pop_as-last-requires-clause-fifo g c = λ _. takes g.W.Range.units _ tt 1

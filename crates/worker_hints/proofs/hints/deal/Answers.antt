@@ -1,7 +1,7 @@
 use Rattle.std.proofs.Common.{◌*◌, ◌/◌, ◌+◌, arith}
 use Rattle.std.proofs.Math.Nat.{div-mul-le_self, add-mul}
 use Rattle.std.proofs.lemmas.Nat.{le-div}
-use Rattle.pop_workers.proofs.hints.deal.Goals as goal
+use Rattle.worker_hints.proofs.hints.deal.Goals as goal
 
 -- a block ends where it begins, or behind
 pub overflow_sub-end : goal.overflow_sub-end

@@ -1,0 +1,2 @@
+-- Hints in deques
+mod HintMoves
