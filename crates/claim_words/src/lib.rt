@@ -22,8 +22,6 @@ mod popping;
 mod splitting;
 mod starts;
 mod steps;
-#[cfg(test)]
-mod tests;
 mod view;
 
 pub use board::Board;

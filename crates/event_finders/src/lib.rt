@@ -10,8 +10,6 @@ mod listed_event;
 mod look;
 mod owed_marks;
 mod stretch;
-#[cfg(test)]
-mod tests;
 mod tried;
 mod unit_claims;
 mod unit_look;

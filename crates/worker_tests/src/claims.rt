@@ -1,0 +1,171 @@
+//! Claims and marks on boards of two variables, worked by hand.
+ghost use Rattle.std.specs.Prelude.{◌≡◌, ◌<◌, length};
+ghost use Rattle.pop_model.specs.Stacks.{variables_of};
+ghost use Rattle.claim_words.specs.Openings.{marks_in};
+ghost use Rattle.claim_words.specs.Passes.{IsOf, view, count_of, marks_of};
+
+use crate::comparing::same;
+use crate::passes::{marks_in, started};
+use claim_words::{Board, Claim, Closed, Pass};
+use confluence_core::{Keep, Tickets};
+use pop_instance::Instance;
+use std::alloc::{AllocError, Global};
+use std::process::Abort;
+use std::test::Fail;
+use test_instances::{EventRow, listed};
+
+mod boards;
+mod instances;
+mod one_pop;
+mod working;
+
+use working::close_after_turns;
+
+// Two variables with the entries 0, 1 each. Event 1 demands 0 of both, event 2 demands 1 of the
+// last.
+static ROWS: [&[u32]; 2] = [&[0, 1], &[0, 1]];
+
+static EVENTS: [EventRow; 2] = [(1, &[(0, 0), (1, 0)]), (2, &[(1, 1)])];
+
+// Tests that there are two variables.
+fn are_two(rt: &impl Abort, instance: &Instance)
+    ensures { variables_of instance.now.stacks ≡ 2 }
+{
+    same(rt, instance.stacks().count() as u64, 2, "variables");
+}
+
+// What a pass finds where it claims variable 0.
+fn claim_first(board: &Board, pass: &mut Pass) -> Result<Claim, AllocError>
+    requires pass { IsOf board.now pass.old }
+    requires known { 0 < count_of board.now }
+{
+    board.reserve(pass, 1)?;
+    Ok(board.try_claim(pass, 0))
+}
+
+// What a pass with all shares and one that is split off it find, where they claim variable 0.
+fn claims_of_two(
+    rt: &impl Abort,
+    board: &Board,
+    pass: &mut Pass,
+) -> Result<(Claim, Claim), AllocError>
+    requires pass { IsOf board.now pass.old }
+    requires share { (view pass.old).share ≡ 64 }
+    requires known { 0 < count_of board.now }
+{
+    let mut other = board.split(pass, 1);
+    same(rt, pass.share() as u64, 63, "shares");
+    same(rt, other.share() as u64, 1, "shares of the other");
+    let first = claim_first(board, pass)?;
+    let second = claim_first(board, &mut other)?;
+    Ok((first, second))
+}
+
+// Compares what a claim found.
+fn same_claim(rt: &impl Abort, found: Claim, want: Claim) {
+    assert_eq!(rt; found, want);
+}
+
+// Worked by hand: bit 63 is 9223372036854775808.
+fn second_is_busy(rt: &impl Abort, alloc: Global, instance: &Instance) -> Result<(), Fail> {
+    are_two(rt, instance);
+    let (board, mut pass) = started(alloc, instance, Keep::Log)?;
+    let (first, second) = claims_of_two(rt, &board, &mut pass)?;
+    same_claim(rt, first, Claim::Mine(0));
+    same_claim(rt, second, Claim::Busy(9223372036854775808));
+    Ok(())
+}
+
+#[test]
+fn a_claimed_variable_is_busy_for_another_pass(rt: HostRuntime) -> Result<(), Fail> {
+    let alloc = rt.alloc();
+    let instance = listed(alloc, &ROWS, &EVENTS)?;
+    second_is_busy(&rt, alloc, &instance)
+}
+
+// Whether the mark of unit 1 was there, where a pass takes it.
+fn takes(board: &Board, pass: &mut Pass) -> bool
+    requires pass { IsOf board.now pass.old }
+    requires listed { 1 < marks_of board.now }
+    ensures { IsOf board.now pass.new }
+{
+    board.take(pass, 1)
+}
+
+// Tests that the mark is there at first, not where it was taken, and again where it was set.
+fn takes_in_turn(rt: &impl Abort, board: &Board, pass: &mut Pass)
+    requires pass { IsOf board.now pass.old }
+    requires listed { 1 < marks_of board.now }
+{
+    let first = takes(board, pass);
+    let second = takes(board, pass);
+    board.mark(pass, 1);
+    let third = takes(board, pass);
+    assert!(rt; first);
+    assert!(rt; !second);
+    assert!(rt; third);
+}
+
+// Tests that there are two listed events.
+fn are_two_events(rt: &impl Abort, instance: &Instance)
+    ensures { marks_in instance.now.family ≡ 2 }
+{
+    same(rt, marks_in(instance) as u64, 2, "events");
+}
+
+// Takes and sets a mark on a board from zeros.
+fn mark_is_taken(rt: &impl Abort, alloc: Global, instance: &Instance) -> Result<(), Fail> {
+    are_two(rt, instance);
+    are_two_events(rt, instance);
+    let (board, mut pass) = started(alloc, instance, Keep::Nothing)?;
+    takes_in_turn(rt, &board, &mut pass);
+    Ok(())
+}
+
+#[test]
+fn a_mark_that_was_taken_is_gone_until_it_is_set(rt: HostRuntime) -> Result<(), Fail> {
+    let alloc = rt.alloc();
+    let instance = listed(alloc, &ROWS, &EVENTS)?;
+    mark_is_taken(&rt, alloc, &instance)
+}
+
+// Compares what the board of two events leaves after one pop of the first.
+fn is_after_one_pop(rt: &impl Abort, closed: &Closed)
+    requires { length closed.now.cursors ≡ 2 }
+{
+    same(rt, closed.cursors.get(0) as u64, 1, "variable 0");
+    same(rt, closed.cursors.get(1) as u64, 1, "variable 1");
+    same(rt, closed.pops, 1, "pops");
+    let suspects = &closed.suspects;
+    assert!(rt; suspects.len() == 2);
+    same(rt, suspects.at(0) as u64, 0, "suspect 0");
+    same(rt, suspects.at(1) as u64, 1, "suspect 1");
+}
+
+// Compares the tickets of one pop of the first event.
+fn is_first_ticket(rt: &impl Abort, log: &Tickets) {
+    assert!(rt; log.len() == 1);
+    let first = log.at(0);
+    same(rt, first.ticket, 0, "ticket");
+    same(rt, first.popped.unit() as u64, 0, "unit");
+}
+
+// Worked by hand: the first event is popped under ticket 0, and then neither is poppable, but both
+// share a variable with it and so are marked.
+fn leaves_one_ticket(rt: &impl Abort, alloc: Global, instance: &Instance) -> Result<(), Fail> {
+    are_two(rt, instance);
+    let closed = close_after_turns(rt, alloc, instance)?;
+    is_after_one_pop(rt, &closed);
+    let Some(log) = &closed.log else {
+        panic!(rt; "no log");
+    };
+    is_first_ticket(rt, log);
+    Ok(())
+}
+
+#[test]
+fn one_pop_leaves_its_ticket_and_the_marks_it_owed(rt: HostRuntime) -> Result<(), Fail> {
+    let alloc = rt.alloc();
+    let instance = listed(alloc, &ROWS, &EVENTS)?;
+    leaves_one_ticket(&rt, alloc, &instance)
+}

@@ -1,0 +1,201 @@
+//! Boards that threads work on together, to the end of the one-thread run.
+ghost use Rattle.std.specs.Prelude.{◌≡◌, ◌+◌, ◌<◌, ◌≤◌, length, All, IfOk, IfSome, OnOk};
+ghost use Rattle.pop_model.specs.Stacks.{variables_of};
+ghost use Rattle.claim_words.specs.Passes.{IsOf, IsIdle, IsHelper, IsSole, view, instance_of};
+
+use super::instances::{chain, tree};
+use super::working::work;
+use crate::comparing::{cursors_alike, same};
+use crate::passes::{close, started};
+use claim_words::{Board, Closed, Pass};
+use confluence_core::{End, Keep, run_first};
+use pop_instance::Instance;
+use std::alloc::{AllocError, Global};
+use std::process::Abort;
+use std::test::Fail;
+use std::thread;
+use std::thread::Threads;
+
+// How many boards are tried, and how many threads work on each.
+const BOARDS: u32 = 1000;
+
+const THREADS: u32 = 2;
+
+// The most turns of a thread at one board.
+const TURNS: u32 = 10000;
+
+// So many passes of share 1.
+fn hand_out(
+    alloc: Global,
+    board: &Board,
+    pass: &mut Pass,
+    others: u32,
+) -> Result<Vec<Pass>, AllocError>
+    requires pass { IsOf board.now pass.old × IsIdle pass.old }
+    requires share { others < (view pass.old).share }
+    ensures pass { IsOf board.now pass.new × IsIdle pass.new }
+    ensures passes { IfOk result (λ r. All (IsHelper board.now) r.items) }
+    ensures share { IfOk result
+        (λ r. (view pass.new).share + length r.items ≡ (view pass.old).share) }
+{
+    let mut passes = Vec::with_capacity(alloc, others as usize)?;
+    for _ in 0..others {
+        passes.push_reserved(board.split(pass, 1));
+    }
+    Ok(passes)
+}
+
+// The work of one thread: its pass again, or none where memory was wanting.
+fn worked(alloc: Global, board: &Board, mut pass: Pass, instance: &Instance) -> Option<Pass>
+    requires pass { IsHelper board.now pass }
+    requires instance { instance_of board.now ≡ instance.now }
+    ensures { IfSome result (IsHelper board.now) }
+{
+    match work(alloc, board, &mut pass, instance, TURNS) {
+        Ok(_) => Some(pass),
+        Err(_) => None,
+    }
+}
+
+// Takes the passes in again.
+fn take_back(rt: &impl Abort, board: &Board, pass: &mut Pass, passes: Vec<Option<Pass>>)
+    requires pass { IsOf board.now pass.old × IsIdle pass.old }
+    requires passes { All (λ p. IfSome p (IsHelper board.now)) passes.items }
+    ensures pass { IsOf board.now pass.new × IsIdle pass.new }
+{
+    for other in passes {
+        let other = other.expect(rt, "memory");
+        if board.rejoin(pass, other).is_err() {
+            panic!(rt; "out of memory");
+        }
+    }
+}
+
+// Lets the threads work on a board.
+fn work_together<R: Threads + Abort + Sync>(
+    rt: &R,
+    alloc: Global,
+    board: &Board,
+    pass: &mut Pass,
+    instance: &Instance,
+) -> Result<(), Fail>
+    requires pass { IsOf board.now pass.old × IsIdle pass.old }
+    requires share { (view pass.old).share ≡ 64 }
+    requires instance { instance_of board.now ≡ instance.now }
+    ensures { IsOf board.now pass.new × IsIdle pass.new }
+{
+    let passes = hand_out(alloc, board, pass, THREADS)?;
+    let back = thread::map_vec(
+        rt,
+        passes,
+        &|pass: Pass| worked(alloc, board, pass, instance),
+    )?;
+    take_back(rt, board, pass, back);
+    Ok(())
+}
+
+// Works alone to the end of a board, where the pass has all shares again.
+fn work_to_end(
+    rt: &impl Abort,
+    alloc: Global,
+    board: &Board,
+    pass: &mut Pass,
+    instance: &Instance,
+) -> Result<(), Fail>
+    requires pass { IsOf board.now pass.old × IsIdle pass.old }
+    requires instance { instance_of board.now ≡ instance.now }
+    ensures pass { IsOf board.now pass.new }
+    ensures idle { OnOk result (IsIdle pass.new) }
+    ensures sole { OnOk result (IsSole pass.new) }
+{
+    let at_end = work(alloc, board, pass, instance, TURNS)?;
+    assert!(rt; at_end);
+    same(rt, pass.share() as u64, 64, "shares");
+    Ok(())
+}
+
+// Lets the threads work on a board, and then ends it alone.
+fn close_together<R: Threads + Abort + Sync>(
+    rt: &R,
+    alloc: Global,
+    instance: &Instance,
+) -> Result<Closed, Fail>
+    ensures { IfOk result (λ closed. length closed.cursors ≡ variables_of instance.now.stacks) }
+{
+    let (board, mut pass) = started(alloc, instance, Keep::Log)?;
+    work_together(rt, alloc, &board, &mut pass, instance)?;
+    work_to_end(rt, alloc, &board, &mut pass, instance)?;
+    Ok(close(rt, board, pass))
+}
+
+// Compares what a board left with an end: its pops, which its log has too.
+fn pops_alike(rt: &impl Abort, closed: &Closed, pops: u64) {
+    same(rt, closed.pops, pops, "pops");
+    let Some(log) = &closed.log else {
+        panic!(rt; "no log");
+    };
+    same(rt, log.len(), pops, "tickets");
+}
+
+// Compares what a board leaves with the end of the one-thread run.
+fn ends_as<R: Threads + Abort + Sync>(
+    rt: &R,
+    alloc: Global,
+    instance: &Instance,
+    end: &End,
+) -> Result<(), Fail>
+    requires { variables_of instance.now.stacks ≡ length end.now.cursors }
+{
+    let closed = close_together(rt, alloc, instance)?;
+    pops_alike(rt, &closed, end.pops);
+    cursors_alike(rt, &closed.cursors, &end.cursors, instance.stacks().count());
+    Ok(())
+}
+
+// Compares what a board left with the one-thread run: the pops that the threads made.
+fn ends_alike<R: Threads + Abort + Sync>(
+    rt: &R,
+    alloc: Global,
+    instance: &Instance,
+) -> Result<u64, Fail> {
+    let end: End = run_first(alloc, instance)?;
+    ends_as(rt, alloc, instance, &end)?;
+    Ok(end.pops)
+}
+
+// The next random instance: a chain for each even board, else a tree.
+fn instance_for(
+    rt: &impl Abort,
+    alloc: Global,
+    board: u32,
+    state: &mut u64,
+) -> Result<Instance, Fail> {
+    if board % 2 == 0 {
+        return chain(rt, alloc, state);
+    }
+    tree(rt, alloc, state)
+}
+
+// Compares the ends of the next board: its pops.
+fn board_ends_alike<R: Threads + Abort + Sync>(
+    rt: &R,
+    alloc: Global,
+    board: u32,
+    state: &mut u64,
+) -> Result<u64, Fail> {
+    let instance = instance_for(rt, alloc, board, state)?;
+    ends_alike(rt, alloc, &instance)
+}
+
+#[test]
+fn threads_end_alike_on_boards_of_both_families(rt: HostRuntime) -> Result<(), Fail> {
+    let alloc = rt.alloc();
+    let mut state = 2026;
+    let mut pops: u64 = 0;
+    for board in 0..BOARDS {
+        let more = board_ends_alike(&rt, alloc, board, &mut state)?;
+        pops = more.checked_add(pops).expect(&rt, "few pops");
+    }
+    assert!(&rt; pops > 100, "{pops} pops");
+    Ok(())
+}

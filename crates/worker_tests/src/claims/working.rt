@@ -1,0 +1,196 @@
+//! What one thread does with its pass: it claims all variables, pops the first event that is
+//! poppable there, marks what it owes, and lets go.
+ghost use Rattle.std.specs.Prelude.{◌≡◌, ◌≤◌, ◌<◌, ◌+◌, ◌++◌, ◌∷◌, [], length, IfOk, IfSome, OnOk, MatchOption};
+ghost use Rattle.pop_model.specs.Stacks.{variables_of};
+ghost use Rattle.pop_model.specs.Popping.{variables};
+ghost use Rattle.claim_words.specs.Openings.{height};
+ghost use Rattle.claim_words.specs.Passes.{IsOf, IsIdle, IsSole, HoldsAll, SameMarks, view, spare, count_of, instance_of, opening_of};
+
+use crate::comparing::same;
+use crate::passes::{close, mark_all, marks_in, release_below, started};
+use claim_words::{Board, Claim, Closed, Pass};
+use confluence_core::{Keep, first_poppable};
+use pop_instance::{Cursors, Instance};
+use pop_stacks::Reader;
+use std::alloc::{AllocError, Global};
+use std::process::Abort;
+use std::test::Fail;
+
+// Claims a variable: its cursor; none where it is refused.
+fn claim_next(board: &Board, pass: &mut Pass, v: u32) -> Option<u32>
+    requires pass { IsOf board.now pass.old }
+    requires known { v < count_of board.now }
+    requires room { 1 ≤ spare pass.old }
+    ensures pass { IsOf board.now pass.new }
+    ensures same { SameMarks pass.old pass.new }
+    ensures held { MatchOption result ((view pass.new).held ≡ (view pass.old).held)
+        (λ c. (view pass.new).held ≡ (view pass.old).held ++ (v, c) ∷ []) }
+    ensures room { IfSome result (λ _. spare pass.new + 1 ≡ spare pass.old) }
+    ensures low { IfSome result (λ c. c < height (opening_of board.now) v) }
+{
+    match board.try_claim(pass, v) {
+        Claim::Mine(cursor) => Some(cursor),
+        Claim::Busy(_) => None,
+        Claim::Settled(_) => None,
+    }
+}
+
+// Claims all variables, in order: their cursors. Where one is refused, lets go of those before it.
+fn claim_all(
+    alloc: Global,
+    board: &Board,
+    pass: &mut Pass,
+    count: u32,
+) -> Result<Option<Cursors>, AllocError>
+    requires pass { IsOf board.now pass.old × IsIdle pass.old }
+    requires count { count ≡ count_of board.now }
+    requires room { count ≤ spare pass.old }
+    ensures pass { IsOf board.now pass.new }
+    ensures same { SameMarks pass.old pass.new }
+    ensures held { IfOk result (λ found. MatchOption found ((view pass.new).held ≡ [])
+        (HoldsAll board.now pass.new)) }
+{
+    let mut cursors = Vec::with_capacity(alloc, count as usize)?;
+    for v in 0..count {
+        let Some(cursor) = claim_next(board, pass, v) else {
+            release_below(board, pass, v);
+            return Ok(None);
+        };
+        cursors.push_reserved(cursor);
+    }
+    Ok(Some(Cursors::of(cursors)))
+}
+
+// Pops the event of least unit that is poppable, where the pass holds all variables at these
+// cursors: its ticket. Then marks what is owed.
+fn pop_first(
+    alloc: Global,
+    board: &Board,
+    pass: &mut Pass,
+    instance: &Instance,
+    cursors: &Cursors,
+) -> Result<Option<u64>, AllocError>
+    requires pass { IsOf board.now pass.old }
+    requires instance { instance_of board.now ≡ instance.now }
+    requires held { HoldsAll board.now pass.old cursors.now }
+    requires none { ((view pass.old).taken ≡ []) × ((view pass.old).owed ≡ []) }
+    ensures pass { IsOf board.now pass.new }
+    ensures none { ((view pass.new).taken ≡ []) × ((view pass.new).owed ≡ []) }
+    ensures held { variables (view pass.new).held ≡ variables (view pass.old).held }
+    ensures share { (view pass.new).share ≡ (view pass.old).share }
+{
+    let _units = instance.units();
+    let mut reader = Reader::new(instance.stacks());
+    let Some((unit, cube)) = first_poppable(alloc, instance, &mut reader, cursors)? else {
+        return Ok(None);
+    };
+    board.reserve(pass, cube.len())?;
+    let ticket = board.pop(pass, unit, &cube);
+    mark_all(board, pass, marks_in(instance));
+    Ok(Some(ticket))
+}
+
+// One turn: whether the board is at an end.
+fn turn(
+    alloc: Global,
+    board: &Board,
+    pass: &mut Pass,
+    instance: &Instance,
+) -> Result<bool, AllocError>
+    requires pass { IsOf board.now pass.old × IsIdle pass.old }
+    requires instance { instance_of board.now ≡ instance.now }
+    ensures pass { IsOf board.now pass.new }
+    ensures idle { OnOk result (IsIdle pass.new) }
+    ensures share { (view pass.new).share ≡ (view pass.old).share }
+{
+    let count = instance.stacks().count();
+    board.reserve(pass, count)?;
+    let Some(cursors) = claim_all(alloc, board, pass, count)? else {
+        return Ok(false);
+    };
+    let popped = pop_first(alloc, board, pass, instance, &cursors)?;
+    release_below(board, pass, count);
+    Ok(popped.is_none())
+}
+
+// Works until the board is at an end, or for so many turns: whether it is.
+pub(super) fn work(
+    alloc: Global,
+    board: &Board,
+    pass: &mut Pass,
+    instance: &Instance,
+    turns: u32,
+) -> Result<bool, AllocError>
+    requires pass { IsOf board.now pass.old × IsIdle pass.old }
+    requires instance { instance_of board.now ≡ instance.now }
+    ensures pass { IsOf board.now pass.new }
+    ensures idle { OnOk result (IsIdle pass.new) }
+    ensures share { (view pass.new).share ≡ (view pass.old).share }
+{
+    for _ in 0..turns {
+        if turn(alloc, board, pass, instance)? {
+            return Ok(true);
+        }
+    }
+    Ok(false)
+}
+
+// Lets a pass that is split off work, which has one turn and finds nothing to pop, and takes it in.
+fn other_finds_none(
+    rt: &impl Abort,
+    alloc: Global,
+    board: &Board,
+    pass: &mut Pass,
+    other: Pass,
+    instance: &Instance,
+) -> Result<(), Fail>
+    requires pass { IsOf board.now pass.old × IsIdle pass.old }
+    requires other { IsOf board.now other × IsIdle other }
+    requires instance { instance_of board.now ≡ instance.now }
+    ensures pass { IsOf board.now pass.new × IsIdle pass.new }
+{
+    let mut other = other;
+    let at_end = work(alloc, board, &mut other, instance, 1)?;
+    assert!(rt; at_end);
+    if board.rejoin(pass, other).is_err() {
+        panic!(rt; "out of memory");
+    }
+    Ok(())
+}
+
+// One turn of each of two passes: the first pops, and the second claims all variables, of which the
+// first has let go, and finds nothing to pop.
+fn take_turns(
+    rt: &impl Abort,
+    alloc: Global,
+    board: &Board,
+    pass: &mut Pass,
+    instance: &Instance,
+) -> Result<(), Fail>
+    requires pass { IsOf board.now pass.old × IsIdle pass.old }
+    requires share { (view pass.old).share ≡ 64 }
+    requires instance { instance_of board.now ≡ instance.now }
+    ensures pass { IsOf board.now pass.new }
+    ensures idle { OnOk result (IsIdle pass.new) }
+    ensures sole { OnOk result (IsSole pass.new) }
+{
+    let other = board.split(pass, 1);
+    let at_end = work(alloc, board, pass, instance, 1)?;
+    assert!(rt; !at_end);
+    other_finds_none(rt, alloc, board, pass, other, instance)?;
+    same(rt, pass.share() as u64, 64, "shares");
+    Ok(())
+}
+
+// What a board leaves after such turns.
+pub(super) fn close_after_turns(
+    rt: &impl Abort,
+    alloc: Global,
+    instance: &Instance,
+) -> Result<Closed, Fail>
+    ensures { IfOk result (λ closed. length closed.cursors ≡ variables_of instance.now.stacks) }
+{
+    let (board, mut pass) = started(alloc, instance, Keep::Log)?;
+    take_turns(rt, alloc, &board, &mut pass, instance)?;
+    Ok(close(rt, board, pass))
+}

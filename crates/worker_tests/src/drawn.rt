@@ -1,0 +1,51 @@
+//! Pseudo-random numbers, and random arrows towards a root.
+ghost use Rattle.std.specs.Prelude.{◌<◌, ◌≤◌, ◌^◌, length, All, IfOk};
+ghost use Rattle.pop_instance.specs.Arrows.{heads_of};
+
+use pop_instance::{Arrows, Family};
+use std::alloc::{AllocError, Global};
+use std::process::Abort;
+use std::test::Fail;
+
+/// The next pseudo-random number below a bound: the high bits of a linear congruential step with
+/// Knuth's numbers for MMIX.
+pub(crate) fn below(state: &mut u64, bound: u32) -> u32
+    requires { 0 < bound }
+    ensures { result < bound }
+{
+    *state = state
+        .wrapping_mul(6364136223846793005)
+        .wrapping_add(1442695040888963407);
+    (*state >> 33) as u32 % bound
+}
+
+// The heads of so many variables. Each has an arrow to a variable before it or to the root, and one
+// to itself or a variable behind it.
+fn heads(alloc: Global, state: &mut u64, count: u32) -> Result<Vec<Vec<Option<u32>>>, AllocError>
+    requires some { 0 < count }
+    requires few { count < 1000 }
+    ensures short { IfOk result (λ heads. length heads.items ≤ count) }
+    ensures short_rows { IfOk result (λ heads.
+        All (λ row. length row < 2 ^ 31) (heads_of heads.items)) }
+{
+    let mut heads = Vec::new(alloc);
+    for v in 0..count {
+        let before = below(state, v + 1).checked_sub(1);
+        let behind = v + below(state, count - v);
+        heads.push(vec![in alloc; before, Some(behind)]?)?;
+    }
+    Ok(heads)
+}
+
+/// The cycles of such arrows.
+pub(crate) fn arrows(
+    rt: &impl Abort,
+    alloc: Global,
+    state: &mut u64,
+    count: u32,
+) -> Result<Family, Fail> {
+    assert!(rt; 0 < count);
+    assert!(rt; count < 1000);
+    let heads = heads(alloc, state, count)?;
+    Ok(Family::Cycles(Arrows::new(heads).expect(rt, "arrows")))
+}

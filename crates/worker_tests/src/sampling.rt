@@ -1,0 +1,144 @@
+//! Runs by workers, which end as the run on one thread does.
+ghost use Rattle.std.specs.Prelude.{◌≡◌, ◌<◌, ◌≤◌, ◌^◌, ℕ, length, IfOk};
+ghost use Rattle.pop_model.specs.Stacks.{variables_of, height_of, IsKeyed};
+
+use crate::comparing::{cursors_alike, same};
+use confluence_core::{End, Keep, run_first};
+use pop_instance::{Family, Instance};
+use pop_stacks::{StackSpec, Stacks, Weights};
+use pop_workers::{Gate, NoGate, Outcome, sample_claimed, sample_locked, zeros_of};
+use std::alloc::{AllocError, Global};
+use std::process::Abort;
+use std::sync::Wait;
+use std::test::Fail;
+use std::thread::Threads;
+
+mod chains;
+mod heights;
+mod schedules;
+mod trees;
+
+// Events over so many variables of two values, with stacks of this height under a key of 32 such
+// bytes.
+fn under_key(
+    rt: &impl Abort,
+    count: u32,
+    key: u8,
+    height: u32,
+    family: Family,
+) -> Result<Instance, Fail>
+    ensures keyed { IfOk result (λ i. IsKeyed i.stacks.origin) }
+    ensures height { IfOk result (λ i. (v : ℕ) → height_of i.stacks v ≡ height) }
+{
+    assert!(rt; count < 3000);
+    assert!(rt; 0 < height);
+    assert!(rt; height < 1000);
+    let weights = Weights::pairs(count);
+    let stacks = Stacks::new(StackSpec::Key([key; 32]), weights, height)?;
+    Ok(Instance::new(stacks, family).expect(rt, "an instance"))
+}
+
+// The run of so many workers, on claim words or else under a lock.
+fn sample<R: Threads + Wait + Sync, G: Gate + Sync>(
+    rt: &R,
+    alloc: Global,
+    instance: &Instance,
+    claimed: bool,
+    workers: u32,
+    gate: &G,
+) -> Result<Outcome, AllocError>
+    requires { (0 < workers) × (workers ≤ 64) }
+    ensures { IfOk result (λ run. variables_of instance.now.stacks ≡ length run.end.cursors) }
+{
+    let from = zeros_of(alloc, instance)?;
+    if claimed {
+        return sample_claimed(rt, alloc, instance, &from, workers, Keep::Log, gate);
+    }
+    sample_locked(rt, alloc, instance, &from, workers, Keep::Log, gate)
+}
+
+// Compares how long the log of a run is with its pops.
+fn logs_each_pop(rt: &impl Abort, run: &Outcome) {
+    let Some(log) = &run.log else {
+        panic!(rt; "no log");
+    };
+    same(rt, log.len(), run.end.pops, "records");
+}
+
+// Compares an end by workers with that of the one-thread run.
+fn is_alike(rt: &impl Abort, run: &Outcome, first: &End, count: u32)
+    requires run { count ≡ length run.now.end.cursors }
+    requires first { count ≡ length first.now.cursors }
+{
+    cursors_alike(rt, &run.end.cursors, &first.cursors, count);
+    same(rt, run.end.pops, first.pops, "pops");
+    same(rt, run.end.stuck.len(), first.stuck.len(), "stuck events");
+    logs_each_pop(rt, run);
+}
+
+// Compares the end of one run with that of the one-thread run.
+fn run_alike<R: Threads + Wait + Abort + Sync>(
+    rt: &R,
+    alloc: Global,
+    instance: &Instance,
+    claimed: bool,
+    workers: u32,
+    first: &End,
+) -> Result<(), Fail>
+    requires workers { (0 < workers) × (workers ≤ 64) }
+    requires first { variables_of instance.now.stacks ≡ length first.now.cursors }
+{
+    let outcome = sample(rt, alloc, instance, claimed, workers, &NoGate)?;
+    is_alike(rt, &outcome, first, instance.stacks().count());
+    Ok(())
+}
+
+// Compares the ends of so many workers on both boards.
+fn runs_alike<R: Threads + Wait + Abort + Sync>(
+    rt: &R,
+    alloc: Global,
+    instance: &Instance,
+    workers: u32,
+    first: &End,
+) -> Result<(), Fail>
+    requires first { variables_of instance.now.stacks ≡ length first.now.cursors }
+{
+    assert!(rt; 0 < workers);
+    assert!(rt; workers <= 64);
+    run_alike(rt, alloc, instance, false, workers, first)?;
+    run_alike(rt, alloc, instance, true, workers, first)
+}
+
+static WORKERS: [u32; 4] = [1, 2, 8, 64];
+
+// Compares the ends of each number of workers.
+fn all_alike<R: Threads + Wait + Abort + Sync>(
+    rt: &R,
+    alloc: Global,
+    instance: &Instance,
+    first: &End,
+) -> Result<(), Fail>
+    requires first { variables_of instance.now.stacks ≡ length first.now.cursors }
+{
+    for workers in WORKERS.iter() {
+        runs_alike(rt, alloc, instance, *workers, first)?;
+    }
+    Ok(())
+}
+
+// Runs the instance on one thread and by several numbers of workers on both boards, and compares
+// their ends. Returns the pops, and how many events are stuck.
+fn ends_alike<R: Threads + Wait + Abort + Sync>(
+    rt: &R,
+    alloc: Global,
+    instance: &Instance,
+) -> Result<(u64, u64), Fail> {
+    let first = run_first(alloc, instance)?;
+    all_alike(rt, alloc, instance, &first)?;
+    Ok((first.pops, first.stuck.len()))
+}
+
+// The greater of both numbers of two pairs.
+fn greater(one: (u64, u64), other: (u64, u64)) -> (u64, u64) {
+    (one.0.max(other.0), one.1.max(other.1))
+}

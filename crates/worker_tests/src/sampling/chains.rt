@@ -1,0 +1,94 @@
+//! Chains of events: each shares a variable with the next, and excludes it there.
+ghost use Rattle.std.specs.Prelude.{◌≡◌, ℕ, IfOk};
+ghost use Rattle.pop_model.specs.Stacks.{height_of, IsKeyed};
+
+use super::{ends_alike, greater, under_key};
+use pop_instance::{Cube, Family, Instance};
+use std::alloc::Global;
+use std::process::Abort;
+use std::sync::Wait;
+use std::test::Fail;
+use std::thread::Threads;
+use test_instances::{cube, family};
+
+// The event that variables 2i and 2i + 1 have the value 0 and variable 2i + 2 has the value 1.
+fn link(rt: &impl Abort, alloc: Global, i: u32) -> Result<Cube, Fail> {
+    assert!(rt; i < 1000);
+    cube(alloc, &[(2 * i, 0), (2 * i + 1, 0), (2 * i + 2, 1)])
+}
+
+// So many such events, under their numbers.
+fn links_of(rt: &impl Abort, alloc: Global, links: u32) -> Result<Vec<(u32, Cube)>, Fail> {
+    let mut rows = Vec::new(alloc);
+    for i in 0..links {
+        let link = link(rt, alloc, i)?;
+        rows.push((i + 1, link))?;
+    }
+    Ok(rows)
+}
+
+// The chain of so many links.
+fn chain(rt: &impl Abort, alloc: Global, links: u32) -> Result<Family, Fail> {
+    assert!(rt; links < 1000);
+    let rows = links_of(rt, alloc, links)?;
+    family(alloc, rows)
+}
+
+// Such a chain over stacks of this height under a key of 32 such bytes.
+pub(super) fn chain_under_key(
+    rt: &impl Abort,
+    alloc: Global,
+    links: u32,
+    key: u8,
+    height: u32,
+) -> Result<Instance, Fail>
+    ensures keyed { IfOk result (λ i. IsKeyed i.stacks.origin) }
+    ensures height { IfOk result (λ i. (v : ℕ) → height_of i.stacks v ≡ height) }
+{
+    assert!(rt; links < 1000);
+    let chain = chain(rt, alloc, links)?;
+    under_key(rt, 2 * links + 1, key, height, chain)
+}
+
+// Compares the ends of the runs of one chain.
+fn chain_ends_alike<R: Threads + Wait + Abort + Sync>(
+    rt: &R,
+    alloc: Global,
+    links: u32,
+    key: u8,
+    height: u32,
+) -> Result<(u64, u64), Fail> {
+    let instance = chain_under_key(rt, alloc, links, key, height)?;
+    ends_alike(rt, alloc, &instance)
+}
+
+// Keys and heights.
+static STACKS: [(u8, u32); 4] = [(3, 900), (77, 900), (3, 2), (200, 4)];
+
+// Compares the ends of the runs of chains of so many links: the most pops, and the most events that
+// are stuck.
+fn chains_end_alike<R: Threads + Wait + Abort + Sync>(
+    rt: &R,
+    alloc: Global,
+    links: u32,
+) -> Result<(u64, u64), Fail> {
+    let mut most = (0, 0);
+    for (key, height) in STACKS.iter() {
+        most = greater(most, chain_ends_alike(rt, alloc, links, *key, *height)?);
+    }
+    Ok(most)
+}
+
+static LINKS: [u32; 3] = [1, 7, 40];
+
+#[test]
+fn chains_end_alike_for_each_number_of_workers(rt: HostRuntime) -> Result<(), Fail> {
+    let alloc = rt.alloc();
+    let mut most = (0, 0);
+    for links in LINKS.iter() {
+        most = greater(most, chains_end_alike(&rt, alloc, *links)?);
+    }
+    assert!(&rt; most.0 > 5);
+    assert!(&rt; most.1 > 0);
+    Ok(())
+}
