@@ -1,8 +1,8 @@
 #!/usr/bin/env python3
 """Lets many threads work on many small random boards of claim words, and compares each closed board with the one-thread run.
 
-The test of `claim_words` does so with a few boards and two threads. This runs the same test, on a copy of the crates in
-a temporary folder, with as many boards and threads as are asked for. It is run by hand: `rt test` proves the copy and
+A test of `worker_tests` does so with a few boards and two threads. This runs the same test, on a copy of the crates in a
+temporary folder, with as many boards and threads as are asked for. It is run by hand: `rt test` proves the copy and
 builds its tests, of which this one is then run for as long as it takes; with `--unproved` it is only run, by
 `rt try --test`, which gives it a minute, enough for some hundred boards.
 """
@@ -15,8 +15,9 @@ import sys
 import tempfile
 import time
 
-TEST = os.path.join("crates", "claim_words", "src", "tests", "boards.rt")
-NAME = "tests::boards::threads_end_alike_on_boards_of_both_families"
+CRATE = "worker_tests"
+TEST = os.path.join("crates", CRATE, "src", "claims", "boards.rt")
+NAME = "claims::boards::threads_end_alike_on_boards_of_both_families"
 # A test that ends at once. By its name `rt test` runs none that takes long.
 SHORT = "a_claimed_variable_is_busy_for_another_pass"
 
@@ -51,13 +52,13 @@ def main():
         text = with_constant(text, "THREADS", asked.threads)
         with open(path, "w", encoding="utf-8") as file:
             file.write(text)
-        crate = os.path.join(copy, "crates", "claim_words")
+        crate = os.path.join(copy, "crates", CRATE)
         if asked.unproved:
             words = ["rt", "try", "--test"]
         else:
             if status := subprocess.run(["rt", "test", "--", SHORT], cwd=crate).returncode:
                 sys.exit(status)
-            words = [os.path.join(crate, "out", "claim_words_tests"), NAME]
+            words = [os.path.join(crate, "out", f"{CRATE}_tests"), NAME]
         begun = time.monotonic()
         ended = subprocess.run(words, cwd=crate)
         seconds = time.monotonic() - begun
