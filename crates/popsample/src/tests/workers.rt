@@ -1,67 +1,12 @@
-//! Runs of several workers.
-ghost use Rattle.std.specs.Prelude.{◌<◌};
-
-use super::{ZERO_KEY, all_end_alike, all_print_alike, answer, answer_behind, chain};
+//! Runs of several workers, of which one is held.
+use super::{answer, owned};
 use pop_workers::Gate;
-use std::alloc::{AllocError, Global};
+use std::alloc::Global;
 use std::process::Abort;
 use std::sync::Wait;
 use std::sync::atomic::{AtomicBool, AtomicU64, Ordering};
 use std::test::Fail;
 use std::thread::Threads;
-
-// A wheel: a hub, vertex 1, and a rim.
-fn wheel(alloc: Global, rim: u32) -> Result<String, AllocError>
-    requires { rim < 1000 }
-{
-    let mut input = format!(in alloc; "p edge {} {}\n", rim + 1, 2 * rim)?;
-    for i in 0..rim {
-        write!(input, "e 1 {}\ne {} {}\n", i + 2, i + 2, (i + 1) % rim + 2)?;
-    }
-    Ok(input)
-}
-
-#[test]
-fn no_crew_changes_a_byte(rt: HostRuntime) -> Result<(), Fail> {
-    let alloc = rt.alloc();
-    let chain = chain(alloc)?;
-    let wheel = wheel(alloc, 40)?;
-    all_print_alike(&rt, alloc, &["formula", "--key", ZERO_KEY], chain.as_str())?;
-    all_print_alike(&rt, alloc, &["orient", "--key", ZERO_KEY], wheel.as_str())?;
-    all_print_alike(&rt, alloc, &["tree", "--key", ZERO_KEY], wheel.as_str())
-}
-
-// The words of runs whose stacks soon come to their ends.
-static SHORT: [[&str; 5]; 3] = [
-    ["formula", "--key", ZERO_KEY, "--height", "1"],
-    ["formula", "--key", ZERO_KEY, "--height", "2"],
-    ["formula", "--key", ZERO_KEY, "--height", "3"],
-];
-
-static SHORT_GRID: [&str; 7] = ["make", "grid", "30", "--key", ZERO_KEY, "--height", "2"];
-
-#[test]
-fn no_crew_changes_a_byte_where_stacks_are_short(rt: HostRuntime) -> Result<(), Fail> {
-    let chain = chain(rt.alloc())?;
-    for words in SHORT.iter() {
-        let status = all_end_alike(&rt, rt.alloc(), words, chain.as_str())?;
-        assert!(&rt; status <= 1, "{words:?}");
-    }
-    let status = all_end_alike(&rt, rt.alloc(), &SHORT_GRID, "")?;
-    assert!(&rt; status <= 1);
-    Ok(())
-}
-
-#[test]
-fn a_crew_has_1_to_64_workers(rt: HostRuntime) -> Result<(), Fail> {
-    for workers in ["0", "65", "2,2", ""] {
-        let words = ["formula", "--workers", workers];
-        let (status, text) = answer(&rt, rt.alloc(), &words, "p cnf 0 0\n")?;
-        assert_eq!(&rt; status, 2, "{workers}");
-        assert_eq!(&rt; text.as_slice(), b"s USAGE 3\n".as_slice(), "{workers}");
-    }
-    Ok(())
-}
 
 // Holds a worker before its first turn until the other of two comes to its second, and counts the
 // turns of both.
@@ -124,7 +69,8 @@ fn with_held<R: Threads + Wait + Sync + Abort>(
         board,
     ];
     let input = "p cnf 3 2\n1 2 0\n1 3 0\n";
-    let (status, text) = answer_behind(rt, alloc, &gate, &words, input, 4096)?;
+    let words = owned(alloc, &words)?;
+    let (status, text) = answer(rt, alloc, &gate, &words, input, Vec::new(alloc))?;
     assert_eq!(rt; status, 0);
     assert!(rt;
         !gate.ran_out.load(Ordering::SeqCst),
@@ -167,7 +113,8 @@ fn turns_on<R: Threads + Wait + Sync + Abort>(
         board,
     ];
     let input = "p edge 3 3\ne 1 2\ne 2 3\ne 1 3\n";
-    let (status, text) = answer_behind(rt, alloc, &gate, &words, input, 4096)?;
+    let words = owned(alloc, &words)?;
+    let (status, text) = answer(rt, alloc, &gate, &words, input, Vec::new(alloc))?;
     assert_eq!(rt; status, 0);
     assert_eq!(rt;
         text.as_slice(),

@@ -1,18 +1,17 @@
-//! Watchers of a resampling, and what they report of its log.
+//! Watchers of the caller's own, and what they report of a log.
 ghost use Rattle.std.specs.Prelude.{[], ◌∷◌};
 
-use super::{each_kind, joined, owned};
+use super::{answer, owned};
 use confluence_core::Record;
-use pop_edge::{MemSink, MemSource};
 use pop_instance::Cube;
 use pop_watch::{Heights, Totals, Watch};
 use pop_workers::NoGate;
 use std::alloc::{AllocError, Global};
+use std::process::Abort;
 use std::sync::atomic::{AtomicU64, Ordering};
 use std::sync::{Arc, Wait};
 use std::test::Fail;
 use std::thread::Threads;
-use top_call::run;
 
 // What is printed of two pops of one clause, but for the reports. Worked by hand.
 static TWO_POPS: [&str; 3] = ["resample", "--stacks", "0,0,1"];
@@ -21,81 +20,48 @@ const INPUT: &str = "p cnf 1 1\n1 0\n";
 
 const HISTORY: &str = "s SAMPLE\nv 1 0\nused 2\npops 2\nlog 2 2\npop 1 1 1:0\npop 2 1 1:1\n";
 
-// What is printed of these words and this text, with these watchers.
-fn watched<R: Threads + Wait + Sync>(
-    rt: &R,
-    alloc: Global,
-    words: &[String],
-    input: &str,
-    watchers: Vec<Box<dyn Watch>>,
-) -> Result<(u8, Vec<u8>), Fail> {
-    let bytes = Vec::from_slice(alloc, input.as_bytes())?;
-    let mut source = MemSource::new(bytes, 64, Vec::new(alloc));
-    let mut sink = MemSink::new(alloc, 4096, 4096, Vec::new(alloc))?;
-    let status = run(rt, alloc, words, watchers, &NoGate, &mut source, &mut sink);
-    Ok((status, Vec::from_slice(alloc, sink.bytes())?))
+// The words that ask for the two pops, with these behind them.
+fn behind_stacks(alloc: Global, more: &[&str]) -> Result<Vec<String>, Fail> {
+    let mut words = owned(alloc, &TWO_POPS)?;
+    for word in more {
+        words.push(String::from_str(alloc, word)?)?;
+    }
+    Ok(words)
 }
 
-// What is printed of the two pops with these words behind the stacks, and these watchers.
-fn reported<R: Threads + Wait + Sync>(
+// Of the two pops with these words behind the stacks, and these watchers, this is printed behind
+// the log.
+fn is_reported<R: Threads + Wait + Sync + Abort>(
     rt: &R,
     alloc: Global,
     more: &[&str],
     watchers: Vec<Box<dyn Watch>>,
-) -> Result<(u8, Vec<u8>), Fail> {
-    let words = joined(alloc, &TWO_POPS, more)?;
-    watched(rt, alloc, &words, INPUT, watchers)
+    behind: &str,
+) -> Result<(), Fail> {
+    let words = behind_stacks(alloc, more)?;
+    let (status, text) = answer(rt, alloc, &NoGate, &words, INPUT, watchers)?;
+    let whole = format!(in alloc; "{HISTORY}{behind}")?;
+    assert_eq!(rt; status, 0, "{more:?}");
+    assert_eq!(rt; text.as_slice(), whole.as_bytes(), "{more:?}");
+    Ok(())
 }
 
-// Worked by hand: the words behind the stacks, and the text behind the log.
-#[test]
-fn reports_stand_by_rising_kind_behind_the_witness(rt: HostRuntime) -> Result<(), Fail> {
-    let rows: [(&[&str], &str); 7] = [
-        (
-            &["--witness", "1,1", "--report", "totals,heights"],
-            "witness 2\nwit 0 1 1=0\nwit 1 1 1=0\nreport totals 2 2 1\nreport heights 1 1\n",
-        ),
-        (
-            &["--report", "layers,heights,totals"],
-            "report totals 2 2 1\nreport heights 1 1\nreport layers 2 1\n",
-        ),
-        (
-            &["--report", "heights,totals"],
-            "report totals 2 2 1\nreport heights 1 1\n",
-        ),
-        (&["--report", "totals"], "report totals 2 2 1\n"),
-        (&["--report", "heights"], "report heights 1 1\n"),
-        (
-            &["--workers", "2", "--report", "heights"],
-            "report heights 1 1\n",
-        ),
-        (&[], ""),
-    ];
-    let alloc = rt.alloc();
-    for (more, behind) in rows {
-        let (status, text) = reported(&rt, alloc, more, each_kind(alloc)?)?;
-        assert_eq!(&rt; status, 0, "{more:?}");
-        let whole = format!(in alloc; "{HISTORY}{behind}")?;
-        assert_eq!(&rt; text.as_slice(), whole.as_bytes(), "{more:?}");
-    }
-    Ok(())
+// The words that ask for totals and heights.
+static BOTH: [&str; 2] = ["--report", "totals,heights"];
+
+// A watcher of heights alone.
+fn heights(alloc: Global) -> Result<Vec<Box<dyn Watch>>, Fail> {
+    let mut watchers: Vec<Box<dyn Watch>> = Vec::new(alloc);
+    watchers.push(Box::new(alloc, Heights::new())?)?;
+    Ok(watchers)
 }
 
 #[test]
 fn a_kind_that_no_watcher_has_has_no_line(rt: HostRuntime) -> Result<(), Fail> {
     let alloc = rt.alloc();
-    let more = ["--report", "totals,heights"];
-    let (status, text) = reported(&rt, alloc, &more, Vec::new(alloc))?;
-    assert_eq!(&rt; status, 0);
-    assert_eq!(&rt; text.as_slice(), HISTORY.as_bytes());
-
-    let mut watchers: Vec<Box<dyn Watch>> = Vec::new(alloc);
-    watchers.push(Box::new(alloc, Heights::new())?)?;
-    let (status, text) = reported(&rt, alloc, &more, watchers)?;
-    let whole = format!(in alloc; "{HISTORY}report heights 1 1\n")?;
-    assert_eq!(&rt; status, 0);
-    assert_eq!(&rt; text.as_slice(), whole.as_bytes());
-    Ok(())
+    is_reported(&rt, alloc, &BOTH, Vec::new(alloc), "")?;
+    let watchers = heights(alloc)?;
+    is_reported(&rt, alloc, &BOTH, watchers, "report heights 1 1\n")
 }
 
 // What was done with a watcher.
@@ -166,7 +132,7 @@ impl Drop for Noted {
 
 // The notes of totals that were handed in with these words and this text. They were dropped after
 // their reports.
-fn notes_of<R: Threads + Wait + Sync + std::process::Abort>(
+fn notes_of<R: Threads + Wait + Sync + Abort>(
     rt: &R,
     alloc: Global,
     words: &[String],
@@ -179,7 +145,7 @@ fn notes_of<R: Threads + Wait + Sync + std::process::Abort>(
         notes: notes.clone()?,
     };
     watchers.push(Box::new(alloc, noted)?)?;
-    let (status, _text) = watched(rt, alloc, words, input, watchers)?;
+    let (status, _text) = answer(rt, alloc, &NoGate, words, input, watchers)?;
     assert_eq!(rt; status, 0);
     let reported = notes.reported.load(Ordering::SeqCst);
     assert_eq!(rt;
@@ -191,12 +157,12 @@ fn notes_of<R: Threads + Wait + Sync + std::process::Abort>(
 
 // How often totals were told the two pops with these words behind the stacks, and how often they
 // reported.
-fn done<R: Threads + Wait + Sync + std::process::Abort>(
+fn done<R: Threads + Wait + Sync + Abort>(
     rt: &R,
     alloc: Global,
     more: &[&str],
 ) -> Result<(u64, u64), Fail> {
-    let words = joined(alloc, &TWO_POPS, more)?;
+    let words = behind_stacks(alloc, more)?;
     let notes = notes_of(rt, alloc, &words, INPUT)?;
     let told = notes.told.load(Ordering::SeqCst);
     Ok((told, notes.reported.load(Ordering::SeqCst)))
@@ -204,7 +170,7 @@ fn done<R: Threads + Wait + Sync + std::process::Abort>(
 
 // The numbers of the events that totals are told of two clauses, of which the first is popped twice
 // before the second.
-fn order_told<R: Threads + Wait + Sync + std::process::Abort>(
+fn order_told<R: Threads + Wait + Sync + Abort>(
     rt: &R,
     alloc: Global,
     words: &[&str],
@@ -271,43 +237,53 @@ impl Watch for Silent {
     }
 }
 
-// A watcher of another kind beside the two changes nothing, and of two of a kind the first reports.
-#[test]
-fn the_first_watcher_of_a_kind_reports(rt: HostRuntime) -> Result<(), Fail> {
-    let alloc = rt.alloc();
+// A watcher of another kind, one of heights and one of totals, and another one of totals.
+fn silent_and_others(alloc: Global) -> Result<Vec<Box<dyn Watch>>, Fail> {
     let mut watchers: Vec<Box<dyn Watch>> = Vec::new(alloc);
     watchers.push(Box::new(alloc, Silent)?)?;
     watchers.push(Box::new(alloc, Heights::new())?)?;
     watchers.push(Box::new(alloc, Totals::new())?)?;
-    watchers.push(Box::new(
-        alloc,
-        Noted {
-            totals: Totals::new(),
-            notes: Arc::new(alloc, Notes::none())?,
-        },
-    )?)?;
-    let more = ["--report", "totals,heights"];
-    let (status, text) = reported(&rt, alloc, &more, watchers)?;
-    let whole = format!(in alloc; "{HISTORY}report totals 2 2 1\nreport heights 1 1\n")?;
-    assert_eq!(&rt; status, 0);
-    assert_eq!(&rt; text.as_slice(), whole.as_bytes());
-    Ok(())
+    let noted = Noted {
+        totals: Totals::new(),
+        notes: Arc::new(alloc, Notes::none())?,
+    };
+    watchers.push(Box::new(alloc, noted)?)?;
+    Ok(watchers)
 }
 
-// Worked by hand: the totals were told a pop of two entries before they are handed in.
+// The one of another kind changes nothing, and of two of a kind the first reports.
 #[test]
-fn a_report_goes_on_from_the_state_that_is_handed_in(rt: HostRuntime) -> Result<(), Fail> {
+fn the_first_watcher_of_a_kind_reports(rt: HostRuntime) -> Result<(), Fail> {
     let alloc = rt.alloc();
-    let cube = Cube::new(vec![in alloc; (0, 0), (1, 0)]?).expect(&rt, "rising variables");
-    assert_eq!(&rt; cube.len(), 2);
+    let watchers = silent_and_others(alloc)?;
+    let behind = "report totals 2 2 1\nreport heights 1 1\n";
+    is_reported(&rt, alloc, &BOTH, watchers, behind)
+}
+
+// Totals that were told a pop of two entries.
+fn begun_totals(rt: &impl Abort, alloc: Global) -> Result<Totals, Fail> {
+    let cube = Cube::new(vec![in alloc; (0, 0), (1, 0)]?).expect(rt, "rising variables");
+    assert_eq!(rt; cube.len(), 2);
+    let record = Record::new(0, cube, vec![in alloc; 4, 0]?);
     let mut totals = Totals::new();
-    totals.tell(&Record::new(0, cube, vec![in alloc; 4, 0]?))?;
+    totals.tell(&record)?;
+    Ok(totals)
+}
+
+// These totals, and others behind them.
+fn before_others(alloc: Global, totals: Totals) -> Result<Vec<Box<dyn Watch>>, Fail> {
     let mut watchers: Vec<Box<dyn Watch>> = Vec::new(alloc);
     watchers.push(Box::new(alloc, totals)?)?;
     watchers.push(Box::new(alloc, Totals::new())?)?;
-    let (status, text) = reported(&rt, alloc, &["--report", "totals"], watchers)?;
-    let whole = format!(in alloc; "{HISTORY}report totals 3 4 2\n")?;
-    assert_eq!(&rt; status, 0);
-    assert_eq!(&rt; text.as_slice(), whole.as_bytes());
-    Ok(())
+    Ok(watchers)
+}
+
+// Worked by hand.
+#[test]
+fn a_report_goes_on_from_the_state_that_is_handed_in(rt: HostRuntime) -> Result<(), Fail> {
+    let alloc = rt.alloc();
+    let totals = begun_totals(&rt, alloc)?;
+    let watchers = before_others(alloc, totals)?;
+    let more = ["--report", "totals"];
+    is_reported(&rt, alloc, &more, watchers, "report totals 3 4 2\n")
 }
