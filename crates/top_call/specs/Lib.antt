@@ -24,6 +24,7 @@ pub mod Replays
 pub mod Resumes
 pub mod Accepted
 pub mod Answers
+pub mod Commands
 pub mod TopCall
 pub mod Laws
 pub mod Shown

@@ -13,20 +13,15 @@ ghost use Rattle.top_call.specs.Refusals.{usage_line};
 ghost use Rattle.top_call.specs.declared.refusal.Refusal.TheVariants.{Usage, Stopped};
 ghost use Rattle.top_call.specs.declared.stop.Stop.TheVariants.{ReadFault, OutOfMemory};
 
-use crate::asked::Asked;
 use crate::call::Call;
+use crate::commands::{answer_formula, answer_graph, answer_grid};
 use crate::crew::Crew;
-use crate::formula::{check_formula, sample_formula};
-use crate::orientation::orient;
-use crate::origin::StackOrigin;
 use crate::pausing::pause_or_tell;
 use crate::reading::{formula_of, graph_of};
 use crate::refusal::Refusal;
 use crate::replaying::replay;
 use crate::resuming::resume;
-use crate::rounds::sample_rounds;
 use crate::stop::Stop;
-use crate::tree::{tree, tree_of_grid};
 use pop_edge::Source;
 use pop_watch::Watch;
 use pop_words::{Command, Job, read_words};
@@ -71,20 +66,14 @@ fn run_job<S: Source, R: Threads + Wait + Sync, G: Gate + Sync>(
         × Consumes (S.left source.old) (S.left source.new) taken
         × HasNoBadLine job.command taken }
 {
-    let asked = Asked::of(&job);
-    let origin = StackOrigin::new(job.stacks, job.height, job.grow);
     match job.command {
-        Command::Formula => {
-            sample_formula(call, origin, asked, false, &formula_of(call.alloc, source)?)
+        Command::Formula | Command::Resample | Command::Check | Command::Rounds => {
+            answer_formula(call, job, &formula_of(call.alloc, source)?)
         }
-        Command::Resample => {
-            sample_formula(call, origin, asked, true, &formula_of(call.alloc, source)?)
+        Command::Orient | Command::Tree => {
+            answer_graph(call, job, graph_of(call.alloc, source)?)
         }
-        Command::Check => check_formula(call.alloc, &formula_of(call.alloc, source)?),
-        Command::Orient => orient(call, origin, asked, graph_of(call.alloc, source)?),
-        Command::Tree => tree(call, origin, asked, job.root, graph_of(call.alloc, source)?),
-        Command::Make => tree_of_grid(call, origin, asked, job.size),
-        Command::Rounds => sample_rounds(call, origin, &formula_of(call.alloc, source)?),
+        Command::Make => answer_grid(call, job),
         Command::Replay | Command::Resume => unreachable!(),
     }
 }

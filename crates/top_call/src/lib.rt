@@ -8,6 +8,7 @@ mod answer;
 mod asked;
 mod batching;
 mod call;
+mod commands;
 mod crew;
 mod formula;
 mod growing_instance;

@@ -18,7 +18,7 @@ ghost use Rattle.top_call.specs.declared.asked.Asked.{Asked};
 ghost use Rattle.top_call.specs.Growing.{MayIndex};
 ghost use Rattle.top_call.specs.Batches.{AreFew};
 ghost use Rattle.top_call.specs.Results.{ComesRefused, IsTooManyRefusal, IsCutOffRefusal};
-ghost use Rattle.top_call.specs.Sampling.{pair_weights, IsEndOf, ComesOfSampling};
+ghost use Rattle.top_call.specs.Sampling.{pair_weights, IsFaultOf, IsEndOf, ComesOfSampling};
 ghost use Rattle.top_call.specs.Resamplings.{RunsFormula, IsClashIn};
 ghost use Rattle.top_call.specs.Orientations.{ComesOfOrienting};
 ghost use Rattle.top_call.specs.Trees.{cycles_instance, ComesOfTree};
@@ -28,6 +28,7 @@ ghost use Rattle.top_call.specs.Made.{IsMade, IsMadeFormula, IsMadeOrientation, 
 ghost use Rattle.top_call.specs.Answers.{ComesOf, IsJobOf};
 
 use crate::growing_instance::GrowingInstance;
+use crate::growing_stacks::GrowingStacks;
 use crate::instances::{of_arrows, of_events};
 use crate::origin::StackOrigin;
 use crate::reading::{formula_of, graph_of};
@@ -91,6 +92,18 @@ pub fn refuse_clash(
     }
 }
 
+/// The stacks of a formula's variables, or their first fault. Each of their two values weighs 1.
+pub fn stacks_for(origin: StackOrigin, formula: &Formula) -> Result<GrowingStacks, Refusal>
+    ensures made { IfOk result (λ stacks. stacks
+        ≡ record { origin = origin; weights = pair_weights formula.now.variables }) }
+    ensures sound { OnOk result (IsSound origin (pair_weights formula.now.variables)) }
+    ensures fault { IfErr result (ComesRefused (IsFaultOf (FormulaFacts formula.now.variables)
+        origin (pair_weights formula.now.variables))) }
+{
+    let variables = formula.variables();
+    origin.stacks(&Facts::Formula(variables), Weights::pairs(variables))
+}
+
 /// Makes the events of a formula, of which so many samples are asked for. They may not clash, but
 /// where they are resampled.
 pub fn make_formula(
@@ -111,11 +124,11 @@ pub fn make_formula(
 {
     let variables = formula.variables();
     refuse_too_many(count, variables)?;
-    let facts = Facts::Formula(variables);
-    let stacks = origin.stacks(&facts, Weights::pairs(variables))?;
+    let stacks = stacks_for(origin, formula)?;
     let events = formula.events(alloc)?;
     let index = refuse_clash(alloc, may_clash, variables, &events)?;
     let instance = of_events(variables, stacks, events, index);
+    let facts = Facts::Formula(variables);
     Ok(Made { facts, instance })
 }
 

@@ -107,6 +107,37 @@ fn ended(alloc: Global, instance: &Instance, part: Part, keep: Keep) -> Result<O
 
 // Runs the instance up to so many pops, and tells the certificate where an event is poppable then,
 // and else the end.
+fn run_up_to<R, G>(
+    call: &mut Call<R, G>,
+    job: &Job,
+    pops: u32,
+    input: &[u8],
+    facts: &Facts,
+    instance: &Instance,
+) -> Result<Answer, AllocError>
+    requires pops { job.now.pops ≡ Some pops }
+    requires command { Contains paused job.now.command }
+    requires once { job.now.count ≡ None }
+    requires short { length input.now ≤ text_limit }
+    requires made { IsMade job.now.command (origin_for job.now) job.now.root input.now facts.now
+        instance.now }
+    requires told { AreFactsOf facts.now instance.now }
+    requires extremal { job.now.command ≢ Resample → IsExtremal instance.now.family }
+    ensures { IfOk result (λ a. AnswersBy (ComesOf job.now
+        (map (λ b. (kind b, state b)) call.old.watchers.items) input.now) a.status a.text.items) }
+{
+    let part = run_part(call.alloc, instance, u64::from(pops))?;
+    match part.seen.look {
+        Look::Open => tell_pause(call.alloc, job, input, facts, instance, &part.log),
+        _ => {
+            let asked = Asked::of(job);
+            let run = ended(call.alloc, instance, part, asked.keep())?;
+            tell_end(call, facts, instance, run, asked)
+        }
+    }
+}
+
+// The same of what was made, at its last height.
 fn stop_and_tell<R, G>(
     call: &mut Call<R, G>,
     job: &Job,
@@ -127,13 +158,7 @@ fn stop_and_tell<R, G>(
 {
     let Made { facts, instance } = made;
     let instance = instance.raised();
-    let part = run_part(call.alloc, &instance, u64::from(pops))?;
-    if part.seen.look == Look::Open {
-        return tell_pause(call.alloc, job, input, &facts, &instance, &part.log);
-    }
-    let asked = Asked::of(job);
-    let run = ended(call.alloc, &instance, part, asked.keep())?;
-    tell_end(call, &facts, &instance, run, asked)
+    run_up_to(call, job, pops, input, &facts, &instance)
 }
 
 // The answer to a job whose run stops after so many pops, on the bytes that were read.

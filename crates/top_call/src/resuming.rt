@@ -4,10 +4,13 @@ ghost use Rattle.std.specs.Prelude.{◌≡◌, ◌++◌, ◌≤◌, ℕ, List, S
 ghost use Rattle.std.specs.Io.KnownBytes.{Consumes, IsAtEnd};
 ghost use Rattle.pop_model.specs.Faults.{Rose};
 ghost use Rattle.pop_model.specs.Logs.{IsLegal, replay};
+ghost use Rattle.pop_model.specs.Popping.{AreWithin};
 ghost use Rattle.pop_model.specs.Runs.{start_of};
+ghost use Rattle.pop_model.specs.Stacks.{variables_of};
 ghost use Rattle.confluence_core.specs.Kept.{keeps_log};
 ghost use Rattle.confluence_core.specs.Runs.{IsRunOf};
 ghost use Rattle.run_cert.specs.Certificates.{Certificate};
+ghost use Rattle.run_cert.specs.Looks.{IsSoFar};
 ghost use Rattle.top_call.specs.declared.refusal.Refusal.TheVariants.{Stopped};
 ghost use Rattle.top_call.specs.declared.stop.Stop.TheVariants.{ReadFault};
 ghost use Rattle.top_call.specs.Outcomes.{AnswersBy};
@@ -72,6 +75,24 @@ fn joined(instance: &Instance, first: Log, run: Outcome, keep: Keep) -> Result<O
     Ok(Outcome { end, log })
 }
 
+// Goes on with a run, to an end: the run of both parts.
+fn run_on<R: Threads + Wait + Sync, G: Gate + Sync>(
+    call: &Call<R, G>,
+    instance: &Instance,
+    part: Part,
+    keep: Keep,
+) -> Result<Outcome, AllocError>
+    requires part { IsSoFar instance.now part }
+    requires count { variables_of instance.now.stacks ≡ length part.cursors }
+    requires within { AreWithin instance.now.stacks part.cursors }
+    ensures run { IfOk result (IsRunOf instance.now (start_of instance.now) (keeps_log keep)) }
+    ensures log { IfOk result (λ whole. IsJoinedLog instance.now part.log whole.log) }
+{
+    let Part { cursors, log, .. } = part;
+    let run = call.crew.run_from(call.alloc, instance, &cursors, keep)?;
+    joined(instance, log, run, keep)
+}
+
 // Goes on with the run of a certificate, and tells its end.
 fn go_on<R: Threads + Wait + Sync, G: Gate + Sync>(
     call: &mut Call<R, G>,
@@ -89,11 +110,7 @@ fn go_on<R: Threads + Wait + Sync, G: Gate + Sync>(
         part,
     } = accepted;
     let asked = Asked::of_line(command);
-    let Part { cursors, log, .. } = part;
-    let run = call
-        .crew
-        .run_from(call.alloc, &instance, &cursors, asked.keep())?;
-    let whole = joined(&instance, log, run, asked.keep())?;
+    let whole = run_on(call, &instance, part, asked.keep())?;
     tell_end(call, &facts, &instance, whole, asked)
 }
 

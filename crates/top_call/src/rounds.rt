@@ -12,13 +12,13 @@ ghost use Rattle.top_call.specs.Rounds.{IsRoundsEndOf, ComesOfRounds};
 use crate::answer::Answer;
 use crate::call::Call;
 use crate::instances::of_events;
+use crate::making::stacks_for;
 use crate::origin::StackOrigin;
 use crate::refusal::Refusal;
 use crate::running::status_by;
 use dimacs_read::Formula;
 use pop_instance::{Index, Instance};
-use pop_print::{Facts, text_of_rounds};
-use pop_stacks::Weights;
+use pop_print::text_of_rounds;
 use pop_workers::Gate;
 use std::alloc::AllocError;
 use std::sync::Wait;
@@ -57,8 +57,7 @@ pub fn sample_rounds<R: Threads + Wait + Sync, G: Gate + Sync>(
     ensures { IsResultOf (ComesOfRounds origin formula.now) result }
 {
     let variables = formula.variables();
-    let facts = Facts::Formula(variables);
-    let stacks = origin.stacks(&facts, Weights::pairs(variables))?;
+    let stacks = stacks_for(origin, formula)?;
     let events = formula.events(call.alloc)?;
     let index = Index::build(call.alloc, &events, variables)?;
     let growing = of_events(variables, stacks, events, None);

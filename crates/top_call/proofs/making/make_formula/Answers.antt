@@ -1,7 +1,6 @@
-use Rattle.std.proofs.Common.{◌≡◌, ◌∙◌, ap, subst}
+use Rattle.std.proofs.Common.{◌≡◌, ◌∙◌, ap}
 use Rattle.pop_model.specs.Stacks.{StackTable}
 use Rattle.pop_print.specs.declared.facts.Facts.TheVariants.{Formula as FormulaFacts}
-use Rattle.pop_stacks.specs.Faults.{IsSound}
 use Rattle.top_call.specs.Results.{ComesRefused}
 use Rattle.top_call.specs.Sampling.{pair_weights, instance_of, ComesOfSampling}
 use Rattle.top_call.specs.Resamplings.{RunsFormula}
@@ -13,15 +12,12 @@ use Rattle.top_call.proofs.making.make_formula.Goals as goal
 pub returns-in_err-index-clause-refused : goal.returns-in_err-index-clause-refused
 returns-in_err-index-clause-refused c asked ws =
     let f = c.args.formula.now in
-    let sound : IsSound c.args.origin (pair_weights f.variables) =
-    subst (IsSound c.args.origin) (c.pairs.ensures ∙ ap pair_weights c.variables-variables.ensures.count)
-    c.in_ok-stacks.ensures.sound in
     refused_error
     (ComesRefused (ComesOfSampling (FormulaFacts f.variables) c.args.origin (pair_weights f.variables) c.args.count
     (RunsFormula c.args.may_clash c.args.origin asked ws f))) c.from_residual-in_err-index.result
     c.in_err-index.field-0.0 c.from_residual-in_err-index.ensures.1
     (clash_refused c.args.may_clash c.args.origin asked ws c.args.count f c.in_ok-events.events
-    c.variables-variables.result c.in_err-index.field-0.0 c.variables-variables.ensures.count sound
+    c.variables-variables.result c.in_err-index.field-0.0 c.variables-variables.ensures.count c.in_ok-stacks.ensures.sound
     c.in_ok-refuse_too_many.ensures.few c.in_ok-events.ensures.events c.in_err-index.ensures.clash)
 
 pub returns-clause-made : goal.returns-clause-made
@@ -40,7 +36,7 @@ returns-clause-made c =
       is = record {
         facts_are = ap FormulaFacts count;
         instance_is = same ∙ ap (λ k. instance_of c.args.origin k events) count;
-        sound = subst (IsSound c.args.origin) (c.pairs.ensures ∙ ap pair_weights count) c.in_ok-stacks.ensures.sound;
+        sound = c.in_ok-stacks.ensures.sound;
         few = few_pairs c.args.count n f.variables count c.in_ok-refuse_too_many.ensures.few;
       };
     }

@@ -15,9 +15,9 @@ returns-in_err-accepted-clause-answer g c text known failed =
 pub returns-clause-answer : goal.returns-clause-answer
 returns-clause-answer g c text known failed =
     replay_result (g.S.Source.left c.args.source.now) (g.S.Source.left c.read_accepted.new.source) text
-    c.in_ok-accepted.accepted c.in_ok-tell_replay.field-0.status c.in_ok-tell_replay.field-0.text.items known
-    c.in_ok-accepted.ensures.accepted c.in_ok-tell_replay.ensures.status c.in_ok-tell_replay.ensures.text
+    c.in_ok-accepted.accepted c.in_ok-tell_accepted.field-0.status c.in_ok-tell_accepted.field-0.text.items known
+    c.in_ok-accepted.ensures.accepted c.in_ok-tell_accepted.ensures.status c.in_ok-tell_accepted.ensures.text
 
 pub returns-clause-status : goal.returns-clause-status
 returns-clause-status g c =
-    subst IsTextStatus (sym c.in_ok-tell_replay.ensures.status) (look_status_is c.in_ok-accepted.accepted.part.seen.look)
+    subst IsTextStatus (sym c.in_ok-tell_accepted.ensures.status) (look_status_is c.in_ok-accepted.accepted.part.seen.look)

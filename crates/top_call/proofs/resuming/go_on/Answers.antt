@@ -10,5 +10,5 @@ returns g c cert held =
     let i = c.args.accepted.instance in
     resumed_result cert c.args.accepted _ c.of_line-asked.result c.in_ok-whole.whole c.tell_end.result held
     c.of_line-asked.ensures
-    (subst (λ keeps. IsRunOf i (start_of i) keeps c.in_ok-whole.whole) c.keep-2.ensures c.in_ok-whole.ensures.run)
+    (subst (λ keeps. IsRunOf i (start_of i) keeps c.in_ok-whole.whole) c.keep.ensures c.in_ok-whole.ensures.run)
     c.in_ok-whole.ensures.log c.tell_end.ensures.ended c.tell_end.ensures.kept
