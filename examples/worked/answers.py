@@ -27,6 +27,13 @@ def answer(words: str, text: str) -> tuple[int, str]:
     return run.returncode, run.stdout.decode()
 
 
+def judged_answer(words: str, text: str) -> tuple[int, str]:
+    """The same, which the checker judges."""
+    status, output = answer(words, text)
+    judge(output.encode(), status, shlex.split(words), text.encode())
+    return status, output
+
+
 def chain() -> str:
     """A chain of clauses, each of which shares a variable with the next, so that they are extremal: clause i asks
     2i - 1, 2i and the negation of 2i + 1.

@@ -2,7 +2,7 @@
 
 from __future__ import annotations
 
-from worked.answers import CREWS, ZERO_KEY, Worked, answer
+from worked.answers import CREWS, ZERO_KEY, Worked, judged_answer
 
 # Worked by hand from the definitions, on formulas that leave the order of pops no choice.
 LOGS = [
@@ -64,7 +64,7 @@ class Resamplings(Worked):
 
     def test_clauses_may_clash(self) -> None:
         for crew in CREWS:
-            status, output = answer(f"{RESAMPLE} {crew}", CLASHING)
+            status, output = judged_answer(f"{RESAMPLE} {crew}", CLASHING)
             self.assertEqual(status, 0)
             self.assertIn(output, (FIRST, SECOND))
 
@@ -74,6 +74,6 @@ class Resamplings(Worked):
     def test_a_witness_is_that_of_the_log_before_it(self) -> None:
         for entry, wanted, of_first, of_second in OF_EITHER:
             for crew in CREWS:
-                status, output = answer(f"{RESAMPLE} {crew} --witness {entry}", CLASHING)
+                status, output = judged_answer(f"{RESAMPLE} {crew} --witness {entry}", CLASHING)
                 self.assertEqual(status, wanted)
                 self.assertIn(output, (FIRST + of_first, SECOND + of_second))
