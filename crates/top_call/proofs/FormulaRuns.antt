@@ -143,17 +143,23 @@ formula_answers false origin asked ws f facts i status out made told ended histo
 formula_answers true origin asked ws f facts i status out made told ended history =
     answered (IsHistoryOf asked ws facts i) _ status out (formula_histories origin asked ws f facts i made) (history told)
 
--- the answer of the rounds of a formula's instance
-pub rounds_answer : (origin : Origin) (n : ℕ) (f : Cnf) (events : List (ℕ × Cube)) (i : Instance) (status : ℕ)
+-- the answer of the rounds of an instance of a formula's events
+pub end_of_rounds : (origin : Origin) (n : ℕ) (f : Cnf) (events : List (ℕ × Cube)) (i : Instance) (status : ℕ)
     (out : List ℕ) → n ≡ f.variables → i ≡ instance_of origin n events → AreEventsOf f.clauses events
-    → IsSound origin (pair_weights f.variables) → AnswersBy (IsRoundsEndOf (FormulaFacts n) i) status out
-    → AnswersBy (ComesOfRounds origin f) status out
-rounds_answer origin n f events i status out count same of sound =
-    answered (IsRoundsEndOf (FormulaFacts n) i) (ComesOfRounds origin f) status out
-    (λ o end. of_sound (FormulaFacts f.variables) origin (pair_weights f.variables) None (EndsRounds origin f) sound
-    (λ n none. absurd (cc)) (record { no_fault = λ t r h. h.end; not_many = λ n h. h.end }) o (record {
+    → AnswersBy (IsRoundsEndOf (FormulaFacts n) i) status out → AnswersBy (EndsRounds origin f) status out
+end_of_rounds origin n f events i status out count same of =
+    answered (IsRoundsEndOf (FormulaFacts n) i) (EndsRounds origin f) status out
+    (λ o end. record {
       events = events;
       of_formula = of;
       end = subst (λ k. IsRoundsEndOf (FormulaFacts k) (instance_of origin k events) o) count
           (subst (λ j. IsRoundsEndOf (FormulaFacts n) j o) same end);
-    }))
+    })
+
+-- and of a formula whose stacks have no fault
+pub rounds_answer : (origin : Origin) (f : Cnf) (status : ℕ) (out : List ℕ) → IsSound origin (pair_weights f.variables)
+    → AnswersBy (EndsRounds origin f) status out → AnswersBy (ComesOfRounds origin f) status out
+rounds_answer origin f status out sound =
+    answered (EndsRounds origin f) (ComesOfRounds origin f) status out
+    (of_sound (FormulaFacts f.variables) origin (pair_weights f.variables) None (EndsRounds origin f) sound
+    (λ n none. absurd (cc)) (record { no_fault = λ t r h. h.end; not_many = λ n h. h.end }))

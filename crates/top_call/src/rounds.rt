@@ -7,10 +7,12 @@ ghost use Rattle.prs_rounds.specs.Units.{IsIndexOf};
 ghost use Rattle.dimacs_read.specs.Cnf.{first_empty};
 ghost use Rattle.top_call.specs.Results.{IsResultOf};
 ghost use Rattle.top_call.specs.Outcomes.{AnswersBy};
-ghost use Rattle.top_call.specs.Rounds.{IsRoundsEndOf, ComesOfRounds};
+ghost use Rattle.top_call.specs.Sampling.{pair_weights};
+ghost use Rattle.top_call.specs.Rounds.{IsRoundsEndOf, EndsRounds, ComesOfRounds};
 
 use crate::answer::Answer;
 use crate::call::Call;
+use crate::growing_stacks::GrowingStacks;
 use crate::instances::of_events;
 use crate::making::stacks_for;
 use crate::origin::StackOrigin;
@@ -46,6 +48,24 @@ fn round_and_tell<R: Threads + Wait + Sync, G: Gate + Sync>(
     })
 }
 
+// Makes the rounds of the formula's events over these stacks of its variables, and tells their end.
+fn rounds_over<R: Threads + Wait + Sync, G: Gate + Sync>(
+    call: &Call<R, G>,
+    stacks: GrowingStacks,
+    formula: &Formula,
+) -> Result<Answer, AllocError>
+    requires filled { first_empty formula.now ≡ None }
+    requires weights { stacks.weights ≡ pair_weights formula.now.variables }
+    ensures { IfOk result (λ a.
+        AnswersBy (EndsRounds stacks.origin formula.now) a.status a.text.items) }
+{
+    let variables = formula.variables();
+    let events = formula.events(call.alloc)?;
+    let index = Index::build(call.alloc, &events, variables)?;
+    let instance = of_events(variables, stacks, events, None).raised();
+    round_and_tell(call, variables, &instance, &index)
+}
+
 /// Samples the formula by rounds, whether or not its events clash: the answer of `rounds`. They are
 /// made at the last height: they have one result there, which stages would only come to later.
 pub fn sample_rounds<R: Threads + Wait + Sync, G: Gate + Sync>(
@@ -56,11 +76,6 @@ pub fn sample_rounds<R: Threads + Wait + Sync, G: Gate + Sync>(
     requires filled { first_empty formula.now ≡ None }
     ensures { IsResultOf (ComesOfRounds origin formula.now) result }
 {
-    let variables = formula.variables();
     let stacks = stacks_for(origin, formula)?;
-    let events = formula.events(call.alloc)?;
-    let index = Index::build(call.alloc, &events, variables)?;
-    let growing = of_events(variables, stacks, events, None);
-    let instance = growing.raised();
-    Ok(round_and_tell(call, variables, &instance, &index)?)
+    Ok(rounds_over(call, stacks, formula)?)
 }
