@@ -13,7 +13,7 @@ use Rattle.claim_words.proofs.Totals.{total-append, is_at-yes, is_at-no, look-hi
 use Rattle.claim_words.proofs.ClaimKeepsRule.{held_after}
 
 -- the cursor of a pair that was added at the end
-look_end : (v c : ℕ) (l : Pairs) → times v l ≡ 0 → look v (l ++ (v, c) ∷ []) ≡ c
+pub look_end : (v c : ℕ) (l : Pairs) → times v l ≡ 0 → look v (l ++ (v, c) ∷ []) ≡ c
 look_end v c [] none = look-hit v (v, c) [] refl
 look_end v c (p ∷ ps) none = dite (ℕ_discrete p.0 v)
     (λ e. absurd (omega (arith, is_at-yes v p e)))

@@ -6,6 +6,7 @@ use mathlib.Core.Option.{some}
 use lib.ListN.{get_elem?}
 use Rattle.std.specs.Int.Bits.{bit_or}
 use Rattle.atomic_table.specs.Table.{State, Me, keeps, Allows}
+use Rattle.std.proofs.lemmas.Option.{same_Some}
 use Rattle.pop_model.specs.Popping.{cursor}
 use Rattle.claim_words.specs.declared.view.View.{View}
 use Rattle.claim_words.specs.declared.opening.Opening.{Opening}
@@ -21,7 +22,7 @@ use Rattle.claim_words.proofs.SoleHasAll.{whole, only_mine}
 use Rattle.claim_words.proofs.TicketsAreLegal.{leads_to}
 use Rattle.claim_words.proofs.Histories.{entry_low}
 use Rattle.claim_words.proofs.Totals.{total-append, each-append, each-map, times-none, is_at-yes, is_at-no}
-use Rattle.claim_words.proofs.WordMoves.{some-same, agree_moves, within, share_kept, none_due, knows_after, moved}
+use Rattle.claim_words.proofs.WordMoves.{agree_moves, within, share_kept, none_due, knows_after, moved}
 
 -- the view after a claim that found the word free
 gains : View → ℕ → ℕ → View
@@ -162,13 +163,13 @@ module _ {S : Type 0} (k : Opening) (s : State S View) (o : Sound k s) (id v : �
       let f₀ = f.0 in let f₁ = f.1 in record {
         view = refl;
         short = f₁;
-        low = λ h other. subst (λ (x : Opening). cursor_in w < height x v) (some-same (sym live ∙ other))
+        low = λ h other. subst (λ (x : Opening). cursor_in w < height x v) (same_Some _ _ (sym live ∙ other))
             (omega (arith, o.history.low v near));
         found = each-map (IsFoundAt k s.words) (AtMost v (cursor_in w))
             (λ p h is. subst (λ (x : ℕ). p.1 ≤ cursor_in (get_or s.words (1 + x) 0)) is h.1) d.found
             (o.agree id d me).found;
         refused = λ sole taken unset. omega (arith, alone_holds sole, o.held_once v near);
-        listed = λ h other told. let same : h ≡ k = some-same (sym other ∙ live) in
+        listed = λ h other told. let same : h ≡ k = same_Some _ _ (sym other ∙ live) in
             o.unsettled (subst (λ (x : Opening). is_listed x.instance.value.family ≡ true) same told) v near;
         newer = λ left r e mine i is.
             omega (
@@ -182,7 +183,7 @@ module _ {S : Type 0} (k : Opening) (s : State S View) (o : Sound k s) (id v : �
   -- what a sole pass learns from the word
   sole_tells : length d.due ≡ 0 → SoleTells d v found_word
   sole_tells clear = λ h other sole.
-      let same : k ≡ h = some-same (sym live ∙ other) in
+      let same : k ≡ h = same_Some _ _ (sym live ∙ other) in
       let led = leads_to k d.mine (get_or s.words 0 0) (abstract k s) (whole k s o id d me sole) o.counted in
       subst (λ (x : Opening). IsLegalFrom x d.mine × (cursor_in found_word ≡ cursor (vector x d.mine) v)) same (
         led.legal,

@@ -1,5 +1,5 @@
 -- A pass that holds all variables: what it holds is the list of their cursors, numbered.
-use Rattle.std.proofs.Common.{◌≡◌, ℕ, zero, suc, ◌+◌, ◌-◌, ◌<◌, ◌≤◌, ◌≢◌, List, [], ◌∷◌, ◌++◌, length, get_or, refl, sym, ap, ◌∙◌, subst, arith, All}
+use Rattle.std.proofs.Common.{◌≡◌, ℕ, zero, suc, ◌+◌, ◌-◌, ◌<◌, ◌≤◌, List, [], ◌∷◌, length, get_or, refl, sym, ap, ◌∙◌, subst, arith}
 use Rattle.std.specs.List.{enumerate_from, range_with_len}
 use Rattle.std.proofs.lemmas.List.Elements.{All-head, All-tail}
 use mathlib.Core.Logic.{dite}
@@ -8,7 +8,7 @@ use Rattle.pop_model.specs.Stacks.{value_at, height_of}
 use Rattle.pop_model.specs.Popping.{Cube, IsPoppable, NamesBelow, variables, cursor}
 use Rattle.pop_model.specs.Families.{Family}
 use Rattle.pop_model.specs.Instances.{Instance}
-use Rattle.claim_words.specs.Maps.{Pairs, Each, In, is_at, times, look, times_in, taken_out}
+use Rattle.claim_words.specs.Maps.{Pairs, Each, In, times, look, times_in, taken_out}
 use Rattle.claim_words.specs.Openings.{marks_in}
 use Rattle.claim_words.specs.Steps.{sharing}
 use Rattle.claim_words.specs.Conditions.{IsReady}

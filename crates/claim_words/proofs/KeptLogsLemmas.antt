@@ -1,8 +1,9 @@
 -- Tickets in two lists: more uses, and more heads.
 use Rattle.std.proofs.Common.{◌≡◌, ℕ, zero, suc, ◌+◌, ◌<◌, ◌≤◌, List, [], ◌∷◌, ◌++◌, length, take, drop, get_or, refl, sym, ap, ap₂, ◌∙◌, arith}
+use Rattle.std.proofs.lemmas.List.{nil_from_length}
 use Rattle.pop_model.specs.Logs.{LogRecord}
 use Rattle.claim_words.specs.KeptLogs.{Head, record_of, many_uses, tickets_of}
-use Rattle.claim_words.proofs.Totals.{total-append, none_left}
+use Rattle.claim_words.proofs.Totals.{total-append}
 
 module _ {A : Type 0} where
   -- the first members stay where others come behind
@@ -123,7 +124,7 @@ left-turn hs us j at d h =
 pub tickets-both : (hs gs : List Head) (us vs : List (ℕ × ℕ × ℕ)) → many_uses hs ≤ length us
     → length (drop (many_uses hs) us) ≡ 0
     → tickets_of (hs ++ gs) (us ++ vs) ≡ tickets_of hs us ++ tickets_of gs vs
-tickets-both [] gs us vs h none = ap (λ (l : List (ℕ × ℕ × ℕ)). tickets_of gs (l ++ vs)) (none_left us none)
+tickets-both [] gs us vs h none = ap (λ (l : List (ℕ × ℕ × ℕ)). tickets_of gs (l ++ vs)) (nil_from_length us none)
 tickets-both (x ∷ hs) gs us vs h none =
     let some = length-drop x.2 us (omega arith) in
     let behind : length (drop (many_uses hs) (drop x.2 us)) ≡ 0 = ap length (drop-drop x.2 (many_uses hs) us) ∙ none in

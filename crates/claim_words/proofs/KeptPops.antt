@@ -3,14 +3,14 @@ use Rattle.std.proofs.Common.{◌≡◌, ◌≢◌, ℕ, zero, suc, ◌+◌, ◌
 use mathlib.Core.Logic.{dite}
 use native.Mathlib.Decide.{ℕ_discrete}
 use Rattle.std.proofs.lemmas.Option.{none-some, same_Some}
-use Rattle.std.proofs.lemmas.List.{append-nil, append_assoc}
+use Rattle.std.proofs.lemmas.List.{append-nil, append_assoc, nil_from_length}
 use Rattle.pop_model.specs.Popping.{Cube, IsCube}
 use Rattle.pop_model.specs.Logs.{LogRecord}
 use Rattle.claim_words.specs.Maps.{Pairs, Each, times, look, raise}
 use Rattle.claim_words.specs.Steps.{record_held}
 use Rattle.claim_words.specs.Machine.{Use, uses_held}
 use Rattle.claim_words.specs.KeptLogs.{Kept, HasTickets, HasRoom, Adds, Seals, IsSealable, IsTold, SameTickets, record_of}
-use Rattle.claim_words.proofs.Totals.{none_left, look-hit, look-miss, raise-hit, raise-miss, is_at-yes}
+use Rattle.claim_words.proofs.Totals.{look-hit, look-miss, raise-hit, raise-miss, is_at-yes}
 use Rattle.claim_words.proofs.KeptLogsLemmas.{length-both}
 
 -- nothing came in
@@ -113,7 +113,7 @@ sealable None (Some m) mine e held h g is short = absurd g
 sealable (Some l) None mine e held h g is short = absurd g
 sealable (Some l) (Some m) mine e held h g is short =
     let loose : m.loose ≡ uses_held e held = g.1
-    ∙ ap (λ (x : List Use). x ++ uses_held e held) (none_left l.loose h.1) in
+    ∙ ap (λ (x : List Use). x ++ uses_held e held) (nil_from_length l.loose h.1) in
     let size : length m.loose ≡ length e = ap length loose ∙ length_held e held in (
       subst IsCube (sym (ap (map (λ (u : Use). (u.0, u.1))) loose ∙ pairs_held e held)) is,
       sym size,
@@ -131,7 +131,7 @@ sealed (Some l) None c mine e held t u h g s = absurd g
 sealed (Some l) (Some m) None mine e held t u h g s = absurd s
 sealed (Some l) (Some m) (Some n) mine e held t u h g s =
     let loose : m.loose ≡ uses_held e held = g.1
-    ∙ ap (λ (x : List Use). x ++ uses_held e held) (none_left l.loose h.1) in (
+    ∙ ap (λ (x : List Use). x ++ uses_held e held) (nil_from_length l.loose h.1) in (
       s.0 ∙ ap₂ (λ (ts : List (ℕ × LogRecord)) (r : LogRecord). ts ++ (t, r) ∷ []) (g.0 ∙ h.0)
           (ap (record_of u) loose ∙ record_same u e held),
       ap length s.1,

@@ -8,6 +8,7 @@ use lib.Seq.{set-get_or}
 use Rattle.std.specs.Int.Bits.{bit_or}
 use Rattle.atomic_table.specs.Table.{State, Me, keeps, Allows}
 use Rattle.atomic_table.proofs.Lists.{at_set, set_here, set_else}
+use Rattle.std.proofs.lemmas.Option.{same_Some}
 use Rattle.pop_model.specs.Stacks.{value_at}
 use Rattle.pop_model.specs.Popping.{Cube}
 use Rattle.claim_words.specs.declared.view.View.{View}
@@ -26,7 +27,7 @@ use Rattle.claim_words.proofs.Memberships.{in_taken_out, each_taken_out, each_in
 use Rattle.claim_words.proofs.Histories.{same_history, mass_set, member_set, pops_same}
 use Rattle.claim_words.proofs.SoleHasAll.{whole, tracks_mine}
 use Rattle.claim_words.proofs.TicketsAreLegal.{leads_to}
-use Rattle.claim_words.proofs.WordMoves.{share_kept, leads_move, some-same, knows_after}
+use Rattle.claim_words.proofs.WordMoves.{share_kept, leads_move, knows_after}
 
 -- The mark of u becomes n, and the pass's lists of units and of words seen become these.
 module _ {S : Type 0} (k : Opening) (s : State S View) (o : Sound k s) (id : ℕ) (d : View)
@@ -167,7 +168,7 @@ sole_takes : {S : Type 0} (k : Opening) (s : State S View) (o : Sound k s) (id :
     → get_elem? s.views id ≡ some d → d.opening ≡ Some k → (u : ℕ) → u < marks k
     → SoleTakes d u (get_or s.words (1 + count k + u) 0)
 sole_takes k s o id d me live u near = λ h there sole.
-    let same : k ≡ h = some-same (sym live ∙ there) in
+    let same : k ≡ h = same_Some _ _ (sym live ∙ there) in
     let w : ℕ = get_or s.words (1 + count k + u) 0 in
     let led = leads_to k d.mine (get_or s.words 0 0) (abstract k s) (whole k s o id d me sole) o.counted in
     subst (λ (x : Opening). IsLegalFrom x d.mine

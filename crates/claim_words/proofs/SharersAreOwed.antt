@@ -32,7 +32,7 @@ all_in P (x ∷ xs) h a i = ⊎_elim (λ (e : x ≡ a). subst P e (All-head P x 
     (λ (m : In a xs). all_in P xs (All-tail P x xs h) a m) i
 
 -- a member is contained
-in_contains : {A : Type 0} (a : A) (l : List A) → In a l → Contains l a
+pub in_contains : {A : Type 0} (a : A) (l : List A) → In a l → Contains l a
 in_contains a [] i = absurd i
 in_contains a (x ∷ xs) i = ⊎_elim (λ (e : x ≡ a). (0, omega arith, e))
     (λ (m : In a xs). let t = in_contains a xs m in (suc t.0, omega (arith, t.1), t.2)) i

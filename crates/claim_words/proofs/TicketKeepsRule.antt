@@ -11,6 +11,7 @@ use lib.ListN.{get_elem?}
 use Rattle.std.proofs.lemmas.List.{length-map}
 use Rattle.atomic_table.specs.Table.{State, Me, keeps, Allows}
 use Rattle.atomic_table.proofs.Lists.{at_set, set_here, set_else}
+use Rattle.std.proofs.lemmas.Option.{same_Some}
 use Rattle.pop_model.specs.Popping.{Cube, IsCube}
 use Rattle.pop_model.specs.Families.{IsEvent}
 use Rattle.claim_words.specs.declared.view.View.{View}
@@ -27,7 +28,7 @@ use Rattle.claim_words.proofs.Memberships.{in_append, in_one, in_left, in_right,
 use Rattle.claim_words.proofs.Histories.{ticket_low, entry_low}
 use Rattle.claim_words.proofs.SharersAreOwed.{Meets, covers, shared_in}
 use Rattle.claim_words.proofs.Totals.{inside, total-append, total-set, alone, each-in, each-map, each-find, each-look, times-none, term_le, is_at-yes, is_at-no}
-use Rattle.claim_words.proofs.WordMoves.{share_kept, leads_move, some-same, knows_after}
+use Rattle.claim_words.proofs.WordMoves.{share_kept, leads_move, knows_after}
 use Rattle.claim_words.proofs.HeldLemmas.{once}
 
 -- the weight of a use of v
@@ -378,6 +379,6 @@ draws k slots id m u cube live clear is_cube can s o _ me room =
         λ q i. ticket_low k s o.history q (id, m.0, me, i),
         knows k s o id m.0 me live clear u cube is_cube can,
         λ h other. subst (λ (x : Opening). Each (λ (p : ℕ × ℕ). p.0 < count x) cube)
-            (some-same (sym live ∙ other)) near,
+            (same_Some _ _ (sym live ∙ other)) near,
       ),
     )

@@ -6,12 +6,14 @@
 -- variable the lesser has the lower ticket, and the entries have no gap. So the record of ticket n is
 -- legal there (`legal_there`).
 use Rattle.std.proofs.Common.{◌≡◌, ℕ, zero, suc, ◌+◌, ◌<◌, ◌≤◌, ◌≢◌, List, [], ◌∷◌, ◌++◌, sym, refl, ap, ◌∙◌, subst, inl, inr, ⊎_elim, arith, cond, eqb, eq-eqb, ne_eqb, ap₂, All, length}
+use Rattle.std.proofs.lemmas.List.Elements.{All-cons}
 use mathlib.Core.Logic.{dite}
 use native.Mathlib.Decide.{ℕ_discrete, dec_le}
 use Rattle.pop_model.specs.Stacks.{value_at, height_of}
-use Rattle.pop_model.specs.Popping.{Cube, cursor, pop}
+use Rattle.pop_model.specs.Popping.{Cube, cursor}
 use Rattle.pop_model.specs.Logs.{LogRecord, IsLegalAt, IsLegal, entries_at, replay}
-use Rattle.pop_model.proofs.PopLemmas.{length-pop, cursor-pop}
+use Rattle.pop_model.proofs.PopLemmas.{cursor-pop}
+use Rattle.pop_model.proofs.Replays.{length-replay}
 use Rattle.confluence_core.proofs.LegalLogs.{legal_push, replay_push}
 use Rattle.claim_words.specs.declared.opening.Opening.{Opening}
 use Rattle.claim_words.specs.Maps.{total, In, below, is_at, times}
@@ -147,23 +149,13 @@ used-times v [] ks = refl
 used-times v (p ∷ ps) [] = ap (λ (n : ℕ). is_at v p + n) (used-times v ps [])
 used-times v (p ∷ ps) (x ∷ ks) = ap (λ (n : ℕ). is_at v p + n) (used-times v ps ks)
 
--- a replay has as many cursors as its start
-length-replay : (c : List ℕ) (log : List LogRecord) → length (replay c log) ≡ length c
-length-replay c [] = refl
-length-replay c (r ∷ log) = length-replay (pop c r.event.cube) log ∙ length-pop c r.event.cube
-
--- it holds of all where it holds of the first and of the others
-all_cons : (P : ℕ × ℕ → Type 0) (p : ℕ × ℕ) (ps : Cube) → P p → All P ps → All P (p ∷ ps)
-all_cons P p ps h rest zero d l = h
-all_cons P p ps h rest (suc j) d l = rest j d (omega arith)
-
 -- what holds of each use, without its entry, holds of all pairs
 all_uses : (P : ℕ × ℕ → Type 0) (e : Cube) (ks : List ℕ) → length ks ≡ length e
     → ((u : Use) → In u (uses_of e ks) → P (u.0, u.1)) → All P e
 all_uses P [] ks h f = λ j d l. absurd (omega arith)
 all_uses P (p ∷ ps) [] h f = absurd (omega arith)
 all_uses P (p ∷ ps) (x ∷ ks) h f =
-    all_cons P p ps (f (p.0, p.1, x) (inl refl)) (all_uses P ps ks (omega arith) (λ u i. f u (inr i)))
+    All-cons P p ps (f (p.0, p.1, x) (inl refl)) (all_uses P ps ks (omega arith) (λ u i. f u (inr i)))
 
 -- the entries are those at cursors that each use has
 same_entries : (c : List ℕ) (e : Cube) (ks : List ℕ) → length ks ≡ length e

@@ -92,7 +92,7 @@ enumerate-push {A} m (q ∷ l) r =
     ∙ ap (λ (j : ℕ). enumerate_from (m + 1) l ++ (j, r) ∷ []) same)
 
 -- there are n records of the tickets below n
-length-below : (mine : List Drawn) (n : ℕ) → length (log_below mine n) ≡ n
+pub length-below : (mine : List Drawn) (n : ℕ) → length (log_below mine n) ≡ n
 length-below mine zero = refl
 length-below mine (suc n) = omega (arith, length_push (log_below mine n) (find n mine), length-below mine n)
 

@@ -115,22 +115,11 @@ each-without P v (p ∷ ps) h = dite (ℕ_discrete p.0 v)
     (λ e. subst (Each P) (sym (without-hit v p ps e)) (each-without P v ps h.1))
     (λ ne. subst (Each P) (sym (without-miss v p ps ne)) (h.0, each-without P v ps h.1))
 
--- a list with no member is empty
-pub none_left : {A : Type 0} (l : List A) → length l ≡ 0 → l ≡ []
-none_left [] e = refl
-none_left (x ∷ xs) e = absurd (omega arith)
-
 -- what isn't there is not left out
 pub without-none : (v : ℕ) (l : Pairs) → times v l ≡ 0 → without v l ≡ l
 without-none v [] e = refl
 without-none v (p ∷ ps) e = dite (ℕ_discrete p.0 v) (λ is. absurd (omega (arith, is_at-yes v p is)))
     (λ ne. without-miss v p ps ne ∙ ap (λ (l : Pairs). p ∷ l) (without-none v ps (omega arith)))
-
--- the member at a place, whatever stands for none
-pub get_or-any : {A : Type 0} (l : List A) (i : ℕ) (a b : A) → i < length l → get_or l i a ≡ get_or l i b
-get_or-any [] i a b h = absurd (omega arith)
-get_or-any (x ∷ xs) zero a b h = refl
-get_or-any (x ∷ xs) (suc i) a b h = get_or-any xs i a b (omega arith)
 
 -- what follows for the variables of a map
 each-among : (P Q : ℕ × ℕ → Type 0) (whole l : Pairs) → ((u : ℕ) → times u l ≤ times u whole)

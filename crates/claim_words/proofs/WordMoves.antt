@@ -8,6 +8,7 @@ use mathlib.Core.Option.{some}
 use lib.ListN.{get_elem?}
 use Rattle.atomic_table.specs.Table.{State}
 use Rattle.atomic_table.proofs.Lists.{at_set, set_here}
+use Rattle.std.proofs.lemmas.Option.{none-some}
 use Rattle.claim_words.specs.declared.view.View.{View}
 use Rattle.claim_words.specs.declared.opening.Opening.{Opening}
 use Rattle.claim_words.specs.Words.{cursor_in, claimed_bit, settled_bit, Formed}
@@ -19,14 +20,6 @@ use Rattle.claim_words.specs.Tells.{SoleKnows}
 use Rattle.claim_words.proofs.SoleKnowsSettled.{sole_knows}
 use Rattle.claim_words.proofs.Histories.{same_history, same_marks, tracks_set, mass_set, member_set}
 use Rattle.claim_words.proofs.Totals.{inside, total-set, total-none, term_le, terms_le, each-in, each-map, at_word}
-
--- none isn't some
-none-some : {A : Type 0} {x : A} → None ≡ Some x → ⊥
-none-some e = cc
-
--- the members of equal options are equal
-pub some-same : {A : Type 0} {x y : A} → Some x ≡ Some y → x ≡ y
-some-same e = cc
 
 -- the words of settled variables stay, so what leads on does so still
 pub leads_move : (k : Opening) (ws new : List ℕ)
@@ -86,7 +79,7 @@ module _ {S : Type 0} (k : Opening) (s : State S View) (o : Sound k s) where
   -- a live pass has a share
   pub share_kept : (id : ℕ) (d : View) → get_elem? s.views id ≡ some d → d.opening ≡ Some k → 1 ≤ d.share
   share_kept id d me live = ⊎_elim (λ l. l.1)
-      (λ (l : d ≡ spent). absurd (none-some (sym (ap (λ (x : View). x.opening) l) ∙ live)))
+      (λ (l : d ≡ spent). absurd (none-some _ (sym (ap (λ (x : View). x.opening) l) ∙ live)))
       (o.agree id d me).live
 
   -- what a pass holds is claimed

@@ -6,7 +6,7 @@
 //! - bits 0 to 31: the cursor; all others are 0
 //!
 //! Behind these stands, for a listed family, a word for each unit: its mark, 0 or 1.
-ghost use Rattle.std.specs.Prelude.{◌≡◌, ◌<◌, ◌^◌};
+ghost use Rattle.std.specs.Prelude.{◌≡◌, ◌<◌};
 ghost use Rattle.claim_words.specs.Words.{word_of, mark_of, cursor_in, is_settled};
 
 // The bit of a claimed word.

@@ -1,5 +1,5 @@
 //! What is done with a log, where one is kept.
-ghost use Rattle.std.specs.Prelude.{◌≡◌, ◌≤◌, ◌∷◌, [], length, is_some, IfOk, IfSome, OnOk, OnErr, MatchResult, MatchOption, ⊤};
+ghost use Rattle.std.specs.Prelude.{◌≡◌, ◌≤◌, ◌∷◌, [], length, is_some, IfOk, IfSome, OnErr, MatchResult};
 ghost use Rattle.confluence_core.specs.Kept.{keeps_log};
 ghost use Rattle.claim_words.specs.KeptLogs.{HasTickets, HasRoom, SameTickets, spare_in, Adds, Seals, IsSealable, Unites, IsTold};
 

@@ -9,9 +9,8 @@ use Rattle.std.proofs.lemmas.List.{length_push, get_or_push, get_or_append_left,
 use Rattle.std.proofs.lemmas.List.Elements.{Contains-get_or}
 use Rattle.std.proofs.lemmas.Map.Keys.{sorted_from_strictly_increasing}
 use Rattle.std.proofs.lemmas.Map.Views.{length-le_from_below}
-use Rattle.pop_model.specs.Stacks.{value_at}
-use Rattle.pop_model.specs.Popping.{Cube, Occurs, cursor, names, variables}
-use Rattle.pop_model.specs.Cycles.{AreArrows, IsCycle, follow, arrow_in, first_of}
+use Rattle.pop_model.specs.Popping.{Cube, Occurs, names, variables}
+use Rattle.pop_model.specs.Cycles.{IsCycle, follow, arrow_in, first_of}
 use Rattle.pop_model.proofs.Diamond.{names_it}
 use Rattle.pop_model.proofs.Following.{follow_more, follow_next, follow_last}
 use Rattle.pop_model.proofs.CycleFamily.{Heads, first_named}
@@ -62,14 +61,6 @@ comes_home heads e v cycle at =
     let swap : met.0 + length e ≡ length e + met.0 = omega arith in
     sym (follow_more step met.0 (length e) a v met.2) ∙ ap (λ k. follow step k a) swap
     ∙ follow_more step (length e) met.0 a a cycle.returns ∙ met.2
-
--- steps lead to a variable
-pub follow_below : (t : CycleTable) (c : List ℕ) (start k w : ℕ) → AreArrows t.heads → start < length t.heads
-    → follow (current_head t c) k start ≡ Some w → w < length t.heads
-follow_below t c start zero w are below leads = subst (λ u. u < length t.heads) (same_Some start w leads) below
-follow_below t c start (suc k) w are below leads =
-    let last = follow_last (current_head t c) k start w leads in
-    are.below last.0 (value_at t.stacks last.0 (cursor c last.0)) w last.2
 
 -- a way begins at its start
 pub way_begins : (t : CycleTable) (c : List ℕ) (low start : ℕ) → low ≤ start → start < length t.heads

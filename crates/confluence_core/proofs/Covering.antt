@@ -31,12 +31,6 @@ pub covers_gained : (s : StackTable) (c : List ℕ) (rows : List (ℕ × Cube)) 
 covers_gained s c rows list old new covers gains place within pop =
     All-contains (Contains new.list) list place gains.gained (covers place within pop)
 
--- the index has units alone
-pub index_units : (rows : List (ℕ × Cube)) (index : List (List ℕ)) → IsIndex rows index → (v : ℕ) → v < length index
-    → All (λ u. u < length rows) (get_or index v [])
-index_units rows index is v below k d h =
-    ((is.exact v (get_or (get_or index v []) k d) below).0 (Contains-get_or (get_or index v []) k d h)).0
-
 -- a place that is not poppable may go
 pub covers_rest : (s : StackTable) (c : List ℕ) (rows : List (ℕ × Cube)) (list : List ℕ) (place : ℕ)
     → Covers s c rows (list ++ place ∷ [])

@@ -1,18 +1,15 @@
 -- The cube of a loop has just its variables, each with its current slot: so popping it moves on the cursors of these
 -- variables, and it has next entries where they have.
-use Rattle.std.proofs.Common.{inl, inr, ◌≡◌, ◌≢◌, ◌↔◌, ℕ, ◌+◌, ◌<◌, true, cond, List, length, map, get_or, refl, sym, ap, subst, ◌∙◌, arith, All, Contains, Some, slice_get, ext_get_or}
+use Rattle.std.proofs.Common.{inl, inr, ◌≡◌, ◌≢◌, ◌↔◌, ℕ, ◌+◌, ◌<◌, true, cond, List, length, map, get_or, refl, sym, ap, subst, ◌∙◌, arith, All, Contains, ext_get_or}
 use Rattle.std.specs.List.{AllPairs}
 use Rattle.std.specs.List.Sorted.{IsPermutation, IsNonDecreasingBy}
 use Rattle.std.proofs.lemmas.Bool.{cases_Bool, false≢true}
 use Rattle.std.proofs.lemmas.List.{length-map, get_or-map, get_or_default}
 use Rattle.std.proofs.lemmas.List.Elements.{All-contains, Contains-get_or}
-use Rattle.std.proofs.lemmas.Option.{get_or_from_slice_get, slice_get_within}
 use Rattle.std.proofs.lemmas.List.Sorted.{length_permutation, Contains-permutation, IsPermutation-sym}
 use Rattle.pop_model.specs.Popping.{Cube, Occurs, names, cursor, pop}
-use Rattle.pop_model.specs.Cycles.{first_of}
 use Rattle.pop_model.proofs.PopLemmas.{length-pop, cursor-pop, cursor-pop_other}
 use Rattle.pop_model.proofs.Diamond.{named, names_it}
-use Rattle.pop_model.proofs.Members.{variable_at}
 use Rattle.pop_model.proofs.Rising.{same_rising}
 use Rattle.confluence_core.specs.CycleTables.{CycleTable, current_slot}
 use Rattle.confluence_core.specs.Loops.{AreMembers, IsCubeOf, Raises}
@@ -122,9 +119,3 @@ one_cube t c members e f is other =
     same_rising (λ (p : ℕ × ℕ). p.0) e f is.cube.rising other.cube.rising
     (λ p has. (other.exact p.0 p.1).1 ((is.exact p.0 p.1).0 has))
     (λ p has. (is.exact p.0 p.1).1 ((other.exact p.0 p.1).0 has))
-
--- the first pair of a cube has its first variable
-pub first_is : (e : Cube) (p : ℕ × ℕ) → slice_get e 0 ≡ Some p → first_of e ≡ p.0
-first_is e p at =
-    variable_at e 0 (slice_get_within e 0 p at)
-    ∙ ap (λ (q : ℕ × ℕ). q.0) (get_or_from_slice_get e 0 p (0, 0) at)

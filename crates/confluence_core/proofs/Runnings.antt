@@ -1,28 +1,16 @@
 -- Legal logs one after another: what walks have left so far leads on to what they leave in the end.
-use Rattle.std.proofs.Common.{◌≡◌, ◌<◌, ℕ, Bool, true, false, cond, List, [], ◌∷◌, ◌++◌, refl, sym, ap, subst, ◌∙◌, arith}
+use Rattle.std.proofs.Common.{◌≡◌, ◌<◌, Bool, true, false, cond, [], ◌∷◌, ◌++◌, refl, sym, ap, subst, ◌∙◌, arith}
 use Rattle.std.proofs.lemmas.List.{append-nil, append_assoc, length-append}
-use Rattle.pop_model.specs.Popping.{Cube, IsPoppable, pop}
+use Rattle.pop_model.specs.Popping.{Cube, IsPoppable}
 use Rattle.pop_model.specs.Families.{IsEvent}
-use Rattle.pop_model.specs.Instances.{Instance}
-use Rattle.pop_model.specs.Logs.{LogRecord, IsLegal, replay}
+use Rattle.pop_model.specs.Logs.{IsLegal, replay}
 use Rattle.confluence_core.specs.Kept.{keeps_log}
 use Rattle.confluence_core.specs.Records.{record_at}
 use Rattle.confluence_core.specs.CycleTables.{CycleTable, cycles}
 use Rattle.confluence_core.specs.Walks.{cycle_event}
 use Rattle.confluence_core.specs.Steps.{RunsOn, with_pop, with_stuck}
 use Rattle.confluence_core.specs.declared.walked.Walked.{Walked}
-
--- the cursors after one log and another
-replay-append : (c : List ℕ) (log more : List LogRecord) → replay c (log ++ more) ≡ replay (replay c log) more
-replay-append c [] more = refl
-replay-append c (r ∷ log) more = replay-append (pop c r.event.cube) log more
-
--- a log that is legal at the end of another may follow it
-legal-append : (i : Instance) (c : List ℕ) (log more : List LogRecord) → IsLegal i c log
-    → IsLegal i (replay c log) more → IsLegal i c (log ++ more)
-legal-append i c [] more legal then' = then'
-legal-append i c (r ∷ log) more legal then' =
-    (legal.0, legal-append i (pop c r.event.cube) log more legal.1 then')
+use Rattle.confluence_core.proofs.LegalLogs.{legal_append, replay_append}
 
 -- nothing is popped
 pub runs_none : (t : CycleTable) (w : Walked) → RunsOn t w w
@@ -75,10 +63,10 @@ runs_popped t w new e few event poppable is =
 pub runs_then : (t : CycleTable) (a b c : Walked) → RunsOn t a b → RunsOn t b c → RunsOn t a c
 runs_then t a b c first last = record {
   log = first.log ++ last.log;
-  legal = legal-append (cycles t) a.cursors first.log last.log first.legal
+  legal = legal_append (cycles t) a.cursors first.log last.log first.legal
       (subst (λ d. IsLegal (cycles t) d last.log) first.cursors_are last.legal);
   cursors_are = last.cursors_are ∙ ap (λ d. replay d last.log) first.cursors_are
-      ∙ sym (replay-append a.cursors first.log last.log);
+      ∙ sym (replay_append a.cursors first.log last.log);
   pops_are = omega (arith, first.pops_are, last.pops_are, length-append first.log last.log);
   log_is = last.log_is ∙ ap (λ k. cond (keeps_log k) (b.log ++ last.log) b.log) first.keep_is
       ∙ either (keeps_log a.keep) first.log_is;

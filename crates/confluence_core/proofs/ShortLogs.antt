@@ -1,12 +1,9 @@
 -- Each pop takes from the room, so that a legal log is no longer than the room at its start.
-use Rattle.std.proofs.Common.{◌≡◌, ℕ, ◌+◌, ◌*◌, ◌<◌, ◌≤◌, ◌^◌, List, [], ◌∷◌, ◌++◌, length, refl, sym, ◌∙◌, arith}
+use Rattle.std.proofs.Common.{◌≡◌, ℕ, ◌+◌, ◌*◌, ◌<◌, ◌≤◌, ◌^◌, List, [], ◌∷◌, length, sym, ◌∙◌, arith}
 use Rattle.pop_model.specs.Stacks.{variables_of}
-use Rattle.pop_model.specs.Popping.{Cube, IsCube, pop}
-use Rattle.pop_model.specs.Families.{Event, Family, IsEvent, IsFamily}
-use Rattle.pop_model.specs.Families.Family.{Listed, Cycles}
+use Rattle.pop_model.specs.Popping.{pop}
 use Rattle.pop_model.specs.Instances.{Instance, IsInstance}
 use Rattle.pop_model.specs.Logs.{LogRecord, IsLegal, replay}
-use Rattle.pop_model.proofs.Members.{all_at}
 use Rattle.pop_model.proofs.PopLemmas.{length-pop}
 use Rattle.pop_model.proofs.Room.{left_from, left_bound}
 use Rattle.confluence_core.proofs.EventVariables.{event_falls}

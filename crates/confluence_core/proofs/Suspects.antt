@@ -1,5 +1,5 @@
 -- All units together miss no event.
-use Rattle.std.proofs.Common.{◌≡◌, ℕ, ◌+◌, ◌<◌, List, ◌∙◌, All, Contains, arith}
+use Rattle.std.proofs.Common.{◌≡◌, ℕ, ◌<◌, List, All, Contains, arith}
 use Rattle.std.specs.List.{range_with_len}
 use Rattle.std.proofs.lemmas.List.FromFn.{length-range_with_len, get_or-range_with_len}
 use Rattle.std.proofs.lemmas.Option.{slice_get_within}
@@ -8,16 +8,11 @@ use Rattle.pop_model.specs.Families.Family.{Listed, Cycles}
 use Rattle.pop_model.specs.Instances.{Instance}
 use Rattle.pop_model.specs.Cycles.{first_of}
 use Rattle.pop_model.proofs.CycleFamily.{first_named}
+use Rattle.pop_model.proofs.Members.{in_range}
 use Rattle.confluence_core.specs.Runs.{IsSuspected, MissesNone}
 use Rattle.confluence_core.proofs.CycleVariables.{cycle_below}
 
--- a unit stands among all units
-pub unit_in : (n u : ℕ) → u < n → Contains (range_with_len 0 n) u
-unit_in n u below =
-    let same : 0 + u ≡ u = omega arith in
-    (u, omega (arith, length-range_with_len 0 n), get_or-range_with_len 0 n u u below ∙ same)
-
--- and each of these is a unit
+-- each of all units is one
 pub all_known : (n : ℕ) (suspects : List ℕ) → suspects ≡ range_with_len 0 n → All (λ u. u < n) suspects
 all_known n suspects are = rw are (λ k d less.
     let below : k < n = omega (arith, length-range_with_len 0 n) in
@@ -37,4 +32,4 @@ all_suspected (Cycles heads) suspects all e (cycle, unit) =
 pub all_miss_none : (i : Instance) (c suspects : List ℕ) → suspects ≡ range_with_len 0 (units_of i.family)
     → MissesNone i c suspects
 all_miss_none i c suspects are e is poppable =
-    all_suspected i.family suspects (λ u below. rw are (unit_in (units_of i.family) u below)) e is
+    all_suspected i.family suspects (λ u below. rw are (in_range (units_of i.family) u below)) e is

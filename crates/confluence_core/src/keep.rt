@@ -1,3 +1,5 @@
+use crate::log::Log;
+
 /// What a run keeps beside its end.
 #[derive(Clone, Copy, Debug, PartialEq, Eq)]
 pub enum Keep {
@@ -7,7 +9,7 @@ pub enum Keep {
 }
 
 impl Keep {
-    ghost use Rattle.std.specs.Prelude.{◌≡◌};
+    ghost use Rattle.std.specs.Prelude.{◌≡◌, Some, None, if◌then◌else◌};
     ghost use Rattle.confluence_core.specs.Kept.{keeps_log};
 
     // Whether the log is kept.
@@ -15,5 +17,15 @@ impl Keep {
         ensures { result ≡ keeps_log self }
     {
         self == Keep::Log
+    }
+
+    /// The log, where it is kept.
+    pub fn kept(self, log: Log) -> Option<Log>
+        ensures { result ≡ (if keeps_log self then Some log else None) }
+    {
+        match self {
+            Keep::Log => Some(log),
+            Keep::Nothing => None,
+        }
     }
 }

@@ -1,5 +1,5 @@
 //! Runs from zeros over parts that several runs share.
-ghost use Rattle.std.specs.Prelude.{◌≡◌, All, IfOk, None, false};
+ghost use Rattle.std.specs.Prelude.{All, IfOk, None, false};
 ghost use Rattle.pop_model.specs.Families.Family.{Listed as ListedEvents, Cycles as CycleEvents};
 ghost use Rattle.pop_model.specs.Instances.{FamilyFits, FitsStacks};
 ghost use Rattle.pop_model.specs.Runs.{start_of};

@@ -1,4 +1,4 @@
-ghost use Rattle.std.specs.Prelude.{◌≡◌, ◌<◌, ◌++◌, ◌∷◌, [], length, OnOk, IfOk, MatchOption, All, ℕ, slice_index_or};
+ghost use Rattle.std.specs.Prelude.{◌≡◌, ◌<◌, ◌∷◌, [], length, OnOk, IfOk, MatchOption, All, ℕ, slice_index_or};
 ghost use Rattle.pop_model.specs.Popping.{NamesBelow};
 ghost use Rattle.confluence_core.specs.WorkList.{Gains, Gives, GainsSharing};
 

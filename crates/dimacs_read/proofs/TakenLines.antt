@@ -6,7 +6,7 @@ use Rattle.std.proofs.lemmas.List.{map-append}
 use Rattle.std.specs.List.{list_any, prefix_len}
 use Rattle.std.specs.Option.{option_map_or}
 use Rattle.std.proofs.lemmas.List.Folds.{list_any-append}
-use Rattle.std.proofs.lemmas.Bool.{cases_Bool, ne_eqb, eq-eqb}
+use Rattle.std.proofs.lemmas.Bool.{cases_Bool, ne_eqb, eq-eqb, or_parts}
 use Rattle.pop_edge.specs.declared.refusal.ReadRefusal.{ReadRefusal}
 use Rattle.pop_edge.specs.Refusals.{or_else, at_line, first_refusal}
 use Rattle.pop_edge.specs.Words.{begins_with, words_of}
@@ -65,17 +65,12 @@ body_stop (y ∷ xs) x h =
       | inr e ↦ body_yes y (xs ++ x ∷ []) e ∙ ap (λ ws. words_at y ++ ws) (body_stop xs x h) ∙ sym (body_yes y xs e)
     ]
 
--- where none of some lines ends the clauses, neither does the first, nor one behind it
-or_false : (s t : Bool) → (s || t) ≡ false → (s ≡ false) × (t ≡ false)
-or_false true t h = absurd (cc)
-or_false false t h = (refl, h)
-
 -- before such a line the words of one more line come last
 pub body_more : (xs : Lines) (x : ℕ × List (List ℕ)) → list_any ends xs ≡ false → ends x ≡ false
     → body (xs ++ x ∷ []) ≡ body xs ++ words_at x
 body_more [] x h k = body_yes x [] k ∙ append-nil (words_at x)
 body_more (y ∷ xs) x h k =
-    let p = or_false (ends y) (list_any ends xs) h in
+    let p = or_parts (ends y) (list_any ends xs) h in
     body_yes y (xs ++ x ∷ []) p.0 ∙ ap (λ ws. words_at y ++ ws) (body_more xs x p.1 k)
     ∙ sym (append_assoc (words_at y) (body xs) (words_at x)) ∙ ap (λ ws. ws ++ words_at x) (sym (body_yes y xs p.0))
 

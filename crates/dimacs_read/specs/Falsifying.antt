@@ -1,5 +1,5 @@
 -- The events of a formula: each occurs exactly where its clause is false (Moser and Tardos 2010).
-use Rattle.std.specs.Prelude.{◌≡◌, ℕ, suc, ◌-◌, ◌<◌, ◌↔◌, ℤ, pos, negsuc, List, map, slice_get, Option, None, Some, All, Contains}
+use Rattle.std.specs.Prelude.{◌≡◌, ℕ, suc, ◌-◌, ◌<◌, ◌↔◌, ℤ, pos, negsuc, List, map, slice_get, Option, None, Some, Contains}
 use Rattle.std.specs.List.Sorted.{IsStrictlyIncreasing}
 use Rattle.pop_model.specs.Popping.{Cube, IsCube}
 

@@ -8,12 +8,7 @@ use Rattle.pop_model.proofs.Following.{Rises, rises_rest, later}
 use Rattle.claim_words.specs.Maps.{Pairs, In, times}
 use Rattle.claim_words.proofs.Totals.{is_at-no}
 use Rattle.claim_words.proofs.Memberships.{in_append, in_one, in_left}
-
--- a member is contained
-in_contains : {A : Type 0} (a : A) (l : List A) → In a l → Contains l a
-in_contains a [] i = absurd i
-in_contains a (x ∷ xs) i = ⊎_elim (λ (e : x ≡ a). (0, omega arith, e))
-    (λ (m : In a xs). let t = in_contains a xs m in (suc t.0, omega (arith, t.1), t.2)) i
+use Rattle.claim_words.proofs.SharersAreOwed.{in_contains}
 
 -- what is contained is a member
 pub contains_in : {A : Type 0} (a : A) (l : List A) → Contains l a → In a l

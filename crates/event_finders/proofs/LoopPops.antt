@@ -6,9 +6,10 @@ use Rattle.pop_model.specs.Stacks.{StackTable, value_at}
 use Rattle.pop_model.specs.Popping.{Cube, names, cursor, variables}
 use Rattle.pop_model.specs.Cycles.{IsCycle}
 use Rattle.pop_model.specs.Families.{Family, IsEvent}
+use Rattle.pop_model.proofs.Members.{first_read}
 use Rattle.confluence_core.specs.CycleTables.{CycleTable}
 use Rattle.confluence_core.specs.Loops.{IsCubeOf}
-use Rattle.confluence_core.proofs.LoopCubes.{cube_names, one_cube, first_is, member_at, place_of}
+use Rattle.confluence_core.proofs.LoopCubes.{cube_names, one_cube, member_at, place_of}
 use Rattle.confluence_core.proofs.ClosedLoops.{loop_of}
 use Rattle.claim_words.specs.Maps.{Pairs, Each, In, times, times_in, look, raise, raise_all, taken_out}
 use Rattle.claim_words.specs.Openings.{height}
@@ -96,7 +97,7 @@ module _ (k : Opening) (d : View) (t : Trail) (is : Stands k d t) (place : ℕ) 
         → IsEvent k.instance.value.family (record { unit = unit; cube = cube })
     event unit x first =
         subst (λ (f : Family). IsEvent f (record { unit = unit; cube = cube })) (sym of_board.family)
-        (cycle, sym (first_is cube (unit, x) first))
+        (cycle, sym (first_read cube (unit, x) first))
 
     -- where its variables stand
     stands : (v : ℕ) → Contains those v → (j : ℕ) × (place ≤ j) × (j < length t.path) × (v_at j ≡ v)

@@ -1,7 +1,7 @@
 -- Units that are marked are owed no more. A pop owes the marks of the units whose events share a variable with the
 -- popped cube; the index has just these units in the rows of the cube's variables. So once the rows of the first
 -- variables are marked, what is still owed shares one of the variables that are left.
-use Rattle.std.proofs.Common.{◌≡◌, ◌≢◌, ℕ, zero, suc, ◌<◌, true, List, [], ◌∷◌, ◌++◌, length, get_or, slice_get, slice_index_or, Some, All, refl, sym, ap, ◌∙◌, subst, inl, inr, ⊎_elim}
+use Rattle.std.proofs.Common.{◌≡◌, ◌≢◌, ℕ, zero, suc, ◌<◌, true, List, [], ◌∷◌, ◌++◌, length, slice_get, slice_index_or, Some, refl, sym, ap, ◌∙◌, subst, inl, inr, ⊎_elim}
 use mathlib.Core.Logic.{dite}
 use native.Mathlib.Decide.{ℕ_discrete}
 use Rattle.std.proofs.lemmas.Option.{none-some, same_Some}
@@ -13,7 +13,6 @@ use Rattle.pop_instance.specs.Events.{cube_at}
 use Rattle.claim_words.specs.declared.view.View.{View}
 use Rattle.claim_words.specs.Maps.{In, taken_out}
 use Rattle.claim_words.specs.Steps.{sharing, marked_by}
-use Rattle.claim_words.proofs.Totals.{get_or-any}
 use Rattle.claim_words.proofs.HeldLemmas.{taken-hit, taken-miss}
 use Rattle.claim_words.proofs.SharersAreOwed.{sharing_only}
 use Rattle.event_finders.specs.OwedMarks.{all_out, owing, marked_with}
@@ -101,9 +100,3 @@ pub marked_out : (us : List ℕ) (d : View) (l : List ℕ) → d.taken ≡ []
 marked_out us d l none =
     let same : all_out us d.taken ≡ d.taken = ap (all_out us) none ∙ all_out-none us ∙ sym none in
     ap (λ (x : List ℕ). record d { taken = x; owed = all_out us l }) same
-
--- the units of a row have marks
-pub units_known : (rows : List (ℕ × Cube)) (index : List (List ℕ)) (v : ℕ) → IsIndex rows index → v < length index
-    → All (λ u. u < length rows) (slice_index_or index v [])
-units_known rows index v is near k d h = let l : List ℕ = slice_index_or index v [] in let x : ℕ = get_or l k d in
-    ((is.exact v x near).0 (k, h, get_or-any l k x d h)).0

@@ -20,7 +20,7 @@ use Rattle.claim_words.proofs.Totals.{total-append, each-map, each-append, is_at
 use Rattle.claim_words.proofs.HeldLemmas.{times-variables, variables-push}
 use Rattle.claim_words.proofs.Memberships.{in_left, in_right}
 use Rattle.claim_words.proofs.ClaimKeepsRule.{held_after}
-use Rattle.claim_words.proofs.Callers.{held_still}
+use Rattle.claim_words.proofs.Callers.{held_still, look_end}
 use Rattle.event_finders.specs.Gains.{gained}
 use Rattle.event_finders.specs.UnitLooks.{found_at, SameElse, ClaimsFirst, HasClaimed, HasValue, HasMore}
 use Rattle.event_finders.proofs.CubePrefixes.{take_push, none_yet}
@@ -36,13 +36,6 @@ look_front v [] m h = absurd (omega arith)
 look_front v (p ∷ ps) m h = dite (ℕ_discrete p.0 v)
     (λ e. look-hit v p (ps ++ m) e ∙ sym (look-hit v p ps e))
     (λ ne. look-miss v p (ps ++ m) ne ∙ look_front v ps m (omega (arith, is_at-no v p ne)) ∙ sym (look-miss v p ps ne))
-
--- the number of a pair more at the end
-look_end : (v c : ℕ) (l : Pairs) → times v l ≡ 0 → look v (l ++ (v, c) ∷ []) ≡ c
-look_end v c [] none = look-hit v (v, c) [] refl
-look_end v c (p ∷ ps) none = dite (ℕ_discrete p.0 v)
-    (λ e. absurd (omega (arith, is_at-yes v p e)))
-    (λ ne. look-miss v p (ps ++ (v, c) ∷ []) ne ∙ look_end v c ps (omega (arith, is_at-no v p ne)))
 
 module _ (d m e : View) (cube : Cube) (is : IsCube cube) (n : ℕ) (p : ℕ × ℕ) (at : slice_get cube n ≡ Some p)
     (first : ClaimsFirst d m cube n n) (w : ℕ) (to : e ≡ claimed_by m p.0 w) where

@@ -1,6 +1,5 @@
 //! Tries at the event of one unit of a listed family.
-ghost use Rattle.std.specs.Prelude.{◌≡◌, ◌<◌, ◌↔◌, ◌≤◌, length};
-ghost use Rattle.pop_model.specs.Popping.{NamesBelow};
+ghost use Rattle.std.specs.Prelude.{◌≡◌, ◌<◌, ◌↔◌};
 ghost use Rattle.pop_model.specs.Families.{units_of};
 ghost use Rattle.pop_stacks.specs.Readers.{Belongs};
 ghost use Rattle.claim_words.specs.Words.{mark_of};

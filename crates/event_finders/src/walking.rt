@@ -1,5 +1,5 @@
 //! The parts of a walk. What the pass holds is the path.
-ghost use Rattle.std.specs.Prelude.{◌≡◌, ◌≤◌, ◌<◌, ◌+◌, ◌-◌, ◌^◌, ◌++◌, ◌∷◌, [], ℕ, List, length, map, take, slice_index, All, OnOk, IfOk, MatchResult, MatchOption};
+ghost use Rattle.std.specs.Prelude.{◌≡◌, ◌≤◌, ◌<◌, ◌+◌, ◌-◌, ◌^◌, ◌++◌, ◌∷◌, [], ℕ, List, length, map, take, slice_index, All, OnOk, MatchResult, MatchOption};
 ghost use Rattle.pop_model.specs.Stacks.{height_of};
 ghost use Rattle.pop_model.specs.Popping.{variables};
 ghost use Rattle.pop_stacks.specs.Readers.{Belongs};

@@ -1,6 +1,6 @@
 //! Walks that claim along the arrows, and pop the cycles that they close: loop-erased walks (Wilson
 //! 1996; Propp and Wilson 1998) of several passes on one board.
-ghost use Rattle.std.specs.Prelude.{◌≡◌, ◌≤◌, ◌<◌, ◌+◌, ◌^◌, [], length, false, ℕ, slice_index};
+ghost use Rattle.std.specs.Prelude.{◌≡◌, ◌≤◌, ◌<◌, ◌+◌, length, false, ℕ, slice_index};
 ghost use Rattle.pop_model.specs.Popping.{variables};
 ghost use Rattle.pop_stacks.specs.Readers.{Belongs};
 ghost use Rattle.claim_words.specs.Openings.{is_listed};

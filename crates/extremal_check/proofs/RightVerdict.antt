@@ -3,10 +3,9 @@
 -- variable exclude each other: whether they do can be told. Two places that clash are two different
 -- events that share a variable and don't. Numbers rise with places, so the least pair of places is
 -- the least pair of numbers.
-use Rattle.std.proofs.Common.{inl, inr, ◌≡◌, ◌≢◌, ℕ, ◌<◌, ◌≤◌, List, [], length, map, slice_index, Contains, sym, ap, ap₂, subst, ◌∙◌, arith}
+use Rattle.std.proofs.Common.{inl, inr, ◌≡◌, ◌≢◌, ℕ, ◌<◌, ◌≤◌, List, [], length, Contains, sym, ap, ap₂, subst, ◌∙◌, arith}
 use Rattle.std.proofs.lemmas.Bool.{cases_order}
-use Rattle.std.proofs.lemmas.List.{length-map, get_or-map, get_or_default}
-use Rattle.std.proofs.lemmas.List.Kept.{AllPairs-from_increasing}
+use Rattle.std.proofs.lemmas.List.{get_or_default}
 use Rattle.std.proofs.lemmas.List.Elements.{Contains-get_or}
 use Rattle.std.proofs.lemmas.Option.{get_or_from_slice_get, slice_get_within, slice_get-get_or}
 use Rattle.pop_model.specs.Popping.{Cube}
@@ -16,6 +15,7 @@ use Rattle.pop_model.specs.Extremal.{Share, Exclude, IsExtremal}
 use Rattle.pop_model.specs.Places.{IsLeast, IsLeastPair}
 use Rattle.pop_model.proofs.Sharing.{Share-sym}
 use Rattle.pop_instance.specs.Events.{event_number, cube_at}
+use Rattle.pop_instance.proofs.ListedEvents.{number_rises, same_place}
 use Rattle.extremal_check.specs.Clashes.{Clash, AreClashing, ClashAt, HasNoClash}
 use Rattle.extremal_check.proofs.Exclusions.{Exclude-sym, cases_exclude}
 
@@ -78,21 +78,7 @@ not_extremal rows i j clash extremal =
     clash.clash.agree (extremal (event_at rows i) (event_at rows j) (is_event_at rows i (omega arith))
     (is_event_at rows j within) differ clash.clash.share)
 
--- numbers rise with places
-numbers_rise : (rows : List (ℕ × Cube)) → AreEvents rows → (i j : ℕ) → i < j → j < length rows
-    → event_number rows i < event_number rows j
-numbers_rise rows are i j less within =
-    let numbers : List ℕ = map (λ (r : ℕ × Cube). r.0) rows in
-    let size : length numbers ≡ length rows = length-map rows (λ (r : ℕ × Cube). r.0) in
-    let rising : slice_index numbers i < slice_index numbers j =
-    AllPairs-from_increasing numbers are.rising i j 0 less (omega arith) in
-    let here : slice_index numbers i ≡ event_number rows i =
-    get_or-map (λ (r : ℕ × Cube). r.0) rows i (0, []) 0 (omega arith) in
-    let there : slice_index numbers j ≡ event_number rows j =
-    get_or-map (λ (r : ℕ × Cube). r.0) rows j (0, []) 0 within in
-    omega (arith, rising, here, there)
-
--- and places with numbers
+-- places rise with numbers
 places_rise : (rows : List (ℕ × Cube)) → AreEvents rows → (i j : ℕ) → i < length rows → j < length rows
     → event_number rows i < event_number rows j → i < j
 places_rise rows are i j i_within j_within less = elim (cases_order i j) [
@@ -100,18 +86,7 @@ places_rise rows are i j i_within j_within less = elim (cases_order i j) [
       ap (event_number rows) same in absurd (omega arith)
   | inr apart ↦ elim apart [
     | inl before ↦ before
-    | inr behind ↦ let numbers = numbers_rise rows are j i behind i_within in absurd (omega (arith, numbers, less))
-  ]
-]
-
--- a place has one number
-same_place : (rows : List (ℕ × Cube)) → AreEvents rows → (i j : ℕ) → i < length rows → j < length rows
-    → event_number rows i ≡ event_number rows j → i ≡ j
-same_place rows are i j i_within j_within same = elim (cases_order i j) [
-  | inl is ↦ is
-  | inr apart ↦ elim apart [
-    | inl before ↦ let numbers = numbers_rise rows are i j before j_within in absurd (omega (arith, numbers, same))
-    | inr behind ↦ let numbers = numbers_rise rows are j i behind i_within in absurd (omega (arith, numbers, same))
+    | inr behind ↦ let numbers = number_rises rows j i are behind i_within in absurd (omega (arith, numbers, less))
   ]
 ]
 
@@ -122,7 +97,7 @@ numbers_clash rows are i j clash =
     let rising = clash.rising in
     let within = clash.within in
     record {
-      rising = numbers_rise rows are i j rising within;
+      rising = number_rises rows i j are rising within;
       events = (
         cube_at rows i,
         cube_at rows j,
@@ -201,7 +176,7 @@ least_numbers rows are i j least =
                 (inl (places_rise rows are places.i i p_within i_within (omega (arith, first, less)))) places.clash
             | inr (same, less) ↦ least.none_before places.i places.j
                 (inr (
-                  same_place rows are places.i i p_within i_within (first ∙ same),
+                  same_place rows places.i i are p_within i_within (first ∙ same),
                   places_rise rows are places.j j q_within j_within (omega (arith, second, less)),
                 ))
                 places.clash

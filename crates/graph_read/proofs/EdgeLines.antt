@@ -6,16 +6,16 @@ use Rattle.std.proofs.Common.{◌≡◌, ℕ, ◌+◌, ◌^◌, ◌<◌, ◌≤�
 use Rattle.std.specs.Option.{ok_or}
 use Rattle.std.specs.List.{AllZip, cons_option}
 use Rattle.std.specs.Result.{result_ok}
-use Rattle.std.specs.Str.Parse.{digits_value}
-use Rattle.std.specs.List.{list_all}
 use Rattle.std.specs.Prelude.{All}
 use Rattle.std.proofs.lemmas.Bool.{and_parts, and_from, leb-true, le-leb, eqb-false, ne_eqb, ltb-true, lt-ltb}
 use Rattle.std.proofs.lemmas.Slice.Eq.{bytes_eq-Decides}
 use Rattle.std.proofs.lemmas.List.Elements.{All-nil, All-cons, All-head, All-tail}
-use Rattle.pop_edge.specs.Numbers.{is_digit, number_of}
+use Rattle.std.proofs.lemmas.Option.{cond_some}
+use Rattle.pop_edge.specs.Numbers.{number_of}
 use Rattle.pop_edge.specs.Refusals.{Fault, or_else, at_line, first_refusal}
 use Rattle.pop_edge.specs.Refusals.Fault.{Code, Passes}
 use Rattle.pop_edge.proofs.RefusalsLemmas.{or_else_none, at_line_none, chosen_some}
+use Rattle.pop_edge.proofs.NumbersLemmas.{number_small}
 use Rattle.graph_read.specs.declared.edge.Edge.{Edge}
 use Rattle.graph_read.specs.Graphs.{IsVertex, IsEdge}
 use Rattle.graph_read.specs.GraphText.{◌>>=◌, number_in, end_in, weight_in, edge_words, edge_in, fault_of, edge_fault, edges_in}
@@ -45,20 +45,6 @@ passed false x y f h = absurd (cc)
 not_stopped : {A : Type 0} (t : Bool) (x y : A) (f : Fault) → cond t (Err f) (Ok x) ≡ Ok y → (t ≡ false) × (x ≡ y)
 not_stopped true x y f h = absurd (cc)
 not_stopped false x y f h = (refl, cc)
-
--- a value that is there where its test is passed
-chosen : {A : Type 0} (t : Bool) (x y : A) → cond t (Some x) None ≡ Some y → (t ≡ true) × (x ≡ y)
-chosen true x y h = (refl, cc)
-chosen false x y h = absurd (cc)
-
--- a number is below 2^32
-number_small : (word : List ℕ) (n : ℕ) → number_of word ≡ Some n → n < 2 ^ 32
-number_small word n h =
-    let size : Bool = nat_le 1 (length word) && nat_le (length word) 10 && list_all is_digit word in
-    let t = chosen (size && nat_lt (digits_value 10 word) (2 ^ 32)) (digits_value 10 word) n h in
-    let small = ltb-true (digits_value 10 word) (2 ^ 32)
-    (and_parts size (nat_lt (digits_value 10 word) (2 ^ 32)) t.0).1 in
-    omega (arith, t.1, small)
 
 -- what was read as the end of an edge
 end_is : (n : ℕ) (word : List ℕ) (u : ℕ) → end_in n word ≡ Ok u → (number_of word ≡ Some u) × IsVertex n u
@@ -122,11 +108,11 @@ spells [] w edge h a = absurd (cc)
 spells (e ∷ []) w edge h a = absurd (cc)
 spells (e ∷ u ∷ []) w edge h a = absurd (cc)
 spells (e ∷ u ∷ v ∷ []) w edge h a =
-    let t = chosen (bytes_eq e (codes "e")) (u, v, None) w h in
+    let t = cond_some (bytes_eq e (codes "e")) (u, v, None) w h in
     let b : AreOfEdge (u, v, None) edge = subst (λ x. AreOfEdge x edge) (sym t.1) a in
     ((bytes_eq-Decides e (codes "e")).0 t.0, b.from, b.to, b.weight)
 spells (e ∷ u ∷ v ∷ x ∷ []) w edge h a =
-    let t = chosen (bytes_eq e (codes "e")) (u, v, Some x) w h in
+    let t = cond_some (bytes_eq e (codes "e")) (u, v, Some x) w h in
     let b : AreOfEdge (u, v, Some x) edge = subst (λ y. AreOfEdge y edge) (sym t.1) a in
     ((bytes_eq-Decides e (codes "e")).0 t.0, b.from, b.to, b.weight)
 spells (e ∷ u ∷ v ∷ x ∷ y ∷ words) w edge h a = absurd (cc)

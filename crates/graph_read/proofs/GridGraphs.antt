@@ -4,7 +4,7 @@ use Rattle.std.proofs.Common.{◌≡◌, ℕ, ◌+◌, ◌-◌, ◌*◌, ◌^◌
 use Rattle.std.specs.Prelude.{All}
 use Rattle.std.specs.List.{range_with_len}
 use Rattle.std.proofs.lemmas.Bool.{ltb-true}
-use Rattle.std.proofs.lemmas.List.Elements.{All-append, All-cons}
+use Rattle.std.proofs.lemmas.List.Elements.{All-append, All-cons, All-nil}
 use Rattle.std.proofs.lemmas.Nat.{mul-le}
 use Rattle.std.proofs.Math.Nat.{add-mul}
 use Rattle.graph_read.specs.declared.edge.Edge.{Edge}
@@ -16,22 +16,18 @@ use Rattle.graph_read.proofs.GridPlaces.{place_below, right_place, rows_few}
 abbrev step : ℕ → ℕ → Edge
 step u v = record { u = u; v = v; weight = 1 }
 
--- there is nothing of which it doesn't hold
-all_of_none : {X : Type 0} (P : X → Type 0) → All P []
-all_of_none P = λ k d less. absurd (omega (arith, less))
-
 -- what holds of all that comes of each number holds of all that comes of them
 all_come : {X : Type 0} (P : X → Type 0) (f : ℕ → List X) (a n : ℕ)
     → ((j : ℕ) → a ≤ j → j < a + n → All P (f j)) → All P (flat_map f (range_with_len a n))
-all_come P f a zero each = all_of_none P
+all_come P f a zero each = All-nil P
 all_come P f a (suc n) each =
     All-append P (f a) (flat_map f (range_with_len (a + 1) n)) (each a (omega arith) (omega arith))
     (all_come P f (a + 1) n (λ j low high. each j (omega (arith, low)) (omega (arith, high))))
 
 -- what holds of an edge where it is there
 all_where : (P : Edge → Type 0) (there : Bool) (u v : ℕ) → (there ≡ true → P (step u v)) → All P (edge_where there u v)
-all_where P true u v holds = All-cons P (step u v) [] (holds refl) (all_of_none P)
-all_where P false u v holds = all_of_none P
+all_where P true u v holds = All-cons P (step u v) [] (holds refl) (All-nil P)
+all_where P false u v holds = All-nil P
 
 -- what holds of the edges to the right and below holds of all edges of the grid
 all_edges : (P : Edge → Type 0) (side : ℕ)

@@ -15,7 +15,7 @@ abbrev pub numbered : {X : Type 0} → (X → Bool) → List X → List (ℕ × 
 numbered test xs = filter (λ p. test p.1) (enumerate_from 0 xs)
 
 -- a member that passes a filter
-contains_filter : {X : Type 0} (test : X → Bool) (xs : List X) (x : X) → Contains xs x → test x ≡ true
+pub contains_filter : {X : Type 0} (test : X → Bool) (xs : List X) (x : X) → Contains xs x → test x ≡ true
     → Contains (filter test xs) x
 contains_filter test [] x has passes = absurd (omega (arith, has.1))
 contains_filter test (y ∷ xs) x has passes = elim (member_cases y xs x has) [

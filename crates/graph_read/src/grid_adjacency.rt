@@ -1,7 +1,7 @@
-ghost use Rattle.std.specs.Prelude.{◌≡◌, ◌*◌, length, OnOk};
-ghost use Rattle.graph_read.specs.Graphs.{IsGraph, IsVertex};
+ghost use Rattle.std.specs.Prelude.{◌≡◌, ◌*◌, length};
+ghost use Rattle.graph_read.specs.Graphs.{IsVertex};
 ghost use Rattle.graph_read.specs.Grids.{IsSide, grid_of, vertex_where};
-ghost use Rattle.graph_read.specs.Incidence.{edges_at, neighbours_of};
+ghost use Rattle.graph_read.specs.Incidence.{edges_at};
 
 use crate::{Adjacency, put_grid_neighbours};
 use std::alloc::AllocError;

@@ -1,6 +1,6 @@
-ghost use Rattle.std.specs.Prelude.{◌≡◌, ◌<◌, ◌≤◌, ◌^◌, length, replicate, All, IfOk, OnOk};
-ghost use Rattle.graph_read.specs.Graphs.{IsGraph, IsVertex};
-ghost use Rattle.graph_read.specs.Incidence.{degrees_of, edges_at, incidence_of, neighbours_of};
+ghost use Rattle.std.specs.Prelude.{◌≡◌, ◌<◌, ◌≤◌, ◌^◌, length, replicate, All, IfOk};
+ghost use Rattle.graph_read.specs.Graphs.{IsVertex};
+ghost use Rattle.graph_read.specs.Incidence.{degrees_of, edges_at, incidence_of};
 
 use crate::{Adjacency, Graph};
 use pop_rows::{FlatRows, count_at};

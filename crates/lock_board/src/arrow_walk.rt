@@ -1,6 +1,6 @@
 //! Walks along the current arrows. Laps of growing length keep nothing of their way, so that a walk
 //! takes no memory and no more time than some times the arrows that it passes (Brent 1980).
-ghost use Rattle.std.specs.Prelude.{◌≡◌, ◌<◌, ◌≤◌, length, MatchOption};
+ghost use Rattle.std.specs.Prelude.{◌≡◌, ◌<◌, length, MatchOption};
 ghost use Rattle.pop_model.specs.Cycles.{ReachesRoot};
 ghost use Rattle.pop_stacks.specs.Readers.{Belongs};
 ghost use Rattle.confluence_core.specs.CycleTables.{current_head, AreCursors};

@@ -1,9 +1,9 @@
 -- Where a piece is cut: at its first line end.
-use Rattle.std.proofs.Common.{◌≡◌, ℕ, suc, ◌+◌, ◌-◌, ◌<◌, ◌≤◌, Bool, true, false, List, [], ◌∷◌, ◌++◌, length, take, drop, get_or, slice_range, Option, None, Some, refl, sym, ap, ◌∙◌, arith, append_assoc, take-append-drop, length-take, drop-drop, subst, ap₂, ◌||◌}
+use Rattle.std.proofs.Common.{◌≡◌, ℕ, suc, ◌+◌, ◌-◌, ◌<◌, ◌≤◌, false, List, [], ◌∷◌, ◌++◌, length, take, drop, get_or, slice_range, Option, None, Some, refl, sym, ap, ◌∙◌, arith, append_assoc, take-append-drop, length-take, drop-drop, subst, ap₂, ◌||◌}
 use Rattle.std.specs.List.{list_any}
 use Rattle.std.proofs.lemmas.List.{drop_more, get_or-take, drop-take}
 use Rattle.std.proofs.lemmas.List.Folds.{list_any-append}
-use Rattle.std.proofs.lemmas.Bool.{eqb-true}
+use Rattle.std.proofs.lemmas.Bool.{eqb-true, false_from_ne_true}
 use Rattle.memchr.specs.Find.{IsFirstByte}
 use Rattle.pop_edge.specs.Lines.{is_end}
 use Rattle.pop_edge.specs.Splitting.{Moves}
@@ -17,11 +17,6 @@ no_end (b ∷ bytes) h =
     let rest : list_any is_end bytes ≡ false = no_end bytes (λ k l. h (suc k) (omega arith)) in
     rw (here, rest) refl
 
--- a test that isn't passed fails
-not_passed : (b : Bool) → (b ≡ true → ⊥) → b ≡ false
-not_passed true h = absurd (h refl)
-not_passed false h = refl
-
 -- the first line end stands at n
 pub moves_some : (old bytes : List ℕ) (n : ℕ) → IsFirstByte is_end bytes (Some n)
     → Moves old (old ++ take n bytes) bytes (Some (n + 1))
@@ -33,7 +28,8 @@ moves_some old bytes n first =
     let front : list_any is_end (take n bytes) ≡ false =
     no_end (take n bytes)
     (λ k l. let lt : k < n = omega arith in
-    ap is_end (get_or-take n bytes k 0 lt) ∙ not_passed (is_end (get_or bytes k 0)) (before k (omega arith) lt)) in (
+    ap is_end (get_or-take n bytes k 0 lt)
+    ∙ false_from_ne_true (is_end (get_or bytes k 0)) (before k (omega arith) lt)) in (
       take n bytes,
       front,
       sym (take-append-drop n bytes)
@@ -46,7 +42,7 @@ moves_some old bytes n first =
 -- no line end stands anywhere
 pub moves_none : (old bytes : List ℕ) → IsFirstByte is_end bytes None → Moves old (old ++ bytes) bytes None
 moves_none old bytes nowhere =
-    (no_end bytes (λ k l. not_passed (is_end (get_or bytes k 0)) (nowhere k (omega arith) l)), refl)
+    (no_end bytes (λ k l. false_from_ne_true (is_end (get_or bytes k 0)) (nowhere k (omega arith) l)), refl)
 
 -- what is left of a range, behind its first n elements
 range_behind : (piece : List ℕ) (at end n : ℕ) → n ≤ end - at

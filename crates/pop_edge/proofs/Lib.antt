@@ -12,6 +12,6 @@ pub mod JudgedLines
 pub mod AcceptedTexts
 -- The words and numbers of a line
 pub mod WordsLemmas
-mod NumbersLemmas
+pub mod NumbersLemmas
 -- Worked values
 mod Vectors

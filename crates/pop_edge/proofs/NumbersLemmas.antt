@@ -1,14 +1,15 @@
--- The value of digits, one after another.
-use Rattle.std.proofs.Common.{◌≡◌, ℕ, ◌+◌, ◌-◌, ◌<◌, ◌≤◌, true, nat_le, ◌*◌, ◌^◌, List, length, take, get_or, ◌∙◌, arith}
+-- The value of digits, one after another, and how great a number may be.
+use Rattle.std.proofs.Common.{◌≡◌, ℕ, ◌+◌, ◌-◌, ◌<◌, ◌≤◌, true, nat_le, ◌*◌, ◌^◌, List, length, take, get_or, ◌∙◌, arith, Bool, Some, nat_lt, ◌&&◌}
 use Rattle.std.specs.List.{list_all}
 use Rattle.std.specs.Str.Parse.{digits_value}
 use Rattle.std.specs.Char.{digit_value}
-use Rattle.std.proofs.lemmas.Bool.{le-leb, and_from}
+use Rattle.std.proofs.lemmas.Bool.{le-leb, and_from, ltb-true, and_parts}
 use Rattle.std.proofs.lemmas.Grind.{pow_more}
 use Rattle.std.proofs.lemmas.List.Folds.{list_all_more}
 use Rattle.std.proofs.lemmas.Str.{digit_value_digit}
 use Rattle.std.proofs.lemmas.Int.Digits.{digits_value_more}
-use Rattle.pop_edge.specs.Numbers.{is_digit}
+use Rattle.std.proofs.lemmas.Option.{cond_some}
+use Rattle.pop_edge.specs.Numbers.{is_digit, number_of}
 
 -- the first i bytes of a word are digits of this value
 pub record HasRead (word : List ℕ) (i value : ℕ) : Type 0 where
@@ -39,3 +40,12 @@ read_more word i value r l low high =
       worth = value_more word i value low high l r.worth;
       small = omega (arith, pow_more 10 i, r.small, low, high);
     }
+
+-- a number is below 2^32
+pub number_small : (word : List ℕ) (n : ℕ) → number_of word ≡ Some n → n < 2 ^ 32
+number_small word n h =
+    let size : Bool = nat_le 1 (length word) && nat_le (length word) 10 && list_all is_digit word in
+    let t = cond_some (size && nat_lt (digits_value 10 word) (2 ^ 32)) (digits_value 10 word) n h in
+    let small = ltb-true (digits_value 10 word) (2 ^ 32)
+    (and_parts size (nat_lt (digits_value 10 word) (2 ^ 32)) t.0).1 in
+    omega (arith, t.1, small)

@@ -2,9 +2,9 @@
 -- has pairs, and after none before. If two of these steps met one variable, the steps would come back earlier, by as
 -- many as lie between the two. So they meet as many different variables as the cube has, which are all of them. And
 -- if the steps of a cycle came back earlier, they would meet fewer variables than it has.
-use Rattle.std.proofs.Common.{inl, inr, ◌≡◌, ◌≢◌, ◌⊎◌, ℕ, zero, suc, ◌+◌, ◌-◌, ◌<◌, ◌≤◌, true, length, get_or, slice_get, slice_index, Some, None, sym, ap, subst, ◌∙◌, arith, Contains}
+use Rattle.std.proofs.Common.{inl, inr, ◌≡◌, ◌≢◌, ◌⊎◌, ℕ, zero, suc, ◌+◌, ◌-◌, ◌<◌, ◌≤◌, true, length, get_or, slice_index, Some, None, sym, ap, subst, ◌∙◌, arith, Contains}
 use Rattle.std.proofs.lemmas.Bool.{cases_lt, cases_order}
-use Rattle.std.proofs.lemmas.Option.{none-some, same_Some, get_or_from_slice_get, slice_get_within}
+use Rattle.std.proofs.lemmas.Option.{none-some, same_Some}
 use Rattle.std.proofs.lemmas.List.{length-map, get_or-map}
 use Rattle.std.proofs.lemmas.List.Elements.{Contains-get_or}
 use Rattle.std.proofs.lemmas.List.Kept.{AllPairs-from_increasing}
@@ -241,9 +241,3 @@ module _ (heads : Heads) (e : Cube) (first n at : ℕ) (cube : IsCube e) (first_
   pub must_come_back : length e ≡ n → IsCycle heads e → arrow_in heads e at ≡ Some first
   must_come_back whole is =
       sym step_is ∙ ap (λ k. follow (arrow_in heads e) k first) (sym whole) ∙ returns_is is
-
--- the first variable, as its pair was read
-pub first_read : (e : Cube) (p : ℕ × ℕ) → slice_get e 0 ≡ Some p → first_of e ≡ p.0
-first_read e p read =
-    variable_at e 0 (slice_get_within e 0 p read)
-    ∙ ap (λ (q : ℕ × ℕ). q.0) (get_or_from_slice_get e 0 p (0, 0) read)

@@ -6,12 +6,13 @@ use Rattle.std.specs.Cmp.{IsTotalOrder}
 use Rattle.std.specs.List.{dedup, dedup_from}
 use Rattle.std.specs.Ordering.{on, then_cmp, eq_by_cmp, ordering_then, ordering_reverse}
 use Rattle.std.proofs.lemmas.Bool.{cases_Bool, cases_lt, false≢true}
-use Rattle.std.proofs.lemmas.Bool.Decides.{nat_tests}
 use Rattle.std.proofs.lemmas.Cmp.{then_total, on_total, nat_cmp_total}
 use Rattle.std.proofs.lemmas.List.Filters.{All-dedup}
 use Rattle.std.proofs.lemmas.List.Kept.{AllPairs-cons}
 use Rattle.std.proofs.lemmas.List.Sorted.{ranks_by, sorted_far}
+use Rattle.std.proofs.lemmas.Map.Keys.{ge_from_not_lt}
 use Rattle.pop_model.specs.Popping.{Cube}
+use Rattle.pop_model.proofs.Members.{pairs_tail}
 use Rattle.pop_instance.specs.Cubes.{cube_cmp, cube_total}
 use Rattle.pop_instance.proofs.Order.{cube_ties, cube_ties_itself, cube_eq}
 
@@ -42,15 +43,11 @@ sorted_in_turn rows sorted i j d less inside =
 not_less : (o : Ordering) → is_lt (ordering_then Equal o) ≡ false → is_lt o ≡ false
 not_less o h = h
 
--- a number that isn't less than another is at least as great
-number_le : (m n : ℕ) → is_lt (nat_cmp n m) ≡ false → m ≤ n
-number_le m n h = grind (arith, nat_tests)
-
 -- of one cube the one in front has no greater number
 pub in_turn_number : (r q : ℕ × Cube) → InTurn r q → r.1 ≡ q.1 → r.0 ≤ q.0
 in_turn_number r q turn same =
     let ties : cube_cmp q.1 r.1 ≡ Equal = ap (cube_cmp q.1) same ∙ cube_ties_itself q.1 in
-    number_le r.0 q.0 (sym (ap (λ o. is_lt (ordering_then o (nat_cmp q.0 r.0))) ties) ∙ turn)
+    ge_from_not_lt q.0 r.0 (sym (ap (λ o. is_lt (ordering_then o (nat_cmp q.0 r.0))) ties) ∙ turn)
 
 -- a row that isn't to stand before another has no lesser cube
 cube_not_less : (o p : Ordering) → is_lt (ordering_then o p) ≡ false → o ≡ Less → ⊥
@@ -93,10 +90,6 @@ module _ {X : Type 0} (x : X) (xs : List X) where
 pub record IsFirst (rows : List (ℕ × Cube)) (r : ℕ × Cube) : Type 0 where
   pub there : Contains rows r
   pub least : (m : ℕ) → m < r.0 → Contains rows (m, r.1) → ⊥
-
--- what holds of any two members holds of any two behind the first
-pairs_rest : {X : Type 0} (R : X → X → Type 0) (x : X) (xs : List X) → AllPairs R (x ∷ xs) → AllPairs R xs
-pairs_rest R x xs all i j d less inside = all (suc i) (suc j) d (omega arith) (omega arith)
 
 -- and of any two without the second
 pairs_skip : {X : Type 0} (R : X → X → Type 0) (x y : X) (xs : List X) → AllPairs R (x ∷ y ∷ xs)
@@ -166,7 +159,7 @@ kept_is_first k (x ∷ rows) turns r has = elim (cases_Bool (same_cube x k)) [
           ];
         }
         | inr later ↦
-            let first = kept_is_first x rows (pairs_rest InTurn k (x ∷ rows) turns) r later in
+            let first = kept_is_first x rows (pairs_tail InTurn k (x ∷ rows) turns) r later in
             record {
               there = contains_later k (x ∷ rows) r first.there;
               least = λ m less again. elim (contains_cases k (x ∷ rows) (m, r.1) again) [
@@ -184,7 +177,7 @@ kept_is_first k (x ∷ rows) turns r has = elim (cases_Bool (same_cube x k)) [
         let next = in_turn_first k (x ∷ rows) turns x (contains_first x rows x refl) in
         let same : x.1 ≡ k.1 = elim (contains_cases x rows r there) [
           | inl is ↦ ap (λ (q : ℕ × Cube). q.1) is ∙ sym cube
-          | inr later ↦ in_turn_between k x r next (in_turn_first x rows (pairs_rest InTurn k (x ∷ rows) turns) r later) cube
+          | inr later ↦ in_turn_between k x r next (in_turn_first x rows (pairs_tail InTurn k (x ∷ rows) turns) r later) cube
         ] in
         false≢true (sym other ∙ (cube_eq x.1 k.1).1 same)
 
@@ -215,7 +208,7 @@ first_is_kept k (x ∷ rows) turns r first = elim (cases_Bool (same_cube x k)) [
         | inr behind ↦
             let inner : IsFirst (x ∷ rows) r =
             record { there = behind; least = λ m less again. first.least m less (contains_later k (x ∷ rows) (m, r.1) again) } in
-            contains_later k (kept_from x rows) r (first_is_kept x rows (pairs_rest InTurn k (x ∷ rows) turns) r inner)
+            contains_later k (kept_from x rows) r (first_is_kept x rows (pairs_tail InTurn k (x ∷ rows) turns) r inner)
       ] in
       subst (λ b. Contains (cond b (kept_from k rows) (k ∷ kept_from x rows)) r) (sym other) kept
 ]
@@ -252,7 +245,7 @@ pairs_kept_from R k (x ∷ rows) all = elim (cases_Bool (same_cube x k)) [
       let first : All (R k) (x ∷ rows) = λ i d inside. all 0 (suc i) d (omega arith) (omega arith) in
       subst (λ b. AllPairs R (cond b (kept_from k rows) (k ∷ kept_from x rows))) (sym other)
       (AllPairs-cons R k (kept_from x rows) (All-dedup same_cube (R k) (x ∷ rows) first)
-      (pairs_kept_from R x rows (pairs_rest R k (x ∷ rows) all)))
+      (pairs_kept_from R x rows (pairs_tail R k (x ∷ rows) all)))
 ]
 
 -- what holds of any two rows holds of any two first ones of their cubes

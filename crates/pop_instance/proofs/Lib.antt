@@ -18,5 +18,7 @@ mod Tallies
 mod PutRows
 mod FilledRows
 mod Naming
+-- Listed events: numbers that rise, and rows of an index
+pub mod ListedEvents
 -- Values: those of the first variables, as they become more
 mod FirstValuesLemmas

@@ -3,10 +3,12 @@ use Rattle.std.proofs.Common.{inl, inr, ◌≡◌, ℕ, ◌+◌, ◌<◌, true, 
 use Rattle.std.specs.List.Sorted.{IsStrictlyIncreasing}
 use Rattle.std.proofs.lemmas.Bool.{cases_eq}
 use Rattle.std.proofs.lemmas.List.{length-set, get_or-set_same, get_or-set_other, take_all}
+use Rattle.std.proofs.Math.Bool.{or-false}
 use Rattle.pop_model.specs.Popping.{Cube, names, variables}
+use Rattle.pop_model.proofs.Members.{names_more}
 use Rattle.pop_rows.specs.FlatRows.{row_at, push_at}
 use Rattle.pop_instance.specs.Index.{IsPut}
-use Rattle.pop_instance.proofs.Raising.{unnamed_before, names_more, or_false}
+use Rattle.pop_instance.proofs.Raising.{unnamed_before}
 
 -- no pair
 pub put_none : (place : ℕ) (rows : List (List ℕ)) → IsPut [] place rows rows
@@ -44,7 +46,7 @@ put_more e i p place old rows rising at below put =
                 let named : names (take (i + 1) e) v ≡ names (take i e) v =
                 names_more e i v p at
                 ∙ ap (λ b. names (take i e) v || b) (ne_eqb p.0 v (λ is. other (sym is)))
-                ∙ or_false (names (take i e) v) in
+                ∙ or-false (names (take i e) v) in
                 get_or-set_other rows p.0 v row [] other ∙ put.each v within
                 ∙ ap (λ b. cond b (Row (row_at old v)) (row_at old v)) (sym named)
           ];

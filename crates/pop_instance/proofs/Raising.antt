@@ -1,14 +1,15 @@
 -- Popping a rising cube pair by pair.
-use Rattle.std.proofs.Common.{inl, inr, ◌≡◌, ℕ, ◌+◌, ◌<◌, Bool, true, false, cond, ◌||◌, ◌==◌, List, [], length, get_or, take, set, Some, slice_get, slice_index, refl, sym, ap, subst, ◌∙◌, arith, ext_get_or, get_or-take, get_or-set_same, get_or-set_other, length-take, length-set, ne_eqb, eq-eqb}
+use Rattle.std.proofs.Common.{inl, inr, ◌≡◌, ℕ, ◌+◌, ◌<◌, false, cond, ◌||◌, ◌==◌, List, [], length, get_or, take, set, Some, slice_get, slice_index, refl, sym, ap, subst, ◌∙◌, arith, ext_get_or, get_or-take, get_or-set_same, get_or-set_other, length-take, length-set, ne_eqb, eq-eqb}
 use Rattle.std.specs.List.Sorted.{IsStrictlyIncreasing}
 use Rattle.std.proofs.lemmas.List.{length-map, get_or_default}
 use Rattle.std.proofs.lemmas.List.Kept.{AllPairs-from_increasing}
-use Rattle.std.proofs.lemmas.List.Folds.{list_any_none, list_any_more}
+use Rattle.std.proofs.lemmas.List.Folds.{list_any_none}
 use Rattle.std.proofs.lemmas.Option.{get_or_from_slice_get, slice_get_within}
 use Rattle.std.proofs.lemmas.Bool.{cases_eq}
+use Rattle.std.proofs.Math.Bool.{or-false}
 use Rattle.pop_model.specs.Popping.{Cube, cursor, names, pop, variables}
 use Rattle.pop_model.proofs.PopLemmas.{length-pop, cursor-pop, cursor-pop_other}
-use Rattle.pop_model.proofs.Members.{variable_at}
+use Rattle.pop_model.proofs.Members.{variable_at, names_more}
 
 -- a variable of a rising cube isn't named before its place
 pub unnamed_before : (e : Cube) (i : ℕ) (x : ℕ × ℕ) → IsStrictlyIncreasing (variables e) → slice_get e i ≡ Some x
@@ -29,22 +30,10 @@ unnamed_before e i x rising at =
     ∙ sym (variable_at e k within) in
     ne_eqb (get_or (take i e) k d).0 x.0 (λ equal. absurd (omega arith)))
 
--- one pair more names its variable
-pub names_more : (e : Cube) (i v : ℕ) (x : ℕ × ℕ) → slice_get e i ≡ Some x
-    → names (take (i + 1) e) v ≡ (names (take i e) v || (x.0 == v))
-names_more e i v x at =
-    list_any_more (λ (p : ℕ × ℕ). p.0 == v) e i x (slice_get_within e i x at)
-    ∙ ap (λ (p : ℕ × ℕ). names (take i e) v || (p.0 == v)) (get_or_from_slice_get e i x x at)
-
 -- the cursor of a variable before its pair is popped
 pub cursor_before : (c : List ℕ) (e : Cube) (i : ℕ) (x : ℕ × ℕ) → IsStrictlyIncreasing (variables e)
     → slice_get e i ≡ Some x → cursor (pop c (take i e)) x.0 ≡ cursor c x.0
 cursor_before c e i x rising at = cursor-pop_other c (take i e) x.0 (unnamed_before e i x rising at)
-
--- a test or `false` is the test
-pub or_false : (b : Bool) → (b || false) ≡ b
-or_false true = refl
-or_false false = refl
 
 -- one pair more
 pub pop_more : (c : List ℕ) (e : Cube) (i : ℕ) (x : ℕ × ℕ) → IsStrictlyIncreasing (variables e)
@@ -73,7 +62,7 @@ pop_more c e i x rising at below =
           get_or-set_other done x.0 v (cursor done x.0 + 1) 0 other ∙ cursor-pop c (take i e) v within
           ∙ sym (right ∙ ap (λ b. cond (names (take i e) v || b) (cursor c v + 1) (cursor c v))
           (ne_eqb x.0 v (λ h'. other (sym h')))
-          ∙ ap (λ b. cond b (cursor c v + 1) (cursor c v)) (or_false (names (take i e) v)))
+          ∙ ap (λ b. cond b (cursor c v + 1) (cursor c v)) (or-false (names (take i e) v)))
     ])
 
 -- nothing popped

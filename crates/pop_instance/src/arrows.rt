@@ -1,4 +1,4 @@
-ghost use Rattle.std.specs.Prelude.{◌≡◌, ◌<◌, ◌^◌, ◌↔◌, [], ◌∷◌, length, slice_index_or, All, IsTrue, IfSome, IfOk, MatchOption};
+ghost use Rattle.std.specs.Prelude.{◌≡◌, ◌<◌, ◌^◌, ◌↔◌, [], length, slice_index_or, All, IsTrue, IfSome, IfOk, MatchOption};
 ghost use Rattle.pop_model.specs.Cycles.{AreArrows, head_of};
 ghost use Rattle.pop_instance.specs.Arrows.{
   heads_of,

@@ -2,7 +2,8 @@
 -- are the same, since each is a member of the other list and neither is less than the other, and so are the tails.
 use Rattle.std.proofs.Common.{inl, inr, ◌≡◌, List, [], ◌∷◌, refl, sym, ap₂, subst, ◌∙◌, arith, Contains, AllPairs}
 use Rattle.pop_model.proofs.Rising.{member_cases, head_member, tail_member, AreMembers}
-use Rattle.pop_log.proofs.Reordering.{pairs_head, pairs_tail}
+use Rattle.pop_model.proofs.Members.{pairs_tail}
+use Rattle.pop_log.proofs.Reordering.{pairs_head}
 
 -- of two one alone is less than the other
 abbrev pub IsOneWay : {X : Type 0} → (X → X → Type 0) → Type 0

@@ -7,6 +7,7 @@ use Rattle.pop_model.specs.Instances.{Instance}
 use Rattle.pop_model.specs.Extremal.{IsExtremal}
 use Rattle.pop_model.specs.Logs.{LogRecord, IsLegal, replay}
 use Rattle.pop_model.proofs.Rising.{member_cases, head_member, tail_member, AreMembers}
+use Rattle.pop_model.proofs.FirstRun.{legal_event}
 use Rattle.confluence_core.specs.Laws.{RunsToEnd}
 use Rattle.pop_log.specs.Layers.{Depend, Placed}
 use Rattle.pop_log.specs.Layered.{AreSorted, IsLayered, ArePlaced, ComesBefore, AreInLayers}
@@ -14,7 +15,7 @@ use Rattle.pop_log.proofs.LayersLemmas.{layers_agree}
 use Rattle.pop_log.proofs.Reordering.{IsReordered, keeps, reordered_map, pairs_across}
 use Rattle.pop_log.proofs.InOrder.{same_in_order}
 use Rattle.pop_log.proofs.OneTrace.{one_trace}
-use Rattle.pop_log.proofs.UnitEvents.{HaveCubes, self_share, unit_share, legal_event}
+use Rattle.pop_log.proofs.UnitEvents.{HaveCubes, self_share, unit_share}
 use Rattle.pop_log.proofs.Exchanges.{legal_reordered, replay_reordered, placed_kept, PlacedBehind, IsPlacedAs, placed_reordered}
 use Rattle.pop_log.proofs.LayeredLemmas.{PlacedDepend, zip_records, zip_placed, sorted_there, sorted_back, sorted_moved, strictly}
 

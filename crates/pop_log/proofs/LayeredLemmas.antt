@@ -10,7 +10,8 @@ use Rattle.std.proofs.lemmas.Bool.{cases_lt, and_parts, and_from, false_from_ne_
 use Rattle.std.proofs.lemmas.Cmp.{then_total, on_total, nat_cmp_total, ranked, by_ranked}
 use Rattle.std.proofs.lemmas.List.Elements.{Contains-get_or, Contains-push, Contains-append_left}
 use Rattle.std.proofs.lemmas.List.Sorted.{ranks_by, sorted_far, Contains-permutation, IsPermutation-sym}
-use Rattle.std.proofs.lemmas.Map.Keys.{IsDistinct-from_apart, IsDistinct-IsPermutation, apart_from_distinct}
+use Rattle.std.proofs.lemmas.Map.Keys.{IsDistinct-from_apart, IsDistinct-IsPermutation, apart_from_distinct, ge_from_not_lt}
+use Rattle.std.specs.Cmp.Derive.{one_truth}
 use Rattle.pop_model.specs.Logs.{LogRecord}
 use Rattle.pop_model.proofs.Sharing.{share, share_from, share_to, Share-sym}
 use Rattle.pop_model.proofs.Rising.{member_cases, AreMembers}
@@ -95,15 +96,9 @@ shares_back p q test =
     (share_to q.0.event.cube p.0.event.cube
     (Share-sym p.0.event.cube q.0.event.cube (share_from p.0.event.cube q.0.event.cube parts.1)))
 
--- two tests that follow from one another are the same
-same_tests : (a b : Bool) → (a ≡ true → b ≡ true) → (b ≡ true → a ≡ true) → a ≡ b
-same_tests true b there back = sym (there refl)
-same_tests false true there back = back refl
-same_tests false false there back = refl
-
 -- so the test of a pair is that of the pair the other way round
 shares_flips : (p q : Placed) → level_shares p q ≡ level_shares q p
-shares_flips p q = same_tests (level_shares p q) (level_shares q p) (shares_back p q) (shares_back q p)
+shares_flips p q = one_truth (level_shares p q) (level_shares q p) (shares_back p q) (shares_back q p)
 
 -- those of one layer share no variable
 no_level_shares : (log : List LogRecord) (ys : List ℕ) → AreLayers log ys → IsDistinct level_shares (zip log ys)
@@ -123,18 +118,12 @@ placed_total = then_total (on_total (λ (p : Placed). p.1) nat_cmp_total)
     (on_total (λ (p : Placed). p.0.event.unit) nat_cmp_total)
 
 -- whose less is a strict weak one
-placed_order : IsStrictWeakOrder (λ (p q : Placed). is_lt (placed_cmp p q))
+pub placed_order : IsStrictWeakOrder (λ (p q : Placed). is_lt (placed_cmp p q))
 placed_order = ranks_by placed_total (λ (p : Placed). p)
 
 -- the layer is greater, or it is the same and the unit isn't less
 abbrev NotBehind : Placed → Placed → Type 0
 NotBehind p q = (p.1 < q.1) ⊎ ((p.1 ≡ q.1) × (p.0.event.unit ≤ q.0.event.unit))
-
--- a number that isn't less than another
-not_less : (m n : ℕ) → is_lt (nat_cmp m n) ≡ false → n ≤ m
-not_less m n test =
-    by_ranked (m < n) (m ≡ n) (n < m) (nat_cmp m n) (ranked m n (nat_cmp m n) refl)
-    (λ is less. absurd (true≢false (sym (ap is_lt is) ∙ test))) (λ is same. omega (arith, same)) (λ is more. omega (arith, more))
 
 -- a record of which none comes before another isn't behind it
 not_behind : (p q : Placed) → is_lt (placed_cmp q p) ≡ false → NotBehind p q
@@ -143,7 +132,10 @@ not_behind p q test =
     by_ranked (q.1 < p.1) (q.1 ≡ p.1) (p.1 < q.1) (nat_cmp q.1 p.1) (ranked q.1 p.1 (nat_cmp q.1 p.1) refl)
     (λ is less. absurd (true≢false (sym (ap (λ o. is_lt (ordering_then o units)) is) ∙ test)))
     (λ is same.
-    inr (sym same, not_less q.0.event.unit p.0.event.unit (sym (ap (λ o. is_lt (ordering_then o units)) is) ∙ test)))
+    inr (
+      sym same,
+      ge_from_not_lt q.0.event.unit p.0.event.unit (sym (ap (λ o. is_lt (ordering_then o units)) is) ∙ test),
+    ))
     (λ is more. inl more)
 
 -- the records of the log with their layers, sorted

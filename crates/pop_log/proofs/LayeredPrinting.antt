@@ -7,6 +7,7 @@ use Rattle.pop_model.specs.Popping.{NamesBelow}
 use Rattle.pop_model.specs.Families.{Family}
 use Rattle.pop_model.specs.Instances.{Instance, IsInstance}
 use Rattle.pop_model.specs.Logs.{LogRecord, IsLegal}
+use Rattle.pop_model.proofs.FirstRun.{legal_event}
 use Rattle.pop_log.specs.declared.names.Names.{Names}
 use Rattle.pop_log.specs.declared.placed_record.PlacedRecord.{PlacedRecord}
 use Rattle.pop_log.specs.PlacedRecords.{placed_of}
@@ -15,7 +16,6 @@ use Rattle.pop_log.specs.LayeredTexts.{layered_head, layered_line, written, plac
 use Rattle.pop_log.specs.Printable.{IsPrintable}
 use Rattle.confluence_core.proofs.EventVariables.{event_below}
 use Rattle.pop_log.proofs.PrintableLemmas.{log_printable}
-use Rattle.pop_log.proofs.UnitEvents.{legal_event}
 
 -- each record names variables of the instance
 pub records_below : (i : Instance) → IsInstance i → (c : List ℕ) (log : List LogRecord) → IsLegal i c log

@@ -1,6 +1,5 @@
--- Fronts of lists, and tests
+-- Fronts of lists
 pub mod Fronts
-pub mod NumberTests
 -- Logs: merged from tickets, replayed. UnitEvents: events of one unit share a variable.
 pub mod SortedTickets
 pub mod ReplaysLemmas

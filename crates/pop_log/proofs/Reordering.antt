@@ -6,6 +6,7 @@ use Rattle.std.proofs.Common.{inl, inr, ◌≡◌, zero, suc, List, [], ◌∷�
 use Rattle.std.proofs.lemmas.List.{map-append}
 use Rattle.std.proofs.lemmas.List.Elements.{Contains-append_left, Contains-append_right, Contains-append_cases, Contains-get_or}
 use Rattle.pop_model.proofs.Rising.{member_cases, head_member, tail_member, AreMembers}
+use Rattle.pop_model.proofs.Members.{pairs_tail}
 
 -- the other list comes from the first by exchanges of neighbours that don't depend on one another
 pub data IsReordered {X : Type 0} (Depend : X → X → Type 0) : List X → List X → Type 0 where
@@ -83,10 +84,6 @@ pub pairs_head : {X : Type 0} (R : X → X → Type 0) (x : X) (xs : List X) →
     → Contains xs y → R x y
 pairs_head R x xs all y (k, within, is) =
     subst (R x) is (all 0 (suc k) y (omega arith) (omega (arith, within)))
-
--- it holds of all pairs of the tail
-pub pairs_tail : {X : Type 0} (R : X → X → Type 0) (x : X) (xs : List X) → AllPairs R (x ∷ xs) → AllPairs R xs
-pairs_tail R x xs all i j d before within = all (suc i) (suc j) d (omega arith) (omega arith)
 
 -- and of all pairs where it holds of these two
 pub pairs_cons : {X : Type 0} (R : X → X → Type 0) (x : X) (xs : List X) → ((y : X) → Contains xs y → R x y)

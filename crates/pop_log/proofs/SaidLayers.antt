@@ -5,6 +5,7 @@ use Rattle.std.proofs.Common.{◌≡◌, ◌≢◌, ◌↔◌, ℕ, zero, suc, �
 use Rattle.std.proofs.lemmas.List.{take-append-drop, drop_more, length-take-le, append-nil, same_from_push}
 use Rattle.std.proofs.lemmas.Option.{same_Some, slice_get_within, get_or_from_slice_get, slice_get-get_or}
 use Rattle.pop_model.specs.Logs.{LogRecord}
+use Rattle.pop_model.proofs.Members.{read_at}
 use Rattle.pop_log.specs.Layers.{Placed, IsLayer, LayersBehind, AreLayers}
 use Rattle.pop_log.specs.Layered.{ComesBefore, FollowsInLayers, AreInLayers, FollowsAt, IsFirstUnlayered}
 use Rattle.pop_log.proofs.Fronts.{take_push}
@@ -157,12 +158,6 @@ follows_is log said (suc k) q r some same at at' =
       λ f. f (q, get_or said k 0) (r, get_or said (suc k) 0) one two,
     ) in
     subst (λ n. ComesBefore (q, get_or said n 0) (r, get_or said (suc k) 0) ↔ FollowsAt (zip log said) (suc k)) (sym before) both
-
--- a member at a place
-read_at : {X : Type 0} (xs : List X) (i : ℕ) → i < length xs → (x : X) × (slice_get xs i ≡ Some x)
-read_at [] i within = absurd (omega (arith, within))
-read_at (x ∷ xs) zero within = (x, refl)
-read_at (x ∷ xs) (suc i) within = read_at xs i (omega (arith, within))
 
 -- the turns of the check
 module _ (log : List LogRecord) (ys said : List ℕ) (i : ℕ) (to : IsLayeredTo log ys said i) (within : i < length log)

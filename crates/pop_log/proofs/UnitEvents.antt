@@ -1,18 +1,14 @@
--- The events of a family under their units: two events of one unit share a variable. A legal log has events of the
--- family alone.
-use Rattle.std.proofs.Common.{inl, inr, ◌≡◌, ℕ, List, [], ◌∷◌, get_or, slice_get, sym, ap, subst, ◌∙◌, arith, Contains}
+-- The events of a family under their units: two events of one unit share a variable.
+use Rattle.std.proofs.Common.{◌≡◌, ℕ, [], get_or, slice_get, sym, ap, subst, ◌∙◌, Contains}
 use Rattle.std.proofs.lemmas.List.Elements.{Contains-get_or}
 use Rattle.std.proofs.lemmas.Option.{same_Some}
-use Rattle.pop_model.specs.Popping.{Cube, IsCube, pop}
+use Rattle.pop_model.specs.Popping.{Cube, IsCube}
 use Rattle.pop_model.specs.Cycles.{first_of}
 use Rattle.pop_model.specs.Families.{Event, Family, IsEvent, IsFamily}
 use Rattle.pop_model.specs.Families.Family.{Listed, Cycles}
 use Rattle.pop_model.specs.Extremal.{Share}
-use Rattle.pop_model.specs.Instances.{Instance}
-use Rattle.pop_model.specs.Logs.{LogRecord, IsLegal}
 use Rattle.pop_model.proofs.Diamond.{named}
 use Rattle.pop_model.proofs.CycleFamily.{first_named}
-use Rattle.pop_model.proofs.Rising.{member_cases}
 use Rattle.confluence_core.proofs.EventVariables.{event_cube}
 
 -- the events of the family have cubes
@@ -43,12 +39,3 @@ unit_share (Cycles heads) cubes e f is is' same =
     let here = named e.cube (first_of e.cube) (first_named e.cube is.0.cube) in
     let there = named f.cube (first_of f.cube) (first_named f.cube is'.0.cube) in
     (first_of e.cube, here.0, there.0, here.1, subst (λ v. Contains f.cube (v, there.0)) first there.1)
-
--- the events of a legal log are those of the family
-pub legal_event : (i : Instance) (c : List ℕ) (log : List LogRecord) → IsLegal i c log → (r : LogRecord)
-    → Contains log r → IsEvent i.family r.event
-legal_event i c [] legal r (k, within, at) = absurd (omega (arith, within))
-legal_event i c (q ∷ log) legal r among = elim (member_cases q log r among) [
-  | inl is ↦ subst (λ (x : LogRecord). IsEvent i.family x.event) is legal.0.event
-  | inr later ↦ legal_event i (pop c q.event.cube) log legal.1 r later
-]

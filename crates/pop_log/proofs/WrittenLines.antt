@@ -21,6 +21,7 @@ use Rattle.pop_log.proofs.LogTextsLemmas.{decimal_digits, pairs_text}
 use Rattle.pop_log.proofs.ReadRecords.{may_fits, words_once}
 use Rattle.pop_log.proofs.RecordWordsLemmas.{line_has_words, words_agree}
 use Rattle.pop_log.proofs.HeadLines.{heads_once}
+use Rattle.pop_log.proofs.ReadingLemmas.{line_some}
 
 -- a byte that ends no line
 abbrev IsOther : ℕ → Type 0
@@ -118,11 +119,6 @@ head_lines Layered n t small =
     first_line_is (codes "log 2 " ++ decimal n) t
     (each_append IsOther (codes "log 2 ") (decimal n) (front_other 50 (λ h. omega (arith, h)))
     (digits_other (decimal n) (decimal_digits n small)))
-
--- a record's line has bytes
-line_some : (version : LogVersion) (w : Written) → 0 < length (line_of version w)
-line_some Ordered w = omega arith
-line_some Layered w = omega arith
 
 -- there are no more records than bytes in their lines
 records_few : (version : LogVersion) (ws : List Written) → length ws ≤ length (flat_map (line_of version) ws)

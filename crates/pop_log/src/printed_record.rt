@@ -1,4 +1,4 @@
-ghost use Rattle.std.specs.Prelude.{◌≡◌, ◌<◌, ◌≤◌, ◌^◌, ◌++◌, ℕ, List, length, map, decimal, IfOk, IsTrue, MatchOption, ◌↔◌, ◌∷◌, []};
+ghost use Rattle.std.specs.Prelude.{◌≡◌, ◌<◌, ℕ, List, IfOk, IsTrue, MatchOption, ◌↔◌, ◌∷◌, []};
 ghost use Rattle.pop_log.specs.Printed.{Printed, words_line};
 ghost use Rattle.pop_log.specs.PrintedWords.{BeginsWithPair, FitsWords};
 

@@ -3,6 +3,7 @@
 use Rattle.std.proofs.Common.{inl, inr, ◌≡◌, ◌⊎◌, ℕ, zero, suc, ◌+◌, ◌<◌, ◌≤◌, List, [], ◌∷◌, length, refl, sym, ap, subst, ◌∙◌, arith, Contains, All}
 use Rattle.std.proofs.lemmas.Bool.{cases_eq, cases_lt}
 use Rattle.std.proofs.lemmas.List.Sorted.{Contains-permutation, IsPermutation-sym}
+use Rattle.std.proofs.lemmas.List.Elements.{All-cons}
 use Rattle.pop_model.specs.Stacks.{StackTable, value_at, height_of}
 use Rattle.pop_model.specs.Popping.{Cube, IsPoppable, cursor, pop}
 use Rattle.pop_model.specs.Families.{IsEvent}
@@ -11,11 +12,6 @@ use Rattle.pop_model.specs.Extremal.{IsExtremal}
 use Rattle.pop_model.specs.Logs.{LogRecord, IsLegalAt, IsLegal, replay}
 use Rattle.pop_model.specs.Runs.{IsEnd, IsFirstPoppable, IsFirstRun}
 use Rattle.pop_model.proofs.UniqueEnd.{record_of, pops_first}
-
--- what holds of the first pair and of the others holds of all
-pub all_cons : (P : ℕ × ℕ → Type 0) (p : ℕ × ℕ) (e : Cube) → P p → All P e → All P (p ∷ e)
-all_cons P p e here rest zero d h = here
-all_cons P p e here rest (suc k) d h = rest k d (omega (arith, h))
 
 -- a number is less than another or not
 pub less_or_not : (m n : ℕ) → (m < n) ⊎ (m < n → ⊥)
@@ -28,7 +24,7 @@ all_or_not P each (p ∷ e) = elim (each p) [
   | inr not ↦ inr (λ all. not (all 0 p (omega arith)))
   | inl here ↦ elim (all_or_not P each e) [
     | inr not ↦ inr (λ all. not (λ k d h. all (suc k) d (omega (arith, h))))
-    | inl rest ↦ inl (all_cons P p e here rest)
+    | inl rest ↦ inl (All-cons P p e here rest)
   ]
 ]
 
@@ -99,8 +95,8 @@ least_in i c (r ∷ log) = elim (poppable_or_not i.stacks c r.event.cube) [
 ]
 
 -- the records of a legal log have events of the family
-legal_event : (i : Instance) (c : List ℕ) (log : List LogRecord) → IsLegal i c log → (q : LogRecord) → Contains log q
-    → IsEvent i.family q.event
+pub legal_event : (i : Instance) (c : List ℕ) (log : List LogRecord) → IsLegal i c log → (q : LogRecord)
+    → Contains log q → IsEvent i.family q.event
 legal_event i c [] legal q h = absurd (omega (arith, h.1))
 legal_event i c (r ∷ log) legal q h =
     member r log (λ x. IsEvent i.family x.event) legal.0.event (legal_event i (pop c r.event.cube) log legal.1) q h

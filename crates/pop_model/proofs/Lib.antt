@@ -17,6 +17,7 @@ pub mod MadeCycles
 pub mod TreeEnd
 -- Lists, cubes and languages
 pub mod Members
+pub mod Leasts
 pub mod Sharing
 pub mod Rising
 pub mod LanguagesLemmas

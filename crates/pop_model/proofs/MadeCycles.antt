@@ -3,8 +3,8 @@
 use Rattle.std.proofs.Common.{inl, inr, ◌≡◌, ℕ, zero, suc, ◌+◌, ◌-◌, ◌<◌, ◌≤◌, true, List, length, get_or, Option, Some, refl, sym, ap, subst, ◌∙◌, arith}
 use Rattle.std.proofs.lemmas.Bool.{cases_lt}
 use Rattle.std.proofs.lemmas.List.Elements.{Contains-get_or}
-use Rattle.pop_model.specs.Stacks.{StackTable, value_at}
-use Rattle.pop_model.specs.Popping.{Cube, IsCube, Occurs, cursor, names}
+use Rattle.pop_model.specs.Stacks.{StackTable}
+use Rattle.pop_model.specs.Popping.{Cube, IsCube, Occurs, names, current}
 use Rattle.pop_model.specs.Cycles.{IsCycle, head_of, follow, demand, arrow_in, first_of}
 use Rattle.pop_model.proofs.Following.{follow_more, follow_next, named_demand, rising_demand}
 use Rattle.pop_model.proofs.CycleFamily.{Heads, arrow_demands, first_named}
@@ -111,16 +111,12 @@ loop_is_cycle heads slot at i m is =
     let sum : i + (other.place - i) ≡ other.place = omega (arith, other.from) in
     (other.place - i, omega (arith, other.below), ap at sum ∙ other.is))
 
--- it occurs where the slots are the current ones
-abbrev pub slot_at : StackTable → List ℕ → ℕ → ℕ
-slot_at s c v = value_at s v (cursor c v)
-
 -- a loop of current slots occurs
 pub loop_occurs : (s : StackTable) (c : List ℕ) (at : ℕ → ℕ) (i n : ℕ) → Distinct at i n
-    → Occurs s c (loop_cube (slot_at s c) at i n)
+    → Occurs s c (loop_cube (current s c) at i n)
 loop_occurs s c at i n d k p below =
-    let e = loop_cube (slot_at s c) at i n in
+    let e = loop_cube (current s c) at i n in
     let pair : ℕ × ℕ = get_or e k p in
     let demands : demand e pair.0 ≡ Some pair.1 =
-    rising_demand e pair.0 pair.1 (ascends_rises e (loop_ascends (slot_at s c) at i n d)) (Contains-get_or e k p below) in
-    sym (loop_only (slot_at s c) at i n d pair.0 pair.1 demands).value
+    rising_demand e pair.0 pair.1 (ascends_rises e (loop_ascends (current s c) at i n d)) (Contains-get_or e k p below) in
+    sym (loop_only (current s c) at i n d pair.0 pair.1 demands).value

@@ -1,6 +1,6 @@
 -- A list that rises strictly by a key is determined by its members: the heads of two such lists with the same members
 -- are the same, since each is a member of the other list and neither is below the other, and so are the tails.
-use Rattle.std.proofs.Common.{inl, inr, ◌≡◌, ◌⊎◌, ℕ, zero, suc, ◌+◌, ◌<◌, List, [], ◌∷◌, length, map, refl, sym, ap, ap₂, subst, ◌∙◌, arith, Contains, slice_index}
+use Rattle.std.proofs.Common.{inl, inr, ◌≡◌, ◌⊎◌, ℕ, zero, suc, ◌+◌, ◌<◌, List, [], ◌∷◌, length, map, refl, sym, ap, ap₂, subst, ◌∙◌, arith, Contains, slice_index, get_or}
 use Rattle.std.specs.List.Sorted.{IsStrictlyIncreasing}
 use Rattle.std.proofs.lemmas.List.{length-map, get_or-map}
 use Rattle.std.proofs.lemmas.List.Kept.{AllPairs-from_increasing}
@@ -13,6 +13,15 @@ member_cases x xs y (suc k, within, same) = inr (k, omega (arith, within), same)
 -- the head is a member
 pub head_member : {X : Type 0} → (x : X) (xs : List X) → Contains (x ∷ xs) x
 head_member x xs = (zero, omega arith, refl)
+
+-- an empty list has no member
+pub none_in : {X : Type 0} → (x : X) → Contains [] x → ⊥
+none_in x (k, within, same) = omega (arith, within)
+
+-- the member of a list of one
+pub only_member : {X : Type 0} → (x y : X) → Contains (x ∷ []) y → x ≡ y
+only_member x y (k, within, same) =
+    let first : k ≡ 0 = omega (arith, within) in subst (λ n. get_or (x ∷ []) n y ≡ y) first same
 
 -- a member of the tail is a member
 pub tail_member : {X : Type 0} → (x : X) (xs : List X) (y : X) → Contains xs y → Contains (x ∷ xs) y

@@ -13,13 +13,12 @@ left_from s v [] = 0
 left_from s v (k ∷ c) = height_of s v - k + left_from s (suc v) c
 
 -- the lists have one length, and each number of c is at most that of d
-pub Below : List ℕ → List ℕ → Type 0
+abbrev pub Below : List ℕ → List ℕ → Type 0
 Below c d = (w : ℕ) → w < length c → get_or c w 0 ≤ get_or d w 0
 
 -- cursors that are no less leave no more room
 pub left_falls : (s : StackTable) (v : ℕ) (c d : List ℕ) → length c ≡ length d → Below c d
     → left_from s v d ≤ left_from s v c
-unfolding Below
 left_falls s v [] [] e h = omega arith
 left_falls s v [] (y ∷ d) e h = absurd (omega arith)
 left_falls s v (x ∷ c) [] e h = absurd (omega arith)
@@ -32,7 +31,6 @@ left_falls s v (x ∷ c) (y ∷ d) e h =
 -- and there is less room where one of them is greater
 pub left_falls_more : (s : StackTable) (v : ℕ) (c d : List ℕ) (at : ℕ) → length c ≡ length d → Below c d → at < length c
     → get_or c at 0 < get_or d at 0 → get_or c at 0 < height_of s (v + at) → left_from s v d < left_from s v c
-unfolding Below
 left_falls_more s v [] d at e h within more room = absurd (omega arith)
 left_falls_more s v (x ∷ c) [] at e h within more room = absurd (omega arith)
 left_falls_more s v (x ∷ c) (y ∷ d) zero e h within more room =
@@ -65,7 +63,6 @@ not_lowered c e w below = elim (cases_Bool (names e w)) [
 -- a pop takes from the room
 pub room_falls : (s : StackTable) (c : List ℕ) (e : Cube) → IsCube e → NamesBelow e (length c) → HasNext s c e
     → left_from s 0 (pop c e) < left_from s 0 c
-unfolding Below
 room_falls s c e cube below next =
     let p : ℕ × ℕ = get_or e 0 (0, 0) in
     let is : names e p.0 ≡ true = names_it e p (Contains-get_or e 0 (0, 0) cube.some) in

@@ -7,7 +7,7 @@ use Rattle.std.proofs.lemmas.Option.{none-some, same_Some}
 use Rattle.std.proofs.lemmas.List.{get_or_past}
 use Rattle.std.proofs.lemmas.List.Elements.{All-contains}
 use Rattle.pop_model.specs.Stacks.{StackTable, value_at}
-use Rattle.pop_model.specs.Popping.{Cube, Occurs, names, cursor}
+use Rattle.pop_model.specs.Popping.{Cube, Occurs, names, cursor, current}
 use Rattle.pop_model.specs.Families.{Event}
 use Rattle.pop_model.specs.Instances.{Instance}
 use Rattle.pop_model.specs.Cycles.{IsCycle, AreArrows, ReachesRoot, head_of, follow, demand, arrow_in, arrow_at, first_of}
@@ -16,7 +16,7 @@ use Rattle.pop_model.specs.Runs.{IsFinished}
 use Rattle.pop_model.proofs.Following.{cases_Option, follow_before, follow_next, follow_last, named_demand, demand_contains}
 use Rattle.pop_model.proofs.CycleFamily.{Heads, arrow_demands, first_named, stays_in, leads_on_cycle}
 use Rattle.pop_model.proofs.Loops.{loop_cube, Distinct, path_short}
-use Rattle.pop_model.proofs.MadeCycles.{IsLoop, slot_at, loop_is_cycle, loop_occurs}
+use Rattle.pop_model.proofs.MadeCycles.{IsLoop, loop_is_cycle, loop_occurs}
 
 -- what occurs demands the current values
 pub occurs_demand : (s : StackTable) (c : List ℕ) (e : Cube) (v x : ℕ) → Occurs s c e → demand e v ≡ Some x
@@ -160,13 +160,13 @@ no_long_walk s heads are c finished v w below h =
           let i = r.first in
           let m = r.again - suc i in
           let size : i + suc m ≡ r.again = omega (arith, r.order) in
-          let loop : IsLoop heads (slot_at s c) at i m = record {
+          let loop : IsLoop heads (current s c) at i m = record {
             distinct = λ a b from lt low. r.before a b (omega arith) lt (omega arith);
             leads = λ k from lt. leads k (omega (arith, r.below));
             closes = let last : suc (i + m) ≡ r.again = omega arith in leads (i + m) (omega (arith, r.below))
                 ∙ ap (λ j. Some (at j)) last ∙ ap (λ u. Some u) (sym r.same);
           } in
-          finished (event_of_cube (loop_cube (slot_at s c) at i (suc m))) (loop_is_cycle heads (slot_at s c) at i m loop, refl) (loop_occurs s c at i (suc m) loop.distinct)
+          finished (event_of_cube (loop_cube (current s c) at i (suc m))) (loop_is_cycle heads (current s c) at i m loop, refl) (loop_occurs s c at i (suc m) loop.distinct)
     ]
 
 -- No cycle occurs exactly where from each variable the arrows reach the root.

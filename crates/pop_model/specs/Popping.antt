@@ -21,6 +21,10 @@ pub record IsCube (e : Cube) : Type 0 where
 abbrev pub cursor : List ℕ → ℕ → ℕ
 cursor c v = slice_index c v
 
+-- the value that is current for a variable
+abbrev pub current : StackTable → List ℕ → ℕ → ℕ
+current s c v = value_at s v (cursor c v)
+
 -- the value of each variable at its cursor
 abbrev pub values_at : StackTable → List ℕ → List ℕ
 values_at s c = map (λ p. value_at s p.0 p.1) (enumerate_from 0 c)

@@ -4,7 +4,7 @@ pub mod EndLemmas
 -- The words of a line. NamedCubes: the names of a cube's variables. TreePlaces: the vertices of a tree's variables.
 -- SignedLiterals: the literal of a variable by its value.
 mod NamedCubes
-mod TreePlaces
+pub mod TreePlaces
 pub mod SignedLiterals
 -- The summary of a made grid. SummaryLemmas: its lines. GreatestLemmas: the greatest cursor. Degrees, SlotSums: few
 -- edges stand at the vertices, so the sum over their slots fits 64 bits.

@@ -27,7 +27,7 @@ vertex_past root v = by (ltb (v + 1) root)
     by false = omega arith
 
 -- the vertices rise with their variables
-vertex_rises : (root u v : ℕ) → u < v → vertex_of root u < vertex_of root v
+pub vertex_rises : (root u v : ℕ) → u < v → vertex_of root u < vertex_of root v
 vertex_rises root u v less = elim (cases_lt (v + 1) root) [
   | inl low ↦
       let first : vertex_of root u ≡ u + 1 =

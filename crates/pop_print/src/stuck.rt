@@ -1,7 +1,7 @@
 //! The events that occur at an end.
-ghost use Rattle.std.specs.Prelude.{◌≡◌, ◌<◌, ◌++◌, ◌^◌, length, codes, map, decimal, All, OnOk, slice_get, Some};
+ghost use Rattle.std.specs.Prelude.{◌≡◌, ◌<◌, ◌++◌, ◌^◌, map, decimal, All, OnOk};
 ghost use Rattle.pop_model.specs.Popping.{variables, NamesBelow};
-ghost use Rattle.pop_model.specs.Text.{line, spaced};
+ghost use Rattle.pop_model.specs.Text.{spaced};
 ghost use Rattle.pop_instance.specs.Family.{family_of};
 ghost use Rattle.confluence_core.specs.Stuck.{event_of};
 ghost use Rattle.pop_print.specs.Names.{name_of};

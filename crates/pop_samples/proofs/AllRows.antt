@@ -3,11 +3,11 @@
 use Rattle.std.proofs.Common.{inl, inr, ◌≡◌, ℕ, zero, suc, ◌<◌, List, [], ◌∷◌, length, map, get_or, refl, sym, ap, ap₂, subst, arith, Contains}
 use Rattle.std.proofs.lemmas.Bool.{cases_eq}
 use Rattle.pop_model.specs.Stacks.{row_of}
-use Rattle.pop_model.proofs.Rising.{member_cases, head_member, tail_member}
+use Rattle.pop_model.proofs.Rising.{member_cases, head_member, tail_member, none_in}
 use Rattle.pop_samples.specs.Frames.{AreRows, Rows}
 use Rattle.pop_samples.specs.Lists.{AreAll}
 use Rattle.pop_samples.proofs.Matching.{Differ, cons_differs}
-use Rattle.pop_samples.proofs.Conses.{Fronted, all_conses, conses, none_differ, none_in, one_alone, same_kind}
+use Rattle.pop_samples.proofs.Conses.{Fronted, all_conses, conses, none_differ, one_alone, same_kind}
 
 -- the numbers below this one
 abbrev pub numbers_below : ℕ → List ℕ

@@ -1,16 +1,12 @@
 -- Lists of all of a kind, without repetition: from all fronts and all rests, all lists of a front and a rest.
 use Rattle.std.proofs.Common.{inl, inr, ◌≡◌, ◌⊎◌, List, [], ◌∷◌, sym, subst, ◌∙◌, arith, Contains}
-use Rattle.pop_model.proofs.Rising.{member_cases, head_member, tail_member}
+use Rattle.pop_model.proofs.Rising.{member_cases, head_member, tail_member, none_in}
 use Rattle.pop_samples.specs.Lists.{AreAll}
 use Rattle.pop_samples.proofs.Matching.{Differ, cons_differs, head_differs, tail_differ}
 
 -- the empty list repeats nothing
 pub none_differ : {X : Type 0} → Differ {X = X} []
 none_differ i j d less within = absurd (omega (arith, within))
-
--- and has no member
-pub none_in : {X : Type 0} → (x : X) → Contains [] x → ⊥
-none_in x has = absurd (let h = has.1 in omega (arith, h))
 
 -- the same kind in other words
 pub same_kind : {X : Type 0} → (P Q : X → Type 0) (xs : List X) → AreAll P xs → ((x : X) → P x → Q x)

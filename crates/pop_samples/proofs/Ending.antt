@@ -4,9 +4,9 @@ use Rattle.std.proofs.Common.{inl, inr, ◌≡◌, ◌⊎◌, ℕ, zero, suc, �
 use Rattle.std.proofs.lemmas.List.Elements.{Contains-get_or}
 use Rattle.std.proofs.lemmas.Option.{same_Some}
 use Rattle.pop_model.specs.Stacks.{StackTable, variables_of}
-use Rattle.pop_model.specs.Popping.{Cube, IsCube, IsPoppable, NamesBelow, pop}
-use Rattle.pop_model.specs.Families.{Event, Family, IsEvent, IsFamily}
-use Rattle.pop_model.specs.Families.Family.{Listed, Cycles}
+use Rattle.pop_model.specs.Popping.{Cube, IsPoppable, NamesBelow, pop}
+use Rattle.pop_model.specs.Families.{Event, IsEvent, IsFamily}
+use Rattle.pop_model.specs.Families.Family.{Listed}
 use Rattle.pop_model.specs.Instances.{Instance, FamilyFits}
 use Rattle.pop_model.specs.Logs.{LogRecord, IsLegal, replay, entries_at}
 use Rattle.pop_model.specs.Runs.{IsEnd}
@@ -14,18 +14,12 @@ use Rattle.pop_model.proofs.Diamond.{names_it}
 use Rattle.pop_model.proofs.PopLemmas.{length-pop}
 use Rattle.pop_model.proofs.Room.{left_from, room_falls}
 use Rattle.pop_model.proofs.FirstRun.{poppable_or_not}
-use Rattle.pop_model.proofs.Members.{all_at}
+use Rattle.confluence_core.proofs.EventVariables.{event_cube}
 use Rattle.pop_samples.proofs.MovedLogs.{known_variable}
 
 -- some event is poppable, or none
 abbrev pub Found : Instance → List ℕ → Type 0
 Found i c = ((e : Event) × IsEvent i.family e × IsPoppable i.stacks c e.cube) ⊎ IsEnd i c
-
--- the cube of an event is one
-cube_of_event : (family : Family) → IsFamily family → (e : Event) → IsEvent family e → IsCube e.cube
-cube_of_event (Listed rows) is e event =
-    all_at (λ (r : ℕ × Cube). IsCube r.1) rows e.unit (event.0, e.cube) event.1 is.cubes
-cube_of_event (Cycles heads) is e event = event.0.cube
 
 -- a legal log to an end
 pub record Ends (i : Instance) (c : List ℕ) : Type 0 where
@@ -42,7 +36,7 @@ taken i family fits c size e is poppable =
     let p : ℕ × ℕ = get_or e.cube k d in
     let less = known_variable i.stacks i.family fits e is p.0 (names_it e.cube p (Contains-get_or e.cube k d h)) in
     omega (arith, less, size) in
-    room_falls i.stacks c e.cube (cube_of_event i.family family e is) low poppable.next
+    room_falls i.stacks c e.cube (event_cube i.family e family is) low poppable.next
 
 -- with room for at most n pops
 by_room : (n : ℕ) (i : Instance) → IsFamily i.family → FamilyFits i.stacks i.family → ((d : List ℕ) → Found i d)

@@ -5,14 +5,14 @@ use Rattle.std.proofs.lemmas.Bool.{cases_eq, cases_Bool, ltb-true, lt-ltb}
 use Rattle.std.proofs.lemmas.Option.{none-some, same_Some}
 use Rattle.std.proofs.lemmas.List.Elements.{All-contains, Contains-get_or}
 use Rattle.pop_model.specs.Stacks.{StackTable, value_at, height_of}
-use Rattle.pop_model.specs.Popping.{Cube, IsPoppable, names, cursor}
+use Rattle.pop_model.specs.Popping.{Cube, IsPoppable, names, cursor, current}
 use Rattle.pop_model.specs.Cycles.{IsCycle, AreArrows, follow, arrow_at, first_of}
 use Rattle.pop_model.specs.Families.Family.{Cycles}
 use Rattle.pop_model.proofs.Diamond.{named}
 use Rattle.pop_model.proofs.Following.{cases_Option, follow_before, follow_next, contains_demand}
 use Rattle.pop_model.proofs.CycleFamily.{Heads, first_named}
 use Rattle.pop_model.proofs.Loops.{loop_cube, loop_only, path_short}
-use Rattle.pop_model.proofs.MadeCycles.{IsLoop, slot_at, loop_is_cycle, loop_occurs}
+use Rattle.pop_model.proofs.MadeCycles.{IsLoop, loop_is_cycle, loop_occurs}
 use Rattle.pop_model.proofs.TreeEnd.{repeats_or_not, passed, passed_is, head_within, stays_at}
 use Rattle.pop_samples.proofs.Ending.{Found}
 
@@ -74,22 +74,22 @@ long_walk s heads are c v w below h =
           let i = r.first in
           let m = r.again - suc i in
           let size : i + suc m ≡ r.again = omega (arith, r.order) in
-          let loop : IsLoop heads (slot_at s c) at i m = record {
+          let loop : IsLoop heads (current s c) at i m = record {
             distinct = λ a b from lt low. r.before a b (omega arith) lt (omega arith);
             leads = λ k from lt. (leads k (omega (arith, r.below))).arrow;
             closes = let last : suc (i + m) ≡ r.again = omega arith in (leads (i + m) (omega (arith, r.below))).arrow
                 ∙ ap (λ j. Some (at j)) last ∙ ap (λ u. Some u) (sym r.same);
           } in
-          let e : Cube = loop_cube (slot_at s c) at i (suc m) in
+          let e : Cube = loop_cube (current s c) at i (suc m) in
           record {
             cube = e;
-            cycle = loop_is_cycle heads (slot_at s c) at i m loop;
+            cycle = loop_is_cycle heads (current s c) at i m loop;
             poppable = record {
               occurs = loop_occurs s c at i (suc m) loop.distinct;
               next = λ k d low.
                   let p : ℕ × ℕ = get_or e k d in
                   let x = contains_demand e p.0 p.1 (Contains-get_or e k d low) in
-                  let stands = loop_only (slot_at s c) at i (suc m) loop.distinct p.0 x.0 x.1 in
+                  let stands = loop_only (current s c) at i (suc m) loop.distinct p.0 x.0 x.1 in
                   subst (λ (u : ℕ). cursor c u + 1 < height_of s u) {x = at stands.place} stands.is
                   ((leads stands.place (let b = stands.below in omega (arith, b, size, r.below))).next);
             };

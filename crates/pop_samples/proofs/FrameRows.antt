@@ -1,15 +1,15 @@
 -- What holds of all rows of a frame: there is one for each variable, with an entry at least; and where they finish, the
 -- cursors are as many, each within its row.
-use Rattle.std.proofs.Common.{◌≡◌, ℕ, ◌<◌, List, [], ◌∷◌, length, map, get_or, refl, sym, ap, subst, ◌∙◌, arith, Contains}
+use Rattle.std.proofs.Common.{◌≡◌, ℕ, ◌<◌, List, [], length, map, get_or, sym, ap, subst, ◌∙◌, arith, Contains}
 use Rattle.std.proofs.lemmas.List.{length-map, get_or-map, get_or-replicate}
 use Rattle.std.proofs.lemmas.List.Elements.{All-contains, Contains-get_or}
-use Rattle.pop_model.specs.Stacks.{variables_of, value_at, row_of}
+use Rattle.pop_model.specs.Stacks.{value_at, row_of}
 use Rattle.pop_model.specs.Stacks.Origin.{Given}
-use Rattle.pop_model.specs.Popping.{AreWithin, cursor, pop}
+use Rattle.pop_model.specs.Popping.{AreWithin, cursor}
 use Rattle.pop_model.specs.Families.{Family}
 use Rattle.pop_model.specs.Families.Family.{Listed, Cycles}
 use Rattle.pop_model.specs.Instances.{Instance, FamilyFits}
-use Rattle.pop_model.specs.Logs.{LogRecord, IsLegal, replay}
+use Rattle.pop_model.specs.Logs.{replay}
 use Rattle.pop_model.specs.Runs.{IsFinished, start_of}
 use Rattle.pop_model.proofs.Diamond.{names_it}
 use Rattle.pop_model.proofs.Replays.{length-start, length-replay, replay_within}

@@ -8,14 +8,13 @@ use Rattle.pop_model.specs.Families.{Event, Family, IsEvent}
 use Rattle.pop_model.specs.Families.Family.{Listed, Cycles}
 use Rattle.pop_model.specs.Instances.{Instance, FitsStacks, FamilyFits}
 use Rattle.pop_model.specs.Logs.{LogRecord, IsLegalAt, IsLegal, replay}
-use Rattle.pop_model.specs.Runs.{start_of}
 use Rattle.pop_model.proofs.Diamond.{named, names_it, all_by_members}
 use Rattle.pop_model.proofs.PopLemmas.{length-pop, cursor-pop}
-use Rattle.pop_model.proofs.Room.{not_lowered}
 use Rattle.pop_model.proofs.Members.{all_at}
 use Rattle.pop_model.proofs.CycleFamily.{arrow_demands, stays_in}
 use Rattle.pop_model.proofs.Following.{named_demand}
 use Rattle.pop_model.proofs.TreeEnd.{head_within}
+use Rattle.pop_model.proofs.Replays.{not_lowered_by}
 use Rattle.pop_samples.specs.Finishing.{AgreeBelow, with_stacks}
 
 -- the events of a family that fits name variables of the stacks
@@ -32,16 +31,6 @@ known_variable s (Cycles heads) fits e is v at =
     head_within heads v x.0 on.next (sym (arrow_demands heads e.cube v x.0 x.1) ∙ on.leads) in
     let count : length heads ≡ variables_of s = fits.0 in
     omega (arith, below, count)
-
--- a log lowers no cursor
-not_lowered_by : (c : List ℕ) (log : List LogRecord) (v : ℕ) → v < length c → cursor c v ≤ cursor (replay c log) v
-not_lowered_by c [] v below = omega arith
-not_lowered_by c (r ∷ log) v below =
-    let later : List ℕ = pop c r.event.cube in
-    let here : cursor c v ≤ cursor later v = not_lowered c r.event.cube v below in
-    let rest : cursor later v ≤ cursor (replay later log) v =
-    not_lowered_by later log v (omega (arith, below, length-pop c r.event.cube)) in
-    omega (arith, here, rest)
 
 -- the entry that a record uses lies below the replay
 used_below : (c : List ℕ) (r : LogRecord) (log : List LogRecord) (v : ℕ) → names r.event.cube v ≡ true → v < length c

@@ -1,25 +1,14 @@
 -- Which numbers give a value. The value is x exactly where the scaled number is at least the weights before x and
 -- below those up to x, and it is at least a sum of weights exactly where the number is at least 2 ^ 64 times that sum
 -- over all weights, rounded up.
-use Rattle.std.proofs.Common.{inl, inr, ◌≡◌, ℕ, zero, suc, ◌+◌, ◌-◌, ◌*◌, ◌^◌, ◌<◌, ◌≤◌, cond, List, [], ◌∷◌, take, sum, refl, sym, ap, subst, ◌∙◌, arith}
+use Rattle.std.proofs.Common.{inl, inr, ◌≡◌, ℕ, zero, suc, ◌-◌, ◌*◌, ◌^◌, ◌<◌, ◌≤◌, cond, List, [], ◌∷◌, take, sum, refl, sym, ap, subst, ◌∙◌, arith}
 use Rattle.std.proofs.lemmas.Bool.{cases_lt, lt-ltb, le-ltb}
-use Rattle.std.proofs.lemmas.List.Sums.{sum_by-cons}
-use Rattle.std.proofs.lemmas.Nat.{mul-add-lt}
 use Rattle.std.proofs.Math.Nat.{div-lt_iff_lt-mul}
 use Rattle.pop_model.specs.Stacks.{stream_of, scaled, first_above}
 use Rattle.pop_stacks.proofs.ValueIsLeast.{number_fits}
+use Rattle.pop_stacks.proofs.DrawsLemmas.{sum-cons, scaled_below}
 use Rattle.pop_samples.specs.Shares.{Gives, NumberedEntries, first_number, rounded_up}
 use Rattle.pop_samples.proofs.Rounding.{rounded_at_most, rounded_covers}
-
--- the sum of a list with a number more
-sum-cons : (x : ℕ) (xs : List ℕ) → sum (x ∷ xs) ≡ x + sum xs
-sum-cons x xs = sum_by-cons (λ (n : ℕ). n) x xs
-
--- a number below 2 ^ 64 is scaled to below the sum
-scaled_below : (number total : ℕ) → number < 2 ^ 64 → 0 < total → scaled number total < total
-scaled_below number total less some =
-    let low : number * total + 0 < total * 2 ^ 64 = mul-add-lt number total 0 (2 ^ 64) less some in
-    (div-lt_iff_lt-mul {k = 2 ^ 64} {x = number * total} {y = total} (omega arith)).1 (omega (arith, low))
 
 -- m is at least the weights before x, and below those up to x
 record Between (weights : List ℕ) (x m : ℕ) : Type 0 where

@@ -1,20 +1,14 @@
 -- Quotients that are rounded up. A quotient rounded up is at most n exactly where the dividend is at
 -- most n divisors, so the divisor times it is the dividend or exceeds it by less than the divisor.
-use Rattle.std.proofs.Common.{◌≡◌, ℕ, suc, ◌+◌, ◌-◌, ◌*◌, ◌<◌, ◌≤◌, ap, ◌∙◌, arith}
+use Rattle.std.proofs.Common.{◌≡◌, ℕ, suc, ◌+◌, ◌-◌, ◌*◌, ◌<◌, ◌≤◌, arith}
 use Rattle.std.proofs.lemmas.Nat.{mul-le}
-use Rattle.std.proofs.Math.Nat.{div-lt_iff_lt-mul, div-mul-le_self, add-mul}
+use Rattle.std.proofs.Math.Nat.{div-lt_iff_lt-mul, div-mul-le_self, suc-mul}
 use Rattle.pop_samples.specs.Shares.{rounded_up}
-
--- a product with one more
-one_more : (n d : ℕ) → suc n * d ≡ n * d + d
-one_more n d =
-    let a : suc n ≡ n + 1 = omega arith in
-    ap (λ (k : ℕ). k * d) a ∙ add-mul n 1 d ∙ (let b : 1 * d ≡ d = omega arith in ap (λ (k : ℕ). n * d + k) b)
 
 -- rounded up to at most n, where the dividend is at most n divisors
 pub rounded_at_most : (a d n : ℕ) → 0 < d → a ≤ n * d → rounded_up a d ≤ n
 rounded_at_most a d n some le =
-    let more = one_more n d in
+    let more = suc-mul n d in
     let less : rounded_up a d < suc n =
     (div-lt_iff_lt-mul {k = d} {x = a + d - 1} {y = suc n} some).1 (omega (arith, le, more, some)) in
     omega (arith, less)
@@ -22,7 +16,7 @@ rounded_at_most a d n some le =
 -- and only there
 pub rounded_covers : (a d n : ℕ) → 0 < d → rounded_up a d ≤ n → a ≤ n * d
 rounded_covers a d n some le =
-    let more = one_more n d in
+    let more = suc-mul n d in
     let less : a + d - 1 < suc n * d =
     (div-lt_iff_lt-mul {k = d} {x = a + d - 1} {y = suc n} some).0 (omega (arith, le)) in
     omega (arith, less, more, some)

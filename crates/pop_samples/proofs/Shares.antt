@@ -5,10 +5,10 @@ use Rattle.std.specs.Int.{◌∣◌}
 use Rattle.std.proofs.lemmas.Bool.{cases_eq}
 use Rattle.std.proofs.lemmas.List.Sums.{sum_by-cons}
 use Rattle.std.proofs.Math.Nat.{add-mul, mul_assoc, mul_comm, div-mul_cancel}
-use Rattle.pop_model.proofs.Rising.{member_cases, head_member, tail_member}
+use Rattle.pop_model.proofs.Rising.{member_cases, head_member, tail_member, none_in}
 use Rattle.pop_samples.specs.Shares.{EntryShares, IsShare, first_number, rounded_up}
 use Rattle.pop_samples.proofs.Matching.{Differ, cons_differs}
-use Rattle.pop_samples.proofs.Conses.{none_differ, none_in}
+use Rattle.pop_samples.proofs.Conses.{none_differ}
 use Rattle.pop_samples.proofs.Rounding.{rounded_even, rounded_high, rounded_low, rounded_rises}
 use Rattle.pop_samples.proofs.Numbers.{given_from, given_till, numbers_give}
 

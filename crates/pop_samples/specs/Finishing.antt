@@ -22,10 +22,6 @@ FinishesAt i c = (log : List LogRecord) × FinishesBy i log c
 abbrev pub IsSample : Family → (ℕ → ℕ) → Type 0
 IsSample family w = (e : Event) → IsEvent family e → All (λ p. w p.0 ≡ p.1) e.cube → ⊥
 
--- the values at cursors
-abbrev pub current_at : StackTable → List ℕ → ℕ → ℕ
-current_at s c v = value_at s v (cursor c v)
-
 -- the instance with these stacks in place of its own
 abbrev pub with_stacks : Instance → StackTable → Instance
 with_stacks i t = record { stacks = t; family = i.family }

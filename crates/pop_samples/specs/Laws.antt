@@ -1,13 +1,13 @@
 -- The laws of finishing: the pops don't depend on the values that end up being sampled.
 use Rattle.std.specs.Prelude.{◌≡◌, ◌↔◌, ℕ, List, [], length, IsPermutation}
 use Rattle.pop_model.specs.Stacks.{StackTable}
-use Rattle.pop_model.specs.Popping.{AreWithin}
+use Rattle.pop_model.specs.Popping.{AreWithin, current}
 use Rattle.pop_model.specs.Instances.{Instance, IsInstance}
 use Rattle.pop_model.specs.Extremal.{IsExtremal}
 use Rattle.pop_model.specs.Logs.{LogRecord, replay}
 use Rattle.pop_model.specs.Runs.{IsFinished, IsFirstEnd, start_of}
 use Rattle.confluence_core.specs.Laws.{RunsToEnd}
-use Rattle.pop_samples.specs.Finishing.{with_stacks, AgreeBelow, FinishesBy, FinishesAt, IsSample, current_at}
+use Rattle.pop_samples.specs.Finishing.{with_stacks, AgreeBelow, FinishesBy, FinishesAt, IsSample}
 
 -- the log finishes at these cursors; so does the one-thread run, with as many pops; and each legal
 -- log to an end has the same records
@@ -30,7 +30,7 @@ SamePops = (i : Instance) → IsInstance i → IsExtremal i.family → (log : Li
 abbrev pub FinishesExactly : Type 0
 FinishesExactly = (i : Instance) → IsInstance i → (c : List ℕ) → FinishesAt i c
     → (t : StackTable) → AgreeBelow c i.stacks t → AreWithin t c
-    → FinishesAt (with_stacks i t) c ↔ IsSample i.family (current_at t c)
+    → FinishesAt (with_stacks i t) c ↔ IsSample i.family (current t c)
 
 -- An extremal instance finishes at cursors exactly where its one-thread run ends there with nothing
 -- stuck.

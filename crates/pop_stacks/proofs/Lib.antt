@@ -3,7 +3,7 @@ mod RowsLemmas
 mod SumsInPlace
 mod WeightsBySums
 -- Values: drawn by the sums, one or a group at a time, from the words of a key
-mod DrawsLemmas
+pub mod DrawsLemmas
 mod GroupDraws
 mod KeyedEntries
 -- What a reader keeps: bits in words, and groups in lines

@@ -2,8 +2,6 @@
 use Rattle.std.specs.Prelude.{◌≡◌, ℕ, List, Bool, true, ⊤}
 use Rattle.pop_model.specs.Stacks.{Origin, StackTable}
 use Rattle.pop_model.specs.Stacks.Origin.{Given, Keyed}
-use Rattle.pop_stacks.specs.KeptValues.{keeps, KeepsValues}
-use Rattle.pop_stacks.specs.declared.kept_values.KeptValues.{KeptValues}
 
 -- the stacks that a reader was made of, and whether it keeps values
 pub record ReaderOf : Type 0 where

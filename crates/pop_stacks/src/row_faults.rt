@@ -1,4 +1,4 @@
-ghost use Rattle.std.specs.Prelude.{◌≡◌, ◌<◌, ◌≤◌, ◌^◌, ℕ, List, length, slice_index, All, IfNone, IfSome};
+ghost use Rattle.std.specs.Prelude.{◌≡◌, ◌<◌, ◌≤◌, ◌^◌, length, slice_index, All, IfNone, IfSome};
 ghost use Rattle.pop_model.specs.Places.{IsLeast, IsLeastPair};
 ghost use Rattle.pop_stacks.specs.Faults.{HaveEntries, HaveValues, IsEmptyRow, IsTooLarge};
 

@@ -1,4 +1,4 @@
-ghost use Rattle.std.specs.Prelude.{◌<◌, ◌^◌, ℕ, OnOk, IfErr};
+ghost use Rattle.std.specs.Prelude.{◌<◌, ◌^◌, OnOk, IfErr};
 ghost use Rattle.pop_model.specs.Stacks.{IsTable};
 
 use crate::row_faults::{first_empty, first_too_large};

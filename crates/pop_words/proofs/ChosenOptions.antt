@@ -3,11 +3,11 @@
 use Rattle.std.proofs.Common.{inl, inr, ◌≡◌, ℕ, ◌*◌, List, [], ◌∷◌, ◌++◌, length, refl, sym, ap, subst, arith, append_assoc, IsSome, ap₂, Contains}
 use Rattle.std.proofs.lemmas.List.{append-nil}
 use Rattle.std.proofs.lemmas.List.Elements.{Contains-append_cases}
+use Rattle.pop_model.proofs.Rising.{only_member}
 use Rattle.pop_words.specs.declared.command.Command.{Command}
 use Rattle.pop_words.specs.declared.job.Job.{Job}
 use Rattle.pop_words.specs.Options.{NamedOption, options, value_of}
 use Rattle.pop_words.specs.CommandLines.{Choice, options_of, words_of, AreOptions, MayFollow, set_option, job_from}
-use Rattle.pop_words.proofs.ListTests.{head_is}
 use Rattle.pop_words.proofs.TableFacts.{same_option}
 
 -- the words of options, one list behind another
@@ -57,7 +57,7 @@ pub are_listed : (c : Command) (before : List NamedOption) (xs : List Choice) �
     → (o : NamedOption) → Contains (options_of xs) o → Contains options o
 are_listed c before [] are o (k, within, at) = absurd (omega arith)
 are_listed c before (x ∷ xs) are o among = elim (Contains-append_cases (x.0 ∷ []) (options_of xs) o among) [
-  | inl first ↦ subst (Contains options) (head_is x.0 o first) are.0.listed
+  | inl first ↦ subst (Contains options) (only_member x.0 o first) are.0.listed
   | inr later ↦ are_listed c (before ++ x.0 ∷ []) xs are.2 o later
 ]
 

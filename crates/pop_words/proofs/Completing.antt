@@ -5,11 +5,12 @@ use Rattle.std.specs.List.{list_any}
 use Rattle.std.proofs.lemmas.List.{append-nil}
 use Rattle.std.proofs.lemmas.List.Elements.{Contains-append_cases, Contains-append_left, Contains-append_right, Contains-push}
 use Rattle.std.proofs.lemmas.Map.Views.{list_any-from_Contains}
+use Rattle.pop_model.proofs.Rising.{only_member, head_member}
 use Rattle.pop_words.specs.declared.command.Command.{Command}
 use Rattle.pop_words.specs.Options.{NamedOption, options}
 use Rattle.pop_words.specs.CommandLines.{Choice, options_of, AreOptions, MayFollow, AreComplete}
 use Rattle.pop_words.specs.Reading.{same_name, allows, stands_if_needed, is_complete}
-use Rattle.pop_words.proofs.ListTests.{all_at, all_from, first_is_in, head_is, some_from}
+use Rattle.pop_words.proofs.ListTests.{all_at, all_from, some_from}
 use Rattle.pop_words.proofs.TableFacts.{allows_from, allows_to, example, example_is_value, needed_is_compatible, same_name_is, same_name_laws, same_option}
 use Rattle.pop_words.proofs.ChosenOptions.{are_listed, options-append, options_more}
 
@@ -118,7 +119,7 @@ fill command chosen (o ∷ os) all_listed are =
     step (fill command chosen os (λ p later. all_listed p (Contains-append_right (o ∷ []) os p later)) are)
   where
     listed : Contains options o
-    listed = all_listed o (first_is_in o os)
+    listed = all_listed o (head_member o os)
 
     missing_of : (rest : Fills command chosen os)
         → ((stands_if_needed command (options_of (chosen ++ rest.more)) o ≡ true)
@@ -134,7 +135,7 @@ fill command chosen (o ∷ os) all_listed are =
         more = rest.more;
         options = rest.options;
         filled = λ p among. elim (Contains-append_cases (o ∷ []) os p among) [
-          | inl first ↦ subst (Stands command (options_of (chosen ++ rest.more))) (head_is o p first) stands.1
+          | inl first ↦ subst (Stands command (options_of (chosen ++ rest.more))) (only_member o p first) stands.1
           | inr later ↦ rest.filled p later
         ];
       }
@@ -162,7 +163,7 @@ fill command chosen (o ∷ os) all_listed are =
                 (elim (Contains-append_cases (o ∷ []) os p among) [
                   | inl first ↦ record {
                     stands = λ allowed needed. subst (Contains (options_of before ++ o ∷ []))
-                        (head_is o p first) (Contains-push (options_of before) o);
+                        (only_member o p first) (Contains-push (options_of before) o);
                   }
                   | inr later ↦ record {
                     stands = λ allowed needed.

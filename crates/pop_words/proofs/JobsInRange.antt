@@ -3,6 +3,7 @@
 use Rattle.std.proofs.Common.{refl, codes, true, ◌-◌, ◌^◌, ◌&&◌, nat_le, Option, None, Some, option_map, unwrap_or, IsSome, IfSome, Contains, lit<, inl, inr, ◌≡◌, ℕ, ◌<◌, ◌≤◌, List, [], ◌∷◌, ◌++◌, sym, ap, subst, ◌∙◌, arith}
 use Rattle.std.proofs.lemmas.List.Elements.{Contains-append_cases}
 use Rattle.std.proofs.lemmas.Bool.{and_parts, leb-true}
+use Rattle.pop_model.proofs.Rising.{only_member, head_member}
 use Rattle.pop_words.specs.declared.command.Command.{Command}
 use Rattle.pop_words.specs.declared.command.Command.TheVariants.{Make}
 use Rattle.pop_words.specs.declared.job.Job.{Job}
@@ -13,7 +14,6 @@ use Rattle.pop_words.specs.Values.{number_between, rows_in, key_in, board_in, sw
 use Rattle.pop_words.specs.Options.{default_job, NamedOption, options, value_of}
 use Rattle.pop_words.proofs.ValuesLemmas.{passed}
 use Rattle.pop_words.specs.CommandLines.{Choice, options_of, AreOptions, Asks, job_from, set_option}
-use Rattle.pop_words.proofs.ListTests.{first_is_in, head_is}
 
 -- what a job has only where an option asks for it: a last height may be that of keyed stacks, samples are not too many, and
 -- a run stops no sooner than behind one pop
@@ -124,7 +124,7 @@ choices_size command before job [] are (k, within, at) is = absurd (omega arith)
 choices_size command before job (p ∷ chosen) are among is =
     elim (Contains-append_cases (p.0 ∷ []) (options_of chosen) grid among) [
       | inl first ↦
-          let sets : p.0.field ≡ Size = ap (λ o. o.field) (head_is p.0 grid first) in
+          let sets : p.0.field ≡ Size = ap (λ o. o.field) (only_member p.0 grid first) in
           choices_range command 1 (omega arith) (set_option job p) chosen
           (subst (λ f. IsSome (value_of f p.1) → IsInRange command 1 (unwrap_or (value_of f p.1) (λ j. j) job))
           (sym sets) (λ value. sets_size command job p.1 value is) are.1)
@@ -174,7 +174,7 @@ made_size : (words : List (List ℕ)) (job : Job) → Asks words job → job.com
 made_size words job asks made =
     let command : asks.command ≡ Make = sym (asked_range words job asks).0 ∙ made in
     let allowed : Contains grid.commands asks.command =
-    subst (Contains grid.commands) (sym command) (first_is_in Make []) in
+    subst (Contains grid.commands) (sym command) (head_member Make []) in
     let stands = asks.complete grid grid_listed allowed refl in
     let is = subst (IsInRange asks.command 1) (sym asks.job_is)
     (choices_size asks.command [] (default_job asks.command) asks.chosen asks.options stands

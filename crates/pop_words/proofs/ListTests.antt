@@ -1,18 +1,10 @@
 -- What a test of a list says of its elements.
-use Rattle.std.proofs.Common.{inl, inr, ◌≡◌, Bool, true, false, ◌&&◌, List, [], ◌∷◌, Some, refl, sym, ap, subst, ◌∙◌, arith, Contains, cond, get_or}
+use Rattle.std.proofs.Common.{inl, inr, ◌≡◌, Bool, true, false, ◌&&◌, List, [], ◌∷◌, Some, refl, sym, ap, subst, ◌∙◌, Contains, cond}
 use Rattle.std.specs.List.{find, list_all, list_any}
 use Rattle.std.proofs.lemmas.Bool.{both_ways, or_cases, true_from_ne_false}
 use Rattle.std.proofs.lemmas.List.Elements.{Contains-append_right}
 use Rattle.std.proofs.lemmas.List.Folds.{list_all_at, list_any_at}
-
--- the one element of a list
-pub head_is : {X : Type 0} (o other : X) → Contains (o ∷ []) other → o ≡ other
-head_is o other (k, within, at) = let first : k ≡ 0 = omega arith in subst
-    (λ n. get_or (o ∷ []) n other ≡ other) first at
-
--- the first element
-pub first_is_in : {X : Type 0} (x : X) (xs : List X) → Contains (x ∷ xs) x
-first_is_in x xs = (0, omega arith, refl)
+use Rattle.pop_model.proofs.Rising.{head_member}
 
 -- where all pass, each does
 pub all_at : {X : Type 0} (test : X → Bool) (xs : List X) → list_all test xs ≡ true → (x : X) → Contains xs x
@@ -25,7 +17,7 @@ pub all_from : {X : Type 0} (test : X → Bool) (xs : List X) → ((x : X) → C
     → list_all test xs ≡ true
 all_from test [] each = refl
 all_from test (y ∷ xs) each =
-    ap (λ b. b && list_all test xs) (each y (first_is_in y xs))
+    ap (λ b. b && list_all test xs) (each y (head_member y xs))
     ∙ all_from test xs (λ x later. each x (Contains-append_right (y ∷ []) xs x later))
 
 -- where one passes, some do
@@ -38,7 +30,7 @@ pub some_from : {X : Type 0} (test : X → Bool) (xs : List X) → list_any test
     → (x : X) × Contains xs x × (test x ≡ true)
 some_from test [] some = absurd (cc)
 some_from test (y ∷ xs) some = elim (or_cases (test y) (list_any test xs) some) [
-  | inl here ↦ (y, first_is_in y xs, here)
+  | inl here ↦ (y, head_member y xs, here)
   | inr later ↦ let one = some_from test xs later in
       (one.0, Contains-append_right (y ∷ []) xs one.0 one.1, one.2)
 ]
@@ -51,7 +43,7 @@ found_is test (y ∷ xs) x found =
     (elim (test y) as (λ b. test y ≡ b → cond b (Some y) (find test xs) ≡ Some x
     → Contains (y ∷ xs) x × (test x ≡ true)) [
       | true ↦ λ passes here. let is : y ≡ x = cc in
-          (subst (Contains (y ∷ xs)) is (first_is_in y xs), ap test (sym is) ∙ passes)
+          (subst (Contains (y ∷ xs)) is (head_member y xs), ap test (sym is) ∙ passes)
       | false ↦ λ fails later. let one = found_is test xs x later in
           (Contains-append_right (y ∷ []) xs x one.0, one.1)
     ]) refl found

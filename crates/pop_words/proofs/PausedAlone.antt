@@ -5,6 +5,7 @@ use Rattle.std.specs.List.{list_all}
 use Rattle.std.specs.Option.{is_some}
 use Rattle.std.proofs.lemmas.Bool.{and_from, false≢true, not-true, or_cases, both_ways}
 use Rattle.std.proofs.lemmas.List.Elements.{Contains-append_cases, Contains-append_right}
+use Rattle.pop_model.proofs.Rising.{only_member, head_member}
 use Rattle.pop_stacks.specs.declared.stack_spec.StackSpec.TheVariants.{Key as KeyedStacks, Given}
 use Rattle.pop_words.specs.declared.command.Command.{Command}
 use Rattle.pop_words.specs.declared.command.Command.TheVariants.{Formula, Orient, Tree, Resample, Check, Make, Rounds, Replay, Resume}
@@ -15,7 +16,7 @@ use Rattle.pop_words.specs.Values.{number_between, rows_in, key_in}
 use Rattle.pop_words.specs.Options.{NamedOption, options, value_of, default_job}
 use Rattle.pop_words.specs.CommandLines.{Choice, options_of, AreOptions, Asks, set_option, job_from}
 use Rattle.pop_words.specs.Reading.{allows, excludes}
-use Rattle.pop_words.proofs.ListTests.{all_at, first_is_in, head_is}
+use Rattle.pop_words.proofs.ListTests.{all_at}
 use Rattle.pop_words.proofs.TableFacts.{allows_to}
 use Rattle.pop_words.proofs.ChosenOptions.{are_listed}
 use Rattle.pop_words.proofs.StandingOptions.{Stands, asked_set, asked_apart}
@@ -69,7 +70,7 @@ all_beside job [] each = refl
 all_beside job (p ∷ chosen) each =
     all_beside (set_option job p) chosen
     (λ o later. each o (Contains-append_right (p.0 ∷ []) (options_of chosen) o later))
-    ∙ sets_beside p.0.field job p.1 (each p.0 (first_is_in p.0 (options_of chosen)))
+    ∙ sets_beside p.0.field job p.1 (each p.0 (head_member p.0 (options_of chosen)))
 
 -- ---- which options stand beside pops
 
@@ -104,7 +105,7 @@ are_allowed : (c : Command) (before : List NamedOption) (xs : List Choice) → A
     → (o : NamedOption) → Contains (options_of xs) o → Contains o.commands c
 are_allowed c before [] are o (k, within, at) = absurd (omega arith)
 are_allowed c before (x ∷ xs) are o among = elim (Contains-append_cases (x.0 ∷ []) (options_of xs) o among) [
-  | inl first ↦ subst (λ p. Contains p.commands c) (head_is x.0 o first) are.0.allowed
+  | inl first ↦ subst (λ p. Contains p.commands c) (only_member x.0 o first) are.0.allowed
   | inr later ↦ are_allowed c (before ++ x.0 ∷ []) xs are.2 o later
 ]
 

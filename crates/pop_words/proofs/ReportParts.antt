@@ -8,6 +8,7 @@ use Rattle.std.proofs.lemmas.Bool.{both_ways, not-true, not_from_true, not_from_
 use Rattle.std.proofs.lemmas.List.{take_more, drop_more, take_all}
 use Rattle.std.proofs.lemmas.List.Folds.{list_all-append, list_any-append}
 use Rattle.std.proofs.lemmas.Slice.Eq.{bytes_eq-Decides}
+use Rattle.std.proofs.Math.Bool.{or-false}
 use Rattle.pop_words.specs.declared.reports.Reports.{Reports}
 use Rattle.pop_words.specs.Values.{comma_parts, totals_name, heights_name, layers_name, is_report, are_different, are_reports, reports_among, reports_in}
 
@@ -61,11 +62,6 @@ no_names front part rest (inl other) = and_left _ _ (list_all-append is_report f
     ∙ and_right _ _ (and_left _ _ other))
 no_names front part rest (inr again) = and_right _ _ (not_different front part rest again)
 
--- a test that fails adds nothing
-or_false : (a : Bool) → (a || false) ≡ a
-or_false true = refl
-or_false false = refl
-
 -- a name is among the parts where it stands behind them
 gained : (front : List (List ℕ)) (name : List ℕ) → bytes_eq name name ≡ true
     → list_any (bytes_eq name) (front ++ name ∷ []) ≡ true
@@ -78,7 +74,7 @@ kept : (front : List (List ℕ)) (name other : List ℕ) → bytes_eq other name
 kept front name other differs =
     list_any-append (bytes_eq other) front (name ∷ [])
     ∙ ap (λ b. list_any (bytes_eq other) front || b) (or_from _ _ differs refl)
-    ∙ or_false (list_any (bytes_eq other) front)
+    ∙ or-false (list_any (bytes_eq other) front)
 
 -- `totals` behind others
 totals_behind : (front : List (List ℕ)) → reports_among (front ++ totals_name ∷ [])

@@ -1,9 +1,9 @@
 -- The rows of a word, read part by part within the limits. Beside the rows stands the room for numbers that is left;
 -- a part that has more numbers than that, or stands behind as many rows as there may be, decides that the word is no
 -- value, whatever stands behind it.
-use Rattle.std.proofs.Common.{inl, inr, ◌-◌, ◌^◌, ◌≡◌, ℕ, ◌+◌, ◌<◌, ◌≤◌, Bool, true, false, ◌&&◌, nat_le, nat_eq, List, [], ◌∷◌, ◌++◌, length, get_or, sum_by, None, Some, refl, ap, ◌∙◌, arith, length-append}
+use Rattle.std.proofs.Common.{inl, inr, ◌-◌, ◌^◌, ◌≡◌, ℕ, ◌+◌, ◌<◌, ◌≤◌, false, ◌&&◌, nat_le, nat_eq, List, [], ◌∷◌, ◌++◌, length, get_or, sum_by, None, Some, refl, ap, ◌∙◌, arith, length-append}
 use Rattle.std.proofs.lemmas.List.Sums.{sum_by-append, sum_by-cons, get_or-le-sum_by}
-use Rattle.std.proofs.lemmas.Bool.{le-leb, lt-leb, leb-true, leb-false}
+use Rattle.std.proofs.lemmas.Bool.{le-leb, lt-leb, leb-true, leb-false, and_right}
 use Rattle.pop_stacks.specs.Rows.{AreShort}
 use Rattle.pop_edge.specs.Numbers.{number_of}
 use Rattle.pop_words.specs.Values.{all_some, only_if, fits_in, are_within, row_in, rows_in, comma_parts, semicolon_parts}
@@ -26,11 +26,6 @@ rows_by_parts (b ∷ bs) some = refl
 pub too_long : (front : List ℕ) (room y : ℕ) → room ≤ length front → (ys : List ℕ)
     → nat_le (length (front ++ y ∷ ys)) room ≡ false
 too_long front room y full ys = lt-leb (length (front ++ y ∷ ys)) room (omega (arith, length-append front (y ∷ ys)))
-
--- two tests fail where the second does
-false_both : (a b : Bool) → b ≡ false → (a && b) ≡ false
-false_both true b none = none
-false_both false b none = refl
 
 -- the rows read so far, with room for so many numbers more
 pub record HasRows (word : List ℕ) (n : ℕ) (rows : List (List ℕ)) (room : ℕ) : Type 0 where
@@ -55,7 +50,7 @@ no_row word n rows room part some has within is none = rows_by_parts word some
           sum_by-append length rows (row ∷ ys) in
           let first : sum_by length (row ∷ ys) ≡ length row + sum_by length ys = sum_by-cons length row ys in
           let above : 2 ^ 20 < sum_by length (rows ++ row ∷ ys) = omega (arith, has.left) in
-          false_both _ _ (lt-leb _ _ above))
+          and_right _ _ (lt-leb _ _ above))
     ]
 
 -- a row behind as many as there may be

@@ -8,6 +8,7 @@ use Rattle.std.proofs.lemmas.List.{append-nil}
 use Rattle.std.proofs.lemmas.List.Elements.{Contains-append_left, Contains-append_right, Contains-push_cases}
 use Rattle.std.proofs.lemmas.Map.Views.{Contains-from_any}
 use Rattle.std.proofs.lemmas.Slice.Eq.{bytes_eq-Decides}
+use Rattle.pop_model.proofs.Rising.{head_member}
 use Rattle.pop_stacks.specs.declared.stack_spec.StackSpec.{StackSpec}
 use Rattle.pop_stacks.specs.declared.stack_spec.StackSpec.TheVariants.{Key as KeyedStacks, Given}
 use Rattle.pop_words.specs.declared.command.Command.{Command}
@@ -18,7 +19,7 @@ use Rattle.pop_words.specs.Values.{rows_in, key_in}
 use Rattle.pop_words.specs.Options.{NamedOption, options, value_of, default_job}
 use Rattle.pop_words.specs.CommandLines.{Choice, options_of, AreOptions, Asks, MayFollow, set_option, job_from}
 use Rattle.pop_words.specs.Reading.{excludes}
-use Rattle.pop_words.proofs.ListTests.{all_at, first_is_in}
+use Rattle.pop_words.proofs.ListTests.{all_at}
 use Rattle.pop_words.proofs.JobsInRange.{of_map}
 
 -- ---- what was set
@@ -46,7 +47,7 @@ later field before o stands = (stands.0, Contains-append_left before (o ∷ []) 
 -- so does the last of them
 last : (field : Field) (before : List NamedOption) (o : NamedOption) → o.field ≡ field
     → Stands field (before ++ o ∷ [])
-last field before o is = (o, Contains-append_right before (o ∷ []) o (first_is_in o []), is)
+last field before o is = (o, Contains-append_right before (o ∷ []) o (head_member o []), is)
 
 -- what was set by options among these was set by options among more
 set_later : (before : List NamedOption) (o : NamedOption) (job : Job) → AreSet before job

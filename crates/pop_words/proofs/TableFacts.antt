@@ -8,6 +8,8 @@ use Rattle.std.proofs.lemmas.List.Elements.{Contains-append_cases}
 use Rattle.std.proofs.lemmas.Map.Views.{Contains-from_any}
 use Rattle.std.proofs.lemmas.Slice.Eq.{bytes_eq-Decides}
 use Rattle.hex.proofs.OnLiterals.{hex_on_literals}
+use Rattle.std.specs.Cmp.Derive.{one_truth}
+use Rattle.pop_model.proofs.Rising.{only_member}
 use Rattle.pop_words.specs.declared.command.Command.{Command}
 use Rattle.pop_words.specs.declared.command.Command.TheVariants.{Formula, Orient, Tree, Resample, Check, Make, Rounds, Replay, Resume}
 use Rattle.pop_words.specs.declared.field.Field.{Field}
@@ -16,7 +18,7 @@ use Rattle.pop_words.specs.Values.{are_different}
 use Rattle.pop_words.specs.Options.{commands, command_word, NamedOption, options, value_of}
 use Rattle.pop_words.specs.CommandLines.{AreCompatible}
 use Rattle.pop_words.specs.Reading.{option_named, command_named, same_name, same_word, allows, excludes}
-use Rattle.pop_words.proofs.ListTests.{all_at, found_is, head_is, some_at}
+use Rattle.pop_words.proofs.ListTests.{all_at, found_is, some_at}
 use Rattle.pop_words.proofs.SeenLists.{list_any-map}
 
 -- ---- what is computed of each row
@@ -95,7 +97,7 @@ found_again [] apart o (k, within, at) = absurd (omega arith)
 found_again (p ∷ os) apart o among =
     let parts = and_parts _ _ apart in
     elim (Contains-append_cases (p ∷ []) os o among) [
-      | inl first ↦ let is = head_is p o first in
+      | inl first ↦ let is = only_member p o first in
           ap (λ b. cond b (Some p) (find (λ q. bytes_eq q.name o.name) os))
           ((bytes_eq-Decides p.name o.name).1 (ap (λ q. q.name) is)) ∙ ap Some is
       | inr later ↦
@@ -140,18 +142,12 @@ same_name_is a b test = (bytes_eq-Decides a.name b.name).0 test
 pub is_same_name : (a b : NamedOption) → a.name ≡ b.name → same_name a b ≡ true
 is_same_name a b is = (bytes_eq-Decides a.name b.name).1 is
 
--- two tests that say the same
-both_ways_say : (s t : Bool) → (s ≡ true → t ≡ true) → (t ≡ true → s ≡ true) → s ≡ t
-both_ways_say true t forth back = sym (forth refl)
-both_ways_say false true forth back = back refl
-both_ways_say false false forth back = refl
-
 -- to have one name is an equivalence
 pub same_name_laws : IsEquivalence same_name
 same_name_laws =
     record {
       refl = λ o. is_same_name o o refl;
-      symm = λ a b. both_ways_say (same_name a b) (same_name b a)
+      symm = λ a b. one_truth (same_name a b) (same_name b a)
           (λ test. is_same_name b a (sym (same_name_is a b test)))
           (λ test. is_same_name a b (sym (same_name_is b a test)));
       congr = λ a b o test. ap (λ n. bytes_eq n o.name) (same_name_is a b test);

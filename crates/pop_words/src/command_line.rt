@@ -1,5 +1,5 @@
 // A command line, read word by word.
-ghost use Rattle.std.specs.Prelude.{◌≡◌, ◌+◌, ◌<◌, ℕ, List, [], map, drop, length, string_bytes, IfOk, IfErr};
+ghost use Rattle.std.specs.Prelude.{◌+◌, ◌<◌, map, length, string_bytes, IfOk, IfErr};
 ghost use Rattle.pop_words.specs.CommandLines.{Asks, IsWordFault};
 ghost use Rattle.pop_words.specs.Reading.{behind, IsRead};
 

@@ -1,5 +1,5 @@
 // The fields of the job that options set, each by values of one grammar.
-ghost use Rattle.std.specs.Prelude.{◌≡◌, ℕ, option_map, IfOk};
+ghost use Rattle.std.specs.Prelude.{◌≡◌, option_map, IfOk};
 ghost use Rattle.pop_words.specs.Options.{value_of};
 
 use crate::Job;

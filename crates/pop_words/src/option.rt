@@ -1,7 +1,6 @@
 // The options: a table, a row each. A later option is a row, and the field that it sets.
 ghost use Rattle.std.specs.Prelude.{◌≡◌, map, option_map};
-ghost use Rattle.std.specs.List.{list_all, list_any};
-ghost use Rattle.std.specs.Str.{bytes_eq};
+ghost use Rattle.std.specs.List.{list_any};
 ghost use Rattle.pop_words.specs.Reading.{seen, option_named, same_name, allows, excludes, compatible, may_follow, option_next, stands_if_needed, is_complete};
 
 use crate::Command;

@@ -1,5 +1,5 @@
 // Values of options, read from their words.
-ghost use Rattle.std.specs.Prelude.{◌≡◌, ◌∷◌, ◌&&◌, ℕ, List, IfOk, Option, option_map, vec_items};
+ghost use Rattle.std.specs.Prelude.{◌≡◌, ◌&&◌, IfOk, Option, option_map, vec_items};
 ghost use Rattle.pop_words.specs.Values.{number_between as number_between_of, key_in as key_of, board_in as board_of, switch_in as switch_of, row_in as row_of, rows_in as rows_of, pair_in as pair_of, reports_in as reports_of, only_if, fits_in};
 
 use crate::{BoardKind, Reports};

@@ -1,7 +1,6 @@
 -- What a closed board leaves is a legal log from its start, and suspects that are units and miss no poppable event.
 use Rattle.std.proofs.Common.{◌≡◌, ℕ, zero, suc, ◌<◌, ◌==◌, Bool, true, false, cond, List, [], ◌∷◌, ◌++◌, length, All, Option, Some, None, IfSome, refl, sym, ap, subst, ◌∙◌, arith}
 use Rattle.std.specs.Prelude.{slice_index, if◌then◌else◌}
-use Rattle.std.proofs.Common.{length-append}
 use Rattle.std.proofs.lemmas.List.Elements.{All-append}
 use Rattle.pop_model.specs.Stacks.{StackTable, variables_of}
 use Rattle.pop_model.specs.Popping.{AreWithin}
@@ -15,8 +14,8 @@ use Rattle.claim_words.specs.declared.closed.Closed.{Closed}
 use Rattle.claim_words.specs.Words.{mark_of, word_of, is_settled}
 use Rattle.claim_words.specs.Openings.{is_listed, marks_in}
 use Rattle.claim_words.specs.Closing.{set_marks, unsettled}
-use Rattle.claim_words.specs.TicketLogs.{find, log_below, log_of}
-use Rattle.claim_words.specs.Steps.{Drawn}
+use Rattle.claim_words.specs.TicketLogs.{log_of}
+use Rattle.claim_words.proofs.TicketsAreNumbered.{length-below}
 use Rattle.pop_workers.specs.Progressed.{HasProgressed}
 use Rattle.pop_workers.specs.Closings.{IsClosed, AreMerged}
 use Rattle.pop_workers.proofs.OneMerged.{one_merged}
@@ -62,14 +61,6 @@ suspects_known s (Listed rows) ws fits = marks_below ws (variables_of s) (length
 suspects_known s (Cycles heads) ws fits =
     subst (λ n. All (λ u. u < n) (unsettled ws (variables_of s))) (sym fits.0) (unset_below ws (variables_of s))
 
--- so many records stand in the log of tickets
-pub length-log_below : (mine : List Drawn) (n : ℕ) → length (log_below mine n) ≡ n
-length-log_below mine zero = refl
-length-log_below mine (suc n) =
-    let rest = length-log_below mine n in
-    let more = length-append (log_below mine n) (find n mine ∷ []) in
-    omega (arith, rest, more)
-
 module _ (i : Instance) (start : List ℕ) (keeps : Bool) (closed : Closed) (is : IsClosed i start keeps closed) where
   -- the tickets that are kept are numbered
   pub tickets_numbered : IfSome closed.log AreNumbered
@@ -104,7 +95,7 @@ module _ (i : Instance) (start : List ℕ) (keeps : Bool) (closed : Closed) (is 
         log = records;
         legal = subst (λ c. IsLegal i c records) is.start_is from_start;
         cursors_are = is.closes.cursors_are ∙ ap (λ c. replay c records) is.start_is;
-        pops_are = is.closes.pops_are ∙ sym (length-log_below is.view.mine (length is.view.mine));
+        pops_are = is.closes.pops_are ∙ sym (length-below is.view.mine (length is.view.mine));
         kept_is = kept keeps log (subst (λ t. AreMerged t log) is.tickets merged);
         count = sym (is.count ∙ ap (λ (x : Instance). variables_of x.stacks) is.instance);
         within = subst (λ (x : Instance). AreWithin x.stacks closed.cursors) is.instance is.closes.whole.low;

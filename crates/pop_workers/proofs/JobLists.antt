@@ -16,11 +16,6 @@ module _ {X : Type 0} (xs : List X) (x : X) (ys : List X) (is : ys ≡ xs ++ x �
       single zero d inside = one
       single (suc k) d inside = absurd (omega (arith, inside))
 
--- what holds of all and of one more in front holds of all then
-pub all_in_front : {X : Type 0} (P : X → Type 0) (x : X) (xs : List X) → P x → All P xs → All P (x ∷ xs)
-all_in_front P x xs one all zero d inside = one
-all_in_front P x xs one all (suc k) d inside = all k d (omega (arith, inside))
-
 -- what holds of all holds of those before the last one, and of that
 pub without_last : {X : Type 0} (P : X → Type 0) (xs : List X) (x : X) (ys : List X) → ys ≡ xs ++ x ∷ [] → All P ys
     → All P xs × P x

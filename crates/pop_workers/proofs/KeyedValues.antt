@@ -1,26 +1,14 @@
 -- Each entry of keyed stacks is a value of its variable, where one entry of each variable is: then the variable's
 -- weights have a sum above 0, below which the number of each entry is scaled.
-use Rattle.std.proofs.Common.{inl, inr, ◌≡◌, ℕ, zero, suc, ◌+◌, ◌-◌, ◌*◌, ◌^◌, ◌<◌, cond, List, [], ◌∷◌, length, slice_index, sum, refl, sym, ap, subst, ◌∙◌, arith}
+use Rattle.std.proofs.Common.{inl, inr, ◌≡◌, ℕ, zero, suc, ◌+◌, ◌-◌, ◌^◌, ◌<◌, cond, List, [], ◌∷◌, length, slice_index, sum, refl, sym, ap, subst, ◌∙◌, arith}
 use Rattle.std.proofs.lemmas.Bool.{cases_lt, lt-ltb, le-ltb}
-use Rattle.std.proofs.lemmas.List.Sums.{sum_by-cons}
-use Rattle.std.proofs.lemmas.Nat.{mul-add-lt}
-use Rattle.std.proofs.Math.Nat.{div-lt_iff_lt-mul}
 use Rattle.pop_model.specs.Stacks.{Origin, StackTable, variables_of, domain_of, value_at, row_of, stream_of, number_at, scaled, first_above, weighted, IsKeyed, origin_raised}
 use Rattle.pop_model.specs.Stacks.Origin.{Given, Keyed}
 use Rattle.pop_model.specs.Popping.{cursor, values_at, AreValuesAt}
 use Rattle.pop_model.proofs.ValuesLemmas.{value-values_at}
 use Rattle.pop_stacks.proofs.ValueIsLeast.{number_fits}
+use Rattle.pop_stacks.proofs.DrawsLemmas.{sum-cons, scaled_below}
 use Rattle.pop_workers.specs.StageEnds.{AreValues}
-
--- the sum of weights with one more
-sum-cons : (w : ℕ) (weights : List ℕ) → sum (w ∷ weights) ≡ w + sum weights
-sum-cons w weights = sum_by-cons (λ (n : ℕ). n) w weights
-
--- a number below 2 ^ 64 is scaled to below the sum
-scaled_below : (number total : ℕ) → number < 2 ^ 64 → 0 < total → scaled number total < total
-scaled_below number total less some =
-    let low : number * total + 0 < total * 2 ^ 64 = mul-add-lt number total 0 (2 ^ 64) less some in
-    (div-lt_iff_lt-mul {k = 2 ^ 64} {x = number * total} {y = total} (omega arith)).1 (omega (arith, low))
 
 -- for a number below their sum weights give one of their values
 above_within : (weights : List ℕ) (m : ℕ) → m < sum weights → first_above weights m < length weights

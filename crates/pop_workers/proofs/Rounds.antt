@@ -2,22 +2,18 @@
 -- one unit is ruled out still when the round has come to its end.
 use Rattle.std.proofs.Common.{◌≡◌, ℕ, ◌+◌, ◌-◌, ◌^◌, ◌<◌, ◌≤◌, Bool, true, false, length, inl, inr, arith, refl, sym, ap, subst, ◌∙◌}
 use Rattle.std.proofs.lemmas.Bool.{cases_eq}
-use Rattle.std.proofs.lemmas.Option.{slice_get_within}
 use Rattle.pop_model.specs.Popping.{IsPoppable}
-use Rattle.pop_model.specs.Cycles.{first_of}
-use Rattle.pop_model.specs.Families.{Event, Family, IsEvent, units_of}
-use Rattle.pop_model.specs.Families.Family.{Listed, Cycles}
+use Rattle.pop_model.specs.Families.{units_of}
 use Rattle.pop_model.specs.Instances.{IsInstance}
-use Rattle.pop_model.proofs.CycleFamily.{first_named}
-use Rattle.confluence_core.proofs.CycleVariables.{cycle_below}
 use Rattle.claim_words.specs.declared.opening.Opening.{Opening}
 use Rattle.claim_words.specs.declared.view.View.{View}
 use Rattle.confluence_core.proofs.ShortLogs.{legal_short}
+use Rattle.pop_log.proofs.PrintableLemmas.{unit_below}
 use Rattle.claim_words.specs.Openings.{count}
 use Rattle.claim_words.specs.Tells.{NonePoppable}
 use Rattle.claim_words.specs.TicketLogs.{IsLegalFrom, vector, log_of}
+use Rattle.claim_words.proofs.TicketsAreNumbered.{length-below}
 use Rattle.pop_workers.specs.Attempts.{Goes, FindsAlone, IsRound}
-use Rattle.pop_workers.proofs.ClosedBoards.{length-log_below}
 use Rattle.pop_workers.specs.declared.found.Found.TheVariants.{Popped, Done}
 
 -- the round came up to below unit n: where it popped nothing, the records are as they were, and no event below is
@@ -61,18 +57,11 @@ round_pops k d e f g n b round found goes legal =
     let low = no_fewer k d e n b round in
     (omega (arith, low, found.0, goes.more), legal found.1)
 
--- the unit of an event is one of the family's
-pub unit_known : (family : Family) (e : Event) → IsEvent family e → e.unit < units_of family
-unit_known (Listed rows) e (number, is) = slice_get_within rows e.unit (number, e.cube) is
-unit_known (Cycles heads) e (cycle, unit) =
-    let below = cycle_below heads e.cube (first_of e.cube) cycle (first_named e.cube cycle.cube) in
-    omega (arith, below, unit)
-
 -- a round that came over all units
 pub round_ends : (k : Opening) (d e : View) (n : ℕ) (b : Bool) → n ≡ units_of k.instance.value.family
     → RoundUpTo k d e n b → IsRound k d e b
 round_ends k d e n true all round = λ event is poppable.
-    let known = unit_known k.instance.value.family event is in
+    let known = unit_below k.instance.value.family event is in
     round.1 event.unit (omega (arith, known, all)) event.cube is poppable
 round_ends k d e n false all round = round
 
@@ -81,5 +70,5 @@ pub fewer_left : (k : Opening) (d e : View) → IsInstance k.instance.value → 
     → IsRound k d e false → 2 ^ 62 - length e.mine < 2 ^ 62 - length d.mine
 fewer_left k d e instance counted round =
     let short = legal_short k.instance.value k.start.value (log_of e.mine) instance (sym counted) round.1 in
-    let size = length-log_below e.mine (length e.mine) in
+    let size = length-below e.mine (length e.mine) in
     omega (arith, short, size, round.0)

@@ -2,7 +2,6 @@
 -- or not.
 use Rattle.std.proofs.Common.{◌≡◌, ℕ, Bool, List, refl, sym, ap, subst, ◌∙◌}
 use Rattle.pop_model.specs.Stacks.{StackTable}
-use Rattle.pop_model.specs.Popping.{AreValuesAt, values_at}
 use Rattle.pop_model.specs.Instances.{Instance}
 use Rattle.confluence_core.specs.declared.part.Part.{Part}
 use Rattle.confluence_core.specs.declared.run.Run.{Run}

@@ -14,12 +14,12 @@ use Rattle.pop_stacks.specs.Readers.{Belongs, ReaderOf}
 use Rattle.confluence_core.specs.declared.run.Run.{Run}
 use Rattle.confluence_core.specs.Runs.{IsSuspected, MissesNone, IsRunOf}
 use Rattle.confluence_core.proofs.EventVariables.{event_below, event_cube}
+use Rattle.pop_log.proofs.PrintableLemmas.{unit_below}
 use Rattle.pop_workers.specs.declared.alone.Alone.{Alone}
 use Rattle.pop_workers.specs.Alone.{Serves}
 use Rattle.pop_workers.specs.Progressed.{HasProgressed}
 use Rattle.pop_workers.specs.Stages.{height, at_next_height, behind, GoesOnFrom, IsLast, IsToCome, AreStages, HasBegun}
 use Rattle.pop_workers.proofs.JoinedRuns.{run_behind}
-use Rattle.pop_workers.proofs.Rounds.{unit_known}
 use Rattle.pop_workers.proofs.RaisedInstances.{one_height, raised_height, raised_keyed, raised_twice, raised_same, source_raised, occurs_raised, run_raised, progress_raised}
 
 -- the units of these events
@@ -55,7 +55,7 @@ stuck_known i c stuck list k d below =
     let inside : k < length stuck = omega (arith, below, length-map stuck (λ (x : Event). x.unit)) in
     let none : Event = record { unit = d; cube = [] } in
     let e : Event = get_or stuck k none in
-    let known = unit_known i.family e ((list.exact e).0 (Contains-get_or stuck k none inside)).0 in
+    let known = unit_below i.family e ((list.exact e).0 (Contains-get_or stuck k none inside)).0 in
     let at : get_or (units_in stuck) k d ≡ e.unit = get_or-map (λ (x : Event). x.unit) stuck k none d inside in
     omega (arith, known, at)
 

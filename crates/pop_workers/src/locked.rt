@@ -1,4 +1,4 @@
-ghost use Rattle.std.specs.Prelude.{◌≡◌, ◌<◌, ◌≤◌, if◌then◌else◌, length, Some, None, IfOk};
+ghost use Rattle.std.specs.Prelude.{◌≡◌, ◌<◌, ◌≤◌, length, IfOk};
 ghost use Rattle.pop_model.specs.Stacks.{variables_of};
 ghost use Rattle.pop_model.specs.Popping.{AreWithin};
 ghost use Rattle.confluence_core.specs.Kept.{keeps_log};
@@ -52,7 +52,7 @@ pub fn sample_locked<R: Threads + Wait + Sync, G: Gate + Sync>(
     let left = Progress {
         cursors,
         pops: log.len(),
-        log: kept(log, keep),
+        log: keep.kept(log),
     };
     finish(alloc, instance, from, left, suspects, keep)
 }
@@ -70,16 +70,6 @@ pub(crate) fn run_alone(
 {
     let suspects = Units::all(alloc, instance.units())?;
     run_from(alloc, instance, from.copy(alloc)?, suspects, keep)
-}
-
-// The log, where it is kept.
-fn kept(log: Log, keep: Keep) -> Option<Log>
-    ensures { result ≡ (if keeps_log keep then Some log else None) }
-{
-    match keep {
-        Keep::Log => Some(log),
-        Keep::Nothing => None,
-    }
 }
 
 // What workers leave of a book that they share: its cursors and its log.

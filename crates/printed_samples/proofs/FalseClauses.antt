@@ -4,7 +4,7 @@ use Rattle.std.proofs.Common.{◌≡◌, ℕ, suc, ◌<◌, ℤ, pos, negsuc, Li
 use Rattle.std.proofs.lemmas.List.Elements.{All-contains, Contains-get_or}
 use Rattle.std.proofs.lemmas.Option.{slice_get_within, get_or_from_slice_get}
 use Rattle.pop_model.specs.Stacks.{StackTable, value_at}
-use Rattle.pop_model.specs.Popping.{Cube, cursor, values_at, Occurs}
+use Rattle.pop_model.specs.Popping.{Cube, cursor, values_at, Occurs, current}
 use Rattle.pop_model.specs.Families.{Event, IsEvent}
 use Rattle.pop_model.specs.Families.Family.{Listed}
 use Rattle.pop_model.proofs.ValuesLemmas.{value-values_at}
@@ -16,7 +16,7 @@ use Rattle.pop_print.specs.declared.facts.Facts.TheVariants.{Formula}
 use Rattle.printed_samples.specs.Stuck.{AreAlike, IsFalseAt, IsFalseClause}
 use Rattle.printed_samples.specs.Laws.{instance_over, PrintedFalse}
 use Rattle.printed_samples.proofs.Literals.{falsifier_below}
-use Rattle.printed_samples.proofs.Satisfied.{current, current_cube, false_occurs, not_empty}
+use Rattle.printed_samples.proofs.Satisfied.{current_cube, false_occurs, not_empty}
 use Rattle.printed_samples.proofs.StuckNumbers.{IsNamed, are_stuck, number_there, row_event, event_row, numbers_rise}
 
 -- a literal is determined by the pair that falsifies it

@@ -1,6 +1,6 @@
 -- Where no event of a formula occurs, each clause has a literal among the printed ones. The variables of a false
 -- clause, each with its value, would be the clause's event, and the least clause that has an event gives it its number.
-use Rattle.std.proofs.Common.{inl, inr, ◌≡◌, ◌⊎◌, ℕ, zero, suc, ◌+◌, ◌<◌, Bool, true, false, not, ◌==◌, cond, ℤ, pos, List, [], ◌∷◌, length, map, filter, get_or, None, Some, slice_get, refl, sym, ap, subst, ◌∙◌, arith, All, Contains, eq-eqb, ne_eqb, eqb-true, zero-add}
+use Rattle.std.proofs.Common.{inl, inr, ◌≡◌, ◌⊎◌, ℕ, zero, suc, ◌+◌, ◌<◌, Bool, true, false, not, ◌==◌, ℤ, pos, List, [], ◌∷◌, length, map, filter, get_or, None, Some, slice_get, refl, sym, ap, subst, ◌∙◌, arith, All, Contains, eq-eqb, ne_eqb, eqb-true}
 use Rattle.std.specs.List.{list_any, range_with_len}
 use Rattle.std.specs.List.Sorted.{IsStrictlyIncreasing}
 use Rattle.std.proofs.lemmas.Bool.{cases_eq, false≢true}
@@ -11,31 +11,15 @@ use Rattle.std.proofs.lemmas.List.Elements.{Contains-get_or, filter_passes}
 use Rattle.std.proofs.lemmas.List.Kept.{IsStrictlyIncreasing-filter}
 use Rattle.std.proofs.lemmas.Option.{slice_get_within, slice_get-get_or, get_or_from_slice_get}
 use Rattle.pop_model.specs.Stacks.{StackTable, value_at}
-use Rattle.pop_model.specs.Popping.{Cube, cursor, variables, Occurs}
+use Rattle.pop_model.specs.Popping.{Cube, cursor, variables, Occurs, current}
 use Rattle.pop_model.specs.Runs.{IsFinished}
-use Rattle.pop_model.proofs.Rising.{member_cases, head_member, tail_member}
-use Rattle.graph_read.proofs.Numbering.{contains_map, contains_map_from}
+use Rattle.pop_model.proofs.Members.{in_range}
+use Rattle.graph_read.proofs.Numbering.{contains_map, contains_map_from, contains_filter}
 use Rattle.dimacs_read.specs.Cnf.{Cnf, AreLiterals, IsLiteral, empty_in, first_empty}
 use Rattle.dimacs_read.specs.Falsifying.{AreEventsOf, Falsifies, HasCube, falsifier}
 use Rattle.printed_samples.specs.Assignments.{IsSatisfied}
 use Rattle.printed_samples.specs.Laws.{HaveBits, instance_over}
 use Rattle.printed_samples.proofs.Literals.{words_at, word_among, literal_is, falsifier_below}
-
--- a member that passes a filter
-contains_filter : {X : Type 0} (test : X → Bool) (xs : List X) (x : X) → Contains xs x → test x ≡ true
-    → Contains (filter test xs) x
-contains_filter test [] x has passes = absurd (omega (arith, has.1))
-contains_filter test (y ∷ xs) x has passes = elim (member_cases y xs x has) [
-  | inl same ↦
-      subst (λ b. Contains (cond b (y ∷ filter test xs) (filter test xs)) x) (sym (ap test same ∙ passes))
-      (subst (Contains (y ∷ filter test xs)) same (head_member y (filter test xs)))
-  | inr behind ↦
-      let rest = contains_filter test xs x behind passes in
-      elim (test y) as (λ b. Contains (cond b (y ∷ filter test xs) (filter test xs)) x) [
-        | true ↦ tail_member y (filter test xs) x rest
-        | false ↦ rest
-      ]
-]
 
 -- a member of a filtered list passes
 passes_filter : (test : ℕ → Bool) (xs : List ℕ) (x : ℕ) → Contains (filter test xs) x → test x ≡ true
@@ -48,11 +32,6 @@ range_rises n k within =
     let here = get_or-range_with_len 0 n k 0 (omega (arith, size, within)) in
     let there = get_or-range_with_len 0 n (k + 1) 0 (omega (arith, size, within)) in
     omega (arith, here, there)
-
--- a number below n is among them
-in_range : (n v : ℕ) → v < n → Contains (range_with_len 0 n) v
-in_range n v below =
-    (v, omega (arith, length-range_with_len 0 n, below), get_or-range_with_len 0 n v v below ∙ zero-add v)
 
 -- the clause has a literal of this variable
 abbrev pub names_variable : List ℤ → ℕ → Bool
@@ -161,10 +140,6 @@ not_empty i ((l ∷ ls) ∷ clauses) zero clause none at =
     let same : l ∷ ls ≡ clause = get_or_from_slice_get ((l ∷ ls) ∷ clauses) zero clause clause at in
     subst (λ (c : List ℤ). 0 < length c) same (omega arith)
 not_empty i ((l ∷ ls) ∷ clauses) (suc k) clause none at = not_empty (i + 1) clauses k clause none at
-
--- the current value of a variable
-abbrev pub current : StackTable → List ℕ → ℕ → ℕ
-current s c v = value_at s v (cursor c v)
 
 -- a literal of a clause is printed, or all are false
 pub printed_or_false : (n : ℕ) (s : StackTable) (c : List ℕ) (clause : List ℤ) → All (IsLiteral n) clause → length c ≡ n

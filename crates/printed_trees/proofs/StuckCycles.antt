@@ -25,11 +25,12 @@ use Rattle.graph_read.proofs.Numbering.{contains_map, contains_map_from}
 use Rattle.cycle_popping.specs.Trees.{variable_of, heads_at, heads_of_tree}
 use Rattle.cycle_popping.proofs.TreeRows.{variable_below}
 use Rattle.pop_print.specs.declared.facts.Facts.TheVariants.{Tree}
+use Rattle.pop_print.proofs.TreePlaces.{vertex_rises}
 use Rattle.printed_samples.specs.Arrows.{Arrow}
 use Rattle.printed_trees.specs.Trees.{slot_arrow, arrows_to, AreSteps}
 use Rattle.printed_trees.specs.ArrowCycles.{IsArrowCycle}
 use Rattle.printed_trees.specs.Laws.{cycles_over, IsTreeState, PrintedCycles}
-use Rattle.printed_trees.proofs.Vertices.{vertices_rise, vertex_back, variable_back}
+use Rattle.printed_trees.proofs.Vertices.{vertex_back, variable_back}
 use Rattle.printed_trees.proofs.TreeArrows as over
 use Rattle.printed_samples.proofs.StuckNumbers.{IsNamed, are_stuck}
 
@@ -43,7 +44,7 @@ rising_vertices root vs rising k within =
     let size = length-map vs (vertex_of root) in
     let here = get_or-map (vertex_of root) vs k 0 0 (omega (arith, size, within)) in
     let next = get_or-map (vertex_of root) vs (k + 1) 0 0 (omega (arith, size, within)) in
-    let less = vertices_rise root (get_or vs k 0) (get_or vs (k + 1) 0) (rising k (omega (arith, size, within))) in
+    let less = vertex_rises root (get_or vs k 0) (get_or vs (k + 1) 0) (rising k (omega (arith, size, within))) in
     omega (arith, here, next, less)
 
 -- a variable has one vertex
@@ -287,7 +288,7 @@ first_vertices_rise root heads e f (cycle, unit) (other, unit') less =
     (omega (arith, some, length-map e.cube (λ (p : ℕ × ℕ). p.0))) in
     let there = get_or-map (vertex_of root) (variables f.cube) 0 0 0
     (omega (arith, some', length-map f.cube (λ (p : ℕ × ℕ). p.0))) in
-    let rises = vertices_rise root (first_of e.cube) (first_of f.cube) (omega (arith, unit, unit', less)) in
+    let rises = vertex_rises root (first_of e.cube) (first_of f.cube) (omega (arith, unit, unit', less)) in
     omega (arith, here, there, rises)
 
 -- the law

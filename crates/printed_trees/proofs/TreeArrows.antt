@@ -19,10 +19,11 @@ use Rattle.graph_read.proofs.VisitedEdges.{other_end_vertex}
 use Rattle.cycle_popping.specs.Trees.{variable_of, heads_at, heads_of_tree}
 use Rattle.cycle_popping.proofs.TreeRows.{variable_below, edge_is}
 use Rattle.pop_print.specs.Output.{arrow_line, tree_lines}
+use Rattle.pop_print.proofs.TreePlaces.{vertex_rises}
 use Rattle.printed_samples.specs.Arrows.{Arrow, lines_of, HasEnds, IsAlong}
 use Rattle.printed_trees.specs.Trees.{slot_arrow, arrows_to}
 use Rattle.printed_trees.specs.Laws.{IsTreeState}
-use Rattle.printed_trees.proofs.Vertices.{vertices_rise, no_variable, vertex_back, listed_stands, has_ends}
+use Rattle.printed_trees.proofs.Vertices.{no_variable, vertex_back, listed_stands, has_ends}
 
 -- the arrow of a variable and its slot
 abbrev pair_arrow : GraphOf → ℕ → ℕ × ℕ → Arrow
@@ -105,7 +106,7 @@ module _ (g : GraphOf) (root : ℕ) (s : StackTable) (c : List ℕ) (is : IsTree
   tails_rise k within =
       let here = tail_there k (omega (arith, tails_count)) in
       let next = tail_there (k + 1) (omega (arith, tails_count)) in
-      omega (arith, here, next, vertices_rise root k (k + 1) (omega arith))
+      omega (arith, here, next, vertex_rises root k (k + 1) (omega arith))
 
   -- each vertex but the root is that of a variable
   pub variable_at : (w : ℕ) → IsVertex g.vertices w → w ≢ root → (v : ℕ) × (v < size) × (vertex_of root v ≡ w)

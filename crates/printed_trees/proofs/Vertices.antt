@@ -1,5 +1,5 @@
 -- Variables and their vertices, and the edges at a vertex.
-use Rattle.std.proofs.Common.{inl, inr, ◌≡◌, ◌≢◌, ℕ, ◌+◌, ◌-◌, ◌<◌, ◌≤◌, Bool, true, cond, ltb, ◌==◌, not, ◌&&◌, ◌||◌, get_or, Some, None, sym, ap, ap₂, ◌∙◌, arith, All, eqb-true, eq-eqb, ne_eqb}
+use Rattle.std.proofs.Common.{inl, inr, ◌≡◌, ◌≢◌, ℕ, ◌+◌, ◌-◌, ◌≤◌, Bool, true, cond, ltb, ◌==◌, not, ◌&&◌, ◌||◌, get_or, Some, None, sym, ap, ap₂, ◌∙◌, arith, All, eqb-true, eq-eqb, ne_eqb}
 use Rattle.std.proofs.lemmas.Bool.{cases_Bool, cases_eq, cases_lt, lt-ltb, le-ltb, false≢true}
 use Rattle.std.proofs.lemmas.Option.{none-some, same_Some, get_or_from_slice_get}
 use Rattle.std.proofs.lemmas.List.Elements.{All-map}
@@ -11,25 +11,6 @@ use Rattle.graph_read.proofs.IncidenceLemmas.{stands_at}
 use Rattle.graph_read.proofs.Numbering.{numbered, numbered_are}
 use Rattle.cycle_popping.specs.Trees.{variable_of}
 use Rattle.printed_samples.specs.Arrows.{HasEnds}
-
--- the vertices of the variables rise
-pub vertices_rise : (root a b : ℕ) → a < b → vertex_of root a < vertex_of root b
-vertices_rise root a b less = elim (cases_lt (b + 1) root) [
-  | inl low ↦
-      let here : vertex_of root b ≡ b + 1 = ap (λ t. cond t (b + 1) (b + 2)) (lt-ltb (b + 1) root low) in
-      let there : vertex_of root a ≡ a + 1 = ap (λ t. cond t (a + 1) (a + 2)) (lt-ltb (a + 1) root (omega arith)) in
-      omega (arith, here, there)
-  | inr high ↦
-      let here : vertex_of root b ≡ b + 2 = ap (λ t. cond t (b + 1) (b + 2)) (le-ltb (b + 1) root high) in
-      elim (cases_lt (a + 1) root) [
-        | inl low ↦
-            let there : vertex_of root a ≡ a + 1 = ap (λ t. cond t (a + 1) (a + 2)) (lt-ltb (a + 1) root low) in
-            omega (arith, here, there)
-        | inr up ↦
-            let there : vertex_of root a ≡ a + 2 = ap (λ t. cond t (a + 1) (a + 2)) (le-ltb (a + 1) root up) in
-            omega (arith, here, there)
-      ]
-]
 
 -- what isn't the root has a variable
 variable_there : (root w : ℕ) → w ≢ root → variable_of root w ≡ Some (cond (ltb w root) (w - 1) (w - 2))

@@ -5,8 +5,8 @@ use Rattle.std.proofs.lemmas.List.Kept.{IsStrictlyIncreasing-filter}
 use Rattle.pop_model.specs.Stacks.{StackTable}
 use Rattle.pop_model.specs.Popping.{Cube}
 use Rattle.pop_model.specs.Families.{Event}
+use Rattle.pop_model.proofs.Members.{in_range}
 use Rattle.confluence_core.proofs.Places.{listed, event_at, event_to}
-use Rattle.confluence_core.proofs.Suspects.{unit_in}
 use Rattle.prs_rounds.specs.Resampling.{IsResampled}
 use Rattle.prs_rounds.specs.Units.{AreUnitsOf}
 use Rattle.prs_rounds.specs.Growth.{mark_of, is_joined}
@@ -51,5 +51,5 @@ resampled_units s rows c g units grown is = subst (AreUnitsOf (IsResampled (list
         ∙ ap (event_at rows) is_u in
         let joined : mark_of g u ≡ Joined = (grown.joined u within).1
         (subst (IsResampled (listed s rows) c) same resampled) in
-        filter_has (λ u. is_joined (mark_of g u)) (range_with_len 0 (length rows)) u (unit_in (length rows) u within)
+        filter_has (λ u. is_joined (mark_of g u)) (range_with_len 0 (length rows)) u (in_range (length rows) u within)
         (ap is_joined joined)

@@ -134,13 +134,7 @@ pub meets_after : (rows : List (ℕ × Cube)) (values : List ℕ) (a b : Growth)
     → (e : Cube) → Meets a e → Meets b e
 meets_after rows values a b first e (p, has, is) = (p, has, ap (λ x. get_or x.items p.0 false) first.covered ∙ is)
 
--- the row of a covered variable has places of events that meet it
-pub row_known : (rows : List (ℕ × Cube)) (index : List (List ℕ)) → IsIndex rows index → (v : ℕ) → v < length index
-    → All (λ u. u < length rows) (get_or index v [])
-row_known rows index is v below k d h =
-    ((is.exact v (get_or (get_or index v []) k d) below).0 (Contains-get_or (get_or index v []) k d h)).0
-
--- and each of these events meets it
+-- each event in the row of a covered variable meets it
 pub row_meets : (rows : List (ℕ × Cube)) (index : List (List ℕ)) (g : Growth) → IsIndex rows index → (v : ℕ)
     → v < length index → is_covered g v ≡ true → All (λ u. Meets g (cube_at rows u)) (get_or index v [])
 row_meets rows index g is v below covered k d h =

@@ -4,10 +4,10 @@ use Rattle.std.specs.Prelude.{slice_index}
 use Rattle.std.proofs.lemmas.Bool.{cases_eq, cases_lt}
 use Rattle.std.proofs.lemmas.List.Elements.{All-push, All-contains, Contains-push, Contains-push_cases, Contains-append_left}
 use Rattle.pop_model.specs.Stacks.{StackTable, height_of, value_at}
-use Rattle.pop_model.specs.Popping.{cursor}
+use Rattle.pop_model.specs.Popping.{cursor, current}
 use Rattle.pop_model.specs.Places.{IsLeast}
 use Rattle.confluence_core.specs.Loops.{Raises}
-use Rattle.prs_rounds.specs.Values.{AreValues, AreRead, current}
+use Rattle.prs_rounds.specs.Values.{AreValues, AreRead}
 use Rattle.prs_rounds.specs.Moves.{IsLast, IsLeastShort, Puts}
 
 module _ (s : StackTable) (c : List ℕ) where

@@ -1,13 +1,14 @@
 -- The run by rounds has one result. A round leaves one vector, since each cursor is told by whether its variable is
 -- resampled; and where a run ends, there is no further round.
 use Rattle.std.proofs.Common.{inl, inr, ◌≡◌, ℕ, zero, suc, List, length, Option, None, Some, MatchOption, refl, sym, ap, subst, ◌∙◌, arith, ext_get_or}
-use Rattle.std.proofs.lemmas.Bool.{cases_eq, cases_lt}
+use Rattle.std.proofs.lemmas.Bool.{cases_eq}
 use Rattle.pop_model.specs.Popping.{cursor}
 use Rattle.pop_model.specs.Families.{Event}
 use Rattle.pop_model.specs.Instances.{Instance}
 use Rattle.pop_model.specs.Places.{IsLeast}
 use Rattle.pop_model.specs.Runs.{IsFinished, IsStuckList, start_of}
 use Rattle.pop_model.proofs.OneRun.{one_stuck_list}
+use Rattle.pop_model.proofs.Leasts.{one_least}
 use Rattle.prs_rounds.specs.Resampling.{IsResampledVariable}
 use Rattle.prs_rounds.specs.Rounds.{IsRound, Rounds, HasNoNext, IsRoundsEnd}
 use Rattle.prs_rounds.specs.Laws.{SameRoundsEnd}
@@ -61,16 +62,6 @@ same_rounds i (suc n) (suc m) c a b short other run run' stop stop' =
     let next : run.0 ≡ run'.0 = one_round i c run.0 run'.0 run.1 run'.1 in
     let rest = same_rounds i n m run'.0 a b short other (subst (λ d. Rounds i n d a) next run.2) run'.2 stop stop' in
     record { rounds = ap suc rest.rounds; end = rest.end }
-
--- two least numbers are the same
-one_least : (P : ℕ → Type 0) (v w : ℕ) → IsLeast P v → IsLeast P w → v ≡ w
-one_least P v w a b = elim (cases_lt v w) [
-  | inl less ↦ absurd (b.none_before v less a.holds)
-  | inr not_less ↦ elim (cases_lt w v) [
-    | inl less ↦ absurd (a.none_before w less b.holds)
-    | inr not_less' ↦ omega arith
-  ]
-]
 
 -- where no event occurs, no variable is resampled
 none_short : (i : Instance) (c : List ℕ) (v : ℕ) → IsFinished i c → HasNoNext i c v → ⊥

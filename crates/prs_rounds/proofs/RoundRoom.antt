@@ -1,12 +1,12 @@
 -- How many rounds there is room for: each moves a cursor on.
-use Rattle.std.proofs.Common.{inl, inr, ◌≡◌, ℕ, zero, suc, add-zero, ◌+◌, ◌*◌, ◌^◌, ◌<◌, ◌≤◌, List, [], ◌∷◌, length, get_or, refl, sym, subst, arith, All}
+use Rattle.std.proofs.Common.{inl, inr, ◌≡◌, ℕ, ◌+◌, ◌*◌, ◌^◌, ◌<◌, ◌≤◌, List, [], length, get_or, refl, sym, subst, arith, All}
 use Rattle.std.proofs.lemmas.Bool.{cases_lt}
 use Rattle.std.proofs.lemmas.List.Elements.{Contains-get_or}
 use Rattle.pop_model.specs.Stacks.{StackTable, variables_of, height_of, IsTable}
 use Rattle.pop_model.specs.Popping.{Cube, cursor}
 use Rattle.pop_model.specs.Families.{AreEvents}
 use Rattle.pop_model.specs.Instances.{FitsStacks}
-use Rattle.pop_model.proofs.Room.{left_from, left_bound}
+use Rattle.pop_model.proofs.Room.{left_from, left_bound, left_falls_more}
 use Rattle.pop_model.proofs.Diamond.{names_it}
 use Rattle.pop_instance.specs.Events.{cube_at}
 use Rattle.confluence_core.proofs.Places.{listed, event_at, event_from}
@@ -14,40 +14,6 @@ use Rattle.prs_rounds.specs.Resampling.{IsResampledVariable}
 use Rattle.prs_rounds.specs.Rounds.{IsRound}
 use Rattle.prs_rounds.specs.Grown.{StartsAt}
 use Rattle.prs_rounds.proofs.OnlyOccurring.{occurs_resampled}
-
--- each number of c is at most that of d (that of `pop_model` doesn't unfold here)
-abbrev Below : List ℕ → List ℕ → Type 0
-Below c d = (w : ℕ) → w < length c → get_or c w 0 ≤ get_or d w 0
-
--- cursors that are no less leave no more room
-left_falls : (s : StackTable) (v : ℕ) (c d : List ℕ) → length c ≡ length d → Below c d
-    → left_from s v d ≤ left_from s v c
-left_falls s v [] [] e h = omega arith
-left_falls s v [] (y ∷ d) e h = absurd (omega arith)
-left_falls s v (x ∷ c) [] e h = absurd (omega arith)
-left_falls s v (x ∷ c) (y ∷ d) e h =
-    let rest : left_from s (suc v) d ≤ left_from s (suc v) c =
-    left_falls s (suc v) c d (omega arith) (λ w below. h (suc w) (omega arith)) in
-    let head : x ≤ y = h 0 (omega arith) in
-    omega arith
-
--- and there is less room where one of them is greater
-left_falls_more : (s : StackTable) (v : ℕ) (c d : List ℕ) (at : ℕ) → length c ≡ length d → Below c d → at < length c
-    → get_or c at 0 < get_or d at 0 → get_or c at 0 < height_of s (v + at) → left_from s v d < left_from s v c
-left_falls_more s v [] d at e h within more room = absurd (omega arith)
-left_falls_more s v (x ∷ c) [] at e h within more room = absurd (omega arith)
-left_falls_more s v (x ∷ c) (y ∷ d) zero e h within more room =
-    let rest : left_from s (suc v) d ≤ left_from s (suc v) c =
-    left_falls s (suc v) c d (omega arith) (λ w below. h (suc w) (omega arith)) in
-    let here : x < height_of s v = subst (λ w. x < height_of s w) (add-zero v) room in
-    omega arith
-left_falls_more s v (x ∷ c) (y ∷ d) (suc at) e h within more room =
-    let there : v + suc at ≡ suc v + at = omega arith in
-    let rest : left_from s (suc v) d < left_from s (suc v) c =
-    left_falls_more s (suc v) c d at (omega arith) (λ w below. h (suc w) (omega arith)) (omega arith) more
-    (subst (λ w. get_or c at 0 < height_of s w) there room) in
-    let head : x ≤ y = h zero (omega arith) in
-    omega arith
 
 -- a round takes from the room
 pub round_falls : (s : StackTable) (rows : List (ℕ × Cube)) (c new values found : List ℕ) → AreEvents rows

@@ -8,17 +8,17 @@ use Rattle.std.proofs.lemmas.List.Kept.{IsStrictlyIncreasing-filter}
 use Rattle.std.proofs.lemmas.List.FromFn.{get_or-range_with_len, length-range_with_len}
 use Rattle.std.proofs.lemmas.List.Sums.{AllPass-from_list_all, list_all-from_AllPass}
 use Rattle.pop_model.specs.Stacks.{StackTable}
-use Rattle.pop_model.specs.Popping.{Cube, Occurs, NamesBelow, values_at}
+use Rattle.pop_model.specs.Popping.{Cube, Occurs, NamesBelow, values_at, current}
 use Rattle.pop_model.specs.Families.{Event}
 use Rattle.pop_model.proofs.ValuesLemmas.{length-values_at, value-values_at}
 use Rattle.pop_model.proofs.Rising.{member_cases, head_member, tail_member}
+use Rattle.pop_model.proofs.Members.{in_range}
 use Rattle.pop_instance.specs.Events.{cube_at}
 use Rattle.confluence_core.proofs.Places.{listed, event_at, event_from, event_to}
-use Rattle.confluence_core.proofs.Suspects.{unit_in}
 use Rattle.prs_rounds.specs.Resampling.{OccursIn}
 use Rattle.prs_rounds.specs.Units.{AreUnitsOf}
 use Rattle.prs_rounds.specs.Grown.{StartsAt}
-use Rattle.prs_rounds.specs.Values.{AreValues, AreRead, current, shows, shown_among, shown_places}
+use Rattle.prs_rounds.specs.Values.{AreValues, AreRead, shows, shown_among, shown_places}
 
 module _ (s : StackTable) (c values : List ℕ) (are : AreValues s c values) (e : Cube)
     (below : NamesBelow e (length c)) where
@@ -146,7 +146,7 @@ violated_are s rows c values units are fits is = subst (AreUnitsOf (OccursIn (li
         let within : u < length rows = subst (λ n. n < length rows) is_u at.within in
         let cube : e.cube ≡ cube_at rows u = sym at.cube ∙ ap (cube_at rows) is_u in
         filter_has (λ u. shows values (cube_at rows u)) (range_with_len 0 (length rows)) u
-        (unit_in (length rows) u within)
+        (in_range (length rows) u within)
         (occurs_shown s c values are (cube_at rows u) (fits u (0, []) within) (subst (Occurs s c) cube occurs.occurs))
 
 -- the values and the places of shown events are those from which the search starts
@@ -161,7 +161,7 @@ starts_from s rows c values found are fits is = record {
     λ has. shown_occurs s c values are (cube_at rows u) (fits u (0, []) within) (kept u has).1,
     λ occurs. subst (λ xs. Contains xs u) (sym is)
         (filter_has (λ u. shows values (cube_at rows u)) (range_with_len 0 (length rows)) u
-        (unit_in (length rows) u within)
+        (in_range (length rows) u within)
         (occurs_shown s c values are (cube_at rows u) (fits u (0, []) within) occurs)),
   );
 }

@@ -11,9 +11,9 @@ use Rattle.pop_model.specs.Families.{Event, IsEvent}
 use Rattle.pop_model.specs.Families.Family.{Listed}
 use Rattle.pop_model.specs.Runs.{IsStuckList}
 use Rattle.pop_model.proofs.Rising.{head_member, tail_member, member_cases}
+use Rattle.pop_model.proofs.Members.{in_range}
 use Rattle.pop_instance.specs.Events.{cube_at}
 use Rattle.confluence_core.proofs.Places.{listed, event_at, event_from, event_to}
-use Rattle.confluence_core.proofs.Suspects.{unit_in}
 use Rattle.prs_rounds.specs.Resampling.{OccursIn}
 use Rattle.prs_rounds.specs.Units.{AreUnitsOf}
 use Rattle.prs_rounds.proofs.ShownLemmas.{filter_keeps, filter_has, range_below, range_rises}
@@ -101,7 +101,7 @@ some_stuck s rows c = (
         (range_with_len 0 (length rows)))) x) same
         (mapped_has rows (filter (λ u. occurs_test s c (cube_at rows u)) (range_with_len 0 (length rows))) e.unit
         (filter_has (λ u. occurs_test s c (cube_at rows u)) (range_with_len 0 (length rows)) e.unit
-        (unit_in (length rows) e.unit at.within) (occurs_tested s c (cube_at rows e.unit)
+        (in_range (length rows) e.unit at.within) (occurs_tested s c (cube_at rows e.unit)
         (subst (Occurs s c) (sym at.cube) occurs))))
 
 -- events of the units of those that occur are the stuck list

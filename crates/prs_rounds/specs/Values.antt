@@ -1,15 +1,11 @@
 -- The current value of each variable, and what it shows of cubes.
 use Rattle.std.specs.Prelude.{◌≡◌, ◌==◌, ℕ, ◌+◌, ◌<◌, Bool, List, [], length, filter, slice_index}
 use Rattle.std.specs.List.{list_all, range_with_len}
-use Rattle.pop_model.specs.Stacks.{StackTable, value_at}
-use Rattle.pop_model.specs.Popping.{Cube, cursor}
+use Rattle.pop_model.specs.Stacks.{StackTable}
+use Rattle.pop_model.specs.Popping.{Cube, current}
 use Rattle.pop_model.specs.Families.{Family}
 use Rattle.pop_model.specs.Families.Family.{Listed, Cycles}
 use Rattle.pop_instance.specs.Events.{cube_at}
-
--- the current value of a variable
-abbrev pub current : StackTable → List ℕ → ℕ → ℕ
-current s c v = value_at s v (cursor c v)
 
 -- the values of all variables
 pub record AreValues (s : StackTable) (c values : List ℕ) : Type 0 where

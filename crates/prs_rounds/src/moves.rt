@@ -1,4 +1,4 @@
-ghost use Rattle.std.specs.Prelude.{◌≡◌, ◌≢◌, ◌<◌, ◌≤◌, ◌+◌, ◌-◌, ◌^◌, ◌↔◌, ℕ, List, min, length, slice_index, All, AllPairs, IsTrue, IfOk, OnOk, MatchOption};
+ghost use Rattle.std.specs.Prelude.{◌≡◌, ◌≢◌, ◌<◌, ◌≤◌, ◌+◌, ◌-◌, ◌^◌, ◌↔◌, ℕ, List, min, length, All, AllPairs, IsTrue, OnOk, MatchOption};
 ghost use Rattle.pop_model.specs.Stacks.{variables_of, height_of};
 ghost use Rattle.pop_model.specs.Popping.{AreWithin, cursor};
 ghost use Rattle.confluence_core.specs.Loops.{Raises};

@@ -16,13 +16,13 @@ use Rattle.pop_stacks.specs.declared.stack_spec.StackSpec.{StackSpec}
 use Rattle.pop_stacks.specs.declared.stack_spec.StackSpec.TheVariants.{Key, Given}
 use Rattle.pop_words.specs.declared.command.Command.{Command}
 use Rattle.pop_words.specs.declared.command.Command.TheVariants.{Formula}
-use Rattle.pop_words.specs.Options.{command_word}
+use Rattle.pop_words.specs.Options.{command_word, paused}
 use Rattle.pop_words.specs.Values.{key_in, rows_in}
 use Rattle.pop_words.proofs.ListTests.{found_is}
 use Rattle.pop_words.proofs.TableFacts.{same_command}
-use Rattle.run_cert.specs.Heads.{certified, command_line, stacks_line, height_line, root_line, input_line, rows_text, MayBeStacks, MayBeRoot, MayBeSize}
+use Rattle.pop_log.proofs.DecimalsLemmas.{wide}
+use Rattle.run_cert.specs.Heads.{command_line, stacks_line, height_line, root_line, input_line, rows_text, MayBeStacks, MayBeRoot, MayBeSize}
 use Rattle.run_cert.specs.HeadLines.{MayBeCommand, IsHeight, InputBegins, TailBegins, HeightBegins, StacksNext, StacksBegin, Says}
-use Rattle.run_cert.proofs.HeadWords.{small}
 use Rattle.run_cert.proofs.SpelledRows.{rows_again}
 use Rattle.run_cert.proofs.FirstLines.{then_live}
 
@@ -76,7 +76,7 @@ one_number l label digits m is fits are n fits' same =
 
 -- it is that of one size
 pub size_same : (n m : ℕ) → MayBeSize n → MayBeSize m → input_line n ≡ input_line m → n ≡ m
-size_same n m fits fits' same = labeled_same (codes "input ") n m (small n fits) (small m fits') same
+size_same n m fits fits' same = labeled_same (codes "input ") n m (wide n fits) (wide m fits') same
 
 -- behind it may stand what will
 abbrev pub NoNext : ℕ → List (List ℕ) → Type 0
@@ -94,7 +94,7 @@ input_live = then_live MayBeSize input_line NoNext size_same size_live 0 (omega 
 
 -- it is that of one root
 pub root_same : (n m : ℕ) → MayBeRoot true n → MayBeRoot true m → root_line n ≡ root_line m → n ≡ m
-root_same n m fits fits' same = labeled_same (codes "root ") n m (small n fits.1) (small m fits'.1) same
+root_same n m fits fits' same = labeled_same (codes "root ") n m (wide n fits.1) (wide m fits'.1) same
 
 -- there are lines from the root on
 pub tail_live : (rooted : Bool) → Begins (TailBegins rooted) []
@@ -209,7 +209,7 @@ formula_may = (0, omega arith, refl)
 
 -- the command of a word
 abbrev named : List ℕ → Option Command
-named word = find (λ c. bytes_eq (command_word c) word) certified
+named word = find (λ c. bytes_eq (command_word c) word) paused
 
 -- it is found again
 named_again : (c : Command) → MayBeCommand c → named (command_word c) ≡ Some c
@@ -226,6 +226,6 @@ command_said l word None is found = λ c may same.
     let there : word ≡ command_word c = label_same (codes "cert 1 ") word (command_word c) (sym is ∙ same) in
     let one : named word ≡ Some c = ap named there ∙ named_again c may in absurd (cc)
 command_said l word (Some c) is found =
-    let one = found_is (λ d. bytes_eq (command_word d) word) certified c (sym found) in
+    let one = found_is (λ d. bytes_eq (command_word d) word) paused c (sym found) in
     let same : command_word c ≡ word = (bytes_eq-Decides (command_word c) word).0 one.1 in
     (one.0, is ∙ ap (λ w. line (codes "cert 1 " ++ w)) (sym same))

@@ -10,9 +10,10 @@ use Rattle.pop_log.proofs.LogTextsLemmas.{decimal_digits}
 use Rattle.pop_stacks.specs.declared.stack_spec.StackSpec.{StackSpec}
 use Rattle.pop_stacks.specs.declared.stack_spec.StackSpec.TheVariants.{Key, Given}
 use Rattle.pop_words.specs.declared.command.Command.{Command}
-use Rattle.pop_words.specs.Options.{command_word}
+use Rattle.pop_words.specs.Options.{command_word, paused}
 use Rattle.pop_words.proofs.ListTests.{all_at}
-use Rattle.run_cert.specs.Heads.{Head, certified, has_root, row_text, rows_text, stacks_line, more_lines, tail_lines, head_lines, MayBeStacks, MayBeHeight, MayBeRoot, MayBeSize, IsHead}
+use Rattle.pop_log.proofs.DecimalsLemmas.{wide}
+use Rattle.run_cert.specs.Heads.{Head, has_root, row_text, rows_text, stacks_line, more_lines, tail_lines, head_lines, MayBeStacks, MayBeHeight, MayBeRoot, MayBeSize, IsHead}
 use Rattle.run_cert.proofs.Joined.{Lacks, lacks_append, digits_lack, joined_lacks}
 
 -- literal bytes lack a sign by a test
@@ -21,10 +22,6 @@ lacks_by sign [] test = tt
 lacks_by sign (b ∷ bytes) test =
     let parts = or_parts (eqb b sign) (list_any (λ c. eqb c sign) bytes) test in
     (λ same. eqb-false b sign parts.0 same, lacks_by sign bytes parts.1)
-
--- a number of 32 bits has 64 bits
-pub small : (n : ℕ) → n < 2 ^ 32 → n < 2 ^ 64
-small n less = omega (arith, less)
 
 -- a number has no line end, comma or semicolon
 number_lacks : (sign n : ℕ) → (sign < 48) ⊎ (57 < sign) → n < 2 ^ 64 → Lacks sign (decimal n)
@@ -37,9 +34,9 @@ abbrev is_one_line : Command → Bool
 is_one_line c = not (list_any (λ b. eqb b 10) (codes "cert 1 " ++ command_word c))
 
 -- so it is with the commands that a certificate may have
-pub command_lacks : (c : Command) → Contains certified c → Lacks 10 (codes "cert 1 " ++ command_word c)
+pub command_lacks : (c : Command) → Contains paused c → Lacks 10 (codes "cert 1 " ++ command_word c)
 command_lacks c may =
-    lacks_by 10 (codes "cert 1 " ++ command_word c) (not-true _ (all_at is_one_line certified refl c may))
+    lacks_by 10 (codes "cert 1 " ++ command_word c) (not-true _ (all_at is_one_line paused refl c may))
 
 -- a place of a list that lacks a sign
 index_lacks : (sign : ℕ) (t : List ℕ) (k : ℕ) → 0 ≢ sign → Lacks sign t → slice_index t k ≢ sign
@@ -77,7 +74,7 @@ pub numbers_lack : (sign : ℕ) (row : List ℕ) → (sign < 48) ⊎ (57 < sign)
     → AllByRecursion (Lacks sign) (map decimal row)
 numbers_lack sign [] other fits = tt
 numbers_lack sign (n ∷ row) other fits =
-    (number_lacks sign n other (small n fits.0), numbers_lack sign row other fits.1)
+    (number_lacks sign n other (wide n fits.0), numbers_lack sign row other fits.1)
 
 -- a row has no sign but digits and commas
 row_lacks : (sign : ℕ) (row : List ℕ) → (sign < 48) ⊎ (57 < sign) → 44 ≢ sign → RowFits row → Lacks sign (row_text row)
@@ -136,10 +133,10 @@ lines_first (l ∷ ls) x are =
 tail_are : (rooted : Bool) (r n : ℕ) → MayBeRoot rooted r → MayBeSize n
     → AllByRecursion IsLine (tail_lines rooted r n)
 tail_are true r n root size = (
-  labeled_line (codes "root ") r refl (small r root.1),
-  (labeled_line (codes "input ") n refl (small n size), tt),
+  labeled_line (codes "root ") r refl (wide r root.1),
+  (labeled_line (codes "input ") n refl (wide n size), tt),
 )
-tail_are false r n root size = (labeled_line (codes "input ") n refl (small n size), tt)
+tail_are false r n root size = (labeled_line (codes "input ") n refl (wide n size), tt)
 
 -- the first line of stacks
 stacks_is : (s : StackSpec) → MayBeStacks s → IsLine (stacks_line s)

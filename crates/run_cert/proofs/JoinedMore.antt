@@ -3,6 +3,7 @@ use Rattle.std.proofs.Common.{◌≡◌, ℕ, zero, suc, ◌+◌, ◌<◌, ◌�
 use Rattle.std.specs.List.{concat, join_with_byte}
 use Rattle.std.proofs.lemmas.Bool.{lt-ltb}
 use Rattle.std.proofs.lemmas.List.{append-nil, take_more, map_push}
+use Rattle.std.proofs.lemmas.List.Folds.{concat-append}
 use Rattle.run_cert.specs.Heads.{row_text, rows_text}
 
 -- a word more
@@ -53,18 +54,14 @@ rows_are (row ∷ rows) =
     ap (λ b. cond b (32 ∷ []) [] ++ join_with_byte 59 (map row_text (row ∷ rows)))
     (sym (lt-ltb 0 (length (row ∷ rows)) (omega arith)))
 
-concat_both : (a b : List (List ℕ)) → concat (a ++ b) ≡ concat a ++ concat b
-concat_both [] b = refl
-concat_both (x ∷ a) b = ap (λ l. x ++ l) (concat_both a b) ∙ sym (append_assoc x (concat a) (concat b))
-
 -- the parts of a certificate as they are written one behind another
 pub parts_joined : (c : List ℕ) (ss rs : List (List ℕ)) (n x y : List ℕ)
     → ((((c ++ concat ss) ++ concat rs) ++ n) ++ x) ++ y ≡ concat (c ∷ ss ++ (rs ++ n ∷ [])) ++ (x ++ y)
 parts_joined c ss rs n x y =
     let last : concat (rs ++ n ∷ []) ≡ concat rs ++ n =
-    concat_both rs (n ∷ []) ∙ ap (λ l. concat rs ++ l) (append-nil n) in
+    concat-append rs (n ∷ []) ∙ ap (λ l. concat rs ++ l) (append-nil n) in
     let whole : concat (c ∷ ss ++ (rs ++ n ∷ [])) ≡ c ++ (concat ss ++ (concat rs ++ n)) =
-    ap (λ l. c ++ l) (concat_both ss (rs ++ n ∷ []) ∙ ap (λ l. concat ss ++ l) last) in
+    ap (λ l. c ++ l) (concat-append ss (rs ++ n ∷ []) ∙ ap (λ l. concat ss ++ l) last) in
     append_assoc (((c ++ concat ss) ++ concat rs) ++ n) x y
     ∙ ap (λ l. l ++ (x ++ y)) (append_assoc (c ++ concat ss) (concat rs) n ∙ append_assoc c (concat ss) (concat rs ++ n)
     ∙ sym whole)

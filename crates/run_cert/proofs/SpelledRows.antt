@@ -1,22 +1,24 @@
 -- Rows that are printed are read again as they were: they are split at the signs between them, and each number is read
 -- of its digits.
-use Rattle.std.proofs.Common.{inl, inr, ◌≡◌, ◌≢◌, ℕ, ◌<◌, ◌^◌, Bool, true, false, ◌&&◌, nat_le, nat_lt, if◌then◌else◌, List, [], ◌∷◌, length, map, drop, Option, Some, None, refl, sym, ap, ap₂, subst, ◌∙◌, arith, decimal}
+use Rattle.std.proofs.Common.{inl, inr, ◌≡◌, ◌≢◌, ℕ, ◌<◌, ◌^◌, true, nat_le, nat_lt, if◌then◌else◌, List, [], ◌∷◌, length, map, drop, Option, Some, None, refl, sym, ap, ap₂, subst, ◌∙◌, arith, decimal}
 use Rattle.std.specs.List.{AllByRecursion, join_with_byte, list_all}
 use Rattle.std.specs.Cmp.Derive.{both_true}
 use Rattle.std.specs.Str.Parse.{digits_value}
-use Rattle.std.proofs.lemmas.Bool.{and_parts, le-leb, lt-ltb, ltb-true, ne_eqb}
+use Rattle.std.proofs.lemmas.Bool.{le-leb, lt-ltb, ne_eqb}
 use Rattle.std.proofs.lemmas.Fmt.{decimal_is_IsNumeral, decimal_nonempty, length-decimal-le}
 use Rattle.std.proofs.lemmas.List.{length-append}
 use Rattle.pop_edge.specs.Numbers.{is_digit, number_of}
+use Rattle.pop_edge.proofs.NumbersLemmas.{number_small}
 use Rattle.pop_stacks.specs.declared.stack_spec.StackSpec.TheVariants.{Given}
 use Rattle.pop_words.specs.Values.{cons_some, all_some, only_if, are_within, row_in, rows_in, comma_parts, semicolon_parts}
 use Rattle.pop_words.proofs.ValuesLemmas.{passed}
 use Rattle.pop_words.proofs.RowParts.{row_by_parts, rows_by_parts}
 use Rattle.pop_log.specs.Decimals.{AreDigits}
 use Rattle.pop_log.proofs.LogTextsLemmas.{decimal_digits}
+use Rattle.pop_log.proofs.DecimalsLemmas.{wide}
 use Rattle.run_cert.specs.Heads.{row_text, rows_text, MayBeStacks}
 use Rattle.run_cert.proofs.Joined.{split_joined}
-use Rattle.run_cert.proofs.HeadWords.{RowFits, small, numbers_lack, rows_lack}
+use Rattle.run_cert.proofs.HeadWords.{RowFits, numbers_lack, rows_lack}
 
 -- digits pass the test of digits
 digits_pass : (bs : List ℕ) → AreDigits bs → list_all is_digit bs ≡ true
@@ -27,12 +29,12 @@ digits_pass (b ∷ bs) are =
 -- a number is read again
 number_again : (n : ℕ) → n < 2 ^ 32 → number_of (decimal n) ≡ Some n
 number_again n fits =
-    let is : digits_value 10 (decimal n) ≡ n = (decimal_is_IsNumeral n (small n fits)).1 in
+    let is : digits_value 10 (decimal n) ≡ n = (decimal_is_IsNumeral n (wide n fits)).1 in
     let some : nat_le 1 (length (decimal n)) ≡ true =
-    le-leb 1 (length (decimal n)) (decimal_nonempty n (small n fits)) in
+    le-leb 1 (length (decimal n)) (decimal_nonempty n (wide n fits)) in
     let few : nat_le (length (decimal n)) 10 ≡ true =
-    le-leb (length (decimal n)) 10 (length-decimal-le 10 n (omega arith) (omega (arith, fits)) (small n fits)) in
-    let digits = digits_pass (decimal n) (decimal_digits n (small n fits)) in
+    le-leb (length (decimal n)) 10 (length-decimal-le 10 n (omega arith) (omega (arith, fits)) (wide n fits)) in
+    let digits = digits_pass (decimal n) (decimal_digits n (wide n fits)) in
     let low : nat_lt (digits_value 10 (decimal n)) (2 ^ 32) ≡ true =
     lt-ltb (digits_value 10 (decimal n)) (2 ^ 32) (omega (arith, is, fits)) in
     ap (λ b. if b then Some (digits_value 10 (decimal n)) else None)
@@ -55,7 +57,7 @@ row_some n (m ∷ a) fits =
 row_again : (row : List ℕ) → RowFits row → row_in (row_text row) ≡ Some row
 row_again [] fits = refl
 row_again (n ∷ ns) fits =
-    let some = row_some n ns (small n fits.0) in
+    let some = row_some n ns (wide n fits.0) in
     row_by_parts (row_text (n ∷ ns))
     (ne_eqb (length (row_text (n ∷ ns))) 0 (λ none. absurd (omega (arith, some, none))))
     ∙ ap (all_some number_of) (split_joined 44 (decimal n) (map decimal ns)
@@ -71,7 +73,7 @@ each_again (row ∷ rows) fits = ap₂ cons_some (row_again row fits.0) (each_ag
 joined_rows_some : (row : List ℕ) (rows : List (List ℕ)) → (◌≢◌ {A = List (List ℕ)} (row ∷ rows) ([] ∷ []))
     → AllByRecursion RowFits (row ∷ rows) → 0 < length (join_with_byte 59 (map row_text (row ∷ rows)))
 joined_rows_some [] [] differ fits = absurd (differ refl)
-joined_rows_some (n ∷ ns) [] differ fits = row_some n ns (small n fits.0.0)
+joined_rows_some (n ∷ ns) [] differ fits = row_some n ns (wide n fits.0.0)
 joined_rows_some row (r ∷ rows) differ fits =
     let size = length-append (row_text row) (59 ∷ join_with_byte 59 (map row_text (r ∷ rows))) in omega (arith, size)
 
@@ -104,23 +106,7 @@ all_give {X} {Y} f P gives (x ∷ xs) ys same =
     let parts = cons_parts (f x) (all_some f xs) ys same in
     subst (AllByRecursion P) parts.4 (gives x parts.0 parts.2, all_give f P gives xs parts.1 parts.3)
 
--- a value that is given under a test
-chosen : (b : Bool) (v n : ℕ) → (if b then Some v else None) ≡ Some n → (b ≡ true) × (v ≡ n)
-chosen true v n same = (refl, cc)
-chosen false v n same = absurd (cc)
-
--- a number that is read has 32 bits
-number_small : (w : List ℕ) (n : ℕ) → number_of w ≡ Some n → n < 2 ^ 32
-number_small w n same =
-    let digits : Bool = nat_le 1 (length w) && nat_le (length w) 10 && list_all is_digit w in
-    let few : Bool = nat_lt (digits_value 10 w) (2 ^ 32) in
-    let taken = chosen (digits && few) (digits_value 10 w) n same in
-    let tests : (digits ≡ true) × (few ≡ true) = and_parts digits few taken.0 in
-    let low : digits_value 10 w < 2 ^ 32 = ltb-true (digits_value 10 w) (2 ^ 32) tests.1 in
-    let is : digits_value 10 w ≡ n = taken.1 in
-    omega (arith, low, is)
-
--- so have those of a row
+-- the numbers of a row that is read have 32 bits
 row_small : (w row : List ℕ) → row_in w ≡ Some row → RowFits row
 row_small [] row same = let none : ◌≡◌ {A = List ℕ} [] row = cc in subst RowFits none tt
 row_small (b ∷ bs) row same = all_give number_of (λ n. n < 2 ^ 32) number_small (comma_parts (b ∷ bs)) row same

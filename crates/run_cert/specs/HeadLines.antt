@@ -6,10 +6,11 @@ use Rattle.pop_log.specs.TextLines.{lines_with_ends}
 use Rattle.pop_stacks.specs.declared.stack_spec.StackSpec.{StackSpec}
 use Rattle.pop_stacks.specs.declared.stack_spec.StackSpec.TheVariants.{Key, Given}
 use Rattle.pop_words.specs.declared.command.Command.{Command}
+use Rattle.pop_words.specs.Options.{paused}
 use Rattle.run_cert.specs.declared.tail.Tail.{Tail}
 use Rattle.run_cert.specs.declared.cert_refusal.CertRefusal.{CertRefusal}
 use Rattle.run_cert.specs.declared.cert_refusal.CertRefusal.TheVariants.{Malformed, OutOfMemory}
-use Rattle.run_cert.specs.Heads.{certified, has_root, command_line, stacks_line, height_line, root_line, input_line, tail_lines, MayBeStacks, MayBeRoot, MayBeSize}
+use Rattle.run_cert.specs.Heads.{has_root, command_line, stacks_line, height_line, root_line, input_line, tail_lines, MayBeStacks, MayBeRoot, MayBeSize}
 
 -- what may be said in the first line, and what may follow it
 abbrev pub Then : {X : Type 0} → (X → Type 0) → (X → List ℕ) → (X → List (List ℕ) → Type 0)
@@ -19,7 +20,7 @@ Then {X} May spell Next lines =
 
 -- a command that a certificate may have
 abbrev pub MayBeCommand : Command → Type 0
-MayBeCommand command = Contains certified command
+MayBeCommand command = Contains paused command
 
 -- a height of keyed stacks
 abbrev pub IsHeight : ℕ → Type 0

@@ -6,8 +6,8 @@ use Rattle.pop_model.specs.Text.{line}
 use Rattle.pop_stacks.specs.declared.stack_spec.StackSpec.{StackSpec}
 use Rattle.pop_stacks.specs.declared.stack_spec.StackSpec.TheVariants.{Key, Given}
 use Rattle.pop_words.specs.declared.command.Command.{Command}
-use Rattle.pop_words.specs.declared.command.Command.TheVariants.{Formula, Orient, Tree, Resample}
-use Rattle.pop_words.specs.Options.{command_word}
+use Rattle.pop_words.specs.declared.command.Command.TheVariants.{Tree}
+use Rattle.pop_words.specs.Options.{command_word, paused}
 use Rattle.pop_words.specs.Values.{are_within}
 
 -- what the head says
@@ -20,10 +20,6 @@ pub record Head : Type 0 where
   pub root : ℕ
   -- how many bytes of input there are
   pub size : ℕ
-
--- the commands that a certificate may have
-abbrev pub certified : List Command
-certified = Formula ∷ Orient ∷ Tree ∷ Resample ∷ []
 
 -- whether the head of a command has a root
 abbrev pub has_root : Command → Bool
@@ -104,7 +100,7 @@ MayBeSize size = size < 2 ^ 32
 
 -- what a head may say
 pub record IsHead (h : Head) : Type 0 where
-  pub command : Contains certified h.command
+  pub command : Contains paused h.command
   pub stacks : MayBeStacks h.stacks
   pub height : MayBeHeight h.stacks h.height
   pub root : MayBeRoot (has_root h.command) h.root

@@ -6,9 +6,9 @@ use Rattle.pop_model.specs.Logs.{LogRecord, IsLegal, replay}
 use Rattle.confluence_core.specs.Laws.{RunsToEnd}
 use Rattle.pop_words.specs.declared.job.Job.{Job}
 use Rattle.pop_words.specs.CommandLines.{Asks}
+use Rattle.pop_words.specs.Options.{paused}
 use Rattle.run_cert.specs.declared.cert_refusal.CertRefusal.{CertRefusal}
 use Rattle.run_cert.specs.declared.cert_refusal.CertRefusal.TheVariants.{OutOfMemory}
-use Rattle.run_cert.specs.Heads.{certified}
 use Rattle.run_cert.specs.Certificates.{Certificate, IsCertOf, cert_of, cert_text}
 use Rattle.run_cert.specs.Looks.{HasPoppable}
 use Rattle.run_cert.specs.Refusals.{IsCertRefusal}
@@ -31,7 +31,7 @@ OneRefusal = (bytes : List ℕ) (a b : CertRefusal) → a ≢ OutOfMemory → b 
 -- what is printed of a job that words ask for is the text of its certificate
 abbrev pub PrintedIsRead : Type 0
 PrintedIsRead = (words : List (List ℕ)) (job : Job) (input log_text : List ℕ) → Asks words job
-    → Contains certified job.command → length input < 2 ^ 32
+    → Contains paused job.command → length input < 2 ^ 32
     → IsCertOf (cert_text (cert_of job input log_text)) (cert_of job input log_text)
 
 -- on an extremal instance a run that goes on from the replay of a legal log comes to the end of

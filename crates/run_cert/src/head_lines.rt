@@ -1,13 +1,13 @@
 //! What a line of a head says. A line is read loosely and then spelled again, so that it is
 //! accepted only as it is printed.
-ghost use Rattle.std.specs.Prelude.{◌≡◌, ◌<◌, ◌≤◌, ◌^◌, ◌++◌, ◌↔◌, ℕ, List, drop, slice_index, true, decimal, IfOk, IsTrue, MatchOption};
+ghost use Rattle.std.specs.Prelude.{◌≡◌, ◌<◌, ◌≤◌, ◌++◌, ◌↔◌, ℕ, List, drop, slice_index, true, decimal, IfOk, IsTrue, MatchOption};
 ghost use Rattle.std.specs.List.{find};
 ghost use Rattle.std.specs.Str.{bytes_eq};
 ghost use Rattle.pop_model.specs.Text.{line as line_of};
 ghost use Rattle.hex.specs.Hex.{encode_lower};
 ghost use Rattle.pop_stacks.specs.declared.stack_spec.StackSpec.TheVariants.{Key, Given};
-ghost use Rattle.pop_words.specs.Options.{command_word};
-ghost use Rattle.run_cert.specs.Heads.{certified, command_line, height_line, input_line, root_line, rows_text, stacks_line, MayBeRoot, MayBeSize, MayBeStacks};
+ghost use Rattle.pop_words.specs.Options.{command_word, paused};
+ghost use Rattle.run_cert.specs.Heads.{command_line, height_line, input_line, root_line, rows_text, stacks_line, MayBeRoot, MayBeSize, MayBeStacks};
 ghost use Rattle.run_cert.specs.HeadLines.{IsHeight, MayBeCommand, Says};
 
 use crate::rows_text::push_rows;
@@ -18,7 +18,7 @@ use pop_words::{Command, key_in, rows_in};
 use std::alloc::{AllocError, Global};
 
 // The commands that a certificate may have.
-const CERTIFIED: [Command; 4] = [
+const PAUSED: [Command; 4] = [
     Command::Formula,
     Command::Orient,
     Command::Tree,
@@ -81,10 +81,10 @@ pub(crate) fn size_in(line: &[u8]) -> Option<u32>
 }
 
 // The command of a word, if a certificate may have it.
-fn certified_named(word: &[u8]) -> Option<Command>
-    ensures { result ≡ find (λ command. bytes_eq (command_word command) word.now) certified }
+fn paused_named(word: &[u8]) -> Option<Command>
+    ensures { result ≡ find (λ command. bytes_eq (command_word command) word.now) paused }
 {
-    CERTIFIED
+    PAUSED
         .iter()
         .find(|command| command.word().as_bytes() == word)
         .copied()
@@ -97,7 +97,7 @@ pub(crate) fn command_in(line: &[u8]) -> Option<Command>
     let Some(word) = behind(b"cert 1 ", line) else {
         return None;
     };
-    certified_named(word)
+    paused_named(word)
 }
 
 fn are_same(a: &[u8], b: &[u8]) -> bool

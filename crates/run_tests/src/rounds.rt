@@ -1,6 +1,5 @@
 ghost use Rattle.std.specs.Prelude.{◌≡◌, length};
 ghost use Rattle.pop_model.specs.Stacks.{variables_of};
-ghost use Rattle.pop_instance.specs.Events.{cube_at};
 ghost use Rattle.prs_rounds.specs.Units.{IsListed, IsIndexOf};
 
 use crate::compare::{are_cursors, are_stuck};

@@ -1,4 +1,4 @@
-ghost use Rattle.std.specs.Prelude.{◌≡◌, ℕ, length, IfOk, IfErr, OnOk};
+ghost use Rattle.std.specs.Prelude.{ℕ, length, IfOk, IfErr, OnOk};
 ghost use Rattle.graph_read.specs.Graphs.{IsVertex};
 ghost use Rattle.pop_instance.specs.Events.{FitVariables};
 ghost use Rattle.sink_popping.specs.Sinks.{AreSinksOf, IsIsolated, IsSinkFault};

@@ -1,4 +1,4 @@
-ghost use Rattle.std.specs.Prelude.{IfOk, vec_items};
+ghost use Rattle.std.specs.Prelude.{IfOk};
 ghost use Rattle.sink_popping.specs.SinkCubes.{AreLoopMarks};
 
 use graph_read::Graph;

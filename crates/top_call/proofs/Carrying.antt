@@ -1,5 +1,5 @@
 -- An answer to a part of the question, or a refusal of it, is one of the whole.
-use Rattle.std.proofs.Common.{◌≡◌, ℕ, List, Result, Ok, Err, IfOk, IfErr, ap, subst, sym, ◌∙◌}
+use Rattle.std.proofs.Common.{◌≡◌, ℕ, List, Result, Ok, Err, IfErr, ap, subst, sym, ◌∙◌}
 use Rattle.std.specs.Result.{IsErrAnd}
 use Rattle.std.proofs.lemmas.Result.{err_from_is_err_and}
 use Rattle.top_call.specs.declared.answer.Answer.{Answer}
@@ -46,16 +46,6 @@ pub carried : (Comes Goes : Outcome → Type 0) (r : Result Answer Refusal) → 
     → IsResultOf Comes r → IsResultOf Goes r
 carried Comes Goes (Ok a) goes comes = answered Comes Goes a.status a.text.items goes comes
 carried Comes Goes (Err r) goes comes = refused Comes Goes r goes comes
-
--- what holds of each answer
-pub if_ok : {X E : Type 0} (P Q : X → Type 0) (r : Result X E) → ((x : X) → P x → Q x) → IfOk r P → IfOk r Q
-if_ok P Q (Ok x) f holds = f x holds
-if_ok P Q (Err e) f holds = tt
-
--- and of each error
-pub if_err : {X E : Type 0} (P Q : E → Type 0) (r : Result X E) → ((e : E) → P e → Q e) → IfErr r P → IfErr r Q
-if_err P Q (Ok x) f holds = tt
-if_err P Q (Err e) f holds = f e holds
 
 -- an error that is passed on
 pub passed_on : {T E : Type 0} (r : Result T E) (e : E) → IsErrAnd r (λ x. x ≡ e) → r ≡ Err e

@@ -3,9 +3,7 @@ use Rattle.std.proofs.Common.{◌≡◌, ℕ, Bool, true, false, List, [], ◌�
 use Rattle.std.proofs.lemmas.List.{length-replicate}
 use Rattle.pop_model.specs.Stacks.{Origin}
 use Rattle.pop_model.specs.Popping.{Cube}
-use Rattle.pop_model.specs.Families.Family.{Listed}
 use Rattle.pop_model.specs.Instances.{Instance}
-use Rattle.pop_model.specs.Extremal.{IsExtremal}
 use Rattle.pop_stacks.specs.Faults.{IsSound}
 use Rattle.dimacs_read.specs.Cnf.{Cnf}
 use Rattle.dimacs_read.specs.Falsifying.{AreEventsOf}

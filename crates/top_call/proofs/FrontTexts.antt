@@ -4,6 +4,7 @@ use Rattle.std.proofs.Common.{inl, inr, ◌≡◌, ◌≤◌, ◌<◌, ℕ, ◌+
 use Rattle.std.specs.Io.KnownBytes.{Consumes, IsAtEnd}
 use Rattle.std.proofs.lemmas.Bool.{cases_lt, lt-ltb, false≢true}
 use Rattle.std.proofs.lemmas.List.{take-append-le, length-append}
+use Rattle.std.proofs.lemmas.Result.{IfOk-weaker}
 use Rattle.pop_edge.specs.declared.refusal.ReadRefusal.{ReadRefusal}
 use Rattle.pop_edge.specs.declared.refusal.ReadRefusal.TheVariants.{Malformed, Count, EmptyClause, Limit, ReadFault, OutOfMemory}
 use Rattle.pop_edge.specs.Lines.{text_limit, lines_of, ended_lines, judged_lines}
@@ -23,7 +24,7 @@ use Rattle.top_call.specs.Whole.{IsReadTo}
 use Rattle.top_call.specs.Outcomes.{Outcome, HasRun}
 use Rattle.top_call.specs.Results.{IsResultOf}
 use Rattle.top_call.specs.Answers.{origin_for, IsOfText, Refuses, ComesOfCommand, ComesOf}
-use Rattle.top_call.proofs.Carrying.{carried, if_ok}
+use Rattle.top_call.proofs.Carrying.{carried}
 use Rattle.top_call.proofs.MadeExtremal.{made_short}
 use Rattle.top_call.proofs.OneOutcome.{read_cases}
 use Rattle.top_call.proofs.PauseWords.{is_paused, paused_is}
@@ -137,4 +138,4 @@ pub whole_end : (left left' : Option (List ℕ)) (bytes input : List ℕ) (r : R
     → IsReadTo text_limit left left' bytes → input ≡ bytes
     → IfOk r (λ a. HasRun a.status → length input ≤ text_limit) → IfOk r (λ a. HasRun a.status → IsAtEnd left')
 whole_end left left' bytes input r read same short =
-    if_ok _ _ r (λ a few has. read.whole (subst (λ (l : List ℕ). length l ≤ text_limit) same (few has))) short
+    IfOk-weaker r _ _ (λ a few has. read.whole (subst (λ (l : List ℕ). length l ≤ text_limit) same (few has))) short

@@ -1,29 +1,27 @@
 -- What comes of sampling, and of a graph whose form is good: no vertex is isolated, or each is joined to the root.
-use Rattle.std.proofs.Common.{◌≡◌, ℕ, ◌≤◌, List, [], ◌∷◌, length, Option, Result, refl, sym, subst, ◌∙◌}
+use Rattle.std.proofs.Common.{◌≡◌, ℕ, ◌≤◌, List, [], length, Option, Result, refl, subst}
 use Rattle.std.specs.Result.{IsErrAnd}
-use Rattle.std.proofs.lemmas.List.{length-replicate}
 use Rattle.pop_model.specs.Stacks.{Origin}
 use Rattle.pop_stacks.specs.declared.stack_fault.StackFault.{StackFault}
 use Rattle.pop_stacks.specs.Faults.{IsSound}
 use Rattle.graph_read.specs.Graphs.{GraphOf}
 use Rattle.graph_read.specs.Paths.{IsConnected}
-use Rattle.pop_model.specs.Popping.{Cube}
 use Rattle.pop_model.specs.Instances.{Instance}
-use Rattle.sink_popping.specs.Sinks.{AreSinksOf, IsIsolated, IsSinkFault}
+use Rattle.sink_popping.specs.Sinks.{IsIsolated, IsSinkFault}
 use Rattle.sink_popping.specs.declared.sink_fault.SinkFault.{SinkFault}
 use Rattle.sink_popping.specs.declared.sink_fault.SinkFault.TheVariants.{Isolated as IsolatedVertex, OutOfMemory as SinkMemory}
 use Rattle.graph_read.specs.Grids.{grid_of}
-use Rattle.cycle_popping.specs.Trees.{heads_of_tree, weights_of_tree}
+use Rattle.cycle_popping.specs.Trees.{weights_of_tree}
 use Rattle.pop_watch.specs.Telling.{Watcher}
 use Rattle.pop_print.specs.declared.facts.Facts.{Facts}
 use Rattle.pop_print.specs.declared.facts.Facts.TheVariants.{Orient as OrientFacts, Tree as TreeFacts, Made as MadeFacts}
 use Rattle.top_call.specs.declared.asked.Asked.{Asked}
 use Rattle.top_call.specs.Batches.{IsTooMany, AreFew}
-use Rattle.top_call.specs.Outcomes.{Outcome, AnswersBy}
+use Rattle.top_call.specs.Outcomes.{Outcome}
 use Rattle.top_call.specs.Outcomes.Outcome.{Usage, Unread, Isolated, NoRoot, CutOff, TooMany, Unsound, Clashes, Extremal, Ended, Resampled, Rounded, Batched, Paused, Replayed, NotLegal}
 use Rattle.top_call.specs.Sampling.{pair_weights, instance_of, IsEndOf, IsFaultOf, ComesOfSampling}
 use Rattle.top_call.specs.Orientations.{EndsOrientation, ComesOfOrienting}
-use Rattle.top_call.specs.Trees.{cycles_instance, tree_instance, ComesOfTree}
+use Rattle.top_call.specs.Trees.{tree_instance, ComesOfTree}
 use Rattle.top_call.specs.Grids.{ComesOfGrid}
 use Rattle.top_call.specs.declared.answer.Answer.{Answer}
 use Rattle.top_call.specs.declared.refusal.Refusal.{Refusal}

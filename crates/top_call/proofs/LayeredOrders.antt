@@ -3,11 +3,12 @@ use Rattle.std.proofs.Common.{◌≡◌, ℕ, zero, suc, ◌+◌, Bool, true, fa
 use Rattle.std.specs.Cmp.{IsTotalOrder, IsStrictWeakOrder}
 use Rattle.std.specs.List.Sorted.{IsPermutation, IsSortedBy, IsStableBy, ties}
 use Rattle.std.proofs.lemmas.Cmp.{then_total, on_total, nat_cmp_total}
-use Rattle.std.proofs.lemmas.List.Sorted.{ranks_by, IsPermutation-refl, IsPermutation-trans, IsPermutation-cons, IsPermutation-middle}
+use Rattle.std.proofs.lemmas.List.Sorted.{IsPermutation-refl, IsPermutation-trans, IsPermutation-cons, IsPermutation-middle}
 use Rattle.pop_model.specs.Logs.{LogRecord}
 use Rattle.pop_log.specs.Layers.{Placed}
 use Rattle.pop_log.specs.Layered.{placed_cmp, AreSorted}
 use Rattle.pop_log.proofs.LayersLemmas.{layers_behind, layers_are}
+use Rattle.pop_log.proofs.LayeredLemmas.{placed_order}
 
 -- sorting by insertion, in a strict weak order
 module _ {X : Type 0} (lt : X → X → Bool) (order : IsStrictWeakOrder lt) where
@@ -131,9 +132,6 @@ module _ {X : Type 0} (lt : X → X → Bool) (order : IsStrictWeakOrder lt) whe
 placed_total : IsTotalOrder placed_cmp
 placed_total = then_total (on_total (λ (p : Placed). p.1) nat_cmp_total)
     (on_total (λ (p : Placed). p.0.event.unit) nat_cmp_total)
-
-placed_order : IsStrictWeakOrder (λ (p q : Placed). is_lt (placed_cmp p q))
-placed_order = ranks_by placed_total (λ (p : Placed). p)
 
 -- a log has a layered order
 pub layered_order : (log : List LogRecord) → (placed : List Placed) × AreSorted log placed

@@ -35,12 +35,10 @@ mod ToldRuns
 mod ChangedFront
 mod ToldLog
 mod FirstOfKind
--- One answer. Leasts: least numbers are one. OneReading: one refusal, formula or graph of a text. OneFault,
--- OneSampling: one fault of stacks, or one end. OneClash, OneFormula, OneOrientation, OneTree: one outcome of each
--- command, and OneRounds of rounds. OneResampling, OneLog: two runs, and one answer for each log. OnePause: a pause
--- beside these. OneOutcome: all of these. OneReplay: of certificates. OneWords: of words. FrontTexts: one refusal of a
--- text past the limit and of its front.
-mod Leasts
+-- One answer. OneReading: one refusal, formula or graph of a text. OneFault, OneSampling: one fault of stacks, or one
+-- end. OneClash, OneFormula, OneOrientation, OneTree: one outcome of each command, and OneRounds of rounds.
+-- OneResampling, OneLog: two runs, and one answer for each log. OnePause: a pause beside these. OneOutcome: all of these.
+-- OneReplay: of certificates. OneWords: of words. FrontTexts: one refusal of a text past the limit and of its front.
 mod OneReading
 mod OneFault
 mod OneSampling

@@ -1,6 +1,7 @@
 -- What is refused before anything is made comes of each job of the command, the stacks and the root.
 use Rattle.std.proofs.Common.{◌≡◌, ℕ, true, false, List, None, Result, Ok, IfErr, sym, subst, arith}
 use Rattle.std.specs.Result.{IsErrAnd}
+use Rattle.std.proofs.lemmas.Result.{IfErr-weaker}
 use Rattle.pop_model.specs.Faults.{Rose}
 use Rattle.pop_model.specs.Stacks.{Origin}
 use Rattle.pop_edge.specs.declared.refusal.ReadRefusal.{ReadRefusal}
@@ -22,7 +23,7 @@ use Rattle.top_call.specs.Resamplings.{RunsFormula, ComesOfResampling}
 use Rattle.top_call.specs.Orientations.{ComesOfOrienting}
 use Rattle.top_call.specs.Trees.{ComesOfTree}
 use Rattle.top_call.specs.Answers.{origin_for, asked_by, Refuses, ComesOf}
-use Rattle.top_call.proofs.Carrying.{if_err, refused, refused_error}
+use Rattle.top_call.proofs.Carrying.{refused, refused_error}
 use Rattle.top_call.proofs.Lifting.{by_command, read_refused}
 
 -- a source that never fails doesn't rise
@@ -46,7 +47,7 @@ pub formula_refused : {X : Type 0} (job : Job) (ws : List Watcher) (text : List 
     (RunsFormula false origin (asked_by job) ws f)))
     → IfErr r (ComesRefused (ComesOf job ws text))
 formula_refused job ws text f origin r is from once spelled h =
-    if_err _ _ r
+    IfErr-weaker r _ _
     (λ e k. refused (ComesOfFormula (origin_for job) (asked_by job) ws f) (ComesOf job ws text) e
     (λ o comes. by_command job ws text Formula is o (record { formula = f; spelled = spelled; comes = comes }))
     (subst (λ s. ComesRefused (ComesOfFormula s (asked_by job) ws f) e) (sym from)
@@ -62,7 +63,7 @@ pub resampling_refused : {X : Type 0} (job : Job) (ws : List Watcher) (text : Li
     (RunsFormula true origin (asked_by job) ws f)))
     → IfErr r (ComesRefused (ComesOf job ws text))
 resampling_refused job ws text f origin r is from once spelled h =
-    if_err _ _ r
+    IfErr-weaker r _ _
     (λ e k. refused (ComesOfResampling (origin_for job) (asked_by job) ws f) (ComesOf job ws text) e
     (λ o comes. by_command job ws text Resample is o (record { formula = f; spelled = spelled; comes = comes }))
     (subst (λ s. ComesRefused (ComesOfResampling s (asked_by job) ws f) e) (sym from)
@@ -76,7 +77,7 @@ pub orienting_refused : {X : Type 0} (job : Job) (ws : List Watcher) (text : Lis
     → IfErr r (ComesRefused (ComesOfOrienting origin (asked_by job) ws g))
     → IfErr r (ComesRefused (ComesOf job ws text))
 orienting_refused job ws text g origin r is from spelled h =
-    if_err _ _ r
+    IfErr-weaker r _ _
     (λ e k. refused (ComesOfOrienting (origin_for job) (asked_by job) ws g) (ComesOf job ws text) e
     (λ o comes. by_command job ws text Orient is o (record { graph = g; spelled = spelled; comes = comes }))
     (subst (λ s. ComesRefused (ComesOfOrienting s (asked_by job) ws g) e) (sym from) k))
@@ -88,7 +89,7 @@ pub rooted_refused : {X : Type 0} (job : Job) (ws : List Watcher) (text : List �
     → AnswersGraph text (Ok g) → IfErr r (ComesRefused (ComesOfTree origin (asked_by job) ws root g))
     → IfErr r (ComesRefused (ComesOf job ws text))
 rooted_refused job ws text g origin root r is from root_is spelled h =
-    if_err _ _ r
+    IfErr-weaker r _ _
     (λ e k. refused (ComesOfTree (origin_for job) (asked_by job) ws job.root g) (ComesOf job ws text) e
     (λ o comes. by_command job ws text Tree is o (record { graph = g; spelled = spelled; comes = comes }))
     (subst (λ s. ComesRefused (ComesOfTree s (asked_by job) ws job.root g) e) (sym from)

@@ -4,10 +4,10 @@ use Rattle.std.proofs.Common.{◌≡◌, ◌≢◌, ℕ, List, length, sym, ap, 
 use Rattle.pop_model.specs.Stacks.{Origin}
 use Rattle.pop_model.specs.Stacks.Origin.{Given, Keyed}
 use Rattle.pop_model.specs.Places.{IsLeast, IsLeastPair}
+use Rattle.pop_model.proofs.Leasts.{one_least, one_least_pair}
 use Rattle.pop_stacks.specs.declared.stack_fault.StackFault.{StackFault}
 use Rattle.pop_stacks.specs.declared.stack_fault.StackFault.TheVariants.{RowCount, EmptyRow, ValueTooLarge, WeightSum, OutOfMemory}
 use Rattle.pop_stacks.specs.Faults.{IsCause, IsSound, IsEmptyRow, IsTooLarge, IsTooHeavy, HaveEntries, HaveValues, AreLight}
-use Rattle.top_call.proofs.Leasts.{one_least, one_least_pair}
 
 -- no row is empty where each has an entry
 no_empty : (rows : List (List ℕ)) (v : ℕ) → HaveEntries rows → IsLeast (IsEmptyRow rows) v → ⊥

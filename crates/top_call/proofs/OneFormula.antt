@@ -6,6 +6,7 @@ use Rattle.pop_model.specs.Families.Family.{Listed}
 use Rattle.pop_model.specs.Extremal.{IsExtremal}
 use Rattle.pop_model.specs.Places.{IsLeastPair}
 use Rattle.pop_model.proofs.Rising.{same_rising}
+use Rattle.pop_model.proofs.Leasts.{one_least_pair}
 use Rattle.dimacs_read.specs.Cnf.{Cnf}
 use Rattle.dimacs_read.specs.Falsifying.{AreEventsOf}
 use Rattle.extremal_check.specs.Clashes.{AreClashing}
@@ -17,7 +18,6 @@ use Rattle.top_call.specs.Outcomes.Outcome.{Usage, Unread, Isolated, NoRoot, Cut
 use Rattle.top_call.specs.Sampling.{pair_weights, instance_of, IsEndOf}
 use Rattle.top_call.specs.Formulas.{ClashesAt, EndsFormula, ComesOfRunning, ComesOfFormula, ComesOfChecking}
 use Rattle.top_call.specs.Laws.{ReportAlike}
-use Rattle.top_call.proofs.Leasts.{one_least_pair}
 use Rattle.top_call.proofs.OneClash.{extremal_has_none}
 use Rattle.top_call.proofs.OneSampling.{AreOne, IsOne, one_end, same_sampling}
 use Rattle.top_call.proofs.ListedEvents.{formula_cubes}

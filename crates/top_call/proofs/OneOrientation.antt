@@ -4,6 +4,7 @@ use Rattle.pop_model.specs.Stacks.{Origin}
 use Rattle.pop_model.specs.Popping.{Cube}
 use Rattle.pop_model.specs.Places.{IsLeast}
 use Rattle.pop_model.proofs.Rising.{same_rising}
+use Rattle.pop_model.proofs.Leasts.{one_least}
 use Rattle.graph_read.specs.Graphs.{GraphOf}
 use Rattle.sink_popping.specs.Sinks.{AreSinksOf, IsIsolated}
 use Rattle.sink_popping.proofs.OneDirection.{sinks_extremal}
@@ -15,7 +16,6 @@ use Rattle.top_call.specs.Outcomes.Outcome.{Usage, Unread, Isolated, NoRoot, Cut
 use Rattle.top_call.specs.Sampling.{pair_weights, instance_of, IsEndOf, ComesOfSampling}
 use Rattle.top_call.specs.Orientations.{EndsOrientation, ComesOfOrienting}
 use Rattle.top_call.specs.Laws.{ReportAlike}
-use Rattle.top_call.proofs.Leasts.{one_least}
 use Rattle.top_call.proofs.ListedEvents.{sinks_cubes}
 use Rattle.top_call.proofs.OneSampling.{AreOne, one_end, same_sampling}
 

@@ -1,7 +1,7 @@
 -- A job and a text have one outcome by the line of its command, or two runs where a resampling is asked for or a run may stop. The words ask for one
 -- job or have one bad place; the text is refused in one way or spells one formula or graph; and of that one thing comes.
 use Rattle.std.proofs.Common.{inl, inr, ◌≡◌, ◌≢◌, ◌⊎◌, ℕ, List, None, Some, refl, sym, ap, ap₂, subst, ◌∙◌}
-use Rattle.std.proofs.lemmas.Option.{none-some, same_Some}
+use Rattle.std.proofs.lemmas.Option.{same_Some}
 use Rattle.pop_model.specs.Stacks.{Origin}
 use Rattle.pop_model.specs.Families.{Event}
 use Rattle.pop_model.specs.Instances.{Instance}
@@ -11,10 +11,9 @@ use Rattle.graph_read.specs.Graphs.{GraphOf}
 use Rattle.pop_words.specs.declared.command.Command.{Command}
 use Rattle.pop_words.specs.declared.command.Command.TheVariants.{Formula, Orient, Tree, Resample, Check, Make, Rounds, Replay, Resume}
 use Rattle.pop_words.specs.declared.job.Job.{Job}
-use Rattle.pop_words.specs.CommandLines.{AreWords, IsBadPlace}
+use Rattle.pop_words.specs.CommandLines.{IsBadPlace}
 use Rattle.pop_log.specs.Layers.{Placed}
 use Rattle.pop_watch.specs.Telling.{Watcher}
-use Rattle.pop_words.proofs.OneJob.{same_job, same_first_bad}
 use Rattle.pop_print.specs.declared.facts.Facts.{Facts}
 use Rattle.top_call.specs.Outcomes.{Outcome}
 use Rattle.top_call.specs.Outcomes.Outcome.{Usage, Unread, Isolated, NoRoot, CutOff, TooMany, Unsound, Clashes, Extremal, Ended, Resampled, Rounded, Batched, Paused, Replayed, NotLegal}
@@ -27,7 +26,7 @@ use Rattle.top_call.specs.Trees.{ComesOfTree}
 use Rattle.top_call.specs.Answers.{ComesOfCnf, ComesOfGraph, origin_for, asked_by, ComesOfCommand, IsOfText, Refuses, ComesOf, ComesOfJob, IsOutcome}
 use Rattle.top_call.specs.Made.{IsMade}
 use Rattle.top_call.specs.Pauses.{IsPause}
-use Rattle.top_call.specs.Laws.{AskForOneEnd, ReportAlike, AskForLike, AreHistories, Agree}
+use Rattle.top_call.specs.Laws.{ReportAlike, AreHistories, Agree}
 use Rattle.top_call.proofs.OneSampling.{AreOne}
 use Rattle.top_call.proofs.OneFormula.{one_formula, one_checking}
 use Rattle.top_call.proofs.OneResampling.{one_resampling}

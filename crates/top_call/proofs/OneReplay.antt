@@ -1,10 +1,9 @@
 -- Bytes that are replayed or resumed have one outcome, but for the order of pops of a resampling. They are too many, or no
 -- certificate in one way, or one certificate; what its command runs is refused in one way, or made as one thing; and its
 -- log text is refused in one way, or is that of one log.
-use Rattle.std.proofs.Common.{inl, inr, ◌≡◌, ◌≢◌, ◌⊎◌, ◌<◌, ◌≤◌, ℕ, false, List, [], length, Ok, None, refl, sym, ap, ap₂, subst, ◌∙◌, arith}
+use Rattle.std.proofs.Common.{inl, inr, ◌≡◌, ◌≤◌, ℕ, List, [], length, None, refl, sym, ap, ap₂, subst, ◌∙◌, arith}
 use Rattle.pop_model.specs.Instances.{Instance}
-use Rattle.pop_model.specs.Logs.{LogRecord, replay}
-use Rattle.pop_model.specs.Runs.{start_of}
+use Rattle.pop_model.specs.Logs.{LogRecord}
 use Rattle.pop_edge.specs.declared.refusal.ReadRefusal.TheVariants.{Malformed as MalformedLine, Limit as PassedLimit}
 use Rattle.pop_words.specs.declared.command.Command.{Command}
 use Rattle.pop_words.specs.declared.command.Command.TheVariants.{Formula, Orient, Tree, Resample}
@@ -14,12 +13,10 @@ use Rattle.pop_print.specs.declared.facts.Facts.{Facts}
 use Rattle.pop_print.specs.declared.facts.Facts.TheVariants.{Formula as FormulaFacts, Orient as OrientFacts, Tree as TreeFacts}
 use Rattle.pop_log.specs.LogVersions.{IsReadAs}
 use Rattle.pop_log.specs.Refusals.{IsLogRefusal}
-use Rattle.pop_log.specs.declared.log_refusal.LogRefusal.{LogRefusal}
 use Rattle.pop_log.proofs.ExactReading.{exact_reading, read_once}
 use Rattle.pop_log.proofs.OneRefusal.{one_refusal as log_refused_once}
 use Rattle.run_cert.specs.declared.look_kind.Look.{Look}
 use Rattle.run_cert.specs.declared.look_kind.Look.TheVariants.{Finished, Exhausted, Open}
-use Rattle.run_cert.specs.declared.cert_refusal.CertRefusal.{CertRefusal}
 use Rattle.run_cert.specs.declared.cert_refusal.CertRefusal.TheVariants.{Malformed as MalformedCert, OutOfMemory as CertMemory}
 use Rattle.run_cert.specs.Certificates.{Certificate, IsCertOf}
 use Rattle.run_cert.specs.Looks.{IsLook}
@@ -28,18 +25,18 @@ use Rattle.run_cert.proofs.Unrefused.{unrefused, one_refusal as cert_refused_onc
 use Rattle.top_call.specs.declared.asked.Asked.{Asked}
 use Rattle.top_call.specs.Names.{names_for}
 use Rattle.top_call.specs.Outcomes.{Outcome}
-use Rattle.top_call.specs.Outcomes.Outcome.{Usage, Unread, Isolated, NoRoot, CutOff, TooMany, Unsound, Clashes, Extremal, Ended, Resampled, Rounded, Paused, Replayed, NotLegal, Batched}
+use Rattle.top_call.specs.Outcomes.Outcome.{Usage, Unread, Ended, Resampled, Paused, Replayed, Batched}
 use Rattle.top_call.specs.Sampling.{pair_weights, instance_of, IsEndOf}
 use Rattle.top_call.specs.Formulas.{ComesOfRunning, ComesOfFormula}
 use Rattle.top_call.specs.Resamplings.{IsHistoryOf, EndsResampling, ComesOfResampling}
 use Rattle.top_call.specs.Orientations.{EndsOrientation, ComesOfOrienting}
 use Rattle.top_call.specs.Trees.{tree_instance, ComesOfTree}
 use Rattle.cycle_popping.specs.Trees.{weights_of_tree}
-use Rattle.top_call.specs.Made.{IsMadeFormula, IsMadeOrientation, IsMadeTree, IsMade}
+use Rattle.top_call.specs.Made.{IsMade}
 use Rattle.top_call.specs.Answers.{origin_for, asked_by, ComesOfCommand, ComesOf}
-use Rattle.top_call.specs.Laws.{AreHistories, Agree}
-use Rattle.top_call.specs.Replays.{cert_limit, job_of, IsNoCert, ComesOfCert, IsNoRun, IsCertified, log_outcome, IsLogRefused, IsRefusedCert, IsRefused, HasLog, IsReplay, IsReplayed, ComesOfReplaying}
-use Rattle.top_call.specs.Resumes.{GoesOnFrom, IsResumed, ComesOfResuming}
+use Rattle.top_call.specs.Laws.{Agree}
+use Rattle.top_call.specs.Replays.{cert_limit, job_of, IsNoCert, IsNoRun, IsCertified, log_outcome, IsLogRefused, IsRefusedCert, IsRefused, HasLog, IsReplay, IsReplayed, ComesOfReplaying}
+use Rattle.top_call.specs.Resumes.{ComesOfResuming}
 use Rattle.top_call.proofs.OneSampling.{of_run}
 use Rattle.top_call.proofs.OneFormula.{of_extremal}
 use Rattle.top_call.proofs.OneOrientation.{of_unisolated}

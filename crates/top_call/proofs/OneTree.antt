@@ -4,6 +4,7 @@ use Rattle.std.proofs.Common.{◌≡◌, ℕ, List, ◌<◌, ◌≤◌, refl, sy
 use Rattle.pop_model.specs.Stacks.{Origin}
 use Rattle.pop_model.specs.Places.{IsLeast}
 use Rattle.pop_model.proofs.CycleFamily.{cycles_extremal}
+use Rattle.pop_model.proofs.Leasts.{one_least}
 use Rattle.graph_read.specs.Graphs.{GraphOf}
 use Rattle.graph_read.specs.Grids.{grid_of}
 use Rattle.graph_read.specs.Paths.{IsConnected, IsCutOff}
@@ -17,7 +18,6 @@ use Rattle.top_call.specs.Sampling.{IsEndOf, ComesOfSampling}
 use Rattle.top_call.specs.Trees.{tree_instance, ComesOfTree}
 use Rattle.top_call.specs.Grids.{ComesOfGrid}
 use Rattle.top_call.specs.Laws.{ReportAlike}
-use Rattle.top_call.proofs.Leasts.{one_least}
 use Rattle.top_call.proofs.ListedEvents.{cycles_cubes}
 use Rattle.top_call.proofs.OneSampling.{AreOne, one_end, same_sampling}
 

@@ -1,6 +1,6 @@
 -- Words and a text have one outcome, but for the order of pops of a resampling and the pops up to a pause. The words ask
 -- for one job or have one bad place, and of the job one thing comes: by the line of its command, or of a certificate.
-use Rattle.std.proofs.Common.{inl, inr, ◌≡◌, ◌≢◌, ◌⊎◌, ℕ, List, length, refl, sym, ap, subst, ◌∙◌}
+use Rattle.std.proofs.Common.{inl, inr, ◌≡◌, ◌≢◌, ℕ, List, sym, ap, subst, ◌∙◌}
 use Rattle.std.proofs.lemmas.Option.{none-some}
 use Rattle.pop_model.specs.Families.{Event}
 use Rattle.pop_model.specs.Instances.{Instance}
@@ -13,7 +13,7 @@ use Rattle.pop_log.specs.Layers.{Placed}
 use Rattle.pop_watch.specs.Telling.{Watcher}
 use Rattle.pop_print.specs.declared.facts.Facts.{Facts}
 use Rattle.top_call.specs.Outcomes.{Outcome}
-use Rattle.top_call.specs.Outcomes.Outcome.{Usage, Resampled, Paused, Replayed}
+use Rattle.top_call.specs.Outcomes.Outcome.{Usage, Resampled, Paused}
 use Rattle.top_call.specs.Tellings.{Telling}
 use Rattle.top_call.specs.Replays.{ComesOfReplaying}
 use Rattle.top_call.specs.Answers.{ComesOf, ComesBy, IsOutcome}

@@ -1,9 +1,6 @@
 -- A run that may stop pauses exactly where each run to an end has more pops.
-use Rattle.std.proofs.Common.{inl, inr, ◌≡◌, ◌≢◌, ◌<◌, ℕ, zero, suc, List, length, Option, None, Some, refl, sym, ap, subst, ◌∙◌, arith, Contains}
+use Rattle.std.proofs.Common.{inl, inr, ◌≡◌, ◌≢◌, ◌<◌, ℕ, zero, suc, List, length, Option, None, Some, refl, sym, subst, ◌∙◌, arith, Contains}
 use Rattle.std.proofs.lemmas.Option.{same_Some}
-use Rattle.pop_model.specs.Families.{Event}
-use Rattle.pop_model.specs.Instances.{Instance}
-use Rattle.pop_model.specs.Extremal.{IsExtremal}
 use Rattle.pop_model.specs.Runs.{IsFirstEnd}
 use Rattle.pop_words.specs.declared.command.Command.{Command}
 use Rattle.pop_words.specs.declared.command.Command.TheVariants.{Formula, Orient, Tree, Resample, Check, Make, Rounds, Replay, Resume}
@@ -12,11 +9,10 @@ use Rattle.pop_words.specs.declared.job.Job.{Job}
 use Rattle.pop_words.specs.CommandLines.{Asks}
 use Rattle.pop_words.proofs.OneJob.{same_job}
 use Rattle.pop_watch.specs.Telling.{Watcher}
-use Rattle.pop_print.specs.declared.facts.Facts.{Facts}
 use Rattle.top_call.specs.Outcomes.{Outcome}
 use Rattle.top_call.specs.Outcomes.Outcome.{Usage, Unread, Isolated, NoRoot, CutOff, TooMany, Unsound, Clashes, Extremal, Ended, Resampled, Rounded, Batched, Paused, Replayed, NotLegal}
 use Rattle.top_call.specs.Sampling.{EndsWithin}
-use Rattle.top_call.specs.Answers.{ComesOf, IsOfLine, ComesBy, IsOutcome, MayStop, HasNoBadLine, MayFailBehind}
+use Rattle.top_call.specs.Answers.{ComesOf, IsOfLine, ComesBy, MayStop, HasNoBadLine, MayFailBehind}
 use Rattle.top_call.specs.Laws.{TellsPause, PausedExactly}
 use Rattle.top_call.proofs.EndedSubjects.{ended_subject}
 use Rattle.top_call.proofs.MadeExtremal.{made_extremal}

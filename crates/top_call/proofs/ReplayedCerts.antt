@@ -1,17 +1,13 @@
 -- What comes of a certificate that is accepted, or refused, comes of the bytes that are it.
-use Rattle.std.proofs.Common.{inl, inr, ◌≡◌, ◌≢◌, ◌<◌, ◌≤◌, ◌⊎◌, ℕ, List, [], length, Option, Some, None, Result, Ok, Err, IfOk, IfErr, refl, sym, ap, subst, ◌∙◌, arith}
+use Rattle.std.proofs.Common.{inl, inr, ◌≡◌, ◌<◌, ◌≤◌, ℕ, List, [], length, Option, Some, Result, Err, IfErr, refl, sym, ap, subst, ◌∙◌, arith}
 use Rattle.std.specs.Result.{IsErrAnd, IsErrOf}
 use Rattle.std.specs.Io.KnownBytes.{IsAtEnd}
+use Rattle.std.proofs.lemmas.Result.{IfErr-weaker}
 use Rattle.pop_model.specs.Instances.{Instance}
-use Rattle.pop_model.specs.Logs.{replay}
-use Rattle.pop_model.specs.Runs.{start_of}
 use Rattle.pop_edge.specs.declared.refusal.ReadRefusal.TheVariants.{Malformed as MalformedLine, Limit as PassedLimit}
 use Rattle.pop_print.specs.declared.facts.Facts.{Facts}
-use Rattle.pop_log.specs.declared.log_refusal.LogRefusal.{LogRefusal}
 use Rattle.pop_log.specs.Refusals.{IsLogRefusal}
 use Rattle.run_cert.specs.declared.cert_refusal.CertRefusal.{CertRefusal}
-use Rattle.run_cert.specs.declared.look_kind.Look.{Look}
-use Rattle.run_cert.specs.declared.look_kind.Look.TheVariants.{Finished, Exhausted, Open}
 use Rattle.run_cert.specs.Certificates.{Certificate, IsCertOf}
 use Rattle.run_cert.specs.Refusals.{IsCertRefusal}
 use Rattle.top_call.specs.declared.accepted.Accepted.{Accepted}
@@ -21,11 +17,11 @@ use Rattle.top_call.specs.declared.stop.Stop.{Stop}
 use Rattle.top_call.specs.declared.stop.Stop.TheVariants.{ReadFault, OutOfMemory}
 use Rattle.top_call.specs.Names.{names_for}
 use Rattle.top_call.specs.ReplayTexts.{look_status, replay_text}
-use Rattle.top_call.specs.Outcomes.{Outcome, IsTextStatus, AnswersBy}
+use Rattle.top_call.specs.Outcomes.{Outcome, AnswersBy}
 use Rattle.top_call.specs.Outcomes.Outcome.{Unread, Replayed}
 use Rattle.top_call.specs.declared.answer.Answer.{Answer}
-use Rattle.top_call.specs.Results.{ComesRefused, IsResultOf, IsPastWords, IsLogRefusalOf, uncertified, log_refusal}
-use Rattle.top_call.specs.Replays.{cert_limit, job_of, ByLine, IsNoCert, ComesOfCert, IsNoRun, IsCertified, IsLogRefused, IsRefusedCert, IsRefused, HasLog, IsReplayed, ComesOfReplaying}
+use Rattle.top_call.specs.Results.{ComesRefused, IsResultOf, IsPastWords, IsLogRefusalOf, uncertified}
+use Rattle.top_call.specs.Replays.{cert_limit, job_of, ByLine, IsNoCert, IsNoRun, IsCertified, IsRefusedCert, IsRefused, HasLog, ComesOfReplaying}
 use Rattle.top_call.specs.Accepted.{IsHeldBy, IsAccepted}
 use Rattle.top_call.specs.Answers.{ComesOf}
 use Rattle.top_call.proofs.ByCommand.{refused_no_usage}
@@ -165,11 +161,6 @@ pub stop_refused : {T : Type 0} (Comes : Outcome → Type 0) (r : Result T Refus
 stop_refused Comes r ReadFault is not = absurd (not is)
 stop_refused Comes r OutOfMemory is not = subst (λ q. IfErr q (ComesRefused Comes)) (sym is) refl
 
--- what holds of each refusal
-pub if_err : {T E : Type 0} (P Q : E → Type 0) (r : Result T E) → ((e : E) → P e → Q e) → IfErr r P → IfErr r Q
-if_err P Q (Ok x) f holds = tt
-if_err P Q (Err e) f holds = f e holds
-
 -- what is read of a source that is accepted was read to its end
 pub accepted_end : (left left' : Option (List ℕ)) (bytes : List ℕ) (a : Accepted) → IsReadTo cert_limit left left' bytes
     → IsAccepted bytes a → IsAtEnd left'
@@ -180,7 +171,7 @@ pub read_result : {T : Type 0} (left left' : Option (List ℕ)) (text bytes inpu
     → left ≡ Some text → IsReadTo cert_limit left left' bytes → input ≡ bytes
     → IfErr r (ComesRefused (IsRefused ComesOf input)) → IfErr r (ComesRefused (IsRefused ComesOf text))
 read_result left left' text bytes input r known read same =
-    if_err _ _ r (λ e h. read_refused ComesOf text left' bytes e
+    IfErr-weaker r _ _ (λ e h. read_refused ComesOf text left' bytes e
     (subst (λ l. IsReadTo cert_limit l left' bytes) known read)
     (subst (λ b. ComesRefused (IsRefused ComesOf b) e) same h))
 

@@ -1,8 +1,9 @@
 -- The run of a certificate that goes on to an end comes of the bytes that are it: as the line of its command tells its
 -- end, and where that tells its log, with the log of both parts.
-use Rattle.std.proofs.Common.{inl, inr, ◌≡◌, ◌≢◌, ℕ, Bool, true, false, ◌||◌, if◌then◌else◌, List, Option, None, Some, Result, Ok, Err, IfOk, refl, sym, ap, subst, ◌∙◌}
+use Rattle.std.proofs.Common.{inl, inr, ◌≡◌, ◌≢◌, ℕ, true, false, if◌then◌else◌, List, Option, None, Some, Result, IfOk, refl, sym, ap, subst, ◌∙◌}
 use Rattle.std.proofs.lemmas.Bool.{cases_Bool, false≢true}
 use Rattle.std.proofs.lemmas.Option.{none-some}
+use Rattle.std.proofs.lemmas.Result.{IfOk-weaker}
 use Rattle.pop_model.specs.Instances.{Instance}
 use Rattle.pop_model.specs.Extremal.{IsExtremal}
 use Rattle.pop_model.specs.Logs.{LogRecord}
@@ -23,13 +24,13 @@ use Rattle.top_call.specs.Outcomes.{Outcome, IsTextStatus, AnswersBy}
 use Rattle.top_call.specs.Outcomes.Outcome.{Ended, Resampled, Batched}
 use Rattle.top_call.specs.Tellings.{asks_for_log}
 use Rattle.top_call.specs.Sampling.{IsEndOf}
-use Rattle.top_call.specs.Resamplings.{IsHistoryOf, IsHistoryWith}
+use Rattle.top_call.specs.Resamplings.{IsHistoryWith}
 use Rattle.top_call.specs.Made.{IsMade}
 use Rattle.top_call.specs.Replays.{cert_limit, job_of}
 use Rattle.top_call.specs.Resumes.{IsJoined, IsJoinedLog, GoesOnFrom, IsResumed, ComesOfResuming}
 use Rattle.top_call.specs.Accepted.{IsHeldBy, IsAccepted}
 use Rattle.top_call.specs.Answers.{origin_for, has_free_order, asked_by, ComesOf}
-use Rattle.top_call.proofs.Carrying.{answered, if_ok}
+use Rattle.top_call.proofs.Carrying.{answered}
 use Rattle.top_call.proofs.PausedComes.{end_comes, history_comes}
 use Rattle.top_call.proofs.ReplayedCerts.{held_log, read_accepted}
 use Rattle.top_call.proofs.Statuses.{resumed_status_is}
@@ -114,15 +115,15 @@ resumed_result cert a ws asked whole r held is run joined ended history =
           let log = run.run.log in
           let kept : whole.log ≡ Some log =
           run.run.kept_is ∙ ap (λ b. if b then Some log else None) keeps in
-          if_ok _ _ r (λ x told. answered (IsHistoryWith log asked ws a.facts a.instance) (IsResumed ComesOf ws cert)
-          x.status x.text.items
+          IfOk-weaker r _ _ (λ x told. answered (IsHistoryWith log asked ws a.facts a.instance)
+          (IsResumed ComesOf ws cert) x.status x.text.items
           (resumed_history cert a ws asked held is (sym held.command_is ∙ command) log (joined log kept)) told)
           (history (ap (λ (q : Asked). q.free) is ∙ free) log kept)
       | inr ordered ↦
           let other : cert.head.command ≢ Resample =
           λ same. false≢true (sym ordered ∙ ap has_free_order (held.command_is ∙ same)) in
-          if_ok _ _ r (λ x told. answered (IsEndOf asked ws a.facts a.instance) (IsResumed ComesOf ws cert) x.status
-          x.text.items (resumed_end cert a ws asked held is other) told)
+          IfOk-weaker r _ _ (λ x told. answered (IsEndOf asked ws a.facts a.instance) (IsResumed ComesOf ws cert)
+          x.status x.text.items (resumed_end cert a ws asked held is other) told)
           (ended (ap (λ (q : Asked). q.free) is ∙ ordered) (ap (λ (q : Asked). q.count) is) (held.extremal other))
     ]
 

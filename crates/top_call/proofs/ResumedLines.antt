@@ -1,27 +1,25 @@
 -- A certificate that is replayed isn't refused, so that what comes of it where it is resumed comes of the line of its
 -- command.
-use Rattle.std.proofs.Common.{inl, inr, ◌≡◌, ◌⊎◌, ◌≤◌, ℕ, zero, suc, List, length, Some, sym, ap, subst, ◌∙◌, arith, Contains}
+use Rattle.std.proofs.Common.{inl, inr, ◌≡◌, ◌≤◌, ℕ, List, sym, ap, subst, arith, Contains}
 use Rattle.std.proofs.lemmas.Option.{none-some}
 use Rattle.pop_edge.specs.declared.refusal.ReadRefusal.{ReadRefusal}
 use Rattle.pop_edge.specs.declared.refusal.ReadRefusal.TheVariants.{Malformed, Count, EmptyClause, Limit, ReadFault, OutOfMemory}
 use Rattle.pop_stacks.specs.declared.stack_fault.StackFault.{StackFault}
 use Rattle.pop_stacks.specs.declared.stack_fault.StackFault.TheVariants.{RowCount, EmptyRow, ValueTooLarge, WeightSum, OutOfMemory as NoMemory}
 use Rattle.pop_words.specs.declared.command.Command.{Command}
-use Rattle.pop_words.specs.declared.command.Command.TheVariants.{Formula, Orient, Tree, Resample, Check, Make, Rounds, Replay, Resume}
+use Rattle.pop_words.specs.declared.command.Command.TheVariants.{Replay, Resume}
 use Rattle.pop_words.specs.declared.job.Job.{Job}
 use Rattle.pop_words.specs.Options.{paused}
 use Rattle.pop_words.proofs.OneJob.{same_job}
 use Rattle.pop_watch.specs.Telling.{Watcher}
-use Rattle.run_cert.specs.Heads.{Head}
-use Rattle.run_cert.specs.Certificates.{Certificate, IsCertOf}
+use Rattle.run_cert.specs.Certificates.{Certificate}
 use Rattle.run_cert.proofs.OneText.{one_cert}
 use Rattle.top_call.specs.Refusals.{reading_status, stacks_status}
 use Rattle.top_call.specs.Outcomes.{Outcome, HasRun, status_of}
 use Rattle.top_call.specs.Outcomes.Outcome.{Usage, Unread, Isolated, NoRoot, CutOff, TooMany, Unsound, Clashes, NotLegal}
-use Rattle.top_call.specs.Replays.{job_of, IsNoRun, ComesOfCert, IsReplayed, ComesOfReplaying}
-use Rattle.top_call.specs.Resumes.{ComesOfResuming}
+use Rattle.top_call.specs.Replays.{job_of, IsNoRun, ComesOfCert, IsReplayed}
 use Rattle.top_call.specs.Answers.{ComesOf, ComesBy, IsOutcome}
-use Rattle.top_call.specs.Resumed.{AskFor, AskForLineOf, AcceptsReplay, ResumedAlike}
+use Rattle.top_call.specs.Resumed.{AskFor, AcceptsReplay, ResumedAlike}
 use Rattle.top_call.proofs.AlikeJobs.{AreAlike, StopAsOne, said_by, same_comes}
 use Rattle.top_call.proofs.ByCommand.{by_line, refused_no_run}
 use Rattle.top_call.proofs.Lifting.{of_words}

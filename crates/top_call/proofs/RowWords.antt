@@ -1,15 +1,15 @@
 -- Words that give rows ask for a command that reads no certificate: no other allows stacks.
-use Rattle.std.proofs.Common.{inl, inr, ◌≡◌, ℕ, ◌-◌, ◌^◌, Bool, true, false, List, Some, refl, sym, subst, ◌∙◌}
+use Rattle.std.proofs.Common.{inl, inr, ◌≡◌, ℕ, ◌-◌, ◌^◌, Bool, true, false, List, Some, refl, sym, ◌∙◌}
 use Rattle.std.specs.Prelude.{unwrap_or}
 use Rattle.std.proofs.lemmas.Bool.{false≢true}
-use Rattle.pop_stacks.specs.declared.stack_spec.StackSpec.TheVariants.{Key as KeyedStacks, Given as GivenStacks}
+use Rattle.pop_stacks.specs.declared.stack_spec.StackSpec.TheVariants.{Given as GivenStacks}
 use Rattle.pop_words.specs.declared.command.Command.{Command}
 use Rattle.pop_words.specs.declared.command.Command.TheVariants.{Formula, Orient, Tree, Resample, Check, Make, Rounds, Replay, Resume}
 use Rattle.pop_words.specs.declared.field.Field.{Field}
 use Rattle.pop_words.specs.declared.field.Field.TheVariants.{Stacks, Key, Height, Grow, Count, Pops, Workers, Board, Log, Root, Witness, Reports, Size}
 use Rattle.pop_words.specs.declared.job.Job.{Job}
 use Rattle.pop_words.specs.Values.{number_between, board_in, switch_in, pair_in, reports_in}
-use Rattle.pop_words.specs.Options.{value_of, default_job}
+use Rattle.pop_words.specs.Options.{value_of}
 use Rattle.pop_words.specs.CommandLines.{Asks}
 use Rattle.top_call.specs.Answers.{IsOfLine}
 use Rattle.top_call.proofs.ApartWords.{kept, AreKinds, settled}

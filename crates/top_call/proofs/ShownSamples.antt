@@ -13,6 +13,7 @@ use Rattle.pop_words.specs.declared.command.Command.{Command}
 use Rattle.pop_words.specs.declared.command.Command.TheVariants.{Formula, Orient, Tree, Resample, Check, Make, Rounds, Replay, Resume}
 use Rattle.pop_words.specs.declared.job.Job.{Job}
 use Rattle.pop_words.specs.CommandLines.{Asks}
+use Rattle.pop_words.specs.Options.{paused}
 use Rattle.pop_watch.specs.Telling.{Watcher}
 use Rattle.dimacs_read.specs.Cnf.{Cnf}
 use Rattle.dimacs_read.specs.CnfText.{cnf_of}
@@ -30,11 +31,11 @@ use Rattle.top_call.specs.Outcomes.{Outcome, status_of, text_of, end_status, run
 use Rattle.top_call.specs.Outcomes.Outcome.{Usage, Unread, Isolated, NoRoot, CutOff, TooMany, Unsound, Clashes, Extremal, Ended, Resampled, Rounded, Batched, Paused, Replayed, NotLegal}
 use Rattle.top_call.specs.Sampling.{pair_weights, instance_of}
 use Rattle.top_call.specs.Subjects.{instance_over}
-use Rattle.run_cert.specs.Heads.{certified, has_root}
+use Rattle.run_cert.specs.Heads.{has_root}
 use Rattle.run_cert.specs.Certificates.{Certificate, IsCertOf}
 use Rattle.top_call.specs.Replays.{job_of, IsNoRun, IsRefused}
 use Rattle.top_call.specs.Resumes.{GoesOnFrom}
-use Rattle.top_call.specs.Answers.{ComesOfCommand, ComesOf, ComesBy, IsOutcome, origin_for}
+use Rattle.top_call.specs.Answers.{ComesOfCommand, ComesOf, ComesBy, origin_for}
 use Rattle.top_call.specs.Shown.{stacks_by, ShowsSample, ShowsExhausted, ShowsEnd, ShowsSamples, ShowsStuckSamples, ShowsEndOf, ShowsStuckOf, SampleShown, ExhaustedShown}
 use Rattle.top_call.proofs.BatchWords.{is_batched, uncounted}
 use Rattle.top_call.proofs.ByCommand.{refused_no_run}
@@ -271,7 +272,7 @@ cert_askable bytes cert is = record {
   some = λ make. absurd (not_make cert.head.command is.is.head.command make);
 }
   where
-    not_make : (k : Command) → Contains certified k → k ≡ Make → ⊥
+    not_make : (k : Command) → Contains paused k → k ≡ Make → ⊥
     not_make k (zero, within, at) make = cc
     not_make k (suc zero, within, at) make = cc
     not_make k (suc (suc zero), within, at) make = cc

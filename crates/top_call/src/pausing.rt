@@ -1,6 +1,6 @@
 //! Runs that stop after so many pops: where an event is poppable then, the answer is a certificate
 //! of the run so far, and else that of the run to its end.
-ghost use Rattle.std.specs.Prelude.{◌≡◌, ◌≢◌, ◌<◌, ◌≤◌, ◌^◌, ℕ, List, None, Some, length, map, Contains, IfOk, IsErrOf, if◌then◌else◌};
+ghost use Rattle.std.specs.Prelude.{◌≡◌, ◌≢◌, ◌<◌, ◌≤◌, ◌^◌, ℕ, List, None, Some, length, map, Contains, IfOk, IsErrOf};
 ghost use Rattle.std.specs.Io.KnownBytes.{Consumes, IsAtEnd};
 ghost use Rattle.pop_model.specs.Faults.{Rose};
 ghost use Rattle.pop_model.specs.Stacks.{variables_of};
@@ -71,16 +71,6 @@ fn tell_pause(
     Ok(Answer { status: 10, text })
 }
 
-// The log, where it is to be kept.
-fn kept(log: Log, keep: Keep) -> Option<Log>
-    ensures { result ≡ (if keeps_log keep then Some log else None) }
-{
-    match keep {
-        Keep::Log => Some(log),
-        Keep::Nothing => None,
-    }
-}
-
 // A run that came to an end, with its log where it is to be kept.
 fn ended(alloc: Global, instance: &Instance, part: Part, keep: Keep) -> Result<Outcome, AllocError>
     requires part { IsSoFar instance.now part }
@@ -101,7 +91,7 @@ fn ended(alloc: Global, instance: &Instance, part: Part, keep: Keep) -> Result<O
     };
     Ok(Outcome {
         end,
-        log: kept(log, keep),
+        log: keep.kept(log),
     })
 }
 

@@ -2,13 +2,13 @@
 -- no variable neither is among the vertices that the other may join, so they join at the same depths in either order;
 -- the vertices come in another order. The root's own neighbour, if it is exchanged with the root, shares no variable
 -- with the one vertex there is, and so is left out.
-use Rattle.std.proofs.Common.{inl, inr, ◌≡◌, ℕ, ◌+◌, ◌<◌, List, [], ◌∷◌, ◌++◌, length, refl, sym, subst, arith, Contains}
+use Rattle.std.proofs.Common.{inl, inr, ℕ, ◌+◌, ◌<◌, List, [], ◌∷◌, ◌++◌, length, refl, sym, subst, arith, Contains}
 use Rattle.std.proofs.lemmas.List.{length-append}
 use Rattle.pop_model.specs.Families.{Event}
 use Rattle.pop_model.specs.Extremal.{Share}
 use Rattle.pop_model.specs.Logs.{LogRecord}
 use Rattle.pop_model.proofs.Sharing.{Share-sym}
-use Rattle.pop_model.proofs.Rising.{member_cases, tail_member, AreMembers}
+use Rattle.pop_model.proofs.Rising.{member_cases, tail_member, AreMembers, only_member}
 use Rattle.pop_log.proofs.Exchanges.{cons_members, first_two}
 use Rattle.witness_trees.specs.Vertices.{Vertex, at_depth, Meets, IsDeepest, MeetsNone, IsJoined, AreVertices}
 
@@ -207,10 +207,6 @@ exchanged_front r q log some apart vs (mid, are, joins) =
       there = both.there;
       back = both.back;
     }
-
--- the member of a list of one
-only_member : {X : Type 0} (x y : X) → Contains (x ∷ []) y → x ≡ y
-only_member x y among = elim (member_cases x [] y among) [ inl is ↦ is | inr (k, within, at) ↦ absurd (omega (arith, within)) ]
 
 -- the root's neighbour is left out
 pub added_front : (r q : LogRecord) → (Share r.event.cube q.event.cube → ⊥) → (vs : List Vertex)

@@ -8,6 +8,7 @@ use Rattle.pop_model.specs.Logs.{LogRecord, IsLegalAt, IsLegal, replay}
 use Rattle.pop_model.proofs.Diamond.{names_it}
 use Rattle.pop_model.proofs.PopLemmas.{length-pop, cursor-pop}
 use Rattle.pop_model.proofs.Room.{not_lowered}
+use Rattle.pop_model.proofs.Replays.{not_lowered_by}
 use Rattle.witness_trees.specs.Pops.{Uses}
 
 -- a record that uses an entry of a variable names it
@@ -31,14 +32,6 @@ moved_on c e v below is = cursor-pop c e v below ∙ ap (λ b. cond b (cursor c 
 -- and leaves as many cursors
 still_has : (c : List ℕ) (e : Cube) (v : ℕ) → v < length c → v < length (pop c e)
 still_has c e v below = omega (arith, below, length-pop c e)
-
--- no pop moves a cursor back
-never_back_all : (c : List ℕ) (log : List LogRecord) (v : ℕ) → v < length c → cursor c v ≤ cursor (replay c log) v
-never_back_all c [] v below = omega arith
-never_back_all c (r ∷ log) v below =
-    let one = not_lowered c r.event.cube v below in
-    let rest = never_back_all (pop c r.event.cube) log v (still_has c r.event.cube v below) in
-    omega (arith, one, rest)
 
 -- the records use entries from the current one on
 from_current : (i : Instance) (c : List ℕ) (v : ℕ) → v < length c → (log : List LogRecord) → IsLegal i c log
@@ -88,7 +81,7 @@ used_below i c v below (q ∷ log) legal zero r k at uses =
     let uses' : Uses q v k = subst (λ x. Uses x v k) same uses in
     let current = only_current i c q v k legal.0 uses' in
     let next = moved_on c q.event.cube v below (uses_names q v k uses') in
-    let rest = never_back_all (pop c q.event.cube) log v (still_has c q.event.cube v below) in
+    let rest = not_lowered_by (pop c q.event.cube) log v (still_has c q.event.cube v below) in
     omega (arith, current, next, rest)
 used_below i c v below (q ∷ log) legal (suc t) r k at uses =
     used_below i (pop c q.event.cube) v (still_has c q.event.cube v below) log legal.1 t r k at uses

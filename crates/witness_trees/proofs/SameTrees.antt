@@ -9,10 +9,10 @@ use Rattle.pop_model.specs.Extremal.{IsExtremal}
 use Rattle.pop_model.specs.Instances.{Instance, IsInstance}
 use Rattle.pop_model.specs.Logs.{LogRecord, IsLegal}
 use Rattle.pop_model.specs.Runs.{start_of}
+use Rattle.pop_model.proofs.FirstRun.{legal_event}
 use Rattle.confluence_core.specs.Laws.{RunsToEnd}
 use Rattle.confluence_core.proofs.EventVariables.{event_below}
 use Rattle.pop_log.specs.Layers.{Depend}
-use Rattle.pop_log.proofs.UnitEvents.{legal_event}
 use Rattle.pop_log.proofs.Reordering.{IsKept, keeps}
 use Rattle.pop_log.proofs.OneTrace.{one_trace}
 use Rattle.witness_trees.specs.Vertices.{Vertex}

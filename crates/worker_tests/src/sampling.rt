@@ -1,5 +1,5 @@
 //! Runs by workers, which end as the run on one thread does.
-ghost use Rattle.std.specs.Prelude.{◌≡◌, ◌<◌, ◌≤◌, ◌^◌, ℕ, length, IfOk};
+ghost use Rattle.std.specs.Prelude.{◌≡◌, ◌<◌, ◌≤◌, ℕ, length, IfOk};
 ghost use Rattle.pop_model.specs.Stacks.{variables_of, height_of, IsKeyed};
 
 use crate::comparing::{cursors_alike, same};

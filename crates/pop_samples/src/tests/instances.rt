@@ -1,6 +1,6 @@
 //! Rows are a number of nine bits: entry k of variable v is bit 3v + k. A sample is a number of
 //! three bits, and cursors are a number of three digits to base 3, that of variable 0 lowest.
-ghost use Rattle.std.specs.Prelude.{◌≡◌, ◌<◌, ◌^◌, length};
+ghost use Rattle.std.specs.Prelude.{◌≡◌, ◌<◌, length};
 
 use confluence_core::{End, run_first};
 use pop_instance::{Arrows, Cube, Cursors, Events, Family, Instance};

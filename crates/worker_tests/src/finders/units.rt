@@ -1,7 +1,6 @@
 //! Tries at units of boards of one variable or two.
 ghost use Rattle.std.specs.Prelude.{◌≡◌, ◌≤◌, length, IfOk};
 ghost use Rattle.pop_model.specs.Stacks.{variables_of};
-ghost use Rattle.pop_stacks.specs.Readers.{Belongs};
 ghost use Rattle.claim_words.specs.Passes.{IsOf, IsIdle, view, spare, instance_of};
 ghost use Rattle.event_finders.specs.UnitConditions.{Indexes};
 

@@ -1,5 +1,5 @@
 //! Walks on boards of two variables with two slots each.
-ghost use Rattle.std.specs.Prelude.{◌≡◌, ◌≤◌, ◌<◌, ◌^◌, false, length, All, IfOk};
+ghost use Rattle.std.specs.Prelude.{◌≡◌, ◌<◌, ◌^◌, false, length, All, IfOk};
 ghost use Rattle.pop_model.specs.Stacks.{variables_of};
 ghost use Rattle.pop_instance.specs.Arrows.{heads_of};
 ghost use Rattle.claim_words.specs.Openings.{is_listed};

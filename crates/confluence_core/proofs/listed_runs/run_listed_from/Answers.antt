@@ -6,13 +6,14 @@ use Rattle.pop_model.proofs.PopLemmas.{length-pop}
 use Rattle.pop_model.proofs.Room.{within_pop}
 use Rattle.pop_stacks.specs.Readers.{Belongs}
 use Rattle.pop_instance.specs.Events.{cube_at}
+use Rattle.pop_instance.proofs.ListedEvents.{index_units}
 use Rattle.confluence_core.specs.Kept.{keeps_log}
 use Rattle.confluence_core.specs.Records.{record_at}
 use Rattle.confluence_core.specs.WorkList.{Waiting, Gains, GainsSharing}
 use Rattle.confluence_core.proofs.Places.{listed, legal_at, end_from}
 use Rattle.confluence_core.proofs.StuckLists.{stuck_list}
 use Rattle.confluence_core.proofs.EventVariables.{listed_falls, pops_fit}
-use Rattle.confluence_core.proofs.Covering.{covers_gained, index_units, covers_pop}
+use Rattle.confluence_core.proofs.Covering.{covers_gained, covers_pop}
 use Rattle.confluence_core.proofs.SoFar.{IsSoFar, so_far_none, so_far_more, so_far_part}
 use Rattle.confluence_core.proofs.listed_runs.run_listed_from.Goals as goal
 

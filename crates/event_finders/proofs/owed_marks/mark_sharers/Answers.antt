@@ -3,6 +3,7 @@ use Rattle.std.proofs.lemmas.List.{drop_all}
 use Rattle.pop_model.specs.Popping.{Cube}
 use Rattle.pop_model.specs.Families.{Family}
 use Rattle.pop_model.proofs.Members.{all_at}
+use Rattle.pop_instance.proofs.ListedEvents.{index_units}
 use Rattle.claim_words.specs.declared.view.View.{View}
 use Rattle.claim_words.specs.declared.opening.Opening.{Opening}
 use Rattle.claim_words.specs.Passes.{view, marks_of}
@@ -10,7 +11,7 @@ use Rattle.claim_words.specs.Openings.{marks_in}
 use Rattle.claim_words.specs.Steps.{sharers, sharing}
 use Rattle.claim_words.proofs.DueAdvances.{turn}
 use Rattle.event_finders.specs.OwedMarks.{all_out, owing, marked_with}
-use Rattle.event_finders.proofs.OwedMarksLemmas.{Waits, first_waits, next_waits, none_waits, marked_out, units_known}
+use Rattle.event_finders.proofs.OwedMarksLemmas.{Waits, first_waits, next_waits, none_waits, marked_out}
 use Rattle.event_finders.proofs.owed_marks.mark_sharers.Goals as goal
 
 pub loop-i-init : goal.loop-i-init
@@ -36,7 +37,7 @@ mark_each-requires-clause-known c =
     c.pair-v.ensures c.requires.event in
     subst (All (λ u. u < marks_of c.args.board.now)) (sym c.at.ensures)
     (subst (λ (n : ℕ). All (λ u. u < n) (slice_index_or c.args.index.now c.pair-v.result.0 []))
-    (sym (ap marks_in t.1)) (units_known t.0 c.args.index.now c.pair-v.result.0 t.2 near))
+    (sym (ap marks_in t.1)) (index_units t.0 c.args.index.now t.2 c.pair-v.result.0 near))
 
 pub loop-i-preserved : goal.loop-i-preserved
 loop-i-preserved c =

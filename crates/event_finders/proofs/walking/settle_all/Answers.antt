@@ -1,9 +1,9 @@
 use Rattle.std.proofs.Common.{arith, ◌≡◌, ◌++◌, [], ℕ, sym, ap, ◌∙◌}
+use Rattle.std.proofs.lemmas.List.{nil_from_length}
 use Rattle.claim_words.specs.Maps.{Pairs}
 use Rattle.claim_words.specs.Openings.{is_listed}
 use Rattle.claim_words.specs.declared.view.View.{View}
 use Rattle.claim_words.specs.Passes.{view, opening_of}
-use Rattle.claim_words.proofs.Totals.{none_left}
 use Rattle.event_finders.specs.Trails.{Trail}
 use Rattle.event_finders.proofs.TrailLemmas.{longer}
 use Rattle.event_finders.proofs.TrailReleases.{settled_none, settled_next, settling_once, settling_may}
@@ -64,7 +64,7 @@ returns-clause-view c =
     let i = c.loop-walker.invariant.settled in
     let d : View = view c.args.pass.now in
     let p = c.loop-walker.walker.path in
-    let done : p ≡ [] = none_left p (omega (arith, c.loop-walker-test.false, c.len.ensures.len)) in
+    let done : p ≡ [] = nil_from_length p (omega (arith, c.loop-walker-test.false, c.len.ensures.len)) in
     let rest : i.rest ≡ d.held = ap (λ l. l ++ i.rest) (sym done) ∙ i.whole in
     i.view ∙ ap (λ l. record d { held = l; settled = i.rest ++ d.settled }) done
     ∙ ap (λ (l : Pairs). record d { held = []; settled = l ++ d.settled }) rest
@@ -74,7 +74,7 @@ returns-clause-walker c =
     let i = c.loop-walker.invariant.settled in
     let old : Trail = c.args.walker.now in
     let new : Trail = c.loop-walker.walker in
-    let done : new.path ≡ [] = none_left new.path (omega (arith, c.loop-walker-test.false, c.len.ensures.len)) in
+    let done : new.path ≡ [] = nil_from_length new.path (omega (arith, c.loop-walker-test.false, c.len.ensures.len)) in
     ap (λ (n : ℕ). record new { count = n }) i.counts ∙ ap (λ p. record { count = old.count; path = p }) done
 
 pub returns-clause-sole : goal.returns-clause-sole

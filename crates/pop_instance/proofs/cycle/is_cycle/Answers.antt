@@ -1,7 +1,8 @@
 use Rattle.std.proofs.Common.{◌≡◌, ◌<◌, ℕ, Option, Some, None, true, eqb, length, sym, ap, ◌∙◌, arith, eqb-true, eq-eqb}
 use Rattle.std.specs.Option.{option_eq}
 use Rattle.std.proofs.lemmas.Option.{none-some, same_Some}
-use Rattle.pop_instance.proofs.CycleReturns.{no_step, comes_early, step_more, comes_back, must_come_back, first_read}
+use Rattle.pop_model.proofs.Members.{first_read}
+use Rattle.pop_instance.proofs.CycleReturns.{no_step, comes_early, step_more, comes_back, must_come_back}
 use Rattle.pop_instance.proofs.cycle.is_cycle.Goals as goal
 
 -- what the test against a variable tells

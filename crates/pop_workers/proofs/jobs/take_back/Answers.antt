@@ -1,8 +1,9 @@
 use Rattle.std.proofs.Common.{◌≡◌, ◌∷◌, ◌++◌, [], sym, subst, arith, All, IfSome, Vec, Global}
+use Rattle.std.proofs.lemmas.List.Elements.{All-cons}
 use Rattle.pop_stacks.specs.declared.reader.Reader.{Reader}
 use Rattle.pop_stacks.specs.Readers.{Belongs}
 use Rattle.claim_words.specs.Passes.{IsHelper, instance_of}
-use Rattle.pop_workers.proofs.JobLists.{one_longer, all_in_front, without_last}
+use Rattle.pop_workers.proofs.JobLists.{one_longer, without_last}
 use Rattle.pop_workers.proofs.jobs.take_back.Goals as goal
 use Rattle.pop_workers.proofs.jobs.take_back.Goals.{in-Some-reader+in_ok-insert, in_default-reader}
 
@@ -28,7 +29,7 @@ loop-job-preserved g c =
             subst (λ o. IfSome o (Belongs s)) w.in-Some-reader.is kept.1 in
             subst (λ (v : Vec Reader Global). All (Belongs s) v.items) (sym w.readers-is)
             (subst (All (Belongs s)) (sym w.in_ok-insert.ensures.items)
-            (all_in_front (Belongs s) w.in-Some-reader.reader c.loop-job.readers.items belongs inv.5))
+            (All-cons (Belongs s) w.in-Some-reader.reader c.loop-job.readers.items belongs inv.5))
         | in_default-reader w ↦ subst (λ (v : Vec Reader Global). All (Belongs s) v.items) (sym w.readers-is) inv.5
       ],
     )

@@ -1,7 +1,7 @@
 use Rattle.std.proofs.Common.{◌≡◌, ℕ, ◌+◌, ◌<◌, length}
 use Rattle.std.specs.Prelude.{slice_index}
+use Rattle.pop_model.specs.Popping.{current}
 use Rattle.pop_stacks.specs.Readers.{Belongs}
-use Rattle.prs_rounds.specs.Values.{current}
 use Rattle.prs_rounds.proofs.values.read_piece.Given as goal
 
 -- the values up to here are read

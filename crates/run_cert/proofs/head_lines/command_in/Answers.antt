@@ -3,4 +3,4 @@ use Rattle.run_cert.proofs.head_lines.command_in.Goals as goal
 
 pub returns : goal.returns
 returns c =
-    command_said c.args.line.now c.in-Some.word.now c.certified_named.result c.in-Some.ensures c.certified_named.ensures
+    command_said c.args.line.now c.in-Some.word.now c.paused_named.result c.in-Some.ensures c.paused_named.ensures

@@ -1,9 +1,9 @@
-use Rattle.std.proofs.Common.{inl, inr, ◌≡◌, ◌≤◌, ℕ, List, length, sym, subst, ◌∙◌}
+use Rattle.std.proofs.Common.{inl, inr, ◌≡◌, sym, subst, ◌∙◌}
+use Rattle.std.proofs.lemmas.Result.{IfOk-weaker}
 use Rattle.pop_words.specs.declared.command.Command.{Command}
 use Rattle.pop_words.specs.declared.command.Command.TheVariants.{Make, Replay, Resume}
 use Rattle.top_call.specs.Answers.{HasNoBadLine, IsOfLine}
 use Rattle.top_call.proofs.ByCommand.{line_result, reads_no_cert}
-use Rattle.top_call.proofs.Carrying.{if_ok}
 use Rattle.top_call.proofs.PausedExactly.{cert_behind}
 use Rattle.top_call.proofs.answer.answer_job.Goals as goal
 
@@ -26,7 +26,7 @@ returns-in-Replay-clause-unread g c make = absurd (not_replay c.args.job.command
 
 pub returns-in-Replay-clause-whole : goal.returns-in-Replay-clause-whole
 returns-in-Replay-clause-whole g c =
-    if_ok _ _ c.replay.result (λ a whole has other. whole) c.replay.ensures.whole
+    IfOk-weaker c.replay.result _ _ (λ a whole has other. whole) c.replay.ensures.whole
 
 pub returns-in-Replay-clause-no_bad_line : goal.returns-in-Replay-clause-no_bad_line
 returns-in-Replay-clause-no_bad_line g c failed =
@@ -50,7 +50,7 @@ returns-in-Resume-clause-unread g c make = absurd (not_resume c.args.job.command
 
 pub returns-in-Resume-clause-whole : goal.returns-in-Resume-clause-whole
 returns-in-Resume-clause-whole g c =
-    if_ok _ _ c.resume.result (λ a whole has other. whole) c.resume.ensures.whole
+    IfOk-weaker c.resume.result _ _ (λ a whole has other. whole) c.resume.ensures.whole
 
 pub returns-in-Resume-clause-no_bad_line : goal.returns-in-Resume-clause-no_bad_line
 returns-in-Resume-clause-no_bad_line g c failed =

@@ -1,6 +1,6 @@
-use Rattle.std.proofs.Common.{inl, inr, ◌≡◌, List, ℕ, length, sym, ap, subst, ◌∙◌, ◌≤◌}
+use Rattle.std.proofs.Common.{inl, inr, sym, subst}
+use Rattle.std.proofs.lemmas.Result.{IfOk-weaker}
 use Rattle.top_call.specs.Answers.{MayFailBehind}
-use Rattle.top_call.proofs.Carrying.{if_ok}
 use Rattle.top_call.proofs.PauseWords.{not_made}
 use Rattle.top_call.proofs.answer.answer_line.Goals as goal
 
@@ -17,7 +17,7 @@ returns-in-Some-clause-unread g c make =
 
 pub returns-in-Some-clause-whole : goal.returns-in-Some-clause-whole
 returns-in-Some-clause-whole g c =
-    if_ok _ _ c.pause_or_tell.result (λ a whole has other. whole has) c.pause_or_tell.ensures.whole
+    IfOk-weaker c.pause_or_tell.result _ _ (λ a whole has other. whole has) c.pause_or_tell.ensures.whole
 
 pub returns-in-Some-clause-no_bad_line : goal.returns-in-Some-clause-no_bad_line
 returns-in-Some-clause-no_bad_line g c failed =

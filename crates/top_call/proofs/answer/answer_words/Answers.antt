@@ -1,9 +1,10 @@
 use Rattle.std.proofs.Common.{inl, inr, map, string_bytes}
+use Rattle.std.proofs.lemmas.Result.{IfOk-weaker}
 use Rattle.top_call.specs.Answers.{ComesBy, IsOutcome}
 use Rattle.pop_words.proofs.JobsInRange.{asked_height, asked_grow, asked_root, asked_size, asked_workers}
 use Rattle.top_call.proofs.BatchWords.{counted_keyed}
 use Rattle.top_call.proofs.PauseWords.{stopped_may}
-use Rattle.top_call.proofs.Carrying.{carried, if_ok, passed_on}
+use Rattle.top_call.proofs.Carrying.{carried, passed_on}
 use Rattle.top_call.proofs.Lifting.{of_words, input_of_job, grid_job}
 use Rattle.top_call.proofs.WordResults.{words_refused, words_bad, words_only, words_no_fault, job_low, job_no_usage, job_past_words}
 use Rattle.top_call.proofs.answer.answer_words.Goals as goal
@@ -58,7 +59,7 @@ returns-clause-unread g c (inr grid) =
 
 pub returns-clause-whole : goal.returns-clause-whole
 returns-clause-whole g c =
-    if_ok _ _ c.answer_job.result
+    IfOk-weaker c.answer_job.result _ _
     (λ a whole low other. whole low (λ make. other (c.in_ok-job.job, c.in_ok-job.ensures.job, make)))
     c.answer_job.ensures.whole
 

@@ -1,5 +1,6 @@
 use Rattle.std.proofs.Common.{◌≡◌, List, subst}
 use Rattle.std.specs.Prelude.{Result, IfOk}
+use Rattle.std.proofs.lemmas.Result.{IfOk-weaker}
 use Rattle.pop_model.specs.Instances.{Instance}
 use Rattle.pop_watch.specs.Telling.{Watcher}
 use Rattle.pop_print.specs.declared.facts.Facts.{Facts}
@@ -7,7 +8,6 @@ use Rattle.top_call.specs.declared.asked.Asked.{Asked}
 use Rattle.top_call.specs.declared.answer.Answer.{Answer}
 use Rattle.top_call.specs.Outcomes.{AnswersBy}
 use Rattle.top_call.specs.Sampling.{IsEndOf}
-use Rattle.top_call.proofs.Carrying.{if_ok}
 use Rattle.top_call.proofs.batching.sample_and_tell.Goals as goal
 
 -- what is told of a batch, whatever the watchers, is told of it under another name of its instance
@@ -16,7 +16,7 @@ told_of : {E : Type 0} (asked : Asked) (ws : List Watcher) (facts : Facts) (i j 
     → IfOk r (λ a. AnswersBy (IsEndOf asked ws facts j) a.status a.text.items)
 told_of asked ws facts i j r same told =
     subst (λ k. IfOk r (λ a. AnswersBy (IsEndOf asked ws facts k) a.status a.text.items)) same
-    (if_ok _ _ r (λ a all. all ws) told)
+    (IfOk-weaker r _ _ (λ a all. all ws) told)
 
 -- where no number of samples is asked for, the run is told
 pub returns-in-None-clause-ended : goal.returns-in-None-clause-ended

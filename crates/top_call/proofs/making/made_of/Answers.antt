@@ -1,9 +1,9 @@
 use Rattle.std.proofs.Common.{ℕ, List, Some, None, Err, ap, ◌∙◌}
+use Rattle.std.proofs.lemmas.Result.{IfOk-weaker}
 use Rattle.dimacs_read.specs.CnfText.{AnswersCnf}
 use Rattle.graph_read.specs.GraphText.{AnswersGraph}
 use Rattle.pop_words.specs.declared.command.Command.TheVariants.{Formula, Orient, Tree, Resample}
 use Rattle.top_call.specs.Answers.{asked_by}
-use Rattle.top_call.proofs.Carrying.{if_ok}
 use Rattle.top_call.proofs.Lifting.{refuses_as}
 use Rattle.top_call.proofs.MadeExtremal.{formula_extremal, orientation_extremal, tree_extremal}
 use Rattle.top_call.proofs.MadeRefusals.{slice_refused, formula_refused, resampling_refused, orienting_refused, rooted_refused}
@@ -41,19 +41,19 @@ returns-in_err-graph_of-in-Tree-clause-refused c job ws of =
 -- what is made is extremal
 pub returns-in_ok-formula_of-in-Formula-clause-extremal : goal.returns-in_ok-formula_of-in-Formula-clause-extremal
 returns-in_ok-formula_of-in-Formula-clause-extremal c ordered =
-    if_ok _ _ c.make_formula-in-Formula-2.result
+    IfOk-weaker c.make_formula-in-Formula-2.result _ _
     (λ made is. formula_extremal c.args.origin None c.in_ok-formula_of-in-Formula.field-0 made.facts made.instance is)
     c.make_formula-in-Formula-2.ensures.made
 
 pub returns-in_ok-graph_of-in-Orient-clause-extremal : goal.returns-in_ok-graph_of-in-Orient-clause-extremal
 returns-in_ok-graph_of-in-Orient-clause-extremal c ordered =
-    if_ok _ _ c.make_orientation-in-Orient.result
+    IfOk-weaker c.make_orientation-in-Orient.result _ _
     (λ made is. orientation_extremal c.args.origin None c.in_ok-graph_of-in-Orient.field-0 made.facts made.instance is)
     c.make_orientation-in-Orient.ensures.made
 
 pub returns-in_ok-graph_of-in-Tree-clause-extremal : goal.returns-in_ok-graph_of-in-Tree-clause-extremal
 returns-in_ok-graph_of-in-Tree-clause-extremal c ordered =
-    if_ok _ _ c.make_tree-in-Tree.result
+    IfOk-weaker c.make_tree-in-Tree.result _ _
     (λ made is. tree_extremal c.args.origin None c.args.root c.in_ok-graph_of-in-Tree.field-0 made.facts made.instance
     is)
     c.make_tree-in-Tree.ensures.made

@@ -1,10 +1,10 @@
 use Rattle.std.proofs.Common.{sym, subst}
+use Rattle.std.proofs.lemmas.Result.{IfErr-weaker}
 use Rattle.graph_read.specs.Grids.{grid_of}
 use Rattle.pop_print.specs.declared.facts.Facts.TheVariants.{Made as MadeFacts}
 use Rattle.top_call.specs.Results.{ComesRefused}
 use Rattle.top_call.specs.Sampling.{IsEndOf, ComesOfSampling}
 use Rattle.top_call.specs.Trees.{cycles_instance, tree_instance}
-use Rattle.top_call.proofs.Carrying.{if_err}
 use Rattle.top_call.proofs.GoodForms.{grid_refused}
 use Rattle.top_call.proofs.MadeInstances.{facts_of_made, first_of_grid, fits_tree, told_tree}
 use Rattle.top_call.proofs.making.make_grid.Goals as goal
@@ -28,7 +28,7 @@ returns-clause-told c =
 pub returns-clause-refused : goal.returns-clause-refused
 returns-clause-refused c asked ws same =
     let side = c.args.side in
-    if_err _ _ c.make_cycles.result
+    IfErr-weaker c.make_cycles.result _ _
     (λ r h. grid_refused c.args.origin asked ws side c.in_ok-weights.weights r c.in_ok-weights.ensures
     (subst (λ n. ComesRefused (ComesOfSampling (MadeFacts side) c.args.origin c.in_ok-weights.weights n
     (IsEndOf asked ws (MadeFacts side) (tree_instance c.args.origin (grid_of side) 1))) r) (sym same) h))

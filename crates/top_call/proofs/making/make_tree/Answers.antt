@@ -1,9 +1,9 @@
 use Rattle.std.proofs.Common.{◌≤◌, sym, subst, arith}
+use Rattle.std.proofs.lemmas.Result.{IfErr-weaker}
 use Rattle.pop_print.specs.declared.facts.Facts.TheVariants.{Tree as TreeFacts}
 use Rattle.top_call.specs.Results.{ComesRefused}
 use Rattle.top_call.specs.Sampling.{IsEndOf, ComesOfSampling}
 use Rattle.top_call.specs.Trees.{cycles_instance, tree_instance}
-use Rattle.top_call.proofs.Carrying.{if_err}
 use Rattle.top_call.proofs.GoodForms.{tree_refused}
 use Rattle.top_call.proofs.MadeInstances.{facts_of_made, fits_tree, told_tree}
 use Rattle.top_call.proofs.making.make_tree.Goals as goal
@@ -30,7 +30,7 @@ returns-clause-refused c asked ws same =
     let g = c.args.graph in
     let root = c.args.root in
     let last : root ≤ g.vertices = omega (arith, c.vertices.ensures.count, c.if-root-vertices.false) in
-    if_err _ _ c.make_cycles.result
+    IfErr-weaker c.make_cycles.result _ _
     (λ r h. tree_refused c.args.origin asked ws root g c.in_ok-arrows.weights r c.in_ok-arrows.ensures.weights last
     c.in_ok-arrows.ensures.connected
     (subst (λ n. ComesRefused (ComesOfSampling (TreeFacts g root) c.args.origin c.in_ok-arrows.weights n

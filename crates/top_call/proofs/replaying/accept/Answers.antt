@@ -1,4 +1,4 @@
-use Rattle.std.proofs.Common.{◌≡◌, ◌≢◌, IfErr, sym, subst, ◌∙◌}
+use Rattle.std.proofs.Common.{sym, subst}
 use Rattle.pop_model.specs.Instances.{Instance}
 use Rattle.pop_model.specs.Extremal.{IsExtremal}
 use Rattle.pop_stacks.specs.Tables.{origin_of}
@@ -7,7 +7,7 @@ use Rattle.pop_log.specs.Refusals.{IsLogRefusal}
 use Rattle.pop_print.specs.Ends.{AreFactsOf}
 use Rattle.top_call.specs.Names.{names_for}
 use Rattle.top_call.specs.Made.{IsMade}
-use Rattle.top_call.specs.Results.{ComesRefused, IsLogRefusalOf}
+use Rattle.top_call.specs.Results.{IsLogRefusalOf}
 use Rattle.top_call.specs.Replays.{IsCertified, IsRefusedCert}
 use Rattle.top_call.specs.Answers.{ComesOf}
 use Rattle.top_call.proofs.ReplayedCerts.{line_refused, text_refused, refused_as}

@@ -1,4 +1,4 @@
-use Rattle.std.proofs.Common.{◌≡◌, ℕ, ◌+◌, List, ◌++◌, Option, length, sym, subst, arith}
+use Rattle.std.proofs.Common.{ℕ, ◌+◌, List, ◌++◌, Option, sym, subst, arith}
 use Rattle.std.specs.Prelude.{option_map}
 use Rattle.pop_model.specs.Logs.{LogRecord}
 use Rattle.pop_model.specs.Runs.{start_of}

@@ -1,4 +1,4 @@
-use Rattle.std.proofs.Common.{rules, arith, ℕ, List, ap, sym, subst, ◌∙◌, ◌+◌, ◌≡◌}
+use Rattle.std.proofs.Common.{rules, ℕ, ap, sym, subst, ◌∙◌, ◌+◌, ◌≡◌}
 use Rattle.claim_words.specs.declared.view.View.{View}
 use Rattle.claim_words.specs.Maps.{Each, taken_out}
 use Rattle.claim_words.specs.Passes.{view}

@@ -1,4 +1,4 @@
-use Rattle.std.proofs.Common.{rules, arith, ℕ, suc, ◌+◌, ◌-◌, ◌∙◌, ◌≡◌, ap, sym, List}
+use Rattle.std.proofs.Common.{rules, arith, ℕ, suc, ◌+◌, ◌-◌, ◌∙◌, ◌≡◌, ap, sym}
 use Rattle.std.specs.List.{range_with_len}
 use Rattle.pop_model.specs.Popping.{variables}
 use Rattle.claim_words.specs.declared.view.View.{View}

@@ -1,8 +1,9 @@
 use Rattle.std.proofs.Common.{◌≡◌, ◌++◌, ◌∷◌, [], cond, true, ap, sym, ◌∙◌, ◌<◌, length, arith}
 use Rattle.pop_model.specs.Cycles.{first_of}
+use Rattle.pop_model.proofs.Members.{first_read}
 use Rattle.confluence_core.specs.Kept.{keeps_log}
 use Rattle.confluence_core.specs.Records.{record_at}
-use Rattle.confluence_core.proofs.LoopCubes.{one_cube, cube_all, first_is}
+use Rattle.confluence_core.proofs.LoopCubes.{one_cube, cube_all}
 use Rattle.confluence_core.proofs.walked.Walked.keep_record.Goals as goal
 
 pub of-requires : goal.of-requires
@@ -21,7 +22,7 @@ returns-in_ok-push-clause-kept c e is =
     c.in_ok-cube.ensures.cube in
     let popped : c.in_ok-popped.popped ≡ record_at (first_of e) e w.cursors =
     c.in_ok-popped.ensures ∙ ap (λ u. record_at u cube w.cursors)
-    (sym (first_is cube c.pair-unit.result c.pair-unit.ensures))
+    (sym (first_read cube c.pair-unit.result c.pair-unit.ensures))
     ∙ ap (λ f. record_at (first_of f) f w.cursors) (sym same) in
     let kept : true ≡ keeps_log w.keep = sym c.if-keeps_log.true ∙ c.keeps_log.ensures in
     let log : c.push.new.self ≡ cond (keeps_log w.keep) (w.log ++ record_at (first_of e) e w.cursors ∷ []) w.log =

@@ -1,4 +1,4 @@
-use Rattle.std.proofs.Common.{rules, ap, sym, ◌∙◌, arith, ◌≡◌, ◌+◌, ◌-◌, length, take, drop, min}
+use Rattle.std.proofs.Common.{rules, sym, ◌∙◌, arith, ◌≡◌, ◌+◌, ◌-◌, length, take, drop, min}
 use Rattle.pop_edge.proofs.Pieces.{taken, at_end}
 use Rattle.pop_edge.proofs.slice_source.SliceSourceSource.read.Goals as goal
 

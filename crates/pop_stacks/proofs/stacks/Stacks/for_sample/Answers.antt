@@ -1,4 +1,4 @@
-use Rattle.std.proofs.Common.{◌≡◌, ℕ, sym, subst}
+use Rattle.std.proofs.Common.{sym, subst}
 use Rattle.pop_model.specs.Stacks.{IsTable}
 use Rattle.pop_stacks.specs.Tables.{sample_table}
 use Rattle.pop_stacks.specs.declared.stack_spec.StackSpec.TheVariants.{Key}

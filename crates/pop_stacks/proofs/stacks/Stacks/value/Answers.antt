@@ -1,6 +1,5 @@
-use Rattle.std.proofs.Common.{◌≡◌, ◌/◌, ◌+◌, ◌*◌, ◌∙◌, ap, subst}
+use Rattle.std.proofs.Common.{◌/◌, ◌+◌, ◌*◌, ◌∙◌, ap, subst}
 use Rattle.rand_chacha.specs.ChaCha.{word_at}
-use Rattle.pop_model.specs.Stacks.{stream_of}
 use Rattle.pop_stacks.specs.Words.{AreWordsOf}
 use Rattle.pop_stacks.specs.KeptValues.{AreValuesOf}
 use Rattle.pop_stacks.proofs.KeyedEntries.{keyed_value, keyed_values}

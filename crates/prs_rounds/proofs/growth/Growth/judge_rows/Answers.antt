@@ -4,10 +4,11 @@ use Rattle.std.proofs.lemmas.Bool.{cases_eq}
 use Rattle.std.proofs.lemmas.List.{get_or_read_under}
 use Rattle.std.proofs.lemmas.List.Elements.{All-weaker, All-contains}
 use Rattle.pop_instance.specs.Events.{cube_at}
+use Rattle.pop_instance.proofs.ListedEvents.{index_units}
 use Rattle.prs_rounds.specs.Growth.{mark_of, is_covered, Meets, AreJudged, AreListed}
 use Rattle.prs_rounds.specs.declared.mark.Mark.TheVariants.{Free}
 use Rattle.prs_rounds.specs.declared.growth.Growth.{Growth}
-use Rattle.prs_rounds.proofs.GrowthLemmas.{judges_both, stays_made, row_known, row_meets}
+use Rattle.prs_rounds.proofs.GrowthLemmas.{judges_both, stays_made, row_meets}
 use Rattle.prs_rounds.proofs.growth.Growth.judge_rows.Goals as goal
 
 -- a variable that is read is listed, and so covered
@@ -36,7 +37,7 @@ judge_row-requires-clause-known c =
     old.listed within c.index-v.ensures in
     let below = read.below in
     subst (All (λ u. u < length c.args.events.now)) (sym c.at.ensures)
-    (row_known c.args.events.now c.args.index.now c.requires.index v (omega (arith, below, c.requires.count)))
+    (index_units c.args.events.now c.args.index.now c.requires.index v (omega (arith, below, c.requires.count)))
 
 pub judge_row-requires-clause-meets : goal.judge_row-requires-clause-meets
 judge_row-requires-clause-meets c =

@@ -4,7 +4,7 @@ use mathlib.Core.Logic.{dite}
 use native.Mathlib.Decide.{ℕ_discrete}
 use Rattle.pop_model.specs.Popping.{variables}
 use Rattle.claim_words.specs.Openings.{height}
-use Rattle.claim_words.specs.Passes.{view, opening_of}
+use Rattle.claim_words.specs.Passes.{opening_of}
 use Rattle.claim_words.proofs.SoleHasAll.{last_of, before_last}
 use Rattle.claim_words.proofs.TicketsAreNumbered.{enumerate-push}
 use Rattle.claim_words.proofs.HeldWhole.{variables-enumerate}

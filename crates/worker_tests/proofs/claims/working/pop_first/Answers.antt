@@ -1,7 +1,6 @@
-use Rattle.std.proofs.Common.{rules, ◌≡◌, ◌∙◌, ◌<◌, [], ◌++◌, ap, sym, subst, length, List, ℕ, Option}
+use Rattle.std.proofs.Common.{◌≡◌, ◌∙◌, ◌<◌, [], ◌++◌, ap, sym, subst, length, List, ℕ, Option}
 use Rattle.pop_model.specs.Stacks.{variables_of}
 use Rattle.pop_model.specs.Popping.{Cube, variables}
-use Rattle.pop_model.specs.Families.{Family}
 use Rattle.pop_model.specs.Instances.{Instance}
 use Rattle.confluence_core.proofs.EventVariables.{event_known}
 use Rattle.claim_words.specs.declared.view.View.{View}

@@ -1,4 +1,4 @@
-use Rattle.std.proofs.Common.{rules, ◌≡◌, ◌∙◌, ℕ, List, ap, sym, length}
+use Rattle.std.proofs.Common.{rules, ◌≡◌, ◌∙◌, ℕ, List, ap, length}
 use Rattle.std.specs.List.{range_with_len}
 use Rattle.pop_model.specs.Stacks.{variables_of}
 use Rattle.pop_model.specs.Popping.{variables}
