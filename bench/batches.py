@@ -1,6 +1,5 @@
 #!/usr/bin/env python3
 """Measures batches of a built popsample beside runs of one sample, and beside Boost and igraph. README.md says more."""
-import argparse
 import os
 import statistics
 import sys
@@ -12,6 +11,7 @@ from typing import NamedTuple
 sys.dont_write_bytecode = True
 
 import inputs
+from asking import parser_of
 from measure import run_fastest, run_once
 from peers import find_peers
 from run import answered, key_of, peak_of, print_head, print_row, processor_name, written
@@ -108,17 +108,13 @@ def print_peer(name, peer, text, folder, limit):
 
 
 def arguments():
-    parser = argparse.ArgumentParser(description=__doc__)
-    parser.add_argument("--program", required=True, metavar="PATH", help="the built program")
+    parser = parser_of(__doc__)
     parser.add_argument("--turns", type=int, default=3, metavar="N", help="measure each input so often")
     return parser.parse_args()
 
 
 def main():
     asked = arguments()
-    program = os.path.abspath(asked.program)
-    if not os.access(program, os.X_OK):
-        sys.exit(f"{program} is no program")
     print(f"{time.strftime('%Y-%m-%d')}, {processor_name()}, {os.cpu_count()} processors\n")
     with tempfile.TemporaryDirectory(prefix="popsample-bench-") as folder:
         peers = find_peers(folder)
@@ -130,7 +126,7 @@ def main():
             text = written(lambda: lines(SIZE), folder)
             print_turns(
                 f"{name}, {SIZE}",
-                [turn_of(program, command, text, folder, turn, LONGEST) for turn in range(asked.turns)],
+                [turn_of(asked.program, command, text, folder, turn, LONGEST) for turn in range(asked.turns)],
             )
             for peer in peers if command == "tree" else []:
                 print_peer(f"{name}, {SIZE}", peer, text, folder, LONGEST)

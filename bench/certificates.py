@@ -3,7 +3,6 @@
 
 README.md says more.
 """
-import argparse
 import filecmp
 import os
 import sys
@@ -15,6 +14,7 @@ from typing import NamedTuple
 sys.dont_write_bytecode = True
 
 import inputs
+from asking import parser_of
 from measure import run_into
 from run import key_of, peak_of, print_head, print_row, processor_name, written
 
@@ -100,22 +100,18 @@ def measure(case):
 
 
 def arguments():
-    parser = argparse.ArgumentParser(description=__doc__.splitlines()[0])
-    parser.add_argument("--program", required=True, metavar="PATH", help="the built program")
+    parser = parser_of(__doc__.splitlines()[0])
     parser.add_argument("--only", default="", metavar="WORD", help="leave out inputs without this in their name")
     return parser.parse_args()
 
 
 def main():
     asked = arguments()
-    program = os.path.abspath(asked.program)
-    if not os.access(program, os.X_OK):
-        sys.exit(f"{program} is no program")
     print(f"{time.strftime('%Y-%m-%d')}, {processor_name()}, {os.cpu_count()} processors\n")
     print_head("input", "run", "seconds", "processor", "peak MiB", "bytes", "verdict")
     with tempfile.TemporaryDirectory(prefix="popsample-bench-") as folder:
         fine = [
-            measure(Case(program, name, [command, "--key", key_of(1)], written(lines, folder), folder))
+            measure(Case(asked.program, name, [command, "--key", key_of(1)], written(lines, folder), folder))
             for name, command, lines in INPUTS if asked.only in name]
     sys.exit(0 if all(fine) else 1)
 

@@ -4,7 +4,6 @@
 The calls are refused by a small library that is put before the C library of the built program. What is right is said by
 the checker of the examples, which shares nothing with the program. README.md says more.
 """
-import argparse
 import os
 import struct
 import subprocess
@@ -19,6 +18,7 @@ sys.dont_write_bytecode = True
 HERE = os.path.dirname(os.path.abspath(__file__))
 sys.path.insert(0, os.path.join(os.path.dirname(HERE), "examples"))
 
+from asking import parser_of
 from verifier.command_line import read_words
 from verifier.example_files import all_examples
 from verifier.judging import judge
@@ -208,8 +208,7 @@ def build(folder):
 
 
 def arguments():
-    parser = argparse.ArgumentParser(description=__doc__.splitlines()[0])
-    parser.add_argument("--program", required=True, metavar="PATH", help="the built program")
+    parser = parser_of(__doc__.splitlines()[0])
     parser.add_argument("--only", default="", metavar="WORD", help="leave out runs without this in their name")
     return parser.parse_args()
 
@@ -217,7 +216,7 @@ def arguments():
 def main():
     asked = arguments()
     with tempfile.TemporaryDirectory(prefix="popsample-refused-") as folder:
-        bench = Bench(os.path.abspath(asked.program), build(folder), os.path.join(folder, "tally"))
+        bench = Bench(asked.program, build(folder), os.path.join(folder, "tally"))
         boards = boards_of(bench)
         chosen = [each for case in cases() for each in variants(case, boards) if asked.only in each.name]
         print("| run | allocations | threads | reads | writes |\n| --- | --- | --- | --- | --- |")

@@ -1,6 +1,5 @@
 #!/usr/bin/env python3
 """Measures a built popsample beside Boost and igraph, or tries it at its limits. README.md says more."""
-import argparse
 import math
 import os
 import statistics
@@ -11,6 +10,7 @@ import time
 # The repository stays as it is.
 sys.dont_write_bytecode = True
 
+from asking import parser_of
 from families import families
 from inputs import write_apart
 from limits import trials
@@ -186,8 +186,7 @@ def processor_name():
 
 
 def arguments():
-    parser = argparse.ArgumentParser(description=__doc__)
-    parser.add_argument("--program", required=True, metavar="PATH", help="the built program")
+    parser = parser_of(__doc__)
     parser.add_argument("--limits", action="store_true", help="try it at each limit and one past it")
     parser.add_argument("--only", default="", metavar="WORD", help="leave out families without this in their name")
     parser.add_argument("--seconds", type=float, metavar="N", help="stop a run after so many seconds")
@@ -196,14 +195,11 @@ def arguments():
 
 def main():
     given = arguments()
-    program = os.path.abspath(given.program)
-    if not os.access(program, os.X_OK):
-        sys.exit(f"{program} is no program")
     print(f"{time.strftime('%Y-%m-%d')}, {processor_name()}, one worker")
     with tempfile.TemporaryDirectory(prefix="popsample-bench-") as folder:
         if given.limits:
-            return try_limits(program, given.only, folder, given.seconds or 600)
-        return measure_all(program, given.only, folder, given.seconds or 60)
+            return try_limits(given.program, given.only, folder, given.seconds or 600)
+        return measure_all(given.program, given.only, folder, given.seconds or 60)
 
 
 if __name__ == "__main__":

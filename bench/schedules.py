@@ -5,10 +5,8 @@ What is run are small instances that were worked by hand, and random ones of all
 answer is that of one worker without stages. Runs that can be are also stopped halfway, and several workers go on.
 README.md says more.
 """
-import argparse
 import collections
 import itertools
-import os
 import random
 import subprocess
 import sys
@@ -17,6 +15,7 @@ import time
 # The repository stays as it is.
 sys.dont_write_bytecode = True
 
+from asking import parser_of
 from inputs import clause_line, edge_line
 
 WORKERS = (2, 3, 8, 64)
@@ -130,8 +129,7 @@ def compare(program, words, text):
 
 
 def arguments():
-    parser = argparse.ArgumentParser(description=__doc__.splitlines()[0])
-    parser.add_argument("--program", required=True, metavar="PATH", help="the built program")
+    parser = parser_of(__doc__.splitlines()[0])
     parser.add_argument("--runs", type=int, default=10_000, help="how many runs of several workers, at least")
     parser.add_argument("--seed", type=int, default=1)
     return parser.parse_args()
@@ -139,12 +137,9 @@ def arguments():
 
 def main():
     asked = arguments()
-    program = os.path.abspath(asked.program)
-    if not os.access(program, os.X_OK):
-        sys.exit(f"{program} is no program")
     runs, wrong, statuses, begun = 0, 0, collections.Counter(), time.monotonic()
     for words, text in cases(random.Random(asked.seed)):
-        status, others = compare(program, words, text.encode())
+        status, others = compare(asked.program, words, text.encode())
         for crew in others:
             print("DIFFERS:", *words, *crew, repr(text))
         runs, wrong = runs + len(crews()), wrong + len(others)

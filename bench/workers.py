@@ -1,6 +1,5 @@
 #!/usr/bin/env python3
 """Measures a built popsample with several workers on both boards beside one worker. README.md says more."""
-import argparse
 import os
 import statistics
 import sys
@@ -11,6 +10,7 @@ import time
 sys.dont_write_bytecode = True
 
 import inputs
+from asking import parser_of
 from measure import run_fastest
 from run import MEBIBYTE, key_of, print_head, print_row, processor_name, written
 
@@ -61,8 +61,7 @@ def print_crew(name, crew, runs, first):
 
 
 def arguments():
-    parser = argparse.ArgumentParser(description=__doc__)
-    parser.add_argument("--program", required=True, metavar="PATH", help="the built program")
+    parser = parser_of(__doc__)
     parser.add_argument("--only", default="", metavar="WORD", help="leave out inputs without this in their name")
     parser.add_argument("--turns", type=int, default=3, metavar="N", help="run each crew under so many keys")
     parser.add_argument("--times", type=int, default=3, metavar="N", help="and under each so often, for the fastest")
@@ -73,16 +72,13 @@ def arguments():
 
 def main():
     asked = arguments()
-    program = os.path.abspath(asked.program)
-    if not os.access(program, os.X_OK):
-        sys.exit(f"{program} is no program")
     print(f"{time.strftime('%Y-%m-%d')}, {processor_name()}, {os.cpu_count()} processors\n")
     print_head("input", "crew", "seconds", "processor", "peak MiB", "seconds / one", "processor / one")
     with tempfile.TemporaryDirectory(prefix="popsample-bench-") as folder:
         for name, words, lines, under_lock in measured(asked.small):
             if asked.only in name:
                 crews = [ONE, *(crew for crew in CREWS if under_lock or "words" in crew)]
-                runs = rounds_of(program, words, crews, written(lines, folder), folder, asked)
+                runs = rounds_of(asked.program, words, crews, written(lines, folder), folder, asked)
                 for crew, of_crew in zip(crews, runs):
                     print_crew(name, crew, of_crew, runs[0])
 
