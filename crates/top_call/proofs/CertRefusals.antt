@@ -1,5 +1,5 @@
--- The refusals of a certificate, as outcomes of its bytes.
-use Rattle.std.proofs.Common.{◌≢◌, ◌<◌, ◌≤◌, ℕ, List, ◌∷◌, length, map, refl, ap, ◌∙◌, arith, length-append}
+-- The refusals of what a certificate holds, as outcomes.
+use Rattle.std.proofs.Common.{◌≢◌, ◌<◌, ℕ, List, ◌∷◌, length, map, refl, ap, ◌∙◌, arith, length-append}
 use Rattle.std.proofs.lemmas.List.{length-map}
 use Rattle.pop_model.specs.Instances.{Instance, IsInstance}
 use Rattle.pop_model.proofs.Replays.{start_count}
@@ -11,14 +11,11 @@ use Rattle.pop_log.specs.declared.log_refusal.LogRefusal.TheVariants.{Limit as L
 use Rattle.pop_log.specs.Layers.{Placed}
 use Rattle.pop_log.specs.Layered.{IsFirstUnlayered}
 use Rattle.pop_log.specs.Refusals.{IsLogRefusal}
-use Rattle.run_cert.specs.declared.cert_refusal.CertRefusal.{CertRefusal}
-use Rattle.run_cert.specs.declared.cert_refusal.CertRefusal.TheVariants.{Malformed as MalformedCert, OutOfMemory as CertMemory}
-use Rattle.run_cert.specs.Refusals.{IsCertRefusal}
 use Rattle.top_call.specs.declared.refusal.Refusal.{Refusal}
 use Rattle.top_call.specs.declared.refusal.Refusal.TheVariants.{Usage, Malformed, Count, EmptyClause, Limit, Isolated, NoRoot, CutOff, TooMany, RowCount, EmptyRow, ValueTooLarge, WeightSum, Clashes, NotLegal, Stopped}
 use Rattle.top_call.specs.Outcomes.{Outcome}
-use Rattle.top_call.specs.Results.{TellsFault, ComesRefused, IsEarlyRecord, uncertified, log_refusal}
-use Rattle.top_call.specs.Replays.{cert_limit, IsNoRun, log_outcome, IsNoCert}
+use Rattle.top_call.specs.Results.{TellsFault, ComesRefused, IsEarlyRecord, log_refusal}
+use Rattle.top_call.specs.Replays.{IsNoRun, log_outcome}
 
 -- a fault of stacks tells no run
 fault_no_run : (Comes : Outcome → Type 0) (r : Refusal) → TellsFault Comes r
@@ -53,13 +50,7 @@ log_refused Comes (IllegalRecord k) comes = comes (λ is. absurd (cc))
 log_refused Comes (UnlayeredRecord k) comes = comes (λ is. absurd (cc))
 log_refused Comes LogMemory comes = refl
 
--- bytes that are no certificate are refused so
-pub cert_refused : (bytes : List ℕ) (cause : CertRefusal) → length bytes ≤ cert_limit → IsCertRefusal bytes cause
-    → ComesRefused (IsNoCert bytes) (uncertified cause)
-cert_refused bytes (MalformedCert l c) short refused = (short, refused)
-cert_refused bytes CertMemory short refused = refl
-
--- a record that isn't layered is one of them
+-- the first record that isn't layered is one of the log
 unlayered_small : (placed : List Placed) (k : ℕ) → IsFirstUnlayered placed k → k < length (map (λ p. p.0) placed)
 unlayered_small placed k first =
     let size = length-map placed (λ (p : Placed). p.0) in

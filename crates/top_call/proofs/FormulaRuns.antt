@@ -16,14 +16,14 @@ use Rattle.top_call.specs.declared.refusal.Refusal.TheVariants.{Clashes, Stopped
 use Rattle.top_call.specs.Batches.{AreFew}
 use Rattle.top_call.specs.Outcomes.{Outcome, AnswersBy}
 use Rattle.top_call.specs.Outcomes.Outcome.{Unsound, Usage, Unread, Isolated, NoRoot, CutOff, TooMany, Extremal, Ended, Resampled, Rounded, Batched, Clashes as ClashesOf, Paused, Replayed, NotLegal}
-use Rattle.top_call.specs.Results.{ComesRefused, IsTooManyRefusal}
+use Rattle.top_call.specs.Results.{ComesRefused}
 use Rattle.top_call.specs.Sampling.{pair_weights, instance_of, IsEndOf, IsFaultOf, ComesOfSampling}
-use Rattle.top_call.specs.Formulas.{EndsFormula, ComesOfRunning, ComesOfChecking}
+use Rattle.top_call.specs.Formulas.{EndsFormula, ComesOfRunning}
 use Rattle.top_call.specs.Resamplings.{IsHistoryOf, RunsFormula, IsClashIn}
 use Rattle.top_call.specs.Rounds.{IsRoundsEndOf, EndsRounds, ComesOfRounds}
 use Rattle.top_call.specs.Made.{IsMadeFormula}
 use Rattle.top_call.proofs.Carrying.{refused, answered}
-use Rattle.top_call.proofs.GoodForms.{TellsRuns, of_fault, of_sound, too_many_refused}
+use Rattle.top_call.proofs.GoodForms.{TellsRuns, of_fault, of_sound}
 
 -- a run of a formula tells a run
 formula_runs : (clashing : Bool) (origin : Origin) (asked : Asked) (ws : List Watcher) (f : Cnf)
@@ -34,15 +34,6 @@ formula_runs true origin asked ws f = record { no_fault = λ t r h. h.history; n
 -- few samples of a formula's variables are few of its weights
 pub few_pairs : (asked : Option ℕ) (n m : ℕ) → n ≡ m → AreFew asked n → AreFew asked (length (pair_weights m))
 few_pairs asked n m is few = subst (AreFew asked) (is ∙ sym (length-replicate m (1 ∷ 1 ∷ []))) few
-
--- too many samples of a formula are refused
-pub many_refused : (clashing : Bool) (origin : Origin) (asked : Asked) (ws : List Watcher) (count : Option ℕ) (n : ℕ) (f : Cnf) (r : Refusal)
-    → n ≡ f.variables → IsTooManyRefusal count n r
-    → ComesRefused (ComesOfSampling (FormulaFacts f.variables) origin (pair_weights f.variables) count
-    (RunsFormula clashing origin asked ws f)) r
-many_refused clashing origin asked ws count n f r is many =
-    too_many_refused (FormulaFacts f.variables) origin (pair_weights f.variables) count
-    (RunsFormula clashing origin asked ws f) n r (is ∙ sym (length-replicate f.variables (1 ∷ 1 ∷ []))) many
 
 -- a fault of a formula's stacks refuses it
 pub fault_refused : (clashing : Bool) (origin : Origin) (asked : Asked) (ws : List Watcher) (count : Option ℕ) (n : ℕ) (f : Cnf) (r : Refusal)
@@ -90,13 +81,6 @@ clash_refused false origin asked ws count f events n (Clashes i j) is sound few 
 clash_refused false origin asked ws count f events n (Stopped s) is sound few of clash = clash
 clash_refused true origin asked ws count f events n (Stopped s) is sound few of clash = clash
 clash_refused clashing origin asked ws count f events n r is sound few of clash = absurd clash
-
--- and where it is checked
-pub clash_checked : (f : Cnf) (events : List (ℕ × Cube)) (r : Refusal) → AreEventsOf f.clauses events
-    → IsClashIn false events r → ComesRefused (ComesOfChecking f) r
-clash_checked f events (Clashes i j) of clash = record { events = events; of_formula = of; least = clash }
-clash_checked f events (Stopped s) of clash = clash
-clash_checked f events r of clash = absurd clash
 
 -- the end of the run of what is made of a formula
 pub formula_ends : (origin : Origin) (asked : Asked) (ws : List Watcher) (f : Cnf) (facts : Facts) (i : Instance)

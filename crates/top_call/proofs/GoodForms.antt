@@ -7,16 +7,14 @@ use Rattle.pop_stacks.specs.Faults.{IsSound}
 use Rattle.graph_read.specs.Graphs.{GraphOf}
 use Rattle.graph_read.specs.Paths.{IsConnected}
 use Rattle.pop_model.specs.Instances.{Instance}
-use Rattle.sink_popping.specs.Sinks.{IsIsolated, IsSinkFault}
-use Rattle.sink_popping.specs.declared.sink_fault.SinkFault.{SinkFault}
-use Rattle.sink_popping.specs.declared.sink_fault.SinkFault.TheVariants.{Isolated as IsolatedVertex, OutOfMemory as SinkMemory}
+use Rattle.sink_popping.specs.Sinks.{IsIsolated}
 use Rattle.graph_read.specs.Grids.{grid_of}
 use Rattle.cycle_popping.specs.Trees.{weights_of_tree}
 use Rattle.pop_watch.specs.Telling.{Watcher}
 use Rattle.pop_print.specs.declared.facts.Facts.{Facts}
 use Rattle.pop_print.specs.declared.facts.Facts.TheVariants.{Orient as OrientFacts, Tree as TreeFacts, Made as MadeFacts}
 use Rattle.top_call.specs.declared.asked.Asked.{Asked}
-use Rattle.top_call.specs.Batches.{IsTooMany, AreFew}
+use Rattle.top_call.specs.Batches.{AreFew}
 use Rattle.top_call.specs.Outcomes.{Outcome}
 use Rattle.top_call.specs.Outcomes.Outcome.{Usage, Unread, Isolated, NoRoot, CutOff, TooMany, Unsound, Clashes, Extremal, Ended, Resampled, Rounded, Batched, Paused, Replayed, NotLegal}
 use Rattle.top_call.specs.Sampling.{pair_weights, instance_of, IsEndOf, IsFaultOf, ComesOfSampling}
@@ -25,9 +23,8 @@ use Rattle.top_call.specs.Trees.{tree_instance, ComesOfTree}
 use Rattle.top_call.specs.Grids.{ComesOfGrid}
 use Rattle.top_call.specs.declared.answer.Answer.{Answer}
 use Rattle.top_call.specs.declared.refusal.Refusal.{Refusal}
-use Rattle.top_call.specs.declared.refusal.Refusal.TheVariants.{CutOff as CutOffAt, TooMany as TooManyAt, Stopped}
-use Rattle.top_call.specs.Results.{unoriented, ComesRefused, IsResultOf, IsTooManyRefusal, IsCutOffRefusal}
-use Rattle.top_call.specs.Made.{IsMadeOrientation, IsMadeTree, IsMadeGrid}
+use Rattle.top_call.specs.Results.{ComesRefused, IsResultOf}
+use Rattle.top_call.specs.Made.{IsMadeOrientation, IsMadeTree}
 use Rattle.top_call.proofs.Carrying.{refused, refused_result}
 
 -- a fault of the stacks comes of sampling
@@ -62,14 +59,6 @@ of_sound facts origin weights asked Runs sound few runs (Replayed i c n k) h = (
 of_sound facts origin weights asked Runs sound few runs (NotLegal p) h = (sound, h, few)
 of_sound facts origin weights asked Runs sound few runs (TooMany n) h = absurd (runs.not_many n h)
 of_sound facts origin weights asked Runs sound few runs (Unsound t f) h = absurd (runs.no_fault t f h)
-
--- too many samples are refused
-pub too_many_refused : (facts : Facts) (origin : Origin) (weights : List (List ℕ)) (asked : Option ℕ)
-    (Runs : Outcome → Type 0) (n : ℕ) (r : Refusal) → n ≡ length weights → IsTooManyRefusal asked n r
-    → ComesRefused (ComesOfSampling facts origin weights asked Runs) r
-too_many_refused facts origin weights asked Runs n (TooManyAt samples) is many =
-    (many.0, subst (IsTooMany samples) is many.1)
-too_many_refused facts origin weights asked Runs n r is many = absurd many
 
 -- where no vertex is isolated
 pub of_touched : (origin : Origin) (asked : Asked) (ws : List Watcher) (g : GraphOf) → ((w : ℕ) → IsIsolated g w → ⊥)
@@ -117,19 +106,6 @@ of_connected origin asked ws root g last connected (Paused j w t i l) h = (last,
 of_connected origin asked ws root g last connected (Replayed i c n k) h = (last, connected, h)
 of_connected origin asked ws root g last connected (NotLegal p) h = (last, connected, h)
 
--- a vertex that is cut off refuses a graph of which a tree is asked
-pub cut_off_refused : (origin : Origin) (asked : Asked) (ws : List Watcher) (root : ℕ) (g : GraphOf) (r : Refusal)
-    → root ≤ g.vertices → IsCutOffRefusal g root r → ComesRefused (ComesOfTree origin asked ws root g) r
-cut_off_refused origin asked ws root g (CutOffAt w) last least = (last, least)
-cut_off_refused origin asked ws root g (Stopped stop) last memory = memory
-cut_off_refused origin asked ws root g r last none = absurd none
-
--- an isolated vertex refuses a graph that is to be oriented
-pub sink_refused : (origin : Origin) (asked : Asked) (ws : List Watcher) (g : GraphOf) (fault : SinkFault)
-    → IsSinkFault g fault → ComesRefused (ComesOfOrienting origin asked ws g) (unoriented fault)
-sink_refused origin asked ws g (IsolatedVertex w) least = least
-sink_refused origin asked ws g SinkMemory least = refl
-
 -- a run of sinks tells a run
 sinks_run : (origin : Origin) (asked : Asked) (ws : List Watcher) (g : GraphOf)
     → TellsRuns (EndsOrientation origin asked ws g)
@@ -170,14 +146,6 @@ tree_ends origin asked ws root g facts i made o end =
     of_connected origin asked ws root g made.last made.joined o
     (arrows_end facts (TreeFacts g root) origin asked ws (weights_of_tree g root) i (tree_instance origin g root)
     made.is.facts_are made.is.instance_is made.is.sound made.is.few o end)
-
--- and of a grid
-pub grid_ends : (origin : Origin) (asked : Asked) (ws : List Watcher) (side : ℕ) (facts : Facts) (i : Instance)
-    → IsMadeGrid origin asked.count side facts i → (o : Outcome) → IsEndOf asked ws facts i o
-    → ComesOfGrid origin asked ws side o
-grid_ends origin asked ws side facts i made o end =
-    arrows_end facts (MadeFacts side) origin asked ws (weights_of_tree (grid_of side) 1) i
-    (tree_instance origin (grid_of side) 1) made.facts_are made.instance_is made.sound made.few o end
 
 -- too many samples, or a fault of the stacks, refuse a graph's trees
 pub tree_refused : (origin : Origin) (asked : Asked) (ws : List Watcher) (root : ℕ) (g : GraphOf)

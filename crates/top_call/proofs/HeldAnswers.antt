@@ -35,14 +35,3 @@ pub delivered_run : (status result : ℕ) → (result ≡ status) ⊎ (result �
 delivered_run status result (inl same) has = subst HasRun same has
 delivered_run status result (inr failed) (inl low) = absurd (omega (arith, failed, low))
 delivered_run status result (inr failed) (inr ten) = absurd (omega (arith, failed, ten))
-
--- no status of a fault or of want of memory is that of a run
-pub broken_run : (status result : ℕ) → 2 ≤ status → status ≤ 9 → (result ≡ status) ⊎ (result ≡ 8) → HasRun result → ⊥
-broken_run status result high low at (inl few) = elim at [
-  | inl same ↦ omega (arith, high, same, few)
-  | inr failed ↦ omega (arith, failed, few)
-]
-broken_run status result high low at (inr ten) = elim at [
-  | inl same ↦ omega (arith, low, same, ten)
-  | inr failed ↦ omega (arith, failed, ten)
-]

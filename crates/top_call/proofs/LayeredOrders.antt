@@ -1,8 +1,7 @@
 -- Each log has a layered order: its layers are a function of it, and insertion sorts it.
 use Rattle.std.proofs.Common.{◌≡◌, ℕ, zero, suc, ◌+◌, Bool, true, false, ◌&&◌, not, cond, List, [], ◌∷◌, zip, get_or, filter, refl, sym, ap, subst, ◌∙◌, arith, is_lt, true≢false}
-use Rattle.std.specs.Cmp.{IsTotalOrder, IsStrictWeakOrder}
+use Rattle.std.specs.Cmp.{IsStrictWeakOrder}
 use Rattle.std.specs.List.Sorted.{IsPermutation, IsSortedBy, IsStableBy, ties}
-use Rattle.std.proofs.lemmas.Cmp.{then_total, on_total, nat_cmp_total}
 use Rattle.std.proofs.lemmas.List.Sorted.{IsPermutation-refl, IsPermutation-trans, IsPermutation-cons, IsPermutation-middle}
 use Rattle.pop_model.specs.Logs.{LogRecord}
 use Rattle.pop_log.specs.Layers.{Placed}
@@ -127,11 +126,6 @@ module _ {X : Type 0} (lt : X → X → Bool) (order : IsStrictWeakOrder lt) whe
   sort_stable [] z = refl
   sort_stable (x ∷ xs) z =
       put_stable x (sort xs) z ∙ ap (λ (l : List X). cond (ties lt z x) (x ∷ l) l) (sort_stable xs z)
-
--- by layer and unit
-placed_total : IsTotalOrder placed_cmp
-placed_total = then_total (on_total (λ (p : Placed). p.1) nat_cmp_total)
-    (on_total (λ (p : Placed). p.0.event.unit) nat_cmp_total)
 
 -- a log has a layered order
 pub layered_order : (log : List LogRecord) → (placed : List Placed) × AreSorted log placed

@@ -1,6 +1,6 @@
 -- What is sampled. MadeInstances: the instances that are made are the definitions'. ListedEvents: the events of a
 -- formula and of sinks. SubjectFrames: the events and weights fit rows of any heights. FaultNames: a fault of stacks
--- has a name. MadeExtremal: what is made of a text is extremal.
+-- is refused by name. MadeExtremal: what is made of a text is extremal.
 mod MadeInstances
 mod MadeExtremal
 mod ListedEvents
@@ -88,9 +88,9 @@ mod PausedExactly
 mod EndedSubjects
 mod ExactAnswers
 mod EverySample
--- Certificates. HeadBounds: what a head says is within bounds. CertRefusals: how they are refused. ReadToEnd: a source
--- that was read whole. JoinedRuns: the run of both parts. ReplayedCerts,
--- ResumedCerts: what comes of those that are accepted. ResumedLines: as of their lines.
+-- Certificates. HeadBounds: what a head says is within bounds. CertRefusals: how what they hold is refused. ReadToEnd: a
+-- source that was read whole. JoinedRuns: the run of both parts. ReplayedCerts, ResumedCerts: what comes of those that
+-- are accepted. ResumedLines: as of their lines.
 mod HeadBounds
 mod CertRefusals
 mod ReadToEnd

@@ -32,7 +32,6 @@ use Rattle.top_call.specs.Resamplings.{RunsFormula, ComesOfResampling}
 use Rattle.top_call.specs.Rounds.{ComesOfRounds}
 use Rattle.top_call.specs.Orientations.{ComesOfOrienting}
 use Rattle.top_call.specs.Trees.{ComesOfTree}
-use Rattle.top_call.specs.Grids.{ComesOfGrid}
 use Rattle.top_call.specs.Answers.{ComesOfCnf, ComesOfGraph, origin_for, has_free_order, asked_by, ComesOfCommand, Refuses, ComesOf, ComesBy, IsOutcome, AskForGrid, IsInput}
 use Rattle.top_call.proofs.Carrying.{carried}
 use Rattle.top_call.proofs.ByCommand.{no_bad_word}
@@ -211,16 +210,6 @@ lifted_tree job ws text g origin asked r is from asked_is spelled comes =
     of_graph job ws text Tree g (ComesOfTree (origin_for job) (asked_by job) ws job.root) r is (λ o h. h) spelled
     (subst (λ s. IsResultOf (ComesOfTree s (asked_by job) ws job.root g) r) from
     (subst (λ a. IsResultOf (ComesOfTree origin a ws job.root g) r) asked_is comes))
-
--- of a grid
-pub lifted_grid : (job : Job) (ws : List Watcher) (text : List ℕ) (origin : Origin) (asked : Asked)
-    (r : Result Answer Refusal) → job.command ≡ Make → origin ≡ origin_for job → asked ≡ asked_by job
-    → IsResultOf (ComesOfGrid origin asked ws job.size) r → IsResultOf (ComesOf job ws text) r
-lifted_grid job ws text origin asked r is from asked_is comes =
-    carried (ComesOfGrid (origin_for job) (asked_by job) ws job.size) (ComesOf job ws text) r
-    (by_command job ws text Make is)
-    (subst (λ s. IsResultOf (ComesOfGrid s (asked_by job) ws job.size) r) from
-    (subst (λ a. IsResultOf (ComesOfGrid origin a ws job.size) r) asked_is comes))
 
 -- a refusal of a text, which the grammar of a job's command refuses so, comes of the job and the text
 pub read_refused : (job : Job) (ws : List Watcher) (text : List ℕ) (Refused : ReadRefusal → Type 0) (r : Refusal)

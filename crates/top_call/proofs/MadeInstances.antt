@@ -3,7 +3,6 @@ use Rattle.std.proofs.Common.{◌≡◌, ℕ, zero, suc, ◌-◌, ◌*◌, ◌<�
 use Rattle.std.proofs.lemmas.List.{length-map}
 use Rattle.std.proofs.lemmas.List.FromFn.{length-map-range_with_len, get_or-map-range_with_len}
 use Rattle.pop_model.specs.Stacks.{StackTable, Origin}
-use Rattle.pop_model.specs.Families.{Family}
 use Rattle.pop_model.specs.Families.Family.{Cycles}
 use Rattle.pop_model.specs.Instances.{Instance, FamilyFits}
 use Rattle.pop_model.specs.Names.{vertex_of}
@@ -14,14 +13,6 @@ use Rattle.pop_print.specs.declared.facts.Facts.{Facts}
 use Rattle.pop_print.specs.Ends.{AreFactsOf, IsOfTree}
 use Rattle.top_call.specs.declared.making.Made.{Made}
 use Rattle.top_call.specs.Trees.{cycles_instance, tree_instance}
-
--- an instance over stacks of these weights
-pub same_instance : (s : StackTable) (weights : List (List ℕ)) (f : Family) (i : Instance)
-    → i ≡ record { stacks = s; family = f } → s.weights ≡ weights
-    → i ≡ record { stacks = record { origin = s.origin; weights = weights }; family = f }
-same_instance s weights f i is same =
-    let over : List (List ℕ) → Instance = λ w. record { stacks = record { origin = s.origin; weights = w }; family = f } in
-    is ∙ ap over same
 
 -- there are as many rows of weights as vertices but the root
 pub count_of_weights : (g : GraphOf) (root : ℕ) → length (weights_of_tree g root) ≡ g.vertices - 1

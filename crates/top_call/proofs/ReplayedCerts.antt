@@ -1,32 +1,27 @@
 -- What comes of a certificate that is accepted, or refused, comes of the bytes that are it.
-use Rattle.std.proofs.Common.{inl, inr, ◌≡◌, ◌<◌, ◌≤◌, ℕ, List, [], length, Option, Some, Result, Err, IfErr, refl, sym, ap, subst, ◌∙◌, arith}
+use Rattle.std.proofs.Common.{inl, inr, ◌≡◌, ◌<◌, ℕ, List, [], length, Option, Some, Result, Err, IfErr, refl, sym, ap, subst, ◌∙◌, arith}
 use Rattle.std.specs.Result.{IsErrAnd, IsErrOf}
-use Rattle.std.specs.Io.KnownBytes.{IsAtEnd}
 use Rattle.std.proofs.lemmas.Result.{IfErr-weaker}
 use Rattle.pop_model.specs.Instances.{Instance}
 use Rattle.pop_edge.specs.declared.refusal.ReadRefusal.TheVariants.{Malformed as MalformedLine, Limit as PassedLimit}
 use Rattle.pop_print.specs.declared.facts.Facts.{Facts}
 use Rattle.pop_log.specs.Refusals.{IsLogRefusal}
-use Rattle.run_cert.specs.declared.cert_refusal.CertRefusal.{CertRefusal}
-use Rattle.run_cert.specs.Certificates.{Certificate, IsCertOf}
-use Rattle.run_cert.specs.Refusals.{IsCertRefusal}
+use Rattle.run_cert.specs.Certificates.{Certificate}
 use Rattle.top_call.specs.declared.accepted.Accepted.{Accepted}
 use Rattle.top_call.specs.declared.refusal.Refusal.{Refusal}
-use Rattle.top_call.specs.declared.refusal.Refusal.TheVariants.{Usage, Stopped}
-use Rattle.top_call.specs.declared.stop.Stop.{Stop}
-use Rattle.top_call.specs.declared.stop.Stop.TheVariants.{ReadFault, OutOfMemory}
+use Rattle.top_call.specs.declared.refusal.Refusal.TheVariants.{Stopped}
+use Rattle.top_call.specs.declared.stop.Stop.TheVariants.{ReadFault}
 use Rattle.top_call.specs.Names.{names_for}
 use Rattle.top_call.specs.ReplayTexts.{look_status, replay_text}
 use Rattle.top_call.specs.Outcomes.{Outcome, AnswersBy}
 use Rattle.top_call.specs.Outcomes.Outcome.{Unread, Replayed}
 use Rattle.top_call.specs.declared.answer.Answer.{Answer}
-use Rattle.top_call.specs.Results.{ComesRefused, IsResultOf, IsPastWords, IsLogRefusalOf, uncertified}
+use Rattle.top_call.specs.Results.{ComesRefused, IsResultOf, IsLogRefusalOf}
 use Rattle.top_call.specs.Replays.{cert_limit, job_of, ByLine, IsNoCert, IsNoRun, IsCertified, IsRefusedCert, IsRefused, HasLog, ComesOfReplaying}
 use Rattle.top_call.specs.Accepted.{IsHeldBy, IsAccepted}
 use Rattle.top_call.specs.Answers.{ComesOf}
-use Rattle.top_call.proofs.ByCommand.{refused_no_usage}
 use Rattle.top_call.proofs.Carrying.{refused, passed_on, refused_result}
-use Rattle.top_call.proofs.CertRefusals.{no_run, log_refused, cert_refused}
+use Rattle.top_call.proofs.CertRefusals.{no_run, log_refused}
 use Rattle.top_call.proofs.ReadToEnd.{read_to}
 use Rattle.top_call.specs.Whole.{IsReadTo}
 
@@ -57,25 +52,6 @@ text_refused Line cert facts i r certified (cause, is, same) =
       is = is;
       told = refl;
     })))
-
--- bytes past the limit are refused
-pub long_refused : (Line : ByLine) (bytes : List ℕ) → cert_limit < length bytes
-    → IsRefused Line bytes (Unread (PassedLimit 8 1))
-long_refused Line bytes long = inl (refl, refl, long)
-
--- bytes that are no certificate
-pub bytes_refused : (Line : ByLine) (bytes : List ℕ) (cause : CertRefusal) → length bytes ≤ cert_limit
-    → IsCertRefusal bytes cause → ComesRefused (IsRefused Line bytes) (uncertified cause)
-bytes_refused Line bytes cause short is =
-    refused (IsNoCert bytes) (IsRefused Line bytes) (uncertified cause) (λ o bad. inl bad)
-    (cert_refused bytes cause short is)
-
--- and those of a certificate that is refused
-pub of_cert : (Line : ByLine) (bytes : List ℕ) (cert : Certificate) (r : Refusal) → length bytes ≤ cert_limit
-    → IsCertOf bytes cert → ComesRefused (IsRefusedCert Line cert) r → ComesRefused (IsRefused Line bytes) r
-of_cert Line bytes cert r short is h =
-    refused (IsRefusedCert Line cert) (IsRefused Line bytes) r
-    (λ o comes. inr (record { short = short; cert = cert; is = is; comes = comes })) h
 
 -- bytes past the limit are no certificate, as the longer text that they are a front of
 longer_no_cert : (bytes text : List ℕ) → cert_limit < length bytes → cert_limit < length text → (o : Outcome)
@@ -143,28 +119,6 @@ replay_told Line bytes a status out h status_is out_is = (
   }),
   record { status_is = status_is; out_is = out_is },
 )
-
--- what refuses bytes is no refusal of words
-pub refused_past_words : (bytes : List ℕ) (r : Refusal) → ComesRefused (IsRefused ComesOf bytes) r → IsPastWords r
-refused_past_words bytes (Usage p) h = absurd (refused_no_usage bytes p h)
-refused_past_words bytes r h = tt
-
--- nor a fault of the source
-pub refused_no_fault : {T : Type 0} (Comes : Outcome → Type 0) (r : Result T Refusal)
-    → IfErr r (ComesRefused Comes) → r ≡ Err (Stopped ReadFault) → ⊥
-refused_no_fault Comes r h is =
-    let memory : ReadFault ≡ OutOfMemory = subst (λ q. IfErr q (ComesRefused Comes)) is h in absurd (cc)
-
--- what stops the call, and is no fault of the source, may always come
-pub stop_refused : {T : Type 0} (Comes : Outcome → Type 0) (r : Result T Refusal) (stop : Stop) → r ≡ Err (Stopped stop)
-    → (r ≡ Err (Stopped ReadFault) → ⊥) → IfErr r (ComesRefused Comes)
-stop_refused Comes r ReadFault is not = absurd (not is)
-stop_refused Comes r OutOfMemory is not = subst (λ q. IfErr q (ComesRefused Comes)) (sym is) refl
-
--- what is read of a source that is accepted was read to its end
-pub accepted_end : (left left' : Option (List ℕ)) (bytes : List ℕ) (a : Accepted) → IsReadTo cert_limit left left' bytes
-    → IsAccepted bytes a → IsAtEnd left'
-accepted_end left left' bytes a read h = read.whole h.short
 
 -- what refuses the bytes that were read refuses the text of the source
 pub read_result : {T : Type 0} (left left' : Option (List ℕ)) (text bytes input : List ℕ) (r : Result T Refusal)

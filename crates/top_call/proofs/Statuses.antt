@@ -1,5 +1,5 @@
 -- Which statuses a text is answered by: each up to 6 but that of bad words. And no refusal is one of words.
-use Rattle.std.proofs.Common.{inl, inr, ◌≡◌, ◌⊎◌, ◌≤◌, ◌<◌, ℕ, Bool, true, false, List, [], ◌∷◌, length, Result, Ok, Err, refl, sym, subst, arith}
+use Rattle.std.proofs.Common.{inl, inr, ◌≡◌, ◌⊎◌, ◌≤◌, ◌<◌, ℕ, List, [], ◌∷◌, length, Result, Ok, Err, refl, sym, subst, arith}
 use Rattle.pop_model.specs.Stacks.{Origin}
 use Rattle.pop_model.specs.Stacks.Origin.{Given, Keyed}
 use Rattle.pop_model.specs.Families.{Event}
@@ -8,12 +8,9 @@ use Rattle.pop_stacks.specs.declared.stack_fault.StackFault.{StackFault}
 use Rattle.pop_stacks.specs.declared.stack_fault.StackFault.TheVariants.{RowCount, EmptyRow, ValueTooLarge, WeightSum, OutOfMemory as NoMemory}
 use Rattle.pop_stacks.specs.Faults.{IsCause}
 use Rattle.pop_print.specs.declared.facts.Facts.{Facts}
-use Rattle.dimacs_read.specs.Cnf.{Cnf}
-use Rattle.graph_read.specs.Graphs.{GraphOf}
 use Rattle.graph_read.specs.Grids.{grid_of}
 use Rattle.cycle_popping.specs.Trees.{weights_of_tree}
 use Rattle.pop_watch.specs.Telling.{Watcher}
-use Rattle.top_call.specs.declared.asked.Asked.{Asked}
 use Rattle.confluence_core.specs.declared.end.End.{End}
 use Rattle.top_call.specs.Batches.{batch_status}
 use Rattle.top_call.specs.Refusals.{reading_status, stacks_status}
@@ -37,12 +34,7 @@ use Rattle.top_call.specs.declared.answer.Answer.{Answer}
 use Rattle.top_call.specs.declared.refusal.Refusal.{Refusal}
 use Rattle.top_call.specs.declared.refusal.Refusal.TheVariants.{Usage as BadWord}
 use Rattle.top_call.specs.Results.{IsResultOf, IsTextResult}
-use Rattle.top_call.specs.Sampling.{pair_weights, ComesOfSampling}
-use Rattle.top_call.specs.Formulas.{ComesOfChecking}
-use Rattle.top_call.specs.Resamplings.{RunsFormula}
-use Rattle.top_call.specs.Orientations.{ComesOfOrienting}
-use Rattle.top_call.specs.Trees.{ComesOfTree}
-use Rattle.top_call.specs.Grids.{ComesOfGrid}
+use Rattle.top_call.specs.Sampling.{pair_weights}
 use Rattle.top_call.proofs.BatchEnds.{batch_low}
 
 -- the status of an end is one of a text
@@ -106,82 +98,6 @@ told_status Comes told (Batched t i es) h = batch_status_is es (batch_low es)
 told_status Comes told (Paused j w t i l) h = record { answers = inr (inl refl); no_usage = λ h'. absurd (omega arith) }
 told_status Comes told (Replayed i c n k) h = look_status_is k
 told_status Comes told (NotLegal p) h = record { answers = inr (inr refl); no_usage = λ h'. absurd (omega arith) }
-
--- an answer that tells what comes so, or a refusal that does, is one to a text
-text_result : (Comes : Outcome → Type 0) → AreTold Comes → (r : Result Answer Refusal) → IsResultOf Comes r
-    → IsTextResult r
-text_result Comes told (Ok a) (o, comes, tells) =
-    subst IsTextStatus (sym tells.status_is) (told_status Comes told o comes)
-text_result Comes told (Err (BadWord place)) comes = told.no_usage place comes
-text_result Comes told (Err r) comes = tt
-
--- the result of a formula that is sampled, by whether its events may clash
-pub formula_status : (facts : Facts) (origin : Origin) (asked : Asked) (ws : List Watcher) (f : Cnf) (clashing : Bool)
-    (r : Result Answer Refusal)
-    → IsResultOf (ComesOfSampling facts origin (pair_weights f.variables) asked.count
-    (RunsFormula clashing origin asked ws f)) r
-    → IsTextResult r
-formula_status facts origin asked ws f false r comes =
-    text_result (ComesOfSampling facts origin (pair_weights f.variables) asked.count
-    (RunsFormula false origin asked ws f))
-    (record {
-      no_usage = λ place h. h.1.end;
-      no_refusal = λ refusal h. h.1.end;
-      fault = λ facts fault h. fault_status origin (pair_weights f.variables) fault h.1;
-    })
-    r comes
-formula_status facts origin asked ws f true r comes =
-    text_result (ComesOfSampling facts origin (pair_weights f.variables) asked.count
-    (RunsFormula true origin asked ws f))
-    (record {
-      no_usage = λ place h. h.1.history;
-      no_refusal = λ refusal h. h.1.history;
-      fault = λ facts fault h. fault_status origin (pair_weights f.variables) fault h.1;
-    })
-    r comes
-
--- of a formula that is checked
-pub checking_status : (f : Cnf) (r : Result Answer Refusal) → IsResultOf (ComesOfChecking f) r → IsTextResult r
-checking_status f r comes =
-    text_result (ComesOfChecking f)
-    (record { no_usage = λ place h. h; no_refusal = λ refusal h. h; fault = λ facts fault h. absurd h })
-    r comes
-
--- of a graph that is oriented
-pub orienting_status : (origin : Origin) (asked : Asked) (ws : List Watcher) (g : GraphOf)
-    (r : Result Answer Refusal) → IsResultOf (ComesOfOrienting origin asked ws g) r → IsTextResult r
-orienting_status origin asked ws g r comes =
-    text_result (ComesOfOrienting origin asked ws g)
-    (record {
-      no_usage = λ place h. h.1.1.end;
-      no_refusal = λ refusal h. h.1.1.end;
-      fault = λ facts fault h. fault_status origin (pair_weights (length g.edges)) fault h.1.1;
-    })
-    r comes
-
--- of a graph of which a tree is asked
-pub tree_status : (origin : Origin) (asked : Asked) (ws : List Watcher) (root : ℕ) (g : GraphOf)
-    (r : Result Answer Refusal) → IsResultOf (ComesOfTree origin asked ws root g) r → IsTextResult r
-tree_status origin asked ws root g r comes =
-    text_result (ComesOfTree origin asked ws root g)
-    (record {
-      no_usage = λ place h. h.2.1;
-      no_refusal = λ refusal h. h.2.1;
-      fault = λ facts fault h. fault_status origin (weights_of_tree g root) fault h.2.1;
-    })
-    r comes
-
--- of a grid of which a tree is asked
-pub grid_status : (origin : Origin) (asked : Asked) (ws : List Watcher) (side : ℕ) (r : Result Answer Refusal)
-    → IsResultOf (ComesOfGrid origin asked ws side) r → IsTextResult r
-grid_status origin asked ws side r comes =
-    text_result (ComesOfGrid origin asked ws side)
-    (record {
-      no_usage = λ place h. h.1;
-      no_refusal = λ refusal h. h.1;
-      fault = λ facts fault h. fault_status origin (weights_of_tree (grid_of side) 1) fault h.1;
-    })
-    r comes
 
 -- a refusal of a text
 reading_status_is : (r : ReadRefusal) → IsOfText r → IsTextStatus (reading_status r)

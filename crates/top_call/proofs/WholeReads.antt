@@ -21,15 +21,6 @@ length_more left left' before now count wanted limit piece few wanted_few short 
     let same = piece.size in
     omega (arith, size, parts, same, few, wanted_few, short)
 
--- it grows where the piece has bytes
-pub length_grows : (left left' : Option (List ℕ)) (before now : List ℕ) (count : ℕ)
-    → TakesPiece left left' before now count → 0 < count → length before < length now
-length_grows left left' before now count piece some =
-    let size = ap (λ (l : List ℕ). length l) piece.added in
-    let parts = length-append before piece.piece in
-    let same = piece.size in
-    omega (arith, size, parts, same, some)
-
 -- where a piece has none, everything was read
 pub read_to_end : (start left left' : Option (List ℕ)) (before now : List ℕ) (count limit : ℕ) → Consumes start left before
     → TakesPiece left left' before now count → count ≡ 0 → length before ≤ limit + 1 → IsReadTo limit start left' now
