@@ -89,7 +89,7 @@ module _ {S : Type 0} (k : Opening) (s : State S View) (o : Sound k s) (id v : �
       let form : Formed (was + 1) = (omega arith, omega arith, omega arith, omega arith) in
       moved k s o id v (was + 1) d (advanced_by d v) me near form (omega arith) (inr one_held) refl
       (λ u ne. times-raise v u d.held) (omega (arith, times-raise v v d.held))
-      (λ u ne. times-without_other v u d.due ne) (omega (arith, times-without_same v d.due)) refl (refl, refl)
+      (λ u ne. times-without_other v u d.due ne) (omega (arith, times-without_same v d.due)) refl (refl, refl, refl) (λ u. omega arith)
       (λ q. absurd (omega arith)) (λ q. absurd (omega arith)) (omega arith) (agrees next)
 
   -- the held cursor is the word's

@@ -98,7 +98,7 @@ module _ {S : Type 0} (k : Opening) (s : State S View) (o : Sound k s) (id v : �
       moved k s o id v n d (gains d v w) me near form (omega arith) (inl same) refl
       (λ u ne. omega (arith, total-append (is_at u) d.held more, is_at-no u (v, cursor_in w) (λ e. ne (sym e))))
       (omega (arith, total-append (is_at v) d.held more, is_at-yes v (v, cursor_in w) refl))
-      (λ u ne. refl) (omega arith) refl (refl, refl) (λ q. absurd (omega arith)) (λ q. absurd (omega arith))
+      (λ u ne. refl) (omega arith) refl (refl, refl, refl) (λ u. omega arith) (λ q. absurd (omega arith)) (λ q. absurd (omega arith))
       (omega arith) (record {
         live = inl (live, share_kept k s o id d me live);
         held = each-append (IsHeldAt k (set s.words (1 + v) n)) d.held more old.held ((near, here), tt);
@@ -116,7 +116,7 @@ module _ {S : Type 0} (k : Opening) (s : State S View) (o : Sound k s) (id v : �
       let old = agree_moves k s.words v w d (within k s o v near) (omega arith) (inl refl) (λ q. (q, refl))
       (o.agree id d me) in
       moved k s o id v w d (looks d v w) me near (o.formed v near) (omega arith) (inl refl) refl (λ u ne. refl)
-      refl (λ u ne. refl) refl refl (refl, refl) (λ q. refl) (λ q. refl) refl (record {
+      refl (λ u ne. refl) refl refl (refl, refl, refl) (λ u. omega arith) (λ q. refl) (λ q. refl) refl (record {
         live = inl (live, share_kept k s o id d me live);
         held = old.held;
         found = old.found;
@@ -135,7 +135,7 @@ module _ {S : Type 0} (k : Opening) (s : State S View) (o : Sound k s) (id v : �
       let old = agree_moves k s.words v w d inside (omega arith) (inl refl) (λ q. (q, refl)) (o.agree id d me) in
       let here : get_or (set s.words (1 + v) w) (1 + v) 0 ≡ w = get_or-set_same s.words (1 + v) w 0 inside in
       moved k s o id v w d (learns d v w) me near (o.formed v near) (omega arith) (inl refl) refl (λ u ne. refl)
-      refl (λ u ne. refl) refl refl (refl, refl) (λ q. refl) (λ q. refl) refl (record {
+      refl (λ u ne. refl) refl refl (refl, refl, refl) (λ u. omega arith) (λ q. refl) (λ q. refl) refl (record {
         live = inl (live, share_kept k s o id d me live);
         held = old.held;
         found = ((near, omega (arith, ap cursor_in here)), old.found);

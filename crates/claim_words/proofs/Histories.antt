@@ -9,6 +9,7 @@ use Rattle.atomic_table.proofs.Lists.{at_set, set_here, set_else}
 use Rattle.claim_words.specs.declared.view.View.{View}
 use Rattle.claim_words.specs.declared.opening.Opening.{Opening}
 use Rattle.claim_words.specs.Maps.{total, In, below}
+use Rattle.claim_words.specs.Changes.{Change, found_mark, left_mark}
 use Rattle.claim_words.specs.Openings.{count, Has, marks}
 use Rattle.claim_words.specs.Steps.{Drawn}
 use Rattle.claim_words.specs.Machine.{Use, used, abstract, Member, History, uses, IsPoppableAt, Tracks, Marked}
@@ -27,13 +28,17 @@ pops_same k a b u same r = record {
 }
 
 module _ {S : Type 0} (k : Opening) where
-  -- the marks' part stays where no mark and no abstract cursor changes
+  -- the marks' part stays where no mark, no change of one and no abstract cursor is new
   pub same_marks : (s t : State S View) → Marked k s
       → ((u : ℕ) → u < marks k → get_or t.words (1 + count k + u) 0 ≡ get_or s.words (1 + count k + u) 0)
       → ((v : ℕ) → v < count k → abstract k t v ≡ abstract k s v)
-      → ((u : ℕ) → Tracks k s u → Tracks k t u) → Marked k t
-  same_marks s t m same abs tracks = record {
+      → ((u : ℕ) → Tracks k s u → Tracks k t u)
+      → ((g : Change → ℕ)
+      → total (λ (d : View). total g d.changes) t.views ≡ total (λ (d : View). total g d.changes) s.views)
+      → Marked k t
+  same_marks s t m same abs tracks sums = record {
     bits = λ u h. omega (arith, m.bits u h, same u h);
+    counts = λ u h. omega (arith, m.counts u h, same u h, sums (found_mark u), sums (left_mark u));
     covers = λ u h p. ⊎_elim (λ e. inl (same u h ∙ e)) (λ r. inr (tracks u r))
         (m.covers u h (pops_same k (abstract k s) (abstract k t) u abs p));
   }
@@ -74,6 +79,14 @@ module _ {S : Type 0} (k : Opening) where
       → total (λ (x : View). total g x.mine) (set s.views id e) ≡ total (λ (x : View). total g x.mine) s.views
   mass_set s id d e me same g =
       omega (arith, total-set (λ (x : View). total g x.mine) s.views id d e me, ap (total g) same)
+
+  -- a sum over all changes of marks stays where those of the pass do
+  pub changes_set : (s : State S View) (id : ℕ) (d e : View) → get_elem? s.views id ≡ some d
+      → e.changes ≡ d.changes → (g : Change → ℕ)
+      → total (λ (x : View). total g x.changes) (set s.views id e)
+      ≡ total (λ (x : View). total g x.changes) s.views
+  changes_set s id d e me same g =
+      omega (arith, total-set (λ (x : View). total g x.changes) s.views id d e me, ap (total g) same)
 
   -- no record is new where those of the pass stay
   pub member_set : (s : State S View) (ws : List ℕ) (id : ℕ) (d e : View) → get_elem? s.views id ≡ some d

@@ -1,5 +1,5 @@
 -- Taking, setting and clearing a mark keep the rule, and what they tell holds.
-use Rattle.std.proofs.Common.{◌≡◌, ◌≢◌, ◌⊎◌, ℕ, zero, suc, ◌+◌, ◌-◌, ◌<◌, ◌≤◌, List, ◌∷◌, length, get_or, set, sym, refl, ap, ◌∙◌, subst, inl, inr, ⊎_elim, arith, cond, eq-eqb, ne_eqb, length-set, get_or-set_same, get_or-set_other, Option, Some}
+use Rattle.std.proofs.Common.{◌≡◌, ◌≢◌, ◌⊎◌, ℕ, zero, suc, ◌+◌, ◌-◌, ◌<◌, ◌≤◌, List, [], ◌∷◌, ◌++◌, length, get_or, set, sym, refl, ap, ◌∙◌, subst, inl, inr, ⊎_elim, arith, cond, eq-eqb, ne_eqb, length-set, get_or-set_same, get_or-set_other, Option, Some}
 use mathlib.Core.Logic.{dite}
 use native.Mathlib.Decide.{ℕ_discrete}
 use mathlib.Core.Option.{some, some-injective}
@@ -15,27 +15,44 @@ use Rattle.claim_words.specs.declared.view.View.{View}
 use Rattle.claim_words.specs.declared.opening.Opening.{Opening}
 use Rattle.claim_words.specs.Words.{mark_of, unit_at, cursor_in, claimed_bit, settled_bit, Formed}
 use Rattle.claim_words.specs.Maps.{total, Each, In, times, look, taken_out}
+use Rattle.claim_words.specs.Changes.{Change, found_mark, left_mark}
 use Rattle.claim_words.specs.Openings.{count, marks, count_in}
 use Rattle.claim_words.specs.Steps.{taken_by, marked_by, cleared_by}
 use Rattle.claim_words.specs.Conditions.{RulesOut}
 use Rattle.claim_words.specs.Machine.{IsPoppableAt, IsHeldAt, IsFoundAt, IsSettledAt, Agrees, abstract, Tracks, Sound}
 use Rattle.claim_words.specs.TicketLogs.{IsLegalFrom, vector}
-use Rattle.claim_words.specs.Tells.{NonePoppable, SoleTakes, SoleKnows}
-use Rattle.claim_words.proofs.Totals.{inside, total-set, each-map, each-look, alone, term_le, times-none}
+use Rattle.claim_words.specs.Tells.{NonePoppable, SoleTakes, SoleFinds, SoleKnows}
+use Rattle.claim_words.proofs.Totals.{inside, total-append, total-set, each-map, each-look, alone, term_le, times-none}
 use Rattle.claim_words.proofs.SharersAreOwed.{one_cube, poppable_at}
 use Rattle.claim_words.proofs.Memberships.{in_taken_out, each_taken_out, each_in_list}
 use Rattle.claim_words.proofs.Histories.{same_history, mass_set, member_set, pops_same}
-use Rattle.claim_words.proofs.SoleHasAll.{whole, tracks_mine}
+use Rattle.claim_words.proofs.SoleHasAll.{whole, only_mine, tracks_mine}
 use Rattle.claim_words.proofs.TicketsAreLegal.{leads_to}
 use Rattle.claim_words.proofs.WordMoves.{share_kept, leads_move, knows_after}
 
--- The mark of u becomes n, and the pass's lists of units and of words seen become these.
+-- the mark that a change of u found
+found_here : (u : ℕ) (c : Change) → c.0 ≡ u → found_mark u c ≡ c.1
+found_here u c is = ap (λ b. cond b c.1 0) (eq-eqb c.0 u is)
+
+-- the mark that it left
+left_here : (u : ℕ) (c : Change) → c.0 ≡ u → left_mark u c ≡ c.2
+left_here u c is = ap (λ b. cond b c.2 0) (eq-eqb c.0 u is)
+
+-- a change of another unit found no mark of u
+found_else : (u : ℕ) (c : Change) → c.0 ≢ u → found_mark u c ≡ 0
+found_else u c ne = ap (λ b. cond b c.1 0) (ne_eqb c.0 u ne)
+
+-- and left none
+left_else : (u : ℕ) (c : Change) → c.0 ≢ u → left_mark u c ≡ 0
+left_else u c ne = ap (λ b. cond b c.2 0) (ne_eqb c.0 u ne)
+
+-- The mark of u becomes n, and the pass's lists of units, of words seen and of changes become these.
 module _ {S : Type 0} (k : Opening) (s : State S View) (o : Sound k s) (id : ℕ) (d : View)
     (me : get_elem? s.views id ≡ some d) (live : d.opening ≡ Some k) (u n : ℕ) (near : u < marks k)
-    (taken owed : List ℕ) (seen : List (ℕ × ℕ)) where
+    (taken owed : List ℕ) (seen : List (ℕ × ℕ)) (changes : List Change) where
   -- the view after the step
   abbrev next : View
-  next = record d { taken = taken; owed = owed; seen = seen }
+  next = record d { taken = taken; owed = owed; seen = seen; changes = changes }
 
   -- the state after the step
   abbrev then : State S View
@@ -103,11 +120,59 @@ module _ {S : Type 0} (k : Opening) (s : State S View) (o : Sound k s) (id : ℕ
         due = a.due;
       }
 
+  -- the changes of the pass tell what becomes of the mark of w
+  abbrev Told : ℕ → Type 0
+  Told w = get_or then.words (1 + count k + w) 0 + total (found_mark w) changes + total (left_mark w) d.changes
+      ≡ get_or s.words (1 + count k + w) 0 + total (found_mark w) d.changes + total (left_mark w) changes
+
+  -- they do where that of u is the one that is new
+  told_one : changes ≡ d.changes ++ (u, get_or s.words (1 + count k + u) 0, n) ∷ [] → (w : ℕ) → Told w
+  told_one to w =
+      let was : ℕ = get_or s.words (1 + count k + u) 0 in
+      let c : Change = (u, was, n) in
+      let found = ap (total (found_mark w)) to ∙ total-append (found_mark w) d.changes (c ∷ []) in
+      let left = ap (total (left_mark w)) to ∙ total-append (left_mark w) d.changes (c ∷ []) in
+      dite (ℕ_discrete u w)
+      (λ is. omega (
+        arith,
+        found,
+        left,
+        found_here w c is,
+        left_here w c is,
+        mark_here,
+        ap (λ (x : ℕ). get_or then.words (1 + count k + x) 0) is,
+        ap (λ (x : ℕ). get_or s.words (1 + count k + x) 0) is,
+      ))
+      (λ ne. omega (
+        arith,
+        found,
+        left,
+        found_else w c ne,
+        left_else w c ne,
+        mark_else w (λ q. ne (sym q)),
+      ))
+
+  -- and where no mark and no change is new
+  told_none : changes ≡ d.changes → n ≡ get_or s.words (1 + count k + u) 0 → (w : ℕ) → Told w
+  told_none to still w =
+      let found = ap (total (found_mark w)) to in let left = ap (total (left_mark w)) to in
+      dite (ℕ_discrete w u)
+      (λ is. omega (
+        arith,
+        found,
+        left,
+        still,
+        mark_here,
+        ap (λ (x : ℕ). get_or then.words (1 + count k + x) 0) is,
+        ap (λ (x : ℕ). get_or s.words (1 + count k + x) 0) is,
+      ))
+      (λ ne. omega (arith, found, left, mark_else w ne))
+
   -- the rule stays: the other units are covered as before, and u is by `covered`
-  sound : n ≤ 1 → Each (λ w. w < marks k) taken
+  sound : n ≤ 1 → ((w : ℕ) → Told w) → Each (λ w. w < marks k) taken
       → ((w : ℕ) → w ≢ u → In w d.taken → In w taken) → ((w : ℕ) → w ≢ u → In w d.owed → In w owed)
       → (IsPoppableAt k (abstract k s) u → (n ≡ 1) ⊎ Tracks k then u) → Sound k then
-  sound bit units f g covered =
+  sound bit told units f g covered =
       let mark : ℕ → ℕ = λ x. get_or then.words (1 + count k + x) 0 in
       record {
         wide = length-set s.words (1 + count k + u) n ∙ o.wide;
@@ -116,6 +181,12 @@ module _ {S : Type 0} (k : Opening) (s : State S View) (o : Sound k s) (id : ℕ
         narrow = o.narrow;
         counted = o.counted;
         fits = o.fits;
+        known = λ v h. omega (
+          arith,
+          total-set (λ (x : View). times v x.settled) s.views id d next me,
+          o.known v h,
+          ap settled_bit (other v h),
+        );
         unsettled = λ listed v h. ap settled_bit (other v h) ∙ o.unsettled listed v h;
         leads = λ v h q. leads_move k s.words then.words (λ w near_w _. other w near_w) v (other v h)
             (o.leads v h (ap settled_bit (sym (other v h)) ∙ q));
@@ -137,6 +208,13 @@ module _ {S : Type 0} (k : Opening) (s : State S View) (o : Sound k s) (id : ℕ
         marked = record {
           bits = λ w h. dite (ℕ_discrete w u) (λ is. omega (arith, bit, mark_here, ap mark is))
               (λ ne. omega (arith, mark_else w ne, o.marked.bits w h));
+          counts = λ w h. omega (
+            arith,
+            told w,
+            o.marked.counts w h,
+            total-set (λ (x : View). total (found_mark w) x.changes) s.views id d next me,
+            total-set (λ (x : View). total (left_mark w) x.changes) s.views id d next me,
+          );
           covers = λ w h p.
               let before = pops_same k (abstract k s) (abstract k then) w same_abstract p in
               dite (ℕ_discrete w u)
@@ -182,6 +260,18 @@ sole_takes k s o id d me live u near = λ h there sole.
           (o.marked.covers u near open_at),
     )
 
+-- a sole pass finds the mark that its changes tell
+pub sole_finds : {S : Type 0} (k : Opening) (s : State S View) (o : Sound k s) (id : ℕ) (d : View)
+    → get_elem? s.views id ≡ some d → (u : ℕ) → u < marks k
+    → SoleFinds d u (get_or s.words (1 + count k + u) 0)
+sole_finds k s o id d me u near = λ sole.
+    omega (
+      arith,
+      o.marked.counts u near,
+      only_mine k s o id d me sole (λ (x : View). total (found_mark u) x.changes) refl,
+      only_mine k s o id d me sole (λ (x : View). total (left_mark u) x.changes) refl,
+    )
+
 -- what a mark is once it was set
 one_or : (x : ℕ) → x ≤ 1 → bit_or x 1 ≡ 1
 one_or zero h = refl
@@ -190,7 +280,11 @@ one_or (suc (suc x)) h = absurd (omega arith)
 
 -- what the step of a take tells
 abbrev TakeTold : {S : Type 0} → Me S View → ℕ → ℕ → Me S View → Type 0
-TakeTold m u r n = (n ≡ (taken_by m.0 u r, m.1)) × (r ≤ 1) × SoleTakes m.0 u r × SoleKnows n.0
+TakeTold m u r n = (n ≡ (taken_by m.0 u r, m.1)) × (r ≤ 1) × SoleTakes m.0 u r × SoleFinds m.0 u r × SoleKnows n.0
+
+-- what the step of a mark tells
+abbrev MarkTold : {S : Type 0} → Me S View → ℕ → ℕ → Me S View → Type 0
+MarkTold m u r n = (n ≡ (marked_by m.0 u r, m.1)) × (r ≤ 1) × SoleFinds m.0 u r
 
 module _ {S : Type 0} (k : Opening) (slots id : ℕ) (m : Me S View) (u : ℕ) (near : u < marks k)
     (live : m.0.opening ≡ Some k) where
@@ -212,25 +306,27 @@ module _ {S : Type 0} (k : Opening) (slots id : ℕ) (m : Me S View) (u : ℕ) (
       })
   taken_sound s o me =
       let w : ℕ = get_or s.words at 0 in let d : View = m.0 in
-      let seen : List (ℕ × ℕ) = (took w).seen in
+      let seen : List (ℕ × ℕ) = (took w).seen in let changes : List Change = (took w).changes in
       let units = (o.agree id d me).taken in
       let G : View → Type 0 = λ x. Sound k
       (record { words = set s.words at 0; homes = s.homes; views = set s.views id x }) in
       dite (ℕ_discrete w 1)
       (λ one.
       let more : List ℕ = u ∷ d.taken in
-      let e : took w ≡ record d { taken = more; seen = seen } =
-      ap (λ b. record d { taken = cond b (u ∷ d.taken) d.taken; seen = seen }) (eq-eqb w 1 one) in
-      subst G (sym e) (sound k s o id d me live u 0 near more d.owed seen (omega arith) (near, units)
+      let e : took w ≡ record d { taken = more; seen = seen; changes = changes } =
+      ap (λ b. record d { taken = cond b (u ∷ d.taken) d.taken; seen = seen; changes = changes }) (eq-eqb w 1 one) in
+      subst G (sym e) (sound k s o id d me live u 0 near more d.owed seen changes (omega arith)
+      (told_one k s o id d me live u 0 near more d.owed seen changes refl) (near, units)
       (λ x ne i. inr i) (λ x ne i. i)
-      (λ p. inr (now_tracks k s o id d me live u 0 near more d.owed seen (inl refl)))))
+      (λ p. inr (now_tracks k s o id d me live u 0 near more d.owed seen changes (inl refl)))))
       (λ ne.
-      let e : took w ≡ record d { seen = seen } =
-      ap (λ b. record d { taken = cond b (u ∷ d.taken) d.taken; seen = seen }) (ne_eqb w 1 ne) in
-      subst G (sym e) (sound k s o id d me live u 0 near d.taken d.owed seen (omega arith) units
+      let e : took w ≡ record d { seen = seen; changes = changes } =
+      ap (λ b. record d { taken = cond b (u ∷ d.taken) d.taken; seen = seen; changes = changes }) (ne_eqb w 1 ne) in
+      subst G (sym e) (sound k s o id d me live u 0 near d.taken d.owed seen changes (omega arith)
+      (told_one k s o id d me live u 0 near d.taken d.owed seen changes refl) units
       (λ x n i. i) (λ x n i. i)
       (λ p. ⊎_elim (λ q. absurd (ne q))
-      (λ r. inr (still_tracks k s o id d me live u 0 near d.taken d.owed seen (λ i. i) (λ i. i) r))
+      (λ r. inr (still_tracks k s o id d me live u 0 near d.taken d.owed seen changes (λ i. i) (λ i. i) r))
       (o.marked.covers u near p))))
 
   -- a mark may be swapped with 0
@@ -251,29 +347,31 @@ module _ {S : Type 0} (k : Opening) (slots id : ℕ) (m : Me S View) (u : ℕ) (
           refl,
           o.marked.bits u near,
           sole_takes k s o id m.0 me live u near,
+          sole_finds k s o id m.0 me u near,
           knows_after k s o id m.0 (took w) me live (set s.words at 0) after,
         ),
       )))
 
   -- a mark may be set
   pub marks_it : (i : ℕ) → i ≡ at
-      → Allows (Sound k) slots id m i (λ x. bit_or x 1)
-      (λ r n. n ≡ (marked_by m.0 (unit_at (count_in m.0.opening) i), m.1))
+      → Allows (Sound k) slots id m i (λ x. bit_or x 1) (λ r n. MarkTold m (unit_at (count_in m.0.opening) i) r n)
   marks_it i i_is =
-      subst (λ (x : ℕ). Allows (Sound k) slots id m i (λ x. bit_or x 1) (λ r n. n ≡ (marked_by m.0 x, m.1)))
+      subst (λ (x : ℕ). Allows (Sound k) slots id m i (λ x. bit_or x 1) (λ r n. MarkTold m x r n))
       (marked_unit k m.0 u i i_is live)
-      (subst (λ (j : ℕ). Allows (Sound k) slots id m j (λ x. bit_or x 1) (λ r n. n ≡ (marked_by m.0 u, m.1))) (sym i_is)
+      (subst (λ (j : ℕ). Allows (Sound k) slots id m j (λ x. bit_or x 1) (λ r n. MarkTold m u r n)) (sym i_is)
       (λ s o _ me small.
-      let d : View = m.0 in let e : View = marked_by d u in
+      let w : ℕ = get_or s.words at 0 in
+      let d : View = m.0 in let e : View = marked_by d u w in
       let units = each_taken_out (λ w. w < marks k) u d.taken (o.agree id d me).taken in (
         e,
         keeps,
         tt,
         subst (λ (x : ℕ). Sound k (record { words = set s.words at x; homes = s.homes; views = set s.views id e }))
-            (sym (one_or (get_or s.words at 0) (o.marked.bits u near)))
-            (sound k s o id d me live u 1 near (taken_out u d.taken) (taken_out u d.owed) d.seen (omega arith) units
+            (sym (one_or w (o.marked.bits u near)))
+            (sound k s o id d me live u 1 near (taken_out u d.taken) (taken_out u d.owed) d.seen e.changes (omega arith)
+            (told_one k s o id d me live u 1 near (taken_out u d.taken) (taken_out u d.owed) d.seen e.changes refl) units
             (λ w ne i. in_taken_out w u d.taken ne i) (λ w ne i. in_taken_out w u d.owed ne i) (λ p. inl refl)),
-        refl,
+        (refl, o.marked.bits u near, sole_finds k s o id d me u near),
       )))
 
 -- A load of the word of v, which the pass holds at a cursor that rules the event of u out.
@@ -311,8 +409,10 @@ module _ {S : Type 0} (k : Opening) (s : State S View) (o : Sound k s) (id : ℕ
       let units = (o.agree id d me).taken in
       let marked : u < marks k = each_in_list (λ w. w < marks k) d.taken units u there in
       let at : ℕ = 1 + count k + u in
-      let still = sound k s o id d me live u (get_or s.words at 0) marked (taken_out u d.taken) d.owed d.seen
-      (o.marked.bits u marked) (each_taken_out (λ w. w < marks k) u d.taken units)
+      let still = sound k s o id d me live u (get_or s.words at 0) marked (taken_out u d.taken) d.owed d.seen d.changes
+      (o.marked.bits u marked)
+      (told_none k s o id d me live u (get_or s.words at 0) marked (taken_out u d.taken) d.owed d.seen d.changes refl refl)
+      (each_taken_out (λ w. w < marks k) u d.taken units)
       (λ z ne j. in_taken_out z u d.taken ne j) (λ z ne j. j) (λ p. absurd (never marked p)) in
       subst (λ (ws : List ℕ). Sound k (record { words = ws; homes = s.homes; views = set s.views id (cleared_by d u) }))
       (set-get_or s.words at 0 ∙ sym (set-get_or s.words i 0)) still

@@ -42,7 +42,7 @@ releases k slots id m i v is near live one clear =
           (sym (and_low w))
           (moved k s o id v n d e me near form (omega arith) (inl same) refl
           (λ u ne. times-without_other v u d.held ne) (omega (arith, times-without_same v d.held))
-          (λ u ne. refl) (omega arith) refl (refl, refl) (λ q. absurd (omega arith)) (λ q. absurd (omega arith))
+          (λ u ne. refl) (omega arith) refl (refl, refl, refl) (λ u. omega arith) (λ q. absurd (omega arith)) (λ q. absurd (omega arith))
           (omega arith) (record {
             live = inl (live, share_kept k s o id d me live);
             held = each-without (IsHeldAt k (set s.words (1 + v) n)) v d.held a.held;

@@ -18,8 +18,8 @@ use Rattle.claim_words.specs.Machine.{IsHeldAt, IsSettledAt, Leads, Agrees, abst
 use Rattle.claim_words.specs.Tells.{SoleKnows}
 use Rattle.claim_words.proofs.Bits.{or_settle}
 use Rattle.claim_words.proofs.SoleKnowsSettled.{true-false}
-use Rattle.claim_words.proofs.Histories.{same_history, same_marks, tracks_set, mass_set, member_set}
-use Rattle.claim_words.proofs.Totals.{total-set, each-look, times-none, term_le, at_word, times-without_same, times-without_other, each-without}
+use Rattle.claim_words.proofs.Histories.{same_history, same_marks, tracks_set, changes_set, mass_set, member_set}
+use Rattle.claim_words.proofs.Totals.{total-set, each-look, times-none, term_le, at_word, is_at-yes, times-without_same, times-without_other, each-without}
 use Rattle.claim_words.proofs.WordMoves.{leads_move, agree_moves, within, share_kept, held_sound, knows_after}
 
 -- what may be settled leads on, once the words are new
@@ -162,6 +162,17 @@ module _ {S : Type 0} (k : Opening) (s : State S View) (o : Sound k s) (id v : �
       ))
       (λ ne. omega (arith, sums held, o.held_once u h, times-without_other v u d.held ne))
 
+  -- what is settled is known to some pass: v to this one
+  known_to : (u : ℕ) → u < count k
+      → settled_bit (get_or new (1 + u) 0) ≤ total (λ (y : View). times u y.settled) (set s.views id (settled_by d v))
+  known_to u h =
+      let knows : View → ℕ = λ y. times u y.settled in
+      let bits = is_set in let b₀ = bits.0 in
+      at_word s.words v now u
+      (λ x. settled_bit x ≤ total knows (set s.views id (settled_by d v))) (within k s o v near)
+      (λ q. omega (arith, sums knows, is_at-yes u (v, look v d.held) (sym q)))
+      (λ ne. omega (arith, sums knows, o.known u h))
+
   -- the rule stays
   settled : is_listed k.instance.value.family ≡ false → MaySettle k d v → Sound k after
   settled cycles may =
@@ -173,10 +184,11 @@ module _ {S : Type 0} (k : Opening) (s : State S View) (o : Sound k s) (id v : �
         narrow = o.narrow;
         counted = o.counted;
         fits = o.fits;
+        known = known_to;
         unsettled = λ listed. absurd (true-false (sym listed ∙ cycles));
         marked = same_marks k s after o.marked
             (λ u h. get_or-set_other s.words (1 + v) (1 + count k + u) now 0 (λ q. omega arith)) abs
-            (tracks_set k s new id d (settled_by d v) me refl refl);
+            (tracks_set k s new id d (settled_by d v) me refl refl) (changes_set k s id d (settled_by d v) me refl);
         shares = omega (arith, sums (λ x. x.share), o.shares);
         held_once = held_once;
         agree = λ j x at. ⊎_elim (λ (z : (j ≡ id) × (settled_by d v ≡ x)). subst (Agrees k new) z.1 agrees)

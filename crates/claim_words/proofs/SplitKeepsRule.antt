@@ -9,7 +9,7 @@ use Rattle.atomic_table.specs.Table.{State, Me, keeps, Allows, Splits, Joins}
 use Rattle.atomic_table.proofs.Lists.{at_set, set_else, set_again, at_longer, at_snoc}
 use Rattle.claim_words.specs.declared.view.View.{View}
 use Rattle.claim_words.specs.declared.opening.Opening.{Opening}
-use Rattle.claim_words.specs.Maps.{total, In, times}
+use Rattle.claim_words.specs.Maps.{total, is_at, In, times}
 use Rattle.claim_words.specs.Steps.{Drawn, spent, cut_left, cut_right, united}
 use Rattle.claim_words.specs.Machine.{IsFoundAt, IsSettledAt, Agrees, Member, Tracks, Sound}
 use Rattle.claim_words.proofs.Memberships.{none_in, in_append}
@@ -89,7 +89,9 @@ module _ {S : Type 0} (k : Opening) (s : State S View) (o : Sound k s) (id : ℕ
         marked = same_marks k s (after (cut part)) o.marked (λ u h. refl)
             (λ u h. omega (arith, sums (λ (x : View). times u x.due)))
             (λ u q. let z = tracks_set k s s.words id d l me refl refl u q in
-            (z.0, z.1, at_longer (set s.views id l) (r ∷ []) z.0 z.1 z.2, z.3));
+            (z.0, z.1, at_longer (set s.views id l) (r ∷ []) z.0 z.1 z.2, z.3))
+            (λ g. omega (arith, sums (λ (x : View). total g x.changes)));
+        known = λ u h. omega (arith, sums (λ (x : View). times u x.settled), o.known u h);
         shares = omega (arith, sums (λ (x : View). x.share), o.shares);
         held_once = λ u h. omega (arith, sums (λ (x : View). times u x.held), o.held_once u h);
         agree = cut_agrees part low high;
@@ -184,7 +186,14 @@ module _ {S : Type 0} (k : Opening) (s : State S View) (o : Sound k s) (id : ℕ
           fits = o.fits;
           unsettled = o.unsettled;
           marked = same_marks k s (after joined_views) o.marked (λ u h. refl)
-              (λ u h. omega (arith, join_sums (λ x. times u x.due), b.due u, ap (times u) idle)) join_tracks;
+              (λ u h. omega (arith, join_sums (λ x. times u x.due), b.due u, ap (times u) idle)) join_tracks
+              (λ g. omega (arith, join_sums (λ x. total g x.changes), total-append g d.changes e.changes));
+          known = λ u h. omega (
+            arith,
+            join_sums (λ x. times u x.settled),
+            total-append (is_at u) d.settled e.settled,
+            o.known u h,
+          );
           shares = omega (arith, join_sums (λ x. x.share), o.shares);
           held_once = λ u h. omega (arith, join_sums (λ x. times u x.held), o.held_once u h, ap (times u) idle);
           agree = join_agrees;

@@ -71,7 +71,12 @@ module _ {S : Type 0} (k : Opening) (ws : List ℕ) (hs : List S) (o : Opens k w
     counted = o.counted;
     fits = o.fits;
     unsettled = λ _ v h. let t = o.at v h in omega (arith, t.0);
-    marked = record { bits = λ u h. omega (arith, o.marked u h); covers = λ u h p. inl (o.marked u h) };
+    marked = record {
+      bits = λ u h. omega (arith, o.marked u h);
+      counts = λ u h. omega (arith, o.marked u h);
+      covers = λ u h p. inl (o.marked u h);
+    };
+    known = λ v h. let t = o.at v h in omega (arith, t.0);
     shares = refl;
     held_once = λ v h. let t = o.at v h in omega (arith, t.0);
     agree = λ j x at. ⊎_elim

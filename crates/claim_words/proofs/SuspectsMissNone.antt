@@ -1,5 +1,6 @@
--- The variables that are not settled are among the suspects.
-use Rattle.std.proofs.Common.{◌≡◌, ◌≢◌, ℕ, zero, suc, ◌+◌, ◌<◌, true, false, List, [], ◌∷◌, ◌++◌, length, get_or, Contains, cond, refl, sym, ap, ◌∙◌, subst, arith, lt-ltb, le-ltb, eqb, eq-eqb, ne_eqb, ⊎_elim, ◌^◌, ◌-◌}
+-- The suspects that the words have are those that a sole pass knows, and no poppable event is missed: the variables
+-- that are not settled, and the units that are marked, are among them.
+use Rattle.std.proofs.Common.{◌≡◌, ◌≢◌, ◌⊎◌, ℕ, zero, suc, ◌+◌, ◌<◌, ◌≤◌, inl, inr, true, false, List, [], ◌∷◌, ◌++◌, length, get_or, Contains, cond, refl, sym, ap, ◌∙◌, subst, arith, lt-ltb, le-ltb, eqb, eq-eqb, ne_eqb, ⊎_elim, ◌^◌, ◌-◌}
 use mathlib.Core.Logic.{dite}
 use native.Mathlib.Decide.{ℕ_discrete, dec_le}
 use Rattle.std.proofs.lemmas.Option.{slice_get_within}
@@ -20,11 +21,16 @@ use Rattle.claim_words.specs.declared.opening.Opening.{Opening}
 use Rattle.claim_words.specs.Words.{cursor_in, settled_bit, is_settled, Formed}
 use Rattle.claim_words.specs.Openings.{count, marks, marks_in, is_listed}
 use Rattle.claim_words.specs.Machine.{abstract, Sound}
-use Rattle.claim_words.specs.Closing.{set_marks, unsettled, suspects_in, Leaves}
+use Rattle.claim_words.specs.Maps.{Pairs, times}
+use Rattle.claim_words.specs.Changes.{Change, mark_after}
+use Rattle.claim_words.specs.Machine.{IsSettledAt}
+use Rattle.claim_words.specs.Closing.{set_marks, unsettled, suspects_in, set_after, others, suspects_of, Leaves}
+use Rattle.claim_words.proofs.Totals.{each-look}
+use Rattle.claim_words.proofs.MarkKeepsRule.{sole_finds}
 use Rattle.claim_words.proofs.SoleKnowsSettled.{true-false}
 use mathlib.Core.Option.{some}
 use lib.ListN.{get_elem?}
-use Rattle.claim_words.proofs.SoleHasAll.{settled_at, tracks_mine}
+use Rattle.claim_words.proofs.SoleHasAll.{only_mine, settled_at, tracks_mine}
 use Rattle.claim_words.proofs.NoSettledCycle.{unpoppable}
 
 -- one variable more
@@ -71,6 +77,61 @@ marked_has ws c (suc n) u below one = let w : ℕ = get_or ws (1 + c + n) 0 in l
     (marked_has ws c n u
     (dite (ℕ_discrete u n) (λ same. absurd (unset (ap (λ (x : ℕ). get_or ws (1 + c + x) 0) (sym same) ∙ one)))
     (λ ne. omega arith)) one))
+
+-- where each mark is what the changes left, the units that are marked are those that they left so
+marks_told : (ws : List ℕ) (c : ℕ) (cs : List Change) (n : ℕ)
+    → ((u : ℕ) → u < n → get_or ws (1 + c + u) 0 ≡ mark_after u cs) → set_marks ws c n ≡ set_after cs n
+marks_told ws c cs zero each = refl
+marks_told ws c cs (suc n) each =
+    let old = marks_told ws c cs n (λ u h. each u (omega arith)) in
+    let l : List ℕ = set_after cs n in
+    ap (λ (x : List ℕ). cond (eqb (get_or ws (1 + c + n) 0) 1) (x ++ n ∷ []) x) old
+    ∙ ap (λ (w : ℕ). cond (eqb w 1) (l ++ n ∷ []) l) (each n (omega arith))
+
+-- the word of the variable is settled exactly where the variable is known
+abbrev IsTold : List ℕ → Pairs → ℕ → Type 0
+IsTold ws known u = ((times u known ≡ 0) × (get_or ws (1 + u) 0 < 2 ^ 63 + 2 ^ 62))
+    ⊎ ((1 ≤ times u known) × (2 ^ 63 + 2 ^ 62 ≤ get_or ws (1 + u) 0))
+
+-- so the variables that are not settled are those that are not known
+unset_told : (ws : List ℕ) (known : Pairs) (n : ℕ) → ((u : ℕ) → u < n → IsTold ws known u)
+    → unsettled ws n ≡ others known n
+unset_told ws known zero each = refl
+unset_told ws known (suc n) each =
+    let old = unset_told ws known n (λ u h. each u (omega arith)) in
+    let l : List ℕ = others known n in let w : ℕ = get_or ws (1 + n) 0 in
+    ap (λ (x : List ℕ). cond (is_settled w) x (x ++ n ∷ [])) old
+    ∙ ⊎_elim
+    (λ z. ap (λ b. cond b l (l ++ n ∷ [])) (le-ltb (2 ^ 63 + 2 ^ 62 - 1) w (omega (arith, z.1)))
+    ∙ sym (ap (λ b. cond b (l ++ n ∷ []) l) (eq-eqb (times n known) 0 z.0)))
+    (λ z. ap (λ b. cond b l (l ++ n ∷ [])) (lt-ltb (2 ^ 63 + 2 ^ 62 - 1) w (omega (arith, z.1)))
+    ∙ sym (ap (λ b. cond b (l ++ n ∷ []) l)
+    (ne_eqb (times n known) 0 (λ e. let some = z.0 in absurd (omega arith)))))
+    (each n (omega arith))
+
+module _ (k : Opening) (s : State (Unit {0}) View) (o : Sound k s) (id : ℕ) (d : View)
+    (me : get_elem? s.views id ≡ some d) (sole : d.share ≡ 64) where
+  -- a sole pass knows just the variables that are settled
+  settled_told : (u : ℕ) → u < count k → IsTold s.words d.settled u
+  settled_told u near =
+      let f : Formed (get_or s.words (1 + u) 0) = o.formed u near in let f₀ = f.0 in let f₁ = f.1 in let f₂ = f.2 in
+      let f₃ = f.3 in
+      let all = only_mine k s o id d me sole (λ (x : View). times u x.settled) refl in
+      let known = o.known u near in
+      dite (ℕ_discrete (times u d.settled) 0)
+      (λ none. inl (none, omega arith))
+      (λ some_there.
+      let at = each-look (IsSettledAt k s.words) d.settled u (omega arith) (o.agree id d me).knows in
+      let set = at.1 in inr (omega arith, omega arith))
+
+  -- the suspects that the words have are those that it knows
+  suspects_told : suspects_in k s.words ≡ suspects_of k d
+  suspects_told =
+      let b = is_listed k.instance.value.family in
+      ap (λ (l : List ℕ). cond b l (unsettled s.words (count k)))
+      (marks_told s.words (count k) d.changes (marks k) (λ u h. sole_finds k s o id d me u h sole))
+      ∙ ap (λ (l : List ℕ). cond b (set_after d.changes (marks k)) l)
+      (unset_told s.words d.settled (count k) settled_told)
 
 module _ (k : Opening) (s : State (Unit {0}) View) (o : Sound k s) (id : ℕ) (d : View)
     (me : get_elem? s.views id ≡ some d) (sole : d.share ≡ 64) (idle : (d.held ≡ []) × (d.taken ≡ []) × (d.owed ≡ []))
@@ -133,16 +194,11 @@ pub leaves : (k : Opening) (id : ℕ) (d : View) (ws : List ℕ) (xs : List (Uni
     → Final (Seen (Sound k) id d) ws xs → d.share ≡ 64 → (d.held ≡ []) × (d.taken ≡ []) × (d.owed ≡ [])
     → ((v : ℕ) → v < count k → get_or cursors v 0 ≡ cursor_in (get_or ws (1 + v) 0)) → suspects ≡ suspects_in k ws
     → Leaves k d cursors suspects
-leaves k id d ws xs cursors suspects final sole idle each are = (
-  ws,
-  record { state = final.0; sound = final.1.0; seat = id; there = final.1.1; words = final.2 },
-  record {
-    cursors_are = each;
-    suspects_are = are;
-    missed = by_family k final.0 final.1.0 id d final.1.1 sole idle ws cursors suspects final.2 each are
-        k.instance.value.family refl;
-    cycles = λ unlisted e event poppable v there.
-        of_cycle k final.0 final.1.0 id d final.1.1 sole idle ws cursors suspects final.2 each are
-        k.instance.value.family refl unlisted e event poppable v there;
-  },
-)
+leaves k id d ws xs cursors suspects final sole idle each are = record {
+  suspects_are = are ∙ ap (suspects_in k) (sym final.2) ∙ suspects_told k final.0 final.1.0 id d final.1.1 sole;
+  missed = by_family k final.0 final.1.0 id d final.1.1 sole idle ws cursors suspects final.2 each are
+      k.instance.value.family refl;
+  cycles = λ unlisted e event poppable v there.
+      of_cycle k final.0 final.1.0 id d final.1.1 sole idle ws cursors suspects final.2 each are
+      k.instance.value.family refl unlisted e event poppable v there;
+}

@@ -18,6 +18,7 @@ use Rattle.claim_words.specs.declared.view.View.{View}
 use Rattle.claim_words.specs.declared.opening.Opening.{Opening}
 use Rattle.claim_words.specs.Words.{cursor_in, claimed_bit, settled_bit, Formed}
 use Rattle.claim_words.specs.Maps.{total, Each, In, below, Pairs, times, look}
+use Rattle.claim_words.specs.Changes.{found_mark, left_mark}
 use Rattle.claim_words.specs.Openings.{count, height, Has, begun, marks}
 use Rattle.claim_words.specs.Steps.{Drawn, record_held, sharers, drawn_by}
 use Rattle.claim_words.specs.Conditions.{IsReady, CanPop, IsNear}
@@ -285,6 +286,13 @@ module _ {S : Type 0} (k : Opening) (s : State S View) (o : Sound k s) (id : ℕ
   marked : Marked k after
   marked = record {
     bits = λ w h. omega (arith, o.marked.bits w h, marks_same w);
+    counts = λ w h. omega (
+      arith,
+      o.marked.counts w h,
+      marks_same w,
+      total-set (λ (x : View). total (found_mark w) x.changes) s.views id d (drawn_by d u cube now) me,
+      total-set (λ (x : View). total (left_mark w) x.changes) s.views id d (drawn_by d u cube now) me,
+    );
     covers = λ w h p. covers k (abstract k s) (abstract k after) u cube Was Is can.event is_cube.some raised
         stays owes_marks (λ x q near. o.marked.covers x near q) w h p h;
   }
@@ -334,6 +342,12 @@ module _ {S : Type 0} (k : Opening) (s : State S View) (o : Sound k s) (id : ℕ
     );
     counted = o.counted;
     fits = o.fits;
+    known = λ v h. omega (
+      arith,
+      total-set (λ (x : View). times v x.settled) s.views id d (drawn_by d u cube now) me,
+      o.known v h,
+      ap settled_bit (other v),
+    );
     unsettled = λ listed v h. ap settled_bit (other v) ∙ o.unsettled listed v h;
     marked = marked;
     leads = λ v h q. leads_move k s.words after.words (λ u n e. other u) v (other v)

@@ -18,7 +18,7 @@ use Rattle.claim_words.specs.Steps.{spent}
 use Rattle.claim_words.specs.Machine.{IsHeldAt, IsFoundAt, IsSettledAt, Leads, Agrees, abstract, Sound, at_last, to_root, goes_on}
 use Rattle.claim_words.specs.Tells.{SoleKnows}
 use Rattle.claim_words.proofs.SoleKnowsSettled.{sole_knows}
-use Rattle.claim_words.proofs.Histories.{same_history, same_marks, tracks_set, mass_set, member_set}
+use Rattle.claim_words.proofs.Histories.{same_history, same_marks, tracks_set, changes_set, mass_set, member_set}
 use Rattle.claim_words.proofs.Totals.{inside, total-set, total-none, term_le, terms_le, each-in, each-map, at_word}
 
 -- the words of settled variables stay, so what leads on does so still
@@ -110,13 +110,14 @@ module _ {S : Type 0} (k : Opening) (s : State S View) (o : Sound k s) where
       → times v e.held + claimed_bit (get_or s.words (1 + v) 0) ≡ times v d.held + claimed_bit n
       → ((u : ℕ) → u ≢ v → times u e.due ≡ times u d.due)
       → cursor_in n + times v e.due ≡ cursor_in (get_or s.words (1 + v) 0) + times v d.due
-      → e.mine ≡ d.mine → (e.taken ≡ d.taken) × (e.owed ≡ d.owed)
+      → e.mine ≡ d.mine → (e.taken ≡ d.taken) × (e.owed ≡ d.owed) × (e.changes ≡ d.changes)
+      → ((u : ℕ) → times u d.settled ≤ times u e.settled)
       → (settled_bit (get_or s.words (1 + v) 0) ≡ 1 → n ≡ get_or s.words (1 + v) 0)
       → (settled_bit n ≡ 1 → n ≡ get_or s.words (1 + v) 0)
       → settled_bit n ≡ settled_bit (get_or s.words (1 + v) 0)
       → Agrees k (set s.words (1 + v) n) e
       → Sound k (record { words = set s.words (1 + v) n; homes = s.homes; views = set s.views id e })
-  moved id v n d e me near formed grows holder share others mine due_others due same tasks keep fixed bit agrees =
+  moved id v n d e me near formed grows holder share others mine due_others due same tasks knows keep fixed bit agrees =
       let w : ℕ = get_or s.words (1 + v) 0 in let f : Formed w = o.formed v near in
       let old : ℕ → ℕ = λ x. get_or s.words (1 + x) 0 in
       let inside : 1 + v < length s.words = within v near in
@@ -167,11 +168,16 @@ module _ {S : Type 0} (k : Opening) (s : State S View) (o : Sound k s) where
             (at_word s.words v n u (λ w. w ≡ get_or s.words (1 + u) 0) inside (λ is. absurd (ne is)) (λ _. refl))
             (o.leads u h q));
         fits = o.fits;
+        known = λ u h. let sums = total-set (λ (x : View). times u x.settled) s.views id d e me in
+            at_word s.words v n u
+            (λ w. settled_bit w ≤ total (λ (x : View). times u x.settled) (set s.views id e)) inside
+            (λ is. omega (arith, o.known u h, bit, knows u, ap (λ (x : ℕ). settled_bit (old x)) is))
+            (λ ne. omega (arith, o.known u h, knows u));
         unsettled = λ listed u h. at_word s.words v n u (λ w. settled_bit w ≡ 0) inside
             (λ _. bit ∙ o.unsettled listed v near) (λ _. o.unsettled listed u h);
         marked = same_marks k s t o.marked
             (λ u h. get_or-set_other s.words (1 + v) (1 + count k + u) n 0 (λ q. omega arith)) (λ u h. abs u)
-            (tracks_set k s new id d e me tasks.0 tasks.1);
+            (tracks_set k s new id d e me tasks.0 tasks.1) (changes_set k s id d e me tasks.2);
         history = same_history k s t o.history (get_or-set_other s.words (1 + v) 0 n 0 (λ q. omega arith))
             (λ u h. abs u) (mass_set k s id d e me same) (member_set k s new id d e me same);
       }

@@ -4,8 +4,8 @@ use Rattle.claim_words.specs.declared.view.View.{View}
 use Rattle.claim_words.specs.declared.claim.Claim.{Claim}
 use Rattle.claim_words.specs.declared.claim.Claim.TheVariants.{Mine, Busy, Settled}
 use Rattle.claim_words.specs.Words.{cursor_in, settled_bit}
-use Rattle.claim_words.specs.Steps.{taken_by}
-use Rattle.claim_words.specs.Tells.{ClaimTells, SoleTells, SoleTakes}
+use Rattle.claim_words.specs.Steps.{taken_by, marked_by}
+use Rattle.claim_words.specs.Tells.{ClaimTells, SoleTells, SoleTakes, SoleFinds}
 
 -- the answer that a word gives: it depends on nothing else
 abbrev pub Answers : ℕ → Claim → Type 0
@@ -28,3 +28,8 @@ Spends old new (Settled c) = new ≡ old
 abbrev pub Takes : View → ℕ → View → Bool → Type 0
 Takes d u e answer =
     (w : ℕ) × (e ≡ taken_by d u w) × (w ≤ 1) × (answer ≡ (w == 1)) × SoleTakes d u w
+    × SoleFinds d u w
+
+-- the mark of u was set: one step, at which it was found as 0 or 1
+abbrev pub Marks : View → ℕ → View → Type 0
+Marks d u e = (w : ℕ) × (e ≡ marked_by d u w) × (w ≤ 1) × SoleFinds d u w

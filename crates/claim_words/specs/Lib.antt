@@ -1,6 +1,7 @@
 pub mod Codes
 pub mod Words
 pub mod Maps
+pub mod Changes
 pub mod Openings
 pub mod Steps
 pub mod Conditions

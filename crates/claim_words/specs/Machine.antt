@@ -10,6 +10,7 @@ use Rattle.pop_model.specs.Instances.{FamilyFits}
 use Rattle.pop_model.specs.Logs.{LogRecord}
 use Rattle.claim_words.specs.Words.{word_of, mark_of, cursor_in, claimed_bit, settled_bit, Formed}
 use Rattle.claim_words.specs.Maps.{total, Each, In, below, Pairs, times, look}
+use Rattle.claim_words.specs.Changes.{found_mark, left_mark}
 use Rattle.claim_words.specs.Openings.{count, height, Has, begun, marks, is_listed, head_at}
 use Rattle.claim_words.specs.Steps.{Drawn, spent}
 use Rattle.claim_words.specs.declared.view.View.{View}
@@ -125,9 +126,20 @@ module _ {S : Type 0} (k : Opening) (s : State S View) where
   abbrev pub mark : ℕ → ℕ
   mark u = slice_index s.words (mark_of (count k) u)
 
-  -- each event that is poppable at the abstract cursors has its unit marked, or with a pass
+  -- the marks that the changes of all passes found of the unit, added up
+  abbrev pub found_marks : ℕ → ℕ
+  found_marks u = total (λ d. total (found_mark u) d.changes) s.views
+
+  -- the marks that they left
+  abbrev pub left_marks : ℕ → ℕ
+  left_marks u = total (λ d. total (left_mark u) d.changes) s.views
+
+  -- the marks are what the changes made of them; each event that is poppable at the abstract
+  -- cursors has its unit marked, or with a pass
   pub record Marked : Type 0 where
     pub bits : (u : ℕ) → u < marks k → mark u ≤ 1
+    -- each mark was set at the start, and is what the changes of all passes left
+    pub counts : (u : ℕ) → u < marks k → mark u + found_marks u ≡ 1 + left_marks u
     pub covers : (u : ℕ) → u < marks k → IsPoppableAt k abstract u → (mark u ≡ 1) ⊎ Tracks u
 
   -- the rule
@@ -144,6 +156,9 @@ module _ {S : Type 0} (k : Opening) (s : State S View) where
     pub agree : (j : ℕ) (d : View) → get_elem? s.views j ≡ some d → Agrees k s.words d
     pub history : History
     pub leads : (v : ℕ) → v < count k → settled_bit (word k s.words v) ≡ 1 → Leads k s.words v
+    -- some pass knows each variable that is settled
+    pub known : (v : ℕ) → v < count k
+        → settled_bit (word k s.words v) ≤ total (λ d. times v d.settled) s.views
     -- of a listed family no variable is settled
     pub unsettled : is_listed k.instance.value.family ≡ true → (v : ℕ) → v < count k
         → settled_bit (word k s.words v) ≡ 0

@@ -32,6 +32,7 @@ fresh k = record {
   settled = [];
   taken = [];
   owed = [];
+  changes = [];
   due = [];
   mine = [];
 }
@@ -48,6 +49,7 @@ spent = record {
   settled = [];
   taken = [];
   owed = [];
+  changes = [];
   due = [];
   mine = [];
 }
@@ -119,11 +121,16 @@ abbrev pub taken_by : View → ℕ → ℕ → View
 taken_by d u w = record d {
   taken = cond (w == 1) (u ∷ d.taken) d.taken;
   seen = d.seen ++ (mark_of (count_in d.opening) u, w) ∷ [];
+  changes = d.changes ++ (u, w, 0) ∷ [];
 }
 
--- the mark of u was set
-abbrev pub marked_by : View → ℕ → View
-marked_by d u = record d { taken = taken_out u d.taken; owed = taken_out u d.owed }
+-- the mark of u was set, and this was found
+abbrev pub marked_by : View → ℕ → ℕ → View
+marked_by d u w = record d {
+  taken = taken_out u d.taken;
+  owed = taken_out u d.owed;
+  changes = d.changes ++ (u, w, 1) ∷ [];
+}
 
 -- the event of u isn't poppable, so u needs no mark
 abbrev pub cleared_by : View → ℕ → View
@@ -142,6 +149,7 @@ cut_right d part = record d {
   seen = [];
   taken = [];
   owed = [];
+  changes = [];
   due = [];
   mine = [];
 }
@@ -153,5 +161,6 @@ united d e = record d {
   moves = d.moves + 1;
   found = d.found ++ e.found;
   settled = d.settled ++ e.settled;
+  changes = d.changes ++ e.changes;
   mine = d.mine ++ e.mine;
 }

@@ -4,6 +4,7 @@ use Rattle.pop_model.specs.Families.{Event, IsEvent}
 use Rattle.pop_model.specs.Popping.{Cube, IsPoppable, cursor, names}
 use Rattle.claim_words.specs.Words.{cursor_in, settled_bit, IsLeft}
 use Rattle.claim_words.specs.Maps.{Each, In, times}
+use Rattle.claim_words.specs.Changes.{mark_after}
 use Rattle.claim_words.specs.Openings.{height, is_listed}
 use Rattle.claim_words.specs.Steps.{Drawn, claimed_by}
 use Rattle.claim_words.specs.Machine.{Use, uses}
@@ -66,3 +67,7 @@ abbrev pub SoleTakes : View → ℕ → ℕ → Type 0
 SoleTakes d u w = (k : Opening) → d.opening ≡ Some k → d.share ≡ 64
     → IsLegalFrom k d.mine
     × (w ≡ 0 → (In u d.taken → ⊥) → (In u d.owed → ⊥) → NonePoppable k d u)
+
+-- what a sole pass knows of the mark of u before a step that finds w there: its changes tell it
+abbrev pub SoleFinds : View → ℕ → ℕ → Type 0
+SoleFinds d u w = d.share ≡ 64 → w ≡ mark_after u d.changes

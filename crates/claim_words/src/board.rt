@@ -44,7 +44,8 @@ impl<'i> Board<'i> {
     };
 
     /// The board whose words have these cursors, which are below the heights, and its first pass,
-    /// which is idle and has all 64 shares. For a listed family all units are marked.
+    /// which is idle and has all 64 shares. For a listed family all units are marked, which is what
+    /// the view of a pass that is the only one, and has changed no mark, says.
     pub fn start(
         alloc: Global,
         instance: &'i Instance,

@@ -10,7 +10,7 @@ pub struct Closed {
     pub pops: u64,
     /// The tickets from 0 up to below `pops`, in any order, where a log is kept.
     pub log: Option<Tickets>,
-    /// Where events may still be poppable: the marked units of a listed family; the variables of a
-    /// cycle family that are not settled. They rise.
+    /// Where events may still be poppable: just the marked units of a listed family; just the
+    /// variables of a cycle family that are not settled. They rise.
     pub suspects: Units,
 }

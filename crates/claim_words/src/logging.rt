@@ -1,5 +1,5 @@
 //! What is done with a log, where one is kept.
-ghost use Rattle.std.specs.Prelude.{◌≡◌, ◌≤◌, ◌∷◌, [], length, is_some, IfOk, IfSome, OnErr, MatchResult};
+ghost use Rattle.std.specs.Prelude.{◌≡◌, ◌≤◌, ◌∷◌, [], length, false, is_some, IfOk, IfSome, IsOk, OnErr, MatchResult};
 ghost use Rattle.confluence_core.specs.Kept.{keeps_log};
 ghost use Rattle.claim_words.specs.KeptLogs.{HasTickets, HasRoom, SameTickets, spare_in, Adds, Seals, IsSealable, Unites, IsTold};
 
@@ -74,14 +74,15 @@ pub(crate) fn seal(log: &mut Option<KeptLog>, ticket: u64, unit: u32, pairs: u32
     }
 }
 
-// The tickets of both, or the other back.
+// The tickets of both, or the other back. It is not refused where the first isn't kept.
 pub(crate) fn unite(
     log: &mut Option<KeptLog>,
     other: Option<KeptLog>,
 ) -> Result<(), (Option<KeptLog>, AllocError)>
     requires { IfSome log.old (λ l. length l.loose ≡ 0) × IfSome other (λ l. length l.loose ≡ 0) }
-    ensures { MatchResult result (λ _. Unites log.old other log.new)
+    ensures both { MatchResult result (λ _. Unites log.old other log.new)
         (λ e. (log.new ≡ log.old) × (e.0 ≡ other)) }
+    ensures granted { is_some log.old ≡ false → IsOk result }
 {
     let Some(mine) = log else {
         return Ok(());

@@ -1,7 +1,7 @@
 //! Marks of units: taken, set, and cleared.
 ghost use Rattle.std.specs.Prelude.{◌≡◌, ◌<◌};
 ghost use Rattle.claim_words.specs.Maps.{In};
-ghost use Rattle.claim_words.specs.Steps.{marked_by, cleared_by};
+ghost use Rattle.claim_words.specs.Steps.{cleared_by};
 ghost use Rattle.claim_words.specs.Conditions.{RulesOut};
 ghost use Rattle.claim_words.specs.Tells.{SoleKnows};
 
@@ -18,7 +18,7 @@ impl<'i> Board<'i> {
       marks_of,
       instance_of,
     };
-    ghost use Rattle.claim_words.specs.Answers.{Takes};
+    ghost use Rattle.claim_words.specs.Answers.{Takes, Marks};
 
     /// Takes the mark of a unit of a listed family, in one atomic step: whether it was set. It
     /// takes no memory. Units count from 0. Who takes a mark looks at the unit's event next, and
@@ -34,12 +34,13 @@ impl<'i> Board<'i> {
         self.take_step(&mut pass.seat, unit) == MARKED
     }
 
-    /// Sets the mark of a unit of a listed family, in one atomic step. It takes no memory.
+    /// Sets the mark of a unit of a listed family, in one atomic step, which stands in the pass's
+    /// changes. It takes no memory.
     pub fn mark(&self, pass: &mut Pass, unit: u32)
         requires pass { IsOf self.now pass.old }
         requires listed { unit < marks_of self.now }
         ensures pass { IsOf self.now pass.new }
-        ensures step { view pass.new ≡ marked_by (view pass.old) unit }
+        ensures step { Marks (view pass.old) unit (view pass.new) }
         ensures room { SameRoom pass.old pass.new }
     {
         self.mark_step(&mut pass.seat, unit);

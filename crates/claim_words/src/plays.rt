@@ -6,7 +6,7 @@ ghost use Rattle.claim_words.specs.Openings.{count_in};
 ghost use Rattle.claim_words.specs.Steps.{Drawn, fresh, released_by, settled_by, cut_left, cut_right, drawn_by, advanced_by, taken_by, marked_by, cleared_by};
 ghost use Rattle.claim_words.specs.Conditions.{IsNear};
 ghost use Rattle.claim_words.specs.Machine.{Sound};
-ghost use Rattle.claim_words.specs.Tells.{ClaimTells, SoleTells, SoleKnows, SoleTakes};
+ghost use Rattle.claim_words.specs.Tells.{ClaimTells, SoleTells, SoleKnows, SoleTakes, SoleFinds};
 ghost use Rattle.claim_words.specs.Starts.{IsCounted};
 
 use crate::{Opening, View};
@@ -81,7 +81,8 @@ pub struct TakeStep;
 impl Play<(), View> for TakeStep {
     ghost then = { λ st m r n.
         (n ≡ (taken_by m.0 (unit_at (count_in m.0.opening) st.word) r, m.1)) × (r ≤ 1)
-        × SoleTakes m.0 (unit_at (count_in m.0.opening) st.word) r × SoleKnows n.0 };
+        × SoleTakes m.0 (unit_at (count_in m.0.opening) st.word) r
+        × SoleFinds m.0 (unit_at (count_in m.0.opening) st.word) r × SoleKnows n.0 };
 }
 
 // A mark is set.
@@ -89,7 +90,8 @@ pub struct MarkStep;
 
 impl Play<(), View> for MarkStep {
     ghost then = { λ st m r n.
-        n ≡ (marked_by m.0 (unit_at (count_in m.0.opening) st.word), m.1) };
+        (n ≡ (marked_by m.0 (unit_at (count_in m.0.opening) st.word) r, m.1)) × (r ≤ 1)
+        × SoleFinds m.0 (unit_at (count_in m.0.opening) st.word) r };
 }
 
 // The unit that is cleared, picked at the call.

@@ -1,5 +1,6 @@
 //! Passes that are split and joined again.
-ghost use Rattle.std.specs.Prelude.{◌≡◌, ◌<◌, ◌≤◌, OnOk, IfErr};
+ghost use Rattle.std.specs.Prelude.{◌≡◌, ◌<◌, ◌≤◌, false, IsOk, OnOk, IfErr};
+ghost use Rattle.confluence_core.specs.Kept.{keeps_log};
 ghost use Rattle.claim_words.specs.Steps.{cut_left, cut_right, united};
 
 use crate::logging::{first_log, unite};
@@ -16,6 +17,7 @@ impl<'i> Board<'i> {
       view,
       spare,
       log_spare,
+      keep_of,
     };
 
     /// Gives a part of the pass's share to a new pass, which is idle and has no room yet. The part
@@ -55,7 +57,8 @@ impl<'i> Board<'i> {
     }
 
     /// Takes in another pass of this board, which is idle and ends. Memory is taken only where a
-    /// log is kept; a pass that is refused for want of it comes back as it was.
+    /// log is kept; a pass that is refused for want of it comes back as it was. Where no log is
+    /// kept, none is refused.
     pub fn rejoin(&self, pass: &mut Pass, other: Pass) -> Result<(), (Pass, AllocError)>
         requires pass { IsOf self.now pass.old }
         requires other { IsOf self.now other }
@@ -64,6 +67,7 @@ impl<'i> Board<'i> {
         ensures step { OnOk result (view pass.new ≡ united (view pass.old) (view other)) }
         ensures room { SameRoom pass.old pass.new }
         ensures kept { IfErr result (λ e. (view pass.new ≡ view pass.old) × (e.0 ≡ other)) }
+        ensures granted { keeps_log (keep_of self.now) ≡ false → IsOk result }
     {
         let Pass {
             seat,

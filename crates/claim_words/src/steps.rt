@@ -5,7 +5,7 @@ ghost use Rattle.claim_words.specs.Maps.{In, times, look};
 ghost use Rattle.claim_words.specs.Openings.{is_listed};
 ghost use Rattle.claim_words.specs.Steps.{Drawn, drawn_by, advanced_by, released_by, settled_by, taken_by, marked_by, cleared_by};
 ghost use Rattle.claim_words.specs.Conditions.{CanPop, IsDue, MaySettle, RulesOut};
-ghost use Rattle.claim_words.specs.Tells.{ClaimTells, SoleTells, SoleKnows, SoleTakes};
+ghost use Rattle.claim_words.specs.Tells.{ClaimTells, SoleTells, SoleKnows, SoleTakes, SoleFinds};
 
 use crate::layout::{CLAIMED, MARKED, SETTLED, TICKETS, UNCLAIMED, mark_of, word_of};
 use crate::plays::{
@@ -116,21 +116,24 @@ impl<'i> Board<'i> {
         ensures view { seat.new.me.0 ≡ taken_by seat.old.me.0 unit result }
         ensures bit { result ≤ 1 }
         ensures takes { SoleTakes seat.old.me.0 unit result }
+        ensures finds { SoleFinds seat.old.me.0 unit result }
         ensures sole { SoleKnows seat.new.me.0 }
     {
         let at = mark_of(self.count, unit);
         self.table.shared.swap::<TakeStep>(seat, at, 0)
     }
 
-    // Sets the mark of a unit.
-    pub(crate) fn mark_step(&self, seat: &mut Seat<(), View>, unit: u32)
+    // Sets the mark of a unit: what it was.
+    pub(crate) fn mark_step(&self, seat: &mut Seat<(), View>, unit: u32) -> u64
         requires seat { IsSeat self.now seat.old }
         requires listed { unit < marks_of self.now }
         ensures seat { IsSeat self.now seat.new × (seat.new.me.1 ≡ seat.old.me.1) }
-        ensures view { seat.new.me.0 ≡ marked_by seat.old.me.0 unit }
+        ensures view { seat.new.me.0 ≡ marked_by seat.old.me.0 unit result }
+        ensures bit { result ≤ 1 }
+        ensures finds { SoleFinds seat.old.me.0 unit result }
     {
         let at = mark_of(self.count, unit);
-        self.table.shared.fetch_or::<MarkStep>(seat, at, MARKED);
+        self.table.shared.fetch_or::<MarkStep>(seat, at, MARKED)
     }
 
     // Looks at the word of a variable that the pass holds, which rules the event of a unit out.

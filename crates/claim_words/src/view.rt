@@ -29,6 +29,9 @@ pub struct View {
     pub ghost taken: { List ℕ },
     // The units that it must still mark.
     pub ghost owed: { List ℕ },
+    // What its takes and marks did, in order, and those of passes that it took in: the unit, the
+    // mark that was found, and the mark that was left.
+    pub ghost changes: { List (ℕ × ℕ × ℕ) },
     // The pairs of a popped event whose advance is due; between calls there is none.
     pub ghost due: { List (ℕ × ℕ) },
     // The tickets that it drew or took in, each with its record.

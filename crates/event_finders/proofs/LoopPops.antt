@@ -232,6 +232,7 @@ module _ (k : Opening) (d : View) (t : Trail) (is : Stands k d t) (place : ℕ) 
             ap (λ (v : View). v.owed) to ∙ ap (λ (l : List ℕ). l ++ sharers d.opening cube) is.owed
             ∙ ap (λ (o : Option Opening). sharers o cube) live ∙ ap (λ (f : Family). sharing f cube) of_board.family
             ∙ sym is.owed;
+        changes = ap (λ (v : View). v.changes) to;
       };
       seen = ap (λ (v : View). v.seen) to;
       known = ap (λ (v : View). v.settled) to;

@@ -62,6 +62,7 @@ module _ (d m e : View) (cube : Cube) (is : IsCube cube) (n : ℕ) (p : ℕ × �
     moves = ap (λ (x : View). x.moves) to ∙ first.same.moves;
     taken = ap (λ (x : View). x.taken) to ∙ first.same.taken;
     owed = ap (λ (x : View). x.owed) to ∙ first.same.owed;
+    changes = ap (λ (x : View). x.changes) to ∙ first.same.changes;
     mine = ap (λ (x : View). x.mine) to ∙ first.same.mine;
   }
 

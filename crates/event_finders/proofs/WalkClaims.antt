@@ -28,6 +28,7 @@ module _ (d : View) (v : ℕ) (e : View) where
       moves = ap (λ (x : View). x.moves) is.1.view;
       taken = ap (λ (x : View). x.taken) is.1.view;
       owed = ap (λ (x : View). x.owed) is.1.view;
+      changes = ap (λ (x : View). x.changes) is.1.view;
     };
     mine = ap (λ (x : View). x.mine) is.1.view;
     known = λ p i. subst (In p) (sym (ap (λ (x : View). x.settled) is.1.view))

@@ -21,6 +21,7 @@ stays_then d e f a b = record {
   moves = b.moves ∙ a.moves;
   taken = b.taken ∙ a.taken;
   owed = b.owed ∙ a.owed;
+  changes = b.changes ∙ a.changes;
 }
 
 -- claims in two turns

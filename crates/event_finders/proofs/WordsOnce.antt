@@ -1,5 +1,5 @@
 -- What a try at a unit sees: one mark, and the words of some first variables of its event. All are different words.
-use Rattle.std.proofs.Common.{◌≡◌, ◌==◌, ℕ, zero, suc, ◌+◌, ◌-◌, ◌<◌, ◌≤◌, true, [], ◌∷◌, ◌++◌, take, drop, length, map, refl, sym, ap, ◌∙◌, subst, inl, inr, arith, append_assoc}
+use Rattle.std.proofs.Common.{◌≡◌, ◌==◌, ℕ, zero, suc, ◌+◌, ◌-◌, ◌<◌, ◌≤◌, true, List, [], ◌∷◌, ◌++◌, take, drop, length, map, refl, sym, ap, ◌∙◌, subst, inl, inr, arith, append_assoc}
 use mathlib.Core.Logic.{dite}
 use native.Mathlib.Decide.{ℕ_discrete}
 use Rattle.std.proofs.lemmas.List.{drop_at}
@@ -9,6 +9,7 @@ use Rattle.claim_words.specs.declared.view.View.{View}
 use Rattle.claim_words.specs.declared.claim.Claim.{Claim}
 use Rattle.claim_words.specs.Words.{word_of, mark_of}
 use Rattle.claim_words.specs.Maps.{Pairs, In, times, times_in}
+use Rattle.claim_words.specs.Changes.{Change}
 use Rattle.claim_words.specs.Openings.{count_in}
 use Rattle.claim_words.specs.Steps.{taken_by}
 use Rattle.claim_words.specs.Answers.{Takes}
@@ -64,6 +65,16 @@ module _ {d r a e : View} {u : ℕ} {cube : Cube} {n m : ℕ} (s : Started d r a
       one_of : (w : ℕ) → w ≤ 1 → true ≡ (w == 1) → w ≡ 1
       one_of zero small is = absurd (cc)
       one_of (suc w) small is = omega (arith, small)
+
+  -- changes has its entry
+  pub changes_all : e.changes ≡ d.changes ++ (u, 1, 0) ∷ []
+  changes_all = s.first.same.changes ∙ ap (λ (x : View). x.changes) take_is
+
+  -- and those that came behind it
+  pub changes_then : (f : View) (cs : List Change) → f.changes ≡ e.changes ++ cs
+      → f.changes ≡ d.changes ++ ((u, 1, 0) ∷ cs)
+  changes_then f cs to = to ∙ ap (λ (l : List Change). l ++ cs) changes_all
+      ∙ append_assoc d.changes ((u, 1, 0) ∷ []) cs
 
   -- seen has its entry and those of the claims
   seen_all : e.seen ≡ d.seen ++ ((mark, 1) ∷ gained a e)

@@ -28,6 +28,7 @@ pub record Stays (d e : View) : Type 0 where
   pub moves : e.moves ≡ d.moves
   pub taken : e.taken ≡ d.taken
   pub owed : e.owed ≡ d.owed
+  pub changes : e.changes ≡ d.changes
 
 -- each of these tickets is higher than all before it
 abbrev pub Rises : List Drawn → List Drawn → Type 0

@@ -1,6 +1,7 @@
 -- What is left to mark, and to give back.
-use Rattle.std.specs.Prelude.{ℕ, List, [], ◌∷◌}
-use Rattle.claim_words.specs.Maps.{taken_out}
+use Rattle.std.specs.Prelude.{◌≡◌, ℕ, List, [], ◌∷◌, ◌++◌}
+use Rattle.claim_words.specs.Maps.{In, taken_out}
+use Rattle.claim_words.specs.Changes.{Change}
 use Rattle.claim_words.specs.declared.view.View.{View}
 
 -- the list without these
@@ -12,6 +13,10 @@ all_out (u ∷ us) l = all_out us (taken_out u l)
 abbrev pub marked_with : List ℕ → View → View
 marked_with us d = record d { taken = all_out us d.taken; owed = all_out us d.owed }
 
+-- the view with these changes of marks
+abbrev pub changing : List Change → View → View
+changing cs d = record d { changes = cs }
+
 -- the view that owes just these units
 abbrev pub owing : List ℕ → View → View
 owing us d = record d { owed = us }
@@ -19,3 +24,12 @@ owing us d = record d { owed = us }
 -- the view that holds nothing
 abbrev pub emptied : View → View
 emptied d = record d { held = [] }
+
+-- these changes set marks: some mark of each of these units, and of no other
+pub record SetsJust (us : List ℕ) (cs : List Change) : Type 0 where
+  pub each : (c : Change) → In c cs → In c.0 us × (c.2 ≡ 1)
+  pub all : (u : ℕ) → In u us → (w : ℕ) × In (u, w, 1) cs
+
+-- the changes that came to those of the pass are of this kind
+abbrev pub SetsMarks : List ℕ → View → View → Type 0
+SetsMarks us d e = (cs : List Change) × (e.changes ≡ d.changes ++ cs) × SetsJust us cs

@@ -1,6 +1,6 @@
 -- What a try at the event of a unit answers. Throughout d is the view of the pass before the call,
 -- and e the view after it.
-use Rattle.std.specs.Prelude.{◌≡◌, ◌≢◌, ℕ, ◌<◌, ◌≤◌, true, [], ◌∷◌, ◌++◌, ⊤}
+use Rattle.std.specs.Prelude.{◌≡◌, ◌≢◌, ℕ, ◌<◌, ◌≤◌, true, List, [], ◌∷◌, ◌++◌, ⊤}
 use Rattle.pop_model.specs.Stacks.{value_at}
 use Rattle.pop_model.specs.Popping.{Cube, names}
 use Rattle.pop_model.specs.Families.{IsEvent}
@@ -12,9 +12,11 @@ use Rattle.claim_words.specs.declared.claim.Claim.TheVariants.{Mine, Busy as Ref
 use Rattle.claim_words.specs.Words.{mark_of}
 use Rattle.claim_words.specs.Maps.{Each, In, times}
 use Rattle.claim_words.specs.Openings.{count_in}
-use Rattle.claim_words.specs.Steps.{Drawn, record_held}
+use Rattle.claim_words.specs.Changes.{Change}
+use Rattle.claim_words.specs.Steps.{Drawn, record_held, sharing}
 use Rattle.claim_words.specs.Tells.{SoleKnows, NonePoppable}
 use Rattle.event_finders.specs.Gains.{gained, Entered}
+use Rattle.event_finders.specs.OwedMarks.{SetsJust}
 use Rattle.event_finders.specs.UnitLooks.{found_at, HasMore, IsAtLast}
 use Rattle.event_finders.specs.declared.tried.Tried.{Tried}
 use Rattle.event_finders.specs.declared.tried.Tried.TheVariants.{Popped, Cleared, Stuck, Busy, Idle, OutOfMemory}
@@ -80,6 +82,24 @@ abbrev pub FindsMark : View → View → ℕ → Tried → Type 0
 FindsMark d e u Idle = gained d e ≡ (mark_of (count_in d.opening) u, 0) ∷ []
 FindsMark d e u OutOfMemory = e ≡ d
 FindsMark d e u answer = In (mark_of (count_in d.opening) u, 1) (gained d e)
+
+-- What the try did to marks. The unit's own was taken, and where it was set it is 0 from then on, but
+-- where the unit is marked again. A pop sets the mark of each unit whose event shares a variable with
+-- the popped one, and no other.
+abbrev pub ChangesMarks : Instance → View → View → ℕ → Cube → Tried → Type 0
+ChangesMarks i d e u cube (Popped t) = (cs : List Change) × (e.changes ≡ d.changes ++ ((u, 1, 0) ∷ cs))
+    × SetsJust (sharing i.family cube) cs
+ChangesMarks i d e u cube (Cleared v c) = e.changes ≡ d.changes ++ (u, 1, 0) ∷ []
+ChangesMarks i d e u cube (Stuck v c) = e.changes ≡ d.changes ++ (u, 1, 0) ∷ []
+ChangesMarks i d e u cube (Busy v w) =
+    (x : ℕ) × (e.changes ≡ d.changes ++ ((u, 1, 0) ∷ (u, x, 1) ∷ []))
+ChangesMarks i d e u cube Idle = e.changes ≡ d.changes ++ (u, 0, 0) ∷ []
+ChangesMarks i d e u cube OutOfMemory = e.changes ≡ d.changes
+
+-- what the try at the event of the unit did to marks
+abbrev pub LeavesMarks : Instance → View → View → ℕ → Tried → Type 0
+LeavesMarks i d e u answer =
+    (cube : Cube) × IsEvent i.family (record { unit = u; cube = cube }) × ChangesMarks i d e u cube answer
 
 -- what a sole pass learns: where it pops, its records are a legal log; where it finds the event
 -- cleared, stuck or not marked, that event isn't poppable at its vector

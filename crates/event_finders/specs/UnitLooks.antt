@@ -35,6 +35,7 @@ pub record SameElse (d e : View) : Type 0 where
   pub moves : e.moves ≡ d.moves
   pub taken : e.taken ≡ d.taken
   pub owed : e.owed ≡ d.owed
+  pub changes : e.changes ≡ d.changes
   pub mine : e.mine ≡ d.mine
 
 -- the first n variables of the cube were claimed, each once, and the first m of these are held

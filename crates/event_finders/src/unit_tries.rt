@@ -7,7 +7,7 @@ ghost use Rattle.claim_words.specs.Maps.{In};
 ghost use Rattle.claim_words.specs.Passes.{IsOf, IsIdle, view, count_of, instance_of, opening_of};
 ghost use Rattle.event_finders.specs.Gains.{gained, SeesWithin};
 ghost use Rattle.event_finders.specs.UnitConditions.{Indexes, IsListedEvent};
-ghost use Rattle.event_finders.specs.UnitAnswers.{IsTried, Says, KeepsRecords, FindsMark, SoleLearns};
+ghost use Rattle.event_finders.specs.UnitAnswers.{IsTried, Says, KeepsRecords, FindsMark, SoleLearns, ChangesMarks, LeavesMarks};
 ghost use Rattle.event_finders.specs.declared.tried.Tried.TheVariants.{Idle};
 
 use crate::Tried;
@@ -26,7 +26,7 @@ use pop_stacks::Reader;
 /// that rules the event out or is refused; it claims none twice.
 ///
 /// - `Popped`: all variables were claimed, the event was poppable, and was popped; its unit and all
-///   whose event shares a variable with it are marked.
+///   whose event shares a variable with it are marked, and no other is.
 /// - `Cleared`: at this cursor the variable has another value. The unit has no mark, until the pop
 ///   of an event that shares a variable sets it again.
 /// - `Stuck`: all variables were claimed and have the event's values; this is the least of those at
@@ -52,6 +52,7 @@ pub fn try_unit(
 
     ensures answer { IsTried instance.now (view pass.old) (view pass.new) unit result }
     ensures mark { FindsMark (view pass.old) (view pass.new) unit result }
+    ensures marks { LeavesMarks instance.now (view pass.old) (view pass.new) unit result }
     ensures unmarked { (result ≡ Idle)
         ↔ In (mark_of (count_of board.now) unit, 0) (gained (view pass.old) (view pass.new)) }
     ensures sole { SoleLearns (opening_of board.now) (view pass.new) unit result }
@@ -99,6 +100,8 @@ fn try_event(
     ensures says { Says instance.now (view pass.old) (view pass.new) event.now.unit
         event.now.cube.now result }
     ensures mark { FindsMark (view pass.old) (view pass.new) event.now.unit result }
+    ensures marks { ChangesMarks instance.now (view pass.old) (view pass.new) event.now.unit
+        event.now.cube.now result }
     ensures records { KeepsRecords (view pass.old) (view pass.new) result }
     ensures sole { SoleLearns (opening_of board.now) (view pass.new) event.now.unit result }
 {

@@ -1,6 +1,6 @@
 -- What a closed board leaves is a legal log from its start, and suspects that are units and miss no poppable event.
 use Rattle.std.proofs.Common.{◌≡◌, ℕ, zero, suc, ◌<◌, ◌==◌, Bool, true, false, cond, List, [], ◌∷◌, ◌++◌, length, All, Option, Some, None, IfSome, refl, sym, ap, subst, ◌∙◌, arith}
-use Rattle.std.specs.Prelude.{slice_index, if◌then◌else◌}
+use Rattle.std.specs.Prelude.{if◌then◌else◌}
 use Rattle.std.proofs.lemmas.List.Elements.{All-append}
 use Rattle.pop_model.specs.Stacks.{StackTable, variables_of}
 use Rattle.pop_model.specs.Popping.{AreWithin}
@@ -11,9 +11,10 @@ use Rattle.pop_model.specs.Logs.{LogRecord, IsLegal, replay}
 use Rattle.pop_model.specs.Tickets.{AreNumbered}
 use Rattle.confluence_core.specs.Runs.{MissesNone}
 use Rattle.claim_words.specs.declared.closed.Closed.{Closed}
-use Rattle.claim_words.specs.Words.{mark_of, word_of, is_settled}
+use Rattle.claim_words.specs.Maps.{Pairs, times}
+use Rattle.claim_words.specs.Changes.{Change, mark_after}
 use Rattle.claim_words.specs.Openings.{is_listed, marks_in}
-use Rattle.claim_words.specs.Closing.{set_marks, unsettled}
+use Rattle.claim_words.specs.Closing.{set_after, others}
 use Rattle.claim_words.specs.TicketLogs.{log_of}
 use Rattle.claim_words.proofs.TicketsAreNumbered.{length-below}
 use Rattle.pop_workers.specs.Progressed.{HasProgressed}
@@ -37,29 +38,21 @@ one_more_or_none true n xs below = one_more n xs below
 one_more_or_none false n xs below = λ k d inside. let low = below k d inside in omega (arith, low)
 
 -- the units below n whose mark is set are below n
-marks_below : (ws : List ℕ) (c n : ℕ) → All (λ u. u < n) (set_marks ws c n)
-marks_below ws c zero = λ k d inside. absurd (omega (arith, inside))
-marks_below ws c (suc n) =
-    one_more_or_none (slice_index ws (mark_of c n) == 1) n (set_marks ws c n) (marks_below ws c n)
-
--- the same, whether n is left out
-none_or_one_more : (b : Bool) (n : ℕ) (xs : List ℕ) → All (λ x. x < n) xs
-    → All (λ x. x < suc n) (cond b xs (xs ++ n ∷ []))
-none_or_one_more true n xs below = λ k d inside. let low = below k d inside in omega (arith, low)
-none_or_one_more false n xs below = one_more n xs below
+marks_below : (cs : List Change) (n : ℕ) → All (λ u. u < n) (set_after cs n)
+marks_below cs zero = λ k d inside. absurd (omega (arith, inside))
+marks_below cs (suc n) = one_more_or_none (mark_after n cs == 1) n (set_after cs n) (marks_below cs n)
 
 -- the variables below n that are not settled are below n
-unset_below : (ws : List ℕ) (n : ℕ) → All (λ u. u < n) (unsettled ws n)
-unset_below ws zero = λ k d inside. absurd (omega (arith, inside))
-unset_below ws (suc n) =
-    none_or_one_more (is_settled (slice_index ws (word_of n))) n (unsettled ws n) (unset_below ws n)
+unset_below : (known : Pairs) (n : ℕ) → All (λ u. u < n) (others known n)
+unset_below known zero = λ k d inside. absurd (omega (arith, inside))
+unset_below known (suc n) = one_more_or_none (times n known == 0) n (others known n) (unset_below known n)
 
--- the suspects that words have are units
-suspects_known : (s : StackTable) (f : Family) (ws : List ℕ) → FamilyFits s f
-    → All (λ u. u < units_of f) (cond (is_listed f) (set_marks ws (variables_of s) (marks_in f)) (unsettled ws (variables_of s)))
-suspects_known s (Listed rows) ws fits = marks_below ws (variables_of s) (length rows)
-suspects_known s (Cycles heads) ws fits =
-    subst (λ n. All (λ u. u < n) (unsettled ws (variables_of s))) (sym fits.0) (unset_below ws (variables_of s))
+-- the suspects that a pass knows are units
+suspects_known : (s : StackTable) (f : Family) (cs : List Change) (known : Pairs) → FamilyFits s f
+    → All (λ u. u < units_of f) (cond (is_listed f) (set_after cs (marks_in f)) (others known (variables_of s)))
+suspects_known s (Listed rows) cs known fits = marks_below cs (length rows)
+suspects_known s (Cycles heads) cs known fits =
+    subst (λ n. All (λ u. u < n) (others known (variables_of s))) (sym fits.0) (unset_below known (variables_of s))
 
 module _ (i : Instance) (start : List ℕ) (keeps : Bool) (closed : Closed) (is : IsClosed i start keeps closed) where
   -- the tickets that are kept are numbered
@@ -73,15 +66,15 @@ module _ (i : Instance) (start : List ℕ) (keeps : Bool) (closed : Closed) (is 
   -- the suspects miss no poppable event
   pub suspects_miss_none : MissesNone i closed.cursors closed.suspects
   suspects_miss_none =
-      subst (λ (j : Instance). MissesNone j closed.cursors closed.suspects) is.instance is.leaves.2.missed
+      subst (λ (j : Instance). MissesNone j closed.cursors closed.suspects) is.instance is.leaves.missed
 
   -- the suspects are units
   pub suspects_are_known : IsInstance i → All (λ u. u < units_of i.family) closed.suspects
   suspects_are_known instance =
       let j : Instance = is.opening.instance.value in
       let whole : IsInstance j = subst IsInstance (sym is.instance) instance in
-      let known = subst (All (λ u. u < units_of j.family)) (sym is.leaves.2.suspects_are)
-      (suspects_known j.stacks j.family is.leaves.0 whole.fits) in
+      let known = subst (All (λ u. u < units_of j.family)) (sym is.leaves.suspects_are)
+      (suspects_known j.stacks j.family is.view.changes is.view.settled whole.fits) in
       subst (λ (x : Instance). All (λ u. u < units_of x.family) closed.suspects) is.instance known
 
   -- what was popped is a legal log, which is what the tickets are merged into

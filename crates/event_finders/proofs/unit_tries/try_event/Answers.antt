@@ -1,18 +1,20 @@
-use Rattle.std.proofs.Common.{arith, ℕ, List, [], ◌∷◌, ◌++◌, ap, sym, subst, ◌∙◌, ◌+◌, ◌≡◌, take, length}
+use Rattle.std.proofs.Common.{arith, ℕ, List, Option, Some, [], ◌∷◌, ◌++◌, ap, sym, subst, ◌∙◌, ◌+◌, ◌≡◌, take, length}
 use Rattle.std.proofs.lemmas.Option.{same_Some, slice_get_within}
 use Rattle.pop_model.specs.Popping.{Cube, variables}
+use Rattle.pop_model.specs.Instances.{Instance}
 use Rattle.claim_words.specs.declared.view.View.{View}
 use Rattle.claim_words.specs.declared.opening.Opening.{Opening}
 use Rattle.claim_words.specs.Maps.{In}
-use Rattle.claim_words.specs.Steps.{Drawn, marked_by, cleared_by, popped_by, record_held}
+use Rattle.claim_words.specs.Changes.{Change}
+use Rattle.claim_words.specs.Steps.{Drawn, marked_by, cleared_by, popped_by, record_held, sharers, sharing}
 use Rattle.claim_words.specs.Conditions.{RulesOut}
 use Rattle.claim_words.specs.Tells.{SoleKnows}
 use Rattle.claim_words.specs.Passes.{view, opening_of}
 use Rattle.claim_words.proofs.HeldLemmas.{variables-raise_all}
-use Rattle.event_finders.specs.OwedMarks.{owing, emptied}
+use Rattle.event_finders.specs.OwedMarks.{changing, owing, emptied, SetsJust}
 use Rattle.event_finders.specs.UnitAnswers.{RulesOutAt, IsRefused}
-use Rattle.event_finders.proofs.WordsOnce.{Started, take_is, entered_all, sees_once}
-use Rattle.event_finders.proofs.UnitEnds.{can_pop, differs_out, last_out, last_held, sticks_at, rules_out_at, is_refused, pops, differs_sole, last_sole, idle_sole}
+use Rattle.event_finders.proofs.WordsOnce.{Started, take_is, changes_all, changes_then, entered_all, sees_once}
+use Rattle.event_finders.proofs.UnitEnds.{can_pop, differs_out, last_out, last_held, sticks_at, rules_out_at, is_refused, pops, differs_sole, last_sole, idle_sole, idle_changes}
 use Rattle.event_finders.proofs.ListedEvents.{below_count, below_index}
 use Rattle.event_finders.proofs.unit_tries.try_event.Goals as goal
 
@@ -106,8 +108,10 @@ returns-in-Poppable-clause-seen c =
     let looks = c.in-Poppable.ensures.looks in
     let s : Started d (view c.reserve.new.pass) a e u cube (length cube) (length cube) =
     record { room = c.reserve.ensures.view; took = c.if-not-take.ensures.step; first = looks.0 } in
-    let to : f ≡ emptied (owing [] (popped_by e u cube c.pop-ticket.result)) =
-    c.release_first.ensures.view ∙ ap emptied (c.mark_sharers.ensures.view ∙ ap (owing []) c.pop-ticket.ensures.step) in
+    let cs : List Change = (view c.mark_sharers.new.pass).changes in
+    let to : f ≡ emptied (changing cs (owing [] (popped_by e u cube c.pop-ticket.result))) =
+    c.release_first.ensures.view ∙ ap emptied (c.mark_sharers.ensures.view
+    ∙ ap (λ (x : View). changing cs (owing [] x)) c.pop-ticket.ensures.step) in
     sees_once s f (ap (λ (x : View). x.seen) to) c.len-len.ensures.cube
     (below_count (opening_of c.args.board.now) c.args.instance.now d u cube c.requires.instance c.requires.pass.0.1
     c.requires.event)
@@ -123,8 +127,10 @@ returns-in-Poppable-clause-says c =
     let looks = c.in-Poppable.ensures.looks in
     let s : Started d (view c.reserve.new.pass) a e u cube (length cube) (length cube) =
     record { room = c.reserve.ensures.view; took = c.if-not-take.ensures.step; first = looks.0 } in
-    let to : f ≡ emptied (owing [] (popped_by e u cube c.pop-ticket.result)) =
-    c.release_first.ensures.view ∙ ap emptied (c.mark_sharers.ensures.view ∙ ap (owing []) c.pop-ticket.ensures.step) in
+    let cs : List Change = (view c.mark_sharers.new.pass).changes in
+    let to : f ≡ emptied (changing cs (owing [] (popped_by e u cube c.pop-ticket.result))) =
+    c.release_first.ensures.view ∙ ap emptied (c.mark_sharers.ensures.view
+    ∙ ap (λ (x : View). changing cs (owing [] x)) c.pop-ticket.ensures.step) in
     let n : ℕ = c.pop-ticket.result in
     let mine : e.mine ≡ d.mine = looks.0.same.mine ∙ ap (λ (x : View). x.mine) (take_is s) in
     pops c.args.instance.now d a e f cube (ap (λ (x : View). x.found) to)
@@ -135,7 +141,8 @@ returns-in-Poppable-clause-says c =
 pub returns-in-Poppable-clause-sole : goal.returns-in-Poppable-clause-sole
 returns-in-Poppable-clause-sole c =
     let f : View = view c.release_first.new.pass in
-    let to : f ≡ emptied (owing [] (view c.pop-ticket.new.pass)) =
+    let cs : List Change = (view c.mark_sharers.new.pass).changes in
+    let to : f ≡ emptied (changing cs (owing [] (view c.pop-ticket.new.pass))) =
     c.release_first.ensures.view ∙ ap emptied c.mark_sharers.ensures.view in
     subst SoleKnows (sym to) c.pop-ticket.ensures.sole
 
@@ -256,8 +263,8 @@ returns-in-Busy-clause-seen c =
     let looks = c.in-Busy.ensures.looks in
     let s : Started d (view c.reserve.new.pass) a e u cube (c.in-Busy.place + 1) c.in-Busy.place =
     record { room = c.reserve.ensures.view; took = c.if-not-take.ensures.step; first = looks.2 } in
-    let to : f ≡ emptied (marked_by e u) =
-    c.release_first-in-Busy.ensures.view ∙ ap emptied c.mark.ensures.step in
+    let to : f ≡ emptied (marked_by e u c.mark.ensures.step.0) =
+    c.release_first-in-Busy.ensures.view ∙ ap emptied c.mark.ensures.step.1 in
     sees_once s f (ap (λ (x : View). x.seen) to) c.len-len.ensures.cube
     (below_count (opening_of c.args.board.now) c.args.instance.now d u cube c.requires.instance c.requires.pass.0.1
     c.requires.event)
@@ -273,11 +280,99 @@ returns-in-Busy-clause-says c =
     let looks = c.in-Busy.ensures.looks in
     let s : Started d (view c.reserve.new.pass) a e u cube (c.in-Busy.place + 1) c.in-Busy.place =
     record { room = c.reserve.ensures.view; took = c.if-not-take.ensures.step; first = looks.2 } in
-    let to : f ≡ emptied (marked_by e u) =
-    c.release_first-in-Busy.ensures.view ∙ ap emptied c.mark.ensures.step in
+    let to : f ≡ emptied (marked_by e u c.mark.ensures.step.0) =
+    c.release_first-in-Busy.ensures.view ∙ ap emptied c.mark.ensures.step.1 in
     let p : ℕ × ℕ = c.pair-v-in-Busy.result in
     let same : looks.0 ≡ p = same_Some looks.0 p (sym looks.1 ∙ c.pair-v-in-Busy.ensures) in
     subst (λ (q : ℕ × ℕ). IsRefused d f cube q.0 c.in-Busy.word) same
     (is_refused c.args.instance.now d a e f cube (ap (λ (x : View). x.found) to)
     (entered_all s f (ap (λ (x : View). x.seen) to)) c.in-Busy.place c.in-Busy.word looks.0 looks.1 looks.3
     (λ sole. looks.4 (ap (λ (x : View). x.share) (take_is s) ∙ sole)))
+
+pub returns-then-not-take-clause-marks : goal.returns-then-not-take-clause-marks
+returns-then-not-take-clause-marks c =
+    idle_changes (view c.args.pass.now) (view c.reserve.new.pass) (view c.take.new.pass) c.args.event.now.unit
+    c.reserve.ensures.view c.if-not-take.ensures.step
+
+pub returns-in-Poppable-clause-marks : goal.returns-in-Poppable-clause-marks
+returns-in-Poppable-clause-marks c =
+    let k : Opening = opening_of c.args.board.now in
+    let d : View = view c.args.pass.now in
+    let a : View = view c.take.new.pass in
+    let e : View = view c.claim_unit.new.pass in
+    let m : View = view c.mark_sharers.new.pass in
+    let f : View = view c.release_first.new.pass in
+    let u : ℕ = c.args.event.now.unit in
+    let cube : Cube = c.args.event.now.cube.now in
+    let looks = c.in-Poppable.ensures.looks in
+    let s : Started d (view c.reserve.new.pass) a e u cube (length cube) (length cube) =
+    record { room = c.reserve.ensures.view; took = c.if-not-take.ensures.step; first = looks.0 } in
+    let step = c.pop-ticket.ensures.step in
+    let sets = c.mark_sharers.ensures.marks in
+    let owed : e.owed ≡ [] = looks.0.same.owed ∙ ap (λ (x : View). x.owed) (take_is s) ∙ c.requires.idle.2 in
+    let live : e.opening ≡ Some k =
+    looks.0.same.opening ∙ ap (λ (x : View). x.opening) (take_is s) ∙ c.requires.pass.0.1 in
+    let units : (view c.pop-ticket.new.pass).owed ≡ sharing c.args.instance.now.family cube =
+    ap (λ (x : View). x.owed) step ∙ ap (λ (l : List ℕ). l ++ sharers e.opening cube) owed
+    ∙ ap (λ (o : Option Opening). sharers o cube) live
+    ∙ ap (λ (i : Instance). sharing i.family cube) c.requires.instance in (
+      sets.0,
+      changes_then s f sets.0 (ap (λ (x : View). x.changes) c.release_first.ensures.view ∙ sets.1
+          ∙ ap (λ (x : View). x.changes ++ sets.0) step),
+      subst (λ (l : List ℕ). SetsJust l sets.0) units sets.2,
+    )
+
+pub returns-in-AtLast-clause-marks : goal.returns-in-AtLast-clause-marks
+returns-in-AtLast-clause-marks c =
+    let d : View = view c.args.pass.now in
+    let a : View = view c.take.new.pass in
+    let e : View = view c.claim_unit.new.pass in
+    let f : View = view c.release_first-in-AtLast.new.pass in
+    let u : ℕ = c.args.event.now.unit in
+    let cube : Cube = c.args.event.now.cube.now in
+    let s : Started d (view c.reserve.new.pass) a e u cube (length cube) (length cube) =
+    record {
+      room = c.reserve.ensures.view;
+      took = c.if-not-take.ensures.step;
+      first = c.in-AtLast.ensures.looks.0;
+    } in
+    let to : f ≡ emptied (cleared_by e u) =
+    c.release_first-in-AtLast.ensures.view ∙ ap emptied c.clear.ensures.step in
+    ap (λ (x : View). x.changes) to ∙ changes_all s
+
+pub returns-in-Differs-clause-marks : goal.returns-in-Differs-clause-marks
+returns-in-Differs-clause-marks c =
+    let d : View = view c.args.pass.now in
+    let a : View = view c.take.new.pass in
+    let e : View = view c.claim_unit.new.pass in
+    let f : View = view c.release_first-in-Differs.new.pass in
+    let u : ℕ = c.args.event.now.unit in
+    let cube : Cube = c.args.event.now.cube.now in
+    let s : Started d (view c.reserve.new.pass) a e u cube (c.in-Differs.place + 1) (c.in-Differs.place + 1) =
+    record {
+      room = c.reserve.ensures.view;
+      took = c.if-not-take.ensures.step;
+      first = c.in-Differs.ensures.looks.2;
+    } in
+    let to : f ≡ emptied (cleared_by e u) =
+    c.release_first-in-Differs.ensures.view ∙ ap emptied c.clear-in-Differs.ensures.step in
+    ap (λ (x : View). x.changes) to ∙ changes_all s
+
+pub returns-in-Busy-clause-marks : goal.returns-in-Busy-clause-marks
+returns-in-Busy-clause-marks c =
+    let d : View = view c.args.pass.now in
+    let a : View = view c.take.new.pass in
+    let e : View = view c.claim_unit.new.pass in
+    let f : View = view c.release_first-in-Busy.new.pass in
+    let u : ℕ = c.args.event.now.unit in
+    let cube : Cube = c.args.event.now.cube.now in
+    let s : Started d (view c.reserve.new.pass) a e u cube (c.in-Busy.place + 1) c.in-Busy.place =
+    record {
+      room = c.reserve.ensures.view;
+      took = c.if-not-take.ensures.step;
+      first = c.in-Busy.ensures.looks.2;
+    } in
+    let w : ℕ = c.mark.ensures.step.0 in
+    let to : f ≡ emptied (marked_by e u w) =
+    c.release_first-in-Busy.ensures.view ∙ ap emptied c.mark.ensures.step.1 in
+    (w, changes_then s f ((u, w, 1) ∷ []) (ap (λ (x : View). x.changes) to))

@@ -20,6 +20,18 @@ returns-clause-answer c =
       c.try_event.ensures.says,
     )
 
+pub returns-clause-marks : goal.returns-clause-marks
+returns-clause-marks c =
+    let rows : List (ℕ × Cube) = c.in-Listed.events in
+    let family : c.args.instance.now.family ≡ Listed rows = search rules in
+    let event = listed_event c.args.instance.now rows c.args.unit c.units-units.ensures.instance family
+    c.requires.known in (
+      c.cube.result.now,
+      subst (λ (x : Cube). IsEvent c.args.instance.now.family (record { unit = c.args.unit; cube = x }))
+          (sym c.cube.ensures) event.event,
+      c.try_event.ensures.marks,
+    )
+
 pub returns-clause-unmarked : goal.returns-clause-unmarked
 returns-clause-unmarked c =
     idle_exactly (view c.args.pass.now) (view c.try_event.new.pass) c.args.unit c.try_event.ensures.seen

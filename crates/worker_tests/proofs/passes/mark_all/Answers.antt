@@ -18,7 +18,7 @@ pub loop-unit-preserved : goal.loop-unit-preserved
 loop-unit-preserved c =
     let i = c.loop-unit.invariant in
     let u : ℕ = c.loop-unit.unit in
-    let to = c.mark.ensures.step in
+    let to = c.mark.ensures.step.1 in
     record {
       pass = search rules;
       taken = ap (λ (x : View). x.taken) to ∙ ap (taken_out u) i.taken;
