@@ -95,37 +95,64 @@ shape-exchange f frame rows shape c x suits sample =
           ];
     }
 
--- what the exchange of another sample leaves
+-- What the exchange of another sample leaves of rows, wherever the cursors are: rows with the same entries below these,
+-- at which the other sample is, so that no event occurs there. The exchange goes back, and the weights change as those
+-- of the samples.
+pub record Leaves (f : Frame) (w x c : List ℕ) (rows : Rows) : Type 0 where
+  pub shape : AreRows f.weights f.heights (exchange rows c x)
+  pub agree : AgreeBelow c (stacks_of f rows) (stacks_of f (exchange rows c x))
+  pub within : AreWithin (stacks_of f (exchange rows c x)) c
+  pub finished : IsFinished (over f (exchange rows c x)) c
+  pub entries : entries_under (exchange rows c x) c ≡ x
+  pub back : exchange (exchange rows c x) c w ≡ rows
+  pub weight : weight_of f.weights (exchange rows c x) * sample_weight f.weights w
+      ≡ weight_of f.weights rows * sample_weight f.weights x
+
+-- it leaves that at all cursors within the rows
+pub leaves_at : (f : Frame) → IsFrame f → (w x c : List ℕ) (rows : Rows) → AreRows f.weights f.heights rows
+    → SuitsEnd f rows c → entries_under rows c ≡ w → IsSampleOf f x → Leaves f w x c rows
+leaves_at f frame w x c rows shape end entries sample =
+    let new : Rows = exchange rows c x in
+    let count : length rows ≡ length f.weights = rows_count f frame rows shape in
+    let suits : Suits rows c x = suits_values f frame rows shape c x end sample.count in
+    record {
+      shape = shape-exchange f frame rows shape c x suits sample;
+      agree = agree_below f rows c x suits;
+      within = λ v below.
+          let v_in : v < length rows = omega (arith, below, count) in
+          let high = height-exchange rows c x suits v v_in in
+          let low = end.within v v_in in
+          omega (arith, high, low);
+      finished = finished-exchange f frame rows shape c x suits sample;
+      entries = entries-exchange rows c x suits;
+      back = subst (λ (u : List ℕ). exchange new c u ≡ rows) entries (exchange-back rows c x suits);
+      weight = subst
+          (λ (u : List ℕ). weight_of f.weights new * sample_weight f.weights u
+          ≡ weight_of f.weights rows * sample_weight f.weights x)
+          entries
+          (weight-exchange f.weights rows c x (sym count) suits);
+    }
+
+-- so it does where logs finish, and each such log finishes there after the exchange too
 pub exchange_leaves : (f : Frame) → IsFrame f → (w x c : List ℕ) (rows : Rows) → SamplesAt f w c rows → IsSampleOf f x
     → Exchanges f w x c rows
 exchange_leaves f frame w x c rows s sample =
     let i : Instance = over f rows in
     let new : Rows = exchange rows c x in
-    let count : length rows ≡ length f.weights = rows_count f frame rows s.shape in
-    let end : SuitsEnd f rows c = suits_end f frame rows s.shape c s.finishes in
-    let suits : Suits rows c x = suits_values f frame rows s.shape c x end sample.count in
-    let finished : IsFinished (over f new) c = finished-exchange f frame rows s.shape c x suits sample in
-    let within : AreWithin (stacks_of f new) c = λ v below.
-    let v_in : v < length rows = omega (arith, below, count) in
-    let high = height-exchange rows c x suits v v_in in
-    let low = end.within v v_in in
-    omega (arith, high, low) in
+    let left : Leaves f w x c rows =
+    leaves_at f frame w x c rows s.shape (suits_end f frame rows s.shape c s.finishes) s.entries sample in
     let same_log : (log : List LogRecord) → FinishesBy i log c → FinishesBy (over f new) log c = λ log by.
-    finishes_moved i (stacks_of f new) (fits_rows f.weights rows f.family frame.fits) log c by
-    (agree_below f rows c x suits) within finished in
+    finishes_moved i (stacks_of f new) (fits_rows f.weights rows f.family frame.fits) log c by left.agree left.within
+    left.finished in
     record {
       samples = record {
-        shape = shape-exchange f frame rows s.shape c x suits sample;
+        shape = left.shape;
         finishes = (s.finishes.0, same_log s.finishes.0 s.finishes.1);
-        entries = entries-exchange rows c x suits;
+        entries = left.entries;
       };
       same_log = same_log;
-      back = subst (λ (u : List ℕ). exchange new c u ≡ rows) s.entries (exchange-back rows c x suits);
-      weight = subst
-          (λ (u : List ℕ). weight_of f.weights new * sample_weight f.weights u
-          ≡ weight_of f.weights rows * sample_weight f.weights x)
-          s.entries
-          (weight-exchange f.weights rows c x (sym count) suits);
+      back = left.back;
+      weight = left.weight;
     }
 
 -- the law of the one-thread run: its log finishes after the exchange too

@@ -32,7 +32,7 @@ finishes_moved i t fits log c by agree within finished =
     }
 
 -- where no event occurs, the stuck list is empty
-none_stuck : (i : Instance) (c : List ℕ) → IsFinished i c → IsStuckList i c []
+pub none_stuck : (i : Instance) (c : List ℕ) → IsFinished i c → IsStuckList i c []
 none_stuck i c finished = record {
   rising = λ k h. absurd (omega (arith, h));
   exact = λ e. (λ (has : Contains [] e). absurd (omega (arith, has.1)), λ both. absurd (finished e both.0 both.1));

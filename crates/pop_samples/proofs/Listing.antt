@@ -22,7 +22,7 @@ use Rattle.pop_samples.proofs.Ending.{Ends, Found, found_listed, run_to_end}
 use Rattle.pop_samples.proofs.FoundCycles.{found_cycles}
 
 -- two lists are equal or not
-same_list : (xs ys : List ℕ) → (xs ≡ ys) ⊎ (xs ≢ ys)
+pub same_list : (xs ys : List ℕ) → (xs ≡ ys) ⊎ (xs ≢ ys)
 same_list [] [] = inl refl
 same_list [] (y ∷ ys) = inr (λ h. cc)
 same_list (x ∷ xs) [] = inr (λ h. cc)
@@ -71,21 +71,28 @@ samples_or_not f frame extremal find w sample rows shape =
           other (ap (entries_under rows) place ∙ s.1.entries))
     ]
 
+-- of all rows of a frame those can be kept that are of a kind, where it is found of each whether it is
+pub kept_rows : (f : Frame) → IsFrame f → (P : Rows → Type 0)
+    → ((rows : Rows) → P rows → AreRows f.weights f.heights rows)
+    → ((rows : Rows) → AreRows f.weights f.heights rows → P rows ⊎ (P rows → ⊥)) → (all : List Rows) × AreAll P all
+kept_rows f frame P shape each =
+    let every = all_rows f.weights f.heights frame.count in
+    let some : Kept P (all_rows_list f.weights f.heights) =
+    kept P (all_rows_list f.weights f.heights) every.differ (λ rows has. each rows ((every.exact rows).0 has)) in (
+      some.list,
+      record {
+        differ = some.differ;
+        exact = λ rows.
+            (λ has. (some.sound rows has).1, λ s. some.complete rows ((every.exact rows).1 (shape rows s)) s);
+      },
+    )
+
 -- of all rows those are kept that finish so
 listing : (f : Frame) → IsFrame f → IsExtremal f.family → ((rows : Rows) (c : List ℕ) → Found (over f rows) c)
     → (w : List ℕ)
     → IsSampleOf f w → (all : List Rows) × AreAll (Samples f w) all
 listing f frame extremal find w sample =
-    let every = all_rows f.weights f.heights frame.count in
-    let some : Kept (Samples f w) (all_rows_list f.weights f.heights) =
-    kept (Samples f w) (all_rows_list f.weights f.heights) every.differ
-    (λ rows has. samples_or_not f frame extremal find w sample rows ((every.exact rows).0 has)) in (
-      some.list,
-      record {
-        differ = some.differ;
-        exact = λ rows. (λ has. (some.sound rows has).1, λ s. some.complete rows ((every.exact rows).1 s.1.shape) s);
-      },
-    )
+    kept_rows f frame (Samples f w) (λ rows s. s.1.shape) (samples_or_not f frame extremal find w sample)
 
 -- of every family it is found whether an event is poppable
 found : (s : StackTable) (family : Family) → IsFamily family → (c : List ℕ)

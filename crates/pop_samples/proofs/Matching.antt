@@ -27,17 +27,17 @@ cons_differs {X} x xs each differ =
     AllPairs-cons (λ (a b : X). a ≢ b) x xs (λ k d h. each (get_or xs k d) (Contains-get_or xs k d h)) differ
 
 -- a list without one of its members
-record Without {X : Type 0} (f : X → ℕ) (ys : List X) (s : X) : Type 0 where
-  rest : List X
-  size : length ys ≡ suc (length rest)
-  total : sum_by f ys ≡ f s + sum_by f rest
-  differ : Differ rest
-  apart : (z : X) → Contains rest z → s ≢ z
-  there : (z : X) → Contains ys z → (s ≡ z) ⊎ Contains rest z
-  back : (z : X) → Contains rest z → Contains ys z
+pub record Without {X : Type 0} (f : X → ℕ) (ys : List X) (s : X) : Type 0 where
+  pub rest : List X
+  pub size : length ys ≡ suc (length rest)
+  pub total : sum_by f ys ≡ f s + sum_by f rest
+  pub differ : Differ rest
+  pub apart : (z : X) → Contains rest z → s ≢ z
+  pub there : (z : X) → Contains ys z → (s ≡ z) ⊎ Contains rest z
+  pub back : (z : X) → Contains rest z → Contains ys z
 
 -- it is there for each member
-without : {X : Type 0} → (f : X → ℕ) (ys : List X) (s : X) → Differ ys → Contains ys s → Without f ys s
+pub without : {X : Type 0} → (f : X → ℕ) (ys : List X) (s : X) → Differ ys → Contains ys s → Without f ys s
 without {X} f [] s differ has = absurd (omega (arith, has.1))
 without {X} f (y ∷ ys) s differ (zero, within, same) = record {
   rest = ys;

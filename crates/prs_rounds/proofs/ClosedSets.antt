@@ -22,17 +22,17 @@ use Rattle.prs_rounds.proofs.MarkedSteps.{with_cube}
 use Rattle.prs_rounds.proofs.StuckEvents.{occurs_test, test_occurs, occurs_tested}
 
 -- it holds or it doesn't
-abbrev IsDecided : Type 0 → Type 0
+abbrev pub IsDecided : Type 0 → Type 0
 IsDecided P = P ⊎ (P → ⊥)
 
 -- both hold, or one doesn't
-decide_both : (P Q : Type 0) → IsDecided P → IsDecided Q → IsDecided (P × Q)
+pub decide_both : (P Q : Type 0) → IsDecided P → IsDecided Q → IsDecided (P × Q)
 decide_both P Q (inl p) (inl q) = inl (p, q)
 decide_both P Q (inl p) (inr not_q) = inr (λ h. not_q h.1)
 decide_both P Q (inr not_p) q = inr (λ h. not_p h.0)
 
 -- some number below n is such, or none is
-some_below : (P : ℕ → Type 0) (n : ℕ) → ((k : ℕ) → k < n → IsDecided (P k))
+pub some_below : (P : ℕ → Type 0) (n : ℕ) → ((k : ℕ) → k < n → IsDecided (P k))
     → ((k : ℕ) × (k < n) × P k) ⊎ ((k : ℕ) → k < n → P k → ⊥)
 some_below P zero each = inr (λ k less holds. omega arith)
 some_below P (suc n) each = elim (each n (omega arith)) [
@@ -47,7 +47,7 @@ some_below P (suc n) each = elim (each n (omega arith)) [
 ]
 
 -- whether the cube names a variable
-decide_name : (e : Cube) (v : ℕ) → IsDecided (names e v ≡ true)
+pub decide_name : (e : Cube) (v : ℕ) → IsDecided (names e v ≡ true)
 decide_name e v = elim (cases_Bool (names e v)) [
   | inl is ↦ inl is
   | inr is_not ↦ inr (λ is. false≢true (sym is_not ∙ is))
@@ -63,7 +63,7 @@ some_pair P e each = elim (some_below (λ k. P (get_or e k (0, 0))) (length e) (
 ]
 
 -- whether two cubes share a variable
-decide_share : (e f : Cube) → IsDecided (Share e f)
+pub decide_share : (e f : Cube) → IsDecided (Share e f)
 decide_share e f = elim (some_pair (λ p. names f p.0 ≡ true) e (λ p. decide_name f p.0)) [
   | inl found ↦
       let y = named f found.0.0 found.2 in
@@ -102,9 +102,9 @@ decide_differs s c e f = elim (some_pair (λ p. (names f p.0 ≡ true) × (value
     ]
 
 -- which fate an event has after n steps
-record AreDecided (i : Instance) (c : List ℕ) (n : ℕ) (e : Event) : Type 0 where
-  joined : IsDecided (HasFate i c n Joined e)
-  excluded : IsDecided (HasFate i c n Excluded e)
+pub record AreDecided (i : Instance) (c : List ℕ) (n : ℕ) (e : Event) : Type 0 where
+  pub joined : IsDecided (HasFate i c n Joined e)
+  pub excluded : IsDecided (HasFate i c n Excluded e)
 
 module _ (s : StackTable) (rows : List (ℕ × Cube)) (c : List ℕ) where
   -- the instance of these events
@@ -112,7 +112,7 @@ module _ (s : StackTable) (rows : List (ℕ × Cube)) (c : List ℕ) where
   i = record { stacks = s; family = Listed rows }
 
   -- some event of the set is such, or none is
-  some_joined : (n : ℕ) (Q : Cube → Type 0) → ((f : Event) → IsEvent (Listed rows) f
+  pub some_joined : (n : ℕ) (Q : Cube → Type 0) → ((f : Event) → IsEvent (Listed rows) f
       → IsDecided (HasFate i c n Joined f))
       → ((f : Cube) → IsDecided (Q f)) → IsDecided ((f : Event) × HasFate i c n Joined f × Q f.cube)
   some_joined n Q decided each =
@@ -127,8 +127,8 @@ module _ (s : StackTable) (rows : List (ℕ × Cube)) (c : List ℕ) where
       ]
 
   -- an event without a fate that touches the set is looked at
-  looked : (n : ℕ) (e : Event) → IsEvent (Listed rows) e → (HasFate i c n Joined e → ⊥) → (HasFate i c n Excluded e → ⊥)
-      → Touches (HasFate i c n Joined) e → IsLookedAt i (HasFate i c n) e
+  pub looked : (n : ℕ) (e : Event) → IsEvent (Listed rows) e → (HasFate i c n Joined e → ⊥)
+      → (HasFate i c n Excluded e → ⊥) → Touches (HasFate i c n Joined) e → IsLookedAt i (HasFate i c n) e
   looked n e event not_joined not_excluded touches = record { event = event; free = free; touches = touches }
     where
       free : (fate : Fate) → HasFate i c n fate e → ⊥
@@ -153,7 +153,7 @@ module _ (s : StackTable) (rows : List (ℕ × Cube)) (c : List ℕ) where
 
   module _ (n : ℕ) (all : (e : Event) → IsEvent (Listed rows) e → AreDecided i c n e) where
     -- an event that is looked at gets a fate
-    fate_of : (e : Event) → IsLookedAt i (HasFate i c n) e
+    pub fate_of : (e : Event) → IsLookedAt i (HasFate i c n) e
         → HasFate i c (suc n) Joined e ⊎ HasFate i c (suc n) Excluded e
     fate_of e is = elim (some_joined n (DiffersAt s c e.cube) (λ f event. (all f event).joined)
         (decide_differs s c e.cube)) [
@@ -179,7 +179,7 @@ module _ (s : StackTable) (rows : List (ℕ × Cube)) (c : List ℕ) where
     ]
 
   -- which fate a listed event has is decided after any number of steps
-  decided : (n : ℕ) (e : Event) → IsEvent (Listed rows) e → AreDecided i c n e
+  pub decided : (n : ℕ) (e : Event) → IsEvent (Listed rows) e → AreDecided i c n e
   decided zero e event = record {
     joined = elim (cases_Bool (occurs_test s c e.cube)) [
       | inl is ↦ inl (record { event = event; occurs = test_occurs s c e.cube is })

@@ -13,6 +13,7 @@ use std::test::Fail;
 use std::thread::Threads;
 use test_instances::{EventRow, listed};
 
+mod counts;
 mod instances;
 
 // What is to come of an instance: the places of the events that occur at zeros, and of those of the

@@ -8,7 +8,7 @@ use Rattle.prs_rounds.specs.Rounds.{Rounds, IsRound}
 use Rattle.prs_rounds.specs.States.{IsAt, Turns}
 use Rattle.prs_rounds.proofs.ShownLemmas.{values_are_at}
 use Rattle.prs_rounds.proofs.RoundsLemmas.{rounds_more}
-use Rattle.prs_rounds.proofs.RoundRoom.{round_falls, rounds_fit, round_up}
+use Rattle.prs_rounds.proofs.RoundRoom.{round_falls, rounds_fit}
 use Rattle.prs_rounds.proofs.rounds.rounds_of.Goals as goal
 
 pub overflow_add-rounds : goal.overflow_add-rounds
@@ -31,7 +31,7 @@ rounds-smaller g c =
     let at = c.rounds.invariant.at in
     round_falls s rows old.cursors new.cursors old.values.items old.found.items c.count-events.ensures.events
     c.requires.fits at.count
-    at.starts some (round_up s rows old.cursors new.cursors turned.0) turned.0
+    at.starts some turned.0
 
 pub rounds-preserved : goal.rounds-preserved
 rounds-preserved g c =
@@ -46,7 +46,7 @@ rounds-preserved g c =
     let at = c.rounds.invariant.at in
     let falls = round_falls s rows old.cursors new.cursors old.values.items old.found.items
     c.count-events.ensures.events c.requires.fits at.count
-    at.starts some (round_up s rows old.cursors new.cursors turned.0) turned.0 in
+    at.starts some turned.0 in
     let next : suc n ≡ n + 1 = omega arith in
     let zeros : List ℕ = replicate (variables_of s) 0 in
     record {

@@ -1,0 +1,92 @@
+//! How many rows rounds finish with each assignment, where clauses clash.
+ghost use Rattle.std.specs.Prelude.{◌≡◌, length};
+ghost use Rattle.pop_model.specs.Stacks.{variables_of};
+ghost use Rattle.prs_rounds.specs.Units.{IsListed, IsIndexOf};
+
+use super::instances::index_of;
+use crate::compare::same;
+use pop_instance::{Index, Instance};
+use prs_rounds::run_rounds;
+use std::alloc::Global;
+use std::process::Abort;
+use std::test::Fail;
+use std::thread::Threads;
+use test_instances::{EventRow, listed};
+
+// Two clauses that share a variable and may be false together.
+static CLASHING: [EventRow; 2] = [(1, &[(0, 0), (1, 0)]), (2, &[(1, 0), (2, 0)])];
+
+// How many of all rows of three entries rounds finish with each assignment, whose bits are its
+// values, that of variable 0 lowest: as many with each that satisfies both clauses, and none with
+// another. They were counted by another program.
+static COUNTS: [u64; 8] = [0, 0, 97, 97, 0, 97, 97, 97];
+
+// The instance of these rows: entry k of variable v is bit 3v + k.
+fn instance(alloc: Global, rows: u32) -> Result<Instance, Fail> {
+    let first = [rows % 2, rows / 2 % 2, rows / 4 % 2];
+    let second = [rows / 8 % 2, rows / 16 % 2, rows / 32 % 2];
+    let third = [rows / 64 % 2, rows / 128 % 2, rows / 256 % 2];
+    listed(alloc, &[&first, &second, &third], &CLASHING)
+}
+
+// The assignment as a number.
+fn number_of(rt: &impl Abort, values: &[u32]) -> u32 {
+    assert!(rt; values.len() == 3);
+    let (a, b, c) = (values[0], values[1], values[2]);
+    assert!(rt; a < 2 && b < 2 && c < 2);
+    a + 2 * b + 4 * c
+}
+
+// The assignment at the end of rounds; none where they are exhausted.
+fn end_of<R: Threads + Abort + Sync>(
+    rt: &R,
+    alloc: Global,
+    instance: &Instance,
+    index: &Index,
+) -> Result<Option<u32>, Fail>
+    requires index { IsIndexOf instance.now.family index.now }
+    requires variables { length index.now ≡ variables_of instance.now.stacks }
+{
+    let end = run_rounds(rt, alloc, instance, index)?;
+    if end.short.is_some() {
+        return Ok(None);
+    }
+    Ok(Some(number_of(rt, &end.values)))
+}
+
+// The same of these rows.
+fn sample_of<R: Threads + Abort + Sync>(
+    rt: &R,
+    alloc: Global,
+    rows: u32,
+) -> Result<Option<u32>, Fail> {
+    let instance = instance(alloc, rows)?;
+    let index = index_of(rt, alloc, &instance)?;
+    end_of(rt, alloc, &instance, &index)
+}
+
+// Compares how often an assignment is among these.
+fn is_among(rt: &impl Abort, all: &[u32], sample: u32, want: u64) {
+    let mut count: u64 = 0;
+    for other in all {
+        if *other == sample {
+            count = count.checked_add(1).expect(rt, "a sum of 64 bits");
+        }
+    }
+    same(rt, count, want, "rows of an assignment");
+}
+
+#[test]
+fn as_many_rows_end_with_each_sample_where_clauses_clash(rt: HostRuntime) -> Result<(), Fail> {
+    let alloc = rt.alloc();
+    let mut all = Vec::new(alloc);
+    for rows in 0..512 {
+        if let Some(sample) = sample_of(&rt, alloc, rows)? {
+            all.push(sample)?;
+        }
+    }
+    for sample in 0..8 {
+        is_among(&rt, &all, sample, COUNTS[sample as usize]);
+    }
+    Ok(())
+}
