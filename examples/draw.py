@@ -10,6 +10,7 @@ edge tells how far it is from the root.
 
 from __future__ import annotations
 
+import argparse
 import math
 import sys
 from html import escape
@@ -160,12 +161,14 @@ def circle(graph: Graph, arrows: list[Arrow]) -> Iterator[str]:
 
 
 def main() -> None:
-    if len(sys.argv) != 3:
-        sys.exit("usage: draw.py GRAPH TREE > SVG")
-    with open(sys.argv[1], encoding="utf-8") as file:
+    parser = argparse.ArgumentParser(description="Draws a spanning tree of a graph as an SVG on standard output.")
+    parser.add_argument("graph", metavar="GRAPH", help="the graph text")
+    parser.add_argument("tree", metavar="TREE", help="what popsample tree printed of it")
+    asked = parser.parse_args()
+    with open(asked.graph, encoding="utf-8") as file:
         graph = read_graph(file)
     try:
-        arrows = read_tree(graph, sys.argv[2])
+        arrows = read_tree(graph, asked.tree)
     except ValueError as error:
         sys.exit(f"draw.py: {error}")
     side = side_of(graph)

@@ -9,6 +9,7 @@ which has the number of the entry that was used; behind it stands the number of 
 
 from __future__ import annotations
 
+import argparse
 import colorsys
 import sys
 from typing import Iterable, Iterator, NamedTuple
@@ -100,10 +101,11 @@ def drawing(pops: list[Pop]) -> str:
 
 
 def main() -> None:
-    if len(sys.argv) != 2:
-        sys.exit("usage: draw_layers.py PRINTED > SVG")
+    parser = argparse.ArgumentParser(description="Draws the layers of a log as an SVG on standard output.")
+    parser.add_argument("printed", metavar="PRINTED", help="what popsample printed with --log on")
+    asked = parser.parse_args()
     try:
-        with open(sys.argv[1], encoding="utf-8") as file:
+        with open(asked.printed, encoding="utf-8") as file:
             print(drawing(read_log(file)))
     except ValueError as error:
         sys.exit(f"draw_layers.py: {error}")

@@ -10,6 +10,7 @@ each call draws another tree, and tells its key in the picture's title. It needs
 
 from __future__ import annotations
 
+import argparse
 import sys
 
 import networkx
@@ -30,11 +31,12 @@ def drawing(graph: networkx.Graph, tree: popsample.Tree) -> str:
 
 
 def main() -> None:
-    if len(sys.argv) > 2:
-        sys.exit("usage: draw_networkx.py [KEY] > SVG")
+    parser = argparse.ArgumentParser(description="Draws a random tree of the families of Florence as an SVG.")
+    parser.add_argument("key", metavar="KEY", nargs="?", help="64 hexadecimal digits; one is drawn where it is left out")
+    key = parser.parse_args().key
     graph = networkx.florentine_families_graph()
     try:
-        tree = popsample.spanning_tree(graph, root="Medici", key=sys.argv[1] if len(sys.argv) == 2 else None)
+        tree = popsample.spanning_tree(graph, root="Medici", key=key)
     except popsample.Refusal as error:
         sys.exit(f"draw_networkx.py: {error}")
     print(drawing(graph, tree))

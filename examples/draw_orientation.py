@@ -9,6 +9,7 @@ colour of an arrow tells where it points.
 
 from __future__ import annotations
 
+import argparse
 import math
 import sys
 from typing import Iterable, Iterator
@@ -67,12 +68,14 @@ def drawing(graph: Graph, arrows: list[Arrow]) -> str:
 
 
 def main() -> None:
-    if len(sys.argv) != 3:
-        sys.exit("usage: draw_orientation.py GRAPH ORIENTATION > SVG")
-    with open(sys.argv[1], encoding="utf-8") as file:
+    parser = argparse.ArgumentParser(description="Draws an orientation of a graph as an SVG on standard output.")
+    parser.add_argument("graph", metavar="GRAPH", help="the graph text")
+    parser.add_argument("orientation", metavar="ORIENTATION", help="what popsample orient printed of it")
+    asked = parser.parse_args()
+    with open(asked.graph, encoding="utf-8") as file:
         graph = read_graph(file)
     try:
-        with open(sys.argv[2], encoding="utf-8") as file:
+        with open(asked.orientation, encoding="utf-8") as file:
             arrows = read_arrows(file)
     except ValueError as error:
         sys.exit(f"draw_orientation.py: {error}")

@@ -15,6 +15,7 @@ list again: for each arrow its tail and its head.
 
 from __future__ import annotations
 
+import argparse
 import ast
 import sys
 from typing import Iterable, NamedTuple
@@ -89,12 +90,13 @@ def named_arrows(graph: Iterable[str], sample: Iterable[str]) -> str:
 
 
 def main() -> None:
-    words = sys.argv[1:]
-    if len(words) not in (1, 2) or (len(words) == 2) != (words[0] == "--back"):
-        sys.exit("usage: from_edges.py EDGES > GRAPH, or from_edges.py --back GRAPH < SAMPLE")
+    parser = argparse.ArgumentParser(description="Makes a graph text of an edge list.")
+    parser.add_argument("file", metavar="EDGES", help="the edge list, or behind --back the graph text")
+    parser.add_argument("--back", action="store_true", help="read a sample of the graph, and write its arrows by names")
+    asked = parser.parse_args()
     try:
-        with open(words[-1], encoding="utf-8") as file:
-            text = named_arrows(file, sys.stdin) if len(words) == 2 else graph_text(read_edges(file))
+        with open(asked.file, encoding="utf-8") as file:
+            text = named_arrows(file, sys.stdin) if asked.back else graph_text(read_edges(file))
     except ValueError as error:
         sys.exit(f"from_edges.py: {error}")
     sys.stdout.write(text)

@@ -6,7 +6,7 @@
 
 from __future__ import annotations
 
-import sys
+import argparse
 from typing import Iterator
 
 
@@ -23,9 +23,9 @@ def grid_edges(side: int) -> Iterator[tuple[int, int]]:
 
 
 def main() -> None:
-    if len(sys.argv) != 2 or not sys.argv[1].isdecimal():
-        sys.exit("usage: grid.py SIDE > GRAPH")
-    side = int(sys.argv[1])
+    parser = argparse.ArgumentParser(description="Writes a square grid as a graph text.")
+    parser.add_argument("side", type=int, metavar="SIDE", help="the number of rows, and of columns")
+    side = parser.parse_args().side
     edges = list(grid_edges(side))
     print(f"c A grid of {side} rows and {side} columns.")
     print(f"p edge {side * side} {len(edges)}")

@@ -1,0 +1,26 @@
+"""What the scripts that call popsample share: the options of a call, and the call."""
+
+from __future__ import annotations
+
+import argparse
+import secrets
+import subprocess
+import sys
+
+
+def caller(description: str) -> argparse.ArgumentParser:
+    """A parser of what scripts are asked that make many samples: how many, under which key, and by which program."""
+    parser = argparse.ArgumentParser(description=description)
+    parser.add_argument("--samples", type=int, default=100, metavar="N", help="how many are drawn (100)")
+    parser.add_argument("--key", default=secrets.token_hex(32), metavar="DIGITS", help="the key (one of chance)")
+    parser.add_argument("--program", default="popsample", metavar="PATH", help="the program (popsample)")
+    parser.add_argument("--svg", metavar="FILE", help="where to draw what was found (nowhere)")
+    return parser
+
+
+def printed_by(program: str, words: list[str], text: str) -> str:
+    """What the program prints. Ends with its first line where it isn't a sample or a batch of samples."""
+    ran = subprocess.run([program, *words], input=text, stdout=subprocess.PIPE, text=True, check=False)
+    if ran.returncode:
+        sys.exit(f"popsample answers {ran.stdout.splitlines()[:1]}, with status {ran.returncode}")
+    return ran.stdout
