@@ -2,10 +2,10 @@
 """Judges what popsample printed, from the definitions, and shares nothing with it.
 
     popsample tree < maze.col > maze.tree
-    python3 verify.py maze.tree $? tree < maze.col
+    python3 checker/verify.py maze.tree $? tree < maze.col
 
 The words are the file with what was printed, the status, and the command words; the input is standard
-input. `python3 verify.py --examples` judges the examples of this folder. One line is printed: `agrees`, or
+input. `python3 checker/verify.py --examples` judges the cases of examples. One line is printed: `agrees`, or
 what differs first. The status is 0 where the answer is right, 1 where it isn't, and 2 where the call is
 wrong.
 """
@@ -28,7 +28,7 @@ def judge_examples() -> str:
         try:
             judge(example.printed, example.status, example.words, example.text)
         except Difference as difference:
-            raise ValueError(f"{example.name}.out, {difference}") from difference
+            raise ValueError(f"{example.name}.case, {difference}") from difference
     return f"agrees: {count} examples"
 
 

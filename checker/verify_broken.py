@@ -1,7 +1,7 @@
 #!/usr/bin/env python3
 """Runs a built program on broken certificates, and judges each answer by the checker.
 
-    python3 verify_broken.py PROGRAM
+    python3 checker/verify_broken.py PROGRAM
 
 They are the fronts of a certificate of one pop, and that certificate with one bit changed, each of which is replayed and
 resumed. One line is printed: how many answers of each status agree; else the first that doesn't, with its certificate.
@@ -9,6 +9,7 @@ resumed. One line is printed: how many answers of each status agree; else the fi
 
 from __future__ import annotations
 
+import argparse
 import sys
 from collections import Counter
 from typing import Iterator
@@ -43,11 +44,11 @@ def judge_broken(program: str) -> str:
 
 def main() -> int:
     """Runs the call, and tells its status."""
-    if len(sys.argv) != 2:
-        print("usage: verify_broken.py PROGRAM", file=sys.stderr)
-        return 2
+    parser = argparse.ArgumentParser(description="Judges the answers of a built program to broken certificates.")
+    parser.add_argument("program", metavar="PROGRAM", help="the built program")
+    asked = parser.parse_args()
     try:
-        print(judge_broken(sys.argv[1]))
+        print(judge_broken(asked.program))
     except ValueError as error:
         print(error)
         return 1

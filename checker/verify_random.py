@@ -1,7 +1,7 @@
 #!/usr/bin/env python3
 """Runs a built program on small random instances of all commands, and judges each answer by the checker.
 
-    python3 verify_random.py PROGRAM [COUNT [SEED]]
+    python3 checker/verify_random.py PROGRAM [COUNT [SEED]]
 
 Each certificate among the answers is replayed, and resumed by several crews, as it is and changed. One line is printed:
 how many answers of each status agree; else the first that doesn't, with its words and its input.
@@ -9,6 +9,7 @@ how many answers of each status agree; else the first that doesn't, with its wor
 
 from __future__ import annotations
 
+import argparse
 import subprocess
 import sys
 from collections import Counter
@@ -88,13 +89,13 @@ def in_words(statuses: Counter[int]) -> str:
 
 def main() -> int:
     """Runs the call, and tells its status."""
-    arguments = sys.argv[1:]
-    if not 1 <= len(arguments) <= 3 or not all(word.isdecimal() for word in arguments[1:]):
-        print("usage: verify_random.py PROGRAM [COUNT [SEED]]", file=sys.stderr)
-        return 2
-    count, seed = [int(word) for word in arguments[1:]] + [300, 1][len(arguments) - 1:]
+    parser = argparse.ArgumentParser(description="Judges the answers of a built program to random words and texts.")
+    parser.add_argument("program", metavar="PROGRAM", help="the built program")
+    parser.add_argument("count", metavar="COUNT", type=int, nargs="?", default=300, help="how many instances (300)")
+    parser.add_argument("seed", metavar="SEED", type=int, nargs="?", default=1, help="by which they are drawn (1)")
+    asked = parser.parse_args()
     try:
-        print(judge_cases(arguments[0], count, seed))
+        print(judge_cases(asked.program, asked.count, asked.seed))
     except ValueError as error:
         print(error)
         return 1

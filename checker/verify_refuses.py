@@ -1,8 +1,8 @@
 #!/usr/bin/env python3
-"""Sees that the checker accepts all examples, and what was worked by hand of certificates, and refuses false runs, and
-each example with a number, a line or the status changed.
+"""Sees that the checker accepts all cases of examples, and what was worked by hand of certificates, and refuses false runs, and
+each case with a number, a line or the status changed.
 
-    python3 verify_refuses.py
+    python3 checker/verify_refuses.py
 
 One line is printed: how many outputs agree, and how many changed ones are refused; else the first that is
 judged wrong.
