@@ -22,3 +22,5 @@ mod Naming
 pub mod ListedEvents
 -- Values: those of the first variables, as they become more
 mod FirstValuesLemmas
+-- Worked values
+mod Vectors

@@ -167,6 +167,3 @@ pub(crate) fn raise(entries: &mut [u32], cube: &Cube)
         entries[v as usize] += 1;
     }
 }
-
-#[cfg(test)]
-mod tests;

@@ -24,6 +24,3 @@ pub use family::Family;
 pub use index::Index;
 pub use instance::Instance;
 pub use values::Values;
-
-#[cfg(test)]
-mod tables;

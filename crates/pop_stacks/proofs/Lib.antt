@@ -11,3 +11,5 @@ mod PlaneLemmas
 mod KeptLemmas
 -- The law: the value is the least whose weights exceed the scaled number
 pub mod ValueIsLeast
+-- Worked values
+mod Vectors

@@ -69,26 +69,3 @@ impl KeyStream {
         (refill.words[place], refill.words[place + 1])
     }
 }
-
-#[cfg(test)]
-mod tests {
-    use super::*;
-
-    // RFC 8439, A.1, vectors 1 and 2: the key of zeros, stream 0, blocks 0 and 1.
-    const WORDS: [u32; 32] = [
-        0xade0b876, 0x903df1a0, 0xe56a5d40, 0x28bd8653, 0xb819d2bd, 0x1aed8da0, 0xccef36a8,
-        0xc70d778b, 0x7c5941da, 0x8d485751, 0x3fe02477, 0x374ad8b8, 0xf4b8436a, 0x1ca11815,
-        0x69b687c3, 0x8665eeb2, 0xbee7079f, 0x7a385155, 0x7c97ba98, 0x0d082d73, 0xa0290fcb,
-        0x6965e348, 0x3e53c612, 0xed7aee32, 0x7621b729, 0x434ee69c, 0xb03371d5, 0xd539d874,
-        0x281fed31, 0x45fb0a51, 0x1f0ae1ac, 0x6f4d794b,
-    ];
-
-    #[test]
-    fn the_words_are_those_of_the_standard(rt: HostRuntime) {
-        let mut stream = KeyStream::new([0; 32]);
-        for k in 0..16 {
-            let words = (WORDS[2 * k], WORDS[2 * k + 1]);
-            assert_eq!(rt; stream.words(0, k as u32), words, "at entry {k}");
-        }
-    }
-}

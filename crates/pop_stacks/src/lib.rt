@@ -21,8 +21,6 @@ mod stack_fault;
 mod stack_spec;
 mod stacks;
 mod sums;
-#[cfg(test)]
-mod tables;
 mod weights;
 
 pub use laws::least_value;

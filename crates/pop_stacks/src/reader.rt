@@ -76,6 +76,3 @@ impl Reader {
         stacks.value(&mut self.stream, &mut self.kept, v, k)
     }
 }
-
-#[cfg(test)]
-mod tests;

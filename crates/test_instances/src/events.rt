@@ -41,8 +41,8 @@ pub fn family(alloc: Global, rows: Vec<(u32, Cube)>) -> Result<Family, Fail> {
     Ok(Family::Listed(Events::gather(alloc, rows)?))
 }
 
-/// The events of these numbers and pairs.
-pub(crate) fn events(alloc: Global, table: &[EventRow]) -> Result<Vec<(u32, Cube)>, Fail> {
+/// The rows of events with these numbers and pairs.
+pub fn event_rows(alloc: Global, table: &[EventRow]) -> Result<Vec<(u32, Cube)>, Fail> {
     let mut rows = Vec::new(alloc);
     for (number, pairs) in table {
         rows.push((*number, cube(alloc, pairs)?))?;

@@ -1,4 +1,4 @@
-use crate::events::{EventRow, events, family};
+use crate::events::{EventRow, event_rows, family};
 use crate::given::stacks;
 use pop_instance::{Arrows, Family, Instance};
 use pop_stacks::Stacks;
@@ -16,7 +16,7 @@ pub fn over(stacks: Stacks, family: Family) -> Result<Instance, Fail> {
 /// The instance of these rows of entries and the events of these numbers and pairs, of which the
 /// numbers rise.
 pub fn listed(alloc: Global, rows: &[&[u32]], table: &[EventRow]) -> Result<Instance, Fail> {
-    let events = events(alloc, table)?;
+    let events = event_rows(alloc, table)?;
     let family = family(alloc, events)?;
     over(stacks(alloc, rows)?, family)
 }

@@ -6,6 +6,6 @@ mod events;
 mod given;
 mod instances;
 
-pub use events::{EventRow, cube, family};
+pub use events::{EventRow, cube, event_rows, family};
 pub use given::{keyed, stacks};
 pub use instances::{cycles, listed, over};

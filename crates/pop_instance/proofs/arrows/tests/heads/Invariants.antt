@@ -1,6 +1,0 @@
-use Rattle.std.proofs.Common.{◌<◌, ◌^◌, length, All}
-use Rattle.pop_instance.proofs.arrows.tests.heads.Given as goal
-
--- the rows so far are short
-abbrev pub invariant-loop-row : goal.invariant-loop-row
-invariant-loop-row g l = All (λ row. length row.items < 2 ^ 31) l.rows.items

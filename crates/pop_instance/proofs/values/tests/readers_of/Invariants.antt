@@ -1,7 +1,0 @@
-use Rattle.std.proofs.Common.{◌<◌, length, All}
-use Rattle.pop_stacks.specs.Readers.{Belongs}
-use Rattle.pop_instance.proofs.values.tests.readers_of.Given as goal
-
--- there is a reader, and each is one of the stacks
-abbrev pub invariant-loop : goal.invariant-loop
-invariant-loop l = (0 < length l.readers.items) × All (Belongs l.stacks) l.readers.items

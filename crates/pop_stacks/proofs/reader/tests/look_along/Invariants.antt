@@ -1,5 +1,0 @@
-use Rattle.pop_stacks.specs.Readers.{Belongs}
-use Rattle.pop_stacks.proofs.reader.tests.look_along.Given as goal
-
-abbrev pub invariant-loop-k : goal.invariant-loop-k
-invariant-loop-k g l = Belongs l.stacks l.reader

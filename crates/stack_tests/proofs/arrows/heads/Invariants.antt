@@ -1,0 +1,6 @@
+use Rattle.std.proofs.Common.{◌<◌, ◌^◌, length, All}
+use Rattle.stack_tests.proofs.arrows.heads.Given as goal
+
+-- the rows so far are short
+abbrev pub invariant-loop-row : goal.invariant-loop-row
+invariant-loop-row g l = All (λ row. length row.items < 2 ^ 31) l.rows.items

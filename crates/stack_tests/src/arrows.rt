@@ -1,0 +1,102 @@
+//! Arrows, in one array and in lists.
+ghost use Rattle.std.specs.Prelude.{◌<◌, ◌^◌, length, All, IfOk};
+ghost use Rattle.pop_instance.specs.Arrows.{heads_of};
+
+use pop_instance::Arrows;
+use pop_rows::RowList;
+use std::alloc::Global;
+use std::process::Abort;
+use std::test::Fail;
+
+// Rows of numbers in one array.
+fn numbers(rt: &impl Abort, alloc: Global, table: &[&[u32]]) -> Result<RowList, Fail>
+    ensures short { IfOk result (λ rows. length rows < 2 ^ 31) }
+    ensures short_rows { IfOk result (All (λ row. length row < 2 ^ 31)) }
+{
+    let mut rows = RowList::with_room(alloc, 3, 8)?;
+    for row in table {
+        assert!(rt; row.len() < 9);
+        rows.push_row(row)?;
+    }
+    assert!(rt; rows.count() < 9);
+    Ok(rows)
+}
+
+// Rows of heads in an array each.
+fn heads(
+    rt: &impl Abort,
+    alloc: Global,
+    table: &[&[Option<u32>]],
+) -> Result<Vec<Vec<Option<u32>>>, Fail>
+    ensures short { IfOk result (λ rows. length rows.items < 2 ^ 31) }
+    ensures short_rows { IfOk result (λ rows.
+        All (λ row. length row < 2 ^ 31) (heads_of rows.items)) }
+{
+    let mut rows = Vec::new(alloc);
+    for row in table {
+        assert!(rt; row.len() < 9);
+        rows.push(Vec::from_slice(alloc, row)?)?;
+    }
+    assert!(rt; rows.len() < 9);
+    Ok(rows)
+}
+
+// Compares where the slots of a variable lead.
+fn leads(rt: &impl Abort, arrows: &Arrows, v: u32, want: &[Option<u32>])
+    requires { v < length arrows.now }
+{
+    assert_eq!(rt; arrows.slots(v) as usize, want.len());
+    for slot in 0..arrows.slots(v) {
+        assert_eq!(rt;
+            arrows.head(v, slot),
+            want[slot as usize],
+            "slot {slot} of variable {v}"
+        );
+    }
+}
+
+// The case of the test below: variable 0 leads to the root and to variable 1.
+static HEADS: [&[Option<u32>]; 3] = [&[None, Some(1)], &[Some(2)], &[Some(0), Some(0), None]];
+
+// Compares arrows with those of the case.
+fn is_worked_case(rt: &impl Abort, arrows: &Arrows) {
+    assert!(rt; arrows.count() == 3);
+    for v in 0..3 {
+        leads(rt, arrows, v, HEADS[v as usize]);
+    }
+}
+
+// Worked by hand: of three variables, number 3 is the root.
+#[test]
+fn arrows_in_one_array_answer_like_lists(rt: HostRuntime) -> Result<(), Fail> {
+    let alloc = rt.alloc();
+    let flat = Arrows::flat(numbers(&rt, alloc, &[&[3, 1], &[2], &[0, 0, 3]])?);
+    is_worked_case(&rt, &flat.expect(&rt, "numbers up to 3"));
+    let lists = Arrows::new(heads(&rt, alloc, &HEADS)?);
+    is_worked_case(&rt, &lists.expect(&rt, "variables below 3"));
+    Ok(())
+}
+
+// Rows without a slot of a variable, and with a number past the root.
+static BAD_NUMBERS: [&[&[u32]]; 2] = [&[&[3, 1], &[], &[0, 0, 3]], &[&[3, 1], &[2], &[0, 4, 3]]];
+
+// Rows without a slot of a variable, and with a head past the last variable.
+static BAD_HEADS: [&[&[Option<u32>]]; 2] = [&[&[Some(0)], &[]], &[&[Some(1), None]]];
+
+#[test]
+fn no_slot_and_a_number_past_the_root_are_refused(rt: HostRuntime) -> Result<(), Fail> {
+    for table in BAD_NUMBERS.iter() {
+        let arrows = Arrows::flat(numbers(&rt, rt.alloc(), table)?);
+        assert!(&rt; arrows.is_none());
+    }
+    Ok(())
+}
+
+#[test]
+fn no_slot_and_a_head_past_the_last_variable_are_refused(rt: HostRuntime) -> Result<(), Fail> {
+    for table in BAD_HEADS.iter() {
+        let arrows = Arrows::new(heads(&rt, rt.alloc(), table)?);
+        assert!(&rt; arrows.is_none());
+    }
+    Ok(())
+}

@@ -1,0 +1,53 @@
+//! The words of the key stream, as entries show them.
+use crate::readers::look;
+use crate::tables::weights;
+use pop_stacks::{Reader, StackSpec, Stacks};
+use std::alloc::Global;
+use std::process::Abort;
+use std::test::Fail;
+
+// RFC 8439, A.1, vectors 1 and 2: the key of zeros, stream 0, blocks 0 and 1. Of each entry the low
+// word stands first.
+static WORDS: [(u32, u32); 16] = [
+    (0xade0b876, 0x903df1a0),
+    (0xe56a5d40, 0x28bd8653),
+    (0xb819d2bd, 0x1aed8da0),
+    (0xccef36a8, 0xc70d778b),
+    (0x7c5941da, 0x8d485751),
+    (0x3fe02477, 0x374ad8b8),
+    (0xf4b8436a, 0x1ca11815),
+    (0x69b687c3, 0x8665eeb2),
+    (0xbee7079f, 0x7a385155),
+    (0x7c97ba98, 0x0d082d73),
+    (0xa0290fcb, 0x6965e348),
+    (0x3e53c612, 0xed7aee32),
+    (0x7621b729, 0x434ee69c),
+    (0xb03371d5, 0xd539d874),
+    (0x281fed31, 0x45fb0a51),
+    (0x1f0ae1ac, 0x6f4d794b),
+];
+
+// Compares entry k of variable 0 under the key of zeros and two weights, whose sum is the greatest
+// that there is, 2^32 - 1.
+fn is_value(rt: &impl Abort, alloc: Global, k: u32, first: u32, value: u32) -> Result<(), Fail> {
+    let weights = weights(rt, alloc, &[&[first, u32::MAX - first]])?;
+    let stacks = Stacks::new(StackSpec::Key([0; 32]), weights, 64)?;
+    let mut reader = Reader::new(&stacks);
+    look(rt, &stacks, &mut reader, 0, k, value);
+    Ok(())
+}
+
+// What comes of the two words of an entry, scaled by that sum, by hand: the high word, or one less
+// where the low word isn't above it. With a first weight of as much the value is the second one, and
+// with one more the first.
+#[test]
+fn the_words_are_those_of_the_standard(rt: HostRuntime) -> Result<(), Fail> {
+    let alloc = rt.alloc();
+    for (k, (low, high)) in WORDS.iter().enumerate() {
+        let scaled = high.saturating_sub((low <= high) as u32);
+        assert!(&rt; scaled < u32::MAX);
+        is_value(&rt, alloc, k as u32, scaled, 1)?;
+        is_value(&rt, alloc, k as u32, scaled + 1, 0)?;
+    }
+    Ok(())
+}
