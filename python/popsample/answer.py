@@ -2,18 +2,24 @@
 
 from __future__ import annotations
 
-import re
-from collections.abc import Iterator, Sequence
+from collections.abc import Iterable, Iterator, Sequence
 from dataclasses import dataclass
+
+# What begins a sample of a batch, and an arrow, but in a first line.
+SAMPLE = b"\nsample "
+ARROW = b"\na "
 
 
 @dataclass(frozen=True)
 class Answer:
-    """What the program answered to its words: the status, and the words behind each first word of a line."""
+    """What the program answered to its words: the status, the lines of the arrows, and for every other line the words
+    behind its first one.
+    """
 
     words: Sequence[str]
     status: int
     lines: dict[str, list[list[str]]]
+    arrows: bytes = b""
 
     def row(self, first: str) -> list[str]:
         """The words behind the first word, in its only line; none where there is no such line."""
@@ -26,7 +32,7 @@ class Answer:
 
     def numbers(self, first: str) -> list[int]:
         """The numbers behind the first word, in its only line."""
-        return [int(word) for word in self.row(first)]
+        return list(map(int, self.row(first)))
 
     def pops(self) -> int:
         """The number of pops of a run."""
@@ -37,23 +43,55 @@ class Answer:
         row = self.row(first)
         return int(row[0]) if row else None
 
+    def arrow_columns(self) -> tuple[list[int], list[int], list[int]]:
+        """The tails, the heads and the edges of the arrows, by their numbers."""
+        words = self.arrows.split()
+        tails, heads, edges = (list(map(int, words[place::4])) for place in (1, 2, 3))
+        return tails, heads, edges
+
+
+def cut_arrows(text: bytes) -> tuple[bytes, bytes]:
+    """The lines of the arrows, which stand together in an answer, and the text without them."""
+    begin = text.find(ARROW) + 1
+    if not begin:
+        return b"", text
+    end = text.find(b"\n", text.rfind(ARROW) + 1) + 1 or len(text)
+    return text[begin:end], text[:begin] + text[end:]
+
 
 def read_answer(words: Sequence[str], status: int, text: bytes) -> Answer:
     """The answer that a text is. It may be any text: what can't be read is left to who looks at it."""
+    arrows, others = cut_arrows(text)
     lines: dict[str, list[list[str]]] = {}
-    for line in text.decode("utf-8", "replace").split("\n"):
+    for line in others.decode("utf-8", "replace").split("\n"):
         row = line.split()
         if row:
             lines.setdefault(row[0], []).append(row[1:])
-    return Answer(words, status, lines)
+    return Answer(words, status, lines, arrows)
 
 
-def read_batch(words: Sequence[str], text: bytes) -> Iterator[Answer]:
-    """The answers that the text of a batch tells, one for each sample, as of runs by themselves."""
-    heads = re.finditer(rb"^sample [0-9]+\n", text, re.MULTILINE)
-    begin = next(heads, None)
-    while begin:
-        behind = next(heads, None)
-        told = text[begin.end() : behind.start() if behind else None]
-        yield read_answer(words, 0 if told.startswith(b"s SAMPLE\n") else 1, told)
-        begin = behind
+def sample_texts(chunks: Iterable[bytes]) -> Iterator[bytes]:
+    """The parts of a text that comes in chunks: what stands before the first sample of a batch, and then each sample,
+    from its number on. No more is kept than a part and a chunk.
+    """
+    kept = bytearray()
+    looked = 0
+    for chunk in chunks:
+        kept += chunk
+        at = kept.find(SAMPLE, looked)
+        while at >= 0:
+            yield bytes(kept[: at + 1])
+            del kept[: at + len(SAMPLE)]
+            at = kept.find(SAMPLE)
+        looked = max(0, len(kept) - len(SAMPLE))
+    yield bytes(kept)
+
+
+def is_whole(text: bytes) -> bool:
+    """Whether the text of a sample of a batch tells a sample, and no end of a stack."""
+    return text.startswith(b"s SAMPLE\n", text.find(b"\n") + 1)
+
+
+def read_sample(words: Sequence[str], text: bytes) -> Answer:
+    """The answer of a sample of a batch, as of a run by itself."""
+    return read_answer(words, 0 if is_whole(text) else 1, text[text.find(b"\n") + 1 :])

@@ -9,6 +9,8 @@ from pathlib import Path
 from typing import Any, Union
 
 from .answer import Answer
+from .argument_errors import ArgumentError
+from .arguments import WORKERS, whole
 from .formulas import assignment_of, resampled_of
 from .graph_input import GraphInput, read_graph
 from .graphs import orientation_of, tree_of
@@ -26,21 +28,29 @@ HEAD = re.compile(
 )
 
 
-def replay(certificate: Certificate, *, graph: Any = None, weight: str | None = None) -> Replayed:
+def replay(
+    certificate: Certificate, *, graph: Any = None, weight: str | None = None, timeout: float | None = None
+) -> Replayed:
     """Judges the log of a certificate against its command, stacks and input, and tells how far it leads.
 
     The certificate is what `Paused` has, as bytes, or the path of a file. Where it is of a graph, vertices and edges
     have numbers, from 1, unless the graph is handed in again, as it was sampled: then they have their names.
 
-    `NotLegal` is raised where a record of the log isn't legal, and `Malformed` where the certificate is none.
+    `NotLegalError` is raised where a record of the log isn't legal, and `MalformedError` where the certificate is none.
+    After `timeout` seconds the program is ended, and `RunTimeoutError` raised.
     """
     read = read_certificate(certificate, graph, weight)
-    answer = ask_replay(read.subject, read.key)
+    answer = ask_replay(read.subject, read.key, timeout)
     return Replayed(int(answer.row("s")[1]), read.used(answer), answer.row("end")[0], read.key)
 
 
 def resume(
-    certificate: Certificate, workers: int = 1, *, graph: Any = None, weight: str | None = None
+    certificate: Certificate,
+    workers: int = 1,
+    *,
+    graph: Any = None,
+    weight: str | None = None,
+    timeout: float | None = None,
 ) -> Tree | Orientation | Assignment:
     """Goes on from the log of a certificate to the run's end, and gives the result of its command.
 
@@ -48,8 +58,9 @@ def resume(
     whose log has the pops of the certificate. `workers` share the pops that are left. The other arguments, and what is
     raised, are as for `replay`, and as for the functions that sample.
     """
+    words = ["resume", "--workers", str(whole("workers", workers, 1, WORKERS))]
     read = read_certificate(certificate, graph, weight)
-    return read.result(ask(["resume", "--workers", str(workers)], read.subject, read.key))
+    return read.result(ask(words, read.subject, read.key, timeout))
 
 
 @dataclass(frozen=True)
@@ -82,15 +93,15 @@ class Read:
 def read_certificate(certificate: Certificate, graph: Any, weight: str | None) -> Read:
     """What a certificate has in it. Whether it is one the program says: where its head can't be read, it has nothing.
 
-    Raises ValueError where a graph is handed in that isn't its input.
+    Raises ArgumentError, a ValueError, where a graph is handed in that isn't its input.
     """
     data = certificate if isinstance(certificate, bytes) else Path(certificate).read_bytes()
     head = HEAD.match(data)
     end = head.end() + int(head[4]) if head else len(data)
     text, log = (data[head.end() : end], data[end:]) if head else (b"", b"")
-    given = GraphInput(text, NUMBERS, NUMBERS, lambda arrows: None) if graph is None else read_graph(graph, weight)
+    given = GraphInput(text, NUMBERS, NUMBERS) if graph is None else read_graph(graph, weight)
     if head and given.text != text:
-        raise ValueError("the certificate is of another graph: hand in the one that was sampled, or none")
+        raise ArgumentError("the certificate is of another graph: hand in the one that was sampled, or none")
     command = head[1].decode() if head else None
     variables = given.edges if command == "orient" else given.vertices
     subject = Subject(text, given.vertices, variables, None, data, command, log)

@@ -10,6 +10,8 @@ import re
 from collections.abc import Hashable, Sequence
 from typing import Any, ClassVar
 
+from .base_error import Error
+
 # Why a line is malformed, by code.
 REASONS = {
     1: "it is no header of a formula",
@@ -40,7 +42,7 @@ LIMITS = {
 }
 
 
-class Refusal(Exception):
+class Refusal(Error):
     """The program answered with something else than a sample.
 
     `status` is its status, and `form` its first line, of which the exception has the numbers. `key` is the key of the
@@ -49,25 +51,18 @@ class Refusal(Exception):
 
     status: ClassVar[int]
     form: ClassVar[str]
-    sentence: ClassVar[str]
+    sentence: ClassVar[str] = "The program answered with something else than a sample."
 
     def __init__(self, **meanings: Any) -> None:
         self.key: str | None = None
         super().__init__(re.sub(r"\b[A-Z]+\b", lambda word: str(meanings.get(word[0], word[0])), self.sentence))
 
-    def __reduce__(self) -> tuple[Any, ...]:
-        """Exceptions go from process to process with all that they have."""
-        return made_again, (type(self), self.args, self.__dict__)
+
+class InputRefusal(Refusal, ValueError):
+    """The program refused what was handed in: the input, or an argument."""
 
 
-def made_again(kind: type[Refusal], words: tuple[Any, ...], values: dict[str, Any]) -> Refusal:
-    """An exception of this kind that has the same words and values."""
-    made = kind.__new__(kind, *words)
-    made.__dict__.update(values)
-    return made
-
-
-class Exhausted(Refusal):
+class ExhaustedError(Refusal):
     """The run came to the end of a stack, and events still occur.
 
     `stuck` has for each of them the number of its clause, its vertex, or the vertices of its cycle. `used` has the
@@ -122,7 +117,7 @@ class Paused(Refusal):
         self.certificate = certificate
 
 
-class Usage(Refusal):
+class UsageError(InputRefusal):
     """The words are no command line: `place` is that of the first bad one, from 1, and `word` is that word."""
 
     status = 2
@@ -138,7 +133,7 @@ class Usage(Refusal):
         self.word = word
 
 
-class Malformed(Refusal):
+class MalformedError(InputRefusal):
     """A line can't stand in the text: `line` is its number, `code` says why, and `text` is the line itself.
 
     Of a certificate `part` says in which part of it lines are counted.
@@ -157,7 +152,7 @@ class Malformed(Refusal):
         self.part = part
 
 
-class Count(Refusal):
+class CountError(InputRefusal):
     """The text has another number of clauses (`found`) than its header says (`declared`)."""
 
     status = 3
@@ -173,7 +168,7 @@ class Count(Refusal):
         self.found = found
 
 
-class Rows(Refusal):
+class RowsError(InputRefusal):
     """There are `given` rows of entries for `wanted` variables."""
 
     status = 3
@@ -189,7 +184,7 @@ class Rows(Refusal):
         self.wanted = wanted
 
 
-class EmptyRow(Refusal):
+class EmptyRowError(InputRefusal):
     """The row of this variable has no entry; it is the first such."""
 
     status = 3
@@ -201,7 +196,7 @@ class EmptyRow(Refusal):
         self.variable = variable
 
 
-class Value(Refusal):
+class EntryError(InputRefusal):
     """Entry `entry`, from 0, of a variable is none of its values."""
 
     status = 3
@@ -217,7 +212,7 @@ class Value(Refusal):
         self.entry = entry
 
 
-class Limit(Refusal):
+class LimitError(InputRefusal):
     """A limit of this kind is passed, at the line of this number; of kind 6 `place` is a vertex."""
 
     status = 4
@@ -231,7 +226,7 @@ class Limit(Refusal):
         self.place = place
 
 
-class TooLong(Refusal):
+class TooLongError(InputRefusal):
     """A certificate, or the log in it, is too long: `kind` is that of the limit."""
 
     status = 4
@@ -243,7 +238,7 @@ class TooLong(Refusal):
         self.kind = kind
 
 
-class TooManySamples(Refusal):
+class TooManySamplesError(InputRefusal):
     """So many samples (`count`) of the input have too many variables together."""
 
     status = 4
@@ -258,7 +253,7 @@ class TooManySamples(Refusal):
         self.count = count
 
 
-class Clash(Refusal):
+class ClashError(InputRefusal):
     """The formula isn't extremal: the clauses of these two numbers, the least such pair, clash."""
 
     status = 5
@@ -276,7 +271,7 @@ class Clash(Refusal):
         self.clauses = texts
 
 
-class Empty(Refusal):
+class EmptyClauseError(InputRefusal):
     """The clause of this number, the first such, has no literal."""
 
     status = 6
@@ -288,7 +283,7 @@ class Empty(Refusal):
         self.clause = clause
 
 
-class Isolated(Refusal):
+class IsolatedError(InputRefusal):
     """No edge touches this vertex, the first such."""
 
     status = 6
@@ -300,7 +295,7 @@ class Isolated(Refusal):
         self.vertex = vertex
 
 
-class Root(Refusal):
+class RootError(InputRefusal):
     """The root that was asked for is no vertex."""
 
     status = 6
@@ -312,7 +307,7 @@ class Root(Refusal):
         self.root = root
 
 
-class CutOff(Refusal):
+class CutOffError(InputRefusal):
     """No path joins this vertex, the first such, to the root."""
 
     status = 6
@@ -326,7 +321,7 @@ class CutOff(Refusal):
         self.vertex = vertex
 
 
-class NoWitness(Refusal):
+class NoWitnessError(InputRefusal):
     """No pop used entry `entry` of the variable, `cursor` of whose entries were popped."""
 
     status = 6
@@ -340,7 +335,7 @@ class NoWitness(Refusal):
         self.cursor = cursor
 
 
-class ReadFault(Refusal):
+class ReadError(Refusal):
     """Reading the input failed."""
 
     status = 7
@@ -348,7 +343,7 @@ class ReadFault(Refusal):
     sentence = "Reading the input failed: look at what the input is, as a folder in place of a file."
 
 
-class WriteFault(Refusal):
+class WriteError(Refusal):
     """Writing the output failed."""
 
     status = 8
@@ -356,7 +351,7 @@ class WriteFault(Refusal):
     sentence = "Writing the output failed: look at where it goes, as a full disk or a pipe that was closed."
 
 
-class Memory(Refusal):
+class OutOfMemoryError(Refusal):
     """Memory ran out, or a word isn't UTF-8."""
 
     status = 9
@@ -366,7 +361,7 @@ class Memory(Refusal):
     )
 
 
-class NotLegal(Refusal):
+class NotLegalError(InputRefusal):
     """A record of a certificate's log isn't legal: `record` is its number, from 1, and `text` its line."""
 
     status = 11
@@ -382,7 +377,7 @@ class NotLegal(Refusal):
         self.text = text
 
 
-class NoProgram(Exception):
+class NoProgramError(Error):
     """The program isn't found."""
 
     def __init__(self, named: str | None) -> None:
@@ -390,9 +385,25 @@ class NoProgram(Exception):
         super().__init__(f"{where}: build it, and name it by POPSAMPLE or put its folder on the PATH.")
 
 
-class NoAnswer(Exception):
+class NoAnswerError(Error):
     """The program ended with a status and a text that are none of its answers, as one that was killed."""
 
     def __init__(self, status: int, first: str) -> None:
         super().__init__(f"The program ended with status {status}, and {first!r} is none of its answers.")
         self.status = status
+
+
+class RunTimeoutError(Error, TimeoutError):
+    """The program had no answer after so many seconds (`timeout`), and was ended."""
+
+    def __init__(self, timeout: float) -> None:
+        super().__init__(f"The program had no answer after timeout={timeout!r} seconds, and was ended: allow more.")
+        self.timeout = timeout
+
+
+class NotInstalledError(Error, ImportError):
+    """A library that was asked for isn't installed; what doesn't ask for it needs none."""
+
+    def __init__(self, library: str) -> None:
+        super().__init__(f"{library} isn't installed, and this needs it: install it, or take the samples one by one.")
+        self.library = library

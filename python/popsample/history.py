@@ -7,6 +7,8 @@ from dataclasses import dataclass
 from typing import Any
 
 from .answer import Answer
+from .argument_errors import OptionError
+from .arguments import ENTRY, report_names, whole
 from .results import Layers, Pop, Totals, WitnessVertex
 from .subject import Subject
 
@@ -23,11 +25,20 @@ class Asked:
         """The words that ask for it, where these are the variables."""
         words = ["--log", "on"] if self.log else []
         if self.witness is not None:
-            name, *entry = self.witness
-            words += ["--witness", ",".join(map(str, [place_of(name, variables) + 1, *entry]))]
+            words += ["--witness", witness_word(self.witness, variables)]
         if self.reports:
-            words += ["--report", ",".join(self.reports)]
+            words += ["--report", ",".join(report_names(self.reports))]
         return words
+
+    def words_beside(self, variables: Sequence[Hashable], pops: int | None) -> list[str]:
+        """The same, where the run may be stopped after so many pops. Raises OptionError where it is, and something is
+        asked for.
+        """
+        for argument in ("log", "witness", "reports"):
+            value = getattr(self, argument)
+            if pops is not None and value:
+                raise OptionError(argument, value, "it doesn't go with pops=")
+        return self.words(variables)
 
     def told(self, answer: Answer, subject: Subject) -> dict[str, Any]:
         """What an answer tells of it, by the names of the fields of a `History`."""
@@ -39,6 +50,14 @@ class Asked:
             "heights": reports.get("heights"),
             "layers": Layers(*reports["layers"]) if "layers" in reports else None,
         }
+
+
+def witness_word(witness: tuple[Hashable, int], variables: Sequence[Hashable]) -> str:
+    """The word that asks for the witness of an entry of a variable. Raises OptionError where it is no such pair."""
+    if not isinstance(witness, (tuple, list)) or len(witness) != 2:
+        raise OptionError("witness", witness, "it is a pair of a variable and one of its entries")
+    name, entry = witness
+    return f"{place_of(name, variables) + 1},{whole('witness', entry, 0, ENTRY)}"
 
 
 def place_of(name: Hashable, names: Sequence[Hashable]) -> int:

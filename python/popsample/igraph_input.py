@@ -6,16 +6,20 @@ import sys
 from collections.abc import Hashable, Iterator, Sequence
 from typing import Any
 
+from .argument_errors import InputTypeError, NoWeightError
 from .results import Arrow, Edge
 
 
 def read(graph: Any, weight: str | None) -> tuple[list[Hashable], Iterator[Edge]]:
     """The vertices and the edges, both named by their indices, from 0.
 
-    Raises TypeError where the graph is directed, and KeyError where its edges have no attribute `weight`.
+    Raises InputTypeError where the graph is directed, and NoWeightError, a KeyError, where its edges have no attribute
+    `weight`.
     """
     if graph.is_directed():
-        raise TypeError("the graph is directed: hand in graph.as_undirected()")
+        raise InputTypeError("the graph is directed: hand in graph.as_undirected()")
+    if weight is not None and weight not in graph.es.attributes():
+        raise NoWeightError(weight)
     weights = [1] * graph.ecount() if weight is None else graph.es[weight]
     ends = enumerate(graph.get_edgelist())
     return list(range(graph.vcount())), ((first, second, weights[place], place) for place, (first, second) in ends)

@@ -6,25 +6,27 @@ import sys
 from collections.abc import Hashable, Iterator, Sequence
 from typing import Any
 
+from .argument_errors import InputTypeError
 from .results import Arrow, Edge
+from .weights import attribute_weights
 
 
-def read(graph: Any, weight: str | None) -> tuple[list[Hashable], Iterator[Edge]]:
+def read(graph: Any, weight: str | None) -> tuple[list[Hashable], list[Edge]]:
     """The vertices and the edges. An edge's name is the pair of its ends, or the triple with its key.
 
-    An edge without the attribute `weight` has the weight 1, as elsewhere in networkx. Raises TypeError where the graph
-    is directed.
+    An edge without the attribute `weight` has the weight 1, as elsewhere in networkx, where others have it. Raises
+    NoWeightError, a KeyError, where no edge has it, and InputTypeError where the graph is directed.
     """
     if graph.is_directed():
-        raise TypeError("the graph is directed: hand in graph.to_undirected()")
-    return list(graph.nodes), read_edges(graph, weight)
+        raise InputTypeError("the graph is directed: hand in graph.to_undirected()")
+    return list(graph.nodes), attribute_weights(read_edges(graph), weight)
 
 
-def read_edges(graph: Any, weight: str | None) -> Iterator[Edge]:
-    """The edges in the graph's order: two ends, a weight and a name."""
-    for edge in graph.edges(keys=True) if graph.is_multigraph() else graph.edges:
-        found = 1 if weight is None else graph.edges[edge].get(weight, 1)
-        yield edge[0], edge[1], found, edge
+def read_edges(graph: Any) -> Iterator[Edge]:
+    """The edges in the graph's order: two ends, the attributes in the weight's place, and a name."""
+    named = {"keys": True} if graph.is_multigraph() else {}
+    for *edge, attributes in graph.edges(data=True, **named):
+        yield edge[0], edge[1], attributes, tuple(edge)
 
 
 def directed(graph: Any, arrows: Sequence[Arrow]) -> Any:

@@ -2,14 +2,16 @@
 
 from __future__ import annotations
 
-from collections.abc import Callable, Iterator
+from collections.abc import Callable, Generator, Iterable, Iterator, Sequence
 from typing import Any
 
 from . import errors
-from .answer import Answer, read_answer, read_batch
+from .answer import Answer, read_answer, read_sample, sample_texts
+from .arguments import checked_timeout
 from .errors import Refusal
 from .history import read_log
 from .program import printed
+from .stream import Stream
 from .subject import Subject
 
 Numbers = list[int]
@@ -21,21 +23,21 @@ LOG_LINE = 31
 
 # For the first line of each refusal that has numbers, what it is raised as.
 REFUSALS: dict[str, Callable[[Numbers, Answer, Subject], Refusal]] = {
-    "USAGE": lambda numbers, answer, _: errors.Usage(numbers[0], word_at(answer, numbers[0])),
-    "MALFORMED": lambda numbers, _, subject: malformed(*numbers, subject),
-    "COUNT": lambda numbers, *_: errors.Count(*numbers),
-    "ROWS": lambda numbers, *_: errors.Rows(*numbers),
-    "EMPTYROW": lambda numbers, _, subject: errors.EmptyRow(subject.variable(numbers[0])),
-    "VALUE": lambda numbers, _, subject: errors.Value(subject.variable(numbers[0]), numbers[1]),
+    "USAGE": lambda numbers, answer, _: errors.UsageError(numbers[0], word_at(answer, numbers[0])),
+    "MALFORMED": lambda numbers, _, subject: malformed(numbers[0], numbers[1], subject),
+    "COUNT": lambda numbers, *_: errors.CountError(*numbers),
+    "ROWS": lambda numbers, *_: errors.RowsError(*numbers),
+    "EMPTYROW": lambda numbers, _, subject: errors.EmptyRowError(subject.variable(numbers[0])),
+    "VALUE": lambda numbers, _, subject: errors.EntryError(subject.variable(numbers[0]), numbers[1]),
     "LIMIT": lambda numbers, _, subject: limit(numbers, subject),
     "CLASH": lambda numbers, _, subject: clash(numbers, subject),
-    "EMPTY": lambda numbers, *_: errors.Empty(*numbers),
-    "ISOLATED": lambda numbers, _, subject: errors.Isolated(subject.vertex(numbers[0])),
-    "ROOT": lambda numbers, _, subject: errors.Root(numbers[0] if subject.root is None else subject.root),
-    "CUTOFF": lambda numbers, _, subject: errors.CutOff(subject.vertex(numbers[0])),
-    "NOTLEGAL": lambda numbers, _, subject: errors.NotLegal(numbers[0], subject.line(numbers[0] + 1, LOG_LINE)),
-    "READFAULT": lambda *_: errors.ReadFault(),
-    "MEMORY": lambda *_: errors.Memory(),
+    "EMPTY": lambda numbers, *_: errors.EmptyClauseError(*numbers),
+    "ISOLATED": lambda numbers, _, subject: errors.IsolatedError(subject.vertex(numbers[0])),
+    "ROOT": lambda numbers, _, subject: errors.RootError(numbers[0] if subject.root is None else subject.root),
+    "CUTOFF": lambda numbers, _, subject: errors.CutOffError(subject.vertex(numbers[0])),
+    "NOTLEGAL": lambda numbers, _, subject: errors.NotLegalError(numbers[0], subject.line(numbers[0] + 1, LOG_LINE)),
+    "READFAULT": lambda *_: errors.ReadError(),
+    "MEMORY": lambda *_: errors.OutOfMemoryError(),
 }
 
 
@@ -46,7 +48,7 @@ def word_at(answer: Answer, place: int) -> str | None:
 
 def malformed(line: int, code: int, subject: Subject) -> Refusal:
     """The line that can't stand where it stands."""
-    return errors.Malformed(line, code, subject.line(line, code), subject.part(code)[0])
+    return errors.MalformedError(line, code, subject.line(line, code), subject.part(code)[0])
 
 
 def limit(numbers: Numbers, subject: Subject) -> Refusal:
@@ -55,16 +57,16 @@ def limit(numbers: Numbers, subject: Subject) -> Refusal:
     """
     kind, place = numbers
     if kind == 9:
-        return errors.TooManySamples(place)
+        return errors.TooManySamplesError(place)
     if kind in (7, 8):
-        return errors.TooLong(kind)
-    return errors.Limit(kind, subject.vertex(place) if kind == 6 else place)
+        return errors.TooLongError(kind)
+    return errors.LimitError(kind, subject.vertex(place) if kind == 6 else place)
 
 
 def clash(numbers: Numbers, subject: Subject) -> Refusal:
     """The two clauses that clash, with their literals."""
     first, second = numbers
-    return errors.Clash(first, second, (subject.clause(first), subject.clause(second)))
+    return errors.ClashError(first, second, (subject.clause(first), subject.clause(second)))
 
 
 def stuck_events(answer: Answer, subject: Subject) -> list[Any]:
@@ -78,7 +80,7 @@ def stuck_events(answer: Answer, subject: Subject) -> list[Any]:
     return [row[0] for row in rows]
 
 
-def exhausted(answer: Answer, subject: Subject) -> errors.Exhausted:
+def exhausted(answer: Answer, subject: Subject) -> errors.ExhaustedError:
     """The end of a run that came to the end of a stack."""
     stuck = stuck_events(answer, subject)
     command = subject.command_of(answer.words)
@@ -87,26 +89,26 @@ def exhausted(answer: Answer, subject: Subject) -> errors.Exhausted:
     else:
         where = f"{'vertex' if command == 'orient' else 'clause'} {stuck[0]!r}"
     counted = (answer.number("pops"), read_log(answer, subject), answer.number("rounds"), answer.number("short"))
-    return errors.Exhausted(where, stuck, answer.numbers("used"), *counted)
+    return errors.ExhaustedError(where, stuck, answer.numbers("used"), *counted)
 
 
 def refusal(answer: Answer, subject: Subject) -> Exception:
     """The exception that tells an answer without a sample."""
     first = answer.row("s")
-    if answer.status == errors.WriteFault.status:
-        return errors.WriteFault()
-    if answer.status == errors.Memory.status:
-        return errors.Memory()
+    if answer.status == errors.WriteError.status:
+        return errors.WriteError()
+    if answer.status == errors.OutOfMemoryError.status:
+        return errors.OutOfMemoryError()
     if answer.row("witness")[:1] == ["none"]:
-        return errors.NoWitness(*map(int, answer.row("witness")[1:]))
+        return errors.NoWitnessError(*map(int, answer.row("witness")[1:]))
     if first == ["EXHAUSTED"]:
         return exhausted(answer, subject)
     if first and first[0] in REFUSALS:
         return REFUSALS[first[0]]([int(word) for word in first[1:]], answer, subject)
-    return errors.NoAnswer(answer.status, " ".join(["s", *first]) if first else "")
+    return errors.NoAnswerError(answer.status, " ".join(["s", *first]) if first else "")
 
 
-def under_key(words: list[str], told: Told, subject: Subject, key: str | None) -> Exception:
+def under_key(words: Sequence[str], told: Told, subject: Subject, key: str | None) -> Exception:
     """The same of a status and a printed text, with the key of the call. Of a certificate no line is read."""
     status, text = told
     is_certificate = status == errors.Paused.status and text.startswith(b"cert ")
@@ -116,26 +118,57 @@ def under_key(words: list[str], told: Told, subject: Subject, key: str | None) -
     return raised
 
 
-def ask(words: list[str], subject: Subject, key: str | None = None) -> Answer:
+def ask(words: list[str], subject: Subject, key: str | None = None, timeout: float | None = None) -> Answer:
     """The program's answer with status 0; any other is raised, with the key of the call."""
-    status, text = printed(words, subject.given)
+    status, text = printed(words, subject.given, checked_timeout(timeout))
     if status == 0:
         return read_answer(words, status, text)
     raise under_key(words, (status, text), subject, key)
 
 
-def ask_batch(words: list[str], subject: Subject, key: str | None) -> Iterator[Answer]:
-    """The program's answer for each sample of a batch, with status 0 or 1; a refusal is raised."""
-    status, text = printed(words, subject.text)
-    if status in (0, 1) and text.startswith(b"batch "):
-        return read_batch(words, text)
-    raise under_key(words, (status, text), subject, key)
-
-
-def ask_replay(subject: Subject, key: str | None) -> Answer:
+def ask_replay(subject: Subject, key: str | None, timeout: float | None = None) -> Answer:
     """The program's answer that the log of a certificate is legal, with status 0, 1 or 10; any other is raised."""
     words = ["replay"]
-    status, text = printed(words, subject.given)
+    status, text = printed(words, subject.given, checked_timeout(timeout))
     if status in (0, 1, errors.Paused.status) and text.startswith(b"s LEGAL "):
         return read_answer(words, status, text)
     raise under_key(words, (status, text), subject, key)
+
+
+def stream_batch(
+    words: Sequence[str], subject: Subject, key: str, timeout: float | None
+) -> Generator[bytes, None, None]:
+    """The texts of the samples of a batch, as the program prints them; a refusal is raised."""
+    stream = Stream(words, subject.text, timeout)
+    try:
+        yield from batch_samples(words, stream.chunks(), stream.status, subject, key)
+    finally:
+        stream.end()
+
+
+def batch_samples(
+    words: Sequence[str], chunks: Iterable[bytes], status: Callable[[], int], subject: Subject, key: str
+) -> Iterator[bytes]:
+    """The texts of the samples in what the program prints of a batch. The last one is told when its status is known,
+    and where that is none of a batch, this is raised.
+    """
+    parts = sample_texts(chunks)
+    head = next(parts)
+    held: list[bytes] = []
+    for part in parts:
+        yield from held
+        held = [part]
+    ended = status()
+    if ended not in (0, 1) or not head.startswith(b"batch "):
+        raise under_key(words, (ended, head), subject, key)
+    yield from held
+
+
+def sample_answer(words: Sequence[str], text: bytes, subject: Subject, key: str, number: int) -> Answer:
+    """The answer of a sample of a batch. Raises ExhaustedError where its run was."""
+    answer = read_sample(words, text)
+    if answer.status == 0:
+        return answer
+    raised = exhausted(answer, subject)
+    raised.key, raised.sample = key, number
+    raise raised

@@ -2,8 +2,9 @@
 
 from __future__ import annotations
 
-from collections.abc import Hashable
-from dataclasses import dataclass
+from collections.abc import Callable, Hashable
+from dataclasses import dataclass, field
+from functools import cached_property
 from typing import Any, NamedTuple
 
 
@@ -74,14 +75,30 @@ class History:
     layers: Layers | None = None
 
 
+class Directed:
+    """What has `arrows`, and makes a graph of them.
+
+    `directed` does so, by the library whose graph was handed in; it is None for an edge list or a file.
+    """
+
+    arrows: tuple[Arrow, ...]
+    directed: Callable[[tuple[Arrow, ...]], Any] | None
+
+    @cached_property
+    def graph(self) -> Any:
+        """The arrows as a directed graph of the library whose graph was handed in, and None for an edge list or a file.
+        It is made when it is first asked for.
+        """
+        return None if self.directed is None else self.directed(self.arrows)
+
+
 @dataclass(frozen=True)
-class Tree(History):
+class Tree(Directed, History):
     """A rooted spanning tree.
 
     `arrows` has an arrow for each vertex but the root, along which the way to the root goes on. `used` tells for each
-    of these vertices how many of its entries were popped, and `pops` how many pops there were. `graph` is the tree as
-    a directed graph of the library whose graph was handed in, and None for an edge list or a file. `sample` is its
-    number under the key: 0, but in a batch.
+    of these vertices how many of its entries were popped, and `pops` how many pops there were. `sample` is its number
+    under the key: 0, but in a batch.
     """
 
     root: Hashable
@@ -89,7 +106,7 @@ class Tree(History):
     used: dict[Hashable, int]
     pops: int
     key: str | None
-    graph: Any = None
+    directed: Callable[[tuple[Arrow, ...]], Any] | None = field(default=None, repr=False, compare=False)
     sample: int = 0
 
     @property
@@ -104,7 +121,7 @@ class Tree(History):
 
 
 @dataclass(frozen=True)
-class Orientation(History):
+class Orientation(Directed, History):
     """An orientation in which some edge leaves each vertex.
 
     `arrows` has the arrow of each edge, in order, and `used` tells for each edge how many of its entries were popped.
@@ -115,7 +132,7 @@ class Orientation(History):
     used: dict[Hashable, int]
     pops: int
     key: str | None
-    graph: Any = None
+    directed: Callable[[tuple[Arrow, ...]], Any] | None = field(default=None, repr=False, compare=False)
     sample: int = 0
 
 

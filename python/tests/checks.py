@@ -72,10 +72,16 @@ def program_of(script: str) -> Iterator[None]:
             yield
 
 
+def kinds_below(kind: type[Exception]) -> set[type[Exception]]:
+    """The exceptions that are of this kind, however far below, but this kind itself."""
+    beside = kind.__subclasses__()
+    return {*beside, *(below for other in beside for below in kinds_below(other))}
+
+
 class Refusing(unittest.TestCase):
     """A test that looks at exceptions."""
 
-    def refused(self, kind: type[Exception], call, *words, **named) -> Exception:
+    def refused(self, kind: type[Exception], call, /, *words, **named) -> Exception:
         """The exception, of this kind, that the call raises."""
         with self.assertRaises(kind) as caught:
             call(*words, **named)

@@ -53,27 +53,24 @@ class Batches(Refusing):
     def test_an_exhausted_sample_is_raised_in_its_place(self):
         samples = formula_samples([[1]], 4, **ONE_EXHAUSTED)
         self.assertEqual(next(samples).sample, 0)
-        error = self.refused(popsample.Exhausted, next, samples)
+        error = self.refused(popsample.ExhaustedError, next, samples)
         told = (error.sample, error.stuck, error.used, error.pops, error.key)
         self.assertEqual(told, (1, (1,), (1,), 1, ONE_EXHAUSTED["key"]))
         self.assertEqual([sample.sample for sample in samples], [2, 3])
 
     def test_what_refuses_the_batch_is_raised_at_once(self):
-        self.refused(popsample.CutOff, spanning_trees, [("Ann", "Bob"), ("Cem", "Dan")], 2)
-        self.refused(popsample.Clash, formula_samples, [[1, 2], [1, 3]], 2)
-        for count in (0, 65537):
-            error = self.refused(popsample.Usage, spanning_trees, TRIANGLE, count)
-            self.assertEqual(error.word, str(count))
+        self.refused(popsample.CutOffError, spanning_trees, [("Ann", "Bob"), ("Cem", "Dan")], 2)
+        self.refused(popsample.ClashError, formula_samples, [[1, 2], [1, 3]], 2)
 
     def test_too_many_samples(self):
         # 600 variables, since the last one has this number, and so 600 times 65536 of all samples.
-        error = self.refused(popsample.TooManySamples, formula_samples, [[600]], 65536, ZEROS)
+        error = self.refused(popsample.TooManySamplesError, formula_samples, [[600]], 65536, ZEROS)
         self.assertEqual((error.count, error.key), (65536, ZEROS))
         self.assertIn("65536 samples of this input", str(error))
 
     def test_a_batch_that_was_cut_off(self):
         with program_of("printf 'batch 2\\nsample 0\\ns SAMPLE\\n'; exit 8"):
-            self.refused(popsample.WriteFault, spanning_trees, TRIANGLE, 2)
+            self.refused(popsample.WriteError, spanning_trees, TRIANGLE, 2)
 
 
 if __name__ == "__main__":

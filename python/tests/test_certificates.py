@@ -32,7 +32,7 @@ class Stopped(Refusing):
         self.assertEqual(error.certificate, TREE_STOPPED)
 
     def test_a_key_is_told(self):
-        error = self.refused(popsample.Paused, sample_formula, [[1], [-1]], ZEROS, height=9, pops=1)
+        error = self.refused(popsample.Paused, sample_formula, [[-1]], ZEROS, height=9, pops=1)
         self.assertEqual(error.key, ZEROS)
 
     def test_a_run_that_ends_before(self):
@@ -40,17 +40,14 @@ class Stopped(Refusing):
             self.assertEqual(sample_formula([[1]], stacks=ROWS, pops=pops), sample_formula([[1]], stacks=ROWS))
             whole = spanning_tree(TRIANGLE, "a", stacks=TREE_ROWS)
             self.assertEqual(spanning_tree(TRIANGLE, "a", stacks=TREE_ROWS, pops=pops), whole)
-        error = self.refused(popsample.Exhausted, sample_formula, [[1]], stacks=[[0, 0]], pops=1)
+        error = self.refused(popsample.ExhaustedError, sample_formula, [[1]], stacks=[[0, 0]], pops=1)
         self.assertEqual((error.stuck, error.pops), ((1,), 1))
 
     def test_what_pops_excludes(self):
         excluded = ({"grow": 9}, {"workers": 2}, {"log": True}, {"witness": (1, 0)}, {"reports": ["totals"]})
         for named in excluded:
             with self.subTest(**named):
-                self.refused(popsample.Usage, sample_formula, [[1]], ZEROS, pops=1, **named)
-        for pops in (0, 2**32):
-            error = self.refused(popsample.Usage, sink_free_orientation, TRIANGLE, ZEROS, pops=pops)
-            self.assertEqual(error.word, str(pops))
+                self.refused(popsample.OptionError, sample_formula, [[1]], ZEROS, pops=1, **named)
 
     def test_a_certificate_goes_along(self):
         error = self.refused(popsample.Paused, resample, [[1]], stacks=ROWS, pops=2)
@@ -65,7 +62,7 @@ class Stopped(Refusing):
 
     def test_another_text_of_this_status(self):
         with program_of("echo s NONE; exit 10"):
-            self.refused(popsample.NoAnswer, sample_formula, [])
+            self.refused(popsample.NoAnswerError, sample_formula, [])
 
 
 class Replayed(Refusing):
@@ -80,7 +77,7 @@ class Replayed(Refusing):
 
     def test_edges_have_their_names(self):
         circle = [("x", "y"), ("y", "z"), ("z", "x")]
-        error = self.refused(popsample.Exhausted, sink_free_orientation, circle, stacks=[[0], [1], [0]], pops=9)
+        error = self.refused(popsample.ExhaustedError, sink_free_orientation, circle, stacks=[[0], [1], [0]], pops=9)
         self.assertEqual(error.stuck, ("y",))
         text = b"p edge 3 3\ne 1 2 1\ne 2 3 1\ne 3 1 1\n"
         front = b"cert 1 orient\nstacks 0,0;1,0;0\ninput %d\n" % len(text)
@@ -131,10 +128,10 @@ class Resumed(Refusing):
         self.assertEqual((told.literals, told.pops), ((1,), 3))
 
     def test_an_exhausted_end(self):
-        error = self.refused(popsample.Exhausted, resume, STOPPED.replace(b"0,0,0,1", b"0,0,0,0"))
+        error = self.refused(popsample.ExhaustedError, resume, STOPPED.replace(b"0,0,0,1", b"0,0,0,0"))
         self.assertEqual((error.stuck, error.pops, error.key), ((1,), 3, None))
         tree = TREE_STOPPED.replace(b"1,1,0;0,0,0", b"1,1;0,0")
-        self.assertEqual(self.refused(popsample.Exhausted, resume, tree, graph=TRIANGLE).stuck, (("b", "c"),))
+        self.assertEqual(self.refused(popsample.ExhaustedError, resume, tree, graph=TRIANGLE).stuck, (("b", "c"),))
 
     @unittest.skipUnless(importlib.util.find_spec("networkx"), "networkx isn't installed")
     def test_a_graph_of_networkx_comes_back_directed(self):
@@ -150,7 +147,7 @@ class Resumed(Refusing):
 class Refused(Refusing):
     def test_records_that_are_not_legal(self):
         for call in (replay, resume):
-            error = self.refused(popsample.NotLegal, call, STOPPED.replace(b"1:1\n", b"1:0\n"))
+            error = self.refused(popsample.NotLegalError, call, STOPPED.replace(b"1:1\n", b"1:0\n"))
             self.assertEqual((error.record, error.text, error.status), (2, "pop 2 1 1:0", 11))
             self.assertIn("Record 2 of the certificate's log, 'pop 2 1 1:0',", str(error))
 
@@ -167,20 +164,20 @@ class Refused(Refusing):
         }
         for text, line, code, shown, part in texts:
             with self.subTest(code=code, line=line):
-                error = self.refused(popsample.Malformed, replay, text)
+                error = self.refused(popsample.MalformedError, replay, text)
                 self.assertEqual((error.line, error.code, error.text, error.part), (line, code, shown, part))
                 self.assertIn(f"Line {line} of {part}, ", str(error))
 
     def test_what_refuses_the_input(self):
-        error = self.refused(popsample.Root, resume, TREE_STOPPED.replace(b"root 1", b"root 9"))
+        error = self.refused(popsample.RootError, resume, TREE_STOPPED.replace(b"root 1", b"root 9"))
         self.assertEqual(error.root, 9)
-        error = self.refused(popsample.Rows, replay, TREE_STOPPED.replace(b"1,1,0;", b""))
+        error = self.refused(popsample.RowsError, replay, TREE_STOPPED.replace(b"1,1,0;", b""))
         self.assertEqual((error.given, error.wanted), (1, 2))
 
     def test_limits(self):
         for kind, told in ((7, "268435456 bytes of a certificate's log"), (8, "536870912 bytes of a certificate")):
             with program_of(f"echo s LIMIT {kind} 1; exit 4"):
-                error = self.refused(popsample.TooLong, replay, STOPPED)
+                error = self.refused(popsample.TooLongError, replay, STOPPED)
             self.assertEqual(error.kind, kind)
             self.assertIn(f"The limit of {told} is passed", str(error))
 
@@ -190,10 +187,10 @@ class Refused(Refusing):
         self.refused(ValueError, replay, STOPPED, graph=TRIANGLE)
 
     def test_a_text_that_is_no_certificate(self):
-        self.refused(popsample.Malformed, resume, b"", graph=TRIANGLE)
+        self.refused(popsample.MalformedError, resume, b"", graph=TRIANGLE)
 
     def test_more_workers_than_there_may_be(self):
-        self.assertEqual(self.refused(popsample.Usage, resume, STOPPED, 65).place, 3)
+        self.assertEqual(self.refused(popsample.OptionError, resume, STOPPED, 65).value, 65)
 
 
 def octal(text: bytes) -> str:

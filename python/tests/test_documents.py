@@ -7,6 +7,8 @@ from pathlib import Path
 import popsample
 from popsample import errors
 
+from .checks import kinds_below
+
 TOP = Path(__file__).resolve().parents[2]
 FORMATS = TOP / "docs" / "FORMATS.md"
 PAGES = [TOP / "README.md", TOP / "python" / "README.md"]
@@ -33,13 +35,12 @@ class Formats(unittest.TestCase):
         self.assertEqual(self.text.partition("\n## ")[2].partition("\n")[0], "Answers")
 
     def test_each_exception_has_its_row(self):
-        kinds = {kind.__name__: kind for kind in errors.Refusal.__subclasses__()}
-        rows = {row[3].strip("`"): row for row in self.rows if row[3].startswith("`")}
-        self.assertEqual(set(rows), set(kinds))
-        for name, (status, form, sentence, _) in rows.items():
-            with self.subTest(name):
-                self.assertEqual((int(status), sentence), (kinds[name].status, kinds[name].sentence))
-                self.assertIn(f"`{kinds[name].form}`" if kinds[name].form else "none", form)
+        rows = {getattr(popsample, row[3].strip("`")): row for row in self.rows if row[3].startswith("`")}
+        self.assertEqual(set(rows), kinds_below(errors.Refusal) - {errors.InputRefusal})
+        for kind, (status, form, sentence, _) in rows.items():
+            with self.subTest(kind.__name__):
+                self.assertEqual((int(status), sentence), (kind.status, kind.sentence))
+                self.assertIn(f"`{kind.form}`" if kind.form else "none", form)
 
     def test_each_first_line_has_its_row(self):
         shown = {row[1].split("`")[1].split()[1] for row in self.rows if "`s " in row[1]}
@@ -53,7 +54,7 @@ class Formats(unittest.TestCase):
             self.assertIn(f"\n| {kind} | {limit}", self.text)
 
     def test_all_names_are_told(self):
-        self.assertLessEqual({kind.__name__ for kind in errors.Refusal.__subclasses__()}, set(popsample.__all__))
+        self.assertLessEqual({kind.__name__ for kind in kinds_below(popsample.Error)}, set(popsample.__all__))
 
 
 if __name__ == "__main__":

@@ -72,7 +72,7 @@ def finished(ended: Callable[[Rows], Ended], rows: Iterable[Rows]) -> dict[Rows,
     for given in rows:
         try:
             answers[given] = ended(given)
-        except popsample.Exhausted:
+        except popsample.ExhaustedError:
             continue
     return answers
 

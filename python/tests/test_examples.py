@@ -35,7 +35,7 @@ class Drawings(unittest.TestCase):
     def test_a_key_of_another_form(self):
         ran = drawn("draw_networkx.py", "12")
         self.assertEqual((ran.returncode, ran.stdout), (1, ""))
-        self.assertIn("'12', can't stand there", ran.stderr)
+        self.assertIn("key='12' can't be taken", ran.stderr)
 
     def test_an_orientation(self):
         folder = TOP / "examples"

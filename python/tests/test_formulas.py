@@ -58,7 +58,7 @@ class Formulas(unittest.TestCase):
         # Under this key the entries of the variable are 1, 0, ..: it is popped once, if there is a next entry.
         grown = popsample.sample_formula([[-1]], ZEROS, height=1, grow=8)
         self.assertEqual((grown.literals, grown.used, grown.pops), ((-1,), {1: 1}, 1))
-        with self.assertRaises(popsample.Exhausted) as caught:
+        with self.assertRaises(popsample.ExhaustedError) as caught:
             popsample.sample_formula([[-1]], ZEROS, height=5, grow=1)
         self.assertEqual((caught.exception.stuck, caught.exception.used), ((1,), (0,)))
 

@@ -75,14 +75,14 @@ class Histories(unittest.TestCase):
             self.assertEqual(sample(edges, **asked), sample(edges, workers=4, **asked))
 
     def test_an_exhausted_run_has_its_log(self):
-        with self.assertRaises(popsample.Exhausted) as caught:
+        with self.assertRaises(popsample.ExhaustedError) as caught:
             popsample.sample_formula([[1]], stacks=[[0, 0]], log=True)
         self.assertEqual(caught.exception.log, (Pop(1, {1: 0}, 1),))
 
     def test_a_report_of_no_name(self):
-        with self.assertRaises(popsample.Usage) as caught:
+        with self.assertRaises(popsample.OptionError) as caught:
             popsample.sample_formula([[1]], reports=["widths"])
-        self.assertEqual(caught.exception.word, "widths")
+        self.assertEqual(caught.exception.value, ["widths"])
 
 
 if __name__ == "__main__":

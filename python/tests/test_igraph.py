@@ -65,7 +65,7 @@ class Graphs(unittest.TestCase):
             popsample.spanning_tree(igraph.Graph(edges=[(0, 1)], directed=True))
         with self.assertRaises(KeyError):
             popsample.spanning_tree(igraph.Graph(edges=[(0, 1)]), weight="buses")
-        with self.assertRaises(popsample.CutOff) as caught:
+        with self.assertRaises(popsample.CutOffError) as caught:
             popsample.spanning_tree(igraph.Graph(n=3, edges=[(0, 1)]), key=ZEROS)
         self.assertEqual(caught.exception.vertex, 2)
 

@@ -75,10 +75,10 @@ class Trees(unittest.TestCase):
     def test_refusals_name_the_vertex(self):
         graph = networkx.Graph([("a", "b"), ("b", "c"), ("c", "a")])
         graph.add_node("alone")
-        with self.assertRaises(popsample.CutOff) as caught:
+        with self.assertRaises(popsample.CutOffError) as caught:
             popsample.spanning_tree(graph)
         self.assertEqual(caught.exception.vertex, "alone")
-        with self.assertRaises(popsample.Isolated) as caught:
+        with self.assertRaises(popsample.IsolatedError) as caught:
             popsample.sink_free_orientation(graph)
         self.assertEqual(caught.exception.vertex, "alone")
 

@@ -1,7 +1,6 @@
 """Each refusal, with its numbers and with what its message says."""
 
 import os
-import pickle
 import unittest
 from unittest import mock
 
@@ -15,59 +14,45 @@ TRIANGLE = [("Ann", "Bob"), ("Bob", "Cem"), ("Cem", "Ann")]
 
 class OfRuns(Refusing):
     def test_exhausted_formula(self):
-        error = self.refused(popsample.Exhausted, sample_formula, [[1], [-1]], stacks=[[0]])
+        error = self.refused(popsample.ExhaustedError, sample_formula, [[1]], stacks=[[0]])
         self.assertEqual((error.stuck, error.used, error.pops, error.log), ((1,), (0,), 0, ()))
         self.assertIn("clause 1", str(error))
 
     def test_exhausted_orientation(self):
-        error = self.refused(popsample.Exhausted, sink_free_orientation, [("Ann", "Bob")], ZEROS, height=3)
-        self.assertIn(error.stuck, (("Ann",), ("Bob",)))
-        self.assertEqual((error.used, error.key), ((2,), ZEROS))
-        self.assertIn(f"vertex {error.stuck[0]!r}", str(error))
+        pair = [("Ann", "Bob"), ("Bob", "Ann")]
+        error = self.refused(popsample.ExhaustedError, sink_free_orientation, pair, stacks=[[0, 0], [1, 1]])
+        self.assertEqual((error.stuck, error.used, error.pops), (("Bob",), (1, 1), 1))
+        self.assertIn("the first at vertex 'Bob'", str(error))
 
     def test_exhausted_tree(self):
-        error = self.refused(popsample.Exhausted, spanning_tree, TRIANGLE, stacks=[[1], [0]])
+        error = self.refused(popsample.ExhaustedError, spanning_tree, TRIANGLE, stacks=[[1], [0]])
         self.assertEqual((error.stuck, error.pops, error.key), ((("Bob", "Cem"),), 0, None))
         self.assertIn("the cycle of 'Bob', 'Cem'", str(error))
 
     def test_exhausted_resampling_has_its_log(self):
-        error = self.refused(popsample.Exhausted, resample, [[1]], stacks=[[0, 0]])
+        error = self.refused(popsample.ExhaustedError, resample, [[1]], stacks=[[0, 0]])
         self.assertEqual((error.stuck, error.pops, error.log), ((1,), 1, (popsample.Pop(1, {1: 0}, 1),)))
 
     def test_exhausted_rounds(self):
-        error = self.refused(popsample.Exhausted, rounds, [[1]], stacks=[[0, 0]])
+        error = self.refused(popsample.ExhaustedError, rounds, [[1]], stacks=[[0, 0]])
         self.assertEqual((error.stuck, error.used, error.pops, error.log), ((1,), (1,), None, ()))
         self.assertEqual((error.rounds, error.short), (1, 1))
 
     def test_no_witness(self):
-        error = self.refused(popsample.NoWitness, resample, [[1]], stacks=[[0, 1]], witness=(1, 1))
+        error = self.refused(popsample.NoWitnessError, resample, [[1]], stacks=[[0, 1]], witness=(1, 1))
         self.assertEqual((error.variable, error.entry, error.cursor), (1, 1, 1))
 
 
 class OfWords(Refusing):
     def test_usage(self):
-        error = self.refused(popsample.Usage, spanning_tree, TRIANGLE, key=ZEROS, workers=65)
-        self.assertEqual((error.place, error.word, error.key), (5, "65", ZEROS))
-        self.assertIn("Word 5 of the command line, '65',", str(error))
-
-    def test_usage_of_each_option(self):
-        wrong = (
-            {"key": "xyz"},
-            {"height": 0},
-            {"grow": 0},
-            {"workers": 0},
-            {"stacks": [[0]], "key": ZEROS},
-            {"stacks": [[0]], "grow": 2},
-            {"stacks": [[-1]]},
-        )
-        for named in wrong:
-            with self.subTest(**named):
-                self.refused(popsample.Usage, sample_formula, [[1]], **named)
-        self.refused(popsample.Usage, resample, [[1]], reports=["sums"])
-        self.refused(popsample.Usage, resample, [[1]], witness=(1,))
+        # The module hands in no such words; another program may take others.
+        with program_of("echo s USAGE 5; exit 2"):
+            error = self.refused(popsample.UsageError, spanning_tree, TRIANGLE, key=ZEROS, workers=64)
+        self.assertEqual((error.place, error.word, error.key), (5, ZEROS, ZEROS))
+        self.assertIn(f"Word 5 of the command line, '{ZEROS}',", str(error))
 
     def test_words_that_end_too_early(self):
-        error = popsample.Usage(1, None)
+        error = popsample.UsageError(1, None)
         self.assertIn("Word 1 of the command line, the end,", str(error))
 
 
@@ -96,45 +81,45 @@ class OfTexts(Refusing):
     def malformed(self, texts, call):
         for text, line, code, shown in texts:
             with self.subTest(code=code), file_of(text) as path:
-                error = self.refused(popsample.Malformed, call, path)
+                error = self.refused(popsample.MalformedError, call, path)
                 self.assertEqual((error.line, error.code), (line, code))
                 self.assertEqual(error.text or "", shown or "")
                 self.assertIn(f"Line {line} of the text", str(error))
 
     def test_malformed_weight(self):
-        error = self.refused(popsample.Malformed, spanning_tree, [("Ann", "Bob", 0)])
-        self.assertEqual((error.line, error.code, error.text), (2, 14, "e 1 2 0"))
+        with file_of("p edge 2 1\ne 1 2 0\n") as path:
+            error = self.refused(popsample.MalformedError, spanning_tree, path)
         self.assertIn("'e 1 2 0', can't stand there, since the weight is 0 (code 14)", str(error))
 
     def test_count(self):
         with file_of("p cnf 1 2\n1 0\n") as path:
-            error = self.refused(popsample.Count, check, path)
+            error = self.refused(popsample.CountError, check, path)
         self.assertEqual((error.declared, error.found), (2, 1))
 
     def test_limits(self):
         with file_of("p cnf 4194305 0\n") as path:
-            error = self.refused(popsample.Limit, check, path)
+            error = self.refused(popsample.LimitError, check, path)
         self.assertEqual((error.kind, error.place), (2, 1))
-        error = self.refused(popsample.Limit, spanning_tree, [("Ann", "Bob", 2**32 - 1), ("Ann", "Bob", 1)])
+        error = self.refused(popsample.LimitError, spanning_tree, [("Ann", "Bob", 2**32 - 1), ("Ann", "Bob", 1)])
         self.assertEqual((error.kind, error.place), (6, "Bob"))
         self.assertIn("at vertex 'Bob'", str(error))
 
 
 class OfRows(Refusing):
     def test_rows(self):
-        error = self.refused(popsample.Rows, spanning_tree, TRIANGLE, stacks=[[0]])
+        error = self.refused(popsample.RowsError, spanning_tree, TRIANGLE, stacks=[[0]])
         self.assertEqual((error.given, error.wanted), (1, 2))
 
     def test_empty_row(self):
-        error = self.refused(popsample.EmptyRow, spanning_tree, TRIANGLE, stacks=[[0], []])
+        error = self.refused(popsample.EmptyRowError, spanning_tree, TRIANGLE, stacks=[[0], []])
         self.assertEqual(error.variable, "Cem")
-        error = self.refused(popsample.EmptyRow, sink_free_orientation, TRIANGLE, stacks=[[0], [], [0]])
+        error = self.refused(popsample.EmptyRowError, sink_free_orientation, TRIANGLE, stacks=[[0], [], [0]])
         self.assertEqual(error.variable, 1)
-        error = self.refused(popsample.EmptyRow, sample_formula, [[1, 2]], stacks=[[0], []])
+        error = self.refused(popsample.EmptyRowError, sample_formula, [[1, 2]], stacks=[[0], []])
         self.assertEqual(error.variable, 2)
 
     def test_value(self):
-        error = self.refused(popsample.Value, spanning_tree, TRIANGLE, stacks=[[0], [0, 2]])
+        error = self.refused(popsample.EntryError, spanning_tree, TRIANGLE, stacks=[[0], [0, 2]])
         self.assertEqual((error.variable, error.entry), ("Cem", 1))
         self.assertIn("Entry 1 of variable 'Cem'", str(error))
 
@@ -142,55 +127,42 @@ class OfRows(Refusing):
 class OfInstances(Refusing):
     def test_clash(self):
         for call in (check, sample_formula):
-            error = self.refused(popsample.Clash, call, [[-3], [1, 2], [2, 3]])
+            error = self.refused(popsample.ClashError, call, [[-3], [1, 2], [2, 3]])
             self.assertEqual((error.first, error.second, error.clauses), (2, 3, ("1 2", "2 3")))
 
     def test_clash_in_a_file(self):
         with file_of("c two\np cnf 3 3\n-3 0 1\nc within\n2 0 2 3\n") as path:
-            error = self.refused(popsample.Clash, check, path)
+            error = self.refused(popsample.ClashError, check, path)
         self.assertEqual((error.first, error.second, error.clauses), (2, 3, ("1 2", "2 3")))
 
     def test_empty(self):
-        error = self.refused(popsample.Empty, sample_formula, [[1], []])
+        error = self.refused(popsample.EmptyClauseError, sample_formula, [[1], []])
         self.assertEqual(error.clause, 2)
 
     def test_isolated(self):
         with file_of("p edge 3 1\ne 1 2\n") as path:
-            error = self.refused(popsample.Isolated, sink_free_orientation, path)
+            error = self.refused(popsample.IsolatedError, sink_free_orientation, path)
         self.assertEqual(error.vertex, 3)
 
     def test_root(self):
-        error = self.refused(popsample.Root, spanning_tree, TRIANGLE, root="Zoe")
+        error = self.refused(popsample.RootError, spanning_tree, TRIANGLE, root="Zoe")
         self.assertEqual(error.root, "Zoe")
         self.assertIn("The root 'Zoe'", str(error))
-        self.refused(popsample.Root, spanning_tree, [])
         with file_of("p edge 2 1\ne 1 2\n") as path:
             for root in (3, 0, "x"):
-                self.assertEqual(self.refused(popsample.Root, spanning_tree, path, root).root, root)
+                self.assertEqual(self.refused(popsample.RootError, spanning_tree, path, root).root, root)
 
     def test_cut_off(self):
-        error = self.refused(popsample.CutOff, spanning_tree, [("Ann", "Bob"), ("Cem", "Dan")])
+        error = self.refused(popsample.CutOffError, spanning_tree, [("Ann", "Bob"), ("Cem", "Dan")])
         self.assertEqual(error.vertex, "Cem")
         self.assertIn("vertex 'Cem'", str(error))
 
 
 class OfGraphs(Refusing):
-    def test_edges_and_weights_of_another_form(self):
-        self.refused(ValueError, spanning_tree, [("a",)])
-        self.refused(ValueError, spanning_tree, [("a", "b", 1.5)])
-        self.refused(TypeError, spanning_tree, [("a", "b", "much")])
-
-
-class Pickled(Refusing):
-    def test_what_an_exception_has_goes_along(self):
-        raised = [
-            self.refused(popsample.Malformed, spanning_tree, [("Ann", "Bob", 0)]),
-            self.refused(popsample.Exhausted, sample_formula, [[1], [-1]], stacks=[[0]]),
-            self.refused(popsample.CutOff, spanning_tree, [("Ann", "Bob"), ("Cem", "Dan")], key=ZEROS),
-        ]
-        for error in raised:
-            again = pickle.loads(pickle.dumps(error))
-            self.assertEqual((type(again), str(again), vars(again)), (type(error), str(error), vars(error)))
+    def test_edges_of_another_form(self):
+        for edge in (("a",), ("a", "b", 1, 2), []):
+            error = self.refused(ValueError, spanning_tree, [edge])
+            self.assertIn(f"the edge {edge!r} has neither two nor three parts", str(error))
 
 
 class OfDevices(Refusing):
@@ -198,24 +170,21 @@ class OfDevices(Refusing):
 
     def test_read_fault(self):
         with program_of('exec "$PROGRAM" "$@" < /'):
-            self.refused(popsample.ReadFault, check, [[1]])
+            self.refused(popsample.ReadError, check, [[1]])
 
     @unittest.skipUnless(os.path.exists("/dev/full"), "there is no /dev/full")
     def test_write_fault(self):
         with program_of('exec "$PROGRAM" "$@" > /dev/full'):
-            self.refused(popsample.WriteFault, check, [[1]])
-
-    def test_word_that_is_not_utf8(self):
-        error = self.refused(popsample.Memory, sample_formula, [[1]], key="\udcff")
-        self.assertEqual(error.status, 9)
+            self.refused(popsample.WriteError, check, [[1]])
 
     def test_memory(self):
         with program_of("echo s MEMORY; exit 9"):
-            self.refused(popsample.Memory, check, [[1]])
+            error = self.refused(popsample.OutOfMemoryError, check, [[1]])
+        self.assertEqual(error.status, 9)
 
     def test_no_program(self):
         with mock.patch.dict(os.environ, {"POPSAMPLE": "/nowhere/popsample"}):
-            error = self.refused(popsample.NoProgram, check, [[1]])
+            error = self.refused(popsample.NoProgramError, check, [[1]])
         self.assertIn("'/nowhere/popsample'", str(error))
 
     def test_the_path_is_looked_at(self):
@@ -229,7 +198,7 @@ class OfDevices(Refusing):
     def test_ends_that_are_no_answers(self):
         for script in ("exit 1", "kill -9 $$", "echo s NONE; exit 3", "echo nothing; exit 2"):
             with self.subTest(script), program_of(script):
-                self.refused(popsample.NoAnswer, check, [[1]])
+                self.refused(popsample.NoAnswerError, check, [[1]])
 
 
 if __name__ == "__main__":

@@ -1,0 +1,80 @@
+"""What is wrong with the arguments of a call, in the words of the call: all this is raised before the program runs."""
+
+from __future__ import annotations
+
+from collections.abc import Hashable, Sequence
+from typing import Any
+
+from .base_error import Error
+
+
+class ArgumentError(Error, ValueError):
+    """What was handed in can't be taken: the message says what to hand in."""
+
+
+class OptionError(ArgumentError):
+    """An argument has no value that it may have: `argument` is its name, and `value` what was handed in."""
+
+    def __init__(self, argument: str, value: Any, wanted: str) -> None:
+        super().__init__(f"{argument}={value!r} can't be taken: {wanted}.")
+        self.argument = argument
+        self.value = value
+
+
+class InputTypeError(ArgumentError, TypeError):
+    """A graph, a formula or a part of it is of a kind that isn't read."""
+
+
+class EmptyGraphError(ArgumentError):
+    """The graph has no vertex, so it has no spanning tree."""
+
+    def __init__(self) -> None:
+        super().__init__("The graph has no vertex, so it has no spanning tree: hand in one that has a vertex.")
+
+
+class WeightError(ArgumentError):
+    """A weight can't be taken: `edge` is the name of its edge, and `weight` what was handed in."""
+
+    def __init__(self, edge: Hashable, weight: Any, reason: str) -> None:
+        super().__init__(f"The weight {weight!r} of edge {edge!r} can't be taken: {reason}.")
+        self.edge = edge
+        self.weight = weight
+
+
+class NoWeightError(ArgumentError, KeyError):
+    """No edge has the attribute that is to have the weights: `attribute` is its name."""
+
+    def __init__(self, attribute: Hashable) -> None:
+        super().__init__(f"No edge has the attribute {attribute!r} that weight= names: look at how it is spelled.")
+        self.attribute = attribute
+
+    def __str__(self) -> str:
+        """The message as it is; a KeyError shows it as Python writes a string."""
+        return str(self.args[0])
+
+
+class TreeComponentError(ArgumentError):
+    """A connected part of the graph is a tree, which has a sink however it is oriented.
+
+    `vertices` are those of that part, the first such.
+    """
+
+    def __init__(self, vertices: Sequence[Hashable]) -> None:
+        super().__init__(
+            f"The connected part with vertex {vertices[0]!r}, of {len(vertices)} vertices, is a tree, which has a sink "
+            "however it is oriented: leave this part out, or add an edge to it.",
+        )
+        self.vertices = tuple(vertices)
+
+
+class UnsatisfiableError(ArgumentError):
+    """These clauses, by number, can't all be true: they have one variable less than they are, and each of these can
+    make one of them true at a time.
+    """
+
+    def __init__(self, clauses: Sequence[int]) -> None:
+        super().__init__(
+            f"The {len(clauses)} clauses that are joined to clause {clauses[0]} have {len(clauses) - 1} variables, "
+            "each of which makes at most one of them true, so nothing satisfies all: leave one of the clauses out.",
+        )
+        self.clauses = tuple(clauses)

@@ -1,0 +1,230 @@
+"""What is wrong with the arguments of a call is told in the words of the call, before the program runs."""
+
+import os
+import time
+import unittest
+from functools import partial
+from unittest import mock
+
+import popsample
+from popsample import (
+    check,
+    formula_samples,
+    replay,
+    resample,
+    resume,
+    rounds,
+    sample_formula,
+    samples,
+    sink_free_orientation,
+    sink_free_orientations,
+    spanning_tree,
+    spanning_trees,
+)
+
+from .checks import ZEROS, Refusing, file_of, program_of
+
+TRIANGLE = [("Ann", "Bob"), ("Bob", "Cem"), ("Cem", "Ann")]
+KEY = "a key is a string of 64 hexadecimal digits; a whole number goes to seed="
+WORKERS = "it is a whole number from 1 to 64"
+HEIGHT = "it is a whole number from 1 to 2147483647"
+ROWS = "it is a list of rows, each a list of whole numbers from 0 on"
+REPORTS = "it has some of the names totals, heights, layers, each once"
+SECONDS = "it is a number of seconds above 0, up to 1000000"
+NO_PROGRAM = {"POPSAMPLE": "/nowhere/popsample"}
+
+
+@mock.patch.dict(os.environ, NO_PROGRAM)
+class Options(Refusing):
+    """The program isn't there, so each of these is refused before it would run."""
+
+    def wrong(self, call, subject, argument, value, wanted, **others):
+        """The call refuses this argument, by its name and value, and says what it wants."""
+        with self.subTest(call=call.__name__, argument=argument, value=value):
+            error = self.refused(popsample.OptionError, call, subject, **{argument: value}, **others)
+            self.assertEqual(str(error), f"{argument}={value!r} can't be taken: {wanted}.")
+            self.assertEqual((error.argument, error.value), (argument, value))
+            self.assertIsInstance(error, ValueError)
+
+    def of_all(self, argument, value, wanted, calls=(spanning_tree, sink_free_orientation, sample_formula, resample)):
+        """The same of these functions."""
+        for call in calls:
+            subject = TRIANGLE if call in (spanning_tree, sink_free_orientation) else [[1]]
+            self.wrong(call, subject, argument, value, wanted)
+
+    def test_keys(self):
+        for key in (42, "xyz", "0" * 63, ZEROS + "0", "g" * 64, b"0" * 64, "\udcff"):
+            self.of_all("key", key, KEY)
+            self.wrong(rounds, [[1]], "key", key, KEY)
+            self.wrong(spanning_trees, TRIANGLE, "key", key, KEY, count=3)
+            self.wrong(samples, TRIANGLE, "key", key, KEY)
+
+    def test_seeds(self):
+        for seed in (-1, "7", 1.5, True):
+            self.of_all("seed", seed, "it is a whole number from 0 on")
+        self.wrong(spanning_tree, TRIANGLE, "seed", 7, "the call has a key already", key=ZEROS)
+
+    def test_numbers(self):
+        for workers in (0, 65, 100, -1, 1.0, "2", None, True):
+            self.of_all("workers", workers, WORKERS)
+        for height in (0, 2**31, "9"):
+            self.of_all("height", height, HEIGHT)
+            self.of_all("grow", height, HEIGHT)
+            self.wrong(rounds, [[1]], "height", height, HEIGHT)
+        for pops in (0, 2**32, 1.5):
+            self.of_all("pops", pops, "it is a whole number from 1 to 4294967295")
+
+    def test_counts(self):
+        for count in (0, 65537, -3, "9", 2.0):
+            wanted = "it is a whole number from 1 to 65536"
+            self.wrong(spanning_trees, TRIANGLE, "count", count, wanted)
+            self.wrong(sink_free_orientations, TRIANGLE, "count", count, wanted)
+            self.wrong(formula_samples, [[1]], "count", count, wanted)
+        for count in (0, -1, "9"):
+            self.wrong(samples, TRIANGLE, "count", count, "it is a whole number from 1 on")
+        self.wrong(samples, TRIANGLE, "ahead", 0, "it is a whole number from 1 on")
+
+    def test_rows(self):
+        for stacks in ([[-1]], [["0"]], [0], 5, [[0.0]], [[2**32]]):
+            self.of_all("stacks", stacks, ROWS)
+        for argument, value in (("key", ZEROS), ("seed", 3), ("height", 9)):
+            self.wrong(sample_formula, [[1]], argument, value, "the call has stacks= in its place", stacks=[[0]])
+        self.wrong(sample_formula, [[1]], "grow", 9, "rows of stacks= don't grow", stacks=[[0]])
+
+    def test_what_pops_excludes(self):
+        self.wrong(resample, [[1]], "workers", 2, "with pops= there is one worker", pops=1)
+        for argument, value in (("grow", 9), ("log", True), ("witness", (1, 0)), ("reports", ["totals"])):
+            self.wrong(sample_formula, [[1]], argument, value, "it doesn't go with pops=", pops=1)
+
+    def test_reports_and_witnesses(self):
+        for reports in (["sums"], "widths", ["totals", "totals"]):
+            self.of_all("reports", reports, REPORTS)
+        for witness in ((1,), 7, (1, 2, 3)):
+            self.of_all("witness", witness, "it is a pair of a variable and one of its entries")
+        error = self.refused(popsample.OptionError, resample, [[1]], witness=(1, -1))
+        self.assertEqual(str(error), "witness=-1 can't be taken: it is a whole number from 0 to 4294967295.")
+
+    def test_timeouts(self):
+        for timeout in (0, -1, "5", float("nan"), float("inf"), 2e6):
+            self.of_all("timeout", timeout, SECONDS, (spanning_tree, sample_formula, resample, rounds, check))
+            self.wrong(replay, b"cert", "timeout", timeout, SECONDS)
+            self.wrong(resume, b"cert", "timeout", timeout, SECONDS)
+            self.wrong(spanning_trees, TRIANGLE, "timeout", timeout, SECONDS, count=2)
+            self.wrong(samples, TRIANGLE, "timeout", timeout, SECONDS)
+        self.wrong(resume, b"cert", "workers", 65, WORKERS)
+
+    def test_arguments_of_another_kind_of_sample(self):
+        others = (("tree", "variables", 3), ("orientation", "root", "Ann"), ("assignment", "weight", "w"))
+        for kind, argument, value in others:
+            wanted = f"samples of the kind {kind!r} have no such argument"
+            self.wrong(samples, TRIANGLE, argument, value, wanted, kind=kind)
+        self.wrong(samples, TRIANGLE, "kind", "trees", "it is one of tree, orientation, assignment")
+        wanted = "it is True, or is called with the numbers of samples done and in all"
+        self.wrong(samples, TRIANGLE, "progress", 5, wanted)
+
+
+@mock.patch.dict(os.environ, NO_PROGRAM)
+class Graphs(Refusing):
+    def test_an_empty_graph(self):
+        for call in (spanning_tree, samples):
+            error = self.refused(popsample.EmptyGraphError, call, [], **({"kind": "tree"} if call is samples else {}))
+            self.assertIn("The graph has no vertex, so it has no spanning tree", str(error))
+        self.refused(ValueError, spanning_trees, {}, 3)
+
+    def test_a_root_that_is_no_vertex(self):
+        error = self.refused(popsample.RootError, spanning_tree, TRIANGLE, root="Zoe")
+        self.assertEqual(str(error), "The root 'Zoe' is no vertex of the graph: choose another.")
+        self.assertIsInstance(error, ValueError)
+
+    def test_parts_that_are_trees(self):
+        path = [(vertex, vertex + 1) for vertex in range(100_000)]
+        error = self.refused(popsample.TreeComponentError, sink_free_orientation, path)
+        self.assertEqual(len(error.vertices), 100_001)
+        beside = [*TRIANGLE, ("Dan", "Eve"), ("Eve", "Fay")]
+        for call, named in ((sink_free_orientation, {}), (sink_free_orientations, {"count": 2})):
+            error = self.refused(popsample.TreeComponentError, call, beside, **named)
+            self.assertEqual(error.vertices, ("Dan", "Eve", "Fay"))
+            self.assertIn("with vertex 'Dan', of 3 vertices, is a tree, which has a sink however", str(error))
+        with file_of("c\np col 3 2\ne 2 3\ne 3 1\n") as file:
+            self.assertEqual(self.refused(ValueError, sink_free_orientation, file).vertices, (1, 2, 3))
+
+    def test_clauses_that_hang_together_like_a_tree(self):
+        wrong = [[-4], [1, -2], [2], [-1], [4, 5]]
+        for call, named in ((sample_formula, {}), (resample, {}), (rounds, {}), (formula_samples, {"count": 2})):
+            error = self.refused(popsample.UnsatisfiableError, call, wrong, **named)
+            self.assertEqual(error.clauses, (2, 3, 4))
+            self.assertIn("The 3 clauses that are joined to clause 2 have 2 variables", str(error))
+
+
+class PartsThatAreNoTrees(Refusing):
+    """The program runs, and has a sample."""
+
+    def test_graphs(self):
+        loop, parallel = [("a", "b"), ("b", "b")], [("a", "b"), ("b", "a")]
+        for edges in (TRIANGLE, loop, parallel, [*TRIANGLE, ("Cem", "Dan")]):
+            sink_free_orientation(edges)
+        self.refused(popsample.RootError, spanning_tree, TRIANGLE, "Zoe")
+
+    def test_formulas(self):
+        # A variable in one clause, in three, or with one sign: what looks like a tree is none.
+        for clauses in ([[1, 2], [-1]], [[1], [1]], [[1, -1], [2], [1]], [[1], [2, -1]], [[1, 1, 3], [-1]]):
+            with self.subTest(clauses=clauses):
+                told = popsample.rounds(clauses)
+                self.assertTrue(all(set(clause) & set(told.literals) for clause in clauses))
+
+
+class Seeds(unittest.TestCase):
+    def test_the_key_of_a_seed(self):
+        # By sha256sum, of the text "popsample seed 42".
+        key = "a4e4d65abfb20da55efeb3b803172d7922166ee8fdf470e9a6d573ac07038eb8"
+        self.assertEqual(popsample.seed_key(42), key)
+        for call, subject in ((spanning_tree, TRIANGLE), (sink_free_orientation, TRIANGLE), (sample_formula, [[1]]),
+                              (resample, [[1]]), (rounds, [[1]])):
+            told = call(subject, seed=42)
+            self.assertEqual((told.key, told), (key, call(subject, key=key)))
+        for call, subject in ((spanning_trees, TRIANGLE), (sink_free_orientations, TRIANGLE), (formula_samples, [[1]])):
+            self.assertEqual([told.key for told in call(subject, 2, seed=42)], [key, key])
+        self.assertEqual(samples(TRIANGLE, 2, seed=42).key, key)
+
+
+class Timeouts(Refusing):
+    def test_the_program_is_ended(self):
+        # The script tells its process, and doesn't end by itself.
+        with file_of("") as told, program_of(f"cat > /dev/null; echo $$ > '{told}'; exec sleep 600"):
+            for call, named in ((spanning_tree, {}), (spanning_trees, {"count": 2})):
+                error = self.refused(TimeoutError, call, TRIANGLE, timeout=1, **named)
+                self.assertIsInstance(error, popsample.RunTimeoutError)
+                self.assertEqual(error.timeout, 1)
+                self.assertIn("had no answer after timeout=1.0 seconds, and was ended", str(error))
+                with self.assertRaises(ProcessLookupError):
+                    os.kill(int(told.read_text()), 0)
+
+    def test_each_function_has_it(self):
+        clauses, graph = (check, rounds, resample, sample_formula, samples), (sink_free_orientation, samples)
+        calls = [*((call, [[1]]) for call in clauses), *((call, TRIANGLE) for call in graph)]
+        calls += [(replay, b"cert"), (resume, b"cert"), (partial(formula_samples, count=2), [[1]])]
+        with program_of("exec sleep 600"):
+            for call, subject in calls:
+                with self.assertRaises(popsample.RunTimeoutError):
+                    told = call(subject, timeout=0.1)
+                    next(told)
+
+    def test_a_program_that_reads_nothing(self):
+        # The input is longer than a pipe holds.
+        star = [(0, vertex) for vertex in range(20_000)]
+        with program_of("exec sleep 600"):
+            self.refused(TimeoutError, spanning_tree, star, timeout=0.1)
+            self.refused(TimeoutError, spanning_trees, star, 2, timeout=0.1)
+
+    def test_the_time_of_the_caller_does_not_count(self):
+        # What these trees print is longer than a pipe holds, so the program waits for the caller.
+        trees = spanning_trees([(0, vertex) for vertex in range(1, 2000)], 60, timeout=1)
+        time.sleep(1.2)
+        self.assertEqual(len(list(trees)), 60)
+
+    def test_an_end_in_time(self):
+        self.assertEqual(spanning_tree(TRIANGLE, seed=1, timeout=600), spanning_tree(TRIANGLE, seed=1))
+
+
+if __name__ == "__main__":
+    unittest.main()

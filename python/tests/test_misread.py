@@ -1,0 +1,234 @@
+"""What was once misread in silence: it is read as it is meant, or refused in words that say what to hand in."""
+
+import importlib.util
+import unittest
+from fractions import Fraction
+from types import SimpleNamespace
+
+import popsample
+from popsample import from_adjacency, sample_formula, sink_free_orientation, spanning_tree, spanning_trees
+
+from .checks import ZEROS, Refusing, is_tree_to
+
+HAS_NUMPY = importlib.util.find_spec("numpy") is not None
+HAS_NETWORKX = importlib.util.find_spec("networkx") is not None
+# A square of four vertices, with names of two letters, so that a name could be taken for an edge.
+SQUARE = {"aa": ["bb", "cc"], "bb": ["aa", "dd"], "cc": ["aa", "dd"], "dd": ["bb", "cc"]}
+
+
+class Dicts(Refusing):
+    def test_a_dict_of_lists_is_an_adjacency(self):
+        tree = spanning_tree(SQUARE, "dd")
+        self.assertEqual({tree.root, *tree.parents}, set(SQUARE))
+        self.assertTrue(all(arrow.head in SQUARE[arrow.tail] for arrow in tree.arrows))
+        self.assertTrue(all(set(arrow.edge) == {arrow.tail, arrow.head} for arrow in tree.arrows))
+
+    def test_pairs_as_vertices(self):
+        # These names are pairs: each could be taken for an edge of numbers.
+        grid = {(0, 0): [(0, 1), (1, 0)], (0, 1): [(0, 0), (1, 1)], (1, 0): [(0, 0), (1, 1)], (1, 1): [(0, 1), (1, 0)]}
+        self.assertEqual(set(spanning_tree(grid, (1, 1)).parents), {(0, 0), (0, 1), (1, 0)})
+
+    def test_a_dict_of_dicts_has_weights_and_attributes(self):
+        heavy = 2**32 - 3
+        for graph, named in (
+            ({"a": {"b": heavy, "c": 1}, "b": {"a": heavy, "c": 1}, "c": {"a": 1, "b": 1}}, {}),
+            ({"a": {"b": {"w": heavy}, "c": {}}, "b": {"c": {}}}, {"weight": "w"}),
+        ):
+            for tree in spanning_trees(graph, 20, "a", key=ZEROS, **named):
+                self.assertIn(("a", "b"), tree.edges)
+
+    def test_an_edge_that_stands_at_one_end(self):
+        self.assertEqual(spanning_tree({"a": ["b"], "c": {"b": {}}}).parents, {"b": "a", "c": "b"})
+
+    def test_a_vertex_without_neighbours(self):
+        self.assertEqual(self.refused(popsample.CutOffError, spanning_tree, {"a": ["b"], "b": [], "c": []}).vertex, "c")
+
+    def test_what_is_no_adjacency(self):
+        error = self.refused(TypeError, spanning_tree, {"ab": 3})
+        self.assertIn("what stands at vertex 'ab', 3, is no list of neighbours", str(error))
+        self.refused(TypeError, spanning_tree, {"ab": "cd"})
+        self.assertIn("has a neighbour twice", str(self.refused(ValueError, spanning_tree, {"a": ["b", "b"]})))
+        error = self.refused(ValueError, spanning_tree, {"a": {"b": 1}, "b": {"a": 2}})
+        self.assertIn("the edge ('a', 'b') has 1 at its first end and 2 at its second", str(error))
+        error = self.refused(TypeError, spanning_tree, {"a": {"b": {0: {}, 1: {}}}})
+        self.assertIn("hand in the multigraph itself", str(error))
+
+    @unittest.skipUnless(HAS_NETWORKX, "networkx isn't installed")
+    def test_those_of_networkx(self):
+        import networkx
+
+        graph = networkx.grid_2d_graph(2, 2)
+        for made in (networkx.to_dict_of_lists(graph), networkx.to_dict_of_dicts(graph)):
+            tree = spanning_tree(made, (0, 0), key=ZEROS)
+            self.assertEqual(tree.arrows, spanning_tree(graph, (0, 0), key=ZEROS).arrows)
+            self.assertEqual(set(tree.parents), {(0, 1), (1, 0), (1, 1)})
+
+
+class Strings(Refusing):
+    def test_edges_that_are_strings(self):
+        for graph in (["ab", "bc"], [b"ab", b"bc"], {"ab", "bc"}, [("a", "b"), "bc"]):
+            with self.subTest(graph=graph):
+                error = self.refused(TypeError, spanning_tree, graph)
+                self.assertIn("is no pair or triple: a graph is a list of edges", str(error))
+
+    def test_what_is_no_graph(self):
+        for graph in (b"ab", 5, None):
+            error = self.refused(TypeError, spanning_tree, graph)
+            self.assertIn(f"{graph!r} is no graph: a graph is a list of edges", str(error))
+        self.assertIn("the edge {'a': 'b'} is no pair", str(self.refused(TypeError, spanning_tree, [{"a": "b"}])))
+
+    def test_a_vertex_that_is_a_list(self):
+        error = self.refused(TypeError, spanning_tree, [(["a"], "b")])
+        self.assertIn("the vertex ['a'] can't be hashed", str(error))
+
+
+@unittest.skipUnless(HAS_NUMPY, "numpy isn't installed")
+class ArraysOfNumbers(Refusing):
+    def test_square_ones_are_refused(self):
+        import numpy
+
+        for matrix in ([[0, 1], [1, 0]], [[0, 1, 1], [1, 0, 1], [1, 1, 0]], [[1, 2], [2, 3]]):
+            error = self.refused(popsample.ArgumentError, spanning_tree, numpy.array(matrix))
+            self.assertIn("for an adjacency matrix hand in popsample.from_adjacency(array)", str(error))
+
+    def test_others_that_are_no_edges(self):
+        import numpy
+
+        others = (numpy.zeros((4, 2)), numpy.ones((2, 4), dtype=int), numpy.arange(3), numpy.ones((3, 2), dtype=bool))
+        for array in others:
+            self.refused(popsample.ArgumentError, spanning_tree, array)
+
+    def test_edges(self):
+        import numpy
+
+        pairs = [(0, 1), (1, 2), (2, 0), (2, 3)]
+        for kind in (numpy.int64, numpy.uint8):
+            tree = spanning_tree(numpy.array(pairs, dtype=kind), 3)
+            self.assertTrue(is_tree_to(3, range(4), pairs, tree))
+            self.assertEqual({type(vertex) for vertex in tree.parents}, {int})
+        heavy = numpy.array([(7, 8, 1), (7, 8, 2**32 - 3)])
+        self.assertEqual({tree.edges[0] for tree in spanning_trees(heavy, 20, key=ZEROS)}, {1})
+
+    def test_a_matrix_by_name(self):
+        import numpy
+
+        matrix = numpy.array([[0, 5, 0], [5, 0, 0.5], [0, 0.5, 0]])
+        self.assertEqual(spanning_tree(from_adjacency(matrix)).parents, {1: 0, 2: 1})
+        tree = spanning_tree(from_adjacency(numpy.ones((2, 2), dtype=bool), names=["a", "b"]), "b")
+        self.assertEqual((tree.parents, tree.edges), ({"a": "b"}, [("a", "b")]))
+
+
+class Matrices(Refusing):
+    def test_a_list_of_lists_by_name(self):
+        self.assertEqual(spanning_tree(from_adjacency([[0, 1], [1, 0]])).parents, {1: 0})
+        triangle = from_adjacency([[0, 1, 1], [1, 0, 1], [1, 1, 0]], names="abc")
+        edges = [arrow.edge for arrow in sink_free_orientation(triangle).arrows]
+        self.assertEqual(edges, [("a", "b"), ("a", "c"), ("b", "c")])
+
+    def test_a_dict_by_name(self):
+        self.assertEqual(spanning_tree(from_adjacency(SQUARE), key=ZEROS), spanning_tree(SQUARE, key=ZEROS))
+        given = from_adjacency({"a": {"b": {"w": 1}, "c": {"w": 9}}}, weight="w")
+        self.assertEqual(set(spanning_tree(given).parents), {"b", "c"})
+        self.refused(popsample.OptionError, spanning_tree, given, weight="w")
+
+    def test_what_is_no_undirected_graph(self):
+        self.assertIn("row 0 of this one, from 0, isn't its column", str(self.wrong([[0, 1], [0, 0]])))
+        self.assertIn("an adjacency matrix is square", str(self.wrong([[0, 1]])))
+        self.assertIn("names= has one for each of the 2 rows", str(self.wrong([[0, 1], [1, 0]], names="a")))
+        self.assertIn("the entries of a matrix are its weights", str(self.wrong([[0]], weight="w")))
+        self.assertIn("weight -1 of edge (0, 1)", str(self.wrong([[0, -1], [-1, 0]])))
+
+    def wrong(self, *words, **named):
+        """What is raised of these."""
+        return self.refused(popsample.ArgumentError, from_adjacency, *words, **named)
+
+
+class Weights(Refusing):
+    def test_a_mistyped_attribute(self):
+        for graph in ([("a", "b", {"buses": 2})], [("a", "b")], {"a": {"b": {"buses": 2}}}):
+            error = self.refused(KeyError, spanning_tree, graph, weight="busses")
+            self.assertIsInstance(error, popsample.NoWeightError)
+            self.assertEqual(error.attribute, "busses")
+            self.assertIn("No edge has the attribute 'busses' that weight= names", str(error))
+
+    @unittest.skipUnless(HAS_NETWORKX, "networkx isn't installed")
+    def test_a_mistyped_attribute_of_networkx(self):
+        import networkx
+
+        for kind in (networkx.Graph, networkx.MultiGraph):
+            graph = kind()
+            graph.add_edge("a", "b", buses=2)
+            graph.add_edge("b", "c")
+            self.refused(KeyError, spanning_tree, graph, weight="busses")
+            self.assertEqual(spanning_tree(graph, weight="buses").parents, {"b": "a", "c": "b"})
+
+    def test_fractions_are_scaled(self):
+        whole = [("a", "b", 1), ("b", "c", 2), ("c", "a", 3)]
+        wanted = [tree.edges for tree in spanning_trees(whole, 50, key=ZEROS)]
+        for unit in (0.5, 2.0**-300, Fraction(1, 30), Fraction(2, 7)):
+            edges = [(first, second, weight * unit) for first, second, weight in whole]
+            self.assertEqual([tree.edges for tree in spanning_trees(edges, 50, key=ZEROS)], wanted, unit)
+        mixed = [("a", "b", Fraction(1, 6)), ("b", "c", Fraction(1, 3)), ("c", "a", 0.5)]
+        self.assertEqual([tree.edges for tree in spanning_trees(mixed, 50, key=ZEROS)], wanted)
+
+    def test_whole_numbers_of_any_kind_stay(self):
+        wanted = spanning_tree([("a", "b", 2), ("b", "a", 4)], key=ZEROS)
+        self.assertEqual(spanning_tree([("a", "b", 2.0), ("b", "a", Fraction(4))], key=ZEROS), wanted)
+
+    def test_what_does_not_fit_is_refused_by_name(self):
+        for weights, wrong in (((1, 0.1), 0.1), ((Fraction(1, 2**40), Fraction(1, 3**26)), Fraction(1, 3**26))):
+            edges = [("a", "b", weights[0]), ("b", "c", weights[1])]
+            error = self.refused(popsample.WeightError, spanning_tree, edges)
+            self.assertEqual((error.edge, error.weight), (1, wrong))
+            self.assertIn(f"The weight {wrong!r} of edge 1 can't be taken: it is exactly ", str(error))
+        error = self.refused(popsample.WeightError, spanning_tree, [("a", "b", 0.5), ("b", "c", 2.0**40)])
+        self.assertEqual((error.edge, error.weight), (1, 2.0**40))
+        self.assertIn("can't all be scaled to whole numbers up to 4294967295", str(error))
+        self.refused(popsample.WeightError, spanning_tree, [("a", "b", 2**32)])
+
+    def test_what_is_not_above_zero(self):
+        for weight in (0, -1, -0.5, float("nan"), float("inf"), Fraction(0), False):
+            error = self.refused(ValueError, spanning_tree, [("a", "b"), ("b", "c", weight)])
+            self.assertIn(f"The weight {weight!r} of edge 1 can't be taken: it is no number above 0", str(error))
+
+    def test_what_is_no_number(self):
+        for weight in ("3", None, (1, 2)):
+            error = self.refused(TypeError, spanning_tree, [("a", "b", weight)])
+            self.assertIn(f"the weight {weight!r} of edge 0 is no number", str(error))
+
+
+class Variables(Refusing):
+    def test_variables_in_no_clause(self):
+        told = sample_formula([[1, 2]], variables=5)
+        self.assertEqual([abs(literal) for literal in told.literals], [1, 2, 3, 4, 5])
+        self.assertEqual(popsample.rounds([], variables=3, stacks=[[0], [1], [0]]).literals, (-1, 2, -3))
+        self.assertEqual(len(popsample.resample([[2]], variables=3).literals), 3)
+        self.assertEqual(len(next(popsample.formula_samples([], 2, variables=4)).literals), 4)
+
+    def test_fewer_than_the_clauses_have(self):
+        error = self.refused(popsample.OptionError, sample_formula, [[1, -7]], variables=6)
+        self.assertEqual(str(error), "variables=6 can't be taken: the clauses have variable 7.")
+        self.refused(ValueError, sample_formula, [[1]], variables=-1)
+
+    def test_a_file_says_it_itself(self):
+        self.refused(popsample.OptionError, sample_formula, "none.cnf", variables=3)
+
+    def test_a_formula_of_python_sat(self):
+        # As pysat.formula.CNF: it has the clauses, and the number of variables, some of which stand in none.
+        formula = SimpleNamespace(clauses=[[1, -2]], nv=4)
+        self.assertEqual(len(sample_formula(formula).literals), 4)
+        self.assertEqual(len(sample_formula(formula, variables=6).literals), 6)
+        self.assertEqual(popsample.check(formula), 1)
+        error = self.refused(ValueError, sample_formula, SimpleNamespace(clauses=[], nv=2, atmosts=[[[1, 2], 1]]))
+        self.assertIn("cardinality constraints", str(error))
+
+    def test_what_is_no_formula(self):
+        for formula in (5, b"p cnf", {1: [2]}):
+            self.assertIn(f"{formula!r} is no formula: ", str(self.refused(TypeError, sample_formula, formula)))
+        for clause in (3, "12", {1: 2}):
+            error = self.refused(TypeError, sample_formula, [[1, 2], clause])
+            self.assertIn(f"the clause {clause!r} is no list of whole numbers", str(error))
+
+
+if __name__ == "__main__":
+    unittest.main()
