@@ -70,9 +70,9 @@ def read_answer(words: Sequence[str], status: int, text: bytes) -> Answer:
     return Answer(words, status, lines, arrows)
 
 
-def sample_texts(chunks: Iterable[bytes]) -> Iterator[bytes]:
-    """The parts of a text that comes in chunks: what stands before the first sample of a batch, and then each sample,
-    from its number on. No more is kept than a part and a chunk.
+def sample_texts(chunks: Iterable[bytes]) -> Iterator[tuple[bytes, bool]]:
+    """The parts of a text that comes in chunks, and whether each is the last: what stands before the first sample of a
+    batch, and then each sample, from its number on. No more is kept than a part and a chunk.
     """
     kept = bytearray()
     looked = 0
@@ -80,11 +80,11 @@ def sample_texts(chunks: Iterable[bytes]) -> Iterator[bytes]:
         kept += chunk
         at = kept.find(SAMPLE, looked)
         while at >= 0:
-            yield bytes(kept[: at + 1])
+            yield bytes(kept[: at + 1]), False
             del kept[: at + len(SAMPLE)]
             at = kept.find(SAMPLE)
         looked = max(0, len(kept) - len(SAMPLE))
-    yield bytes(kept)
+    yield bytes(kept), True
 
 
 def is_whole(text: bytes) -> bool:

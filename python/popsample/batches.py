@@ -67,7 +67,7 @@ def run_numbers(task: Task) -> Any:
     """The numbers in the text of a task, where each sample is one; else its status and its text."""
     status, text = run_task(task)
     whole = status == 0 and text.startswith(b"batch ")
-    return sample_numbers(list(sample_texts([text]))[1:]) if whole else (status, text)
+    return sample_numbers([part for part, _ in sample_texts([text])][1:]) if whole else (status, text)
 
 
 def in_order(

@@ -152,16 +152,15 @@ def batch_samples(
     """The texts of the samples in what the program prints of a batch. The last one is told when its status is known,
     and where that is none of a batch, this is raised.
     """
-    parts = sample_texts(chunks)
-    head = next(parts)
-    held: list[bytes] = []
-    for part in parts:
-        yield from held
-        held = [part]
-    ended = status()
-    if ended not in (0, 1) or not head.startswith(b"batch "):
-        raise under_key(words, (ended, head), subject, key)
-    yield from held
+    head: bytes | None = None
+    for text, is_last in sample_texts(chunks):
+        first = text if head is None else head
+        ended = status() if is_last else 0
+        if ended not in (0, 1) or not first.startswith(b"batch "):
+            raise under_key(words, (ended, first), subject, key)
+        if head is not None:
+            yield text
+        head = first
 
 
 def sample_answer(words: Sequence[str], text: bytes, subject: Subject, key: str, number: int) -> Answer:

@@ -5,7 +5,6 @@ from __future__ import annotations
 import math
 import operator
 from collections.abc import Iterable, Mapping, Sequence
-from typing import Any
 
 from .argument_errors import InputTypeError, NoWeightError, WeightError
 from .results import Edge

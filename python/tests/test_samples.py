@@ -4,14 +4,17 @@ import importlib.util
 import itertools
 import multiprocessing
 import os
+import tempfile
 import threading
 import unittest
 import warnings
 from concurrent.futures import Future, ProcessPoolExecutor, ThreadPoolExecutor
+from pathlib import Path
 from unittest import mock
 
 import popsample
 from popsample import batch_key, formula_samples, samples, sink_free_orientations, spanning_trees
+from popsample.answer import sample_texts
 from popsample.batches import batch_size
 
 from .checks import ZEROS, Refusing, file_of, has_no_sink, is_tree_to, program_of, satisfies
@@ -152,6 +155,33 @@ class Batches(Refusing):
                 del told
                 with self.assertRaises(ProcessLookupError):
                     os.kill(int(file.read_text()), 0)
+
+
+class Streams(unittest.TestCase):
+    def test_samples_are_cut_out_wherever_chunks_end(self):
+        told = ["0\ns SAMPLE\na 2 1 1\nused 0\npops 0\n", "1\ns EXHAUSTED\nstuck 1\n", "2\ns SAMPLE\n"]
+        text = ("batch 3\n" + "".join(f"sample {part}" for part in told)).encode()
+        wanted = [b"batch 3\n", *map(str.encode, told)]
+        for size in range(1, len(text) + 1):
+            chunks = (text[place : place + size] for place in range(0, len(text), size))
+            parts = list(sample_texts(chunks))
+            self.assertEqual([part for part, _ in parts], wanted, size)
+            self.assertEqual([is_last for _, is_last in parts], [False, False, False, True])
+        self.assertEqual(list(sample_texts([])), [(b"", True)])
+
+    def test_a_sample_is_read_while_the_program_prints(self):
+        sample = "s SAMPLE\\nused\\npops 0\\n"
+        with tempfile.TemporaryDirectory() as folder:
+            go_on = Path(folder, "go_on")
+            wait = f"while [ ! -e '{go_on}' ]; do sleep 0.02; done"
+            script = f"printf 'batch 3\\nsample 0\\n{sample}sample 1\\n'; {wait}; printf '{sample}sample 2\\n{sample}'"
+            for call in (lambda: samples({"a": []}, 3), lambda: spanning_trees({"a": []}, 3)):
+                with program_of(f"cat > /dev/null; {script}"):
+                    told = call()
+                    self.assertEqual(next(told).sample, 0)
+                    go_on.touch()
+                    self.assertEqual([tree.sample for tree in told], [1, 2])
+                go_on.unlink()
 
 
 class Kinds(Refusing):
