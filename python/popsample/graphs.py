@@ -183,8 +183,11 @@ def sink_free_orientations(
 
 
 def orientation_target(given: GraphInput) -> Target[Orientation, OrientationArrays]:
-    """The orientations of a graph without sinks. Raises TreeComponentError where a part of it is a tree."""
-    part = tree_part(given.ends.vertices, given.ends.pairs) if given.ends else []
+    """The orientations of a graph without sinks. Raises TreeComponentError where a part of it is a tree with an edge,
+    unless some vertex has none, which the program tells.
+    """
+    ends = given.ends
+    part = tree_part(ends.vertices, ends.pairs) if ends and ends.touch_all() else []
     if part:
         raise TreeComponentError(list(named(part, given.vertices)))
     subject = given.subject(given.edges)

@@ -32,7 +32,7 @@ class Stopped(Refusing):
         self.assertEqual(error.certificate, TREE_STOPPED)
 
     def test_a_key_is_told(self):
-        error = self.refused(popsample.Paused, sample_formula, [[-1]], ZEROS, height=9, pops=1)
+        error = self.refused(popsample.Paused, sample_formula, [[-1], [-2], [-3], [-4]], ZEROS, height=9, pops=1)
         self.assertEqual(error.key, ZEROS)
 
     def test_a_run_that_ends_before(self):
