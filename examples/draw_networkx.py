@@ -37,7 +37,7 @@ def main() -> None:
     graph = networkx.florentine_families_graph()
     try:
         tree = popsample.spanning_tree(graph, root="Medici", key=key)
-    except popsample.Refusal as error:
+    except popsample.Error as error:
         sys.exit(f"draw_networkx.py: {error}")
     print(drawing(graph, tree))
 
