@@ -81,7 +81,9 @@ def sampled_formula(formula: Formula, variables: int | None) -> FormulaInput:
     join like a tree can't all be true.
     """
     given = read_formula(formula, variables)
-    stuck = tree_part(len(given.clauses), clause_pairs(given.clauses))
+    # A tree has leaves, which are clauses of one variable: most formulas have none, and aren't gone through further.
+    has_leaves = any(len({abs(literal) for literal in clause}) == 1 for clause in given.clauses)
+    stuck = tree_part(len(given.clauses), clause_pairs(given.clauses)) if has_leaves else []
     if stuck:
         raise UnsatisfiableError(stuck)
     return given

@@ -45,9 +45,9 @@ def samples(
     The samples are made in batches, each by a run of the program on all processors. Where a sample has V variables, a
     batch has 1048576 // V samples, but at least 1 and at most 1024. Batch N, from 0, has a key of its own, which
     `batch_key` makes: the HMAC-SHA-256, under the 32 bytes of the key, of the text `popsample batch N`, with N in
-    decimal digits. So the samples are those of the key (or of the `seed`, or of a key that is drawn, which the result has), whatever
-    runs the batches, and a longer series begins with a shorter one. A sample has its batch's key, and its number there,
-    as `key` and `sample`: the function for many samples by one run gives it again.
+    decimal digits. So the samples are those of the key (or of the `seed`, or of a key that is drawn, which the result
+    has), whatever runs the batches, and a longer series begins with a shorter one. A sample has its batch's key, and
+    its number there, as `key` and `sample`: the function for many samples by one run gives it again.
 
     `executor` is what runs batches side by side: any `concurrent.futures.Executor`, of threads or processes, of loky,
     dask.distributed (`client.get_executor()`) or mpi4py.futures; the program must be there where they run. No more than
@@ -60,6 +60,7 @@ def samples(
 
     The result is an iterator, with `len` where there is a count, and its `arrays()` are all samples as arrays of numpy.
     Where the run of a sample is exhausted, `ExhaustedError` is raised in its place, and the next call goes on behind.
+    What the program refuses is raised when the first sample is asked for.
     """
     if count is not None:
         count = whole("count", count, 1)

@@ -82,6 +82,33 @@ class Strings(Refusing):
         self.assertIn("the vertex ['a'] can't be hashed", str(error))
 
 
+class Rows(list):
+    """What has the look of an array of numpy: rows, a shape and a type."""
+
+    def __init__(self, rows, kind="i"):
+        super().__init__(rows)
+        self.shape = (len(rows), len(rows[0]))
+        self.dtype = SimpleNamespace(kind=kind)
+
+    def tolist(self):
+        """The rows."""
+        return list(self)
+
+
+class LikeArrays(Refusing):
+    """As below, where numpy isn't installed."""
+
+    def test_square_ones_are_refused(self):
+        for matrix in ([[0, 1], [1, 0]], [[0, 1, 1], [1, 0, 1], [1, 1, 0]]):
+            error = self.refused(popsample.ArgumentError, spanning_tree, Rows(matrix))
+            self.assertIn("for an adjacency matrix hand in popsample.from_adjacency(array)", str(error))
+            self.assertEqual(set(spanning_tree(from_adjacency(Rows(matrix))).parents), set(range(1, len(matrix))))
+        self.refused(popsample.ArgumentError, spanning_tree, Rows([(0.0, 1.0)], "f"))
+
+    def test_edges(self):
+        self.assertEqual(spanning_tree(Rows([(0, 1), (1, 2), (1, 3)])).parents, {1: 0, 2: 1, 3: 1})
+
+
 @unittest.skipUnless(HAS_NUMPY, "numpy isn't installed")
 class ArraysOfNumbers(Refusing):
     def test_square_ones_are_refused(self):
