@@ -242,15 +242,6 @@ class Executors(Refusing):
             told.close()
             self.refused(StopIteration, next, told)
 
-    @unittest.skipUnless(importlib.util.find_spec("joblib"), "joblib, with loky, isn't installed")
-    def test_loky(self):
-        from joblib.externals.loky import get_reusable_executor
-
-        wanted = list(samples(TEAMS, 2100, ZEROS, kind="tree"))
-        executor = get_reusable_executor(max_workers=2)
-        self.assertEqual(list(samples(TEAMS, 2100, ZEROS, executor, kind="tree")), wanted)
-        executor.shutdown()
-
 
 class Shown(Refusing):
     def test_a_callable(self):
