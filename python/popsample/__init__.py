@@ -186,6 +186,7 @@ __all__ = [
     "resume",
     "rounds",
     "sample_formula",
+    "samples",
     "seed_key",
     "sink_free_orientation",
     "sink_free_orientations",

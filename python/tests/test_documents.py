@@ -11,6 +11,8 @@ from .checks import kinds_below
 
 TOP = Path(__file__).resolve().parents[2]
 FORMATS = TOP / "docs" / "FORMATS.md"
+# The modules whose exceptions a caller of the functions meets.
+RAISING = {"popsample.errors", "popsample.argument_errors"}
 PAGES = [TOP / "README.md", TOP / "python" / "README.md"]
 
 
@@ -54,7 +56,10 @@ class Formats(unittest.TestCase):
             self.assertIn(f"\n| {kind} | {limit}", self.text)
 
     def test_all_names_are_told(self):
-        self.assertLessEqual({kind.__name__ for kind in kinds_below(popsample.Error)}, set(popsample.__all__))
+        raised = {kind for kind in kinds_below(popsample.Error) if kind.__module__ in RAISING}
+        self.assertLessEqual({kind.__name__ for kind in raised}, set(popsample.__all__))
+        public = (name for name, value in vars(popsample).items() if callable(value) and not name.startswith("_"))
+        self.assertLessEqual(set(public), set(popsample.__all__))
 
 
 if __name__ == "__main__":
