@@ -10,7 +10,7 @@ from .checks import ZEROS, Refusing, has_no_sink, is_tree_to, program_of, satisf
 TRIANGLE = [("Ann", "Bob"), ("Bob", "Cem"), ("Cem", "Ann")]
 TEAMS = [(first, second) for first in range(5) for second in range(first)]
 RING = [[1, 2, -3], [3, 4, -5], [5, 6, -1]]
-# Under this key and with two entries, sample 1 of four is exhausted: examples/one-batch.out, by the checker there.
+# Under this key and with two entries, sample 1 of four is exhausted: examples/cases/one-batch.case, by the checker there.
 ONE_EXHAUSTED = {"key": f"{1:064x}", "height": 2}
 
 

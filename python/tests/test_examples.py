@@ -4,6 +4,7 @@ import importlib.util
 import os
 import subprocess
 import sys
+import tempfile
 import unittest
 from pathlib import Path
 from xml.etree import ElementTree
@@ -22,6 +23,18 @@ def drawn(name: str, *words: str) -> subprocess.CompletedProcess:
 
 @unittest.skipUnless((TOP / "examples").exists(), "there are no examples")
 class Drawings(unittest.TestCase):
+    def setUp(self):
+        folder = tempfile.TemporaryDirectory()
+        self.addCleanup(folder.cleanup)
+        self.folder = Path(folder.name)
+
+    def printed(self, name: str) -> str:
+        """A file with what a case of the examples prints: the lines between its command and its status."""
+        lines = (TOP / "examples" / "cases" / f"{name}.case").read_text().splitlines(True)
+        path = self.folder / f"{name}.out"
+        path.write_text("".join(lines[1:-1]))
+        return str(path)
+
     @unittest.skipUnless(importlib.util.find_spec("networkx"), "networkx isn't installed")
     def test_a_tree_of_a_graph_of_networkx(self):
         picture = ElementTree.fromstring(drawn("draw_networkx.py", ZEROS).stdout)
@@ -38,20 +51,17 @@ class Drawings(unittest.TestCase):
         self.assertIn("key='12' can't be taken", ran.stderr)
 
     def test_an_orientation(self):
-        folder = TOP / "examples"
-        ran = drawn("draw_orientation.py", str(folder / "petersen.col"), str(folder / "petersen-orient.out"))
+        ran = drawn("draw_orientation.py", str(TOP / "examples" / "petersen.col"), self.printed("petersen-orient"))
         picture = ElementTree.fromstring(ran.stdout)
         self.assertEqual(sum(path.get("d").count("M") for path in picture.iter(f"{SVG}path")), 15)
 
     def test_what_is_no_orientation(self):
-        folder = TOP / "examples"
-        ran = drawn("draw_orientation.py", str(folder / "path.col"), str(folder / "path-orient.out"))
+        ran = drawn("draw_orientation.py", str(TOP / "examples" / "path.col"), self.printed("path-orient"))
         self.assertEqual((ran.returncode, ran.stdout), (1, ""))
         self.assertIn("doesn't begin with 's SAMPLE'", ran.stderr)
 
     def test_a_layered_log(self):
-        folder = TOP / "examples"
-        ran = drawn("draw_layers.py", str(folder / "roads-log.out"))
+        ran = drawn("draw_layers.py", self.printed("roads-log"))
         picture = ElementTree.fromstring(ran.stdout)
         dots = [(circle.get("cx"), circle.get("cy")) for circle in picture.iter(f"{SVG}circle")]
         words = [text.text for text in picture.iter(f"{SVG}text")]
@@ -61,7 +71,7 @@ class Drawings(unittest.TestCase):
         self.assertEqual(sorted(words[5:]), sorted(["1", "2", "3"] + ["3", "7", "4", "4"] + list("00001021")))
 
     def test_what_has_no_layered_log(self):
-        ran = drawn("draw_layers.py", str(TOP / "examples" / "roads-tree.out"))
+        ran = drawn("draw_layers.py", self.printed("roads-tree"))
         self.assertEqual((ran.returncode, ran.stdout), (1, ""))
         self.assertIn("has no log", ran.stderr)
 
