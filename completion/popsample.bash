@@ -28,20 +28,34 @@ _popsample_apart() {
 }
 
 # The words that may stand behind a word: the commands, the options that don't stand yet and aren't excluded, or the
-# values of one.
+# values of one; and the names of files behind a redirection alone, since the program takes none.
 _popsample() {
-    local word=${COMP_WORDS[COMP_CWORD]} before=${COMP_WORDS[COMP_CWORD - 1]} standing option other choices=""
-    standing=" ${COMP_WORDS[*]:2:COMP_CWORD-2} "
-    if ((COMP_CWORD == 1)); then
+    local word=${COMP_WORDS[COMP_CWORD]} at standing option other choices="" words=()
+    for ((at = 1; at < COMP_CWORD; at++)); do
+        if [[ ${COMP_WORDS[at]} == *[\<\>]* ]]; then
+            # Where an option would stand, a digit is the file descriptor that is redirected.
+            ((${#words[@]} > 0 && ${#words[@]} % 2 == 0)) && [[ ${words[-1]} == [0-9] ]] && unset "words[-1]"
+            ((at += 1))
+        else
+            words+=("${COMP_WORDS[at]}")
+        fi
+    done
+    if ((at > COMP_CWORD)); then
+        compopt -o filenames 2> /dev/null
+        mapfile -t COMPREPLY < <(compgen -f -- "$word")
+        return
+    fi
+    standing=" ${words[*]:1} "
+    if ((${#words[@]} == 0)); then
         choices="formula orient tree resample check make rounds replay resume"
-    elif [[ $before == --report ]]; then
+    elif [[ ${words[-1]} == --report ]]; then
         choices="totals heights layers totals,heights,layers"
-    elif [[ $before == --board ]]; then
+    elif [[ ${words[-1]} == --board ]]; then
         choices="words lock"
-    elif [[ $before == --log ]]; then
+    elif [[ ${words[-1]} == --log ]]; then
         choices="on off"
-    elif ((COMP_CWORD % 2 == 0)); then
-        for option in $(_popsample_options "${COMP_WORDS[1]}"); do
+    elif ((${#words[@]} % 2 == 1)); then
+        for option in $(_popsample_options "${words[0]}"); do
             for other in $(_popsample_apart "$option"); do
                 [[ $standing == *" $other "* ]] && continue 2
             done
@@ -51,4 +65,4 @@ _popsample() {
     mapfile -t COMPREPLY < <(compgen -W "$choices" -- "$word")
 }
 
-complete -o default -F _popsample popsample
+complete -F _popsample popsample
