@@ -404,6 +404,6 @@ class RunTimeoutError(Error, TimeoutError):
 class NotInstalledError(Error, ImportError):
     """A library that was asked for isn't installed; what doesn't ask for it needs none."""
 
-    def __init__(self, library: str) -> None:
-        super().__init__(f"{library} isn't installed, and this needs it: install it, or take the samples one by one.")
+    def __init__(self, library: str, otherwise: str = ", or take the samples one by one") -> None:
+        super().__init__(f"{library} isn't installed, and this needs it: install it{otherwise}.")
         self.library = library

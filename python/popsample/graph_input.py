@@ -1,18 +1,17 @@
-"""Graphs as they are handed in: edge lists, adjacencies, files, and graphs of networkx and igraph."""
+"""Graphs as they are handed in: edge lists, adjacencies, files, and graphs of other libraries."""
 
 from __future__ import annotations
 
 import os
-import sys
 from collections.abc import Callable, Hashable, Iterable, Mapping, Sequence
 from dataclasses import dataclass
 from functools import cached_property, partial
 from pathlib import Path
 from typing import Any
 
-from . import igraph_input, networkx_input
 from .adjacency import read_mapping, read_matrix
 from .argument_errors import ArgumentError, InputTypeError, OptionError
+from .foreign_graphs import library_of
 from .graph_text import Ends, read_ends
 from .results import Arrow, Edge
 from .subject import NUMBERS, Subject
@@ -22,7 +21,7 @@ Arrows = Sequence[Arrow]
 
 KINDS = (
     "a graph is a list of edges (pairs, or triples with a weight), a dict of lists or of dicts, an undirected graph of "
-    "networkx or igraph, or the path of a graph file"
+    "networkx, igraph or graph-tool, a sparse matrix of scipy, or the path of a graph file"
 )
 
 
@@ -66,11 +65,10 @@ def read_graph(graph: Any, weight: str | None = None) -> GraphInput:
         if weight is not None:
             raise OptionError("weight", weight, "the weights of from_adjacency(..) are named there")
         return graph
-    networkx, igraph = sys.modules.get("networkx"), sys.modules.get("igraph")
-    if networkx and isinstance(graph, networkx.Graph):
-        return listed(*networkx_input.read(graph, weight), partial(networkx_input.directed, graph))
-    if igraph and isinstance(graph, igraph.Graph):
-        return listed(*igraph_input.read(graph, weight), partial(igraph_input.directed, graph))
+    library = library_of(graph)
+    if library is not None:
+        vertices, edges = library.read(graph, weight)
+        return listed(vertices, edges, partial(library.directed, graph))
     if isinstance(graph, (str, os.PathLike)):
         return GraphInput(Path(graph).read_bytes(), NUMBERS, NUMBERS)
     if isinstance(graph, Mapping):

@@ -43,9 +43,9 @@ def spanning_tree(
 
     The graph is an edge list, of pairs or of triples with a weight or a dict of attributes, or an array of whole
     numbers with an edge in each row; a dict of lists or of dicts, as networkx has them; the path of a graph file in the
-    manner of DIMACS; what `from_adjacency` makes of a matrix; or an undirected graph of networkx or igraph, of which a
-    directed one comes back, as `graph` of the result. Vertices keep their names. `root` is one of them, and the first
-    where it is None.
+    manner of DIMACS; what `from_adjacency` makes of a matrix; or an undirected graph of networkx, igraph or graph-tool
+    or a symmetric sparse matrix of scipy, of which a directed one comes back, as `graph` of the result. Vertices keep
+    their names. `root` is one of them, and the first where it is None.
 
     With weights the stacks that give a tree weigh as the product of its edges' weights. These are numbers above 0:
     fractions, and floats, which are the fractions that they are exactly, are all scaled to whole numbers, where they
@@ -107,19 +107,17 @@ def root_number(given: GraphInput, root: Hashable) -> int:
 
 def tree_target(given: GraphInput, root: Hashable) -> Target[Tree, TreeArrays]:
     """The spanning trees of a graph with the root of that name."""
-    words = ("tree", "--root", str(root_number(given, root)))
+    number = root_number(given, root)
     subject = given.subject(given.vertices, root)
-    return Target(
-        words, subject, given.vertex_count() - 1, partial(tree_of, given, root), partial(tree_arrays, given, root)
-    )
+    tell, arrays = partial(tree_of, given, subject.vertex(number)), partial(tree_arrays, given, root)
+    return Target(("tree", "--root", str(number)), subject, given.vertex_count() - 1, tell, arrays)
 
 
 def tree_of(given: GraphInput, root: Hashable, answer: Answer, key: str | None, sample: int = 0) -> Tree:
     """The spanning tree of an answer, in a graph with the root of that name."""
     arrows = arrows_of(answer, given)
     used = dict(zip((arrow.tail for arrow in arrows), answer.numbers("used")))
-    name = root if root is not None else given.vertices[0]
-    return Tree(name, arrows, used, answer.pops(), key, given.directed, sample)
+    return Tree(root, arrows, used, answer.pops(), key, given.directed, sample)
 
 
 def arrows_of(answer: Answer, given: GraphInput) -> tuple[Arrow, ...]:

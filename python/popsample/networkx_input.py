@@ -11,6 +11,12 @@ from .results import Arrow, Edge
 from .weights import attribute_weights
 
 
+def takes(graph: Any) -> bool:
+    """Whether it is a graph of networkx."""
+    library = sys.modules.get("networkx")
+    return library is not None and isinstance(graph, library.Graph)
+
+
 def read(graph: Any, weight: str | None) -> tuple[list[Hashable], list[Edge]]:
     """The vertices and the edges. An edge's name is the pair of its ends, or the triple with its key.
 

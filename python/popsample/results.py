@@ -2,11 +2,13 @@
 
 from __future__ import annotations
 
-from collections.abc import Callable, Hashable
+from collections.abc import Callable, Hashable, Mapping
 from dataclasses import dataclass, field
 from functools import cached_property
 from typing import Any, NamedTuple
 
+from .drawing import draw
+from .tree_layout import Place
 
 # An edge as it is handed in: its two ends, its weight, and what names it.
 Edge = tuple[Hashable, Hashable, Any, Hashable]
@@ -118,6 +120,18 @@ class Tree(Directed, History):
     def edges(self) -> list[Hashable]:
         """Which edges are the tree's."""
         return [arrow.edge for arrow in self.arrows]
+
+    def draw(
+        self, axes: Any = None, positions: Mapping[Hashable, Place] | None = None, names: bool | None = None
+    ) -> Any:
+        """Draws the tree by matplotlib, with arrows to its root, and gives back the axes that it stands in.
+
+        These are the ones that are handed in, else the current ones. `positions` has a place for each vertex, as a pair
+        of numbers; without it the root is on top. `names` says whether the vertices are named; without it a tree of at
+        most 60 vertices has names. Raises KeyError where a vertex has no place, and NotInstalledError, an ImportError,
+        where matplotlib isn't installed.
+        """
+        return draw(self, axes, positions, names)
 
 
 @dataclass(frozen=True)

@@ -1,0 +1,74 @@
+"""Graphs of graph-tool, which is imported by nobody but who hands one in."""
+
+from __future__ import annotations
+
+import sys
+from collections.abc import Hashable, Iterator, Sequence
+from typing import Any
+
+from .argument_errors import InputTypeError, NoWeightError
+from .results import Arrow, Edge
+
+
+def takes(graph: Any) -> bool:
+    """Whether it is a graph of graph-tool, or a view of one."""
+    library = sys.modules.get("graph_tool")
+    return library is not None and isinstance(graph, library.Graph)
+
+
+def read(graph: Any, weight: str | None) -> tuple[list[Hashable], Iterator[Edge]]:
+    """The vertices and the edges, both named by their indices, from 0. What is filtered out is passed over.
+
+    Raises InputTypeError where the graph is directed, and NoWeightError, a KeyError, where it has no edge property
+    `weight`.
+    """
+    if graph.is_directed():
+        raise InputTypeError("the graph is directed: hand in graph_tool.GraphView(graph, directed=False)")
+    rows = sorted(graph.get_edges([graph.edge_index]).tolist(), key=lambda row: row[2])
+    if weight is not None and weight not in graph.edge_properties:
+        raise NoWeightError(weight)
+    values = None if weight is None else values_by_number(graph, graph.edge_properties[weight])
+    edges = ((first, second, 1 if values is None else values[place], place) for first, second, place in rows)
+    return graph.get_vertices().tolist(), edges
+
+
+def values_by_number(graph: Any, values: Any) -> Any:
+    """The values of an edge property map, by the edges' indices: a list of numbers, else a dict."""
+    numbers = values.get_array()
+    if numbers is not None:
+        return numbers.tolist()
+    return {graph.edge_index[edge]: values[edge] for edge in graph.edges()}
+
+
+def directed(graph: Any, arrows: Sequence[Arrow]) -> Any:
+    """The arrows as a directed graph, with the vertices, the filter of vertices and the property maps of the graph."""
+    made = sys.modules["graph_tool"].Graph(directed=True)
+    made.add_vertex(graph.num_vertices(ignore_filter=True))
+    number = made.new_edge_property("int64_t")
+    if arrows:
+        made.add_edge_list([(arrow.tail, arrow.head, arrow.edge) for arrow in arrows], eprops=[number])
+    for name, values in graph.graph_properties.items():
+        made.graph_properties[name] = made.new_graph_property(values.value_type(), graph.graph_properties[name])
+    for name, values in graph.vertex_properties.items():
+        made.vertex_properties[name] = made.own_property(values.copy())
+    for name, values in graph.edge_properties.items():
+        made.edge_properties[name] = carried(made, number, values_by_number(graph, values), values.value_type())
+    if graph.num_vertices() < made.num_vertices():
+        hide_all_but(made, graph.get_vertices())
+    return made
+
+
+def carried(made: Any, number: Any, values: Any, kind: str) -> Any:
+    """The property map of the made graph whose edges have the values of the edges of these numbers."""
+    map_made = made.new_edge_property(kind)
+    for edge in made.edges():
+        map_made[edge] = values[number[edge]]
+    return map_made
+
+
+def hide_all_but(made: Any, vertices: Sequence[int]) -> None:
+    """Filters out all vertices but these."""
+    shown = made.new_vertex_property("bool", False)
+    for vertex in vertices:
+        shown[vertex] = True
+    made.set_vertex_filter(shown)
