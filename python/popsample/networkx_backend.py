@@ -1,0 +1,115 @@
+"""A backend of networkx: `networkx.random_spanning_tree(graph, backend="popsample")`.
+
+networkx finds this module by its entry point `networkx.backends`, and calls its functions by the names that it asks of
+a backend, those of `networkx.utils.backends`. There is no entry point `networkx.backend_info`, since with one each
+import of networkx would import this package.
+"""
+
+from __future__ import annotations
+
+from typing import Any
+
+from .argument_errors import NoWeightError, WeightError
+from .errors import NoProgramError
+from .graph_input import GraphInput, read_graph
+from .graphs import spanning_tree
+from .program import find_program
+
+NAME = "popsample"
+FUNCTION = "random_spanning_tree"
+KEY_BYTES = 32
+
+
+def can_run(name: str, args: tuple[Any, ...], kwargs: dict[str, Any]) -> bool | str:
+    """Whether a call of networkx can be answered here, or why it can't."""
+    if name != FUNCTION:
+        return f"there is no {name} here"
+    return refused(*bound(*args, **kwargs)) or True
+
+
+def should_run(name: str, args: tuple[Any, ...], kwargs: dict[str, Any]) -> bool | str:
+    """Whether a call that can be answered here and elsewhere is answered here: wherever the program is found."""
+    try:
+        find_program()
+    except NoProgramError as error:
+        return str(error)
+    return True
+
+
+def convert_from_nx(graph: Any, **asked: Any) -> Any:
+    """The graph itself: it is read at each call, so that whatever was changed in it since is seen."""
+    return graph
+
+
+def convert_to_nx(result: Any, **asked: Any) -> Any:
+    """The result itself, which is a graph of networkx."""
+    return result
+
+
+def random_spanning_tree(
+    G: Any, weight: Any = None, *, multiplicative: bool = True, seed: Any = None, **named: Any
+) -> Any:
+    """Samples a spanning tree, of which the probability is the product of its edges' weights over the sum of all.
+
+    The arguments, and the graph that comes back, are those of the function of networkx of this name: the edges of the
+    tree, without attributes. The seed may be all that networkx takes, and 32 bytes of it are the key of the run.
+
+    Raises NotImplementedError where `multiplicative` is False, where the graph is directed, and where weights can't be
+    scaled to whole numbers, of which the cause has the edge; NoWeightError, a KeyError, where an edge has no weight;
+    and what `spanning_tree` raises, as CutOffError where the graph isn't connected.
+    """
+    import networkx
+
+    forget(G)
+    reason = refused(G, multiplicative)
+    if reason:
+        raise NotImplementedError(reason)
+    tree = networkx.empty_graph(G.nodes)
+    if len(G) > 1:
+        # What is refused here leaves the seed as it was, for networkx to go on with.
+        given = weighted_input(G, weight)
+        key = drawn_key(networkx.utils.create_py_random_state(seed))
+        tree.add_edges_from((arrow.tail, arrow.head) for arrow in spanning_tree(given, key=key).arrows)
+    return tree
+
+
+def weighted_input(graph: Any, weight: Any) -> GraphInput:
+    """The graph as it is sampled.
+
+    Raises NoWeightError, a KeyError, where an edge has no weight, and NotImplementedError where the weights can't be
+    scaled to whole numbers.
+    """
+    if weight is not None and any(weight not in attributes for *_, attributes in graph.edges(data=True)):
+        raise NoWeightError(weight)
+    try:
+        return read_graph(graph, weight)
+    except WeightError as error:
+        raise NotImplementedError(str(error)) from error
+
+
+def bound(G: Any, weight: Any = None, *, multiplicative: bool = True, **named: Any) -> tuple[Any, bool]:
+    """What a refusal is about, of the arguments of a call."""
+    return G, multiplicative
+
+
+def refused(graph: Any, multiplicative: bool) -> str:
+    """Why a call can't be answered; empty where it can."""
+    if not multiplicative:
+        return "popsample samples by the product of weights, and not by their sum: multiplicative=False is refused"
+    if graph.is_directed():
+        return "the graph is directed: hand in graph.to_undirected()"
+    return ""
+
+
+def drawn_key(random: Any) -> str:
+    """A key of 32 bytes drawn from a generator that networkx made of a seed."""
+    return bytes(int(random.randrange(256)) for _ in range(KEY_BYTES)).hex()
+
+
+def forget(graph: Any) -> None:
+    """Takes the graph out of the cache of converted graphs that networkx keeps at it: there is nothing converted, and
+    networkx would warn of what is cached.
+    """
+    cache = getattr(graph, "__networkx_cache__", None)
+    if cache:
+        cache.get("backends", {}).pop(NAME, None)
