@@ -104,7 +104,7 @@ class Bash(unittest.TestCase):
     def test_files_are_offered_behind_a_redirection_alone(self):
         with tempfile.TemporaryDirectory() as folder:
             Path(folder, "roads.col").touch()
-            script = 'cd "$1"; source "$0"; shift; COMP_WORDS=("$@"); COMP_CWORD=$(($# - 1)); _popsample; echo "${COMPREPLY[*]}"'
+            script = 'cd "$1"; shift; source "$0"; COMP_WORDS=("$@"); COMP_CWORD=$(($# - 1)); _popsample'
             for words, wanted in (
                 (["tree", "ro"], []),
                 (["tree", "--root", "ro"], []),
@@ -117,7 +117,8 @@ class Bash(unittest.TestCase):
                 (["<", "roads.col", "tr"], ["tree"]),
             ):
                 with self.subTest(words):
-                    told = shown(["bash", "-c", script, str(COMPLETION), folder, "popsample", *words])
+                    command = ["bash", "-c", f'{script}; echo "${{COMPREPLY[*]}}"', str(COMPLETION)]
+                    told = shown([*command, folder, "popsample", *words])
                     self.assertEqual(told.split(), wanted)
 
     def test_nothing_else_is_offered(self):
@@ -158,8 +159,8 @@ class Fish(unittest.TestCase):
             self.assertEqual(completed_by_fish("popsample tree < ro", cwd=folder), ["roads.col"])
 
     def test_words_of_redirections_are_passed_over(self):
-        for line in ("popsample tree < roads.col --roo", "popsample tree 2>errors --roo", "popsample tree &> all --roo"):
-            self.assertEqual(completed_by_fish(line), ["--root"], line)
+        for words in ("< roads.col", "2>errors", "&> all"):
+            self.assertEqual(completed_by_fish(f"popsample tree {words} --roo"), ["--root"], words)
         self.assertNotIn("--root", completed_by_fish("popsample tree --root 2 > out --roo"))
 
     def test_each_option_has_its_meaning(self):

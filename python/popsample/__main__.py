@@ -1,0 +1,8 @@
+"""Runs the front end: `python -m popsample`."""
+
+import sys
+
+from .front import main
+
+if __name__ == "__main__":
+    sys.exit(main())
