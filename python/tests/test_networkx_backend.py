@@ -4,6 +4,7 @@ import os
 import subprocess
 import sys
 import tempfile
+import tomllib
 import unittest
 from importlib import util
 from pathlib import Path
@@ -11,9 +12,10 @@ from pathlib import Path
 import popsample
 
 PYTHON = Path(popsample.__file__).resolve().parents[1]
+PROJECT = tomllib.loads((PYTHON / "pyproject.toml").read_text(encoding="utf-8"))["project"]
 # What a package tells of itself, for networkx to find its backend.
 METADATA = "Metadata-Version: 2.1\nName: popsample\nVersion: 0\n"
-ENTRY_POINTS = "[networkx.backends]\npopsample = popsample.networkx_backend\n"
+ENTRY_POINTS = "[networkx.backends]\npopsample = {popsample}\n".format(**PROJECT["entry-points"]["networkx.backends"])
 
 
 def has_backends() -> bool:
