@@ -381,8 +381,9 @@ class NoProgramError(Error):
     """The program isn't found."""
 
     def __init__(self, named: str | None) -> None:
-        where = f"POPSAMPLE names {named!r}, which is no program" if named else "there is no popsample on the PATH"
-        super().__init__(f"{where}: build it, and name it by POPSAMPLE or put its folder on the PATH.")
+        missing = "there is no popsample among the commands of this Python or on the PATH"
+        where = f"POPSAMPLE names {named!r}, which is no program" if named else missing
+        super().__init__(f"{where}: install or build it, and name it by POPSAMPLE or put its folder on the PATH.")
 
 
 class NoAnswerError(Error):

@@ -4,8 +4,11 @@ from __future__ import annotations
 
 import os
 import shutil
+import site
 import subprocess
+import sysconfig
 from collections.abc import Sequence
+from functools import cache
 from pathlib import Path
 
 from .errors import NoProgramError, RunTimeoutError
@@ -14,17 +17,31 @@ from .errors import NoProgramError, RunTimeoutError
 BUILT = Path("crates", "popsample", "out", "popsample")
 
 
+@cache
+def installed() -> tuple[Path, ...]:
+    """Where the program stands that was installed with the module: among the commands of the environment, among the
+    user's, where the environment sees what the user installed, or beside the module, as `pip install --target` has it.
+    """
+    folders = [Path(sysconfig.get_path("scripts"))]
+    if site.ENABLE_USER_SITE:
+        folders.append(Path(sysconfig.get_path("scripts", sysconfig.get_preferred_scheme("user"))))
+    folders.append(Path(__file__).resolve().parents[1] / "bin")
+    return tuple(folder / "popsample" for folder in folders)
+
+
 def find_program() -> str:
-    """The path of the program: what POPSAMPLE names, else what the PATH has, else what is built in the checkout.
+    """The path of the program: what POPSAMPLE names, else what was installed with the module, else what the PATH has,
+    else what is built in the checkout.
 
     Raises NoProgramError where there is none.
     """
     named = os.environ.get("POPSAMPLE")
-    beside = Path(__file__).resolve().parents[2] / BUILT
-    found = shutil.which(named or "popsample") or (None if named else shutil.which(str(beside)))
-    if not found:
-        raise NoProgramError(named)
-    return str(found)
+    built = Path(__file__).resolve().parents[2] / BUILT
+    places: list[str | Path] = [named] if named else [*installed(), "popsample", built]
+    for place in places:
+        if found := shutil.which(place):
+            return str(found)
+    raise NoProgramError(named)
 
 
 def printed(words: Sequence[str], text: bytes, timeout: float | None = None) -> tuple[int, bytes]:

@@ -187,14 +187,6 @@ class OfDevices(Refusing):
             error = self.refused(popsample.NoProgramError, check, [[1]])
         self.assertIn("'/nowhere/popsample'", str(error))
 
-    def test_the_path_is_looked_at(self):
-        folder, name = os.path.split(popsample.find_program())
-        if name != "popsample":
-            self.skipTest("the program has another name")
-        with mock.patch.dict(os.environ, {"PATH": folder}):
-            del os.environ["POPSAMPLE"]
-            self.assertEqual(popsample.find_program(), os.path.join(folder, name))
-
     def test_ends_that_are_no_answers(self):
         for script in ("exit 1", "kill -9 $$", "echo s NONE; exit 3", "echo nothing; exit 2"):
             with self.subTest(script), program_of(script):
