@@ -1,0 +1,162 @@
+#!/usr/bin/env bash
+# Packs a built program of this checkout for machines without the kit:
+#
+#     release/build.sh PROGRAM OUT [RECORD]
+#
+# OUT, which is a new or an empty folder, gets an archive, Debian packages of the program and of the Python module, a
+# wheel of both, PROVENANCE.txt, which tells where they come from, and SHA256SUMS. A program that holds the C library,
+# as release/static.sh links it, has no Debian packages: it is for systems that they don't fit. RECORD is what the run
+# printed that proved the program, as of `.ci/run` or `rt run`. Two variables may be set: MAINTAINER, whom the Debian
+# packages name, else the last commit's author; and NOTICE, the file with the C library's notice, else that of Debian's
+# package libc6.
+#
+# The program is packed as it was built, to the byte: its SHA-256 is the one that a build at the same commit has.
+# Nothing is compiled or fetched, and equal programs and commits make equal files. It takes the kit, whose crates have
+# notices, git, GNU tar, gzip, dpkg-deb, and a python3 from 3.11 on.
+#
+# The status is 0 where all is packed, 1 where RECORD has no good verdict or something failed, and 2 where the call is
+# wrong.
+set -euo pipefail
+export LC_ALL=C
+umask 022
+
+if [ $# -lt 2 ] || [ $# -gt 3 ] || [ ! -x "$1" ] || [ -d "$1" ] || [ -n "$(ls -A "$2" 2> /dev/null)" ]; then
+    echo "usage: release/build.sh PROGRAM OUT [RECORD], where OUT is a new or an empty folder" >&2
+    exit 2
+fi
+program=$(realpath "$1")
+mkdir -p "$2"
+out=$(realpath "$2")
+record=${3:+$(realpath -e "$3")}
+cd "$(dirname "$0")/.."
+version=$(cat VERSION)
+maintainer=${MAINTAINER:-$(git log -1 --format='%an <%ae>')}
+# All times are that of the commit. One processor compresses: how many do can be seen in the bytes.
+SOURCE_DATE_EPOCH=$(git log -1 --format=%ct)
+export SOURCE_DATE_EPOCH DPKG_DEB_THREADS_MAX=1
+room=$(mktemp -d)
+trap 'rm -rf "$room"' EXIT
+
+# Prints the value of an expression over the wheel's backend, in which `words` has the other words.
+backend() {
+    PYTHONPATH=python python3 -B -c "import sys, wheel_backend as backend; words = sys.argv[1:]; print($1)" "${@:2}"
+}
+
+glibc=$(backend 'backend.glibc_of(open(words[0], "rb").read()) or ""' "$program")
+
+# The verdict of a run: its last line that is one, where it is good.
+verdict() {
+    local last
+    last=$(grep -E '^([0-9]+ passed, [0-9]+ failed$|logic=)' "$1" | tail -n 1)
+    [[ $last == *" passed, 0 failed" || $last == "logic=proved "* ]] && echo "$last"
+}
+
+# Tells where all this comes from.
+provenance() {
+    local changed="" library="glibc $glibc or later" leaves="it as crates/popsample/out/popsample, whose"
+    [ -z "$(git status --porcelain --untracked-files=no)" ] || changed=", with changes that aren't committed"
+    if [ -z "$glibc" ]; then
+        library="linked with the program"
+        leaves="crates/popsample/out/popsample.o, of which release/static.sh links this one: its"
+    fi
+    cat << TEXT
+popsample $version for Linux on x86-64
+
+commit     $(git rev-parse HEAD)$changed
+tree       $(git rev-parse 'HEAD^{tree}')
+date       $(date -u -d "@$SOURCE_DATE_EPOCH" +%F)
+kit        $(rt version)
+processor  x86-64-v2 or later
+C library  $library
+program    $(sha256sum < "$program" | cut -d ' ' -f 1)
+verdict    ${proved:-no run that proved it was named when it was packed}
+
+At this commit and with this kit, \`.ci/run\` proves the program and leaves
+$leaves SHA-256 is on the line \`program\`.
+TEXT
+}
+
+# Puts the program and its documents below a folder, as they lie below /usr and /usr/local.
+lay_out() {
+    local documents=$1/share/doc/popsample
+    install -D "$program" "$1/bin/popsample"
+    install -D -m 644 docs/popsample.1 "$1/share/man/man1/popsample.1"
+    install -D -m 644 completion/popsample.bash "$1/share/bash-completion/completions/popsample"
+    install -D -m 644 -t "$documents" docs/FORMATS.md docs/DEFINITIONS.md "$room/PROVENANCE.txt" "$room/copyright"
+    install -D -m 644 -t "$documents/examples" examples/roads.col
+}
+
+pack_archive() {
+    local name=popsample-$version-linux-x86_64
+    [ -n "$glibc" ] || name+=-static
+    lay_out "$room/archive/$name"
+    tar --sort=name --mtime="@$SOURCE_DATE_EPOCH" --owner=0 --group=0 --numeric-owner --format=gnu \
+        -C "$room/archive" -cf - "$name" | gzip -9n > "$out/$name.tar.gz"
+}
+
+pack_wheel() {
+    backend 'backend.build_wheel(words[0], {"program": words[1], "copyright": words[2]})' \
+        "$out" "$program" "$room/copyright" > /dev/null
+}
+
+# Packs what is laid out for the Debian package NAME, with what release/debian says of it.
+pack_debian() {
+    local name=$1 folder=$room/$1 documents=$room/$1/usr/share/doc/$1
+    install -D -m 644 -t "$documents" "$room/copyright"
+    printf '%s (%s) unstable; urgency=medium\n\n  * Packed from commit %s.\n\n -- %s  %s\n' "$name" "$version" \
+        "$(git rev-parse HEAD)" "$maintainer" "$(date -u -R -d "@$SOURCE_DATE_EPOCH")" \
+        | gzip -9n > "$documents/changelog.gz"
+    mkdir -p "$folder/DEBIAN"
+    (cd "$folder" && find usr -type f -print0 | sort -z | xargs -0 md5sum) > "$folder/DEBIAN/md5sums"
+    {
+        sed "s/@GLIBC@/$glibc/; s/@VERSION@/$version/" "release/debian/$name.control"
+        printf 'Version: %s\nMaintainer: %s\n' "$version" "$maintainer"
+        # In KiB, of the files alone: what a folder takes is its file system's affair.
+        find "$folder/usr" -type f -printf '%s\n' \
+            | awk '{ sum += $1 } END { print "Installed-Size:", int(sum / 1024) + 1 }'
+    } > "$folder/DEBIAN/control"
+    dpkg-deb --root-owner-group -Zxz --build "$folder" \
+        "$out/${name}_${version}_$(sed -n 's/^Architecture: //p' "release/debian/$name.control").deb" > /dev/null
+}
+
+pack_program() {
+    local usr=$room/popsample/usr
+    lay_out "$usr"
+    gzip -9n "$usr/share/man/man1/popsample.1" "$usr/share/doc/popsample/"{FORMATS,DEFINITIONS}.md
+    install -D -m 644 release/debian/popsample.lintian-overrides "$usr/share/lintian/overrides/popsample"
+    pack_debian popsample
+}
+
+pack_module() {
+    local name=python3-popsample packages=$room/python3-popsample/usr/lib/python3/dist-packages script
+    # The wheel without the program has the module as Python knows it; its RECORD is pip's alone.
+    backend 'backend.build_wheel(words[0])' "$room" > /dev/null
+    python3 -m zipfile -e "$room/popsample-$version-py3-none-any.whl" "$packages"
+    rm "$packages/popsample-$version.dist-info/RECORD"
+    for script in postinst prerm; do
+        install -D "release/debian/$name.$script" "$room/$name/DEBIAN/$script"
+    done
+    pack_debian "$name"
+}
+
+proved=""
+if [ -n "$record" ] && ! proved=$(verdict "$record"); then
+    echo "release/build.sh: $record has no verdict, or a bad one" >&2
+    exit 1
+fi
+provenance > "$room/PROVENANCE.txt"
+if [ -n "$glibc" ]; then
+    release/copyright.py > "$room/copyright"
+else
+    release/copyright.py "${NOTICE:-/usr/share/doc/libc6/copyright}" > "$room/copyright"
+fi
+cp "$room/PROVENANCE.txt" "$out"
+pack_archive
+pack_wheel
+if [ -n "$glibc" ]; then
+    pack_program
+    pack_module
+fi
+cd "$out"
+sums=$(sha256sum -- *)
+echo "$sums" > SHA256SUMS

@@ -1,0 +1,166 @@
+#!/usr/bin/env bash
+# Tries what release/build.sh packed, as somebody has it who has neither the kit nor this checkout:
+#
+#     release/test.sh OUT
+#
+# SHA256SUMS and PROVENANCE.txt tell what is there, to the byte; all that has a version has that of the file VERSION;
+# the program answers the cases of examples/cases, and in a root with nothing but the C library that it asks for; and
+# the packages and the wheel are put into folders of their own, without a network, where the module finds the program
+# that came with it. It takes a python3 from 3.11 on with venv, and dpkg-deb. What takes root's rights or another tool
+# is left out where these are missing, and a line says so.
+#
+# The status is 0 where all is well, 1 where something isn't, and 2 where the call is wrong.
+set -euo pipefail
+shopt -s extglob
+export LC_ALL=C
+
+if [ $# -ne 1 ] || [ ! -f "$1/SHA256SUMS" ]; then
+    echo "usage: release/test.sh OUT" >&2
+    exit 2
+fi
+out=$(realpath "$1")
+cd "$(dirname "$0")/.."
+cases=examples/cases/compare.sh
+version=$(cat VERSION)
+room=$(mktemp -d)
+trap 'rm -rf "$room"' EXIT
+# The archive of a program that holds the C library has a name of its own.
+archive=$(basename "$out"/popsample-*.tar.gz)
+static=""
+[ "$archive" != "popsample-$version-linux-x86_64-static.tar.gz" ] || static=yes
+
+fail() {
+    echo "release/test.sh: $*" >&2
+    exit 1
+}
+
+# Tells that a part is well, or why it is left out.
+tell() {
+    echo "$1: ${2:-ok}"
+}
+
+# Runs a command with nothing of this environment.
+alone() {
+    env -i PATH=/usr/bin:/bin "$@"
+}
+
+# The sums are worked out anew and compared as a whole: a line that can't be read, or a file without one, is found too.
+check_sums() {
+    (cd "$out" && sha256sum -- !(SHA256SUMS)) | diff "$out/SHA256SUMS" - || fail "SHA256SUMS isn't of what is there"
+    tell "sums"
+}
+
+# The first number of a version in the first line of a document that begins so.
+version_in() {
+    grep -m 1 "^$2" "$1" | grep -oE '[0-9]+\.[0-9]+\.[0-9]+' | head -n 1 || true
+}
+
+check_version() {
+    local document line named
+    while read -r document line; do
+        named=$(version_in "$document" "$line")
+        [ "$named" = "$version" ] || fail "$document has the version '$named', and VERSION has $version"
+    done << 'LINES'
+docs/popsample.1 \.Os
+CHANGELOG.md ##
+CITATION.cff version:
+LINES
+    named=$({ cat README.md python/README.md && ls "$out"; } | grep -oE 'popsample[-_ ][0-9]+\.[0-9]+\.[0-9]+' \
+        | grep -oE '[0-9.]+$' | sort -u | paste -s -d ' ')
+    [ "$named" = "$version" ] || fail "the files and the pages name the versions '$named', and VERSION has $version"
+    tell "version $version"
+}
+
+# What is unpacked has the program that PROVENANCE.txt tells of: PROGRAM.
+check_program() {
+    echo "$(sed -n 's/^program  *//p' "$out/PROVENANCE.txt")  $1" | sha256sum --quiet --strict --check \
+        || fail "$1 isn't the program of PROVENANCE.txt"
+}
+
+# What else is unpacked says whose it is in the words of the archive: FILE..
+check_copyright() {
+    local file
+    for file in "$@"; do
+        cmp "$file" "$room/archive/share/doc/popsample/copyright" || fail "$file isn't that of the archive"
+    done
+}
+
+check_archive() {
+    local top=$room/archive
+    mkdir "$top"
+    tar -xzf "$out/$archive" -C "$top" --strip-components=1
+    check_program "$top/bin/popsample"
+    cmp "$top/share/doc/popsample/PROVENANCE.txt" "$out/PROVENANCE.txt" || fail "the archive comes from elsewhere"
+    [ -f LICENSE ] || grep -q "^No licence has been chosen yet" "$top/share/doc/popsample/copyright" \
+        || fail "the archive doesn't say that there is no licence"
+    "$cases" "$top/bin/popsample" || fail "the program of the archive differs from the cases"
+    tell "archive"
+}
+
+# A root that holds the program and the C library that it asks for, as the loader finds it here, and nothing else.
+check_bare_root() {
+    local program=$room/archive/bin/popsample root=$room/root library
+    if ! chroot / true 2> /dev/null; then
+        tell "bare root" "left out, since changing the root takes root's rights"
+        return
+    fi
+    install -D "$program" "$root/popsample"
+    if [ -z "$static" ]; then
+        for library in $(ldd "$program" | grep -o '/[^ ]*'); do
+            install -D "$library" "$root$library"
+        done
+    fi
+    release/first_output.sh chroot "$root" /popsample || fail "the program doesn't run in a bare root"
+    diff <(chroot "$root" /popsample make grid 24) <(chroot "$root" /popsample make grid 24 --workers 4) \
+        || fail "four threads don't agree with one in a bare root"
+    tell "bare root"
+}
+
+check_debian() {
+    local root=$room/debian file
+    if [ -n "$static" ]; then
+        tell "Debian packages" "left out, since there are none of a program that holds the C library"
+        return
+    fi
+    for file in "$out/popsample_${version}_amd64.deb" "$out/python3-popsample_${version}_all.deb"; do
+        dpkg-deb -x "$file" "$root"
+        [ "$(dpkg-deb -f "$file" Version)" = "$version" ] || fail "$file has another version"
+    done
+    check_program "$root/usr/bin/popsample"
+    check_copyright "$root"/usr/share/doc/{popsample,python3-popsample}/copyright
+    alone PATH="$root/usr/bin:/usr/bin:/bin" PYTHONPATH="$root/usr/lib/python3/dist-packages" \
+        "$room/venv/bin/python" -B release/call.py "$root/usr/bin/popsample" > /dev/null
+    tell "Debian packages"
+    if command -v lintian > /dev/null; then
+        # Whose address the packages name is for whoever packs them to say.
+        lintian --allow-root --fail-on error,warning \
+            --suppress-tags bogus-mail-host,bogus-mail-host-in-debian-changelog "$out"/*.deb \
+            || fail "lintian has something to say"
+        tell "lintian"
+    else
+        tell "lintian" "left out, since it isn't installed"
+    fi
+}
+
+check_wheel() {
+    local venv=$room/venv beside=$room/beside
+    local pip=("$venv/bin/pip" --quiet --disable-pip-version-check install --no-index)
+    "${pip[@]}" "$out"/popsample-*.whl
+    check_program "$venv/bin/popsample"
+    check_copyright "$venv"/lib/python3*/site-packages/popsample-"$version".dist-info/licenses/COPYRIGHT
+    alone "$venv/bin/python" -B release/call.py "$venv/bin/popsample" > /dev/null
+    "$venv/bin/pip" --quiet --disable-pip-version-check uninstall --yes popsample
+    "${pip[@]}" --target "$beside" "$out"/popsample-*.whl
+    check_program "$beside/bin/popsample"
+    alone PYTHONPATH="$beside" "$venv/bin/python" -B release/call.py "$beside/bin/popsample" > /dev/null
+    tell "wheel"
+}
+
+check_sums
+check_version
+check_archive
+check_bare_root
+# In an environment of its own no other popsample is found than the one that a part installs.
+python3 -m venv "$room/venv"
+check_debian
+check_wheel
