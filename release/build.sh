@@ -76,12 +76,15 @@ $leaves SHA-256 is on the line \`program\`.
 TEXT
 }
 
-# Puts the program and its documents below a folder, as they lie below /usr and /usr/local.
+# Puts the program and its documents below a folder, as they lie below /usr and /usr/local: FOLDER ZSH, where zsh looks
+# for completions in share/zsh/ZSH.
 lay_out() {
     local documents=$1/share/doc/popsample
     install -D "$program" "$1/bin/popsample"
     install -D -m 644 docs/popsample.1 "$1/share/man/man1/popsample.1"
     install -D -m 644 completion/popsample.bash "$1/share/bash-completion/completions/popsample"
+    install -D -m 644 completion/_popsample "$1/share/zsh/$2/_popsample"
+    install -D -m 644 completion/popsample.fish "$1/share/fish/vendor_completions.d/popsample.fish"
     install -D -m 644 -t "$documents" docs/FORMATS.md docs/DEFINITIONS.md "$room/PROVENANCE.txt" "$room/copyright"
     install -D -m 644 -t "$documents/examples" examples/roads.col
 }
@@ -89,7 +92,7 @@ lay_out() {
 pack_archive() {
     local name=popsample-$version-linux-x86_64
     [ -n "$glibc" ] || name+=-static
-    lay_out "$room/archive/$name"
+    lay_out "$room/archive/$name" site-functions
     tar --sort=name --mtime="@$SOURCE_DATE_EPOCH" --owner=0 --group=0 --numeric-owner --format=gnu \
         -C "$room/archive" -cf - "$name" | gzip -9n > "$out/$name.tar.gz"
 }
@@ -121,7 +124,7 @@ pack_debian() {
 
 pack_program() {
     local usr=$room/popsample/usr
-    lay_out "$usr"
+    lay_out "$usr" vendor-completions
     gzip -9n "$usr/share/man/man1/popsample.1" "$usr/share/doc/popsample/"{FORMATS,DEFINITIONS}.md
     install -D -m 644 release/debian/popsample.lintian-overrides "$usr/share/lintian/overrides/popsample"
     pack_debian popsample
