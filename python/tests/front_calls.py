@@ -84,5 +84,6 @@ def pattern_of(first_line: str) -> str:
 
 
 def example(name: str) -> Path:
-    """A file of the examples."""
-    return TOP / "examples" / name
+    """A file of the examples; certificates stand among their cases."""
+    folder = TOP / "examples"
+    return (folder / "cases" if name.endswith(".cert") else folder) / name

@@ -36,9 +36,9 @@ CALLS = (
     ("check", "petersen.cnf", []),
     ("check", "channels.cnf", []),
     ("rounds", "channels.cnf", ["--key", KEY]),
-    ("replay", "one-pops.out", []),
+    ("replay", "two.cert", []),
     ("replay", "illegal.cert", []),
-    ("resume", "one-pops.out", ["--workers", "2"]),
+    ("resume", "two.cert", ["--workers", "2"]),
 )
 
 

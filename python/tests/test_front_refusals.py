@@ -77,7 +77,7 @@ class Told(unittest.TestCase):
             self.assertRegex(ended.told, f": {pattern_of(first_line)}\n$")
 
     def test_a_legal_log_is_no_refusal(self):
-        ended = called("replay", example("one-pops.out"))
+        ended = called("replay", example("two.cert"))
         self.assertEqual((ended.status, ended.told), (10, ""))
 
     def test_the_words_of_the_program_are_told(self):
