@@ -1,10 +1,11 @@
 -- Values that a slip in a definition would change.
-use Rattle.std.proofs.Common.{◌≡◌, ◌+◌, ◌*◌, ◌^◌, ℕ, [], ◌∷◌, List, map, replicate, refl}
+use Rattle.std.proofs.Common.{inl, inr, ◌≡◌, ◌+◌, ◌-◌, ◌*◌, ◌^◌, ℕ, [], ◌∷◌, List, map, replicate, refl, arith}
 use Rattle.rand_core.specs.Steps.{u32_at}
 use Rattle.rand_chacha.specs.Block.{quarter_round, column_round, diagonal_round, double_rounds, block_word}
 use Rattle.rand_chacha.specs.ChaCha.{key_of}
 use Rattle.pop_model.specs.Stacks.{number_at, weighted}
 use Rattle.pop_model.specs.Popping.{pop}
+use Rattle.pop_model.specs.Faults.{Rose}
 
 unfoldable pub zero_key : List ℕ
 zero_key = key_of (replicate 32 0)
@@ -38,3 +39,17 @@ five_to_one = refl
 -- a pop moves the variables of the event by one, and no other
 moves_on : pop (3 ∷ 0 ∷ 7 ∷ 1 ∷ []) ((0, 1) ∷ (2, 0) ∷ []) ≡ 4 ∷ 0 ∷ 8 ∷ 1 ∷ []
 moves_on = refl
+
+-- a count of faults has to rise
+stands_still : Rose 6 6 → ⊥
+stands_still (inl rose) = absurd (omega (arith, rose))
+stands_still (inr last) = absurd (omega (arith, last))
+
+-- but where it stands at the last value of a counter of 64 bits
+is_full : Rose (2 ^ 64 - 1) (2 ^ 64 - 1)
+is_full = inr refl
+
+-- a count above that value has to rise too
+stands_above : Rose (2 ^ 64) (2 ^ 64) → ⊥
+stands_above (inl rose) = absurd (omega (arith, rose))
+stands_above (inr last) = absurd (omega (arith, last))

@@ -1,5 +1,5 @@
 -- What is refused before anything is made comes of each job of the command, the stacks and the root.
-use Rattle.std.proofs.Common.{◌≡◌, ℕ, true, false, List, None, Result, Ok, IfErr, sym, subst, arith}
+use Rattle.std.proofs.Common.{inl, inr, ◌≡◌, ℕ, true, false, List, None, Result, Ok, IfErr, sym, subst, arith}
 use Rattle.std.specs.Result.{IsErrAnd}
 use Rattle.std.proofs.lemmas.Result.{IfErr-weaker}
 use Rattle.pop_model.specs.Faults.{Rose}
@@ -28,7 +28,8 @@ use Rattle.top_call.proofs.Lifting.{by_command, read_refused}
 
 -- a source that never fails doesn't rise
 no_rise : Rose 0 0 → ⊥
-no_rise rose = absurd (omega (arith, rose))
+no_rise (inl rose) = absurd (omega (arith, rose))
+no_rise (inr last) = absurd (omega (arith, last))
 
 -- a refusal of a text that is lent
 pub slice_refused : {X : Type 0} (job : Job) (ws : List Watcher) (text : List ℕ) (Refused : ReadRefusal → Type 0)
