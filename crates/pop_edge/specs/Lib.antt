@@ -6,5 +6,6 @@ pub mod Numbers
 pub mod Headers
 pub mod Refusals
 pub mod LineState
+pub mod NeededReads
 pub mod Splitting
 pub mod Judging

@@ -1,5 +1,5 @@
 -- The source and the sink in memory, and what a call leaves of them.
-use Rattle.std.specs.Prelude.{ℕ, List, [], ◌++◌, drop, take, Result, Ok, Err}
+use Rattle.std.specs.Prelude.{ℕ, List, [], ◌++◌, length, drop, take, Option, None, Some, Result, Ok, Err}
 use Rattle.pop_edge.specs.Devices.{one_more}
 
 -- A source: the bytes that it has left, and the most that one read gives. The reads whose numbers,
@@ -38,6 +38,12 @@ new_sink room piece failing =
 abbrev pub after_read : {E : Type 0} → Input → Result ℕ E → Input
 after_read s (Ok n) = record s { left = drop n s.left; calls = one_more s.calls }
 after_read s (Err _) = record s { calls = one_more s.calls; faults = one_more s.faults }
+
+-- a source after a read that gave these bytes, or failed
+abbrev pub after_piece : Input → Option (List ℕ) → Input
+after_piece s (Some bytes) =
+    record s { left = drop (length bytes) s.left; calls = one_more s.calls }
+after_piece s None = record s { calls = one_more s.calls; faults = one_more s.faults }
 
 -- a sink after a write of a piece: it holds what it took, and a failed write is a fault
 abbrev pub after_write : {E : Type 0} → Output → List ℕ → Result ℕ E → Output

@@ -1,10 +1,12 @@
 -- How pieces of bytes are cut into lines.
-use Rattle.std.specs.Prelude.{◌≡◌, ◌↔◌, ℕ, ◌+◌, ◌-◌, ◌≤◌, Bool, true, false, List, [], ◌∷◌, ◌++◌, length, take, drop, slice_range, Option, None, Some}
-use Rattle.std.specs.List.{list_any}
+use Rattle.std.specs.Prelude.{◌≡◌, ◌↔◌, ℕ, ◌+◌, ◌-◌, ◌<◌, ◌≤◌, Bool, true, false, List, [], ◌∷◌, ◌++◌, length, take, drop, slice_range, Option, None, Some}
+use Rattle.std.specs.List.{concat, list_any}
+use Rattle.std.specs.Iterator.{Yields}
 use Rattle.std.specs.Io.KnownBytes.{Consumes, IsAtEnd}
 use Rattle.pop_edge.specs.declared.splitter.Splitter.{Splitter}
 use Rattle.pop_edge.specs.Lines.{is_end, text_limit}
 use Rattle.pop_edge.specs.LineState.{LineState, at_hand}
+use Rattle.pop_edge.specs.NeededReads.{NeedsMore, is_nothing}
 
 -- the bytes up to the first line end go to the begun line, or all where there is none
 abbrev pub Moves : List ℕ → List ℕ → List ℕ → Option ℕ → Type 0
@@ -36,8 +38,10 @@ Cuts old new false =
     × (new.line.items ≡ old.line.items) × (new.number ≡ old.number)
 
 -- bytes were read behind what is at hand; those past the limit belong to no line
-pub record HasFilled (old new : Splitter) (left left' : Option (List ℕ)) : Type 0 where
+pub record HasFilled (old new : Splitter) (left left' : Option (List ℕ)) (gives : List ℕ → Type 0)
+    : Type 0 where
   pub bytes : List ℕ
+  pub given : gives bytes
   pub consumed : Consumes left left' bytes
   pub taken : new.taken ≡ old.taken + length bytes
   pub rest : rest_of new ≡ rest_of old ++ take (text_limit - old.taken) bytes
@@ -68,7 +72,11 @@ pub record Reads (old new : LineState) (left left' : Option (List ℕ)) (bytes :
   pub number : new.number ≡ old.number
   pub stays : old.ended ≡ true → new.ended ≡ true
 
--- some bytes were taken so
-pub record HasRead (old new : LineState) (left left' : Option (List ℕ)) : Type 0 where
-  pub bytes : List ℕ
-  pub reads : Reads old new left left' bytes
+-- some pieces were read so, each of which was needed behind those before it
+pub record HasRead {S : Type 0} (gives : S → Option (List ℕ) → S → Type 0) (old new : LineState)
+    (left left' : Option (List ℕ)) (source source' : S) : Type 0 where
+  pub pieces : List (List ℕ)
+  pub reads : Reads old new left left' (concat pieces)
+  pub needed : (j : ℕ) → j < length pieces → NeedsMore old (take j pieces)
+  pub some : new.ended ≡ false → list_any is_nothing pieces ≡ false
+  pub read : Yields gives source pieces source'

@@ -37,6 +37,7 @@ impl Model for Lines {
 
 impl Lines {
     ghost use Rattle.pop_edge.specs.LineState.{IsNext, Repeats, fresh, opening};
+    ghost use Rattle.pop_edge.specs.NeededReads.{ReadsAsNeeded};
 
     /// No line yet. It takes the memory for one read.
     pub fn new(alloc: Global) -> Result<Lines, AllocError>
@@ -62,15 +63,19 @@ impl Lines {
         self.splitter.number
     }
 
-    /// Gives the next line, or says that there is none or why. It reads only where no whole line is
-    /// at hand. `Limit(1, line)` comes once a byte past the limit was read and every line before
-    /// the line of the first such byte was given, `ReadFault` where the source failed and no whole
-    /// line was at hand. After a refusal each call answers the same refusal and reads nothing.
+    /// Gives the next line, or says that there is none or why. Each read of a call is made only
+    /// where no whole line is at hand, and none behind a read that gave 0 or failed.
+    /// `Limit(1, line)` comes once a byte past the limit was read and every line before the line of
+    /// the first such byte was given, `ReadFault` where the source failed and no whole line was at
+    /// hand. After a refusal each call answers the same refusal and reads nothing.
     pub fn next<S: Source>(&mut self, source: &mut S) -> Result<Next, ReadRefusal>
         ensures kept { IfSome self.old.kept (λ refusal.
             Repeats self.old self.new (S.left source.old) (S.left source.new) result refusal) }
+        ensures unread { IfSome self.old.kept (λ _. source.new ≡ source.old) }
         ensures next { IfNone self.old.kept
             (IsNext self.old (fresh self.new) (S.left source.old) (S.left source.new) result) }
+        ensures reads { IfNone self.old.kept (ReadsAsNeeded S.read_gives self.old (fresh self.new)
+            (S.left source.old) (S.left source.new) source.old source.new result) }
         ensures keeps { IfErr result (λ refusal. self.new.kept ≡ Some refusal) }
         ensures goes_on { OnOk result (self.new.kept ≡ None) }
 

@@ -3,7 +3,8 @@ ghost use Rattle.std.specs.Io.{ReadsAtMost};
 ghost use Rattle.std.specs.Io.KnownBytes.{ReadConsumes};
 ghost use Rattle.pop_model.specs.Faults.{HasCause};
 ghost use Rattle.pop_edge.specs.Devices.{one_more};
-ghost use Rattle.pop_edge.specs.Memory.{after_read, new_source};
+ghost use Rattle.pop_edge.specs.Memory.{after_piece, after_read, new_source};
+ghost use Rattle.pop_edge.specs.NeededReads.{given};
 
 use crate::{Failed, Source};
 use std::marker::Model;
@@ -60,6 +61,8 @@ impl Source for MemSource {
 
     ghost faults = { λ s. s.faults };
 
+    ghost read_gives = { λ s given after. after ≡ after_piece s given };
+
     /// Fails exactly where its number is listed, and else gives as many bytes as the piece, the
     /// room and what is left allow.
     fn read(&mut self, room: &mut [u8]) -> Result<usize, Failed>
@@ -73,6 +76,7 @@ impl Source for MemSource {
         ensures cause { HasCause self.old.faults self.new.faults result }
 
         ensures after { self.new ≡ after_read self.old result }
+        ensures gives { self.new ≡ after_piece self.old (given result room.new) }
     {
         self.calls = self.calls.saturating_add(1);
         if self.failing.contains(&self.calls) {

@@ -1,10 +1,11 @@
-ghost use Rattle.std.specs.Prelude.{◌≡◌, ◌≤◌, ◌+◌, [], false, true, IfOk, OnErr, OnOk, Err};
+ghost use Rattle.std.specs.Prelude.{◌≡◌, ◌≤◌, ◌+◌, [], false, true, IfOk, OnErr, OnOk, None, Some, Err};
 ghost use Rattle.std.specs.Io.KnownBytes.{IsAtEnd, Keeps};
 ghost use Rattle.memchr.specs.Find.{IsFirstByte};
 ghost use Rattle.pop_model.specs.Faults.{HasCause, Rose};
 ghost use Rattle.pop_edge.specs.declared.refusal.ReadRefusal.TheVariants.{ReadFault};
 ghost use Rattle.pop_edge.specs.Lines.{is_end, text_limit};
 ghost use Rattle.pop_edge.specs.LineState.{IsNext};
+ghost use Rattle.pop_edge.specs.NeededReads.{ReadsAsNeeded};
 ghost use Rattle.pop_edge.specs.Splitting.{Cuts, HasFilled, IsSplitter, Moves, rest_of, state_of};
 
 use crate::{Failed, Next, ReadRefusal, Source};
@@ -130,10 +131,12 @@ impl Splitter {
         requires more { self.old.taken ≤ text_limit }
         ensures splitter { IsSplitter self.new }
         ensures filled { OnOk result
-            (HasFilled self.old self.new (S.left source.old) (S.left source.new)) }
+            (HasFilled self.old self.new (S.left source.old) (S.left source.new)
+            (λ bytes. S.read_gives source.old (Some bytes) source.new)) }
         ensures err { OnErr result (Keeps (S.left source.old) (S.left source.new)
             × (rest_of self.new ≡ rest_of self.old) × (self.new.taken ≡ self.old.taken)
-            × (self.new.ended ≡ self.old.ended)) }
+            × (self.new.ended ≡ self.old.ended)
+            × S.read_gives source.old None source.new) }
         ensures same { (self.new.line ≡ self.old.line) × (self.new.number ≡ self.old.number) }
         ensures cause { HasCause (S.faults source.old) (S.faults source.new) result }
     {
@@ -155,6 +158,8 @@ impl Splitter {
         ensures splitter { IsSplitter self.new }
         ensures next { IsNext (state_of self.old) (state_of self.new)
             (S.left source.old) (S.left source.new) result }
+        ensures reads { ReadsAsNeeded S.read_gives (state_of self.old) (state_of self.new)
+            (S.left source.old) (S.left source.new) source.old source.new result }
         ensures at_end { (self.old.ended ≡ true → IsAtEnd (S.left source.old))
             → self.new.ended ≡ true → IsAtEnd (S.left source.new) }
         ensures later { S.faults source.old ≤ S.faults source.new }

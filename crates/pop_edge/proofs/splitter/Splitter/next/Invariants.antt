@@ -9,7 +9,8 @@ abbrev pub invariant-loop-self : goal.invariant-loop-self
 invariant-loop-self g l =
     record {
       splitter : IsSplitter l.self;
-      read : HasRead (state_of l.fn.self) (state_of l.self) (g.S.Source.left l.fn.source) (g.S.Source.left l.source);
+      read : HasRead g.S.Source.read_gives (state_of l.fn.self) (state_of l.self) (g.S.Source.left l.fn.source)
+          (g.S.Source.left l.source) l.fn.source l.source;
       at_end : (l.fn.self.ended ≡ true → IsAtEnd (g.S.Source.left l.fn.source)) → l.self.ended ≡ true
           → IsAtEnd (g.S.Source.left l.source);
       faults : g.S.Source.faults l.fn.source ≤ g.S.Source.faults l.source;
