@@ -14,14 +14,14 @@ use Rattle.claim_words.specs.Words.{variable_at, cursor_in, settled_bit, is_sett
 use Rattle.claim_words.specs.Maps.{total, is_at, times}
 use Rattle.claim_words.specs.Openings.{count, height, is_listed}
 use Rattle.claim_words.specs.Steps.{claim_with, claimed_by}
-use Rattle.claim_words.specs.Machine.{IsHeldAt, IsFoundAt, abstract, Sound}
+use Rattle.claim_words.specs.Machine.{IsHeldAt, IsFoundAt, IsSettledAt, abstract, Sound}
 use Rattle.claim_words.specs.TicketLogs.{IsLegalFrom, vector}
 use Rattle.claim_words.specs.Tells.{AtMost, ClaimTells, SoleTells, SoleKnows}
 use Rattle.claim_words.proofs.Bits.{or_free, or_taken}
 use Rattle.claim_words.proofs.SoleHasAll.{whole, only_mine}
 use Rattle.claim_words.proofs.TicketsAreLegal.{leads_to}
 use Rattle.claim_words.proofs.Histories.{entry_low}
-use Rattle.claim_words.proofs.Totals.{total-append, each-append, each-map, times-none, is_at-yes, is_at-no}
+use Rattle.claim_words.proofs.Totals.{total-append, each-append, each-look, each-map, times-none, is_at-yes, is_at-no}
 use Rattle.claim_words.proofs.WordMoves.{agree_moves, within, share_kept, none_due, knows_after, moved}
 
 -- the view after a claim that found the word free
@@ -169,6 +169,13 @@ module _ {S : Type 0} (k : Opening) (s : State S View) (o : Sound k s) (id v : �
             (λ p h is. subst (λ (x : ℕ). p.1 ≤ cursor_in (get_or s.words (1 + x) 0)) is h.1) d.found
             (o.agree id d me).found;
         refused = λ sole taken unset. omega (arith, alone_holds sole, o.held_once v near);
+        known = λ some. (each-look (IsSettledAt k s.words) d.settled v some (o.agree id d me).knows).1;
+        told = λ sole set. omega (
+          arith,
+          set,
+          o.known v near,
+          only_mine k s o id d me sole (λ (x : View). times v x.settled) refl,
+        );
         listed = λ h other told. let same : h ≡ k = same_Some _ _ (sym other ∙ live) in
             o.unsettled (subst (λ (x : Opening). is_listed x.instance.value.family ≡ true) same told) v near;
         newer = λ left r e mine i is.

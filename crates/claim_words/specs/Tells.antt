@@ -30,6 +30,9 @@ pub record ClaimTells (d : View) (v w : ℕ) (e : View) : Type 0 where
   pub found : Each (AtMost v (cursor_in w)) d.found
   -- a sole pass is refused only by itself
   pub refused : d.share ≡ 64 → 2 ^ 63 ≤ w → settled_bit w ≡ 0 → times v d.held ≡ 1
+  -- what the pass knows to be settled is found so, and a sole pass knows all that is found so
+  pub known : 1 ≤ times v d.settled → settled_bit w ≡ 1
+  pub told : d.share ≡ 64 → settled_bit w ≡ 1 → 1 ≤ times v d.settled
   -- of a listed family no variable is settled
   pub listed : (k : Opening) → d.opening ≡ Some k → is_listed k.instance.value.family ≡ true
       → settled_bit w ≡ 0

@@ -27,8 +27,8 @@ impl<'i> Board<'i> {
     };
 
     /// Ends a board: its cursors, the number of pops, the tickets where a log is kept, and where
-    /// events may still be poppable, which the pass's view tells exactly. The pass must be idle and have all shares. Where memory is
-    /// wanting, both come back as they were.
+    /// events may still be poppable, which the pass's view tells exactly. The pass must be idle and
+    /// have all shares. Where memory is wanting, both come back as they were.
     pub fn close(self, pass: Pass) -> Result<Closed, (Board<'i>, Pass, AllocError)>
         requires pass { IsOf self pass }
         requires sole { IsSole pass }
