@@ -1,5 +1,5 @@
 -- The pop of the loop that a path closes: it may be made, and moves on the cursors of the path from the loop on.
-use Rattle.std.proofs.Common.{inl, inr, ◌≡◌, ℕ, zero, suc, ◌+◌, ◌-◌, ◌<◌, ◌≤◌, List, [], ◌∷◌, ◌++◌, length, take, get_or, slice_get, Option, Some, cond, ◌==◌, eq-eqb, ne_eqb, refl, sym, ap, subst, ◌∙◌, arith, Contains, ext_get_or}
+use Rattle.std.proofs.Common.{inl, inr, ◌≡◌, ℕ, zero, suc, ◌+◌, ◌-◌, ◌<◌, ◌≤◌, true, List, [], ◌∷◌, ◌++◌, length, map, take, get_or, slice_get, Option, Some, cond, ◌==◌, eq-eqb, ne_eqb, refl, sym, ap, subst, ◌∙◌, arith, Contains, ext_get_or}
 use Rattle.std.proofs.lemmas.Bool.{cases_eq, cases_lt, cases_Bool}
 use Rattle.std.proofs.lemmas.List.{get_or-take, length-take-le}
 use Rattle.pop_model.specs.Stacks.{StackTable, value_at}
@@ -152,16 +152,30 @@ module _ (k : Opening) (d : View) (t : Trail) (is : Stands k d t) (place : ℕ) 
     pub can : (unit x : ℕ) → slice_get cube 0 ≡ Some (unit, x) → CanPop k.instance.value d unit cube
     can unit x first = record { event = event unit x first; ready = ready }
 
-    -- a variable of the path is in it where it stands from the place on
-    times_on : (j : ℕ) → place ≤ j → j < length t.path → times (v_at j) cube ≡ 1
-    times_on j from less =
+    -- a variable that it names stands in the loop
+    named_there : (v : ℕ) → names cube v ≡ true → Contains those v
+    named_there v named = (cube_names g (c k d t is place within closes g of_board) those cube of v).0 named
+
+    -- what stands at a place of the path, from that of the loop on, is a member
+    member_on : (j : ℕ) → place ≤ j → j < length t.path → Contains those (v_at j)
+    member_on j from less =
         let i = j - place in
         let inside : i < length those = omega (arith, from, less, long_those) in
         let sum : place + i ≡ j = omega (arith, from) in
-        let has : Contains those (v_at j) = subst (Contains those)
-        (member_is k d t is place within closes g of_board i inside ∙ ap v_at sum) (member_at those i inside) in
-        let laid = c k d t is place within closes g of_board in
-        let named = (cube_names g laid those cube of (v_at j)).1 has in
+        subst (Contains those) (member_is k d t is place within closes g of_board i inside ∙ ap v_at sum)
+        (member_at those i inside)
+
+    -- and it is named
+    named_at : (v : ℕ) → (j : ℕ) × (place ≤ j) × (j < length t.path) × (v_at j ≡ v) → names cube v ≡ true
+    named_at v there =
+        subst (λ (u : ℕ). names cube u ≡ true) there.3
+        ((cube_names g (c k d t is place within closes g of_board) those cube of (v_at there.0)).1
+        (member_on there.0 there.1 there.2))
+
+    -- a variable of the path is in it where it stands from the place on
+    times_on : (j : ℕ) → place ≤ j → j < length t.path → times (v_at j) cube ≡ 1
+    times_on j from less =
+        let named : names cube (v_at j) ≡ true = named_at (v_at j) (j, from, less, refl) in
         omega (
           arith,
           names_raise cube (v_at j) 0 (once cube of.cube.rising (v_at j)),
@@ -239,6 +253,10 @@ module _ (k : Opening) (d : View) (t : Trail) (is : Stands k d t) (place : ℕ) 
       popped = record_held unit cube d.held;
       mine = ap (λ (v : View). v.mine) to;
       event = event unit x first;
+      loop = record {
+        members = λ v. (λ named. stands v (named_there v named), λ there. named_at v there);
+        entries = ap (λ (l : Pairs). map (λ (p : ℕ × ℕ). look p.0 l) cube) is.held;
+      };
       newer = newer;
       same = ap (λ (v : View). variables v.held) to ∙ variables-raise_all cube d.held;
       kept = ap (λ (v : View). take place v.held) to ∙ front;

@@ -1,5 +1,5 @@
 -- What a walk gains, round by round, and what its answer says.
-use Rattle.std.proofs.Common.{inr, ◌≡◌, ◌⊎◌, ℕ, ◌+◌, ◌<◌, List, [], ◌∷◌, ◌++◌, length, refl, sym, ap, subst, ◌∙◌, arith, append_assoc, append-nil}
+use Rattle.std.proofs.Common.{inl, inr, ◌≡◌, ◌⊎◌, ℕ, ◌+◌, ◌<◌, ◌≤◌, List, [], ◌∷◌, ◌++◌, length, refl, sym, ap, subst, ◌∙◌, arith, append_assoc, append-nil}
 use Rattle.pop_model.specs.Families.{IsEvent}
 use Rattle.pop_model.specs.Logs.{LogRecord}
 use Rattle.claim_words.specs.Maps.{Pairs, In}
@@ -10,9 +10,10 @@ use Rattle.claim_words.proofs.Totals.{each-append}
 use Rattle.event_finders.specs.declared.tried.Tried.{Tried}
 use Rattle.event_finders.specs.declared.tried.Tried.TheVariants.{Popped, Cleared, Stuck, Busy, Idle, OutOfMemory}
 use Rattle.event_finders.specs.Gains.{Stays, Rises}
-use Rattle.event_finders.specs.Walks.{GainsTickets, IsWalkAnswer}
+use Rattle.event_finders.specs.Walks.{GainsTickets, AreCounted, Closes, CloseAll, PopsCycles, IsWalkAnswer}
 use Rattle.event_finders.specs.WalkSteps.{Same, PopsLoop, Says, EndsAt}
 use Rattle.event_finders.proofs.TrailLemmas.{long_push}
+use Rattle.event_finders.proofs.WalkTraces.{close_all_on, close_all_more}
 
 -- what stays in two turns stays
 pub stays_then : (d e f : View) → Stays d e → Stays e f → Stays d f
@@ -64,21 +65,62 @@ gains_then k d e f a b one two = record {
 }
 
 -- what was gained in so many rounds; the last ticket
-pub record Gained (k : Opening) (d e : View) (n last : ℕ) : Type 0 where
+pub record Gained (k : Opening) (d e : View) (n last start : ℕ) : Type 0 where
   pub added : List Drawn
   pub gains : GainsTickets k d e added
+  pub closed : CloseAll k 0 d e start added
   pub many : length added ≡ n
   pub ends : (n ≡ 0) ⊎ ((before : List Drawn) × (r : LogRecord) × (added ≡ before ++ (last, r) ∷ []))
 
 -- one round more
-pub gained_more : (k : Opening) (d e f : View) (n last t : ℕ) (r : LogRecord) → Gained k d e n last
-    → GainsTickets k e f ((t, r) ∷ []) → Gained k d f (n + 1) t
-gained_more k d e f n last t r g more = record {
+pub gained_more : (k : Opening) (d e f : View) (n last t start : ℕ) (r : LogRecord) (seen : Pairs)
+    → Gained k d e n last start → GainsTickets k e f ((t, r) ∷ []) → f.seen ≡ e.seen ++ seen
+    → Closes k n d f start r → Gained k d f (n + 1) t start
+gained_more k d e f n last t start r seen g more is closes = record {
   added = g.added ++ (t, r) ∷ [];
   gains = gains_then k d e f g.added ((t, r) ∷ []) g.gains more;
+  closed = close_all_more k 0 n d f start g.added (t, r) (close_all_on k 0 d e f start g.added seen g.closed is)
+      (omega (arith, g.many)) closes;
   many = omega (arith, long_push g.added (t, r), g.many);
   ends = inr (g.added, r, refl);
 }
+
+-- a walk that ends behind them popped as many cycles, as its answer says
+pub over_mine : (k : Opening) (d e f : View) (n last start pops : ℕ) (answer : Tried) (v : ℕ) (seen : Pairs)
+    → Gained k d e n last start → GainsTickets k e f [] → f.seen ≡ e.seen ++ seen → n < pops → Says f v answer
+    → PopsCycles k d f pops start answer
+over_mine k d e f n last start pops answer v seen g none is less says = (
+  g.added ++ [],
+  gains_then k d e f g.added [] g.gains none,
+  few answer says,
+  subst (CloseAll k 0 d f start) (sym (append-nil g.added)) (close_all_on k 0 d e f start g.added seen g.closed is),
+)
+  where
+    fewer : length (g.added ++ []) < pops
+    fewer = omega (arith, ap length (append-nil g.added), g.many, less)
+
+    few : (a : Tried) → Says f v a → AreCounted pops (g.added ++ []) a
+    few (Popped t) s = absurd s
+    few (Cleared u c) s = fewer
+    few (Stuck u c) s = fewer
+    few (Busy u w) s = fewer
+    few Idle s = fewer
+    few OutOfMemory s = fewer
+
+-- a walk that popped as many as were asked for ends behind them, once all is released
+pub end_mine : (k : Opening) (d e f : View) (n last start pops : ℕ) → Gained k d e n last start → f.mine ≡ e.mine
+    → f.seen ≡ e.seen → n ≡ pops → 1 ≤ pops → PopsCycles k d f pops start (Popped last)
+end_mine k d e f n last start pops g mine seen all some = (
+  g.added,
+  record { mine = mine ∙ g.gains.mine; events = g.gains.events; rise = g.gains.rise },
+  counted g.ends,
+  close_all_on k 0 d e f start g.added [] g.closed (seen ∙ sym (append-nil e.seen)),
+)
+  where
+    counted : (n ≡ 0) ⊎ ((before : List Drawn) × (r : LogRecord) × (g.added ≡ before ++ (last, r) ∷ []))
+        → AreCounted pops g.added (Popped last)
+    counted (inl none) = absurd (omega (arith, none, all, some))
+    counted (inr more) = (more.0, more.1, more.2, g.many ∙ all)
 
 -- what the last round says of the walk
 pub over_answer : (k : Opening) (n : ℕ) (d e : View) (start pops : ℕ) (answer : Tried) → n < pops

@@ -27,7 +27,7 @@ use Rattle.event_finders.specs.declared.walks.Round.{Round}
 use Rattle.event_finders.specs.declared.walks.Round.TheVariants.{Popped as RoundPopped, Over}
 use Rattle.event_finders.specs.Gains.{Stays}
 use Rattle.event_finders.specs.Trails.{Trail, stand, last_of, Goes, Stands}
-use Rattle.event_finders.specs.Walks.{IsBusy, KeepsKnown, Traced, TracedTo, Reaches, GainsTickets}
+use Rattle.event_finders.specs.Walks.{IsBusy, IsLoop, Closes, KeepsKnown, Traced, TracedTo, Reaches, GainsTickets}
 
 -- the stacks and the arrows are those of the board
 pub record IsTableOf (k : Opening) (t : CycleTable) : Type 0 where
@@ -124,6 +124,7 @@ pub record PopsLoop (k : Opening) (d e : View) (path : Pairs) (place t : ℕ) : 
   pub popped : LogRecord
   pub mine : e.mine ≡ d.mine ++ (t, popped) ∷ []
   pub event : IsEvent k.instance.value.family popped.event
+  pub loop : IsLoop path place popped
   pub newer : (q : Drawn) → In q d.mine → q.0 < t
   pub same : variables e.held ≡ variables d.held
   pub kept : take place e.held ≡ take place d.held
@@ -136,12 +137,14 @@ Says e v (Busy u w) = IsBusy w × (e.share ≢ 64) × SoleKnows e
 Says e v OutOfMemory = ⊤
 Says e v answer = ⊥
 
--- a cycle was popped, and the walk stands where it closed; or the walk is over, and all was
--- released or settled
+-- a cycle was popped that the path closed, and the walk stands where it closed; or the walk is
+-- over, and all was released or settled
 abbrev pub Rounds : Opening → View → View → Trail → Trail → Round → Type 0
 Rounds k d e old new (RoundPopped t) = (r : LogRecord) × GainsTickets k d e ((t, r) ∷ [])
     × Stands k e new × (0 < length new.path)
     × (slice_index (variables new.path) 0 ≡ slice_index (variables old.path) 0) × SoleKnows e
+    × ((n : ℕ) (first : View) → Traced n first d old.path
+    → Closes k n first e (slice_index (variables old.path) 0) r)
 Rounds k d e old new (Over answer) = GainsTickets k d e [] × (e.held ≡ []) × (new.path ≡ [])
     × (new.count ≡ old.count) × Says e (slice_index (variables old.path) 0) answer
 

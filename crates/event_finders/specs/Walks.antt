@@ -1,10 +1,10 @@
 -- What the answer to a walk says.
-use Rattle.std.specs.Prelude.{◌≡◌, ◌≢◌, ◌⊎◌, ⊤, ℕ, ◌+◌, ◌<◌, ◌≤◌, ◌^◌, List, [], ◌∷◌, ◌++◌, length, slice_index}
-use Rattle.pop_model.specs.Popping.{variables}
+use Rattle.std.specs.Prelude.{◌≡◌, ◌≢◌, ◌⊎◌, ◌↔◌, ⊤, true, ℕ, ◌+◌, ◌<◌, ◌≤◌, ◌^◌, List, [], ◌∷◌, ◌++◌, length, map, slice_index}
+use Rattle.pop_model.specs.Popping.{variables, names}
 use Rattle.pop_model.specs.Families.{IsEvent}
 use Rattle.pop_model.specs.Logs.{LogRecord}
 use Rattle.claim_words.specs.Words.{word_of, cursor_in, settled_bit}
-use Rattle.claim_words.specs.Maps.{Pairs, Each, In}
+use Rattle.claim_words.specs.Maps.{Pairs, Each, In, look}
 use Rattle.claim_words.specs.Steps.{Drawn}
 use Rattle.claim_words.specs.Tells.{SoleKnows}
 use Rattle.claim_words.specs.declared.opening.Opening.{Opening}
@@ -55,6 +55,30 @@ abbrev pub Meets : Opening → View → View → ℕ → ℕ → ℕ → ℕ →
 Meets k d e pops start v w = ((v ≡ start) × (e.seen ≡ d.seen ++ (word_of v, w) ∷ []))
     ⊎ ((n : ℕ) × (n < pops) × Reaches k n d e start v w)
 
+-- The record is of the cycle that a path has from a place on: its event has just the variables that
+-- stand there, and its entries are their cursors.
+pub record IsLoop (path : Pairs) (place : ℕ) (r : LogRecord) : Type 0 where
+  pub members : (v : ℕ) → (names r.event.cube v ≡ true)
+      ↔ ((j : ℕ) × (place ≤ j) × (j < length path) × (slice_index (variables path) j ≡ v))
+  pub entries : r.entries ≡ map (λ p. look p.0 path) r.event.cube
+
+-- The arrows lead from the start, along variables that were claimed between, back to a place of
+-- this path, and the record is of the cycle that they close.
+pub record Closes (k : Opening) (n : ℕ) (d e : View) (start : ℕ) (r : LogRecord) : Type 0 where
+  pub path : Pairs
+  pub led : Led k path
+  pub begins : slice_index (variables path) 0 ≡ start
+  pub traced : Traced n d e path
+  pub place : ℕ
+  pub within : place < length path
+  pub goes : Goes k (last_of path) (slice_index (variables path) place)
+  pub loop : IsLoop path place r
+
+-- each of these records, of which n come first, is of a cycle that a path from the start closed
+abbrev pub CloseAll : Opening → ℕ → View → View → ℕ → List Drawn → Type 0
+CloseAll k n d e start [] = ⊤
+CloseAll k n d e start (r ∷ later) = Closes k n d e start r.1 × CloseAll k (n + 1) d e start later
+
 -- The pass gained these tickets, each higher than all before it, of events of the family.
 pub record GainsTickets (k : Opening) (d e : View) (added : List Drawn) : Type 0 where
   pub mine : e.mine ≡ d.mine ++ added
@@ -67,10 +91,10 @@ AreCounted pops added (Popped t) = (before : List Drawn) × (r : LogRecord)
     × (added ≡ before ++ (t, r) ∷ []) × (length added ≡ pops)
 AreCounted pops added answer = length added < pops
 
--- the pass popped cycles, as many as the answer says
-abbrev pub PopsCycles : Opening → View → View → ℕ → Tried → Type 0
-PopsCycles k d e pops answer =
-    (added : List Drawn) × GainsTickets k d e added × AreCounted pops added answer
+-- the pass popped cycles, as many as the answer says, each of which a path from the start closed
+abbrev pub PopsCycles : Opening → View → View → ℕ → ℕ → Tried → Type 0
+PopsCycles k d e pops start answer = (added : List Drawn) × GainsTickets k d e added
+    × AreCounted pops added answer × CloseAll k 0 d e start added
 
 -- What an answer says of a walk from the start. Where a step was made, a sole pass knows that no
 -- cycle that is poppable at its vector has a settled variable; and it is never refused.

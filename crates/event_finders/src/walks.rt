@@ -63,7 +63,8 @@ pub fn try_walk(
     ensures stays { Stays (view pass.old) (view pass.new) }
     ensures seen { SeesWithin 1 (view pass.old) (view pass.new) }
     ensures settled { KeepsKnown (view pass.old) (view pass.new) }
-    ensures mine { PopsCycles (opening_of board.now) (view pass.old) (view pass.new) 1 result }
+    ensures mine { PopsCycles (opening_of board.now) (view pass.old) (view pass.new) 1 start
+        result }
     ensures answer { IsWalkAnswer (opening_of board.now) (view pass.old) (view pass.new) 1 start
         result }
     ensures walker { walker.new ≡ walker.old }
@@ -99,8 +100,8 @@ pub fn walk_on(
     ensures stays { Stays (view pass.old) (view pass.new) }
     ensures seen { SeesWithin stretch.pops (view pass.old) (view pass.new) }
     ensures settled { KeepsKnown (view pass.old) (view pass.new) }
-    ensures mine { PopsCycles (opening_of board.now) (view pass.old) (view pass.new) stretch.pops
-        result }
+    ensures mine { PopsCycles (opening_of board.now) (view pass.old) (view pass.new)
+        stretch.pops stretch.start result }
     ensures answer { IsWalkAnswer (opening_of board.now) (view pass.old) (view pass.new)
         stretch.pops stretch.start result }
     ensures walker { walker.new ≡ walker.old }

@@ -88,7 +88,7 @@ module _ (k : Opening) (d e : View) (start pops : ℕ) (share : e.share ≡ d.sh
   none_popped (r ∷ added) mine few one = absurd (omega (arith, few, one))
 
   -- what a sole pass finds by a walk
-  pub walk_finds : (answer : Tried) → PopsCycles k d e pops answer → IsWalkAnswer k d e pops start answer
+  pub walk_finds : (answer : Tried) → PopsCycles k d e pops start answer → IsWalkAnswer k d e pops start answer
       → FindsAlone k d e start pops (found_in answer)
   walk_finds (Popped t) popped knows =
       let size = length-append d.mine popped.0 in

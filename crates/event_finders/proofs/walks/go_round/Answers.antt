@@ -9,7 +9,7 @@ use Rattle.claim_words.proofs.Memberships.{in_right}
 use Rattle.event_finders.proofs.TrailLemmas.{stand_variable}
 use Rattle.event_finders.proofs.WalkGains.{gains_none, gains_one}
 use Rattle.event_finders.proofs.WalkRounds.{path_on, stands_on, some_on, long_on, begins_on}
-use Rattle.event_finders.proofs.WalkTraces.{trace_up, trace_to_seen}
+use Rattle.event_finders.proofs.WalkTraces.{trace_up, trace_same, trace_to_seen}
 use Rattle.event_finders.proofs.walks.go_round.Goals as goal
 
 pub returns-in-Ok-clause-spare : goal.returns-in-Ok-clause-spare
@@ -60,6 +60,18 @@ returns-in-Ok-clause-round c =
       begins_on k d e t place c.in-Ok.ticket _ f.stands f.why.0 f.why.1 p g g_is u to trail
           ∙ sym (stand_variable t.path 0) ∙ ap (λ (x : ℕ × ℕ). x.0) f.begins ∙ stand_variable c.args.walker.now.path 0,
       subst SoleKnows (sym g_is) c.pop_loop.ensures.sole,
+      λ n first traced. record {
+        path = t.path;
+        led = f.stands.led;
+        begins = sym (stand_variable t.path 0) ∙ ap (λ (x : ℕ × ℕ). x.0) f.begins
+            ∙ stand_variable c.args.walker.now.path 0;
+        traced = trace_same n first d g t.path (c.in-Back.ensures.traced n first traced)
+            (ap (λ (v : View). v.seen) g_is ∙ p.seen);
+        place = place;
+        within = f.why.0;
+        goes = f.why.1;
+        loop = p.loop;
+      },
     )
 
 pub returns-in-Ok-clause-traced : goal.returns-in-Ok-clause-traced

@@ -1,10 +1,11 @@
-use Rattle.std.proofs.Common.{rules, arith, sym, subst, ◌∙◌, ◌+◌, ℕ}
+use Rattle.std.proofs.Common.{rules, arith, sym, subst, ap, ◌∙◌, ◌+◌, ℕ}
 use Rattle.claim_words.specs.Maps.{In}
 use Rattle.claim_words.specs.Tells.{SoleKnows}
 use Rattle.claim_words.specs.declared.view.View.{View}
 use Rattle.claim_words.specs.Passes.{view, opening_of}
 use Rattle.event_finders.specs.WalkSteps.{Says, EndsAt}
-use Rattle.event_finders.proofs.WalkGains.{gained_more, over_answer, stays_then}
+use Rattle.event_finders.specs.Walks.{Closes}
+use Rattle.event_finders.proofs.WalkGains.{gained_more, over_mine, end_mine, over_answer, stays_then}
 use Rattle.event_finders.proofs.WalkSeen.{seen_round, seen_on, within_less}
 use Rattle.event_finders.proofs.walks.walk_on.Goals as goal
 
@@ -29,11 +30,27 @@ returns-in-Over-clause-answer c =
     over_answer k n d e c.args.stretch.start c.args.stretch.pops c.in-Over.answer c.loop-test.true
     (stays_then d (view c.loop.pass) e i.stays c.in-Over.ensures.stays).share says ends
 
+pub returns-in-Over-clause-mine : goal.returns-in-Over-clause-mine
+returns-in-Over-clause-mine c =
+    let f = c.in-Over.ensures in
+    over_mine (opening_of c.args.board.now) (view c.args.pass.now) (view c.loop.pass) (view c.go_round.new.pass)
+    c.loop.counter c.loop.last c.args.stretch.start c.args.stretch.pops c.in-Over.answer _ f.seen.added
+    c.loop.invariant.gained f.round.0 f.seen.seen c.loop-test.true f.round.4
+
+pub returns-clause-mine : goal.returns-clause-mine
+returns-clause-mine c =
+    let k = opening_of c.args.board.now in
+    let to = c.release_to.ensures.view in
+    end_mine k (view c.args.pass.now) (view c.loop.pass) (view c.release_to.new.pass) c.loop.counter c.loop.last
+    c.args.stretch.start c.args.stretch.pops c.loop.invariant.gained (ap (λ (v : View). v.mine) to)
+    (ap (λ (v : View). v.seen) to) (omega arith) c.requires.pops
+
 pub loop-preserved : goal.loop-preserved
 loop-preserved c =
     let d : View = view c.args.pass.now in
     let e : View = view c.go_round.new.pass in
     let i = c.loop.invariant in
+    let k = opening_of c.args.board.now in
     let f = c.in-Popped.ensures in
     let r = f.round in
     record {
@@ -48,8 +65,9 @@ loop-preserved c =
       traced = f.traced c.loop.counter d i.traced;
       seen = seen_on d e (c.loop.counter + 1) c.go_round.new.walker.path
           (seen_round d (view c.loop.pass) e c.loop.counter c.loop.walker.path i.seen f.seen);
-      gained = gained_more (opening_of c.args.board.now) d (view c.loop.pass) e c.loop.counter c.loop.last
-          c.in-Popped.ticket r.0 i.gained r.1;
+      gained = gained_more k d (view c.loop.pass) e c.loop.counter c.loop.last c.in-Popped.ticket
+          c.args.stretch.start r.0 f.seen.added i.gained r.1 f.seen.seen
+          (subst (λ (v : ℕ). Closes k c.loop.counter d e v r.0) i.begins (r.6 c.loop.counter d i.traced));
       sole = r.5;
     }
 

@@ -23,6 +23,6 @@ invariant-loop l = record {
   reader : l.reader ≡ l.fn.reader;
   traced : Traced l.counter (view l.fn.pass) (view l.pass) l.walker.path;
   seen : Seen (view l.fn.pass) (view l.pass) l.counter l.walker.path;
-  gained : Gained (opening_of l.board) (view l.fn.pass) (view l.pass) l.counter l.last;
+  gained : Gained (opening_of l.board) (view l.fn.pass) (view l.pass) l.counter l.last l.fn.stretch.start;
   sole : SoleKnows (view l.pass);
 }
