@@ -1,5 +1,5 @@
 -- Readers of stacks: what they were made of, and which stacks they may read.
-use Rattle.std.specs.Prelude.{◌≡◌, ℕ, List, Bool, true, ⊤}
+use Rattle.std.specs.Prelude.{◌≡◌, ℕ, List, Bool, true, false, ⊤}
 use Rattle.pop_model.specs.Stacks.{Origin, StackTable}
 use Rattle.pop_model.specs.Stacks.Origin.{Given, Keyed}
 
@@ -7,6 +7,10 @@ use Rattle.pop_model.specs.Stacks.Origin.{Given, Keyed}
 pub record ReaderOf : Type 0 where
   pub stacks : StackTable
   pub keeping : Bool
+
+-- a reader that was made of these stacks and keeps no values
+abbrev pub plain_reader : StackTable → ReaderOf
+plain_reader s = record { stacks = s; keeping = false }
 
 -- a stream of this key gives the entries of this origin: given rows have no stream
 abbrev pub Streams : Origin → List ℕ → Type 0

@@ -32,11 +32,13 @@ impl Model for Reader {
 }
 
 impl Reader {
-    ghost use Rattle.pop_stacks.specs.Readers.{Belongs};
+    ghost use Rattle.pop_stacks.specs.Readers.{Belongs, plain_reader};
 
-    /// A reader of these stacks. It takes no memory, and keeps no values.
+    /// A reader of these stacks. It takes no memory, and keeps no values: so it reads stacks of the
+    /// same source with other weights, too.
     pub fn new(stacks: &Stacks) -> Reader
-        ensures { Belongs stacks.now result }
+        ensures made { result ≡ plain_reader stacks.now }
+        ensures belongs { Belongs stacks.now result }
     {
         Reader {
             stream: stacks.stream(),

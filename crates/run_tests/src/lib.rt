@@ -1,5 +1,5 @@
-//! Tests of runs on one thread, of rounds, of books of pops and of batches, by public calls alone.
-//! They stand above the crates that they test, so that each of those is proved once.
+//! Tests of readers, of runs on one thread, of rounds, of books of pops and of batches, by public
+//! calls alone. They stand above the crates that they test, so that each of those is proved once.
 #![tactic(auto)]
 
 #[cfg(test)]
@@ -12,5 +12,7 @@ mod book;
 mod compare;
 #[cfg(test)]
 mod one_thread;
+#[cfg(test)]
+mod readers;
 #[cfg(test)]
 mod rounds;
