@@ -26,7 +26,7 @@ use Rattle.top_call.specs.Results.{IsResultOf}
 use Rattle.top_call.specs.Answers.{origin_for, IsOfText, Refuses, ComesOfCommand, ComesOf}
 use Rattle.top_call.proofs.Carrying.{carried}
 use Rattle.top_call.proofs.MadeExtremal.{made_short}
-use Rattle.top_call.proofs.OneOutcome.{read_cases}
+use Rattle.top_call.proofs.ReadCases.{read_cases}
 use Rattle.top_call.proofs.PauseWords.{is_paused, paused_is}
 
 -- what stands against a text past the limit

@@ -6,7 +6,7 @@ use Rattle.std.proofs.lemmas.Bool.{false≢true}
 use Rattle.std.proofs.lemmas.Option.{none-some}
 use Rattle.pop_stacks.specs.declared.stack_spec.StackSpec.TheVariants.{Key as KeyedStacks, Given as GivenStacks}
 use Rattle.pop_words.specs.declared.command.Command.{Command}
-use Rattle.pop_words.specs.declared.command.Command.TheVariants.{Formula, Orient, Tree, Resample, Make}
+use Rattle.pop_words.specs.declared.command.Command.TheVariants.{Formula, Orient, Tree, Resample, Check, Make, Rounds, Replay, Resume}
 use Rattle.pop_words.specs.declared.field.Field.{Field}
 use Rattle.pop_words.specs.declared.field.Field.TheVariants.{Stacks, Key, Height, Grow, Count, Pops, Workers, Board, Log, Root, Witness, Reports, Size}
 use Rattle.pop_words.specs.declared.job.Job.{Job}
@@ -14,7 +14,7 @@ use Rattle.pop_words.specs.Values.{number_between, rows_in, key_in, board_in, sw
 use Rattle.pop_words.specs.Options.{paused, value_of}
 use Rattle.pop_words.specs.CommandLines.{Asks}
 use Rattle.pop_words.proofs.ListTests.{all_at}
-use Rattle.top_call.specs.Answers.{MayStop}
+use Rattle.top_call.specs.Answers.{IsOfLine, MayStop, HasNoBadLine, MayFailBehind}
 use Rattle.top_call.proofs.ApartWords.{kept, AreKinds, settled}
 
 -- the commands whose runs may stop
@@ -128,6 +128,18 @@ paused_is command has = all_at is_paused paused refl command has
 pub not_made : (command : Command) → Contains paused command → command ≡ Make → ⊥
 not_made command has is = false≢true (sym (ap is_paused is) ∙ paused_is command has)
 
+-- nor reads a certificate
+pub paused_line : (k : Command) → Contains paused k → IsOfLine k
+paused_line Formula has = tt
+paused_line Orient has = tt
+paused_line Tree has = tt
+paused_line Resample has = tt
+paused_line Check has = tt
+paused_line Make has = tt
+paused_line Rounds has = tt
+paused_line Replay has = absurd (false≢true (paused_is Replay has))
+paused_line Resume has = absurd (false≢true (paused_is Resume has))
+
 -- the job of words that ask for a run that may stop is one that may
 pub stopped_may : (words : List (List ℕ)) (job : Job) → Asks words job → (pops : ℕ) → job.pops ≡ Some pops → MayStop job
 stopped_may words job asks pops is =
@@ -153,3 +165,12 @@ counted_runs_out words job asks count is = by_pops job.pops refl
     by_pops : (pops : Option ℕ) → job.pops ≡ pops → job.pops ≡ None
     by_pops None none = none
     by_pops (Some pops) stop = absurd (none-some count (sym (stopped_may words job asks pops stop).once ∙ is))
+
+-- a certificate is read within its limit, whether or not the job says after how many pops a run stops: none does
+pub cert_behind : (job : Job) (taken : List ℕ) → ((pops : ℕ) → job.pops ≡ Some pops → MayStop job)
+    → (IsOfLine job.command → ⊥) → HasNoBadLine job.command taken → MayFailBehind job.pops job.command taken
+cert_behind job taken stops certified few = by_pops job.pops refl
+  where
+    by_pops : (pops : Option ℕ) → job.pops ≡ pops → MayFailBehind pops job.command taken
+    by_pops None is = few
+    by_pops (Some pops) is = absurd (certified (paused_line job.command (stops pops is).command))

@@ -32,7 +32,7 @@ use Rattle.top_call.specs.Outcomes.Outcome.{Ended, Resampled}
 use Rattle.top_call.specs.Sampling.{IsToldOfFirst, EndsWithin, IsEndOf}
 use Rattle.top_call.specs.Resamplings.{IsHistoryOf, IsHistoryWith}
 use Rattle.top_call.proofs.LayeredOrders.{layered_order}
-use Rattle.top_call.proofs.OneTelling.{told_of_first}
+use Rattle.top_call.proofs.ToldOfFirst.{told_of_first}
 
 -- a log that leads to these cursors in so many pops, and to an end with this stuck list
 record IsLogTo (i : Instance) (log : List LogRecord) (cursors : List ℕ) (pops : ℕ) (stuck : List Event) : Type 0 where

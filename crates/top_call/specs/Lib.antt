@@ -26,12 +26,3 @@ pub mod Accepted
 pub mod Answers
 pub mod Commands
 pub mod TopCall
-pub mod Laws
-pub mod Shown
-pub mod Workers
-pub mod Resumed
-pub mod Stages
-pub mod FirstSample
-pub mod Complete
-pub mod ExactAnswers
-pub mod EverySample

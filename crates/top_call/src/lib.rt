@@ -1,6 +1,6 @@
 //! The top call: command words and a text in, a text and a status out. `run` is the whole of the
 //! program, over any source and sink; contracts see the words, the bytes that the source has left
-//! and the bytes that the sink holds. `laws` says what its answers mean.
+//! and the bytes that the sink holds.
 #![tactic(auto)]
 
 mod accepted;
@@ -14,7 +14,6 @@ mod formula;
 mod growing_instance;
 mod growing_stacks;
 mod instances;
-pub mod laws;
 mod making;
 mod named;
 mod names;

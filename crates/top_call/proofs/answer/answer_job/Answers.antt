@@ -4,7 +4,7 @@ use Rattle.pop_words.specs.declared.command.Command.{Command}
 use Rattle.pop_words.specs.declared.command.Command.TheVariants.{Make, Replay, Resume}
 use Rattle.top_call.specs.Answers.{HasNoBadLine, IsOfLine}
 use Rattle.top_call.proofs.ByCommand.{line_result, reads_no_cert}
-use Rattle.top_call.proofs.PausedExactly.{cert_behind}
+use Rattle.top_call.proofs.PauseWords.{cert_behind}
 use Rattle.top_call.proofs.answer.answer_job.Goals as goal
 
 -- the command of a certificate makes no grid

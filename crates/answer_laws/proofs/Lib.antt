@@ -1,0 +1,53 @@
+-- One answer. OneReading: one refusal, formula or graph of a text. OneWitness, OneTelling: one thing is told of a layered
+-- log, and of all runs to an end. OneFault, OneSampling: one fault of stacks, or one end. OneClash, OneFormula,
+-- OneOrientation, OneTree: one outcome of each command, and OneRounds of rounds. OneResampling, OneLog: two runs, and one
+-- answer for each log. OnePause: a pause beside these. OneOutcome: all of these. OneReplay: of certificates (HeadBounds:
+-- what a head says is within bounds). OneWords: of words.
+mod OneReading
+mod OneWitness
+mod OneTelling
+mod OneFault
+mod OneSampling
+mod OneClash
+mod OneFormula
+mod OneOrientation
+mod OneTree
+mod OneRounds
+mod OneResampling
+mod OnePause
+mod OneOutcome
+mod HeadBounds
+mod OneReplay
+mod OneWords
+mod OneLog
+-- EndedSubjects: a run's end that is told. PausedExactly: a run that may stop does so where each has more pops.
+mod EndedSubjects
+mod PausedExactly
+-- AlikeJobs: jobs of which the same comes. WorkersAgree: for any number of workers. GrownAlike: in stages, or not.
+-- ResumedLines: certificates that are accepted are resumed as their lines. ToldAtStart: what is told before any pop.
+-- FirstSample: a batch begins with the sample of its job without a number.
+mod AlikeJobs
+mod WorkersAgree
+mod GrownAlike
+mod ResumedLines
+mod ToldAtStart
+mod FirstSample
+-- Statuses. Finished: with 0 no event occurs. Completeness: one of these where nothing stands against words and text.
+-- ShownSamples: with 0 and 1 an end is shown, of a formula's events (ShownFormulas), of all that is sampled
+-- (ShownSubjects), of a batch (ShownBatches) and by rounds (ShownRounds) too, whatever stands behind it (ShownBehind).
+mod Finished
+mod Completeness
+mod ShownFormulas
+mod ShownSubjects
+mod ShownBatches
+mod ShownBehind
+mod ShownRounds
+mod ShownSamples
+-- The exact law of answers. RowWords: words that give rows. ListedEvents: the events of a formula and of sinks.
+-- SubjectFrames: the events and weights fit rows of any heights. ExactAnswers: another sample is answered in the place of
+-- the printed one. EverySample: what satisfies a formula, leaves no sink or leads to the root is a sample.
+mod RowWords
+mod ListedEvents
+mod SubjectFrames
+mod ExactAnswers
+mod EverySample

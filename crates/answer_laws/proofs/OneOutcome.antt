@@ -1,0 +1,192 @@
+-- A job and a text have one outcome by the line of its command, or two runs where a resampling is asked for or a run may stop. The words ask for one
+-- job or have one bad place; the text is refused in one way or spells one formula or graph; and of that one thing comes.
+use Rattle.std.proofs.Common.{inl, inr, ◌≡◌, ◌≢◌, ◌⊎◌, ℕ, List, refl, sym, ap, subst, ◌∙◌}
+use Rattle.std.proofs.lemmas.Option.{same_Some}
+use Rattle.pop_model.specs.Stacks.{Origin}
+use Rattle.pop_model.specs.Families.{Event}
+use Rattle.pop_model.specs.Instances.{Instance}
+use Rattle.pop_edge.specs.declared.refusal.ReadRefusal.{ReadRefusal}
+use Rattle.dimacs_read.specs.Cnf.{Cnf}
+use Rattle.graph_read.specs.Graphs.{GraphOf}
+use Rattle.pop_words.specs.declared.command.Command.{Command}
+use Rattle.pop_words.specs.declared.command.Command.TheVariants.{Formula, Orient, Tree, Resample, Check, Make, Rounds, Replay, Resume}
+use Rattle.pop_words.specs.declared.job.Job.{Job}
+use Rattle.pop_words.specs.CommandLines.{IsBadPlace}
+use Rattle.pop_log.specs.Layers.{Placed}
+use Rattle.pop_watch.specs.Telling.{Watcher}
+use Rattle.pop_print.specs.declared.facts.Facts.{Facts}
+use Rattle.top_call.specs.Outcomes.{Outcome}
+use Rattle.top_call.specs.Outcomes.Outcome.{Usage, Unread, Isolated, NoRoot, CutOff, TooMany, Unsound, Clashes, Extremal, Ended, Resampled, Rounded, Batched, Paused, Replayed, NotLegal}
+use Rattle.top_call.specs.Tellings.{Telling}
+use Rattle.top_call.specs.Formulas.{ComesOfFormula, ComesOfChecking}
+use Rattle.top_call.specs.Resamplings.{ComesOfResampling}
+use Rattle.top_call.specs.Rounds.{ComesOfRounds}
+use Rattle.top_call.specs.Orientations.{ComesOfOrienting}
+use Rattle.top_call.specs.Trees.{ComesOfTree}
+use Rattle.top_call.specs.Answers.{ComesOfCnf, ComesOfGraph, origin_for, asked_by, ComesOfCommand, IsOfText, Refuses, ComesOf, ComesOfJob, IsOutcome}
+use Rattle.top_call.specs.Made.{IsMade}
+use Rattle.top_call.specs.Pauses.{IsPause}
+use Rattle.answer_laws.specs.Laws.{ReportAlike, AreHistories, Agree}
+use Rattle.top_call.proofs.ReadCases.{Done, TellsPaused, read_cases}
+use Rattle.answer_laws.proofs.OneSampling.{AreOne}
+use Rattle.answer_laws.proofs.OneFormula.{one_formula, one_checking}
+use Rattle.answer_laws.proofs.OneResampling.{one_resampling}
+use Rattle.answer_laws.proofs.OneRounds.{one_rounds}
+use Rattle.answer_laws.proofs.OneOrientation.{one_orienting}
+use Rattle.answer_laws.proofs.OneTree.{one_tree, one_grid}
+use Rattle.answer_laws.proofs.OnePause.{beside_histories, paused_or_done, one_made}
+use Rattle.answer_laws.proofs.OneReading.{one_refusal, no_cnf_refusal, no_graph_refusal}
+
+-- outcomes of a text that spells a formula are alike where those of the formula are
+alike_cnf : (Alike : Outcome → Outcome → Type 0) (Comes Others : Cnf → Outcome → Type 0) (text : List ℕ)
+    → ((f : Cnf) (o p : Outcome) → Comes f o → Others f p → Alike o p) → (o p : Outcome) → ComesOfCnf Comes text o
+    → ComesOfCnf Others text p → Alike o p
+alike_cnf Alike Comes Others text alike o p h h' =
+    let same : h.formula ≡ h'.formula = h.spelled.1 ∙ sym h'.spelled.1 in
+    alike h'.formula o p (subst (λ f. Comes f o) same h.comes) h'.comes
+
+-- so those of a text that spells a formula are one where those of the formula are
+one_cnf : (Comes Others : Cnf → Outcome → Type 0) (text : List ℕ) → ((f : Cnf) → AreOne (Comes f) (Others f))
+    → AreOne (ComesOfCnf Comes text) (ComesOfCnf Others text)
+one_cnf Comes Others text one = alike_cnf (λ o p. o ≡ p) Comes Others text one
+
+-- and those of one that spells a graph
+one_graph : (Comes Others : GraphOf → Outcome → Type 0) (text : List ℕ)
+    → ((g : GraphOf) → AreOne (Comes g) (Others g)) → AreOne (ComesOfGraph Comes text) (ComesOfGraph Others text)
+one_graph Comes Others text one o p h h' =
+    let same : h.graph ≡ h'.graph = h.spelled.1 ∙ sym h'.spelled.1 in
+    one h'.graph o p (subst (λ g. Comes g o) same h.comes) h'.comes
+
+-- two outcomes of a command and a text, with watchers that report alike where one end is asked for
+alike_command : (command : Command) (job : Job) (ws vs : List Watcher) (text : List ℕ) (o p : Outcome)
+    → (command ≢ Resample → ReportAlike job.reports ws vs)
+    → ComesOfCommand command job ws text o → ComesOfCommand command job vs text p → Agree o p
+alike_command Formula job ws vs text o p like h h' =
+    inl (one_cnf (ComesOfFormula (origin_for job) (asked_by job) ws) (ComesOfFormula (origin_for job) (asked_by job) vs)
+    text (λ f. one_formula (origin_for job) (asked_by job) ws vs f (like (λ is. absurd (cc)))) o p h h')
+alike_command Orient job ws vs text o p like h h' =
+    inl (one_graph (ComesOfOrienting (origin_for job) (asked_by job) ws)
+    (ComesOfOrienting (origin_for job) (asked_by job) vs) text
+    (λ g. one_orienting (origin_for job) (asked_by job) ws vs g (like (λ is. absurd (cc)))) o p h h')
+alike_command Tree job ws vs text o p like h h' =
+    inl (one_graph (ComesOfTree (origin_for job) (asked_by job) ws job.root)
+    (ComesOfTree (origin_for job) (asked_by job) vs job.root) text
+    (λ g. one_tree (origin_for job) (asked_by job) ws vs job.root g (like (λ is. absurd (cc)))) o p h h')
+alike_command Resample job ws vs text o p like h h' =
+    alike_cnf Agree (ComesOfResampling (origin_for job) (asked_by job) ws)
+    (ComesOfResampling (origin_for job) (asked_by job) vs) text (one_resampling (origin_for job) (asked_by job) ws vs)
+    o p h h'
+alike_command Check job ws vs text o p like h h' =
+    inl (one_cnf ComesOfChecking ComesOfChecking text one_checking o p h h')
+alike_command Make job ws vs text o p like h h' =
+    inl (one_grid (origin_for job) (asked_by job) ws vs job.size (like (λ is. absurd (cc))) o p h h')
+alike_command Rounds job ws vs text o p like h h' =
+    inl (one_cnf (ComesOfRounds (origin_for job)) (ComesOfRounds (origin_for job)) text (one_rounds (origin_for job)) o p
+    h h')
+alike_command Replay job ws vs text o p like h h' = absurd h
+alike_command Resume job ws vs text o p like h h' = absurd h
+
+-- what a command makes of a text isn't a refusal of the text
+unrefused : (command : Command) (job : Job) (ws : List Watcher) (text : List ℕ) (o : Outcome) (r : ReadRefusal)
+    → ComesOfCommand command job ws text o → IsOfText r → Refuses command text r → ⊥
+unrefused Formula job ws text o r h of refuses = no_cnf_refusal text h.formula r h.spelled of refuses
+unrefused Orient job ws text o r h of refuses = no_graph_refusal text h.graph r h.spelled of refuses
+unrefused Tree job ws text o r h of refuses = no_graph_refusal text h.graph r h.spelled of refuses
+unrefused Resample job ws text o r h of refuses = no_cnf_refusal text h.formula r h.spelled of refuses
+unrefused Check job ws text o r h of refuses = no_cnf_refusal text h.formula r h.spelled of refuses
+unrefused Make job ws text o r h of refuses = refuses
+unrefused Rounds job ws text o r h of refuses = no_cnf_refusal text h.formula r h.spelled of refuses
+unrefused Replay job ws text o r h of refuses = h
+unrefused Resume job ws text o r h of refuses = h
+
+-- what is made of a text isn't refused
+pub made_unrefused : (command : Command) (origin : Origin) (root : ℕ) (text : List ℕ) (facts : Facts) (i : Instance)
+    (r : ReadRefusal) → IsMade command origin root text facts i → IsOfText r → Refuses command text r → ⊥
+made_unrefused Formula origin root text facts i r made of refuses = no_cnf_refusal text made.formula r made.spelled of refuses
+made_unrefused Orient origin root text facts i r made of refuses = no_graph_refusal text made.graph r made.spelled of refuses
+made_unrefused Tree origin root text facts i r made of refuses = no_graph_refusal text made.graph r made.spelled of refuses
+made_unrefused Resample origin root text facts i r made of refuses = no_cnf_refusal text made.formula r made.spelled of refuses
+made_unrefused command origin root text facts i r made of refuses = absurd made
+
+-- two pauses of a job are of one instance
+two_pauses : (job : Job) (text : List ℕ) (o p : Outcome) → TellsPaused job text o → TellsPaused job text p
+    → AreHistories o p
+two_pauses job text o p a b =
+    let same = one_made job.command (origin_for job) job.root text a.facts b.facts a.i b.i a.made b.made in
+    let pops : a.pops ≡ b.pops = same_Some a.pops b.pops (sym a.stop ∙ b.stop) in
+    subst (λ q. AreHistories q p) (sym a.is) (subst (AreHistories (Paused job text a.facts a.i a.placed)) (sym b.is) (
+      refl,
+      refl,
+      same.0,
+      same.1,
+      subst (λ n. IsPause a.i n a.placed) (pops ∙ sym b.pause.count) a.pause,
+      subst (λ n. IsPause a.i n b.placed) (sym b.pause.count) (subst (λ k. IsPause k b.pops b.placed) (sym same.1) b.pause),
+    ))
+
+-- a pause and what else comes of the job
+pause_and_done : (job : Job) (ws : List Watcher) (text : List ℕ) (o p : Outcome) → TellsPaused job text o
+    → Done job ws text p → AreHistories o p × AreHistories p o
+pause_and_done job ws text o p a done =
+    subst (λ q. AreHistories q p × AreHistories p q) (sym a.is)
+    (beside_histories job text a.facts a.i a.placed p
+    (paused_or_done job.command job ws text a.facts a.i a.made a.pops a.placed a.pause a.once a.stop p done))
+
+-- two outcomes of a job and a text
+pub alike_read : (job : Job) (ws vs : List Watcher) (text : List ℕ) (o p : Outcome)
+    → (job.command ≢ Resample → ReportAlike job.reports ws vs) → ComesOf job ws text o → ComesOf job vs text p
+    → Agree o p
+alike_read job ws vs text o p like h h' =
+    elim (read_cases job ws text o h) [
+      | inl (r, o_is, of, refused) ↦ elim (read_cases job vs text p h') [
+        | inl (r', p_is, of', refused') ↦
+            inl (o_is ∙ ap Unread (one_refusal job.command text r r' of of' refused refused') ∙ sym p_is)
+        | inr (inl done') ↦ absurd (unrefused job.command job vs text p r done' of refused)
+        | inr (inr b) ↦
+            absurd (made_unrefused job.command (origin_for job) job.root text b.facts b.i r b.made of refused)
+      ]
+      | inr (inl done) ↦ elim (read_cases job vs text p h') [
+        | inl (r', p_is, of', refused') ↦ absurd (unrefused job.command job ws text o r' done of' refused')
+        | inr (inl done') ↦ alike_command job.command job ws vs text o p like done done'
+        | inr (inr b) ↦ inr (pause_and_done job ws text p o b done).1
+      ]
+      | inr (inr a) ↦ elim (read_cases job vs text p h') [
+        | inl (r', p_is, of', refused') ↦
+            absurd (made_unrefused job.command (origin_for job) job.root text a.facts a.i r' a.made of' refused')
+        | inr (inl done') ↦ inr (pause_and_done job vs text o p a done').0
+        | inr (inr b) ↦ inr (two_pauses job text o p a b)
+      ]
+    ]
+
+-- what comes of words and a text is their first bad word, or comes of their job
+pub word_cases : (words : List (List ℕ)) (ws : List Watcher) (text : List ℕ) (o : Outcome) → IsOutcome words ws text o
+    → ((place : ℕ) × (o ≡ Usage place) × IsBadPlace words place) ⊎ ComesOfJob words ws text o
+word_cases words ws text (Usage place) h = inl (place, refl, h)
+word_cases words ws text (Unread r) h = inr h
+word_cases words ws text (Isolated w) h = inr h
+word_cases words ws text (NoRoot r) h = inr h
+word_cases words ws text (CutOff w) h = inr h
+word_cases words ws text (TooMany n) h = inr h
+word_cases words ws text (Unsound t f) h = inr h
+word_cases words ws text (Clashes i j) h = inr h
+word_cases words ws text (Extremal n) h = inr h
+word_cases words ws text (Ended t i c n s a) h = inr h
+word_cases words ws text (Resampled t i l s a) h = inr h
+word_cases words ws text (Rounded t i c n s v) h = inr h
+word_cases words ws text (Batched t i es) h = inr h
+word_cases words ws text (Paused j w t i l) h = inr h
+word_cases words ws text (Replayed i c n k) h = inr h
+word_cases words ws text (NotLegal p) h = inr h
+
+-- no command but a resampling tells a run whose order isn't determined
+pub no_history : (command : Command) (job : Job) (ws : List Watcher) (text : List ℕ) (facts : Facts) (i : Instance)
+    (placed : List Placed) (stuck : List Event) (a : Telling) → command ≢ Resample
+    → ComesOfCommand command job ws text (Resampled facts i placed stuck a) → ⊥
+no_history Formula job ws text facts i placed stuck a other h = h.comes.1.end
+no_history Orient job ws text facts i placed stuck a other h = h.comes.1.1.end
+no_history Tree job ws text facts i placed stuck a other h = h.comes.2.1
+no_history Resample job ws text facts i placed stuck a other h = other refl
+no_history Check job ws text facts i placed stuck a other h = h.comes
+no_history Make job ws text facts i placed stuck a other h = h.1
+no_history Rounds job ws text facts i placed stuck a other h = h.comes.1.end
+no_history Replay job ws text facts i placed stuck a other h = h
+no_history Resume job ws text facts i placed stuck a other h = h

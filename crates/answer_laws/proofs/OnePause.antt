@@ -1,0 +1,204 @@
+-- A pause beside what else comes of a job and a text. A run of an extremal instance that stopped with an event that is
+-- poppable still has no end within as many pops. Where the order of pops is free, it stands beside runs of its instance.
+use Rattle.std.proofs.Common.{inl, inr, ◌≡◌, ◌<◌, ◌≤◌, ℕ, Bool, true, false, List, length, None, Some, refl, sym, ap, subst, ◌∙◌, arith}
+use Rattle.std.proofs.lemmas.Option.{none-some}
+use Rattle.std.proofs.lemmas.List.{length-map}
+use Rattle.pop_model.specs.Stacks.{Origin}
+use Rattle.pop_model.specs.Instances.{Instance}
+use Rattle.pop_model.specs.Extremal.{IsExtremal}
+use Rattle.pop_model.specs.Logs.{LogRecord}
+use Rattle.pop_model.specs.Runs.{start_of}
+use Rattle.pop_model.proofs.CycleFamily.{cycles_extremal}
+use Rattle.confluence_core.specs.Laws.{RunsToEnd}
+use Rattle.dimacs_read.specs.Cnf.{Cnf}
+use Rattle.graph_read.specs.Graphs.{GraphOf}
+use Rattle.sink_popping.proofs.OneDirection.{sinks_extremal}
+use Rattle.cycle_popping.specs.Trees.{heads_of_tree, weights_of_tree}
+use Rattle.pop_words.specs.declared.command.Command.{Command}
+use Rattle.pop_words.specs.declared.command.Command.TheVariants.{Formula, Orient, Tree, Resample}
+use Rattle.pop_words.specs.declared.job.Job.{Job}
+use Rattle.pop_log.specs.Layers.{Placed}
+use Rattle.pop_watch.specs.Telling.{Watcher}
+use Rattle.pop_print.specs.declared.facts.Facts.{Facts}
+use Rattle.pop_print.specs.declared.facts.Facts.TheVariants.{Formula as FormulaFacts, Orient as OrientFacts, Tree as TreeFacts}
+use Rattle.run_cert.proofs.Resumed.{open_shorter}
+use Rattle.top_call.specs.declared.asked.Asked.{Asked}
+use Rattle.top_call.specs.Tellings.{records_of, LeadsToEnd}
+use Rattle.top_call.specs.Outcomes.{Outcome}
+use Rattle.top_call.specs.Outcomes.Outcome.{Resampled, Paused}
+use Rattle.top_call.specs.Sampling.{pair_weights, instance_of, EndsWithin, IsEndOf}
+use Rattle.top_call.specs.Formulas.{ComesOfRunning, ComesOfFormula}
+use Rattle.top_call.specs.Resamplings.{IsHistoryOf, EndsResampling, ComesOfResampling}
+use Rattle.top_call.specs.Orientations.{EndsOrientation, ComesOfOrienting}
+use Rattle.top_call.specs.Trees.{tree_instance, ComesOfTree}
+use Rattle.top_call.specs.Made.{IsMadeFormula, IsMadeOrientation, IsMadeTree, IsMade}
+use Rattle.top_call.specs.Pauses.{IsPause}
+use Rattle.top_call.specs.Answers.{origin_for, asked_by, ComesOfCommand}
+use Rattle.answer_laws.specs.Laws.{EndsAndPauses, AreHistories}
+use Rattle.top_call.proofs.ToldOfFirst.{first_runs}
+use Rattle.answer_laws.proofs.OneSampling.{ended, of_run}
+use Rattle.answer_laws.proofs.OneFormula.{one_events, of_extremal}
+use Rattle.answer_laws.proofs.OneOrientation.{one_sinks, of_unisolated}
+use Rattle.answer_laws.proofs.OneTree.{of_joined}
+
+-- a pause has fewer pops than each run to an end
+pub pause_shorter : (i : Instance) → IsExtremal i.family → (pops : ℕ) (placed : List Placed) → IsPause i pops placed
+    → (log : List LogRecord) → RunsToEnd i (start_of i) log → pops < length log
+pause_shorter i extremal pops placed pause log runs =
+    let (e, is, still) = pause.poppable in
+    let short = open_shorter i extremal (start_of i) (records_of placed) log pause.legal e is still runs.legal runs.end in
+    let size : length (records_of placed) ≡ length placed = length-map placed (λ (p : Placed). p.0) in
+    let count = pause.count in
+    omega (arith, short, size, count)
+
+-- so none of them ends within as many
+no_end : (asked : Asked) (ws : List Watcher) (facts : Facts) (i : Instance) → IsExtremal i.family → (pops : ℕ)
+    (placed : List Placed) → IsPause i pops placed → asked.count ≡ None → asked.pops ≡ Some pops → (o : Outcome)
+    → IsEndOf asked ws facts i o → ⊥
+no_end asked ws facts i extremal pops placed pause once stop o h = elim (ended asked ws facts i o h) [
+  | inl e ↦
+      let log : List LogRecord = e.end.run.0 in
+      let size : e.pops ≡ length log = e.end.run.3 in
+      let longer = pause_shorter i extremal pops placed pause log (first_runs i log e.end.run.1) in
+      let most : e.pops ≤ pops = subst (λ m. EndsWithin m e.pops) stop e.within in
+      absurd (omega (arith, longer, size, most))
+  | inr b ↦ none-some b.batch.count (sym once ∙ b.batch.asked_is)
+]
+
+-- nothing else comes of a formula
+no_formula : (origin : Origin) (asked : Asked) (ws : List Watcher) (f : Cnf) (facts : Facts) (i : Instance)
+    → IsMadeFormula false origin None f facts i → (pops : ℕ) (placed : List Placed) → IsPause i pops placed
+    → asked.count ≡ None → asked.pops ≡ Some pops → (o : Outcome) → ComesOfFormula origin asked ws f o → ⊥
+no_formula origin asked ws f facts i made pops placed pause once stop o h =
+    let runs = of_run (FormulaFacts f.variables) origin (pair_weights f.variables) asked.count
+    (ComesOfRunning origin asked ws f) once made.is.sound o h in
+    let end = of_extremal origin asked ws f made.events made.of_formula (made.extremal refl) o runs in
+    let same : i ≡ instance_of origin f.variables end.events =
+    made.is.instance_is ∙ ap (instance_of origin f.variables)
+    (one_events f.clauses made.events end.events made.of_formula end.of_formula) in
+    no_end asked ws (FormulaFacts f.variables) (instance_of origin f.variables end.events) end.extremal pops placed
+    (subst (λ j. IsPause j pops placed) same pause) once stop o end.end
+
+-- of a graph that is oriented
+no_orienting : (origin : Origin) (asked : Asked) (ws : List Watcher) (g : GraphOf) (facts : Facts) (i : Instance)
+    → IsMadeOrientation origin None g facts i → (pops : ℕ) (placed : List Placed) → IsPause i pops placed
+    → asked.count ≡ None → asked.pops ≡ Some pops → (o : Outcome) → ComesOfOrienting origin asked ws g o → ⊥
+no_orienting origin asked ws g facts i made pops placed pause once stop o h =
+    let end = of_run (OrientFacts g) origin (pair_weights (length g.edges)) asked.count
+    (EndsOrientation origin asked ws g) once made.is.sound o
+    (of_unisolated origin asked ws g made.touched o h) in
+    let same : i ≡ instance_of origin (length g.edges) end.events =
+    made.is.instance_is ∙ ap (instance_of origin (length g.edges))
+    (one_sinks g made.events end.events made.of_graph end.of_graph) in
+    no_end asked ws (OrientFacts g) (instance_of origin (length g.edges) end.events)
+    (sinks_extremal g end.events end.of_graph) pops placed
+    (subst (λ j. IsPause j pops placed) same pause) once stop o end.end
+
+-- or of one of which a tree is asked
+no_tree : (origin : Origin) (asked : Asked) (ws : List Watcher) (root : ℕ) (g : GraphOf) (facts : Facts) (i : Instance)
+    → IsMadeTree origin None root g facts i → (pops : ℕ) (placed : List Placed) → IsPause i pops placed
+    → asked.count ≡ None → asked.pops ≡ Some pops → (o : Outcome) → ComesOfTree origin asked ws root g o → ⊥
+no_tree origin asked ws root g facts i made pops placed pause once stop o h =
+    let j : Instance = tree_instance origin g root in
+    let end = of_run (TreeFacts g root) origin (weights_of_tree g root) asked.count
+    (IsEndOf asked ws (TreeFacts g root) j) once made.is.sound o
+    (of_joined origin asked ws root g made.last made.joined o h) in
+    no_end asked ws (TreeFacts g root) j (cycles_extremal (heads_of_tree g root)) pops placed
+    (subst (λ k. IsPause k pops placed) made.is.instance_is pause) once stop o end
+
+-- an outcome is a run of the instance to an end, with no more pops than this pause
+abbrev pub EndsBeside : Facts → Instance → List Placed → Outcome → Type 0
+EndsBeside told j stopped (Resampled facts i placed stuck telling) =
+    (facts ≡ told) × (i ≡ j) × EndsAndPauses i placed stuck stopped
+EndsBeside told j stopped o = ⊥
+
+-- so both are runs of it
+pub beside_histories : (job : Job) (input : List ℕ) (told : Facts) (j : Instance) (stopped : List Placed) (o : Outcome)
+    → EndsBeside told j stopped o
+    → AreHistories (Paused job input told j stopped) o × AreHistories o (Paused job input told j stopped)
+beside_histories job input told j stopped (Resampled facts i placed stuck telling) h = (h, h)
+beside_histories job input told j stopped o h = absurd h
+
+-- what comes of a formula that is resampled
+beside_resampled : (origin : Origin) (asked : Asked) (ws : List Watcher) (f : Cnf) (facts : Facts) (i : Instance)
+    → IsMadeFormula true origin None f facts i → (pops : ℕ) (placed : List Placed) → IsPause i pops placed
+    → asked.count ≡ None → asked.pops ≡ Some pops → (o : Outcome) → ComesOfResampling origin asked ws f o
+    → EndsBeside facts i placed o
+beside_resampled origin asked ws f facts i made pops placed pause once stop o h =
+    let runs = of_run (FormulaFacts f.variables) origin (pair_weights f.variables) asked.count
+    (EndsResampling origin asked ws f) once made.is.sound o h in
+    let same : instance_of origin f.variables runs.events ≡ i =
+    ap (instance_of origin f.variables) (one_events f.clauses runs.events made.events runs.of_formula made.of_formula)
+    ∙ sym made.is.instance_is in
+    by_history o (subst (λ k. IsHistoryOf asked ws (FormulaFacts f.variables) k o) same runs.history)
+  where
+    by_history : (o : Outcome) → IsHistoryOf asked ws (FormulaFacts f.variables) i o → EndsBeside facts i placed o
+    by_history (Resampled t j l s a) (told_is, j_is, leads, layered, told, within) =
+        let most : length l ≤ pops = subst (λ m. EndsWithin m (length l)) stop within in
+        let count = pause.count in (
+          told_is ∙ sym made.is.facts_are,
+          j_is,
+          (
+            subst (λ k. LeadsToEnd k (records_of l) s) (sym j_is) leads,
+            omega (arith, most, count),
+            subst (λ k. IsPause k (length placed) placed) (sym j_is)
+                (subst (λ n. IsPause i n placed) (sym count) pause),
+          ),
+        )
+    by_history o h = absurd h
+
+-- so nothing else comes of a command, but a run to an end where it resamples
+pub paused_or_done : (command : Command) (job : Job) (ws : List Watcher) (text : List ℕ) (facts : Facts) (i : Instance)
+    → IsMade command (origin_for job) job.root text facts i → (pops : ℕ) (placed : List Placed) → IsPause i pops placed
+    → job.count ≡ None → job.pops ≡ Some pops → (o : Outcome) → ComesOfCommand command job ws text o
+    → EndsBeside facts i placed o
+paused_or_done Formula job ws text facts i made pops placed pause once stop o h =
+    absurd (no_formula (origin_for job) (asked_by job) ws made.formula facts i made.made pops placed pause once stop o
+    (subst (λ f. ComesOfFormula (origin_for job) (asked_by job) ws f o) (h.spelled.1 ∙ sym made.spelled.1) h.comes))
+paused_or_done Orient job ws text facts i made pops placed pause once stop o h =
+    absurd (no_orienting (origin_for job) (asked_by job) ws made.graph facts i made.made pops placed pause once stop o
+    (subst (λ g. ComesOfOrienting (origin_for job) (asked_by job) ws g o) (h.spelled.1 ∙ sym made.spelled.1) h.comes))
+paused_or_done Tree job ws text facts i made pops placed pause once stop o h =
+    absurd (no_tree (origin_for job) (asked_by job) ws job.root made.graph facts i made.made pops placed pause once stop
+    o (subst (λ g. ComesOfTree (origin_for job) (asked_by job) ws job.root g o) (h.spelled.1 ∙ sym made.spelled.1)
+    h.comes))
+paused_or_done Resample job ws text facts i made pops placed pause once stop o h =
+    beside_resampled (origin_for job) (asked_by job) ws made.formula facts i made.made pops placed pause once stop o
+    (subst (λ f. ComesOfResampling (origin_for job) (asked_by job) ws f o) (h.spelled.1 ∙ sym made.spelled.1) h.comes)
+paused_or_done command job ws text facts i made pops placed pause once stop o h = absurd made
+
+-- the facts and the instance
+abbrev pub AreSame : Facts → Facts → Instance → Instance → Type 0
+AreSame facts told i j = (facts ≡ told) × (i ≡ j)
+
+-- of the events of a formula there is one
+one_made_formula : (clashing : Bool) (origin : Origin) (f : Cnf) (facts told : Facts) (i j : Instance)
+    → IsMadeFormula clashing origin None f facts i → IsMadeFormula clashing origin None f told j
+    → AreSame facts told i j
+one_made_formula clashing origin f facts told i j a b = (
+  a.is.facts_are ∙ sym b.is.facts_are,
+  a.is.instance_is ∙ ap (instance_of origin f.variables)
+      (one_events f.clauses a.events b.events a.of_formula b.of_formula) ∙ sym b.is.instance_is,
+)
+
+-- so one thing is made of a text
+pub one_made : (command : Command) (origin : Origin) (root : ℕ) (text : List ℕ) (facts told : Facts) (i j : Instance)
+    → IsMade command origin root text facts i → IsMade command origin root text told j → AreSame facts told i j
+one_made Formula origin root text facts told i j a b =
+    one_made_formula false origin b.formula facts told i j
+    (subst (λ f. IsMadeFormula false origin None f facts i) (a.spelled.1 ∙ sym b.spelled.1) a.made) b.made
+one_made Orient origin root text facts told i j a b =
+    let here : IsMadeOrientation origin None b.graph facts i =
+    subst (λ g. IsMadeOrientation origin None g facts i) (a.spelled.1 ∙ sym b.spelled.1) a.made in (
+      here.is.facts_are ∙ sym b.made.is.facts_are,
+      here.is.instance_is ∙ ap (instance_of origin (length b.graph.edges))
+          (one_sinks b.graph here.events b.made.events here.of_graph b.made.of_graph) ∙ sym b.made.is.instance_is,
+    )
+one_made Tree origin root text facts told i j a b =
+    let here : IsMadeTree origin None root b.graph facts i =
+    subst (λ g. IsMadeTree origin None root g facts i) (a.spelled.1 ∙ sym b.spelled.1) a.made in
+    (here.is.facts_are ∙ sym b.made.is.facts_are, here.is.instance_is ∙ sym b.made.is.instance_is)
+one_made Resample origin root text facts told i j a b =
+    one_made_formula true origin b.formula facts told i j
+    (subst (λ f. IsMadeFormula true origin None f facts i) (a.spelled.1 ∙ sym b.spelled.1) a.made) b.made
+one_made command origin root text facts told i j a b = absurd a

@@ -1,0 +1,62 @@
+-- A run that may stop pauses exactly where each run to an end has more pops.
+use Rattle.std.proofs.Common.{inl, inr, ◌≡◌, ◌≢◌, ◌<◌, ℕ, List, length, Some, refl, sym, subst, ◌∙◌}
+use Rattle.std.proofs.lemmas.Option.{same_Some}
+use Rattle.pop_model.specs.Runs.{IsFirstEnd}
+use Rattle.pop_words.specs.declared.command.Command.TheVariants.{Resample}
+use Rattle.pop_words.specs.declared.job.Job.{Job}
+use Rattle.pop_words.specs.CommandLines.{Asks}
+use Rattle.pop_words.proofs.OneJob.{same_job}
+use Rattle.pop_watch.specs.Telling.{Watcher}
+use Rattle.top_call.specs.Outcomes.{Outcome}
+use Rattle.top_call.specs.Outcomes.Outcome.{Usage, Unread, Isolated, NoRoot, CutOff, TooMany, Unsound, Clashes, Extremal, Ended, Resampled, Rounded, Batched, Paused, Replayed, NotLegal}
+use Rattle.top_call.specs.Sampling.{EndsWithin}
+use Rattle.top_call.specs.Answers.{ComesOf, IsOfLine, ComesBy}
+use Rattle.answer_laws.specs.Laws.{TellsPause, PausedExactly}
+use Rattle.answer_laws.proofs.EndedSubjects.{ended_subject}
+use Rattle.top_call.proofs.MadeExtremal.{made_extremal}
+use Rattle.answer_laws.proofs.OnePause.{pause_shorter}
+use Rattle.top_call.proofs.ByCommand.{of_line}
+use Rattle.top_call.proofs.PauseWords.{paused_line, stopped_may}
+use Rattle.answer_laws.proofs.OneOutcome.{word_cases}
+
+-- of what comes of the job
+tells_pause : (words : List (List ℕ)) (ws : List Watcher) (text : List ℕ) (job : Job) (most : ℕ) (o : Outcome)
+    → Asks words job → job.command ≢ Resample → job.pops ≡ Some most → ComesOf job ws text o → TellsPause most o
+tells_pause words ws text job most (Paused told input facts i placed) asks ordered stop
+    (told_is, input_is, made, (pops, asked, pause), once) = λ log runs.
+    let same : pops ≡ most = same_Some pops most (sym asked ∙ stop) in
+    subst (λ n. n < length log) same
+    (pause_shorter i (made_extremal job.command _ job.root text facts i ordered made) pops placed pause log runs)
+tells_pause words ws text job most (Ended facts i c pops stuck a) asks ordered stop h =
+    let of = ended_subject words job asks job.command refl ws text facts i c pops stuck a h in (
+      subst (λ j. IsFirstEnd j c pops stuck) (sym of.instance_is) of.end,
+      subst (λ m. EndsWithin m pops) stop of.within,
+    )
+tells_pause words ws text job most (Usage p) asks ordered stop h = tt
+tells_pause words ws text job most (Unread r) asks ordered stop h = tt
+tells_pause words ws text job most (Isolated w) asks ordered stop h = tt
+tells_pause words ws text job most (NoRoot r) asks ordered stop h = tt
+tells_pause words ws text job most (CutOff w) asks ordered stop h = tt
+tells_pause words ws text job most (TooMany n) asks ordered stop h = tt
+tells_pause words ws text job most (Unsound t f) asks ordered stop h = tt
+tells_pause words ws text job most (Clashes i j) asks ordered stop h = tt
+tells_pause words ws text job most (Extremal n) asks ordered stop h = tt
+tells_pause words ws text job most (Resampled t i l s a) asks ordered stop h = tt
+tells_pause words ws text job most (Rounded t i c n s v) asks ordered stop h = tt
+tells_pause words ws text job most (Batched t i es) asks ordered stop h = tt
+tells_pause words ws text job most (Replayed i c n k) asks ordered stop h = tt
+tells_pause words ws text job most (NotLegal p) asks ordered stop h = tt
+
+-- words that ask for a run that may stop have none read
+stopped_line : (words : List (List ℕ)) (job : Job) → Asks words job → (pops : ℕ) → job.pops ≡ Some pops
+    → IsOfLine job.command
+stopped_line words job asks pops stop = paused_line job.command (stopped_may words job asks pops stop).command
+
+-- the law
+pub paused_exactly : PausedExactly
+paused_exactly words ws text job most o asks ordered stop h = elim (word_cases words ws text o h) [
+  | inl (place, is, bad) ↦ subst (TellsPause most) (sym is) tt
+  | inr came ↦ tells_pause words ws text job most o asks ordered stop
+      (of_line job.command job ws text o (stopped_line words job asks most stop)
+      (subst (λ (j : Job). ComesBy j.command j ws text o) (same_job words came.job job came.asks asks) came.comes))
+]

@@ -1,0 +1,5 @@
+use Rattle.answer_laws.proofs.Completeness.{all_done}
+use Rattle.answer_laws.proofs.laws.complete.Goals as goal
+
+pub returns : goal.returns
+returns c = all_done

@@ -1,0 +1,5 @@
+use Rattle.answer_laws.proofs.PausedExactly as exactly
+use Rattle.answer_laws.proofs.laws.paused_exactly.Goals as goal
+
+pub returns : goal.returns
+returns c = exactly.paused_exactly

@@ -1,0 +1,5 @@
+use Rattle.answer_laws.proofs.ResumedLines as lines
+use Rattle.answer_laws.proofs.laws.resumed_alike.Goals as goal
+
+pub returns : goal.returns
+returns c = lines.resumed_alike

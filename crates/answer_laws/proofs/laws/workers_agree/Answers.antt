@@ -1,0 +1,5 @@
+use Rattle.answer_laws.proofs.WorkersAgree.{workers_agree}
+use Rattle.answer_laws.proofs.laws.workers_agree.Goals as goal
+
+pub returns : goal.returns
+returns c = workers_agree

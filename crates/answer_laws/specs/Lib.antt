@@ -1,0 +1,9 @@
+pub mod Laws
+pub mod Shown
+pub mod Workers
+pub mod Resumed
+pub mod Stages
+pub mod FirstSample
+pub mod Complete
+pub mod ExactAnswers
+pub mod EverySample

@@ -1,0 +1,117 @@
+//! Laws of answers. Each function's contract is the law.
+ghost use Rattle.answer_laws.specs.Laws.{OneAnswer, OneOutcome, OneLoggedAnswer, PausedExactly, SampleFinished};
+ghost use Rattle.answer_laws.specs.Shown.{SampleShown, ExhaustedShown};
+ghost use Rattle.answer_laws.specs.Workers.{WorkersAgree};
+ghost use Rattle.answer_laws.specs.Resumed.{ResumedAlike};
+ghost use Rattle.answer_laws.specs.Stages.{GrownAlike};
+ghost use Rattle.answer_laws.specs.FirstSample.{FirstSample};
+ghost use Rattle.answer_laws.specs.Complete.{Complete};
+ghost use Rattle.answer_laws.specs.ExactAnswers.{ExchangedAnswers, ReachedAnswers};
+ghost use Rattle.answer_laws.specs.EverySample.{EveryAssignment, EveryOrientation, EveryTree};
+
+/// Words that ask neither for a resampling nor for a run that may stop before its end, nor for one
+/// that goes on, have with a text one answer, with watchers that report alike: one status and one
+/// output. So for such words the contract of `run` leaves its body no choice where neither a device
+/// nor memory fails.
+pub fn one_answer()
+    ensures { OneAnswer }
+{}
+
+/// Words and a text have one outcome, but for the pops of a resampling, which may be gone on with,
+/// and for the pops up to a pause: then each outcome is a run of the same instance to an end, or to
+/// a pause, with its log.
+pub fn one_outcome()
+    ensures { OneOutcome }
+{}
+
+/// Words, watchers and a text have one answer that shows a log, byte for byte: a resampling has no
+/// choice but the order of pops, and a run that stops none but its pops.
+pub fn one_logged_answer()
+    ensures { OneLoggedAnswer }
+{}
+
+/// Where the order of pops isn't free, a run that may stop after so many pops is answered by a
+/// certificate, with status 10, exactly where each run to an end has more.
+pub fn paused_exactly()
+    ensures { PausedExactly }
+{}
+
+/// At the end of a run with status 0 no event occurs: the sample satisfies each clause, leaves no
+/// vertex a sink, or is a tree whose arrows lead to the root (`cycle_popping::laws::tree_end`).
+pub fn sample_finished()
+    ensures { SampleFinished }
+{}
+
+/// What an output with status 0 shows: an assignment whose literals satisfy each clause of the
+/// formula that was read, an orientation of the graph in which an arrow leaves each vertex, or a
+/// spanning tree of it whose arrows lead to the root; of a made grid the sum over such a tree.
+/// Where a number of samples is asked for, so many of these, each behind its number.
+pub fn sample_shown()
+    ensures { SampleShown }
+{}
+
+/// What an output with status 1 shows: the clauses that are false, the vertices that no arrow
+/// leaves, or the cycles of the arrows, at the values that the stacks have at the cursors that it
+/// tells; of a made grid how many cycles there are. Where a number of samples is asked for, these
+/// of some, and of each other one what a sample shows.
+pub fn exhausted_shown()
+    ensures { ExhaustedShown }
+{}
+
+/// Words that ask neither for a resampling nor for a run that may stop, nor for one that goes on,
+/// and differ only in `--workers` and `--board`, have with a text one answer, with watchers that
+/// report alike. So where neither a device nor memory fails, such words are answered alike for any
+/// number of workers, on either board. Of a resampling the sample may differ too.
+pub fn workers_agree()
+    ensures { WorkersAgree }
+{}
+
+/// What `resume` answers to a certificate that `replay` accepts, with any crew, is an answer to the
+/// line of the certificate's command, with its stacks, its height and its root, over its input. So
+/// of `formula`, `orient` and `tree` it is the one answer of that line (`one_answer`).
+pub fn resumed_alike()
+    ensures { ResumedAlike }
+{}
+
+/// Words with `--height H --grow T` have the same answers as those with `--height T` in its place,
+/// with any watchers and any text, and also where a resampling is asked for: no answer tells that
+/// its run was made in stages.
+pub fn grown_alike()
+    ensures { GrownAlike }
+{}
+
+/// Where a number of samples is asked for and the answer is no refusal, the output begins, behind
+/// the lines of the batch and of sample 0, with the answer to the same job without the number.
+pub fn first_sample()
+    ensures { FirstSample }
+{}
+
+/// Where the words are a command line, the text is in its grammar and within the limits, the
+/// graph's form is good, no more samples are asked for than a batch may have, the stacks have no
+/// fault, the events are extremal where that is asked, and of a resampling the witness that is
+/// asked for is there, the status is 0 or 1; or 10, where the run may stop after so many pops.
+pub fn complete()
+    ensures { Complete }
+{}
+
+/// Where words over given rows are answered by a sample, any sample may be written in place of its
+/// values: the rows are then answered by that one, with the same cursors and as many pops, and the
+/// same log, witness and reports where they are asked for.
+pub fn exchanged_answers()
+    ensures { ExchangedAnswers }
+{}
+
+/// Each sample of what `formula`, `orient`, `tree` or `make` is asked for is the answer to some
+/// rows, of any heights.
+pub fn reached_answers()
+    ensures { ReachedAnswers }
+{}
+
+/// Samples, in the words of formulas and graphs: each assignment that satisfies a formula, each
+/// orientation of a graph that leaves no vertex a sink, and each spanning tree with its arrows to
+/// the root. So each of these is an answer (`reached_answers`).
+pub fn every_sample()
+    ensures assignments { EveryAssignment }
+    ensures orientations { EveryOrientation }
+    ensures trees { EveryTree }
+{}

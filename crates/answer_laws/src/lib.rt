@@ -1,0 +1,12 @@
+//! The laws of answers: what the top call's definition of answers means, in the words of outputs,
+//! of formulas and of graphs. There is no code that runs: the laws are the contracts of functions
+//! of empty body.
+#![tactic(auto)]
+
+mod laws;
+
+pub use laws::{
+    complete, every_sample, exchanged_answers, exhausted_shown, first_sample, grown_alike,
+    one_answer, one_logged_answer, one_outcome, paused_exactly, reached_answers, resumed_alike,
+    sample_finished, sample_shown, workers_agree,
+};
