@@ -1,5 +1,5 @@
 -- What comes of sampling, and of a graph whose form is good: no vertex is isolated, or each is joined to the root.
-use Rattle.std.proofs.Common.{◌≡◌, ℕ, ◌≤◌, List, [], length, Option, Result, refl, subst}
+use Rattle.std.proofs.Common.{◌≡◌, ℕ, ◌≤◌, List, length, Option, Result, refl, subst}
 use Rattle.std.specs.Result.{IsErrAnd}
 use Rattle.pop_model.specs.Stacks.{Origin}
 use Rattle.pop_stacks.specs.declared.stack_fault.StackFault.{StackFault}
