@@ -27,7 +27,7 @@ use Rattle.top_call.proofs.Lifting.{no_replay}
 use Rattle.answer_laws.proofs.OneOutcome.{word_cases}
 
 -- an end with an empty stuck list
-finished : (i : Instance) (c : List ℕ) (stuck : List Event) → IsStuckList i c stuck → end_status stuck ≡ 0 → IsFinished i c
+pub finished : (i : Instance) (c : List ℕ) (stuck : List Event) → IsStuckList i c stuck → end_status stuck ≡ 0 → IsFinished i c
 finished i c [] list none =
     λ e event occurs. let (k, within, at) = (list.exact e).1 (event, occurs) in absurd (omega arith)
 finished i c (e ∷ stuck) list none = absurd (omega arith)

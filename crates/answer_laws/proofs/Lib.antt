@@ -23,15 +23,21 @@ mod OneLog
 -- EndedSubjects: a run's end that is told. PausedExactly: a run that may stop does so where each has more pops.
 mod EndedSubjects
 mod PausedExactly
--- AlikeJobs: jobs of which the same comes. WorkersAgree: for any number of workers. GrownAlike: in stages, or not.
+-- AlikeJobs: jobs of which the same comes. FilteredOptions: words without some options. WorkersAgree: for any number of
+-- workers. GrownAlike: in stages, or not, and of words StagesAgree, with FirstSampleOfWords of a batch.
 -- ResumedLines: certificates that are accepted are resumed as their lines. ToldAtStart: what is told before any pop.
--- FirstSample: a batch begins with the sample of its job without a number.
+-- FirstSample: a batch begins with the sample of its job without a number. RoundsLikeFormula: rounds of extremal events
+-- end as their run.
 mod AlikeJobs
+mod FilteredOptions
 mod WorkersAgree
 mod GrownAlike
+mod StagesAgree
 mod ResumedLines
 mod ToldAtStart
 mod FirstSample
+mod FirstSampleOfWords
+mod RoundsLikeFormula
 -- Statuses. Finished: with 0 no event occurs. Completeness: one of these where nothing stands against words and text.
 -- ShownSamples: with 0 and 1 an end is shown, of a formula's events (ShownFormulas), of all that is sampled
 -- (ShownSubjects), of a batch (ShownBatches) and by rounds (ShownRounds) too, whatever stands behind it (ShownBehind).

@@ -56,7 +56,7 @@ one_ending origin asked ws vs f alike o p h h' =
     (formula_cubes f h'.events h'.of_formula) h'.extremal o p end h'.end
 
 -- what comes of the run is a clash or an end
-running_cases : (origin : Origin) (asked : Asked) (ws : List Watcher) (f : Cnf) (o : Outcome)
+pub running_cases : (origin : Origin) (asked : Asked) (ws : List Watcher) (f : Cnf) (o : Outcome)
     → ComesOfRunning origin asked ws f o
     → ((i : ℕ) × (j : ℕ) × (o ≡ Clashes i j) × ClashesAt f i j) ⊎ EndsFormula origin asked ws f o
 running_cases origin asked ws f (Usage p) h = inr h

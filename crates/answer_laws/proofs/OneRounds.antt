@@ -17,16 +17,16 @@ use Rattle.answer_laws.proofs.OneFormula.{one_events}
 use Rattle.answer_laws.proofs.OneSampling.{IsOne, same_sampling}
 
 -- the result that an outcome tells
-record IsRounded (facts : Facts) (i : Instance) (o : Outcome) : Type 0 where
-  cursors : List ℕ
-  rounds : ℕ
-  stuck : List Event
-  short : Option ℕ
-  is : o ≡ Rounded facts i cursors rounds stuck short
-  end : IsRoundsEnd i cursors rounds stuck short
+pub record IsRounded (facts : Facts) (i : Instance) (o : Outcome) : Type 0 where
+  pub cursors : List ℕ
+  pub rounds : ℕ
+  pub stuck : List Event
+  pub short : Option ℕ
+  pub is : o ≡ Rounded facts i cursors rounds stuck short
+  pub end : IsRoundsEnd i cursors rounds stuck short
 
 -- what comes of rounds is a result
-rounded : (facts : Facts) (i : Instance) (o : Outcome) → IsRoundsEndOf facts i o → IsRounded facts i o
+pub rounded : (facts : Facts) (i : Instance) (o : Outcome) → IsRoundsEndOf facts i o → IsRounded facts i o
 rounded facts i (Usage p) h = absurd h
 rounded facts i (Unread r) h = absurd h
 rounded facts i (Isolated w) h = absurd h

@@ -132,7 +132,7 @@ one_end asked ws vs facts i alike cubes extremal o p h h' = elim (ended asked ws
 ]
 
 -- how sampling comes to an outcome: of too many samples, of a fault of the stacks, or of the run
-data Ways (facts : Facts) (origin : Origin) (weights : List (List ℕ)) (asked : Option ℕ) (Runs : Outcome → Type 0)
+pub data Ways (facts : Facts) (origin : Origin) (weights : List (List ℕ)) (asked : Option ℕ) (Runs : Outcome → Type 0)
     (o : Outcome) : Type 0 where
   many : (n : ℕ) → o ≡ TooMany n → asked ≡ Some n → IsTooMany n (length weights)
       → Ways facts origin weights asked Runs o
@@ -141,7 +141,7 @@ data Ways (facts : Facts) (origin : Origin) (weights : List (List ℕ)) (asked :
   run : IsSound origin weights → Runs o → AreFew asked (length weights) → Ways facts origin weights asked Runs o
 
 -- what comes of sampling comes in one of these ways
-ways : (facts : Facts) (origin : Origin) (weights : List (List ℕ)) (asked : Option ℕ) (Runs : Outcome → Type 0)
+pub ways : (facts : Facts) (origin : Origin) (weights : List (List ℕ)) (asked : Option ℕ) (Runs : Outcome → Type 0)
     (o : Outcome) → ComesOfSampling facts origin weights asked Runs o → Ways facts origin weights asked Runs o
 ways facts origin weights asked Runs (Usage p) h = run h.0 h.1 h.2
 ways facts origin weights asked Runs (Unread r) h = run h.0 h.1 h.2

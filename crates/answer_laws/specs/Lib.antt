@@ -4,6 +4,7 @@ pub mod Workers
 pub mod Resumed
 pub mod Stages
 pub mod FirstSample
+pub mod RoundsLikeFormula
 pub mod Complete
 pub mod ExactAnswers
 pub mod EverySample

@@ -1,7 +1,7 @@
 -- Words whose stacks grow up to a height, and words whose stacks have it from the start.
-use Rattle.std.specs.Prelude.{◌≡◌, ℕ, List, None}
+use Rattle.std.specs.Prelude.{◌≡◌, ℕ, Bool, not, ◌||◌, List, filter, bytes_eq, codes, None}
 use Rattle.pop_words.specs.declared.job.Job.{Job}
-use Rattle.pop_words.specs.CommandLines.{Asks}
+use Rattle.pop_words.specs.CommandLines.{Choice, Asks}
 use Rattle.pop_watch.specs.Telling.{Watcher}
 use Rattle.top_call.specs.Answers.{last_height, IsAnswer}
 
@@ -22,4 +22,29 @@ pub record DifferInStages (words others : List (List ℕ)) : Type 0 where
 abbrev pub GrownAlike : Type 0
 GrownAlike = (words others : List (List ℕ)) (watchers : List Watcher) (text : List ℕ) (status : ℕ)
     (out : List ℕ) → DifferInStages words others → IsAnswer words watchers text status out
+    → IsAnswer others watchers text status out
+
+-- an option of this name tells a height
+abbrev pub tells_height : List ℕ → Bool
+tells_height name = bytes_eq name (codes "--height") || bytes_eq name (codes "--grow")
+
+-- the options but for `--height` and `--grow`
+abbrev pub but_heights : List Choice → List Choice
+but_heights chosen = filter (λ p. not (tells_height p.0.name)) chosen
+
+-- the words are command lines of one command, whose options but for `--height` and `--grow` are the
+-- same, in the same order, and whose stacks have the same height at last
+pub record DifferInHeights (words others : List (List ℕ)) : Type 0 where
+  pub job : Job
+  pub other : Job
+  pub asks : Asks words job
+  pub asks_other : Asks others other
+  pub command : asks.command ≡ asks_other.command
+  pub options : but_heights asks.chosen ≡ but_heights asks_other.chosen
+  pub last : last_height job ≡ last_height other
+
+-- such words have the same answers to each text, with any watchers
+abbrev pub StagesAgree : Type 0
+StagesAgree = (words others : List (List ℕ)) (watchers : List Watcher) (text : List ℕ) (status : ℕ)
+    (out : List ℕ) → DifferInHeights words others → IsAnswer words watchers text status out
     → IsAnswer others watchers text status out

@@ -3,8 +3,9 @@ ghost use Rattle.answer_laws.specs.Laws.{OneAnswer, OneOutcome, OneLoggedAnswer,
 ghost use Rattle.answer_laws.specs.Shown.{SampleShown, ExhaustedShown};
 ghost use Rattle.answer_laws.specs.Workers.{WorkersAgree};
 ghost use Rattle.answer_laws.specs.Resumed.{ResumedAlike};
-ghost use Rattle.answer_laws.specs.Stages.{GrownAlike};
-ghost use Rattle.answer_laws.specs.FirstSample.{FirstSample};
+ghost use Rattle.answer_laws.specs.Stages.{GrownAlike, StagesAgree};
+ghost use Rattle.answer_laws.specs.FirstSample.{FirstSample, FirstSampleOfWords};
+ghost use Rattle.answer_laws.specs.RoundsLikeFormula.{RoundsLikeFormula};
 ghost use Rattle.answer_laws.specs.Complete.{Complete};
 ghost use Rattle.answer_laws.specs.ExactAnswers.{ExchangedAnswers, ReachedAnswers};
 ghost use Rattle.answer_laws.specs.EverySample.{EveryAssignment, EveryOrientation, EveryTree};
@@ -80,10 +81,30 @@ pub fn grown_alike()
     ensures { GrownAlike }
 {}
 
+/// So have words that differ in `--height` and `--grow` alone, and whose stacks have the same height
+/// at last: as those with `--height H --grow T` and those with `--height T`.
+pub fn stages_agree()
+    ensures { StagesAgree }
+{}
+
 /// Where a number of samples is asked for and the answer is no refusal, the output begins, behind
 /// the lines of the batch and of sample 0, with the answer to the same job without the number.
 pub fn first_sample()
     ensures { FirstSample }
+{}
+
+/// So the answer to words with `--count` begins, behind these lines, with an answer to the words
+/// without it.
+pub fn first_sample_of_words()
+    ensures { FirstSampleOfWords }
+{}
+
+/// Where `formula` is answered by a sample or an exhausted end, so that its events are extremal,
+/// `rounds` is answered with the same status over stacks of the same origin. The output of a sample
+/// is then the same up to the line `used`, behind which the one tells its pops and the other its
+/// rounds. Exhausted, each stands at cursors of its own.
+pub fn rounds_like_formula()
+    ensures { RoundsLikeFormula }
 {}
 
 /// Where the words are a command line, the text is in its grammar and within the limits, the

@@ -6,7 +6,8 @@
 mod laws;
 
 pub use laws::{
-    complete, every_sample, exchanged_answers, exhausted_shown, first_sample, grown_alike,
-    one_answer, one_logged_answer, one_outcome, paused_exactly, reached_answers, resumed_alike,
-    sample_finished, sample_shown, workers_agree,
+    complete, every_sample, exchanged_answers, exhausted_shown, first_sample,
+    first_sample_of_words, grown_alike, one_answer, one_logged_answer, one_outcome, paused_exactly,
+    reached_answers, resumed_alike, rounds_like_formula, sample_finished, sample_shown,
+    stages_agree, workers_agree,
 };

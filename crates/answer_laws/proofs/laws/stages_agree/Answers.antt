@@ -1,0 +1,5 @@
+use Rattle.answer_laws.proofs.StagesAgree.{stages_agree}
+use Rattle.answer_laws.proofs.laws.stages_agree.Goals as goal
+
+pub returns : goal.returns
+returns c = stages_agree
