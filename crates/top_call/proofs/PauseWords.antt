@@ -1,6 +1,6 @@
 -- Words that ask for a run that may stop. Their command has such runs, and neither a number of samples nor stacks that
 -- grow are asked for: options that set these and the one that stops a run exclude each other.
-use Rattle.std.proofs.Common.{inl, inr, ◌≡◌, ℕ, ◌-◌, ◌^◌, Bool, true, false, List, Option, None, Some, refl, sym, ap, ◌∙◌, arith, Contains}
+use Rattle.std.proofs.Common.{inl, inr, ◌≡◌, ℕ, ◌-◌, ◌^◌, Bool, true, false, List, Option, None, Some, refl, sym, ap, subst, ◌∙◌, arith, Contains}
 use Rattle.std.specs.Prelude.{unwrap_or}
 use Rattle.std.proofs.lemmas.Bool.{false≢true}
 use Rattle.std.proofs.lemmas.Option.{none-some}
@@ -14,7 +14,7 @@ use Rattle.pop_words.specs.Values.{number_between, rows_in, key_in, board_in, sw
 use Rattle.pop_words.specs.Options.{paused, value_of}
 use Rattle.pop_words.specs.CommandLines.{Asks}
 use Rattle.pop_words.proofs.ListTests.{all_at}
-use Rattle.top_call.specs.Answers.{IsOfLine, MayStop, HasNoBadLine, MayFailBehind}
+use Rattle.top_call.specs.Answers.{IsOfLine, MayStop, HasNoBadLine, MayFailBehind, WasReadWhole}
 use Rattle.top_call.proofs.ApartWords.{kept, AreKinds, settled}
 
 -- the commands whose runs may stop
@@ -166,11 +166,38 @@ counted_runs_out words job asks count is = by_pops job.pops refl
     by_pops None none = none
     by_pops (Some pops) stop = absurd (none-some count (sym (stopped_may words job asks pops stop).once ∙ is))
 
--- a certificate is read within its limit, whether or not the job says after how many pops a run stops: none does
+-- no job of a certificate says after how many pops a run stops
+pub cert_runs_out : (job : Job) → ((pops : ℕ) → job.pops ≡ Some pops → MayStop job) → (IsOfLine job.command → ⊥)
+    → job.pops ≡ None
+cert_runs_out job stops certified = by_pops job.pops refl
+  where
+    by_pops : (pops : Option ℕ) → job.pops ≡ pops → job.pops ≡ None
+    by_pops None is = is
+    by_pops (Some pops) is = absurd (certified (paused_line job.command (stops pops is).command))
+
+-- so it is read within its limit
 pub cert_behind : (job : Job) (taken : List ℕ) → ((pops : ℕ) → job.pops ≡ Some pops → MayStop job)
     → (IsOfLine job.command → ⊥) → HasNoBadLine job.command taken → MayFailBehind job.pops job.command taken
-cert_behind job taken stops certified few = by_pops job.pops refl
-  where
-    by_pops : (pops : Option ℕ) → job.pops ≡ pops → MayFailBehind pops job.command taken
-    by_pops None is = few
-    by_pops (Some pops) is = absurd (certified (paused_line job.command (stops pops is).command))
+cert_behind job taken stops certified few =
+    subst (λ p. MayFailBehind p job.command taken) (sym (cert_runs_out job stops certified)) few
+
+-- and whole
+pub cert_whole : (job : Job) (left left' : Option (List ℕ)) → ((pops : ℕ) → job.pops ≡ Some pops → MayStop job)
+    → (k : Command) → job.command ≡ k → (IsOfLine k → ⊥) → WasReadWhole None k left left'
+    → WasReadWhole job.pops job.command left left'
+cert_whole job left left' stops k is certified read =
+    let none = cert_runs_out job stops (λ line. certified (subst IsOfLine is line)) in
+    subst (λ p. WasReadWhole p job.command left left') (sym none)
+    (subst (λ c. WasReadWhole None c left left') (sym is) read)
+
+-- no other text needs to be, where no run may stop
+pub line_whole : (k : Command) (left left' : Option (List ℕ)) → IsOfLine k → WasReadWhole None k left left'
+line_whole Formula left left' line = tt
+line_whole Orient left left' line = tt
+line_whole Tree left left' line = tt
+line_whole Resample left left' line = tt
+line_whole Check left left' line = tt
+line_whole Make left left' line = tt
+line_whole Rounds left left' line = tt
+line_whole Replay left left' line = absurd line
+line_whole Resume left left' line = absurd line

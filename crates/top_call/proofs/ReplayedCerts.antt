@@ -7,6 +7,7 @@ use Rattle.pop_edge.specs.declared.refusal.ReadRefusal.TheVariants.{Malformed as
 use Rattle.pop_print.specs.declared.facts.Facts.{Facts}
 use Rattle.pop_log.specs.Refusals.{IsLogRefusal}
 use Rattle.run_cert.specs.Certificates.{Certificate}
+use Rattle.pop_watch.specs.Telling.{Watcher}
 use Rattle.top_call.specs.declared.accepted.Accepted.{Accepted}
 use Rattle.top_call.specs.declared.refusal.Refusal.{Refusal}
 use Rattle.top_call.specs.declared.refusal.Refusal.TheVariants.{Stopped}
@@ -18,6 +19,7 @@ use Rattle.top_call.specs.Outcomes.Outcome.{Unread, Replayed}
 use Rattle.top_call.specs.declared.answer.Answer.{Answer}
 use Rattle.top_call.specs.Results.{ComesRefused, IsResultOf, IsLogRefusalOf}
 use Rattle.top_call.specs.Replays.{cert_limit, job_of, ByLine, IsNoCert, IsNoRun, IsCertified, IsRefusedCert, IsRefused, HasLog, ComesOfReplaying}
+use Rattle.top_call.specs.Resumes.{ComesOfResuming}
 use Rattle.top_call.specs.Accepted.{IsHeldBy, IsAccepted}
 use Rattle.top_call.specs.Answers.{ComesOf}
 use Rattle.top_call.proofs.Carrying.{refused, passed_on, refused_result}
@@ -135,6 +137,14 @@ pub replay_refused : (text : List ℕ) (r : Result Answer Refusal) (e : Refusal)
 replay_refused text r e is h =
     refused_result (ComesOfReplaying ComesOf text) r e is
     (refused (IsRefused ComesOf text) (ComesOfReplaying ComesOf text) e (λ o comes. inl comes) h)
+
+-- or of what is resumed
+pub resume_refused : (ws : List Watcher) (text : List ℕ) (r : Result Answer Refusal) (e : Refusal)
+    → IsErrAnd r (λ x. x ≡ e) → ComesRefused (IsRefused ComesOf text) e
+    → IsResultOf (ComesOfResuming ComesOf ws text) r
+resume_refused ws text r e is h =
+    refused_result (ComesOfResuming ComesOf ws text) r e is
+    (refused (IsRefused ComesOf text) (ComesOfResuming ComesOf ws text) e (λ o comes. inl comes) h)
 
 -- and the replay of what is read of the source is told of its text
 pub replay_result : (left left' : Option (List ℕ)) (text : List ℕ) (a : Accepted) (status : ℕ) (out : List ℕ)

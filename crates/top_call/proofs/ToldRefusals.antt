@@ -13,7 +13,7 @@ use Rattle.top_call.specs.declared.refusal.Refusal.TheVariants.{Usage, Malformed
 use Rattle.top_call.specs.Refusals.{usage_line}
 use Rattle.top_call.specs.Outcomes.{Outcome, Tells, AnswersBy, IsAnswerStatus, HasRun}
 use Rattle.top_call.specs.Outcomes.Outcome.{Usage as UsageOf, Unread, Isolated as IsolatedAt, NoRoot as NoRootAt, CutOff as CutOffAt, TooMany as TooManyOf, Unsound, Clashes as ClashesOf, NotLegal as NotLegalAt}
-use Rattle.top_call.specs.Results.{named_fault, TellsFault, ComesRefused, IsToldAs, IsOfWords}
+use Rattle.top_call.specs.Results.{named_fault, TellsFault, ComesRefused, IsToldAs, IsJudged, IsOfWords}
 
 -- a fault of stacks is told under the name of its variable
 named_told : (facts : Facts) (fault : StackFault) (status : ℕ) (out : List ℕ)
@@ -155,3 +155,27 @@ told_fault r (Err s) (inr memory) is = absurd (cc)
 -- a result that is an error is one error
 pub err_is : (r q : Refusal) → ◌≡◌ {A = Result Answer Refusal} (Err r) (Err q) → r ≡ q
 err_is r q is = cc
+
+-- a refusal that is told is one of what was read
+pub told_judged : (Q : Type 0) (r : Refusal) (t : Result Answer Stop)
+    → IfOk t (λ a. IsToldAs r a.status a.text.items) → (IsJudged {T = Answer} (Err r) → Q) → IfOk t (λ a. Q)
+told_judged Q r (Ok a) told read = read (judged r a.status a.text.items told)
+  where
+    judged : (r : Refusal) (status : ℕ) (out : List ℕ) → IsToldAs r status out → IsJudged {T = Answer} (Err r)
+    judged (Usage p) status out is = tt
+    judged (Malformed l c) status out is = tt
+    judged (Count d f) status out is = tt
+    judged (EmptyClause n) status out is = tt
+    judged (Limit k l) status out is = tt
+    judged (Isolated w) status out is = tt
+    judged (NoRoot w) status out is = tt
+    judged (CutOff w) status out is = tt
+    judged (TooMany n) status out is = tt
+    judged (RowCount g w) status out is = tt
+    judged (EmptyRow n) status out is = tt
+    judged (ValueTooLarge n k) status out is = tt
+    judged (WeightSum n) status out is = tt
+    judged (Clashes i j) status out is = tt
+    judged (NotLegal p) status out is = tt
+    judged (Stopped s) status out is = absurd is
+told_judged Q r (Err s) told read = tt

@@ -2,7 +2,8 @@
 use Rattle.std.proofs.Common.{◌≡◌, ◌≢◌, ℕ, List, Result, Ok, Err, IfOk, MatchResult, refl, sym, subst}
 use Rattle.pop_words.specs.declared.fault.WordFault.{WordFault}
 use Rattle.pop_words.specs.declared.fault.WordFault.TheVariants.{Usage as BadWord, OutOfMemory as WordMemory}
-use Rattle.pop_words.specs.CommandLines.{IsBadPlace, IsWordFault}
+use Rattle.pop_words.specs.CommandLines.{Asks, IsBadPlace, IsWordFault}
+use Rattle.pop_words.specs.declared.job.Job.{Job}
 use Rattle.pop_watch.specs.Telling.{Watcher}
 use Rattle.top_call.specs.declared.answer.Answer.{Answer}
 use Rattle.top_call.specs.declared.stop.Stop.TheVariants.{ReadFault}
@@ -10,7 +11,7 @@ use Rattle.top_call.specs.declared.refusal.Refusal.{Refusal}
 use Rattle.top_call.specs.declared.refusal.Refusal.TheVariants.{Usage, Stopped}
 use Rattle.top_call.specs.Outcomes.{IsAnswerStatus}
 use Rattle.top_call.specs.Answers.{IsOutcome}
-use Rattle.top_call.specs.Results.{unworded, ComesRefused, IsResultOf, IsTextResult, IsOfWords}
+use Rattle.top_call.specs.Results.{unworded, ComesRefused, IsJudged, IsResultOf, IsTextResult, IsOfWords}
 
 -- a fault of words is an outcome of theirs
 refused_by : (words : List (List ℕ)) (ws : List Watcher) (text : List ℕ) (fault : WordFault) → IsWordFault words fault
@@ -36,6 +37,12 @@ pub words_only : (fault : WordFault) (r : Result Answer Refusal) → r ≡ Err (
     → MatchResult r (λ a. ⊥) IsOfWords
 words_only (BadWord p) r is = subst (λ q. MatchResult q (λ a. ⊥) IsOfWords) (sym is) tt
 words_only WordMemory r is = subst (λ q. MatchResult q (λ a. ⊥) IsOfWords) (sym is) tt
+
+-- and none where they ask for a job, but want of memory
+pub words_judged : (Q : Type 0) (words : List (List ℕ)) (job : Job) (fault : WordFault) (r : Result Answer Refusal)
+    → r ≡ Err (unworded fault) → IsWordFault words fault → Asks words job → IsJudged r → Q
+words_judged Q words job (BadWord p) r is bad asks judged = absurd (bad.outside (job, asks))
+words_judged Q words job WordMemory r is bad asks judged = absurd (subst IsJudged is judged)
 
 -- nor a fault of the source
 pub words_no_fault : (fault : WordFault) (r : Result Answer Refusal) → r ≡ Err (unworded fault)

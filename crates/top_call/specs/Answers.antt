@@ -26,6 +26,7 @@ use Rattle.top_call.specs.Trees.{ComesOfTree}
 use Rattle.top_call.specs.Grids.{ComesOfGrid}
 use Rattle.top_call.specs.Made.{IsMade}
 use Rattle.top_call.specs.Pauses.{PausesAt}
+use Rattle.top_call.specs.Whole.{WasRead}
 use Rattle.top_call.specs.Replays.{cert_limit, ComesOfReplaying}
 use Rattle.top_call.specs.Resumes.{ComesOfResuming}
 
@@ -169,6 +170,14 @@ HasNoBadLine Resume taken = length taken ≤ cert_limit
 abbrev pub MayFailBehind : Option ℕ → Command → List ℕ → Type 0
 MayFailBehind None command taken = HasNoBadLine command taken
 MayFailBehind (Some pops) command taken = length taken ≤ text_limit
+
+-- The source was read whole, where the command reads a certificate, or a text of which a run may
+-- stop: to its end, or to the first byte past the limit.
+abbrev pub WasReadWhole : Option ℕ → Command → Option (List ℕ) → Option (List ℕ) → Type 0
+WasReadWhole (Some pops) command left left' = WasRead text_limit left left'
+WasReadWhole None Replay left left' = WasRead cert_limit left left'
+WasReadWhole None Resume left left' = WasRead cert_limit left left'
+WasReadWhole None command left left' = ⊤
 
 -- the job's run may stop before its end: the command has such runs, and asks neither for a number
 -- of samples nor for stacks that grow

@@ -150,6 +150,12 @@ abbrev pub IsTextResult : Result Answer Refusal → Type 0
 IsTextResult (Ok a) = IsTextStatus a.status
 IsTextResult (Err refusal) = IsPastWords refusal
 
+-- the call wasn't stopped, by a fault of its source or by want of memory
+abbrev pub IsJudged : {T : Type 0} → Result T Refusal → Type 0
+IsJudged (Ok a) = ⊤
+IsJudged (Err (Stopped stop)) = ⊥
+IsJudged (Err refusal) = ⊤
+
 -- a refusal of words, or want of memory
 abbrev pub IsOfWords : Refusal → Type 0
 IsOfWords (Usage place) = ⊤

@@ -16,3 +16,7 @@ pub record IsReadTo (limit : ℕ) (left left' : Option (List ℕ)) (bytes : List
   pub consumed : Consumes left left' bytes
   pub most : length bytes ≤ limit + 1
   pub whole : length bytes ≤ limit → IsAtEnd left'
+
+-- so were some bytes
+abbrev pub WasRead : ℕ → Option (List ℕ) → Option (List ℕ) → Type 0
+WasRead limit left left' = (bytes : List ℕ) × IsReadTo limit left left' bytes

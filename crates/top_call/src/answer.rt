@@ -3,12 +3,13 @@ ghost use Rattle.std.specs.Prelude.{◌≡◌, ◌≢◌, ◌⊎◌, ◌<◌, �
 ghost use Rattle.std.specs.Io.KnownBytes.{IsAtEnd, Consumes};
 ghost use Rattle.pop_model.specs.Faults.{Rose};
 ghost use Rattle.pop_model.specs.Stacks.{IsKeyed};
-ghost use Rattle.pop_words.specs.CommandLines.{AreWords, IsBadPlace};
+ghost use Rattle.pop_words.specs.CommandLines.{AreWords, Asks, IsBadPlace};
+ghost use Rattle.pop_words.specs.declared.job.Job.{Job};
 ghost use Rattle.pop_words.specs.declared.command.Command.TheVariants.{Make};
 ghost use Rattle.top_call.specs.TopCall.{HasReadFault};
-ghost use Rattle.top_call.specs.Answers.{IsAnswer, IsOutcome, ComesOf, origin_for, AskForGrid, IsInput, HasNoBadLine, MayFailBehind, MayStop, ComesBy, IsOfLine};
+ghost use Rattle.top_call.specs.Answers.{IsAnswer, IsOutcome, ComesOf, origin_for, AskForGrid, IsInput, HasNoBadLine, MayFailBehind, WasReadWhole, MayStop, ComesBy, IsOfLine};
 ghost use Rattle.top_call.specs.Outcomes.{IsAnswerStatus, HasRun};
-ghost use Rattle.top_call.specs.Results.{IsResultOf, IsTextResult, IsOfWords};
+ghost use Rattle.top_call.specs.Results.{IsJudged, IsResultOf, IsTextResult, IsOfWords};
 ghost use Rattle.top_call.specs.Refusals.{usage_line};
 ghost use Rattle.top_call.specs.declared.refusal.Refusal.TheVariants.{Usage, Stopped};
 ghost use Rattle.top_call.specs.declared.stop.Stop.TheVariants.{ReadFault, OutOfMemory};
@@ -106,6 +107,8 @@ fn answer_line<S: Source, R: Threads + Wait + Sync, G: Gate + Sync>(
     ensures no_bad_line { IsErrOf result (Stopped ReadFault) → (taken : List ℕ)
         × Consumes (S.left source.old) (S.left source.new) taken
         × MayFailBehind job.pops job.command taken }
+    ensures read { IsJudged result
+        → WasReadWhole job.pops job.command (S.left source.old) (S.left source.new) }
 {
     match job.pops {
         Some(pops) => pause_or_tell(call, &job, pops, source),
@@ -139,6 +142,8 @@ fn answer_job<S: Source, R: Threads + Wait + Sync, G: Gate + Sync>(
     ensures no_bad_line { IsErrOf result (Stopped ReadFault) → (taken : List ℕ)
         × Consumes (S.left source.old) (S.left source.new) taken
         × MayFailBehind job.pops job.command taken }
+    ensures read { IsJudged result
+        → WasReadWhole job.pops job.command (S.left source.old) (S.left source.new) }
 {
     match job.command {
         Command::Replay => replay(call.alloc, source),
@@ -174,6 +179,8 @@ fn answer_words<S: Source, R: Threads + Wait + Sync, G: Gate + Sync>(
     ensures read_fault { IsErrOf result (Stopped ReadFault)
         → HasReadFault (map string_bytes words.now) (S.left source.old) (S.left source.new)
         (S.faults source.old) (S.faults source.new) }
+    ensures read { (job : Job) → Asks (map string_bytes words.now) job → IsJudged result
+        → WasReadWhole job.pops job.command (S.left source.old) (S.left source.new) }
 {
     let job = read_words(alloc, words)?;
     let crew = Crew::new(rt, gate, job.workers, job.board);
@@ -215,6 +222,11 @@ pub fn answer_to<S: Source, R: Threads + Wait + Sync, G: Gate + Sync>(
     ensures read_fault { IsErrOf result ReadFault
         → HasReadFault (map string_bytes words.now) (S.left source.old) (S.left source.new)
         (S.faults source.old) (S.faults source.new) }
+
+    // A certificate, and a text of which a run may stop, is read whole before a byte of it is
+    // judged.
+    ensures read { (job : Job) → Asks (map string_bytes words.now) job → IfOk result (λ a.
+        WasReadWhole job.pops job.command (S.left source.old) (S.left source.new)) }
 {
     match answer_words(rt, alloc, words, watchers, gate, source) {
         Ok(answer) => Ok(answer),

@@ -19,7 +19,8 @@ ghost use Rattle.top_call.specs.Answers.{ComesOf, origin_for};
 ghost use Rattle.top_call.specs.Made.{IsMade};
 ghost use Rattle.top_call.specs.Outcomes.{AnswersBy, HasRun};
 ghost use Rattle.top_call.specs.Pauses.{IsPausedAt};
-ghost use Rattle.top_call.specs.Results.{IsResultOf, IsTextResult};
+ghost use Rattle.top_call.specs.Results.{IsJudged, IsResultOf, IsTextResult};
+ghost use Rattle.top_call.specs.Whole.{WasRead};
 ghost use Rattle.top_call.specs.declared.refusal.Refusal.TheVariants.{Stopped};
 ghost use Rattle.top_call.specs.declared.stop.Stop.TheVariants.{ReadFault};
 
@@ -202,6 +203,7 @@ pub fn pause_or_tell<S: Source, R, G>(
     ensures short { IsErrOf result (Stopped ReadFault) → (taken : List ℕ)
         × Consumes (S.left source.old) (S.left source.new) taken
         × (length taken ≤ text_limit) }
+    ensures read { IsJudged result → WasRead text_limit (S.left source.old) (S.left source.new) }
 {
     let input = read_whole(call.alloc, source, INPUT_LIMIT)?;
     judge_and_stop(call, job, pops, &input)

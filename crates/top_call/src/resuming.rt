@@ -14,8 +14,9 @@ ghost use Rattle.run_cert.specs.Looks.{IsSoFar};
 ghost use Rattle.top_call.specs.declared.refusal.Refusal.TheVariants.{Stopped};
 ghost use Rattle.top_call.specs.declared.stop.Stop.TheVariants.{ReadFault};
 ghost use Rattle.top_call.specs.Outcomes.{AnswersBy};
-ghost use Rattle.top_call.specs.Results.{IsResultOf, IsTextResult};
+ghost use Rattle.top_call.specs.Results.{IsJudged, IsResultOf, IsTextResult};
 ghost use Rattle.top_call.specs.Replays.{cert_limit};
+ghost use Rattle.top_call.specs.Whole.{WasRead};
 ghost use Rattle.top_call.specs.Resumes.{IsJoinedLog, IsResumed, ComesOfResuming};
 ghost use Rattle.top_call.specs.Accepted.{IsHeldBy};
 ghost use Rattle.top_call.specs.Answers.{ComesOf};
@@ -130,6 +131,7 @@ pub fn resume<S: Source, R: Threads + Wait + Sync, G: Gate + Sync>(
         → Rose (S.faults source.old) (S.faults source.new) }
     ensures short { IsErrOf result (Stopped ReadFault) → (taken : List ℕ)
         × Consumes (S.left source.old) (S.left source.new) taken × (length taken ≤ cert_limit) }
+    ensures read { IsJudged result → WasRead cert_limit (S.left source.old) (S.left source.new) }
 {
     let accepted = read_accepted(call.alloc, source)?;
     Ok(go_on(call, accepted)?)

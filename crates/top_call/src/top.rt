@@ -4,10 +4,11 @@ ghost use Rattle.std.specs.Io.KnownBytes.{Appends, IsAtEnd};
 ghost use Rattle.pop_model.specs.Faults.{Rose};
 ghost use Rattle.pop_edge.specs.Devices.{AppendsFront};
 ghost use Rattle.pop_edge.specs.declared.refusal.ReadRefusal.TheVariants.{ReadFault, OutOfMemory};
-ghost use Rattle.pop_words.specs.CommandLines.{AreWords};
+ghost use Rattle.pop_words.specs.CommandLines.{AreWords, Asks};
+ghost use Rattle.pop_words.specs.declared.job.Job.{Job};
 ghost use Rattle.top_call.specs.Refusals.{reading_line};
 ghost use Rattle.top_call.specs.Outcomes.{HasRun};
-ghost use Rattle.top_call.specs.Answers.{AskForGrid, IsInput};
+ghost use Rattle.top_call.specs.Answers.{AskForGrid, IsInput, WasReadWhole};
 ghost use Rattle.top_call.specs.TopCall.{IsBreak, Answered, AnsweredUsage, HasReadFault, IsCutShort, IsUsageCutShort};
 
 use crate::answer::answer_to;
@@ -127,6 +128,13 @@ pub fn run<S: Source, K: Sink, R: Threads + Wait + Sync, G: Gate + Sync>(
     // its end.
     ensures whole { HasRun result
         → (AskForGrid (map string_bytes words.now) → ⊥) → IsAtEnd (S.left source.new) }
+
+    // A certificate, and a text of which a run may stop, is read whole before a byte of it is
+    // judged: to its end, or to the first byte past the limit. So a fault of reading comes before
+    // any refusal of what was read.
+    ensures read_whole { (job : Job) → Asks (map string_bytes words.now) job
+        → (IsBreak result → ⊥)
+        → WasReadWhole job.pops job.command (S.left source.old) (S.left source.new) }
 {
     match answer_to(rt, alloc, words, watchers, gate, source) {
         Ok(answer) => deliver(sink, &answer.text, answer.status),

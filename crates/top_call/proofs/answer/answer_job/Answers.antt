@@ -4,7 +4,7 @@ use Rattle.pop_words.specs.declared.command.Command.{Command}
 use Rattle.pop_words.specs.declared.command.Command.TheVariants.{Make, Replay, Resume}
 use Rattle.top_call.specs.Answers.{HasNoBadLine, IsOfLine}
 use Rattle.top_call.proofs.ByCommand.{line_result, reads_no_cert}
-use Rattle.top_call.proofs.PauseWords.{cert_behind}
+use Rattle.top_call.proofs.PauseWords.{cert_behind, cert_whole}
 use Rattle.top_call.proofs.answer.answer_job.Goals as goal
 
 -- the command of a certificate makes no grid
@@ -67,3 +67,12 @@ pub returns-in_default-clause-answer : goal.returns-in_default-clause-answer
 returns-in_default-clause-answer g c text input read =
     let line = reads_no_cert c.args.job.command c.in_default.not-Replay c.in_default.not-Resume in
     line_result c.args.job.command c.args.job _ text c.answer_line.result line (c.answer_line.ensures.answer text input read)
+
+-- a certificate is read whole
+pub returns-in-Replay-clause-read : goal.returns-in-Replay-clause-read
+returns-in-Replay-clause-read g c judged =
+    cert_whole c.args.job _ _ c.requires.stops Replay c.in-Replay.is (λ line. line) (c.replay.ensures.read judged)
+
+pub returns-in-Resume-clause-read : goal.returns-in-Resume-clause-read
+returns-in-Resume-clause-read g c judged =
+    cert_whole c.args.job _ _ c.requires.stops Resume c.in-Resume.is (λ line. line) (c.resume.ensures.read judged)

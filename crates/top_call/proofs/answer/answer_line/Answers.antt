@@ -1,7 +1,7 @@
 use Rattle.std.proofs.Common.{inl, inr, sym, subst}
 use Rattle.std.proofs.lemmas.Result.{IfOk-weaker}
-use Rattle.top_call.specs.Answers.{MayFailBehind}
-use Rattle.top_call.proofs.PauseWords.{not_made}
+use Rattle.top_call.specs.Answers.{MayFailBehind, WasReadWhole}
+use Rattle.top_call.proofs.PauseWords.{not_made, line_whole}
 use Rattle.top_call.proofs.answer.answer_line.Goals as goal
 
 -- the run may stop, so the command isn't one that makes a grid
@@ -29,3 +29,16 @@ pub returns-in-None-clause-no_bad_line : goal.returns-in-None-clause-no_bad_line
 returns-in-None-clause-no_bad_line g c failed =
     let front = c.run_job.ensures.no_bad_line failed in
     (front.0, front.1, subst (λ p. MayFailBehind p c.args.job.command front.0) (sym c.in-None.is) front.2)
+
+-- what is read whole
+pub returns-in-Some-clause-read : goal.returns-in-Some-clause-read
+returns-in-Some-clause-read g c judged =
+    subst (λ p. WasReadWhole p c.args.job.command (g.S.Source.left c.args.source.now)
+    (g.S.Source.left c.pause_or_tell.new.source)) (sym c.in-Some.is) (c.pause_or_tell.ensures.read judged)
+
+pub returns-in-None-clause-read : goal.returns-in-None-clause-read
+returns-in-None-clause-read g c judged =
+    subst (λ p. WasReadWhole p c.args.job.command (g.S.Source.left c.args.source.now)
+    (g.S.Source.left c.run_job.new.source)) (sym c.in-None.is)
+    (line_whole c.args.job.command (g.S.Source.left c.args.source.now) (g.S.Source.left c.run_job.new.source)
+    c.requires.line)

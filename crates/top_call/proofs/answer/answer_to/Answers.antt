@@ -1,6 +1,6 @@
 use Rattle.std.proofs.Common.{Err, map, string_bytes, ap}
 use Rattle.top_call.specs.Answers.{IsOutcome}
-use Rattle.top_call.proofs.ToldRefusals.{err_is, told_answer, told_low, told_high, told_usage, told_words, told_fault}
+use Rattle.top_call.proofs.ToldRefusals.{err_is, told_answer, told_low, told_high, told_usage, told_words, told_fault, told_judged}
 use Rattle.top_call.proofs.answer.answer_to.Goals as goal
 
 -- an answer is no fault of the source
@@ -31,3 +31,11 @@ returns-in-Err-clause-whole g c = told_high _ c.in-Err.refusal c.told.result c.t
 pub returns-in-Err-clause-read_fault : goal.returns-in-Err-clause-read_fault
 returns-in-Err-clause-read_fault g c failed =
     c.in-Err.ensures.read_fault (ap (λ r. Err r) (told_fault c.in-Err.refusal c.told.result c.told.ensures.stopped failed))
+
+-- an answer, and a refusal that is told, is of what was read
+pub returns-in-Ok-clause-read : goal.returns-in-Ok-clause-read
+returns-in-Ok-clause-read g c job asks = c.in-Ok.ensures.read job asks tt
+
+pub returns-in-Err-clause-read : goal.returns-in-Err-clause-read
+returns-in-Err-clause-read g c job asks =
+    told_judged _ c.in-Err.refusal c.told.result c.told.ensures.told (c.in-Err.ensures.read job asks)

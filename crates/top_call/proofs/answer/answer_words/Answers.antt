@@ -1,12 +1,14 @@
-use Rattle.std.proofs.Common.{inl, inr, map, string_bytes}
+use Rattle.std.proofs.Common.{inl, inr, map, string_bytes, subst}
 use Rattle.std.proofs.lemmas.Result.{IfOk-weaker}
-use Rattle.top_call.specs.Answers.{ComesBy, IsOutcome}
+use Rattle.pop_words.specs.declared.job.Job.{Job}
+use Rattle.top_call.specs.Answers.{ComesBy, IsOutcome, WasReadWhole}
+use Rattle.pop_words.proofs.OneJob.{same_job}
 use Rattle.pop_words.proofs.JobsInRange.{asked_height, asked_grow, asked_root, asked_size, asked_workers}
 use Rattle.top_call.proofs.BatchWords.{counted_keyed}
 use Rattle.top_call.proofs.PauseWords.{stopped_may}
 use Rattle.top_call.proofs.Carrying.{carried, passed_on}
 use Rattle.top_call.proofs.Lifting.{of_words, input_of_job, grid_job}
-use Rattle.top_call.proofs.WordResults.{words_refused, words_bad, words_only, words_no_fault, job_low, job_no_usage, job_past_words}
+use Rattle.top_call.proofs.WordResults.{words_refused, words_bad, words_only, words_judged, words_no_fault, job_low, job_no_usage, job_past_words}
 use Rattle.top_call.proofs.answer.answer_words.Goals as goal
 
 -- the words are no command line
@@ -114,3 +116,16 @@ new-crew-requires-clause-few g c κs lives =
 pub answer_job-requires-clause-keyed : goal.answer_job-requires-clause-keyed
 answer_job-requires-clause-keyed g c κs lives count is =
     counted_keyed (map string_bytes c.args.words.now) c.in_ok-job.job c.in_ok-job.ensures.job count is
+
+-- the job that words ask for is the one that was read
+pub returns-in_err-job-clause-read : goal.returns-in_err-job-clause-read
+returns-in_err-job-clause-read g c job asks judged =
+    words_judged _ (map string_bytes c.args.words.now) job c.in_err-job.field-0.0 c.from_residual.result
+    (passed_on c.from_residual.result _ c.from_residual.ensures.1) c.in_err-job.ensures.fault asks judged
+
+pub returns-clause-read : goal.returns-clause-read
+returns-clause-read g c job asks judged =
+    subst (λ (j : Job). WasReadWhole j.pops j.command (g.S.Source.left c.args.source.now)
+    (g.S.Source.left c.answer_job.new.source))
+    (same_job (map string_bytes c.args.words.now) c.in_ok-job.job job c.in_ok-job.ensures.job asks)
+    (c.answer_job.ensures.read judged)

@@ -12,3 +12,7 @@ returns-clause-whole g c =
     whole_end (g.S.Source.left c.args.source.now) (g.S.Source.left c.read_whole.new.source) c.in_ok-input.input.items
     c.deref.result.now c.judge_and_stop.result c.in_ok-input.ensures.whole c.deref.ensures.value
     c.judge_and_stop.ensures.short
+
+-- the source was read whole before
+pub returns-clause-read : goal.returns-clause-read
+returns-clause-read g c judged = (c.in_ok-input.input.items, c.in_ok-input.ensures.whole)

@@ -1,7 +1,15 @@
+use Rattle.top_call.proofs.ReplayedCerts.{resume_refused, same_fault}
 use Rattle.top_call.proofs.ResumedCerts.{resume_result, resume_status}
 use Rattle.top_call.proofs.resuming.resume.Goals as goal
 
--- the run that goes on is that of the certificate that was read
+-- the text is refused
+pub returns-in_err-accepted-clause-answer : goal.returns-in_err-accepted-clause-answer
+returns-in_err-accepted-clause-answer g c text known failed =
+    resume_refused _ text c.from_residual.result c.in_err-accepted.field-0.0 c.from_residual.ensures.1
+    (c.in_err-accepted.ensures.refused text known
+    (λ is. failed (same_fault c.from_residual.result c.in_err-accepted.field-0.0 c.from_residual.ensures.1 is)))
+
+-- or the run that goes on is that of the certificate that was read
 pub returns-clause-answer : goal.returns-clause-answer
 returns-clause-answer g c text known failed =
     resume_result (g.S.Source.left c.args.source.now) (g.S.Source.left c.read_accepted.new.source) text
