@@ -33,10 +33,10 @@ occurs_apart s c e f apart occurs k d h =
     subst (λ n. value_at s p.0 n ≡ p.1) (cursor_apart c e f apart p (Contains-get_or f k d h)) (occurs k d h)
 
 -- a legal log from one vector to another
-record Leads (i : Instance) (c d : List ℕ) : Type 0 where
-  log : List LogRecord
-  legal : IsLegal i c log
-  end : replay c log ≡ d
+pub record Leads (i : Instance) (c d : List ℕ) : Type 0 where
+  pub log : List LogRecord
+  pub legal : IsLegal i c log
+  pub end : replay c log ≡ d
 
 module _ (s : StackTable) (rows : List (ℕ × Cube)) (extremal : IsExtremal (Listed rows)) where
   -- the instance of these events
@@ -101,7 +101,7 @@ module _ (s : StackTable) (rows : List (ℕ × Cube)) (extremal : IsExtremal (Li
       ]
 
   -- rounds are a legal log
-  rounds_lead : (n : ℕ) (c d : List ℕ) → Rounds i n c d → Leads i c d
+  pub rounds_lead : (n : ℕ) (c d : List ℕ) → Rounds i n c d → Leads i c d
   rounds_lead zero c d run = record { log = []; legal = tt; end = run }
   rounds_lead (suc n) c d run =
       let first = round_leads c run.0 run.1 in
