@@ -97,11 +97,11 @@ every_orientation g events heights x are left = record {
 }
 
 -- rows of one entry each
-singles : List ℕ → Rows
+pub singles : List ℕ → Rows
 singles x = map (λ (y : ℕ). y ∷ []) x
 
 -- their first entries are the values
-first_entry : (x : List ℕ) (v : ℕ) → get_or (get_or (singles x) v []) 0 0 ≡ get_or x v 0
+pub first_entry : (x : List ℕ) (v : ℕ) → get_or (get_or (singles x) v []) 0 0 ≡ get_or x v 0
 unfolding singles
 first_entry [] v = refl
 first_entry (y ∷ x) zero = refl

@@ -59,14 +59,14 @@ values_from value n (row ∷ rows) (k ∷ c) size same =
     (λ v j below. ap (λ m. value m j) (omega arith) ∙ same (suc v) j (omega (arith, below))))
 
 -- the values at cursors are the entries of the rows there
-values_are : (weights : List (List ℕ)) (rows : Rows) (c : List ℕ) → length c ≡ length rows
+pub values_are : (weights : List (List ℕ)) (rows : Rows) (c : List ℕ) → length c ≡ length rows
     → values_at (record { origin = GivenRows rows; weights = weights }) c ≡ entries_under rows c
 values_are weights rows c size =
     values_from (λ v k. value_from (GivenRows rows) weights v k) 0 rows c size
     (λ v k below. ap (λ m. get_or (row_of rows m) k 0) (zero-add v))
 
 -- rows of a frame are sound for stacks of its weights, which are light
-sound_rows : (f : Frame) → IsFrame f → (rows : Rows) → AreRows f.weights f.heights rows → AreLight f.weights
+pub sound_rows : (f : Frame) → IsFrame f → (rows : Rows) → AreRows f.weights f.heights rows → AreLight f.weights
     → IsSound (GivenRows rows) f.weights
 sound_rows f frame rows shape light = record {
   rows = record {
@@ -78,12 +78,12 @@ sound_rows f frame rows shape light = record {
 }
 
 -- sound rows are those of a frame of their heights
-rows_framed : (rows : Rows) (weights : List (List ℕ)) → AreSoundRows rows weights
+pub rows_framed : (rows : Rows) (weights : List (List ℕ)) → AreSoundRows rows weights
     → AreRows weights (map length rows) rows
 rows_framed rows weights sound = record { lengths = refl; values = sound.values }
 
 -- each of their heights is above 0
-heights_some : (rows : Rows) (weights : List (List ℕ)) → AreSoundRows rows weights → (k d : ℕ)
+pub heights_some : (rows : Rows) (weights : List (List ℕ)) → AreSoundRows rows weights → (k d : ℕ)
     → k < length (map length rows) → 0 < get_or (map length rows) k d
 heights_some rows weights sound k d within =
     let size : length (map length rows) ≡ length rows = length-map rows (λ (row : List ℕ). length row) in
@@ -94,7 +94,7 @@ heights_some rows weights sound k d within =
     omega (arith, high, at)
 
 -- what is sampled doesn't hang on the rows
-of_rows : (command : Command) (job : Job) (rows : Rows) (text : List ℕ) (s : Subject) → IsSubjectOf command job text s
+pub of_rows : (command : Command) (job : Job) (rows : Rows) (text : List ℕ) (s : Subject) → IsSubjectOf command job text s
     → IsSubjectOf command (over_rows job rows) text s
 of_rows Formula job rows text s h = h
 of_rows Orient job rows text s h = h
@@ -107,7 +107,7 @@ of_rows Replay job rows text s h = absurd h
 of_rows Resume job rows text s h = absurd h
 
 -- what is sampled is of a line
-subject_line : (command : Command) (job : Job) (text : List ℕ) (s : Subject) → IsSubjectOf command job text s
+pub subject_line : (command : Command) (job : Job) (text : List ℕ) (s : Subject) → IsSubjectOf command job text s
     → IsOfLine command
 subject_line Formula job text s h = tt
 subject_line Orient job text s h = tt

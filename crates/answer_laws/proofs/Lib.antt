@@ -57,3 +57,8 @@ mod ListedEvents
 mod SubjectFrames
 mod ExactAnswers
 mod EverySample
+-- So it is of rounds, for every formula. SatisfiedFormulas: the samples of a formula's events are the assignments that
+-- satisfy it. RoundAnswers: another assignment is answered in the place of the printed one. RoundOutputs: what is printed.
+mod SatisfiedFormulas
+mod RoundAnswers
+mod RoundOutputs

@@ -8,3 +8,4 @@ pub mod RoundsLikeFormula
 pub mod Complete
 pub mod ExactAnswers
 pub mod EverySample
+pub mod RoundAnswers

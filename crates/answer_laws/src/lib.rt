@@ -4,10 +4,14 @@
 #![tactic(auto)]
 
 mod laws;
+mod round_laws;
 
 pub use laws::{
     complete, every_sample, exchanged_answers, exhausted_shown, first_sample,
     first_sample_of_words, grown_alike, one_answer, one_logged_answer, one_outcome, paused_exactly,
     reached_answers, resumed_alike, rounds_like_formula, sample_finished, sample_shown,
     stages_agree, workers_agree,
+};
+pub use round_laws::{
+    exchanged_round_answers, reached_round_answers, round_outputs, samples_satisfy,
 };

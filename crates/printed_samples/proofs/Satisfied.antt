@@ -115,7 +115,7 @@ values_occur s c xs k d within =
     subst (λ (p : ℕ × ℕ). value p.0 ≡ p.1) (sym is) refl
 
 -- a clause whose cube occurs: the least such clause numbers an event
-none_occurs : (s : StackTable) (c : List ℕ) (clauses : List (List ℤ)) (events : List (ℕ × Cube)) (e : Cube)
+pub none_occurs : (s : StackTable) (c : List ℕ) (clauses : List (List ℤ)) (events : List (ℕ × Cube)) (e : Cube)
     → AreEventsOf clauses events → IsFinished (instance_over s events) c → Occurs s c e
     → (bound n : ℕ) → n < bound → HasCube clauses n e → ⊥
 none_occurs s c clauses events e are finished occurs zero n less has = absurd (omega (arith, less))

@@ -1,0 +1,5 @@
+use Rattle.answer_laws.proofs.SatisfiedFormulas.{samples_satisfy}
+use Rattle.answer_laws.proofs.round_laws.samples_satisfy.Goals as goal
+
+pub returns : goal.returns
+returns c = samples_satisfy
