@@ -62,3 +62,5 @@ mod EverySample
 mod SatisfiedFormulas
 mod RoundAnswers
 mod RoundOutputs
+-- KeyAnswers: the law of keys, said of answers.
+mod KeyAnswers

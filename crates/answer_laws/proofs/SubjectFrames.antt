@@ -43,7 +43,7 @@ literals_known text f answers =
     (subst (AreLiterals _) (sym is.clauses) (body_literals _ is.others is.words))
 
 -- a graph that was read is one
-graph_known : (text : List ℕ) (g : GraphOf) → AnswersGraph text (Ok g) → IsGraph g
+pub graph_known : (text : List ℕ) (g : GraphOf) → AnswersGraph text (Ok g) → IsGraph g
 graph_known text g answers = subst IsGraph (sym answers.1) (graph.sound text answers.0).graph
 
 -- the arrows to a root to which each vertex is joined

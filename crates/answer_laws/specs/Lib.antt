@@ -9,3 +9,4 @@ pub mod Complete
 pub mod ExactAnswers
 pub mod EverySample
 pub mod RoundAnswers
+pub mod KeyAnswers

@@ -3,9 +3,11 @@
 //! of empty body.
 #![tactic(auto)]
 
+mod key_laws;
 mod laws;
 mod round_laws;
 
+pub use key_laws::{keyed_answers, keyed_round_answers};
 pub use laws::{
     complete, every_sample, exchanged_answers, exhausted_shown, first_sample,
     first_sample_of_words, grown_alike, one_answer, one_logged_answer, one_outcome, paused_exactly,

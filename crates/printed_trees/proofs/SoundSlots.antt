@@ -15,7 +15,7 @@ use Rattle.printed_samples.proofs.SoundValues.{sound_values}
 use Rattle.printed_trees.specs.Laws.{SoundSlots}
 
 -- weights that aren't 0 add up to something
-some_sum : (weights : List ℕ) → 0 < length weights → All (λ w. 0 < w) weights → 0 < sum weights
+pub some_sum : (weights : List ℕ) → 0 < length weights → All (λ w. 0 < w) weights → 0 < sum weights
 some_sum [] some all = absurd (omega arith)
 some_sum (w ∷ weights) some all =
     let first : 0 < w = all 0 0 (omega arith) in omega (arith, sum_by-cons (λ (n : ℕ). n) w weights, first)
