@@ -29,7 +29,7 @@ use Rattle.answer_laws.specs.EverySample.{IsTrueUnder, Satisfies, LeavesEach, Le
 use Rattle.top_call.proofs.MadeInstances.{count_of_weights, slots_of_weights, tree_fits}
 
 -- the row of an event is one of the rows
-row_there : (rows : List (ℕ × Cube)) (e : Event) (is : IsEvent (Listed rows) e) → Contains rows (is.0, e.cube)
+pub row_there : (rows : List (ℕ × Cube)) (e : Event) (is : IsEvent (Listed rows) e) → Contains rows (is.0, e.cube)
 row_there rows e is = (
   e.unit,
   slice_get_within rows e.unit (is.0, e.cube) is.1,

@@ -64,3 +64,9 @@ mod RoundAnswers
 mod RoundOutputs
 -- KeyAnswers: the law of keys, said of answers.
 mod KeyAnswers
+-- Printed samples. PrintedApart: different ones print different lines. SpanningTrees: each spanning tree is printed.
+-- LoopedEdges: loops of a graph that is oriented. PrintedCounts: equally many words print each sample.
+mod PrintedApart
+mod SpanningTrees
+mod LoopedEdges
+mod PrintedCounts

@@ -10,3 +10,5 @@ pub mod ExactAnswers
 pub mod EverySample
 pub mod RoundAnswers
 pub mod KeyAnswers
+pub mod PrintedOnce
+pub mod ExactOutputs

@@ -5,6 +5,7 @@
 
 mod key_laws;
 mod laws;
+mod print_laws;
 mod round_laws;
 
 pub use key_laws::{keyed_answers, keyed_round_answers};
@@ -14,6 +15,7 @@ pub use laws::{
     reached_answers, resumed_alike, rounds_like_formula, sample_finished, sample_shown,
     stages_agree, workers_agree,
 };
+pub use print_laws::{every_spanning_tree, exact_outputs, exact_round_outputs, printed_apart};
 pub use round_laws::{
     exchanged_round_answers, reached_round_answers, round_outputs, samples_satisfy,
 };

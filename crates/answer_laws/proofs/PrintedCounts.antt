@@ -1,0 +1,704 @@
+-- The exact law on printed bytes. What is printed tells the sample, but at loops of a graph that is oriented; so words that
+-- print it are answered by one like it. The exchange of another, with the values of loops carried along, makes rows of
+-- which the words print that one, and goes back. Rounds are counted by the law of rounds.
+use Rattle.std.proofs.Common.{inl, inr, ◌≡◌, ℕ, ◌<◌, ◌^◌, true, List, [], ◌∷◌, ◌++◌, ◌*◌, length, map, get_or, slice_index, codes, refl, sym, ap, subst, ◌∙◌, arith, append_assoc, All, None}
+use Rattle.std.proofs.lemmas.List.{append_cancel_left, length-replicate, get_or_default}
+use Rattle.std.proofs.lemmas.List.Elements.{Contains-get_or}
+use Rattle.std.proofs.lemmas.Option.{none-some}
+use Rattle.pop_model.specs.Stacks.{row_of}
+use Rattle.pop_model.specs.Stacks.Origin.{Given as GivenRows}
+use Rattle.pop_model.specs.Popping.{Cube, cursor, values_at}
+use Rattle.pop_model.specs.Families.{Event, Family}
+use Rattle.pop_model.specs.Families.Family.{Listed, Cycles}
+use Rattle.pop_model.specs.Instances.{Instance}
+use Rattle.pop_model.specs.Runs.{IsFirstEnd}
+use Rattle.pop_model.specs.Text.{line}
+use Rattle.pop_model.proofs.Diamond.{names_it}
+use Rattle.pop_model.proofs.ValuesLemmas.{length-values_at, value-values_at}
+use Rattle.pop_samples.specs.Frames.{AreRows, Frame, IsFrame, IsSampleOf, Rows, over, stacks_of}
+use Rattle.pop_samples.specs.Exchange.{SamplesAt, entries_under, exchange}
+use Rattle.pop_samples.specs.Weights.{sample_weight, weight_of}
+use Rattle.pop_samples.specs.ExactLaws.{Exchanges}
+use Rattle.pop_samples.proofs.Conses.{same_kind}
+use Rattle.pop_samples.proofs.ExactCounts.{Swaps, one_place}
+use Rattle.pop_samples.proofs.Matching.{Alike, Matches, alike}
+use Rattle.pop_samples.proofs.ExchangedSamples.{exchange_leaves}
+use Rattle.pop_samples.proofs.Finishing.{first_finishes_by}
+use Rattle.pop_samples.proofs.FrameRows.{SuitsEnd, rows_count, suits_end}
+use Rattle.pop_samples.proofs.MovedLogs.{known_variable}
+use Rattle.prs_rounds.specs.Rounds.{IsRoundsEnd}
+use Rattle.round_samples.specs.Sampled.{Sampled, SampledBy}
+use Rattle.round_samples.proofs.ExactCounts.{exact_rounds}
+use Rattle.round_samples.proofs.ExchangedRounds.{rounds_suit}
+use Rattle.graph_read.specs.declared.edge.Edge.{Edge}
+use Rattle.graph_read.specs.Graphs.{GraphOf}
+use Rattle.graph_read.specs.Incidence.{is_loop}
+use Rattle.cycle_popping.specs.Trees.{heads_of_tree, weights_of_tree}
+use Rattle.sink_popping.specs.Sinks.{AreSinksOf}
+use Rattle.dimacs_read.specs.Cnf.{Cnf, first_empty}
+use Rattle.dimacs_read.specs.CnfText.{cnf_of, cnf_refusal}
+use Rattle.dimacs_read.specs.Falsifying.{AreEventsOf}
+use Rattle.dimacs_read.proofs.GrammarLaw as cnf
+use Rattle.pop_words.specs.declared.command.Command.{Command}
+use Rattle.pop_words.specs.declared.command.Command.TheVariants.{Formula, Orient, Tree, Resample, Check, Make, Rounds, Replay, Resume}
+use Rattle.pop_words.specs.declared.job.Job.{Job}
+use Rattle.pop_words.proofs.GivenAlone.{asked_alone}
+use Rattle.pop_words.proofs.OneJob.{same_job}
+use Rattle.pop_watch.specs.Telling.{Watcher}
+use Rattle.pop_print.specs.declared.facts.Facts.{Facts}
+use Rattle.pop_print.specs.declared.facts.Facts.TheVariants.{Formula as FormulaFacts, Orient as OrientFacts, Tree as TreeFacts, Made as MadeFacts}
+use Rattle.pop_print.specs.Output.{assignment_line, pops_line, sample_lines, tree_lines, used_line}
+use Rattle.pop_print.specs.Rounds.{rounds_line}
+use Rattle.top_call.specs.Names.{names_for}
+use Rattle.top_call.specs.Outcomes.{Outcome, end_status, run_text, status_of, text_of}
+use Rattle.top_call.specs.Outcomes.Outcome.{Ended}
+use Rattle.top_call.specs.Tellings.{Telling, telling_text}
+use Rattle.top_call.specs.Sampling.{pair_weights, instance_of}
+use Rattle.top_call.specs.Answers.{ComesBy, ComesOf, ComesOfCommand, ComesOfJob, IsOutcome}
+use Rattle.top_call.specs.Subjects.{Subject, assignments, arrows_to, instance_over, orientations, IsSubjectOf}
+use Rattle.answer_laws.specs.ExactAnswers.{IsSampledBy, frame_of, frame_over, over_rows}
+use Rattle.answer_laws.specs.EverySample.{Satisfies}
+use Rattle.answer_laws.specs.PrintedOnce.{AreBits, AreSlots}
+use Rattle.answer_laws.specs.RoundAnswers.{IsRoundedBy, IsRoundedOutput, rounded_text}
+use Rattle.answer_laws.specs.ExactOutputs.{AreTelling, AskOver, ExactOutputs, ExactRoundOutputs, PrintsOver}
+use Rattle.top_call.proofs.ByCommand.{of_line}
+use Rattle.answer_laws.proofs.EndedSubjects.{IsEndOfSubject, batched_subject, ended_subject}
+use Rattle.answer_laws.proofs.EverySample.{every_assignment}
+use Rattle.answer_laws.proofs.ExactAnswers.{exchanged_answers, of_rows, sound_rows, subject_line, values_are}
+use Rattle.answer_laws.proofs.KeyAnswers.{is_quiet, low_cases}
+use Rattle.top_call.proofs.MadeInstances.{count_of_weights, slots_of_weights}
+use Rattle.answer_laws.proofs.LoopedEdges.{DifferAtLoops, bits_weigh, carried, carried_alike, carried_back, carried_sample, same_lines}
+use Rattle.answer_laws.proofs.OneFormula.{one_events}
+use Rattle.answer_laws.proofs.OneOrientation.{one_sinks}
+use Rattle.answer_laws.proofs.OneOutcome.{word_cases}
+use Rattle.answer_laws.proofs.PrintedApart.{assignments_apart, orientations_apart, trees_apart}
+use Rattle.answer_laws.proofs.RoundAnswers.{IsRounded, answered_by, comes_of_job, formula_frame, pairs_light}
+use Rattle.answer_laws.proofs.RoundOutputs.{round_outputs}
+use Rattle.answer_laws.proofs.RowWords.{rows_line}
+use Rattle.answer_laws.proofs.SatisfiedFormulas.{sample_bits}
+use Rattle.answer_laws.proofs.SubjectFrames.{IsSampled, graph_known, subject_frame, subject_sampled}
+
+-- ---- samples at ends
+
+-- rows finish with a sample
+sample_at : (f : Frame) → IsFrame f → (w c : List ℕ) (rows : Rows) → SamplesAt f w c rows → IsSampleOf f w
+sample_at f frame w c rows s =
+    let suit : SuitsEnd f rows c = suits_end f frame rows s.shape c s.finishes in
+    let count : length rows ≡ length f.weights = rows_count f frame rows s.shape in
+    let size = suit.size in
+    let long = length-values_at (stacks_of f rows) c in
+    let at : (v : ℕ) → v < length c → get_or (values_at (stacks_of f rows) c) v 0 ≡ get_or (row_of rows v) (cursor c v) 0 =
+    λ v below. value-values_at (stacks_of f rows) c v below in
+    subst (IsSampleOf f) (values_are f.weights rows c size ∙ s.entries) (record {
+      count = omega (arith, long, size, count);
+      values = λ v below.
+          let inside : v < length rows = omega (arith, below, long, size) in
+          let is = at v (omega (arith, below, long)) in
+          let value = s.shape.values v (cursor c v) inside (suit.within v inside) in
+          omega (arith, is, value);
+      sample = λ e is all. s.finishes.1.finished e is (λ k d within.
+          let p : ℕ × ℕ = get_or e.cube k d in
+          let known = known_variable (stacks_of f []) f.family frame.fits e is p.0
+          (names_it e.cube p (Contains-get_or e.cube k d within)) in
+          sym (at p.0 (omega (arith, known, size, count))) ∙ all k d within);
+    })
+
+-- ---- one subject
+
+-- a job and a text ask for one subject
+one_subject : (command : Command) (job : Job) (text : List ℕ) (s t : Subject) → IsSubjectOf command job text s
+    → IsSubjectOf command job text t → s ≡ t
+one_subject Formula job text s t a b =
+    let same = a.spelled.1 ∙ sym b.spelled.1 in
+    let events = one_events b.formula.clauses a.events b.events
+    (subst (λ (f : Cnf). AreEventsOf f.clauses a.events) same a.of_formula) b.of_formula in
+    a.is ∙ ap (λ f. assignments f a.events) same ∙ ap (assignments b.formula) events ∙ sym b.is
+one_subject Orient job text s t a b =
+    let same = a.spelled.1 ∙ sym b.spelled.1 in
+    let events = one_sinks b.graph a.events b.events (subst (λ (g : GraphOf). AreSinksOf g a.events) same a.of_graph) b.of_graph in
+    a.is ∙ ap (λ g. orientations g a.events) same ∙ ap (orientations b.graph) events ∙ sym b.is
+one_subject Tree job text s t a b =
+    let same = a.spelled.1 ∙ sym b.spelled.1 in
+    a.is ∙ ap (λ g. arrows_to (TreeFacts g job.root) g job.root) same ∙ sym b.is
+one_subject Make job text s t a b = a.is ∙ sym b.is
+one_subject Resample job text s t a b = absurd a
+one_subject Rounds job text s t a b = absurd a
+one_subject Check job text s t a b = absurd a
+one_subject Replay job text s t a b = absurd a
+one_subject Resume job text s t a b = absurd a
+
+-- ---- different samples print different lines
+
+-- the values of a sample of pairs
+pair_values : (n : ℕ) (events : List (ℕ × Cube)) (facts : Facts) (heights x : List ℕ)
+    → IsSampleOf (frame_over (record { facts = facts; weights = pair_weights n; family = Listed events }) heights) x
+    → AreBits n x
+pair_values n events facts heights x is =
+    let size : length x ≡ n = is.count ∙ length-replicate {A = List ℕ} n (1 ∷ 1 ∷ []) in
+    record {
+      count_is = size;
+      bits = λ v d below.
+          let bit : slice_index x v < 2 = sample_bits n x size is.values v (omega (arith, below, size)) in
+          subst (λ (k : ℕ). k < 2) (get_or_default x v 0 d below) bit;
+    }
+
+-- a formula of a text has few variables
+few_variables : (text : List ℕ) → cnf_refusal text ≡ None → (cnf_of text).variables < 2 ^ 32
+few_variables text none = let fit = (cnf.sound text none).variables_fit in omega (arith, fit)
+
+-- samples that print the same lines: they are the same, but at loops of a graph that is oriented
+abbrev IsLike : Facts → List ℕ → List ℕ → Type 0
+IsLike (FormulaFacts n) x y = x ≡ y
+IsLike (OrientFacts g) x y = DifferAtLoops g.edges x y
+IsLike (TreeFacts g root) x y = x ≡ y
+IsLike (MadeFacts side) x y = x ≡ y
+
+-- so they do
+like_lines : (facts : Facts) (x y : List ℕ) → IsLike facts x y → sample_lines facts x ≡ sample_lines facts y
+like_lines (FormulaFacts n) x y same = ap assignment_line same
+like_lines (OrientFacts g) x y same = same_lines g x y same
+like_lines (TreeFacts g root) x y same = ap (tree_lines g root) same
+like_lines (MadeFacts side) x y same = refl
+
+-- slots of a graph's trees
+slots_of : (g : GraphOf) (root : ℕ) (heights x : List ℕ)
+    → IsSampleOf (frame_over (arrows_to (TreeFacts g root) g root) heights) x → AreSlots g root x
+slots_of g root heights x is =
+    let count = is.count in
+    let weights = count_of_weights g root in
+    record {
+      count = omega (arith, count, weights);
+      places = λ v below.
+          let value = is.values v below in
+          let slots = slots_of_weights g root v (omega (arith, below, count, weights)) in
+          omega (arith, value, slots);
+    }
+
+-- two samples of a subject, and the lines of them that begin one text
+abbrev BeginOneText : List ℕ → List ℕ → List ℕ → List ℕ → List ℕ → Subject → Type 0
+BeginOneText heights x y more other t =
+    IsSampleOf (frame_over t heights) x × IsSampleOf (frame_over t heights) y
+    × (sample_lines t.facts x ++ more ≡ sample_lines t.facts y ++ other)
+
+-- what a subject's samples print tells them
+lines_tell : (command : Command) (job : Job) (text : List ℕ) (s : Subject) → IsSubjectOf command job text s
+    → AreTelling s.facts → (heights x y more other : List ℕ) → BeginOneText heights x y more other s → IsLike s.facts x y
+lines_tell Formula job text s is tells heights x y more other both =
+    let spelled = is.spelled in
+    let own : BeginOneText heights x y more other (assignments is.formula is.events) =
+    subst (BeginOneText heights x y more other) is.is both in
+    let few : is.formula.variables < 2 ^ 32 =
+    subst (λ (f : Cnf). f.variables < 2 ^ 32) (sym spelled.1) (few_variables text spelled.0) in
+    subst (λ (t : Subject). IsLike t.facts x y) (sym is.is)
+    (assignments_apart is.formula.variables x y more other few
+    (pair_values is.formula.variables is.events (FormulaFacts is.formula.variables) heights x own.0)
+    (pair_values is.formula.variables is.events (FormulaFacts is.formula.variables) heights y own.1) own.2)
+lines_tell Orient job text s is tells heights x y more other both =
+    let g : GraphOf = is.graph in
+    let own : BeginOneText heights x y more other (orientations g is.events) =
+    subst (BeginOneText heights x y more other) is.is both in
+    let bits = pair_values (length g.edges) is.events (OrientFacts g) heights x own.0 in
+    let bits' = pair_values (length g.edges) is.events (OrientFacts g) heights y own.1 in
+    let none : Edge = record { u = 0; v = 0; weight = 0 } in
+    let like : DifferAtLoops g.edges x y = λ j d less plain.
+    let at : get_or g.edges j none ≡ get_or g.edges j d = get_or_default g.edges j none d less in
+    orientations_apart g x y more other (graph_known text g is.spelled) bits bits' own.2 j less (ap is_loop at ∙ plain) in
+    subst (λ (t : Subject). IsLike t.facts x y) (sym is.is) like
+lines_tell Tree job text s is tells heights x y more other both =
+    let g : GraphOf = is.graph in
+    let root : ℕ = job.root in
+    let own : BeginOneText heights x y more other (arrows_to (TreeFacts g root) g root) =
+    subst (BeginOneText heights x y more other) is.is both in
+    subst (λ (t : Subject). IsLike t.facts x y) (sym is.is)
+    (trees_apart g root x y more other (graph_known text g is.spelled) is.root_is
+    (slots_of g root heights x own.0) (slots_of g root heights y own.1) own.2)
+lines_tell Make job text s is tells heights x y more other both =
+    absurd (subst (λ (t : Subject). AreTelling t.facts) is.is tells)
+lines_tell Resample job text s is tells heights x y more other both = absurd is
+lines_tell Rounds job text s is tells heights x y more other both = absurd is
+lines_tell Check job text s is tells heights x y more other both = absurd is
+lines_tell Replay job text s is tells heights x y more other both = absurd is
+lines_tell Resume job text s is tells heights x y more other both = absurd is
+
+-- ---- another sample, with the values of loops carried along
+
+-- the sample that stands for x where u stands for w
+abbrev carry : Facts → List ℕ → List ℕ → List ℕ
+carry (FormulaFacts n) u x = x
+carry (OrientFacts g) u x = carried g.edges u x
+carry (TreeFacts g root) u x = x
+carry (MadeFacts side) u x = x
+
+-- what is known of it for samples like w
+record Carries (s : Subject) (heights w x : List ℕ) : Type 0 where
+  made : (u : List ℕ) → IsSampleOf (frame_over s heights) u → IsLike s.facts u w
+      → IsSampleOf (frame_over s heights) (carry s.facts u x)
+  like : (u : List ℕ) → IsSampleOf (frame_over s heights) u → IsLike s.facts u w → IsLike s.facts (carry s.facts u x) x
+  back : (u : List ℕ) → IsSampleOf (frame_over s heights) u → IsLike s.facts u w
+      → carry s.facts (carry s.facts u x) w ≡ u
+  weight : (u : List ℕ) → IsSampleOf (frame_over s heights) u → IsLike s.facts u w → (a b : ℕ)
+      → a * sample_weight s.weights u ≡ b * sample_weight s.weights (carry s.facts u x)
+      → b * sample_weight s.weights x ≡ a * sample_weight s.weights w
+
+-- where a subject's samples are like themselves alone
+plain_formula : (n : ℕ) (weights : List (List ℕ)) (family : Family) (heights w x : List ℕ)
+    → IsSampleOf (frame_over (record { facts = FormulaFacts n; weights = weights; family = family }) heights) x
+    → Carries (record { facts = FormulaFacts n; weights = weights; family = family }) heights w x
+plain_formula n weights family heights w x is_x = record {
+  made = λ u is same. is_x;
+  like = λ u is same. refl;
+  back = λ u is same. sym same;
+  weight = λ u is same a b e. sym e ∙ ap (λ (v : List ℕ). a * sample_weight weights v) same;
+}
+
+plain_tree : (g : GraphOf) (root : ℕ) (weights : List (List ℕ)) (family : Family) (heights w x : List ℕ)
+    → IsSampleOf (frame_over (record { facts = TreeFacts g root; weights = weights; family = family }) heights) x
+    → Carries (record { facts = TreeFacts g root; weights = weights; family = family }) heights w x
+plain_tree g root weights family heights w x is_x = record {
+  made = λ u is same. is_x;
+  like = λ u is same. refl;
+  back = λ u is same. sym same;
+  weight = λ u is same a b e. sym e ∙ ap (λ (v : List ℕ). a * sample_weight weights v) same;
+}
+
+-- orientations carry the values of loops, and weigh 1
+oriented_carries : (g : GraphOf) (events : List (ℕ × Cube)) (heights w x : List ℕ) → AreSinksOf g events
+    → IsSampleOf (frame_over (orientations g events) heights) w
+    → IsSampleOf (frame_over (orientations g events) heights) x → Carries (orientations g events) heights w x
+oriented_carries g events heights w x are is_w is_x =
+    let n : ℕ = length g.edges in
+    let Of : List ℕ → Type 0 = IsSampleOf (frame_over (orientations g events) heights) in
+    let bits : (u : List ℕ) → Of u → AreBits n u = λ u is. pair_values n events (OrientFacts g) heights u is in
+    let one : (u : List ℕ) → Of u → sample_weight (pair_weights n) u ≡ 1 =
+    λ u is. bits_weigh n u (bits u is).count_is (bits u is).bits in
+    let made : (u : List ℕ) → Of u → Of (carried g.edges u x) =
+    λ u is. carried_sample g events heights u x are (bits u is) (bits x is_x) is_x in
+    record {
+      made = λ u is same. made u is;
+      like = λ u is same. carried_alike g.edges u x (bits u is).count_is (bits x is_x).count_is;
+      back = λ u is same.
+          carried_back g.edges u w x (bits u is).count_is (bits w is_w).count_is (bits x is_x).count_is same;
+      weight = λ u is same a b e.
+          ap (λ (k : ℕ). b * k) (one x is_x ∙ sym (one (carried g.edges u x) (made u is))) ∙ sym e
+          ∙ ap (λ (k : ℕ). a * k) (one u is ∙ sym (one w is_w));
+    }
+
+-- so it is of each subject whose lines are printed
+carries : (command : Command) (job : Job) (text : List ℕ) (s : Subject) → IsSubjectOf command job text s
+    → AreTelling s.facts → (heights w x : List ℕ) → IsSampleOf (frame_over s heights) w
+    → IsSampleOf (frame_over s heights) x → Carries s heights w x
+carries Formula job text s is tells heights w x is_w is_x =
+    subst (λ (t : Subject). Carries t heights w x) (sym is.is)
+    (plain_formula is.formula.variables (pair_weights is.formula.variables) (Listed is.events) heights w x
+    (subst (λ (t : Subject). IsSampleOf (frame_over t heights) x) is.is is_x))
+carries Orient job text s is tells heights w x is_w is_x =
+    subst (λ (t : Subject). Carries t heights w x) (sym is.is)
+    (oriented_carries is.graph is.events heights w x is.of_graph
+    (subst (λ (t : Subject). IsSampleOf (frame_over t heights) w) is.is is_w)
+    (subst (λ (t : Subject). IsSampleOf (frame_over t heights) x) is.is is_x))
+carries Tree job text s is tells heights w x is_w is_x =
+    subst (λ (t : Subject). Carries t heights w x) (sym is.is)
+    (plain_tree is.graph job.root (weights_of_tree is.graph job.root) (Cycles (heads_of_tree is.graph job.root)) heights w x
+    (subst (λ (t : Subject). IsSampleOf (frame_over t heights) x) is.is is_x))
+carries Make job text s is tells heights w x is_w is_x =
+    absurd (subst (λ (t : Subject). AreTelling t.facts) is.is tells)
+carries Resample job text s is tells heights w x is_w is_x = absurd is
+carries Rounds job text s is tells heights w x is_w is_x = absurd is
+carries Check job text s is tells heights w x is_w is_x = absurd is
+carries Replay job text s is tells heights w x is_w is_x = absurd is
+carries Resume job text s is tells heights w x is_w is_x = absurd is
+
+-- ---- what the text of an end begins with
+
+-- a sample, the cursors, the pops, and what is told behind these
+behind : (a u p t : List ℕ) → ((a ++ u) ++ p) ++ t ≡ a ++ (u ++ (p ++ t))
+behind a u p t = append_assoc (a ++ u) p t ∙ append_assoc a u (p ++ t)
+
+-- the text of a sample begins with its lines
+begins_so : (facts : Facts) (i : Instance) (c : List ℕ) (pops : ℕ) (a : Telling) → AreTelling facts
+    → (more : List ℕ) × (run_text facts i c pops [] a
+    ≡ (line (codes "s SAMPLE") ++ sample_lines facts (values_at i.stacks c)) ++ more)
+begins_so (FormulaFacts n) i c pops a tells = (
+  used_line c ++ (pops_line pops ++ telling_text (names_for (FormulaFacts n)) i a),
+  behind (line (codes "s SAMPLE") ++ assignment_line (values_at i.stacks c)) (used_line c) (pops_line pops)
+      (telling_text (names_for (FormulaFacts n)) i a),
+)
+begins_so (OrientFacts g) i c pops a tells = (
+  used_line c ++ (pops_line pops ++ telling_text (names_for (OrientFacts g)) i a),
+  behind (line (codes "s SAMPLE") ++ sample_lines (OrientFacts g) (values_at i.stacks c)) (used_line c) (pops_line pops)
+      (telling_text (names_for (OrientFacts g)) i a),
+)
+begins_so (TreeFacts g root) i c pops a tells = (
+  used_line c ++ (pops_line pops ++ telling_text (names_for (TreeFacts g root)) i a),
+  behind (line (codes "s SAMPLE") ++ sample_lines (TreeFacts g root) (values_at i.stacks c)) (used_line c)
+      (pops_line pops) (telling_text (names_for (TreeFacts g root)) i a),
+)
+begins_so (MadeFacts side) i c pops a tells = absurd tells
+
+-- the command of a subject pops, and tells no log unasked
+subject_quiet : (command : Command) (job : Job) (text : List ℕ) (s : Subject) → IsSubjectOf command job text s
+    → is_quiet command ≡ true
+subject_quiet Formula job text s is = refl
+subject_quiet Orient job text s is = refl
+subject_quiet Tree job text s is = refl
+subject_quiet Make job text s is = refl
+subject_quiet Resample job text s is = absurd is
+subject_quiet Rounds job text s is = absurd is
+subject_quiet Check job text s is = absurd is
+subject_quiet Replay job text s is = absurd is
+subject_quiet Resume job text s is = absurd is
+
+-- an end with status 0 has no stuck event
+none_left : (stuck : List Event) → end_status stuck ≡ 0 → stuck ≡ []
+none_left [] zero = refl
+none_left (e ∷ stuck) zero = absurd (omega (arith, zero))
+
+module _ (job : Job) (text : List ℕ) (s : Subject) (is : IsSubjectOf job.command job text s) (tells : AreTelling s.facts)
+    (heights : List ℕ) (count : length heights ≡ length s.weights) (some : All (λ h. 0 < h) heights)
+    (words : Rows → List (List ℕ)) (ws : List Watcher) (ask : AskOver job s.weights heights words) where
+  -- the frame of these heights
+  abbrev f : Frame
+  f = frame_over s heights
+
+  -- it is extremal
+  sampled : IsSampled s
+  sampled = subject_sampled job.command job text s is
+
+  -- and a frame
+  frame : IsFrame f
+  frame = subject_frame s sampled heights count some
+
+  -- rows whose words are answered by this sample, at these cursors
+  abbrev Answered : List ℕ → List ℕ → Rows → Type 0
+  Answered w c rows =
+      AreRows s.weights heights rows
+      × ((pops : ℕ) × (a : Telling) × IsSampledBy (words rows) ws text s.facts w c pops a)
+
+  -- the instance is that of rows, and its one-thread run ends so
+  abbrev EndsRows : Rows → Instance → List ℕ → ℕ → List Event → Type 0
+  EndsRows rows i c pops stuck = (i ≡ over f rows) × IsFirstEnd (over f rows) c pops stuck
+
+  -- an end that comes of them is that of the rows
+  end_of_rows : (rows : Rows) → AreRows s.weights heights rows → (facts : Facts) (i : Instance) (c : List ℕ) (pops : ℕ)
+      (stuck : List Event) (a : Telling)
+      → ComesOfCommand job.command (over_rows job rows) ws text (Ended facts i c pops stuck a)
+      → (facts ≡ s.facts) × EndsRows rows i c pops stuck
+  end_of_rows rows shape facts i c pops stuck a comes =
+      let mine : Job = over_rows job rows in
+      let of : IsEndOfSubject job.command mine ws text facts i c pops stuck a =
+      ended_subject (words rows) mine (ask rows shape) job.command refl ws text facts i c pops stuck a comes in
+      let same : of.subject ≡ s =
+      one_subject job.command mine text of.subject s of.is (of_rows job.command job rows text s is) in (
+        of.facts_are ∙ ap (λ (t : Subject). t.facts) same,
+        (
+          of.instance_is ∙ ap (instance_over (GivenRows rows)) same,
+          subst (λ (t : Subject). IsFirstEnd (instance_over (GivenRows rows) t) c pops stuck) same of.end,
+        ),
+      )
+
+  -- what words over rows are answered by comes of the job's line
+  comes_of_rows : (rows : Rows) → AreRows s.weights heights rows → (o : Outcome) → ComesOfJob (words rows) ws text o
+      → ComesOf (over_rows job rows) ws text o
+  comes_of_rows rows shape o came =
+      let mine : Job = over_rows job rows in
+      let same : came.job ≡ mine = same_job (words rows) came.job mine came.asks (ask rows shape) in
+      of_line job.command mine ws text o (subject_line job.command job text s is)
+      (subst (λ (j : Job). ComesBy j.command j ws text o) same came.comes)
+
+  -- rows that are answered so finish with the sample
+  samples_there : (w c : List ℕ) (rows : Rows) → Answered w c rows → SamplesAt f w c rows
+  samples_there w c rows (shape, (pops, a, by)) =
+      let known = end_of_rows rows shape s.facts by.instance c pops [] a
+      (comes_of_rows rows shape (Ended s.facts by.instance c pops [] a) by.outcome) in
+      let there : by.instance ≡ over f rows = known.1.0 in
+      let end : IsFirstEnd (over f rows) c pops [] = known.1.1 in
+      let log = first_finishes_by (over f rows) c pops end in
+      let size : length c ≡ length rows = (suits_end f frame rows shape c (end.run.0, log)).size in
+      record {
+        shape = shape;
+        finishes = (end.run.0, log);
+        entries = sym (values_are s.weights rows c size)
+            ∙ ap (λ (i : Instance). values_at i.stacks c) (sym there) ∙ by.sample;
+      }
+
+  -- another sample may be exchanged for theirs
+  swap : (w x : List ℕ) → IsSampleOf f x → (c : List ℕ) (rows : Rows) → Answered w c rows
+      → Swaps f (Answered x) w x c rows
+  swap w x is_x c rows (shape, (pops, a, by)) =
+      let at : SamplesAt f w c rows = samples_there w c rows (shape, (pops, a, by)) in
+      let to : Exchanges f w x c rows = exchange_leaves f frame w x c rows at is_x in
+      let known = end_of_rows rows shape s.facts by.instance c pops [] a
+      (comes_of_rows rows shape (Ended s.facts by.instance c pops [] a) by.outcome) in
+      let own : IsSampleOf (frame_of (over f rows) (map length rows)) x =
+      record { count = is_x.count; values = is_x.values; sample = is_x.sample } in
+      let new : Rows = exchange rows c x in
+      let there = exchanged_answers job rows (words rows) (words new) ws text s.facts by.instance c pops a x (ask rows shape)
+      (ask new to.samples.shape) by.outcome
+      (subst (λ (i : Instance). IsSampleOf (frame_of i (map length rows)) x) (sym known.1.0) own) in
+      record { there = (to.samples.shape, (pops, a, there)); back = to.back; weight = to.weight }
+
+  -- rows are answered at one place, by one sample
+  one_end : (u v c d : List ℕ) (rows : Rows) → Answered u c rows → Answered v d rows → (c ≡ d) × (u ≡ v)
+  one_end u v c d rows a b =
+      let at = samples_there u c rows a in
+      let at' = samples_there v d rows b in
+      let place : c ≡ d = one_place (over f rows) sampled.extremal c d at.finishes at'.finishes in
+      (place, sym at.entries ∙ ap (entries_under rows) place ∙ at'.entries)
+
+  -- rows whose words print the lines of a sample: they are answered by one like it
+  abbrev Found : List ℕ → Rows → Type 0
+  Found w rows =
+      (c : List ℕ) × (u : List ℕ) × IsSampleOf f u × IsLike s.facts u w × Answered u c rows
+
+  -- words that are answered so print it
+  to_prints : (w : List ℕ) (rows : Rows) → Found w rows → PrintsOver s.weights heights words ws text s.facts w rows
+  to_prints w rows (c, u, is_u, like, (shape, (pops, a, by))) =
+      let front = begins_so s.facts by.instance c pops a tells in
+      let head : List ℕ = line (codes "s SAMPLE") in
+      record {
+        shape = shape;
+        prints = record {
+          out = run_text s.facts by.instance c pops [] a;
+          more = front.0;
+          answer = (
+            Ended s.facts by.instance c pops [] a,
+            by.outcome,
+            record { status_is = refl; out_is = refl },
+          );
+          out_is = front.1 ∙ ap (λ (v : List ℕ). (head ++ sample_lines s.facts v) ++ front.0) by.sample
+              ∙ ap (λ (l : List ℕ). (head ++ l) ++ front.0) (like_lines s.facts u w like);
+        };
+      }
+
+  -- an end with this output is answered so
+  from_end : (w : List ℕ) (rows : Rows) → IsSampleOf f w → AreRows s.weights heights rows → (out more : List ℕ)
+      → out ≡ (line (codes "s SAMPLE") ++ sample_lines s.facts w) ++ more
+      → (facts : Facts) (i : Instance) (c : List ℕ) (pops : ℕ) (stuck : List Event) (a : Telling)
+      → IsOutcome (words rows) ws text (Ended facts i c pops stuck a)
+      → ComesOfCommand job.command (over_rows job rows) ws text (Ended facts i c pops stuck a)
+      → end_status stuck ≡ 0 → out ≡ run_text facts i c pops stuck a → Found w rows
+  from_end w rows is_w shape out more out_is facts i c pops stuck a outcome comes zero text_is =
+      let none : stuck ≡ [] = none_left stuck zero in
+      let known = end_of_rows rows shape facts i c pops stuck a comes in
+      let named : facts ≡ s.facts = known.0 in
+      let told : Ended facts i c pops stuck a ≡ Ended s.facts i c pops [] a =
+      ap (λ (t : Facts). Ended t i c pops stuck a) named ∙ ap (λ (l : List Event). Ended s.facts i c pops l a) none in
+      let outcome' = subst (IsOutcome (words rows) ws text) told outcome in
+      let v : List ℕ = values_at i.stacks c in
+      let mine : Answered v c rows =
+      (shape, (pops, a, record { instance = i; outcome = outcome'; sample = refl })) in
+      let is_v : IsSampleOf f v = sample_at f frame v c rows (samples_there v c rows mine) in
+      let front = begins_so s.facts i c pops a tells in
+      let head : List ℕ = line (codes "s SAMPLE") in
+      let whole : (head ++ sample_lines s.facts v) ++ front.0 ≡ (head ++ sample_lines s.facts w) ++ more =
+      sym front.1 ∙ sym (ap text_of told) ∙ sym text_is ∙ out_is in
+      let lines : sample_lines s.facts v ++ front.0 ≡ sample_lines s.facts w ++ more =
+      append_cancel_left head (sample_lines s.facts v ++ front.0) (sample_lines s.facts w ++ more)
+      (sym (append_assoc head (sample_lines s.facts v) front.0) ∙ whole
+      ∙ append_assoc head (sample_lines s.facts w) more) in
+      let like : IsLike s.facts v w =
+      lines_tell job.command job text s is tells heights v w front.0 more (is_v, is_w, lines) in
+      (c, v, is_v, like, mine)
+
+  -- so are words that print it
+  from_prints : (w : List ℕ) (rows : Rows) → IsSampleOf f w → PrintsOver s.weights heights words ws text s.facts w rows
+      → Found w rows
+  from_prints w rows is_w p =
+      let o : Outcome = p.prints.answer.0 in
+      let outcome = p.prints.answer.1 in
+      let tell = p.prints.answer.2 in
+      elim (word_cases (words rows) ws text o outcome) [
+        | inl (place, usage, bad) ↦
+            let two = tell.status_is ∙ ap status_of usage in absurd (omega (arith, two))
+        | inr came ↦
+            let zero : status_of o ≡ 0 = sym tell.status_is in
+            elim (low_cases (over_rows job rows) (subject_quiet job.command job text s is) ws text o
+            (comes_of_rows rows p.shape o came) (omega (arith, zero))) [
+              | inl e ↦
+                  from_end w rows is_w p.shape p.prints.out p.prints.more p.prints.out_is e.facts e.instance e.cursors e.pops
+                  e.stuck e.telling (subst (IsOutcome (words rows) ws text) e.told outcome) e.comes
+                  (sym (ap status_of e.told) ∙ zero) (tell.out_is ∙ ap text_of e.told)
+              | inr b ↦
+                  let of = batched_subject (words rows) (over_rows job rows) (ask rows p.shape) job.command refl ws text
+                  b.facts b.instance b.ends b.comes in
+                  let alone = (asked_alone (words rows) (over_rows job rows) (ask rows p.shape) rows refl).1 in
+                  absurd (none-some of.batch.count (sym alone ∙ of.batch.asked_is))
+            ]
+      ]
+
+  -- rows that are answered by a sample like w, and those that the exchange makes of them for x
+  abbrev Pair : List ℕ → List ℕ → Rows → Rows → Type 0
+  Pair w x r t =
+      (c : List ℕ) × (u : List ℕ) × IsSampleOf f u × IsLike s.facts u w × Answered u c r
+      × Answered (carry s.facts u x) c t × (t ≡ exchange r c (carry s.facts u x)) × (r ≡ exchange t c u)
+      × (weight_of s.weights t * sample_weight s.weights u
+      ≡ weight_of s.weights r * sample_weight s.weights (carry s.facts u x))
+
+  -- such rows have a partner
+  partner : (w x : List ℕ) → Carries s heights w x → (r : Rows) → Found w r
+      → (t : Rows) × Found x t × Pair w x r t
+  partner w x to r (c, u, is_u, like, at) =
+      let v : List ℕ = carry s.facts u x in
+      let is_v : IsSampleOf f v = to.made u is_u like in
+      let swapped : Swaps f (Answered v) u v c r = swap u v is_v c r at in
+      let t : Rows = exchange r c v in
+      (t, (c, v, is_v, to.like u is_u like, swapped.there),
+      (c, u, is_u, like, at, swapped.there, refl, sym swapped.back, swapped.weight))
+
+  -- and are one's partner
+  partner_of : (w x : List ℕ) → Carries s heights w x → Carries s heights x w → (t : Rows) → Found x t
+      → (r : Rows) × Found w r × Pair w x r t
+  partner_of w x to fro t (c, v, is_v, like, at) =
+      let u : List ℕ = carry s.facts v w in
+      let is_u : IsSampleOf f u = fro.made v is_v like in
+      let like_u : IsLike s.facts u w = fro.like v is_v like in
+      let swapped : Swaps f (Answered u) v u c t = swap v u is_u c t at in
+      let r : Rows = exchange t c u in
+      let again : carry s.facts u x ≡ v = fro.back v is_v like in
+      (r, (c, u, is_u, like_u, swapped.there),
+      (c, u, is_u, like_u, swapped.there, subst (λ (k : List ℕ). Answered k c t) (sym again) at,
+      sym swapped.back ∙ ap (exchange r c) (sym again), refl,
+      sym swapped.weight ∙ ap (λ (k : List ℕ). weight_of s.weights r * sample_weight s.weights k) (sym again)))
+
+  -- each has one at most, with the weight in proportion
+  matches : (w x : List ℕ) → Carries s heights w x
+      → Matches (Pair w x) (weight_of s.weights) (sample_weight s.weights w) (sample_weight s.weights x)
+  matches w x to = record {
+    weight = λ r t (c, u, is_u, like, at, there, made, back, weight).
+        to.weight u is_u like (weight_of s.weights t) (weight_of s.weights r) weight;
+    once = λ r t z (c, u, is_u, like, at, there, made, back, weight) (d, v, is_v, like_v, at', there', made', back', weight').
+        let one = one_end u v c d r at at' in
+        made ∙ ap (λ (k : List ℕ). exchange r k (carry s.facts u x)) one.0
+        ∙ ap (λ (k : List ℕ). exchange r d (carry s.facts k x)) one.1 ∙ sym made';
+    one = λ r q t (c, u, is_u, like, at, there, made, back, weight) (d, v, is_v, like_v, at', there', made', back', weight').
+        let one = one_end (carry s.facts u x) (carry s.facts v x) c d t there there' in
+        let same : u ≡ v = sym (to.back u is_u like) ∙ ap (λ (k : List ℕ). carry s.facts k w) one.1 ∙ to.back v is_v like_v in
+        back ∙ ap (λ (k : List ℕ). exchange t k u) one.0 ∙ ap (exchange t d) same ∙ sym back';
+  }
+
+-- the law of runs
+pub exact_outputs : ExactOutputs
+exact_outputs job text s heights words ws is tells count some ask w x is_w is_x all others mine theirs =
+    let to : Carries s heights w x = carries job.command job text s is tells heights w x is_w is_x in
+    let fro : Carries s heights x w = carries job.command job text s is tells heights x w is_x is_w in
+    let both : Alike (weight_of s.weights) (sample_weight s.weights w) (sample_weight s.weights x) all others =
+    alike (Pair job text s is tells heights count some words ws ask w x) (weight_of s.weights)
+    (sample_weight s.weights w) (sample_weight s.weights x)
+    (matches job text s is tells heights count some words ws ask w x to) all others mine.differ theirs.differ
+    (λ r has.
+    let p = partner job text s is tells heights count some words ws ask w x to r
+    (from_prints job text s is tells heights count some words ws ask w r is_w ((mine.exact r).0 has)) in
+    (p.0, (theirs.exact p.0).1 (to_prints job text s is tells heights count some words ws ask x p.0 p.1), p.2))
+    (λ t has.
+    let p = partner_of job text s is tells heights count some words ws ask w x to fro t
+    (from_prints job text s is tells heights count some words ws ask x t is_x ((theirs.exact t).0 has)) in
+    (p.0, (mine.exact p.0).1 (to_prints job text s is tells heights count some words ws ask w p.0 p.1), p.2)) in
+    record { count = both.size; weight = both.total }
+
+-- ---- rounds
+
+module _ (job : Job) (text : List ℕ) (events : List (ℕ × Cube)) (heights : List ℕ) (words : Rows → List (List ℕ))
+    (ws : List Watcher) (by : job.command ≡ Rounds) (none : cnf_refusal text ≡ None) (full : first_empty (cnf_of text) ≡ None)
+    (are : AreEventsOf (cnf_of text).clauses events) (count : length heights ≡ (cnf_of text).variables)
+    (some : All (λ h. 0 < h) heights) (ask : AskOver job (pair_weights (cnf_of text).variables) heights words) where
+  -- the frame of the formula's events
+  abbrev g : Frame
+  g = frame_over (assignments (cnf_of text) events) heights
+
+  -- it is one
+  g_frame : IsFrame g
+  g_frame = formula_frame text events heights none are count some
+
+  -- the values of an assignment that satisfies the formula
+  satisfied_bits : (x : List ℕ) → Satisfies (cnf_of text) x → AreBits (cnf_of text).variables x
+  satisfied_bits x is = record { count_is = is.count; bits = is.bits }
+
+  -- rows that words over them are answered by rounds with an assignment are finished with it
+  rounded_rows : (w c : List ℕ) (n : ℕ) (rows : Rows) → AreRows g.weights heights rows
+      → IsRoundedBy (words rows) ws text w c n → SampledBy g w c n rows
+  rounded_rows w c n rows shape r =
+      let is : IsRounded job.command (GivenRows rows) text (FormulaFacts (cnf_of text).variables) r.instance c n [] None =
+      comes_of_job (words rows) ws text (over_rows job rows) (FormulaFacts (cnf_of text).variables) r.instance c n [] None
+      (ask rows shape) (rows_line (words rows) (over_rows job rows) (ask rows shape) rows refl) r.outcome in
+      let same : is.end.events ≡ events =
+      one_events (cnf_of text).clauses is.end.events events is.end.of_formula are in
+      let end : IsRoundsEnd (over g rows) c n [] None =
+      subst (λ es. IsRoundsEnd (instance_of (GivenRows rows) (cnf_of text).variables es) c n [] None) same is.end.end in
+      let there : r.instance ≡ over g rows =
+      is.end.instance_is ∙ ap (instance_of (GivenRows rows) (cnf_of text).variables) same in
+      let size : length c ≡ length rows = (rounds_suit g g_frame rows shape c n end).size in
+      record {
+        shape = shape;
+        end = end;
+        entries = sym (values_are g.weights rows c size) ∙ ap (λ (i : Instance). values_at i.stacks c) (sym there)
+            ∙ r.sample;
+      }
+
+  -- words that print an assignment are over rows that rounds finish with it
+  prints_sampled : (w : List ℕ) (rows : Rows) → Satisfies (cnf_of text) w
+      → PrintsOver g.weights heights words ws text (FormulaFacts (cnf_of text).variables) w rows → Sampled g w rows
+  prints_sampled w rows ok p =
+      let o : IsRoundedOutput (words rows) ws text p.prints.out =
+      (round_outputs (over_rows job rows) (words rows) ws text p.prints.out by (ask rows p.shape)).0 p.prints.answer in
+      let head : List ℕ = line (codes "s SAMPLE") in
+      let rest : List ℕ = used_line o.cursors ++ rounds_line o.rounds in
+      let whole : head ++ (assignment_line o.values ++ rest) ≡ head ++ (assignment_line w ++ p.prints.more) =
+      sym (append_assoc head (assignment_line o.values) rest)
+      ∙ sym (append_assoc (head ++ assignment_line o.values) (used_line o.cursors) (rounds_line o.rounds))
+      ∙ sym o.out_is ∙ p.prints.out_is ∙ append_assoc head (assignment_line w) p.prints.more in
+      let same : o.values ≡ w =
+      assignments_apart (cnf_of text).variables o.values w rest p.prints.more (few_variables text none)
+      (satisfied_bits o.values o.satisfied) (satisfied_bits w ok)
+      (append_cancel_left head (assignment_line o.values ++ rest) (assignment_line w ++ p.prints.more) whole) in (
+        o.cursors,
+        (
+          o.rounds,
+          subst (λ (v : List ℕ). SampledBy g v o.cursors o.rounds rows) same
+              (rounded_rows o.values o.cursors o.rounds rows p.shape o.by),
+        ),
+      )
+
+  -- and the other way round
+  sampled_prints : (w : List ℕ) (rows : Rows) → Satisfies (cnf_of text) w → Sampled g w rows
+      → PrintsOver g.weights heights words ws text (FormulaFacts (cnf_of text).variables) w rows
+  sampled_prints w rows ok (c, (n, s)) =
+      let size : length c ≡ length rows = (rounds_suit g g_frame rows s.shape c n s.end).size in
+      let r : IsRoundedBy (words rows) ws text w c n =
+      answered_by (words rows) ws text (over_rows job rows) (over g rows) w c n (ask rows s.shape) by none
+      (record {
+        filled = full;
+        events = events;
+        of_formula = are;
+        instance_is = refl;
+        sound = sound_rows g g_frame rows s.shape (pairs_light (cnf_of text).variables);
+        end = s.end;
+      })
+      (values_are g.weights rows c size ∙ s.entries) in
+      record {
+        shape = s.shape;
+        prints = record {
+          out = rounded_text w c n;
+          more = used_line c ++ rounds_line n;
+          answer = (round_outputs (over_rows job rows) (words rows) ws text (rounded_text w c n) by (ask rows s.shape)).1
+              (record { values = w; cursors = c; rounds = n; by = r; satisfied = ok; out_is = refl });
+          out_is = append_assoc (line (codes "s SAMPLE") ++ assignment_line w) (used_line c) (rounds_line n);
+        };
+      }
+
+-- the law of rounds
+pub exact_round_outputs : ExactRoundOutputs
+exact_round_outputs job text events heights words ws by spelled are count some ask w x ok_w ok_x all others mine theirs =
+    let s : Subject = assignments (cnf_of text) events in
+    let f : Frame = frame_over s heights in
+    let frame : IsFrame f = formula_frame text events heights spelled.0 are count some in
+    let To : (v : List ℕ) → Satisfies (cnf_of text) v → (rows : Rows)
+    → PrintsOver s.weights heights words ws text s.facts v rows → Sampled f v rows =
+    λ v ok rows. prints_sampled job text events heights words ws by spelled.0 spelled.2 are count some ask v rows ok in
+    let Back : (v : List ℕ) → Satisfies (cnf_of text) v → (rows : Rows) → Sampled f v rows
+    → PrintsOver s.weights heights words ws text s.facts v rows =
+    λ v ok rows. sampled_prints job text events heights words ws by spelled.0 spelled.2 are count some ask v rows ok in
+    (exact_rounds f frame tt w x (every_assignment (cnf_of text) events heights w are ok_w)
+    (every_assignment (cnf_of text) events heights x are ok_x) all others
+    (same_kind (PrintsOver s.weights heights words ws text s.facts w) (Sampled f w) all mine (To w ok_w) (Back w ok_w))
+    (same_kind (PrintsOver s.weights heights words ws text s.facts x) (Sampled f x) others theirs (To x ok_x)
+    (Back x ok_x))).count
