@@ -14,19 +14,28 @@ use std::thread::Threads;
 use test_instances::{EventRow, listed};
 
 // Two clauses that share a variable and may be false together.
-static CLASHING: [EventRow; 2] = [(1, &[(0, 0), (1, 0)]), (2, &[(1, 0), (2, 0)])];
+static TWO: [EventRow; 2] = [(1, &[(0, 0), (1, 0)]), (2, &[(1, 0), (2, 0)])];
+
+// A third that shares a variable with each: with the second at one value, with the first at another.
+static THREE: [EventRow; 3] = [
+    (1, &[(0, 0), (1, 0)]),
+    (2, &[(1, 0), (2, 0)]),
+    (3, &[(0, 1), (2, 0)]),
+];
 
 // How many of all rows of three entries rounds finish with each assignment, whose bits are its
-// values, that of variable 0 lowest: as many with each that satisfies both clauses, and none with
-// another. They were counted by another program.
-static COUNTS: [u64; 8] = [0, 0, 97, 97, 0, 97, 97, 97];
+// values, that of variable 0 lowest: as many with each that satisfies the clauses, and none with
+// another. They were counted by two other programs, each of them by the definition.
+static COUNTS_OF_TWO: [u64; 8] = [0, 0, 97, 97, 0, 97, 97, 97];
 
-// The instance of these rows: entry k of variable v is bit 3v + k.
-fn instance(alloc: Global, rows: u32) -> Result<Instance, Fail> {
+static COUNTS_OF_THREE: [u64; 8] = [0, 0, 112, 0, 0, 112, 112, 112];
+
+// The instance of these rows and clauses: entry k of variable v is bit 3v + k.
+fn instance(alloc: Global, rows: u32, clauses: &[EventRow]) -> Result<Instance, Fail> {
     let first = [rows % 2, rows / 2 % 2, rows / 4 % 2];
     let second = [rows / 8 % 2, rows / 16 % 2, rows / 32 % 2];
     let third = [rows / 64 % 2, rows / 128 % 2, rows / 256 % 2];
-    listed(alloc, &[&first, &second, &third], &CLASHING)
+    listed(alloc, &[&first, &second, &third], clauses)
 }
 
 // The assignment as a number.
@@ -59,8 +68,9 @@ fn sample_of<R: Threads + Abort + Sync>(
     rt: &R,
     alloc: Global,
     rows: u32,
+    clauses: &[EventRow],
 ) -> Result<Option<u32>, Fail> {
-    let instance = instance(alloc, rows)?;
+    let instance = instance(alloc, rows, clauses)?;
     let index = index_of(rt, alloc, &instance)?;
     end_of(rt, alloc, &instance, &index)
 }
@@ -76,17 +86,28 @@ fn is_among(rt: &impl Abort, all: &[u32], sample: u32, want: u64) {
     same(rt, count, want, "rows of an assignment");
 }
 
-#[test]
-fn as_many_rows_end_with_each_sample_where_clauses_clash(rt: HostRuntime) -> Result<(), Fail> {
-    let alloc = rt.alloc();
+// Compares how many of all rows end with each assignment.
+fn are_counted<R: Threads + Abort + Sync>(
+    rt: &R,
+    alloc: Global,
+    clauses: &[EventRow],
+    counts: &[u64; 8],
+) -> Result<(), Fail> {
     let mut all = Vec::new(alloc);
     for rows in 0..512 {
-        if let Some(sample) = sample_of(&rt, alloc, rows)? {
+        if let Some(sample) = sample_of(rt, alloc, rows, clauses)? {
             all.push(sample)?;
         }
     }
     for sample in 0..8 {
-        is_among(&rt, &all, sample, COUNTS[sample as usize]);
+        is_among(rt, &all, sample, counts[sample as usize]);
     }
     Ok(())
+}
+
+#[test]
+fn as_many_rows_end_with_each_sample_where_clauses_clash(rt: HostRuntime) -> Result<(), Fail> {
+    let alloc = rt.alloc();
+    are_counted(&rt, alloc, &TWO, &COUNTS_OF_TWO)?;
+    are_counted(&rt, alloc, &THREE, &COUNTS_OF_THREE)
 }
