@@ -1,8 +1,8 @@
 #!/usr/bin/env python3
 """Tries wrong bodies of the crates named, or of all: edits that the check has to refuse.
 
-The gate tries those in `must-fail/`. The others stand beside it, in `wrong-bodies/`, and are tried here, on a copy of the
-crates in a temporary folder. The status is 0 where all are refused. README.md says more.
+The gate tries those in `must-fail/`. The others stand beside it, in `wrong-bodies/`, and are tried here, on a copy of
+the crates in a temporary folder. The status is 0 where all are refused. README.md says more.
 """
 import argparse
 import os
@@ -103,12 +103,15 @@ def build_below(name):
     listed = re.search(rf"^{name}:([^#\n]*)", text_of(os.path.join(TOP, "crates.txt")), re.MULTILINE)
     for library in listed[1].split() if listed else []:
         folder = os.path.join(CRATES, library)
-        if os.path.isdir(folder) and subprocess.run(["rt", "lib", "--jobs", "1"], cwd=folder, stdout=sys.stderr).returncode:
+        if not os.path.isdir(folder):
+            # A library of the kit.
+            continue
+        if subprocess.run(["rt", "lib", "--jobs", "1"], cwd=folder, stdout=sys.stderr).returncode:
             sys.exit(f"{library} isn't proved, so nothing above it was tried")
 
 
 def copy_into(folder, edits):
-    """Copies the crates with their built libraries, and puts the edits that are tried where the check looks for them."""
+    """Copies the crates with their built libraries, and puts edits where the check looks for them."""
     for file in ("crates.txt", "HANDLES"):
         shutil.copy2(os.path.join(TOP, file), folder)
     skipped = shutil.ignore_patterns("incremental", GATE, SECOND)
@@ -142,6 +145,8 @@ def edits_of(names, tiers):
 
 def refused_in(edits, jobs):
     """Tries edits, the crates side by side in so many jobs, and tells how many are refused."""
+    if not edits:
+        return 0
     for name in edits:
         build_below(name)
     with tempfile.TemporaryDirectory(prefix="wrong-bodies-") as folder, ThreadPoolExecutor(jobs) as pool:
