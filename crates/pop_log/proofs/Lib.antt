@@ -15,9 +15,11 @@ pub mod InOrder
 pub mod Exchanges
 pub mod OneTrace
 -- The layered log. LayeredLemmas: it is a reordering of the log. LayeredLaws: it is legal, and the same for all runs to
--- an end. PlacedRecordsLemmas: how it is sorted. SaidLayers: whether the layers that are said are its own.
+-- an end. SortedInLayers: records that are layered as they stand are their own. PlacedRecordsLemmas: how it is sorted.
+-- SaidLayers: whether the layers that are said are its own.
 pub mod LayeredLemmas
 pub mod LayeredLaws
+pub mod SortedInLayers
 mod PlacedRecordsLemmas
 mod SaidLayers
 -- What is printed of records, and the texts of logs

@@ -43,6 +43,11 @@ abbrev pub LayeredInLayers : Type 0
 LayeredInLayers = (i : Instance) → IsInstance i → (c : List ℕ) (log : List LogRecord)
     → IsLegal i c log → (placed : List Placed) → AreSorted log placed → AreInLayers [] placed
 
+-- records that are layered as they stand are their own layered log
+abbrev pub SortedInLayers : Type 0
+SortedInLayers = (placed : List Placed) → AreInLayers [] placed
+    → AreSorted (map (λ p. p.0) placed) placed
+
 -- on an extremal instance all runs from the same cursors to ends have one layered log, with the
 -- same layers
 abbrev pub OneLayeredLog : Type 0

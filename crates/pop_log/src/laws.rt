@@ -1,7 +1,7 @@
 //! The laws of logs. The contract of each function is the law.
 ghost use Rattle.pop_model.specs.Instances.{IsInstance};
 ghost use Rattle.pop_log.specs.Candidates.{NumbersFit};
-ghost use Rattle.pop_log.specs.Laws.{ExactReading, LayeredInLayers, LayeredLegal, LayersApart, OneLayeredLog, OneLayering, OneLog, OnePlacedLog, OneRead, OneReading, OneRefusal, ReadBack, SwapKeepsLayers};
+ghost use Rattle.pop_log.specs.Laws.{ExactReading, LayeredInLayers, LayeredLegal, LayersApart, OneLayeredLog, OneLayering, OneLog, OnePlacedLog, OneRead, OneReading, OneRefusal, ReadBack, SortedInLayers, SwapKeepsLayers};
 
 use crate::candidates::greatest_number;
 use pop_instance::Instance;
@@ -30,6 +30,11 @@ pub fn layered_legal()
 /// their new order, and layer and unit rise.
 pub fn layered_in_layers()
     ensures { LayeredInLayers }
+{}
+
+/// Records that are layered as they stand are their own layered log.
+pub fn sorted_in_layers()
+    ensures { SortedInLayers }
 {}
 
 /// On an extremal instance all runs from the same cursors to ends have one layered log, with the
