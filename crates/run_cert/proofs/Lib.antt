@@ -4,7 +4,7 @@ mod JoinedMore
 -- What a head says. HeadWords: in no word of a head stands a line end. SpelledRows: rows that are written are read again
 -- as they were. HeadLinesLemmas: each line says one thing. OneText: so a text is that of one certificate.
 mod HeadWords
-mod SpelledRows
+pub mod SpelledRows
 mod HeadLinesLemmas
 pub mod OneText
 -- Refusals. FirstLines: the first bad line, where lines are read one by one. HeadLanguage: lines that are read so are
@@ -12,8 +12,10 @@ pub mod OneText
 mod FirstLines
 mod HeadLanguage
 pub mod Unrefused
--- Jobs. AskedStacks: stacks that words ask for may be written.
-mod AskedStacks
+-- Jobs. AskedStacks: stacks that words ask for may be written. PrintedCerts: so what is printed of a job is the text of
+-- its certificate.
+pub mod AskedStacks
+pub mod PrintedCerts
 -- Runs so far. StuckEvents: what the list of events that occur has. LegalReplays: the replay of a legal log doesn't stop.
 -- Resumed: runs that go on come to the end of every run.
 mod StuckEvents

@@ -27,7 +27,7 @@ digits_pass (b ∷ bs) are =
     both_true (both_true (le-leb 48 b are.0.0) (le-leb b 57 are.0.1)) (digits_pass bs are.1)
 
 -- a number is read again
-number_again : (n : ℕ) → n < 2 ^ 32 → number_of (decimal n) ≡ Some n
+pub number_again : (n : ℕ) → n < 2 ^ 32 → number_of (decimal n) ≡ Some n
 number_again n fits =
     let is : digits_value 10 (decimal n) ≡ n = (decimal_is_IsNumeral n (wide n fits)).1 in
     let some : nat_le 1 (length (decimal n)) ≡ true =
