@@ -40,13 +40,15 @@ use Rattle.top_call.specs.ReplayTexts.{look_status}
 use Rattle.top_call.specs.Replays.{ComesOfReplaying}
 use Rattle.top_call.specs.Resumes.{GoesOnFrom, ComesOfResuming}
 use Rattle.top_call.specs.Answers.{ComesOfCommand, ComesOf, IsOfText, Refuses, origin_for, asked_by, ComesBy}
-use Rattle.answer_laws.specs.Complete.{Spells, HasExtremalEvents, CanBeReplayed, CanBeDone, HasWitness, Complete, IsDone}
+use Rattle.answer_laws.specs.Orders.{HasExtremalEvents}
+use Rattle.answer_laws.specs.Complete.{Spells, CanBeReplayed, CanBeDone, HasWitness, Complete, IsDone}
 use Rattle.top_call.proofs.BatchEnds.{batch_low}
 use Rattle.answer_laws.proofs.OneFault.{sound_has_none}
 use Rattle.answer_laws.proofs.OneClash.{extremal_has_none}
 use Rattle.answer_laws.proofs.OneReading.{no_cnf_refusal, no_graph_refusal}
 use Rattle.answer_laws.proofs.OneSampling.{not_many}
 use Rattle.top_call.proofs.ByCommand.{by_kind}
+use Rattle.answer_laws.proofs.CertBounds.{legal_log}
 use Rattle.answer_laws.proofs.OneReplay.{accepted_or_refused}
 use Rattle.top_call.proofs.ReadCases.{TellsPaused, read_cases}
 use Rattle.answer_laws.proofs.OneOutcome.{word_cases}
@@ -282,7 +284,7 @@ look_done job Open is = inr (inr (refl, inr is))
 replay_done : (job : Job) (ws : List Watcher) (text : List ℕ) (o : Outcome) → job.command ≡ Replay
     → CanBeReplayed text → ComesOfReplaying ComesOf text o → IsDone job (status_of o)
 replay_done job ws text o is can (inl refused) =
-    absurd (accepted_or_refused text can.cert o can.short can.is can.has refused)
+    absurd (accepted_or_refused text can.cert o can.short can.is (legal_log text can.cert can.is can.has) refused)
 replay_done job ws text o is can (inr b) =
     subst (λ q. IsDone job (status_of q)) (sym b.comes.is.told) (look_done job b.comes.is.look is)
 
@@ -297,7 +299,7 @@ end_of_log job log o goes has = absurd goes
 resume_done : (job : Job) (ws : List Watcher) (text : List ℕ) (o : Outcome) → CanBeReplayed text → HasWitness o
     → ComesOfResuming ComesOf ws text o → IsDone job (status_of o)
 resume_done job ws text o can has (inl refused) =
-    absurd (accepted_or_refused text can.cert o can.short can.is can.has refused)
+    absurd (accepted_or_refused text can.cert o can.short can.is (legal_log text can.cert can.is can.has) refused)
 resume_done job ws text o can has (inr b) = end_of_log job b.comes.has.log o b.comes.goes_on has
 
 -- the law

@@ -2,7 +2,7 @@
 -- log, and of all runs to an end. OneFault, OneSampling: one fault of stacks, or one end. OneClash, OneFormula,
 -- OneOrientation, OneTree: one outcome of each command, and OneRounds of rounds. OneResampling, OneLog: two runs, and one
 -- answer for each log. OnePause: a pause beside these. OneOutcome: all of these. OneReplay: of certificates (HeadBounds:
--- what a head says is within bounds). OneWords: of words.
+-- what a head says is within bounds; MadeBounds, CertBounds: so what it runs is an instance). OneWords: of words.
 mod OneReading
 mod OneWitness
 mod OneTelling
@@ -17,6 +17,8 @@ mod OneResampling
 mod OnePause
 mod OneOutcome
 mod HeadBounds
+mod MadeBounds
+mod CertBounds
 mod OneReplay
 mod OneWords
 mod OneLog
@@ -25,7 +27,8 @@ mod EndedSubjects
 mod PausedExactly
 -- AlikeJobs: jobs of which the same comes. FilteredOptions: words without some options. WorkersAgree: for any number of
 -- workers. GrownAlike: in stages, or not, and of words StagesAgree, with FirstSampleOfWords of a batch.
--- ResumedLines: certificates that are accepted are resumed as their lines. ToldAtStart: what is told before any pop.
+-- ResumedLines: certificates that are accepted are resumed as their lines, and ResumedUnpaused: so a run that paused goes
+-- on as one that didn't. ToldAtStart: what is told before any pop.
 -- FirstSample: a batch begins with the sample of its job without a number. RoundsLikeFormula: rounds of extremal events
 -- end as their run.
 mod AlikeJobs
@@ -34,6 +37,7 @@ mod WorkersAgree
 mod GrownAlike
 mod StagesAgree
 mod ResumedLines
+mod ResumedUnpaused
 mod ToldAtStart
 mod FirstSample
 mod FirstSampleOfWords
@@ -49,10 +53,11 @@ mod ShownBatches
 mod ShownBehind
 mod ShownRounds
 mod ShownSamples
--- The exact law of answers. RowWords: words that give rows. ListedEvents: the events of a formula and of sinks.
+-- The exact law of answers. RowWords: words that give rows. AskedRows: which rows words give. ListedEvents: the events of a formula and of sinks.
 -- SubjectFrames: the events and weights fit rows of any heights. ExactAnswers: another sample is answered in the place of
 -- the printed one. EverySample: what satisfies a formula, leaves no sink or leads to the root is a sample.
 mod RowWords
+mod AskedRows
 mod ListedEvents
 mod SubjectFrames
 mod ExactAnswers

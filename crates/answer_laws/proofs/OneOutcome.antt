@@ -1,9 +1,8 @@
--- A job and a text have one outcome by the line of its command, or two runs where a resampling is asked for or a run may stop. The words ask for one
--- job or have one bad place; the text is refused in one way or spells one formula or graph; and of that one thing comes.
-use Rattle.std.proofs.Common.{inl, inr, ◌≡◌, ◌≢◌, ◌⊎◌, ℕ, List, refl, sym, ap, subst, ◌∙◌}
-use Rattle.std.proofs.lemmas.Option.{same_Some}
+-- A job and a text have one outcome by the line of its command, or two runs where clashing events are resampled or a run
+-- may stop. The text is refused in one way or spells one formula or graph; and of that one thing comes.
+use Rattle.std.proofs.Common.{inl, inr, ◌≡◌, ◌≢◌, ◌⊎◌, ℕ, List, None, refl, sym, ap, subst, ◌∙◌}
+use Rattle.std.proofs.lemmas.Option.{none-some, same_Some}
 use Rattle.pop_model.specs.Stacks.{Origin}
-use Rattle.pop_model.specs.Families.{Event}
 use Rattle.pop_model.specs.Instances.{Instance}
 use Rattle.pop_edge.specs.declared.refusal.ReadRefusal.{ReadRefusal}
 use Rattle.dimacs_read.specs.Cnf.{Cnf}
@@ -12,12 +11,10 @@ use Rattle.pop_words.specs.declared.command.Command.{Command}
 use Rattle.pop_words.specs.declared.command.Command.TheVariants.{Formula, Orient, Tree, Resample, Check, Make, Rounds, Replay, Resume}
 use Rattle.pop_words.specs.declared.job.Job.{Job}
 use Rattle.pop_words.specs.CommandLines.{IsBadPlace}
-use Rattle.pop_log.specs.Layers.{Placed}
 use Rattle.pop_watch.specs.Telling.{Watcher}
 use Rattle.pop_print.specs.declared.facts.Facts.{Facts}
 use Rattle.top_call.specs.Outcomes.{Outcome}
 use Rattle.top_call.specs.Outcomes.Outcome.{Usage, Unread, Isolated, NoRoot, CutOff, TooMany, Unsound, Clashes, Extremal, Ended, Resampled, Rounded, Batched, Paused, Replayed, NotLegal}
-use Rattle.top_call.specs.Tellings.{Telling}
 use Rattle.top_call.specs.Formulas.{ComesOfFormula, ComesOfChecking}
 use Rattle.top_call.specs.Resamplings.{ComesOfResampling}
 use Rattle.top_call.specs.Rounds.{ComesOfRounds}
@@ -26,11 +23,12 @@ use Rattle.top_call.specs.Trees.{ComesOfTree}
 use Rattle.top_call.specs.Answers.{ComesOfCnf, ComesOfGraph, origin_for, asked_by, ComesOfCommand, IsOfText, Refuses, ComesOf, ComesOfJob, IsOutcome}
 use Rattle.top_call.specs.Made.{IsMade}
 use Rattle.top_call.specs.Pauses.{IsPause}
+use Rattle.answer_laws.specs.Orders.{HasOneEnd}
 use Rattle.answer_laws.specs.Laws.{ReportAlike, AreHistories, Agree}
 use Rattle.top_call.proofs.ReadCases.{Done, TellsPaused, read_cases}
 use Rattle.answer_laws.proofs.OneSampling.{AreOne}
 use Rattle.answer_laws.proofs.OneFormula.{one_formula, one_checking}
-use Rattle.answer_laws.proofs.OneResampling.{one_resampling}
+use Rattle.answer_laws.proofs.OneResampling.{one_resampling, one_extremal_resampling}
 use Rattle.answer_laws.proofs.OneRounds.{one_rounds}
 use Rattle.answer_laws.proofs.OneOrientation.{one_orienting}
 use Rattle.answer_laws.proofs.OneTree.{one_tree, one_grid}
@@ -57,32 +55,55 @@ one_graph Comes Others text one o p h h' =
     let same : h.graph ≡ h'.graph = h.spelled.1 ∙ sym h'.spelled.1 in
     one h'.graph o p (subst (λ g. Comes g o) same h.comes) h'.comes
 
--- two outcomes of a command and a text, with watchers that report alike where one end is asked for
+-- of a command whose orders of pops lead to one end, one thing comes of a text, with watchers that report alike
+one_command : (command : Command) (job : Job) (ws vs : List Watcher) (text : List ℕ) (o p : Outcome)
+    → HasOneEnd command text → ReportAlike job.reports ws vs
+    → ComesOfCommand command job ws text o → ComesOfCommand command job vs text p → o ≡ p
+one_command Formula job ws vs text o p ordered like h h' =
+    one_cnf (ComesOfFormula (origin_for job) (asked_by job) ws) (ComesOfFormula (origin_for job) (asked_by job) vs)
+    text (λ f. one_formula (origin_for job) (asked_by job) ws vs f like) o p h h'
+one_command Orient job ws vs text o p ordered like h h' =
+    one_graph (ComesOfOrienting (origin_for job) (asked_by job) ws)
+    (ComesOfOrienting (origin_for job) (asked_by job) vs) text
+    (λ g. one_orienting (origin_for job) (asked_by job) ws vs g like) o p h h'
+one_command Tree job ws vs text o p ordered like h h' =
+    one_graph (ComesOfTree (origin_for job) (asked_by job) ws job.root)
+    (ComesOfTree (origin_for job) (asked_by job) vs job.root) text
+    (λ g. one_tree (origin_for job) (asked_by job) ws vs job.root g like) o p h h'
+one_command Resample job ws vs text o p ordered like h h' =
+    let f : Cnf = h'.formula in
+    let same : h.formula ≡ f = h.spelled.1 ∙ sym h'.spelled.1 in
+    one_extremal_resampling (origin_for job) (asked_by job) ws vs f like (ordered f h'.spelled) o p
+    (subst (λ g. ComesOfResampling (origin_for job) (asked_by job) ws g o) same h.comes) h'.comes
+one_command Check job ws vs text o p ordered like h h' =
+    one_cnf ComesOfChecking ComesOfChecking text one_checking o p h h'
+one_command Make job ws vs text o p ordered like h h' =
+    one_grid (origin_for job) (asked_by job) ws vs job.size like o p h h'
+one_command Rounds job ws vs text o p ordered like h h' =
+    one_cnf (ComesOfRounds (origin_for job)) (ComesOfRounds (origin_for job)) text (one_rounds (origin_for job)) o p h h'
+one_command Replay job ws vs text o p ordered like h h' = absurd h
+one_command Resume job ws vs text o p ordered like h h' = absurd h
+
+-- two outcomes of a command and a text, with watchers that report alike but of a resampling
 alike_command : (command : Command) (job : Job) (ws vs : List Watcher) (text : List ℕ) (o p : Outcome)
     → (command ≢ Resample → ReportAlike job.reports ws vs)
     → ComesOfCommand command job ws text o → ComesOfCommand command job vs text p → Agree o p
 alike_command Formula job ws vs text o p like h h' =
-    inl (one_cnf (ComesOfFormula (origin_for job) (asked_by job) ws) (ComesOfFormula (origin_for job) (asked_by job) vs)
-    text (λ f. one_formula (origin_for job) (asked_by job) ws vs f (like (λ is. absurd (cc)))) o p h h')
+    inl (one_command Formula job ws vs text o p tt (like (λ is. absurd (cc))) h h')
 alike_command Orient job ws vs text o p like h h' =
-    inl (one_graph (ComesOfOrienting (origin_for job) (asked_by job) ws)
-    (ComesOfOrienting (origin_for job) (asked_by job) vs) text
-    (λ g. one_orienting (origin_for job) (asked_by job) ws vs g (like (λ is. absurd (cc)))) o p h h')
+    inl (one_command Orient job ws vs text o p tt (like (λ is. absurd (cc))) h h')
 alike_command Tree job ws vs text o p like h h' =
-    inl (one_graph (ComesOfTree (origin_for job) (asked_by job) ws job.root)
-    (ComesOfTree (origin_for job) (asked_by job) vs job.root) text
-    (λ g. one_tree (origin_for job) (asked_by job) ws vs job.root g (like (λ is. absurd (cc)))) o p h h')
+    inl (one_command Tree job ws vs text o p tt (like (λ is. absurd (cc))) h h')
 alike_command Resample job ws vs text o p like h h' =
     alike_cnf Agree (ComesOfResampling (origin_for job) (asked_by job) ws)
     (ComesOfResampling (origin_for job) (asked_by job) vs) text (one_resampling (origin_for job) (asked_by job) ws vs)
     o p h h'
 alike_command Check job ws vs text o p like h h' =
-    inl (one_cnf ComesOfChecking ComesOfChecking text one_checking o p h h')
+    inl (one_command Check job ws vs text o p tt (like (λ is. absurd (cc))) h h')
 alike_command Make job ws vs text o p like h h' =
-    inl (one_grid (origin_for job) (asked_by job) ws vs job.size (like (λ is. absurd (cc))) o p h h')
+    inl (one_command Make job ws vs text o p tt (like (λ is. absurd (cc))) h h')
 alike_command Rounds job ws vs text o p like h h' =
-    inl (one_cnf (ComesOfRounds (origin_for job)) (ComesOfRounds (origin_for job)) text (one_rounds (origin_for job)) o p
-    h h')
+    inl (one_command Rounds job ws vs text o p tt (like (λ is. absurd (cc))) h h')
 alike_command Replay job ws vs text o p like h h' = absurd h
 alike_command Resume job ws vs text o p like h h' = absurd h
 
@@ -157,6 +178,25 @@ alike_read job ws vs text o p like h h' =
       ]
     ]
 
+-- where no run may stop, and all orders of pops lead to one end, there is one
+pub one_read : (job : Job) (ws vs : List Watcher) (text : List ℕ) (o p : Outcome) → HasOneEnd job.command text
+    → job.pops ≡ None → ReportAlike job.reports ws vs → ComesOf job ws text o → ComesOf job vs text p → o ≡ p
+one_read job ws vs text o p ordered out like h h' =
+    elim (read_cases job ws text o h) [
+      | inl (r, o_is, of, refused) ↦ elim (read_cases job vs text p h') [
+        | inl (r', p_is, of', refused') ↦
+            o_is ∙ ap Unread (one_refusal job.command text r r' of of' refused refused') ∙ sym p_is
+        | inr (inl done') ↦ absurd (unrefused job.command job vs text p r done' of refused)
+        | inr (inr b) ↦ absurd (none-some b.pops (sym out ∙ b.stop))
+      ]
+      | inr (inl done) ↦ elim (read_cases job vs text p h') [
+        | inl (r', p_is, of', refused') ↦ absurd (unrefused job.command job ws text o r' done of' refused')
+        | inr (inl done') ↦ one_command job.command job ws vs text o p ordered like done done'
+        | inr (inr b) ↦ absurd (none-some b.pops (sym out ∙ b.stop))
+      ]
+      | inr (inr a) ↦ absurd (none-some a.pops (sym out ∙ a.stop))
+    ]
+
 -- what comes of words and a text is their first bad word, or comes of their job
 pub word_cases : (words : List (List ℕ)) (ws : List Watcher) (text : List ℕ) (o : Outcome) → IsOutcome words ws text o
     → ((place : ℕ) × (o ≡ Usage place) × IsBadPlace words place) ⊎ ComesOfJob words ws text o
@@ -176,17 +216,3 @@ word_cases words ws text (Batched t i es) h = inr h
 word_cases words ws text (Paused j w t i l) h = inr h
 word_cases words ws text (Replayed i c n k) h = inr h
 word_cases words ws text (NotLegal p) h = inr h
-
--- no command but a resampling tells a run whose order isn't determined
-pub no_history : (command : Command) (job : Job) (ws : List Watcher) (text : List ℕ) (facts : Facts) (i : Instance)
-    (placed : List Placed) (stuck : List Event) (a : Telling) → command ≢ Resample
-    → ComesOfCommand command job ws text (Resampled facts i placed stuck a) → ⊥
-no_history Formula job ws text facts i placed stuck a other h = h.comes.1.end
-no_history Orient job ws text facts i placed stuck a other h = h.comes.1.1.end
-no_history Tree job ws text facts i placed stuck a other h = h.comes.2.1
-no_history Resample job ws text facts i placed stuck a other h = other refl
-no_history Check job ws text facts i placed stuck a other h = h.comes
-no_history Make job ws text facts i placed stuck a other h = h.1
-no_history Rounds job ws text facts i placed stuck a other h = h.comes.1.end
-no_history Replay job ws text facts i placed stuck a other h = h
-no_history Resume job ws text facts i placed stuck a other h = h

@@ -34,6 +34,7 @@ use Rattle.top_call.specs.Trees.{tree_instance, ComesOfTree}
 use Rattle.cycle_popping.specs.Trees.{weights_of_tree}
 use Rattle.top_call.specs.Made.{IsMade}
 use Rattle.top_call.specs.Answers.{origin_for, asked_by, ComesOfCommand, ComesOf}
+use Rattle.answer_laws.specs.Orders.{HasOneEnd}
 use Rattle.answer_laws.specs.Laws.{Agree}
 use Rattle.top_call.specs.Replays.{cert_limit, job_of, IsNoCert, IsNoRun, IsCertified, log_outcome, IsLogRefused, IsRefusedCert, IsRefused, HasLog, IsReplay, IsReplayed, ComesOfReplaying}
 use Rattle.top_call.specs.Resumes.{ComesOfResuming}
@@ -42,7 +43,7 @@ use Rattle.answer_laws.proofs.OneFormula.{of_extremal}
 use Rattle.answer_laws.proofs.OneOrientation.{of_unisolated}
 use Rattle.answer_laws.proofs.OneTree.{of_joined}
 use Rattle.answer_laws.proofs.OnePause.{one_made}
-use Rattle.answer_laws.proofs.OneOutcome.{alike_read, made_unrefused}
+use Rattle.answer_laws.proofs.OneOutcome.{alike_read, one_read, made_unrefused}
 
 -- bytes that are no certificate are refused in one way
 one_no_cert : (bytes : List ℕ) (o p : Outcome) → IsNoCert bytes o → IsNoCert bytes p → o ≡ p
@@ -250,3 +251,18 @@ alike_resuming ws vs bytes o p (inr a) (inr b) =
     subst (λ (c : Certificate). ComesOf (job_of c.head) ws c.input o) (one_cert bytes a.cert b.cert a.is b.is)
     a.comes.comes in
     alike_read (job_of b.cert.head) ws vs b.cert.input o p (λ ordered log. refl) here b.comes.comes
+
+-- and one where all orders of the certificate's pops lead to one end
+pub one_resuming : (ws vs : List Watcher) (bytes : List ℕ) (o p : Outcome)
+    → ((cert : Certificate) → IsCertOf bytes cert → HasOneEnd cert.head.command cert.input)
+    → ComesOfResuming ComesOf ws bytes o → ComesOfResuming ComesOf vs bytes p → o ≡ p
+one_resuming ws vs bytes o p ordered (inl h) (inl h') = one_refused bytes o p h h'
+one_resuming ws vs bytes o p ordered (inl h) (inr b) =
+    absurd (accepted_or_refused bytes b.cert o b.short b.is b.comes.has h)
+one_resuming ws vs bytes o p ordered (inr a) (inl h') =
+    absurd (accepted_or_refused bytes a.cert p a.short a.is a.comes.has h')
+one_resuming ws vs bytes o p ordered (inr a) (inr b) =
+    let here : ComesOf (job_of b.cert.head) ws b.cert.input o =
+    subst (λ (c : Certificate). ComesOf (job_of c.head) ws c.input o) (one_cert bytes a.cert b.cert a.is b.is)
+    a.comes.comes in
+    one_read (job_of b.cert.head) ws vs b.cert.input o p (ordered b.cert b.is) refl (λ log. refl) here b.comes.comes

@@ -28,7 +28,7 @@ use Rattle.answer_laws.proofs.OneReplay.{accepted_or_refused}
 use Rattle.top_call.proofs.PauseWords.{paused_line}
 
 -- no text that is refused has a status of a run
-read_no_run : (r : ReadRefusal) → HasRun (reading_status r) → ⊥
+pub read_no_run : (r : ReadRefusal) → HasRun (reading_status r) → ⊥
 read_no_run (Malformed l c) (inl low) = omega (arith, low)
 read_no_run (Malformed l c) (inr ten) = omega (arith, ten)
 read_no_run (Count d f) (inl low) = omega (arith, low)
@@ -43,7 +43,7 @@ read_no_run OutOfMemory (inl low) = omega (arith, low)
 read_no_run OutOfMemory (inr ten) = omega (arith, ten)
 
 -- nor has a fault of stacks
-fault_no_run : (f : StackFault) → HasRun (stacks_status f) → ⊥
+pub fault_no_run : (f : StackFault) → HasRun (stacks_status f) → ⊥
 fault_no_run (RowCount g w) (inl low) = omega (arith, low)
 fault_no_run (RowCount g w) (inr ten) = omega (arith, ten)
 fault_no_run (EmptyRow v) (inl low) = omega (arith, low)
@@ -74,7 +74,7 @@ no_run_status (NotLegal p) none has = other 11 (omega arith) (λ is. omega (arit
 no_run_status o none has = absurd none
 
 -- what comes of words that ask for a command comes by it
-by_words : (words : List (List ℕ)) (ws : List Watcher) (text : List ℕ) (o : Outcome) (k : Command) → AskFor words k
+pub by_words : (words : List (List ℕ)) (ws : List Watcher) (text : List ℕ) (o : Outcome) (k : Command) → AskFor words k
     → IsOutcome words ws text o → (job : Job) × ComesBy k job ws text o
 by_words words ws text o k (job, asks, is) h = elim (word_cases words ws text o h) [
   | inl (place, o_is, bad) ↦ absurd (bad.outside (job, asks))

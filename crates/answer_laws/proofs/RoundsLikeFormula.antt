@@ -1,7 +1,7 @@
 -- Rounds of an extremal formula end as its run on one thread does. Both spell one formula, which has one list of events,
 -- over stacks of one origin: so both are of one instance. There rounds are exhausted exactly where the run is, and where
 -- both finish, their cursors are equal; and an event occurs at the end of rounds exactly where they are exhausted.
-use Rattle.std.proofs.Common.{inl, inr, ◌≡◌, ◌≢◌, ◌⊎◌, ◌≤◌, ℕ, List, [], ◌∷◌, ◌++◌, Option, None, Some, Ok, refl, sym, ap, subst, ◌∙◌, arith, append-nil}
+use Rattle.std.proofs.Common.{inl, inr, ◌≡◌, ◌≢◌, ◌⊎◌, ◌≤◌, ℕ, List, [], ◌∷◌, Option, None, Some, Ok, refl, sym, ap, subst, ◌∙◌, arith, append-nil}
 use Rattle.std.proofs.lemmas.Option.{none-some}
 use Rattle.pop_model.specs.Stacks.{Origin, StackTable}
 use Rattle.pop_model.specs.Popping.{Cube}
@@ -16,7 +16,6 @@ use Rattle.prs_rounds.proofs.OnlyOccurring.{resampled_occurs}
 use Rattle.prs_rounds.proofs.LikeFirst.{ends_like_first}
 use Rattle.dimacs_read.specs.Cnf.{Cnf}
 use Rattle.dimacs_read.specs.CnfText.{AnswersCnf}
-use Rattle.pop_words.specs.declared.command.Command.{Command}
 use Rattle.pop_words.specs.declared.command.Command.TheVariants.{Formula, Rounds}
 use Rattle.pop_words.specs.declared.job.Job.{Job}
 use Rattle.pop_words.proofs.OneJob.{same_job}

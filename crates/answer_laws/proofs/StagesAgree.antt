@@ -10,7 +10,7 @@ use Rattle.pop_words.specs.Values.{number_between, rows_in, key_in, board_in, sw
 use Rattle.pop_words.specs.Options.{value_of, default_job}
 use Rattle.pop_words.specs.CommandLines.{job_from}
 use Rattle.pop_stacks.specs.declared.stack_spec.StackSpec.TheVariants.{Key as KeyedStacks, Given as GivenStacks}
-use Rattle.answer_laws.specs.Stages.{at_last_height, tells_height, but_heights, DifferInHeights, StagesAgree}
+use Rattle.answer_laws.specs.Stages.{tells_height, but_heights, DifferInHeights, StagesAgree}
 use Rattle.answer_laws.proofs.FilteredOptions.{AreDropped, unsets, goes_on, parts}
 use Rattle.answer_laws.proofs.GrownAlike.{grown_alike}
 

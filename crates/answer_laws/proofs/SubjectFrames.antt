@@ -36,7 +36,7 @@ pub record IsSampled (s : Subject) : Type 0 where
   pub extremal : IsExtremal s.family
 
 -- the literals of a formula that was read are of its variables
-literals_known : (text : List ℕ) (f : Cnf) → AnswersCnf text (Ok f) → AreLiterals f.variables f.clauses
+pub literals_known : (text : List ℕ) (f : Cnf) → AnswersCnf text (Ok f) → AreLiterals f.variables f.clauses
 literals_known text f answers =
     let is = cnf.sound text answers.0 in
     subst (λ (h : Cnf). AreLiterals h.variables h.clauses) (sym answers.1)

@@ -18,7 +18,7 @@ use Rattle.top_call.specs.Answers.{IsOutcome}
 use Rattle.answer_laws.specs.Workers.{tells_crew, but_workers, DifferInWorkers, WorkersAgree}
 use Rattle.answer_laws.proofs.AlikeJobs.{AreAlike, Said, said_by, comes_of_alike}
 use Rattle.answer_laws.proofs.FilteredOptions.{AreDropped, unsets, goes_on, parts}
-use Rattle.answer_laws.proofs.OneWords.{one_outcome, only_outcome}
+use Rattle.answer_laws.proofs.OneWords.{one_end}
 
 -- the field is one of the crew
 abbrev is_of_crew : Field → Bool
@@ -76,7 +76,7 @@ pub workers_agree : WorkersAgree
 workers_agree words others ws vs text status other out out' d once like (o, comes, tells) (p, comes', tells') =
     let here : IsOutcome words vs text p = comes_of_alike others words d.other d.job d.asks_other d.asks
     (alike_but_workers words others d)
-    (λ pops is. absurd (none-some pops (sym (once d.job d.asks).2
+    (λ pops is. absurd (none-some pops (sym (once d.job d.asks).1
     ∙ sym (ap (λ (s : Said). s.1.pops) (alike_but_workers words others d).said) ∙ is))) vs text p comes' in
-    let same = only_outcome words ws text o p once comes (one_outcome words ws vs text o p like comes here) in
+    let same = one_end words ws vs text o p once like comes here in
     (tells.status_is ∙ ap status_of same ∙ sym tells'.status_is, tells.out_is ∙ ap text_of same ∙ sym tells'.out_is)

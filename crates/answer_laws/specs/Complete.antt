@@ -1,12 +1,12 @@
 -- When words and a text have a sample, an exhausted end or a verdict.
 use Rattle.std.specs.Prelude.{◌≡◌, ◌≢◌, ◌⊎◌, ◌≤◌, ℕ, List, length, None, false, ⊤}
-use Rattle.pop_model.specs.Popping.{Cube}
-use Rattle.pop_model.specs.Families.Family.{Listed}
-use Rattle.pop_model.specs.Extremal.{IsExtremal}
+use Rattle.pop_model.specs.Instances.{Instance}
+use Rattle.pop_model.specs.Logs.{LogRecord}
 use Rattle.pop_stacks.specs.Faults.{IsSound}
+use Rattle.pop_stacks.specs.Tables.{origin_of}
+use Rattle.pop_log.specs.LogVersions.{IsReadAs}
 use Rattle.dimacs_read.specs.Cnf.{Cnf, first_empty}
 use Rattle.dimacs_read.specs.Grammar.{IsCnfText}
-use Rattle.dimacs_read.specs.Falsifying.{AreEventsOf}
 use Rattle.graph_read.specs.Graphs.{GraphOf}
 use Rattle.graph_read.specs.Grids.{grid_of}
 use Rattle.graph_read.specs.Grammar.{IsGraphText}
@@ -18,28 +18,37 @@ use Rattle.pop_words.specs.declared.command.Command.TheVariants.{Formula, Orient
 use Rattle.pop_words.specs.declared.job.Job.{Job}
 use Rattle.pop_words.specs.CommandLines.{Asks}
 use Rattle.pop_watch.specs.Telling.{Watcher}
+use Rattle.pop_print.specs.declared.facts.Facts.{Facts}
 use Rattle.top_call.specs.Witnesses.{is_missing}
 use Rattle.top_call.specs.Batches.{AreFew}
 use Rattle.top_call.specs.Outcomes.{Outcome, AnswersBy}
 use Rattle.top_call.specs.Outcomes.Outcome.{Resampled}
 use Rattle.top_call.specs.Sampling.{pair_weights}
 use Rattle.run_cert.specs.Certificates.{Certificate, IsCertOf}
-use Rattle.top_call.specs.Replays.{cert_limit, HasLog}
+use Rattle.top_call.specs.Names.{names_for}
+use Rattle.top_call.specs.Made.{IsMade}
+use Rattle.top_call.specs.Replays.{cert_limit}
 use Rattle.top_call.specs.Answers.{IsOutcome, origin_for}
+use Rattle.answer_laws.specs.Orders.{HasExtremalEvents}
 
 -- the text is that of the formula, within the limits, and no clause of it is empty
 pub record Spells (text : List ℕ) (f : Cnf) : Type 0 where
   pub is : IsCnfText text f
   pub full : first_empty f ≡ None
 
--- its events are extremal
-abbrev pub HasExtremalEvents : Cnf → Type 0
-HasExtremalEvents f = (events : List (ℕ × Cube)) → AreEventsOf f.clauses events
-    → IsExtremal (Listed events)
-
 -- the samples that are asked for aren't too many, and the stacks of these weights have no fault
 abbrev pub CanBeSampled : Job → List (List ℕ) → Type 0
 CanBeSampled job weights = AreFew job.count (length weights) × IsSound (origin_for job) weights
+
+-- what the certificate's command runs, of its input and over its stacks, is made, and the log text
+-- is that of a legal log of it
+pub record HasLegalLog (cert : Certificate) : Type 0 where
+  pub facts : Facts
+  pub instance : Instance
+  pub made : IsMade cert.head.command (origin_of cert.head.stacks cert.head.height) cert.head.root
+      cert.input facts instance
+  pub log : List LogRecord
+  pub read : IsReadAs (names_for facts) instance cert.log_text log
 
 -- the text is a certificate within the limit, and nothing stands against its input, its stacks and
 -- its log
@@ -47,7 +56,7 @@ pub record CanBeReplayed (text : List ℕ) : Type 0 where
   pub short : length text ≤ cert_limit
   pub cert : Certificate
   pub is : IsCertOf text cert
-  pub has : HasLog cert
+  pub has : HasLegalLog cert
 
 -- nothing stands against a command and a text: the text is in its grammar, within the limits; the
 -- graph has no isolated vertex, or each vertex is joined to the root; samples aren't too many; the

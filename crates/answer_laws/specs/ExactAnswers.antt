@@ -1,15 +1,19 @@
 -- The exact law, said of answers: into given rows any sample may be written in place of the one
 -- with which their run ends (Propp and Wilson 1998; Guo, Jerrum and Liu 2019).
-use Rattle.std.specs.Prelude.{◌≡◌, ℕ, ◌<◌, List, [], length, map, replicate, All}
+use Rattle.std.specs.Prelude.{◌≡◌, ◌↔◌, ℕ, ◌<◌, ◌≤◌, ◌^◌, List, [], length, map, replicate, All}
 use Rattle.pop_model.specs.Popping.{values_at}
 use Rattle.pop_model.specs.Instances.{Instance}
 use Rattle.pop_stacks.specs.declared.stack_spec.StackSpec.TheVariants.{Given}
 use Rattle.pop_stacks.specs.Faults.{AreLight}
 use Rattle.pop_samples.specs.Frames.{Rows, Frame, IsSampleOf}
 use Rattle.pop_samples.specs.Exchange.{exchange}
+use Rattle.pop_words.specs.declared.command.Command.{Command}
+use Rattle.pop_words.specs.declared.command.Command.TheVariants.{Formula, Orient, Tree, Make}
 use Rattle.pop_words.specs.declared.job.Job.{Job}
+use Rattle.pop_words.specs.Options.{default_job}
 use Rattle.pop_words.specs.CommandLines.{Asks}
 use Rattle.pop_watch.specs.Telling.{Watcher}
+use Rattle.run_cert.specs.Heads.{MayBeStacks}
 use Rattle.pop_print.specs.declared.facts.Facts.{Facts}
 use Rattle.top_call.specs.Tellings.{Telling}
 use Rattle.top_call.specs.Outcomes.Outcome.{Ended}
@@ -65,3 +69,18 @@ ReachedAnswers = (job : Job) (text : List ℕ) (s : Subject) (heights x : List �
     → IsSubjectOf job.command job text s → AreLight s.weights
     → length heights ≡ length s.weights → All (λ h. 0 < h) heights
     → IsSampleOf (frame_over s heights) x → IsReached job text s heights x
+
+-- a job of such a command with no option but a root, or the side of a grid
+abbrev pub IsPlain : Command → Job → Type 0
+IsPlain Formula job = job ≡ default_job Formula
+IsPlain Orient job = job ≡ default_job Orient
+IsPlain Tree job = (root : ℕ) × (0 < root) × (root < 2 ^ 32)
+    × (job ≡ record (default_job Tree) { root = root })
+IsPlain Make job = (side : ℕ) × (0 < side) × (side ≤ 2048)
+    × (job ≡ record (default_job Make) { size = side })
+IsPlain command job = ⊥
+
+-- Words ask for such a job over rows exactly where the rows are within the limits of words.
+abbrev pub AskedRows : Type 0
+AskedRows = (job : Job) (rows : Rows) → IsPlain job.command job
+    → ((words : List (List ℕ)) × Asks words (over_rows job rows)) ↔ MayBeStacks (Given rows)

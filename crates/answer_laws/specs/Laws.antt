@@ -1,6 +1,6 @@
 -- Laws of answers.
 use Rattle.std.specs.Prelude.{◌≡◌, ◌≢◌, ◌⊎◌, ℕ, ◌<◌, ◌≤◌, List, length, Option, None, Some, slice_get, ⊤}
-use Rattle.pop_words.specs.declared.command.Command.TheVariants.{Resample, Resume}
+use Rattle.pop_words.specs.declared.command.Command.TheVariants.{Resample}
 use Rattle.pop_words.specs.declared.job.Job.{Job}
 use Rattle.pop_words.specs.CommandLines.{Asks}
 use Rattle.pop_words.specs.declared.reports.Reports.{Reports}
@@ -18,13 +18,14 @@ use Rattle.top_call.specs.Reports.{reports_text}
 use Rattle.top_call.specs.Tellings.{records_of, LeadsToEnd}
 use Rattle.top_call.specs.Pauses.{IsPause}
 use Rattle.top_call.specs.Answers.{IsOutcome, IsAnswer}
+use Rattle.answer_laws.specs.Orders.{HasOneEnd, LeadsToOneEnd}
 
--- the words ask neither for a resampling, whose order of pops is free, nor for a run that goes on,
--- which may be one, nor for one that may stop before its end, which is free in what it popped by
--- then
-abbrev pub AskForOneEnd : List (List ℕ) → Type 0
-AskForOneEnd words = (job : Job) → Asks words job
-    → (job.command ≢ Resample) × (job.command ≢ Resume) × (job.pops ≡ None)
+-- All orders of the pops that the words ask for lead to one end of this text: a resampling is one
+-- of extremal events, and so is one that goes on. And no run may stop before its end, since it is
+-- free in what it popped by then.
+abbrev pub AskForOneEnd : List (List ℕ) → List ℕ → Type 0
+AskForOneEnd words text = (job : Job) → Asks words job
+    → LeadsToOneEnd job.command text × (job.pops ≡ None)
 
 -- Watchers that report alike of every log, where these reports are asked for: so do the same
 -- watchers, and any where none is.
@@ -32,7 +33,12 @@ abbrev pub ReportAlike : Reports → List Watcher → List Watcher → Type 0
 ReportAlike asked watchers others = (log : List LogRecord)
     → reports_text asked (log_told log watchers) ≡ reports_text asked (log_told log others)
 
--- the watchers report alike where the words ask for them, but of a resampling
+-- the watchers report alike where the words ask for them
+abbrev pub AskForLikeReports : List (List ℕ) → List Watcher → List Watcher → Type 0
+AskForLikeReports words watchers others = (job : Job) → Asks words job
+    → ReportAlike job.reports watchers others
+
+-- so they do but of a resampling
 abbrev pub AskForLike : List (List ℕ) → List Watcher → List Watcher → Type 0
 AskForLike words watchers others = (job : Job) → Asks words job → job.command ≢ Resample
     → ReportAlike job.reports watchers others
@@ -40,7 +46,8 @@ AskForLike words watchers others = (job : Job) → Asks words job → job.comman
 -- such words and a text have one answer with watchers that report alike: one status and one output
 abbrev pub OneAnswer : Type 0
 OneAnswer = (words : List (List ℕ)) (watchers others : List Watcher) (text : List ℕ)
-    (status other : ℕ) (out out' : List ℕ) → AskForOneEnd words → AskForLike words watchers others
+    (status other : ℕ) (out out' : List ℕ) → AskForOneEnd words text
+    → AskForLikeReports words watchers others
     → IsAnswer words watchers text status out → IsAnswer words others text other out'
     → (status ≡ other) × (out ≡ out')
 
@@ -116,16 +123,19 @@ SampleFinished = (words : List (List ℕ)) (watchers : List Watcher) (text : Lis
     → IsOutcome words watchers text o → status_of o ≡ 0 → EndsFinished o
 
 -- an outcome of a run that may stop after so many pops tells a pause exactly where each run to an
--- end has more: so it tells the end of the one-thread run exactly where that one has no more
+-- end has more: so it tells an end, which is that of the one-thread run but of a resampling,
+-- exactly where there are no more pops
 abbrev pub TellsPause : ℕ → Outcome → Type 0
 TellsPause most (Paused job input facts i placed) = (log : List LogRecord)
     → RunsToEnd i (start_of i) log → most < length log
 TellsPause most (Ended facts i cursors pops stuck telling) =
     IsFirstEnd i cursors pops stuck × (pops ≤ most)
+TellsPause most (Resampled facts i placed stuck telling) =
+    LeadsToEnd i (records_of placed) stuck × (length placed ≤ most)
 TellsPause most o = ⊤
 
--- so does each outcome of such words, where the order of pops isn't free
+-- so does each outcome of such words, where all orders of pops lead to one end
 abbrev pub PausedExactly : Type 0
 PausedExactly = (words : List (List ℕ)) (watchers : List Watcher) (text : List ℕ) (job : Job)
-    (most : ℕ) (o : Outcome) → Asks words job → job.command ≢ Resample → job.pops ≡ Some most
+    (most : ℕ) (o : Outcome) → Asks words job → HasOneEnd job.command text → job.pops ≡ Some most
     → IsOutcome words watchers text o → TellsPause most o

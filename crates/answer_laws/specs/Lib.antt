@@ -1,7 +1,9 @@
+pub mod Orders
 pub mod Laws
 pub mod Shown
 pub mod Workers
 pub mod Resumed
+pub mod Unpaused
 pub mod Stages
 pub mod FirstSample
 pub mod RoundsLikeFormula

@@ -5,7 +5,7 @@ use Rattle.pop_words.specs.declared.job.Job.{Job}
 use Rattle.pop_words.specs.CommandLines.{Choice, Asks}
 use Rattle.pop_watch.specs.Telling.{Watcher}
 use Rattle.top_call.specs.Answers.{IsAnswer}
-use Rattle.answer_laws.specs.Laws.{AskForOneEnd, AskForLike}
+use Rattle.answer_laws.specs.Laws.{AskForOneEnd, AskForLikeReports}
 
 -- an option of this name tells the crew
 abbrev pub tells_crew : List ℕ → Bool
@@ -25,11 +25,11 @@ pub record DifferInWorkers (words others : List (List ℕ)) : Type 0 where
   pub command : asks.command ≡ asks_other.command
   pub options : but_workers asks.chosen ≡ but_workers asks_other.chosen
 
--- Such words have with a text one answer, with watchers that report alike, where they ask neither
--- for a resampling nor for a run that may stop before its end, nor for one that goes on.
+-- Such words have with a text one answer, with watchers that report alike, where all orders of pops
+-- lead to one end, and no run may stop before it.
 abbrev pub WorkersAgree : Type 0
 WorkersAgree = (words others : List (List ℕ)) (watchers further : List Watcher) (text : List ℕ)
-    (status other : ℕ) (out out' : List ℕ) → DifferInWorkers words others → AskForOneEnd words
-    → AskForLike words watchers further
+    (status other : ℕ) (out out' : List ℕ) → DifferInWorkers words others
+    → AskForOneEnd words text → AskForLikeReports words watchers further
     → IsAnswer words watchers text status out → IsAnswer others further text other out'
     → (status ≡ other) × (out ≡ out')

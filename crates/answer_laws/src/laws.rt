@@ -3,24 +3,25 @@ ghost use Rattle.answer_laws.specs.Laws.{OneAnswer, OneOutcome, OneLoggedAnswer,
 ghost use Rattle.answer_laws.specs.Shown.{SampleShown, ExhaustedShown};
 ghost use Rattle.answer_laws.specs.Workers.{WorkersAgree};
 ghost use Rattle.answer_laws.specs.Resumed.{ResumedAlike};
+ghost use Rattle.answer_laws.specs.Unpaused.{ResumedUnpaused};
 ghost use Rattle.answer_laws.specs.Stages.{GrownAlike, StagesAgree};
 ghost use Rattle.answer_laws.specs.FirstSample.{FirstSample, FirstSampleOfWords};
 ghost use Rattle.answer_laws.specs.RoundsLikeFormula.{RoundsLikeFormula};
 ghost use Rattle.answer_laws.specs.Complete.{Complete};
-ghost use Rattle.answer_laws.specs.ExactAnswers.{ExchangedAnswers, ReachedAnswers};
+ghost use Rattle.answer_laws.specs.ExactAnswers.{AskedRows, ExchangedAnswers, ReachedAnswers};
 ghost use Rattle.answer_laws.specs.EverySample.{EveryAssignment, EveryOrientation, EveryTree};
 
-/// Words that ask neither for a resampling nor for a run that may stop before its end, nor for one
-/// that goes on, have with a text one answer, with watchers that report alike: one status and one
-/// output. So for such words the contract of `run` leaves its body no choice where neither a device
-/// nor memory fails.
+/// Words that ask for no run that may stop before its end have with a text one answer, with
+/// watchers that report alike: one status and one output. Where they ask for a resampling, or go on
+/// with one, its events are to be extremal. So for such words the contract of `run` leaves its body
+/// no choice where neither a device nor memory fails.
 pub fn one_answer()
     ensures { OneAnswer }
 {}
 
-/// Words and a text have one outcome, but for the pops of a resampling, which may be gone on with,
-/// and for the pops up to a pause: then each outcome is a run of the same instance to an end, or to
-/// a pause, with its log.
+/// Words and a text have one outcome, but for the pops of a resampling, also of one that is gone on
+/// with, and for the pops up to a pause: then each outcome is a run of the same instance to an end,
+/// or to a pause, with its log.
 pub fn one_outcome()
     ensures { OneOutcome }
 {}
@@ -31,8 +32,8 @@ pub fn one_logged_answer()
     ensures { OneLoggedAnswer }
 {}
 
-/// Where the order of pops isn't free, a run that may stop after so many pops is answered by a
-/// certificate, with status 10, exactly where each run to an end has more.
+/// A run that may stop after so many pops is answered by a certificate, with status 10, exactly
+/// where each run to an end has more. Of a resampling the events are to be extremal.
 pub fn paused_exactly()
     ensures { PausedExactly }
 {}
@@ -59,10 +60,10 @@ pub fn exhausted_shown()
     ensures { ExhaustedShown }
 {}
 
-/// Words that ask neither for a resampling nor for a run that may stop, nor for one that goes on,
-/// and differ only in `--workers` and `--board`, have with a text one answer, with watchers that
-/// report alike. So where neither a device nor memory fails, such words are answered alike for any
-/// number of workers, on either board. Of a resampling the sample may differ too.
+/// Words that ask for no run that may stop, and differ only in `--workers` and `--board`, have with
+/// a text one answer, with watchers that report alike. Where they ask for a resampling, or go on
+/// with one, its events are to be extremal: else the sample may differ. So where neither a device
+/// nor memory fails, such words are answered alike for any number of workers, on either board.
 pub fn workers_agree()
     ensures { WorkersAgree }
 {}
@@ -74,6 +75,13 @@ pub fn resumed_alike()
     ensures { ResumedAlike }
 {}
 
+/// Paused and resumed is unpaused: where words with `--pops` are answered by a certificate, with
+/// status 10, and the certificate and its log are within their limits, each answer of `resume` to
+/// the certificate is an answer to the words without `--pops`, over the same text.
+pub fn resumed_unpaused()
+    ensures { ResumedUnpaused }
+{}
+
 /// Words with `--height H --grow T` have the same answers as those with `--height T` in its place,
 /// with any watchers and any text, and also where a resampling is asked for: no answer tells that
 /// its run was made in stages.
@@ -81,8 +89,8 @@ pub fn grown_alike()
     ensures { GrownAlike }
 {}
 
-/// So have words that differ in `--height` and `--grow` alone, and whose stacks have the same height
-/// at last: as those with `--height H --grow T` and those with `--height T`.
+/// So have words that differ in `--height` and `--grow` alone, and whose stacks have the same
+/// height at last: as those with `--height H --grow T` and those with `--height T`.
 pub fn stages_agree()
     ensures { StagesAgree }
 {}
@@ -126,6 +134,14 @@ pub fn exchanged_answers()
 /// rows, of any heights.
 pub fn reached_answers()
     ensures { ReachedAnswers }
+{}
+
+/// Words ask for rows, of `formula`, `orient`, `tree` or `make` with no option but a root or a
+/// side, exactly where the rows are within the limits of words: at most 2^22 rows, which have at
+/// most 2^20 numbers together, each of 32 bits, and aren't just one empty row. So the rows of a
+/// sample (`reached_answers`) have words that ask for them where they are within these.
+pub fn asked_rows()
+    ensures { AskedRows }
 {}
 
 /// Samples, in the words of formulas and graphs: each assignment that satisfies a formula, each

@@ -1,0 +1,86 @@
+-- Rows that are within the limits of words are written as they are read again, behind `--stacks`. And rows that words ask
+-- for are within them.
+use Rattle.std.proofs.Common.{◌≡◌, ◌<◌, ◌≤◌, ◌-◌, ◌^◌, ℕ, if◌then◌else◌, List, [], ◌∷◌, drop, None, Some, Ok, refl, sym, ap, subst, ◌∙◌, arith, codes, decimal}
+use Rattle.std.specs.Prelude.{nat_le, ◌&&◌}
+use Rattle.std.specs.Cmp.Derive.{both_true}
+use Rattle.std.proofs.lemmas.Bool.{le-leb}
+use Rattle.pop_stacks.specs.declared.stack_spec.StackSpec.TheVariants.{Given}
+use Rattle.pop_words.specs.declared.command.Command.{Command}
+use Rattle.pop_words.specs.declared.command.Command.TheVariants.{Formula, Orient, Tree, Make}
+use Rattle.pop_words.specs.declared.job.Job.{Job}
+use Rattle.pop_words.specs.Values.{only_if, number_between}
+use Rattle.pop_words.specs.Options.{default_job}
+use Rattle.pop_words.specs.CommandLines.{Asks}
+use Rattle.pop_words.specs.Reading.{reading}
+use Rattle.pop_words.proofs.ReadingLemmas.{IsReading, reading_is}
+use Rattle.pop_samples.specs.Frames.{Rows}
+use Rattle.run_cert.specs.Heads.{rows_text, MayBeStacks}
+use Rattle.run_cert.proofs.SpelledRows.{number_again, rows_again}
+use Rattle.run_cert.proofs.AskedStacks.{asked_stacks}
+use Rattle.answer_laws.specs.ExactAnswers.{over_rows, IsPlain, AskedRows}
+
+-- the word of rows
+abbrev word_of : Rows → List ℕ
+word_of rows = drop 1 (rows_text rows)
+
+-- a number within bounds is read again
+number_read : (low high n : ℕ) → low ≤ n → n ≤ high → n < 2 ^ 32 → number_between low high (decimal n) ≡ Some n
+number_read low high n from to fits =
+    ap (only_if (λ m. nat_le low m && nat_le m high)) (number_again n fits)
+    ∙ ap (λ b. if b then Some n else None) (both_true (le-leb low n from) (le-leb n high to))
+
+-- words that are read so ask for the job
+asked_by_reading : (words : List (List ℕ)) (job : Job) → reading words ≡ Ok job → (ws : List (List ℕ)) × Asks ws job
+asked_by_reading words job read = (words, subst (IsReading words) read (reading_is words))
+
+-- of a formula
+formula_asked : (rows : Rows) → MayBeStacks (Given rows)
+    → (words : List (List ℕ)) × Asks words (over_rows (default_job Formula) rows)
+formula_asked rows may =
+    asked_by_reading (codes "formula" ∷ codes "--stacks" ∷ word_of rows ∷ []) (over_rows (default_job Formula) rows)
+    (rw (rows_again rows may) refl)
+
+-- of an orientation
+orient_asked : (rows : Rows) → MayBeStacks (Given rows)
+    → (words : List (List ℕ)) × Asks words (over_rows (default_job Orient) rows)
+orient_asked rows may =
+    asked_by_reading (codes "orient" ∷ codes "--stacks" ∷ word_of rows ∷ []) (over_rows (default_job Orient) rows)
+    (rw (rows_again rows may) refl)
+
+-- of a tree
+tree_asked : (rows : Rows) (root : ℕ) → 0 < root → root < 2 ^ 32 → MayBeStacks (Given rows)
+    → (words : List (List ℕ)) × Asks words (over_rows (record (default_job Tree) { root = root }) rows)
+tree_asked rows root some fits may =
+    let read = number_read 1 (2 ^ 32 - 1) root (omega (arith, some)) (omega (arith, fits)) fits in
+    asked_by_reading (codes "tree" ∷ codes "--root" ∷ decimal root ∷ codes "--stacks" ∷ word_of rows ∷ [])
+    (over_rows (record (default_job Tree) { root = root }) rows)
+    (rw read (rw (rows_again rows may) refl))
+
+-- of a grid
+make_asked : (rows : Rows) (side : ℕ) → 0 < side → side ≤ 2048 → MayBeStacks (Given rows)
+    → (words : List (List ℕ)) × Asks words (over_rows (record (default_job Make) { size = side }) rows)
+make_asked rows side some few may =
+    let read = number_read 1 2048 side (omega (arith, some)) few (omega (arith, few)) in
+    asked_by_reading (codes "make" ∷ codes "grid" ∷ decimal side ∷ codes "--stacks" ∷ word_of rows ∷ [])
+    (over_rows (record (default_job Make) { size = side }) rows)
+    (rw read (rw (rows_again rows may) refl))
+
+-- so words ask for rows within the limits
+rows_asked : (k : Command) (job : Job) (rows : Rows) → IsPlain k job → MayBeStacks (Given rows)
+    → (words : List (List ℕ)) × Asks words (over_rows job rows)
+rows_asked Formula job rows plain may =
+    subst (λ j. (words : List (List ℕ)) × Asks words (over_rows j rows)) (sym plain) (formula_asked rows may)
+rows_asked Orient job rows plain may =
+    subst (λ j. (words : List (List ℕ)) × Asks words (over_rows j rows)) (sym plain) (orient_asked rows may)
+rows_asked Tree job rows (root, some, fits, is) may =
+    subst (λ j. (words : List (List ℕ)) × Asks words (over_rows j rows)) (sym is) (tree_asked rows root some fits may)
+rows_asked Make job rows (side, some, few, is) may =
+    subst (λ j. (words : List (List ℕ)) × Asks words (over_rows j rows)) (sym is) (make_asked rows side some few may)
+rows_asked k job rows plain may = absurd plain
+
+-- the law
+pub asked_rows : AskedRows
+asked_rows job rows plain = (
+  λ (words, asks). asked_stacks words (over_rows job rows) asks,
+  λ may. rows_asked job.command job rows plain may,
+)
