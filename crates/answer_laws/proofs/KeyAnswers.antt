@@ -47,6 +47,7 @@ use Rattle.pop_words.proofs.JobsInRange.{asked_grow, asked_height}
 use Rattle.pop_words.proofs.ListTests.{all_at}
 use Rattle.pop_words.proofs.OneJob.{same_job}
 use Rattle.pop_watch.specs.Telling.{Watcher}
+use Rattle.pop_log.specs.Layers.{Placed}
 use Rattle.pop_print.specs.declared.facts.Facts.{Facts}
 use Rattle.top_call.specs.Outcomes.{Outcome, end_status, status_of}
 use Rattle.top_call.specs.Outcomes.Outcome.{Usage, Unread, Isolated, NoRoot, CutOff, TooMany, Unsound, Clashes, Extremal, Ended, Resampled, Rounded, Batched, Paused, Replayed, NotLegal}
@@ -58,7 +59,7 @@ use Rattle.answer_laws.specs.KeyAnswers.{IsDrawn, IsKeyedAnswer, IsKeyedRounds, 
 use Rattle.top_call.proofs.ByCommand.{of_line}
 use Rattle.answer_laws.proofs.EndedSubjects.{IsBatchOfSubject, IsEndOfSubject, batched_subject, ended_subject}
 use Rattle.top_call.proofs.Lifting.{no_replay}
-use Rattle.answer_laws.proofs.OneOutcome.{no_history, word_cases}
+use Rattle.answer_laws.proofs.OneOutcome.{word_cases}
 use Rattle.answer_laws.proofs.RoundAnswers.{IsEndOfFormula, IsRounded, formula_frame, rounded_of, rounds_line_of}
 use Rattle.answer_laws.proofs.RoundOutputs.{finished_rounds}
 use Rattle.answer_laws.proofs.ShownSamples.{faulty, refused}
@@ -241,6 +242,20 @@ no_verdict Rounds job ws text n is h = false≢true is
 no_verdict Replay job ws text n is h = false≢true is
 no_verdict Resume job ws text n is h = false≢true is
 
+-- or tells a run whose order isn't determined
+no_order : (command : Command) (job : Job) (ws : List Watcher) (text : List ℕ) (facts : Facts) (i : Instance)
+    (placed : List Placed) (stuck : List Event) (a : Telling) → is_quiet command ≡ true
+    → ComesOfCommand command job ws text (Resampled facts i placed stuck a) → ⊥
+no_order Formula job ws text facts i placed stuck a is h = h.comes.1.end
+no_order Orient job ws text facts i placed stuck a is h = h.comes.1.1.end
+no_order Tree job ws text facts i placed stuck a is h = h.comes.2.1
+no_order Make job ws text facts i placed stuck a is h = h.1
+no_order Resample job ws text facts i placed stuck a is h = false≢true is
+no_order Check job ws text facts i placed stuck a is h = false≢true is
+no_order Rounds job ws text facts i placed stuck a is h = false≢true is
+no_order Replay job ws text facts i placed stuck a is h = false≢true is
+no_order Resume job ws text facts i placed stuck a is h = false≢true is
+
 -- it reads no certificate
 quiet_line : (command : Command) → is_quiet command ≡ true → IsOfLine command
 quiet_line Formula is = tt
@@ -293,8 +308,7 @@ low_cases job is ws text (Ended facts i c pops stuck a) h low = inl (record {
 low_cases job is ws text (Batched facts i ends) h low =
     inr (record { facts = facts; instance = i; ends = ends; told = refl; comes = h })
 low_cases job is ws text (Resampled facts i placed stuck a) h low =
-    absurd (no_history job.command job ws text facts i placed stuck a
-    (λ same. false≢true (sym (ap is_quiet same) ∙ is)) h)
+    absurd (no_order job.command job ws text facts i placed stuck a is h)
 low_cases job is ws text (Rounded facts i c rounds stuck short) h low =
     let by = (rounded_of job.command job ws text facts i c rounds stuck short h).command_is in
     absurd (false≢true (sym (ap is_quiet by) ∙ is))

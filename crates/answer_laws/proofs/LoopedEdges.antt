@@ -2,16 +2,14 @@
 -- alone print the same lines; and no event names a loop. So the values of loops may be carried from one sample to another.
 use Rattle.std.proofs.Common.{inl, inr, ◌≡◌, ℕ, zero, suc, ◌+◌, ◌*◌, ◌<◌, Bool, true, false, cond, ◌==◌, List, [], ◌∷◌, ◌++◌, length, flat_map, get_or, All, Contains, slice_index, refl, sym, ap, ap₂, subst, ◌∙◌, arith, eqb-true}
 use Rattle.std.specs.List.{enumerate_from}
-use Rattle.std.proofs.lemmas.Bool.{cases_Bool, false≢true}
+use Rattle.std.proofs.lemmas.Bool.{cases_Bool}
 use Rattle.std.proofs.lemmas.Grind.{same_number_lists}
 use Rattle.std.proofs.lemmas.List.{length-replicate, get_or_default, get_or-replicate}
 use Rattle.std.proofs.lemmas.List.Elements.{Contains-get_or}
 use Rattle.std.proofs.lemmas.Option.{slice_get_within, get_or_from_slice_get}
 use Rattle.pop_model.specs.Popping.{Cube}
-use Rattle.pop_model.specs.Families.{Event, IsEvent}
-use Rattle.pop_model.specs.Families.Family.{Listed}
 use Rattle.graph_read.specs.declared.edge.Edge.{Edge}
-use Rattle.graph_read.specs.Graphs.{GraphOf, edge_at}
+use Rattle.graph_read.specs.Graphs.{GraphOf}
 use Rattle.graph_read.specs.Incidence.{is_loop}
 use Rattle.sink_popping.specs.Sinks.{AreSinksOf}
 use Rattle.sink_popping.proofs.SinkCubesLemmas.{touching_is_no_loop}

@@ -541,9 +541,11 @@ module _ (job : Job) (text : List ℕ) (s : Subject) (is : IsSubjectOf job.comma
       let v : List ℕ = carry s.facts u x in
       let is_v : IsSampleOf f v = to.made u is_u like in
       let swapped : Swaps f (Answered v) u v c r = swap u v is_v c r at in
-      let t : Rows = exchange r c v in
-      (t, (c, v, is_v, to.like u is_u like, swapped.there),
-      (c, u, is_u, like, at, swapped.there, refl, sym swapped.back, swapped.weight))
+      let t : Rows = exchange r c v in (
+        t,
+        (c, v, is_v, to.like u is_u like, swapped.there),
+        (c, u, is_u, like, at, swapped.there, refl, sym swapped.back, swapped.weight),
+      )
 
   -- and are one's partner
   partner_of : (w x : List ℕ) → Carries s heights w x → Carries s heights x w → (t : Rows) → Found x t
@@ -554,11 +556,21 @@ module _ (job : Job) (text : List ℕ) (s : Subject) (is : IsSubjectOf job.comma
       let like_u : IsLike s.facts u w = fro.like v is_v like in
       let swapped : Swaps f (Answered u) v u c t = swap v u is_u c t at in
       let r : Rows = exchange t c u in
-      let again : carry s.facts u x ≡ v = fro.back v is_v like in
-      (r, (c, u, is_u, like_u, swapped.there),
-      (c, u, is_u, like_u, swapped.there, subst (λ (k : List ℕ). Answered k c t) (sym again) at,
-      sym swapped.back ∙ ap (exchange r c) (sym again), refl,
-      sym swapped.weight ∙ ap (λ (k : List ℕ). weight_of s.weights r * sample_weight s.weights k) (sym again)))
+      let again : carry s.facts u x ≡ v = fro.back v is_v like in (
+        r,
+        (c, u, is_u, like_u, swapped.there),
+        (
+          c,
+          u,
+          is_u,
+          like_u,
+          swapped.there,
+          subst (λ (k : List ℕ). Answered k c t) (sym again) at,
+          sym swapped.back ∙ ap (exchange r c) (sym again),
+          refl,
+          sym swapped.weight ∙ ap (λ (k : List ℕ). weight_of s.weights r * sample_weight s.weights k) (sym again),
+        ),
+      )
 
   -- each has one at most, with the weight in proportion
   matches : (w x : List ℕ) → Carries s heights w x
