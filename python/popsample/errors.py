@@ -260,8 +260,8 @@ class ClashError(InputRefusal):
     form = "s CLASH I J"
     sentence = (
         "Clauses I (FIRST) and J (SECOND) share a variable and can both be false, so the formula isn't extremal: use "
-        "rounds, or resample, whose log tells the pops, but how many stacks give each of its samples depends on the "
-        "order of the pops."
+        "rounds, which samples exactly, or resample, whose log tells the pops, but how many stacks give each of its "
+        "samples depends on their order."
     )
 
     def __init__(self, first: int, second: int, texts: tuple[str, str]) -> None:

@@ -121,9 +121,9 @@ def resample(
     """Makes a satisfying assignment of any formula by resampling, and tells the log of the pops.
 
     Of an extremal formula it is distributed as that of `sample_formula`. Where the formula isn't extremal, it satisfies
-    each clause, but isn't exactly distributed: some assignments come more often than others, even with one worker, and
-    how often depends on the order of the pops, which is free. With one worker the result is that of the key, with
-    several it may differ from call to call. `rounds` samples any formula exactly.
+    each clause, but unlike `rounds`, which samples any formula exactly, it has no exact law: how likely each assignment
+    is hangs on the order of the pops, which is free. With one worker the result is that of the key, with several it may
+    differ from call to call.
 
     The arguments are those of `sample_formula`, but that the log is always told, and `NoWitnessError` is raised where
     no pop used the entry of `witness`.
