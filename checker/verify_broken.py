@@ -14,6 +14,7 @@ import sys
 from collections import Counter
 from typing import Iterator
 
+from verifier.telling import status_of
 from verify_random import in_words, judged
 
 # A run of one clause that was stopped at its first pop.
@@ -47,12 +48,7 @@ def main() -> int:
     parser = argparse.ArgumentParser(description="Judges the answers of a built program to broken certificates.")
     parser.add_argument("program", metavar="PROGRAM", help="the built program")
     asked = parser.parse_args()
-    try:
-        print(judge_broken(asked.program))
-    except ValueError as error:
-        print(error)
-        return 1
-    return 0
+    return status_of(lambda: judge_broken(asked.program))
 
 
 if __name__ == "__main__":

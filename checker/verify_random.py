@@ -19,6 +19,7 @@ from typing import Iterator
 from verifier.judging import judge
 from verifier.random_cases import changed_certificate, random_case
 from verifier.refusals import Difference
+from verifier.telling import status_of
 
 # The status of a run that was stopped, whose answer is a certificate.
 STOPPED = 10
@@ -94,12 +95,7 @@ def main() -> int:
     parser.add_argument("count", metavar="COUNT", type=int, nargs="?", default=300, help="how many instances (300)")
     parser.add_argument("seed", metavar="SEED", type=int, nargs="?", default=1, help="by which they are drawn (1)")
     asked = parser.parse_args()
-    try:
-        print(judge_cases(asked.program, asked.count, asked.seed))
-    except ValueError as error:
-        print(error)
-        return 1
-    return 0
+    return status_of(lambda: judge_cases(asked.program, asked.count, asked.seed))
 
 
 if __name__ == "__main__":

@@ -37,10 +37,14 @@ class Stacks:
         """An entry of a stack, from 0. Variables count from 0."""
         if self.job.rows is not None:
             return self.job.rows[variable][place]
-        sums = self.sums[variable]
         stream = (self.sample << 32) + variable
-        drawn = drawn_number(self.job.key, stream, place) * sums[-1] >> 64
-        return next(value for value, total in enumerate(sums) if total > drawn)
+        return value_of(drawn_number(self.job.key, stream, place), 64, self.sums[variable])
+
+
+def value_of(number: int, bits: int, sums: list[int]) -> int:
+    """The value that a number of so many bits gives, where `sums` has the weights up to each value together."""
+    scaled = number * sums[-1] >> bits
+    return next(value for value, total in enumerate(sums) if total > scaled)
 
 
 def check_rows(rows: list[list[int]], names: list[int], weights: list[list[int]]) -> None:
