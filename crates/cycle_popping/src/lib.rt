@@ -7,8 +7,6 @@ mod grids;
 mod heads;
 pub mod laws;
 mod names;
-#[cfg(test)]
-mod tests;
 mod walks;
 mod weights;
 

@@ -11,8 +11,6 @@ mod header;
 pub mod laws;
 mod read;
 mod reader;
-#[cfg(test)]
-mod tests;
 mod token;
 
 pub use formula::Formula;

@@ -17,8 +17,6 @@ mod picks;
 mod read;
 mod reader;
 mod search;
-#[cfg(test)]
-mod tests;
 mod vertices;
 
 pub use adjacency::Adjacency;

@@ -17,8 +17,6 @@ mod source;
 mod splitter;
 mod std_sink;
 mod std_source;
-#[cfg(test)]
-mod tests;
 mod words;
 
 pub use failed::Failed;

@@ -7,8 +7,6 @@ pub mod laws;
 mod loops;
 mod sink_cubes;
 mod sink_fault;
-#[cfg(test)]
-mod tests;
 
 pub use events::sinks;
 pub use sink_fault::SinkFault;

@@ -1,6 +1,7 @@
+//! Sources, sinks, and the lines, words and numbers of a text.
 ghost use Rattle.std.specs.Prelude.{◌≤◌};
 
-use crate::{
+use pop_edge::{
     Failed, Lines, MemSink, MemSource, Next, ReadRefusal, Sink, Source, StdSink, StdSource,
     next_word, number, put_all,
 };

@@ -1,11 +1,12 @@
+//! Trees of graphs: their arrows and weights, and the ends of their runs.
 ghost use Rattle.std.specs.Prelude.{◌≡◌, ◌<◌, ◌^◌, length, IfOk, OnOk};
 ghost use Rattle.pop_model.specs.Stacks.{variables_of};
 ghost use Rattle.graph_read.specs.Graphs.{IsVertex};
 ghost use Rattle.graph_read.specs.Paths.{IsConnected};
 ghost use Rattle.cycle_popping.specs.Walks.{AreCycles};
 
-use crate::{arrow_weights, arrows, run_walks};
 use confluence_core::{End, Stuck, run_first};
+use cycle_popping::{arrow_weights, arrows, run_walks};
 use graph_read::{Graph, first_cut_off, read_graph};
 use pop_edge::MemSource;
 use pop_instance::{Arrows, Cursors, Family, Instance};

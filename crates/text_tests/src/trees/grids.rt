@@ -6,7 +6,7 @@ ghost use Rattle.graph_read.specs.Grids.{IsSide};
 ghost use Rattle.graph_read.specs.Paths.{IsConnected};
 
 use super::{expect_joined, first_value, same_at};
-use crate::{arrow_weights, arrows, grid_arrows, grid_weights};
+use cycle_popping::{arrow_weights, arrows, grid_arrows, grid_weights};
 use graph_read::Graph;
 use pop_instance::Arrows;
 use pop_stacks::{StackFault, StackSpec, Stacks, Weights};

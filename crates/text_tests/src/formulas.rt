@@ -1,7 +1,8 @@
+//! Formulas and their events.
 ghost use Rattle.std.specs.Prelude.{◌≡◌, ◌≤◌, IfOk, None};
 ghost use Rattle.dimacs_read.specs.Cnf.{first_empty};
 
-use crate::{Formula, read_formula};
+use dimacs_read::{Formula, read_formula};
 use pop_edge::{MemSource, ReadRefusal};
 use std::alloc::{AllocError, Global};
 use std::test::Fail;

@@ -1,7 +1,8 @@
-use crate::{SinkFault, sinks};
+//! The events of sink-free orientations.
 use graph_read::{Graph, read_graph};
 use pop_edge::MemSource;
 use pop_instance::Events;
+use sink_popping::{SinkFault, sinks};
 use std::alloc::{AllocError, Global};
 use std::test::Fail;
 

@@ -5,8 +5,8 @@ ghost use Rattle.cycle_popping.specs.Walks.{AreCycles};
 
 use super::draws::{Draw, connected, drawn};
 use super::trees;
-use crate::run_walks;
 use confluence_core::{End, Keep, Log, Stuck, run_first, run_from_zeros};
+use cycle_popping::run_walks;
 use pop_instance::{Arrows, Cube, Cursors, Family, Instance};
 use pop_stacks::{Reader, StackSpec, Stacks};
 use std::alloc::{AllocError, Global};

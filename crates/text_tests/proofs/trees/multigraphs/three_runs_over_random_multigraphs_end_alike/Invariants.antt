@@ -1,5 +1,5 @@
 use Rattle.std.proofs.Common.{◌≡◌, ◌+◌}
-use Rattle.cycle_popping.proofs.tests.multigraphs.three_runs_over_random_multigraphs_end_alike.Given as goal
+use Rattle.text_tests.proofs.trees.multigraphs.three_runs_over_random_multigraphs_end_alike.Given as goal
 
 -- each graph before here was counted once
 abbrev pub invariant-loop-i : goal.invariant-loop-i

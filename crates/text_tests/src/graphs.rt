@@ -1,6 +1,7 @@
+//! Graphs, read and made, the edges at their vertices, and the first vertex that is cut off.
 ghost use Rattle.std.specs.Prelude.{◌≤◌};
 
-use crate::{
+use graph_read::{
     Edge, Graph, Incidence, edges_at_places, first_cut_off, put_grid_neighbours, read_graph,
 };
 use pop_edge::{MemSource, ReadRefusal};

@@ -1,7 +1,7 @@
 use Rattle.std.proofs.Common.{ℕ, ◌<◌, ◌^◌, List, length, Vec, Global, arith}
 use Rattle.std.proofs.lemmas.List.{length-map}
 use Rattle.std.proofs.lemmas.List.Elements.{All-map}
-use Rattle.cycle_popping.proofs.tests.given.Goals as goal
+use Rattle.text_tests.proofs.trees.given.Goals as goal
 
 pub of-requires : goal.of-requires
 of-requires g c =

@@ -1,5 +1,5 @@
 use Rattle.std.proofs.Common.{◌<◌, ◌^◌, length, All}
-use Rattle.cycle_popping.proofs.tests.given.Given as goal
+use Rattle.text_tests.proofs.trees.given.Given as goal
 
 -- none of the rows so far is long
 abbrev pub invariant-loop-row : goal.invariant-loop-row
