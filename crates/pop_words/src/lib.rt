@@ -11,8 +11,6 @@ mod job;
 pub mod laws;
 mod option;
 mod reports;
-#[cfg(test)]
-mod tests;
 mod value;
 
 pub use board_kind::BoardKind;

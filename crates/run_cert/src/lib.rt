@@ -17,8 +17,6 @@ mod replayed;
 mod rows_text;
 mod seen;
 mod tail;
-#[cfg(test)]
-mod tests;
 
 pub use cert::Cert;
 pub use cert_refusal::CertRefusal;

@@ -1,5 +1,5 @@
 //! Tests of certificates and of runs that are stopped.
-use super::*;
+use run_cert::Look;
 use std::process::Abort;
 
 mod judging;

@@ -1,6 +1,6 @@
 use Rattle.std.proofs.Common.{◌<◌, ◌^◌, length, All}
 use Rattle.pop_instance.specs.Arrows.{heads_of}
-use Rattle.run_cert.proofs.tests.rings.arrows_of.Given as goal
+use Rattle.word_tests.proofs.certificates.rings.arrows_of.Given as goal
 
 -- the rows so far are short
 abbrev pub invariant-loop-row : goal.invariant-loop-row

@@ -3,11 +3,13 @@ ghost use Rattle.std.specs.Prelude.{◌≡◌, length};
 
 use super::paused::{INPUT, LOG_TEXT, TEXT, is_it};
 use super::printed::job_of;
-use super::*;
+use super::{looks_at, same_at, same_bytes};
 use pop_instance::{Cube, Events, Family, Instance};
 use pop_log::{LogRefusal, Names, print_layered};
 use pop_stacks::{Rows, StackSpec, Stacks, Weights};
+use run_cert::{Look, Part, print_cert, read_cert, read_part, run_part};
 use std::alloc::Global;
+use std::process::Abort;
 use std::test::Fail;
 
 // The stacks of the row 0, 0, 1.

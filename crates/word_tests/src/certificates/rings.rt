@@ -4,10 +4,11 @@ ghost use Rattle.std.specs.Prelude.{◌≡◌, length};
 ghost use Rattle.pop_model.specs.Stacks.{variables_of};
 ghost use Rattle.pop_model.specs.Popping.{AreWithin};
 
-use super::*;
+use super::{looks_at, same_at};
 use confluence_core::{End, run_first};
 use pop_instance::{Arrows, Family, Instance};
 use pop_stacks::{StackSpec, Stacks, Weights};
+use run_cert::{Look, Part, look, run_part};
 use std::alloc::{AllocError, Global};
 use std::process::Abort;
 use std::test::Fail;

@@ -1,6 +1,7 @@
 //! What is printed of a job, and what is read of it.
-use super::*;
+use super::{same_at, same_bytes};
 use pop_words::{Job, WordFault, read_words};
+use run_cert::{Cert, print_cert, read_cert};
 use std::alloc::{AllocError, Global};
 use std::process::Abort;
 use std::test::Fail;

@@ -1,8 +1,8 @@
 //! The certificate of a run that was paused after one pop, worked by hand: the formula of the one
 //! clause `1`, over the row 0, 0, 1.
-use super::*;
 use pop_stacks::{Rows, StackSpec};
 use pop_words::Command;
+use run_cert::Cert;
 
 /// Its text.
 pub static TEXT: [u8; 71] =

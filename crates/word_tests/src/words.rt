@@ -1,12 +1,13 @@
+//! Command words, and the jobs that they ask for.
 mod certificates;
 mod limits;
 mod lines;
 
-use crate::{BoardKind, Job, WordFault, read_words};
 use certificates::{CERTIFIED, UNCERTIFIED};
 use limits::LIMITS;
 use lines::{ACCEPTED, REFUSED};
 use pop_stacks::StackSpec;
+use pop_words::{BoardKind, Job, WordFault, read_words};
 use std::alloc::{AllocError, Global};
 use std::process::Abort;
 use std::test::Fail;

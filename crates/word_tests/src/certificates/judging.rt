@@ -1,6 +1,6 @@
 //! How texts are judged.
 use super::paused::{TEXT, is_it};
-use super::*;
+use run_cert::{Cert, CertRefusal, read_cert};
 use std::alloc::{AllocError, Global};
 use std::process::Abort;
 use std::test::Fail;
