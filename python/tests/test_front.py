@@ -202,8 +202,12 @@ class Programs(unittest.TestCase):
             self.assertEqual(called("make", "grid", "2", POPSAMPLE=str(path)).status, 126)
 
     def test_the_keyboard_ends_it(self):
+        # Where a shell runs the tests in the background, they ignore interrupts, and so would what they start.
+        def heeds_interrupts():
+            signal.signal(signal.SIGINT, signal.SIG_DFL)
+
         with program_of("echo begun; exec sleep 60"):
-            with running("make", "grid", "2") as process:
+            with running("make", "grid", "2", preexec_fn=heeds_interrupts) as process:
                 self.assertEqual(os.read(process.stdout.fileno(), 6), b"begun\n")
                 process.send_signal(signal.SIGINT)
                 told = process.communicate(timeout=60)[1]
