@@ -7,8 +7,9 @@
 
 The functions run the program `popsample`, which is what the environment variable POPSAMPLE names, else what was
 installed with the module, else what the PATH has, else what is built in the checkout that this module stands in. A
-result has the key that it came from: the same call with that key gives the same result. All that is raised is an `Error`, whose message says what was refused, where,
-and what to do: an `ArgumentError` before the program runs, and a `Refusal` of what the program refuses.
+result has the key that it came from: the same call with that key gives the same result. All that is raised is an
+`Error`, whose message says what was refused, where, and what to do: an `ArgumentError` before the program runs, and a
+`Refusal` of what the program refuses.
 """
 
 from .argument_errors import (
