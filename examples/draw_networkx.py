@@ -12,12 +12,14 @@ from __future__ import annotations
 
 import argparse
 import sys
-
-import networkx
-import popsample
+from typing import TYPE_CHECKING
 
 from draw import MARGIN, RADIUS, circle, picture
 from graph_text import Arrow, Graph
+
+if TYPE_CHECKING:
+    import networkx
+    import popsample
 
 
 def drawing(graph: networkx.Graph, tree: popsample.Tree) -> str:
@@ -34,6 +36,11 @@ def main() -> None:
     parser = argparse.ArgumentParser(description="Draws a random tree of the families of Florence as an SVG.")
     parser.add_argument("key", metavar="KEY", nargs="?", help="64 hexadecimal digits; one is drawn where it is left out")
     key = parser.parse_args().key
+    try:
+        import networkx
+        import popsample
+    except ModuleNotFoundError as error:
+        sys.exit(f"draw_networkx.py: {error.name} isn't installed")
     graph = networkx.florentine_families_graph()
     try:
         tree = popsample.spanning_tree(graph, root="Medici", key=key)

@@ -14,6 +14,7 @@ WANTED = (
     "each vertex"
 )
 
+
 def neighbours(vertex: Hashable, given: Any) -> Iterator[tuple[Hashable, Any]]:
     """The neighbours of a vertex, each with its weight or attributes; none of these in a list."""
     if isinstance(given, Mapping):

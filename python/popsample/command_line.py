@@ -13,8 +13,8 @@ from .version import version
 
 DESCRIPTION = "Samples by popping: spanning trees, orientations without sinks, and satisfying assignments."
 EPILOG = (
-    "What is printed, and the status, are those of the program popsample, which is what POPSAMPLE names, else what is "
-    "on the PATH. What it refuses is told on standard error, with what to do."
+    "What is printed, and the status, are those of the program popsample, which is what POPSAMPLE names, else what was "
+    "installed with the module, else what is on the PATH. What it refuses is told on standard error, with what to do."
 )
 
 # Where the entries come from, beside a seed.
