@@ -203,7 +203,7 @@ class EntryError(InputRefusal):
     form = "s VALUE V K"
     sentence = (
         "Entry K of variable V is none of its values: give 0 or 1, and in a tree 0 up to one less than the number of "
-        "the vertex's edges."
+        "the vertex's edges, without loops."
     )
 
     def __init__(self, variable: Hashable, entry: int) -> None:
