@@ -64,6 +64,9 @@ def rows_word(stacks: Stacks) -> str:
         raise OptionError("stacks", stacks, wanted) from None
     if any(not 0 <= entry <= ENTRY for row in rows for entry in row):
         raise OptionError("stacks", stacks, wanted)
+    if rows == [[]]:
+        # An empty word says that there is no row.
+        raise OptionError("stacks", stacks, "its one row has no entry")
     return ";".join(",".join(map(str, row)) for row in rows)
 
 

@@ -3,7 +3,7 @@
 from __future__ import annotations
 
 import os
-from collections.abc import Callable, Hashable, Iterable, Mapping, Sequence
+from collections.abc import Callable, Hashable, Iterable, Mapping, Sequence, Set
 from dataclasses import dataclass
 from functools import cached_property, partial
 from pathlib import Path
@@ -13,9 +13,10 @@ from .adjacency import read_mapping, read_matrix
 from .argument_errors import ArgumentError, InputTypeError, OptionError
 from .foreign_graphs import library_of
 from .graph_text import Ends, read_ends
+from .networkx_input import viewed_edges
 from .results import Arrow, Edge
 from .subject import NUMBERS, Subject
-from .weights import attribute_weights, whole_weights
+from .weights import attribute_weights, is_hashable, whole_weights
 
 Arrows = Sequence[Arrow]
 
@@ -71,6 +72,8 @@ def read_graph(graph: Any, weight: str | None = None) -> GraphInput:
         return listed(vertices, edges, partial(library.directed, graph))
     if isinstance(graph, (str, os.PathLike)):
         return GraphInput(Path(graph).read_bytes(), NUMBERS, NUMBERS)
+    if isinstance(graph, Mapping) and isinstance(graph, Set):
+        return listed(*read_list(viewed_edges(graph), weight), None)
     if isinstance(graph, Mapping):
         return listed(*read_mapping(graph, weight), None)
     return listed(*read_list(graph, weight), None)
@@ -105,15 +108,6 @@ def read_list(graph: Any, weight: str | None) -> tuple[list[Hashable], list[Edge
     except TypeError:
         wrong = next(vertex for edge in edges for vertex in edge[:2] if not is_hashable(vertex))
         raise InputTypeError(f"the vertex {wrong!r} can't be hashed: a name is a number, a string or a tuple") from None
-
-
-def is_hashable(name: Any) -> bool:
-    """Whether a name may stand in a dict."""
-    try:
-        hash(name)
-    except TypeError:
-        return False
-    return True
 
 
 def array_rows(array: Any) -> list[list[int]]:

@@ -6,8 +6,9 @@ import sys
 from collections.abc import Hashable, Iterator, Sequence
 from typing import Any
 
-from .argument_errors import InputTypeError, NoWeightError
+from .argument_errors import InputTypeError, NoWeightError, OptionError
 from .results import Arrow, Edge
+from .weights import WANTED, is_hashable
 
 
 def takes(graph: Any) -> bool:
@@ -16,20 +17,37 @@ def takes(graph: Any) -> bool:
     return library is not None and isinstance(graph, library.Graph)
 
 
-def read(graph: Any, weight: str | None) -> tuple[list[Hashable], Iterator[Edge]]:
+def read(graph: Any, weight: Any) -> tuple[list[Hashable], Iterator[Edge]]:
     """The vertices and the edges, both named by their indices, from 0. What is filtered out is passed over.
 
-    Raises InputTypeError where the graph is directed, and NoWeightError, a KeyError, where it has no edge property
-    `weight`.
+    `weight` is an edge property map of the graph, or the name of one. Raises InputTypeError where the graph is
+    directed, OptionError where `weight` is neither, and NoWeightError, a KeyError, where no map has the name.
     """
     if graph.is_directed():
         raise InputTypeError("the graph is directed: hand in graph_tool.GraphView(graph, directed=False)")
     rows = sorted(graph.get_edges([graph.edge_index]).tolist(), key=lambda row: row[2])
-    if weight is not None and weight not in graph.edge_properties:
-        raise NoWeightError(weight)
-    values = None if weight is None else values_by_number(graph, graph.edge_properties[weight])
+    values = None if weight is None else values_by_number(graph, property_map(graph, weight))
     edges = ((first, second, 1 if values is None else values[place], place) for first, second, place in rows)
     return graph.get_vertices().tolist(), edges
+
+
+def property_map(graph: Any, weight: Any) -> Any:
+    """The edge property map of the graph that this is, or that has this name."""
+    if isinstance(weight, sys.modules["graph_tool"].EdgePropertyMap):
+        if base_of(weight.get_graph()) is base_of(graph):
+            return weight
+    elif is_hashable(weight):
+        if weight in graph.edge_properties:
+            return graph.edge_properties[weight]
+        raise NoWeightError(weight)
+    raise OptionError("weight", weight, f"{WANTED}, or an edge property map of the graph")
+
+
+def base_of(graph: Any) -> Any:
+    """The graph of which this is a view; itself where it is none."""
+    while isinstance(graph, sys.modules["graph_tool"].GraphView):
+        graph = graph.base
+    return graph
 
 
 def values_by_number(graph: Any, values: Any) -> Any:

@@ -8,6 +8,7 @@ from typing import Any
 
 from .argument_errors import InputTypeError, NoWeightError
 from .results import Arrow, Edge
+from .weights import attribute_name
 
 
 class VertexNames(list[Hashable]):
@@ -35,12 +36,12 @@ def vertex_names(graph: Any) -> list[Hashable]:
 def read(graph: Any, weight: str | None) -> tuple[list[Hashable], Iterator[Edge]]:
     """The vertices, by their names or else by their indices, and the edges, by their indices, from 0.
 
-    Raises InputTypeError where the graph is directed, and NoWeightError, a KeyError, where its edges have no attribute
-    `weight`.
+    Raises InputTypeError where the graph is directed, NoWeightError, a KeyError, where its edges have no attribute
+    `weight`, and OptionError where that is no name.
     """
     if graph.is_directed():
         raise InputTypeError("the graph is directed: hand in graph.as_undirected()")
-    if weight is not None and weight not in graph.es.attributes():
+    if attribute_name(weight) is not None and weight not in graph.es.attributes():
         raise NoWeightError(weight)
     weights = [1] * graph.ecount() if weight is None else graph.es[weight]
     names = vertex_names(graph)

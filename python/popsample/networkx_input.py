@@ -35,6 +35,20 @@ def read_edges(graph: Any) -> Iterator[Edge]:
         yield edge[0], edge[1], attributes, tuple(edge)
 
 
+def viewed_edges(view: Any) -> list[tuple[Any, ...]]:
+    """The edges of a view of them, as `graph.edges` is: two ends, and the attributes.
+
+    Raises InputTypeError where it is another view, as one of vertices or of the edges of a directed graph.
+    """
+    kinds = sys.modules.get("networkx.classes.reportviews")
+    if kinds is None or not isinstance(view, (kinds.EdgeView, kinds.MultiEdgeView)):
+        raise InputTypeError(
+            f"what is handed in, {type(view).__name__}, is no view of the edges of an undirected graph: hand in the "
+            "graph itself"
+        )
+    return [(*edge[:2], view[edge]) for edge in view]
+
+
 def directed(graph: Any, arrows: Sequence[Arrow]) -> Any:
     """The arrows as a DiGraph, or as a MultiDiGraph of a multigraph, with the attributes of the graph."""
     networkx = sys.modules["networkx"]

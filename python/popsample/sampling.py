@@ -78,6 +78,8 @@ def runs_of(target: Target[Any, Any], tasks: Iterable[Task], executor: Executor 
     """The runs of these batches, in this process where there is no executor."""
     if executor is None:
         return Streamed(target, tasks)
+    if isinstance(executor, type) or not callable(getattr(executor, "submit", None)):
+        raise OptionError("executor", executor, "it is a concurrent.futures.Executor")
     return SharedOut(target, tasks, executor, ahead)
 
 

@@ -5,20 +5,39 @@ from __future__ import annotations
 import math
 import operator
 from collections.abc import Iterable, Mapping, Sequence
+from typing import Any
 
-from .argument_errors import InputTypeError, NoWeightError, WeightError
+from .argument_errors import InputTypeError, NoWeightError, OptionError, WeightError
 from .results import Edge
 
+WANTED = "it is the name of the attribute that has the weights"
 # The greatest number that the program reads.
 GREATEST = 2**32 - 1
+
+
+def is_hashable(name: Any) -> bool:
+    """Whether a name may stand in a dict."""
+    try:
+        hash(name)
+    except TypeError:
+        return False
+    return True
+
+
+def attribute_name(weight: Any) -> Any:
+    """The name of the attribute that has the weights, or None. Raises OptionError where it can be no name."""
+    if is_hashable(weight):
+        return weight
+    raise OptionError("weight", weight, WANTED)
 
 
 def attribute_weights(edges: Iterable[Edge], weight: str | None) -> list[Edge]:
     """The edges, with what the attribute has in the place of a dict of attributes.
 
     A weight is 1 where no attribute is named, or where an edge hasn't the one that is named and others have it, as
-    elsewhere in networkx. Raises NoWeightError, a KeyError, where no edge has it.
+    elsewhere in networkx. Raises NoWeightError, a KeyError, where no edge has it, and OptionError where it is no name.
     """
+    attribute_name(weight)
     given = list(edges)
     has_it = [not isinstance(edge[2], Mapping) or weight in edge[2] for edge in given]
     if weight is not None and given and not any(has_it):

@@ -3,6 +3,7 @@
 import os
 import time
 import unittest
+from concurrent.futures import ThreadPoolExecutor
 from functools import partial
 from unittest import mock
 
@@ -29,6 +30,7 @@ KEY = "a key is a string of 64 hexadecimal digits; a whole number goes to seed="
 WORKERS = "it is a whole number from 1 to 64"
 HEIGHT = "it is a whole number from 1 to 2147483647"
 ROWS = "it is a list of rows, each a list of whole numbers from 0 on"
+WEIGHT = "it is the name of the attribute that has the weights"
 REPORTS = "it has some of the names totals, heights, layers, each once"
 SECONDS = "it is a number of seconds above 0, up to 1000000"
 NO_PROGRAM = {"POPSAMPLE": "/nowhere/popsample"}
@@ -90,6 +92,19 @@ class Options(Refusing):
         for argument, value in (("key", ZEROS), ("seed", 3), ("height", 9)):
             self.wrong(sample_formula, [[1]], argument, value, "the call has stacks= in its place", stacks=[[0]])
         self.wrong(sample_formula, [[1]], "grow", 9, "rows of stacks= don't grow", stacks=[[0]])
+
+    def test_one_row_without_entries(self):
+        self.of_all("stacks", [[]], "its one row has no entry")
+
+    def test_weights_that_are_no_names(self):
+        for weight in ([1, 2, 3], {"w": 1}):
+            self.wrong(spanning_tree, TRIANGLE, "weight", weight, WEIGHT)
+            self.wrong(spanning_tree, {"a": ["b"]}, "weight", weight, WEIGHT)
+            self.wrong(spanning_trees, TRIANGLE, "weight", weight, WEIGHT, count=3)
+
+    def test_executors(self):
+        for executor in (3, "threads", ThreadPoolExecutor):
+            self.wrong(samples, TRIANGLE, "executor", executor, "it is a concurrent.futures.Executor")
 
     def test_what_pops_excludes(self):
         self.wrong(resample, [[1]], "workers", 2, "with pops= there is one worker", pops=1)

@@ -78,8 +78,9 @@ class Graphs(unittest.TestCase):
         graph = graph_tool.Graph(directed=False)
         graph.add_edge_list([(0, 1), (1, 2), (0, 2)])
         graph.edge_properties["buses"] = graph.new_edge_property("int64_t", [2**31 - 1, 2**31 - 1, 1])
-        for tree in popsample.spanning_trees(graph, 20, 0, "buses", ZEROS):
-            self.assertEqual(tree.parents, {1: 0, 2: 1})
+        for weight in ("buses", graph.edge_properties["buses"]):
+            for tree in popsample.spanning_trees(graph, 20, 0, weight, ZEROS):
+                self.assertEqual(tree.parents, {1: 0, 2: 1})
 
     def test_what_is_filtered_out_is_passed_over(self):
         graph = graph_tool.Graph(directed=False)
@@ -125,6 +126,10 @@ class Graphs(unittest.TestCase):
         with self.assertRaises(KeyError) as missing:
             popsample.spanning_tree(graph, weight="buses")
         self.assertIn("'buses'", str(missing.exception))
+        for weight in ([1, 2], graph.new_vertex_property("int"), graph_tool.Graph().new_edge_property("int")):
+            with self.assertRaises(popsample.OptionError) as wrong:
+                popsample.spanning_tree(graph, weight=weight)
+            self.assertIn("or an edge property map of the graph", str(wrong.exception))
         with self.assertRaises(TypeError) as directed:
             popsample.spanning_tree(graph_tool.GraphView(graph, directed=True))
         self.assertIn("directed=False", str(directed.exception))

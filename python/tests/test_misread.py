@@ -64,6 +64,36 @@ class Dicts(Refusing):
             self.assertEqual(set(tree.parents), {(0, 1), (1, 0), (1, 1)})
 
 
+@unittest.skipUnless(HAS_NETWORKX, "networkx isn't installed")
+class Views(Refusing):
+    """What networkx gives as `graph.edges` and `graph.nodes` is a mapping and a set at once."""
+
+    def test_views_of_edges(self):
+        import networkx
+
+        heavy = 2**32 - 3
+        for kind in (networkx.Graph, networkx.MultiGraph):
+            graph = kind()
+            graph.add_edge("a", "b", w=1)
+            graph.add_edge("b", "c", w=heavy)
+            graph.add_edge("c", "a", w=1)
+            graph.add_edge("c", "a", w=1)
+            for view in (graph.edges, graph.edges()):
+                self.assertEqual(set(spanning_tree(view, "b").parents), {"a", "c"})
+                place = [{*edge[:2]} for edge in view].index({"b", "c"})
+                for tree in spanning_trees(view, 20, "b", "w", ZEROS):
+                    self.assertIn(place, tree.edges)
+                self.assertIsInstance(self.refused(KeyError, spanning_tree, view, weight="W"), popsample.Error)
+
+    def test_other_views(self):
+        import networkx
+
+        graph = networkx.grid_2d_graph(2, 2)
+        for view in (graph.nodes, graph.to_directed().edges, networkx.MultiDiGraph([(1, 2)]).edges):
+            error = self.refused(TypeError, spanning_tree, view)
+            self.assertIn("is no view of the edges of an undirected graph: hand in the graph itself", str(error))
+
+
 class Strings(Refusing):
     def test_edges_that_are_strings(self):
         for graph in (["ab", "bc"], [b"ab", b"bc"], {"ab", "bc"}, [("a", "b"), "bc"]):
