@@ -78,12 +78,13 @@ class Views(Refusing):
             graph.add_edge("b", "c", w=heavy)
             graph.add_edge("c", "a", w=1)
             graph.add_edge("c", "a", w=1)
-            for view in (graph.edges, graph.edges()):
+            for view in (graph.edges, graph.edges(), graph.edges(data=True)):
                 self.assertEqual(set(spanning_tree(view, "b").parents), {"a", "c"})
+                self.refused(popsample.NoWeightError, spanning_tree, view, weight="W")
+            for view in (graph.edges, graph.edges(data=True)):
                 place = [{*edge[:2]} for edge in view].index({"b", "c"})
                 for tree in spanning_trees(view, 20, "b", "w", ZEROS):
                     self.assertIn(place, tree.edges)
-                self.assertIsInstance(self.refused(KeyError, spanning_tree, view, weight="W"), popsample.Error)
 
     def test_other_views(self):
         import networkx
