@@ -42,11 +42,18 @@ class WeightError(ArgumentError):
 
 
 class NoWeightError(ArgumentError, KeyError):
-    """No edge has the attribute that is to have the weights: `attribute` is its name."""
+    """No edge has the attribute that is to have the weights, or in a call of networkx some edge hasn't: `attribute` is
+    its name, and `edge` that edge.
+    """
 
-    def __init__(self, attribute: Hashable) -> None:
-        super().__init__(f"No edge has the attribute {attribute!r} that weight= names: look at how it is spelled.")
+    def __init__(self, attribute: Hashable, edge: Hashable = None) -> None:
+        super().__init__(
+            f"No edge has the attribute {attribute!r} that weight= names: look at how it is spelled."
+            if edge is None
+            else f"Edge {edge!r} has no attribute {attribute!r}, which weight= names: give it one."
+        )
         self.attribute = attribute
+        self.edge = edge
 
     def __str__(self) -> str:
         """The message as it is; a KeyError shows it as Python writes a string."""

@@ -79,8 +79,9 @@ def weighted_input(graph: Any, weight: Any) -> GraphInput:
     Raises NoWeightError, a KeyError, where an edge has no weight, and NotImplementedError where the weights can't be
     scaled to whole numbers.
     """
-    if weight is not None and any(weight not in attributes for *_, attributes in graph.edges(data=True)):
-        raise NoWeightError(weight)
+    for *edge, attributes in graph.edges(data=True) if weight is not None else ():
+        if weight not in attributes:
+            raise NoWeightError(weight, tuple(edge))
     try:
         return read_graph(graph, weight)
     except WeightError as error:

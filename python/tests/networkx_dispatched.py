@@ -154,8 +154,10 @@ class Refusals(unittest.TestCase):
         for name in ("weight", "length"):
             graph = weighted((0, 1, 2))
             graph.add_edge(1, 2)
-            with self.assertRaises(KeyError):
+            with self.assertRaises(KeyError) as missing:
                 sample(graph, name)
+            lacking = 0 if name == "length" else 1
+            self.assertIn(f"Edge ({lacking}, {lacking + 1}) has no attribute {name!r}", str(missing.exception))
 
     def test_a_graph_in_parts(self):
         with self.assertRaises(popsample.CutOff) as apart:
