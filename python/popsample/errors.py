@@ -326,7 +326,7 @@ class NoWitnessError(InputRefusal):
 
     status = 6
     form = "witness none V K C"
-    sentence = "No pop used entry K of variable V, of whose entries C were popped: ask for an entry below C."
+    sentence = "No pop used entry K of variable V, of whose entries the first C were popped: ask for one of these."
 
     def __init__(self, variable: int, entry: int, cursor: int) -> None:
         super().__init__(V=variable, K=entry, C=cursor)
