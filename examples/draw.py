@@ -12,12 +12,12 @@ from __future__ import annotations
 
 import argparse
 import math
-import sys
 from html import escape
 from typing import Iterator, Optional, Tuple
 
 from graph_text import Arrow, Graph, read_arrows, read_graph
 from grid import grid_edges
+from telling import run
 
 Point = Tuple[float, float]
 
@@ -167,10 +167,7 @@ def main() -> None:
     asked = parser.parse_args()
     with open(asked.graph, encoding="utf-8") as file:
         graph = read_graph(file)
-    try:
-        arrows = read_tree(graph, asked.tree)
-    except ValueError as error:
-        sys.exit(f"draw.py: {error}")
+    arrows = read_tree(graph, asked.tree)
     side = side_of(graph)
     if side:
         print(picture((side + 1) * CELL, maze(arrows, side)))
@@ -179,4 +176,4 @@ def main() -> None:
 
 
 if __name__ == "__main__":
-    main()
+    run(main)

@@ -11,10 +11,10 @@ from __future__ import annotations
 
 import argparse
 import colorsys
-import sys
 from typing import Iterable, Iterator, NamedTuple
 
 from draw import picture
+from telling import run
 
 COLUMN, LANE, SPACE = 30, 26, 14
 LEFT, TOP = 48, 40
@@ -104,12 +104,9 @@ def main() -> None:
     parser = argparse.ArgumentParser(description="Draws the layers of a log as an SVG on standard output.")
     parser.add_argument("printed", metavar="PRINTED", help="what popsample printed with --log on")
     asked = parser.parse_args()
-    try:
-        with open(asked.printed, encoding="utf-8") as file:
-            print(drawing(read_log(file)))
-    except ValueError as error:
-        sys.exit(f"draw_layers.py: {error}")
+    with open(asked.printed, encoding="utf-8") as file:
+        print(drawing(read_log(file)))
 
 
 if __name__ == "__main__":
-    main()
+    run(main)

@@ -16,6 +16,7 @@ from typing import TYPE_CHECKING
 
 from draw import MARGIN, RADIUS, circle, picture
 from graph_text import Arrow, Graph
+from telling import run
 
 if TYPE_CHECKING:
     import networkx
@@ -50,4 +51,4 @@ def main() -> None:
 
 
 if __name__ == "__main__":
-    main()
+    run(main)

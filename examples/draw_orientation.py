@@ -11,11 +11,11 @@ from __future__ import annotations
 
 import argparse
 import math
-import sys
 from typing import Iterable, Iterator
 
 from draw import CELL, MARGIN, RADIUS, Point, circle_places, grid_places, labels, picture, side_of
 from graph_text import Arrow, Graph, read_arrows, read_graph
+from telling import run
 
 # The colours of the directions, clockwise from the right; those between them have the nearest one's.
 COLOURS = ["#ffd166", "#ef6f6c", "#9b6bd6", "#4fb3bf"]
@@ -74,13 +74,10 @@ def main() -> None:
     asked = parser.parse_args()
     with open(asked.graph, encoding="utf-8") as file:
         graph = read_graph(file)
-    try:
-        with open(asked.orientation, encoding="utf-8") as file:
-            arrows = read_arrows(file)
-    except ValueError as error:
-        sys.exit(f"draw_orientation.py: {error}")
+    with open(asked.orientation, encoding="utf-8") as file:
+        arrows = read_arrows(file)
     print(drawing(graph, arrows))
 
 
 if __name__ == "__main__":
-    main()
+    run(main)

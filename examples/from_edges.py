@@ -21,6 +21,7 @@ import sys
 from typing import Iterable, NamedTuple
 
 from graph_text import read_arrows, read_graph
+from telling import run
 
 GREATEST_WEIGHT = 2**32 - 1
 
@@ -94,13 +95,10 @@ def main() -> None:
     parser.add_argument("file", metavar="EDGES", help="the edge list, or behind --back the graph text")
     parser.add_argument("--back", action="store_true", help="read a sample of the graph, and write its arrows by names")
     asked = parser.parse_args()
-    try:
-        with open(asked.file, encoding="utf-8") as file:
-            text = named_arrows(file, sys.stdin) if asked.back else graph_text(read_edges(file))
-    except ValueError as error:
-        sys.exit(f"from_edges.py: {error}")
+    with open(asked.file, encoding="utf-8") as file:
+        text = named_arrows(file, sys.stdin) if asked.back else graph_text(read_edges(file))
     sys.stdout.write(text)
 
 
 if __name__ == "__main__":
-    main()
+    run(main)

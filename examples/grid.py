@@ -9,6 +9,8 @@ from __future__ import annotations
 import argparse
 from typing import Iterator
 
+from telling import positive, run
+
 
 def grid_edges(side: int) -> Iterator[tuple[int, int]]:
     """The edges of the grid: for each vertex the one to its right, then the one below.
@@ -24,7 +26,7 @@ def grid_edges(side: int) -> Iterator[tuple[int, int]]:
 
 def main() -> None:
     parser = argparse.ArgumentParser(description="Writes a square grid as a graph text.")
-    parser.add_argument("side", type=int, metavar="SIDE", help="the number of rows, and of columns")
+    parser.add_argument("side", type=positive, metavar="SIDE", help="the number of rows, and of columns")
     side = parser.parse_args().side
     edges = list(grid_edges(side))
     print(f"c A grid of {side} rows and {side} columns.")
@@ -34,4 +36,4 @@ def main() -> None:
 
 
 if __name__ == "__main__":
-    main()
+    run(main)

@@ -17,6 +17,7 @@ from typing import Iterable, Iterator
 from calling import caller, printed_by
 from draw import picture
 from from_edges import NamedEdge, graph_text, read_edges
+from telling import run
 
 COLUMN, HEIGHT, MARGIN = 56, 200, 36
 USUAL, UNUSUAL = "#fac058", "#e86a58"
@@ -77,4 +78,4 @@ def main() -> None:
 
 
 if __name__ == "__main__":
-    main()
+    run(main)

@@ -14,6 +14,7 @@ from typing import Iterable
 
 from calling import caller, printed_by
 from draw import picture
+from telling import run
 
 ROW, COLUMN, LEFT, TOP = 14, 22, 12, 100
 ON, OFF = "#fac058", "#26263a"
@@ -68,4 +69,4 @@ def main() -> None:
 
 
 if __name__ == "__main__":
-    main()
+    run(main)

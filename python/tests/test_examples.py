@@ -13,6 +13,17 @@ from .checks import ZEROS
 
 TOP = Path(__file__).resolve().parents[2]
 SVG = "{http://www.w3.org/2000/svg}"
+# The scripts, and how many files each reads.
+SCRIPTS = {
+    "draw.py": 2,
+    "draw_layers.py": 1,
+    "draw_networkx.py": 0,
+    "draw_orientation.py": 2,
+    "from_edges.py": 1,
+    "grid.py": 0,
+    "null_model.py": 1,
+    "test_inputs.py": 1,
+}
 
 
 def drawn(name: str, *words: str) -> subprocess.CompletedProcess:
@@ -34,6 +45,24 @@ class Drawings(unittest.TestCase):
         path = self.folder / f"{name}.out"
         path.write_text("".join(lines[1:-1]))
         return str(path)
+
+    def test_each_script_tells_its_options(self):
+        for name in SCRIPTS:
+            ran = drawn(name, "--help")
+            self.assertEqual((ran.returncode, ran.stderr), (0, ""), name)
+            self.assertTrue(ran.stdout.startswith(f"usage: {name} "))
+
+    def test_what_can_not_be_done_is_told_in_a_line(self):
+        nowhere, advice = str(self.folder / "nothing"), str(TOP / "examples" / "advice.txt")
+        missing = [[name] + [nowhere] * files for name, files in SCRIPTS.items() if files]
+        for words in (*missing, ["null_model.py", advice, "--program", nowhere], ["from_edges.py", __file__]):
+            ran = drawn(*words)
+            self.assertEqual((ran.returncode, ran.stdout, ran.stderr.count("\n")), (1, "", 1), words)
+            self.assertTrue(ran.stderr.startswith(f"{words[0]}: "))
+        for words in (["grid.py", "0"], ["null_model.py", advice, "--key", "12"], ["test_inputs.py", "--samples", "0"]):
+            ran = drawn(*words)
+            self.assertEqual((ran.returncode, ran.stdout), (2, ""), words)
+            self.assertIn(" value: ", ran.stderr)
 
     @unittest.skipUnless(importlib.util.find_spec("networkx"), "networkx isn't installed")
     def test_a_tree_of_a_graph_of_networkx(self):
