@@ -1,6 +1,7 @@
 #!/usr/bin/env bash
-# What the gate asks of a release: a built program is packed twice into the same bytes, release/test.sh passes what was
-# packed, and refuses it where a byte of the program or of SHA256SUMS is another one.
+# What the gate asks of a release: a built program is packed twice into the same bytes, and not with the record of a run
+# that failed, or that proved some crates alone; release/test.sh passes what was packed, and refuses it where a byte of
+# the program or of SHA256SUMS is another one.
 #
 #     release/gate.sh PROGRAM RECORD
 #
@@ -39,6 +40,15 @@ release/build.sh "$program" "$room/first" "$record"
 release/build.sh "$program" "$room/second" "$record"
 diff -r "$room/first" "$room/second"
 echo "packed twice: ok"
+
+for verdict in "97 passed, 1 failed" "9 passed, 0 failed (pop_rows and the crates below alone: not the gate)"; do
+    printf 'logic=proved functions=1\n%s\n' "$verdict" > "$room/bad"
+    if told=$(release/build.sh "$program" "$room/unproved" "$room/bad" 2>&1) || [[ $told != *"or a bad one"* ]]; then
+        echo "release/gate.sh: this record was to be refused: $verdict" >&2
+        exit 1
+    fi
+done
+echo "bad records: refused"
 
 cp -r "$room/first" "$room/changed"
 change_byte "$room/changed/SHA256SUMS" 0
