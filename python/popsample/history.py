@@ -2,6 +2,8 @@
 
 from __future__ import annotations
 
+import numbers
+import operator
 from collections.abc import Hashable, Sequence
 from dataclasses import dataclass
 from typing import Any
@@ -62,9 +64,11 @@ def witness_word(witness: tuple[Hashable, int], variables: Sequence[Hashable]) -
 
 def place_of(name: Hashable, names: Sequence[Hashable]) -> int:
     """The place of a name, from 0; the number of the names where it is none of them."""
-    # A range that looks for what is no int goes through all of its numbers.
-    if isinstance(names, range) and not isinstance(name, int):
-        return len(names)
+    if isinstance(names, range):
+        # One that looks for what is no int goes through all of its numbers.
+        if not isinstance(name, numbers.Integral):
+            return len(names)
+        name = operator.index(name)
     try:
         return names.index(name)
     except ValueError:

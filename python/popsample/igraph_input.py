@@ -2,6 +2,8 @@
 
 from __future__ import annotations
 
+import numbers
+import operator
 import sys
 from collections.abc import Hashable, Iterator, Sequence
 from typing import Any
@@ -16,7 +18,9 @@ class VertexNames(list[Hashable]):
 
     def index(self, vertex: Any, *bounds: Any) -> int:
         """The index of a vertex, from 0, by its name or its index. Raises ValueError where there is none."""
-        return vertex if type(vertex) is int and 0 <= vertex < len(self) else super().index(vertex, *bounds)
+        is_index = isinstance(vertex, numbers.Integral) and not isinstance(vertex, bool)
+        number = operator.index(vertex) if is_index else -1
+        return number if 0 <= number < len(self) else super().index(vertex, *bounds)
 
 
 def takes(graph: Any) -> bool:

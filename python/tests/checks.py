@@ -2,6 +2,7 @@
 
 from __future__ import annotations
 
+import numbers
 import os
 import tempfile
 import unittest
@@ -76,6 +77,25 @@ def kinds_below(kind: type[Exception]) -> set[type[Exception]]:
     """The exceptions that are of this kind, however far below, but this kind itself."""
     beside = kind.__subclasses__()
     return {*beside, *(below for other in beside for below in kinds_below(other))}
+
+
+class LikeNumpy:
+    """A whole number that is no int, as those of numpy are."""
+
+    def __init__(self, number: int) -> None:
+        self.number = number
+
+    def __index__(self) -> int:
+        return self.number
+
+    def __eq__(self, other: object) -> bool:
+        return self.number == other
+
+    def __hash__(self) -> int:
+        return hash(self.number)
+
+
+numbers.Integral.register(LikeNumpy)
 
 
 class Refusing(unittest.TestCase):

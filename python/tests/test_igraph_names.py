@@ -4,7 +4,7 @@ import unittest
 
 import popsample
 
-from .checks import ZEROS
+from .checks import ZEROS, LikeNumpy
 
 try:
     import igraph
@@ -38,6 +38,7 @@ class Names(unittest.TestCase):
         numbered = popsample.spanning_tree(graph, graph.vs.find("Mill").index, key=ZEROS, log=True, witness=(1, 0))
         self.assertEqual(named, numbered)
         self.assertEqual(numbered.root, "Mill")
+        self.assertEqual(popsample.spanning_tree(graph, LikeNumpy(graph.vs.find("Mill").index)).root, "Mill")
 
     def test_without_names_vertices_have_their_indices(self):
         for names in ([1, 2, 3], ["a", "a", "b"], ["a", None, "b"], [["a"], ["b"], ["c"]]):

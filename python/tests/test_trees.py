@@ -5,7 +5,7 @@ import unittest
 
 import popsample
 
-from .checks import ZEROS, file_of, is_tree_to, reached
+from .checks import ZEROS, LikeNumpy, file_of, is_tree_to, reached
 
 TRIANGLE = [("Ann", "Bob"), ("Bob", "Cem"), ("Cem", "Ann")]
 
@@ -78,6 +78,7 @@ class Trees(unittest.TestCase):
         with file_of("c by hand\np edge 3 3\ne 1 2\ne 2 3\ne 3 1\n") as path:
             tree = popsample.spanning_tree(path, root=3, stacks=[[1], [1]])
             self.assertEqual(tree, popsample.spanning_tree(str(path), root=3, stacks=[[1], [1]]))
+            self.assertEqual(tree, popsample.spanning_tree(path, root=LikeNumpy(3), stacks=[[1], [1]]))
         self.assertEqual(tree.arrows, (popsample.Arrow(1, 3, 3), popsample.Arrow(2, 3, 2)))
         self.assertEqual((tree.root, tree.used), (3, {1: 0, 2: 0}))
 
