@@ -1,8 +1,22 @@
 -- Lists of all of a kind, without repetition: from all fronts and all rests, all lists of a front and a rest.
-use Rattle.std.proofs.Common.{inl, inr, ◌≡◌, ◌⊎◌, List, [], ◌∷◌, sym, subst, ◌∙◌, arith, Contains}
+use Rattle.std.proofs.Common.{inl, inr, ◌≡◌, ◌≢◌, ◌⊎◌, ℕ, List, [], ◌∷◌, refl, sym, ap₂, subst, ◌∙◌, arith, Contains}
+use Rattle.std.proofs.lemmas.Bool.{cases_eq}
 use Rattle.pop_model.proofs.Rising.{member_cases, head_member, tail_member, none_in}
 use Rattle.pop_samples.specs.Lists.{AreAll}
 use Rattle.pop_samples.proofs.Matching.{Differ, cons_differs, head_differs, tail_differ}
+
+-- two lists are equal or not
+pub same_list : (xs ys : List ℕ) → (xs ≡ ys) ⊎ (xs ≢ ys)
+same_list [] [] = inl refl
+same_list [] (y ∷ ys) = inr (λ h. cc)
+same_list (x ∷ xs) [] = inr (λ h. cc)
+same_list (x ∷ xs) (y ∷ ys) = elim (cases_eq x y) [
+  | inl a ↦ elim (same_list xs ys) [
+    | inl b ↦ inl (ap₂ (λ (n : ℕ) (ns : List ℕ). n ∷ ns) a b)
+    | inr b ↦ inr (λ h. b (cc))
+  ]
+  | inr a ↦ inr (λ h. a (cc))
+]
 
 -- the empty list repeats nothing
 pub none_differ : {X : Type 0} → Differ {X = X} []

@@ -28,7 +28,7 @@ pub record Ends (i : Instance) (c : List ℕ) : Type 0 where
   pub end : IsEnd i (replay c log)
 
 -- a pop takes from the room
-taken : (i : Instance) → IsFamily i.family → FamilyFits i.stacks i.family → (c : List ℕ)
+pub taken : (i : Instance) → IsFamily i.family → FamilyFits i.stacks i.family → (c : List ℕ)
     → length c ≡ variables_of i.stacks → (e : Event) → IsEvent i.family e → IsPoppable i.stacks c e.cube
     → left_from i.stacks 0 (pop c e.cube) < left_from i.stacks 0 c
 taken i family fits c size e is poppable =
@@ -64,44 +64,44 @@ pub run_to_end : (i : Instance) → IsFamily i.family → FamilyFits i.stacks i.
     → (c : List ℕ) → length c ≡ variables_of i.stacks → Ends i c
 run_to_end i family fits find c size = by_room (left_from i.stacks 0 c) i family fits find c size (omega arith)
 
--- a poppable event among listed ones
-record Poppable (s : StackTable) (c : List ℕ) (rows : List (ℕ × Cube)) : Type 0 where
-  unit : ℕ
-  number : ℕ
-  cube : Cube
-  at : slice_get rows unit ≡ Some (number, cube)
-  poppable : IsPoppable s c cube
+-- the listed event at a place
+abbrev pub IsAt : List (ℕ × Cube) → ℕ → ℕ → Cube → Type 0
+IsAt rows unit number cube = slice_get rows unit ≡ Some (number, cube)
 
--- the first poppable of some listed events, or none
-tried : (s : StackTable) (c : List ℕ) (rows : List (ℕ × Cube))
-    → Poppable s c rows ⊎ ((u n : ℕ) (e : Cube) → slice_get rows u ≡ Some (n, e) → IsPoppable s c e → ⊥)
-tried s c [] = inr (λ u n e at pop. absurd (cc))
-tried s c (r ∷ rows) = elim (poppable_or_not s c r.1) [
-  | inl is ↦ inl (record { unit = 0; number = r.0; cube = r.1; at = refl; poppable = is })
-  | inr not ↦ elim (tried s c rows) [
-    | inl old ↦ inl (record {
-      unit = suc old.unit;
-      number = old.number;
-      cube = old.cube;
-      at = old.at;
-      poppable = old.poppable;
-    })
+-- a listed event of which this holds
+pub record OneIs (Is : Cube → Type 0) (rows : List (ℕ × Cube)) : Type 0 where
+  pub unit : ℕ
+  pub number : ℕ
+  pub cube : Cube
+  pub at : IsAt rows unit number cube
+  pub is : Is cube
+
+-- it holds of none
+abbrev pub NoneIs : (Cube → Type 0) → List (ℕ × Cube) → Type 0
+NoneIs Is rows = (u n : ℕ) (e : Cube) → IsAt rows u n e → Is e → ⊥
+
+-- the first listed event of which this holds, or none, where it is found of each
+pub tried : (Is : Cube → Type 0) (rows : List (ℕ × Cube))
+    → ((u n : ℕ) (e : Cube) → IsAt rows u n e → Is e ⊎ (Is e → ⊥)) → OneIs Is rows ⊎ NoneIs Is rows
+tried Is [] test = inr (λ u n e at is. absurd (cc))
+tried Is (r ∷ rows) test = elim (test 0 r.0 r.1 refl) [
+  | inl is ↦ inl (record { unit = 0; number = r.0; cube = r.1; at = refl; is = is })
+  | inr not ↦ elim (tried Is rows (λ u n e at. test (suc u) n e at)) [
+    | inl old ↦ inl (record { unit = suc old.unit; number = old.number; cube = old.cube; at = old.at; is = old.is })
     | inr none ↦ inr (never r rows not none)
   ]
 ]
   where
-    never : (r : ℕ × Cube) (rows : List (ℕ × Cube)) → (IsPoppable s c r.1 → ⊥)
-        → ((u n : ℕ) (e : Cube) → slice_get rows u ≡ Some (n, e) → IsPoppable s c e → ⊥)
-        → (u n : ℕ) (e : Cube) → slice_get (r ∷ rows) u ≡ Some (n, e) → IsPoppable s c e → ⊥
-    never r rows not none zero n e at pop =
+    never : (r : ℕ × Cube) (rows : List (ℕ × Cube)) → (Is r.1 → ⊥) → NoneIs Is rows → NoneIs Is (r ∷ rows)
+    never r rows not none zero n e at is =
         let same : ◌≡◌ {A = ℕ × Cube} r (n, e) = same_Some r (n, e) at in
-        not (subst (λ (q : ℕ × Cube). IsPoppable s c q.1) (sym same) pop)
-    never r rows not none (suc u) n e at pop = none u n e at pop
+        not (subst (λ (q : ℕ × Cube). Is q.1) (sym same) is)
+    never r rows not none (suc u) n e at is = none u n e at is
 
 -- so it is found of all listed events
 pub found_listed : (s : StackTable) (rows : List (ℕ × Cube)) (c : List ℕ)
     → Found (record { stacks = s; family = Listed rows }) c
-found_listed s rows c = elim (tried s c rows) [
-  | inl some ↦ inl (record { unit = some.unit; cube = some.cube }, (some.number, some.at), some.poppable)
+found_listed s rows c = elim (tried (IsPoppable s c) rows (λ u n e at. poppable_or_not s c e)) [
+  | inl some ↦ inl (record { unit = some.unit; cube = some.cube }, (some.number, some.at), some.is)
   | inr none ↦ inr (λ e is pop. none e.unit is.0 e.cube is.1 pop)
 ]

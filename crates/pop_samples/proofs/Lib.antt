@@ -9,11 +9,12 @@ pub mod Reached
 -- Counting: lists that are matched, so equally many rows finish with each sample
 pub mod Matching
 pub mod ExactCounts
--- All rows are a finite list, of which those are kept whose run ends with a sample
+-- All rows are a finite list, of which those are kept whose run ends with a sample; Reaching: at cursors, some log does
 pub mod Conses
 pub mod AllRows
 pub mod FoundCycles
 pub mod Ending
+pub mod Reaching
 pub mod Listing
 -- The numbers that entries of a key are made of
 pub mod Rounding

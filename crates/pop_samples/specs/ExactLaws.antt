@@ -52,7 +52,8 @@ ExactSamples = (f : Frame) → IsFrame f → IsExtremal f.family → (w x : List
     → IsSampleOf f w → IsSampleOf f x → (all others : List Rows)
     → AreAll (Samples f w) all → AreAll (Samples f x) others → AreProportional f w x all others
 
--- So are those of them that finish at the same cursors: the sample doesn't hang on the pops.
+-- Of every family, also where events clash, so are those that some log finishes at given cursors:
+-- the sample doesn't hang on the pops.
 abbrev pub ExactSamplesAt : Type 0
 ExactSamplesAt = (f : Frame) → IsFrame f → (w x c : List ℕ)
     → IsSampleOf f w → IsSampleOf f x → (all others : List Rows)
@@ -64,9 +65,9 @@ abbrev pub ListedSamples : Type 0
 ListedSamples = (f : Frame) → IsFrame f → IsExtremal f.family → (w : List ℕ) → IsSampleOf f w
     → (all : List Rows) × AreAll (Samples f w) all
 
--- So are those of them that finish at the same cursors.
+-- So are those that finish at given cursors, of every family.
 abbrev pub ListedSamplesAt : Type 0
-ListedSamplesAt = (f : Frame) → IsFrame f → IsExtremal f.family → (w c : List ℕ) → IsSampleOf f w
+ListedSamplesAt = (f : Frame) → IsFrame f → (w c : List ℕ) → IsSampleOf f w
     → (all : List Rows) × AreAll (SamplesAt f w c) all
 
 -- Each sample is that of some rows of the frame, at once: there is no pop.

@@ -47,8 +47,9 @@ pub fn exact_samples()
     ensures { ExactSamples }
 {}
 
-/// Of all rows of given heights that finish at given cursors, as many finish with one sample as
-/// with another, and their weights are as the samples' weights.
+/// Of all rows of given heights that some log finishes at given cursors, as many finish with one
+/// sample as with another, and their weights are as the samples' weights: over every family, also
+/// where events clash.
 pub fn exact_samples_at()
     ensures { ExactSamplesAt }
 {}
@@ -58,7 +59,8 @@ pub fn listed_samples()
     ensures { ListedSamples }
 {}
 
-/// The rows that finish with a sample at given cursors are finitely many.
+/// The rows of given heights that finish with a sample at given cursors are finitely many, over every
+/// family.
 pub fn listed_samples_at()
     ensures { ListedSamplesAt }
 {}
