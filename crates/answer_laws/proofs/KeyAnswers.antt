@@ -37,7 +37,7 @@ use Rattle.graph_read.proofs.GridPaths.{grid_connected}
 use Rattle.cycle_popping.specs.Trees.{weights_of_tree}
 use Rattle.cycle_popping.proofs.TreeRows.{tree_weights}
 use Rattle.dimacs_read.specs.CnfText.{cnf_of}
-use Rattle.printed_trees.proofs.SoundSlots.{some_sum}
+use Rattle.printed_samples.proofs.SoundSlots.{some_sum}
 use Rattle.pop_words.specs.declared.command.Command.{Command}
 use Rattle.pop_words.specs.declared.command.Command.TheVariants.{Formula, Orient, Tree, Resample, Check, Make, Rounds, Replay, Resume}
 use Rattle.pop_words.specs.declared.job.Job.{Job}

@@ -15,7 +15,7 @@ use Rattle.printed_samples.specs.Arrows.{lines_of}
 use Rattle.printed_samples.specs.Assignments.{ShowsAssignment}
 use Rattle.printed_samples.specs.Orientations.{ShowsOrientation}
 use Rattle.printed_samples.specs.Stuck.{stuck_text, ShowsStuck}
-use Rattle.printed_trees.specs.Trees.{ShowsTree}
+use Rattle.printed_samples.specs.Trees.{ShowsTree}
 use Rattle.top_call.specs.Outcomes.{end_status}
 use Rattle.answer_laws.specs.Shown.{BeginsWith, ShowsSample, ShowsExhausted, ShowsEnd}
 

@@ -26,9 +26,9 @@ use Rattle.pop_print.specs.declared.facts.Facts.TheVariants.{Formula as FormulaF
 use Rattle.pop_print.specs.Output.{pops_line, end_text}
 use Rattle.printed_samples.specs.Laws.{ShowsFormula, ShowsOriented}
 use Rattle.printed_samples.proofs.ShownEnds.{pair_bits, orientation_shown}
-use Rattle.printed_trees.specs.Laws.{IsTreeState, ShowsTreeEnd, ShowsMadeEnd}
-use Rattle.printed_trees.proofs.SoundSlots.{sound_slots}
-use Rattle.printed_trees.proofs.ShownTrees.{tree_shown, made_shown}
+use Rattle.printed_samples.specs.TreeLaws.{IsTreeState, ShowsTreeEnd, ShowsMadeEnd}
+use Rattle.printed_samples.proofs.SoundSlots.{sound_slots}
+use Rattle.printed_samples.proofs.ShownTrees.{tree_shown, made_shown}
 use Rattle.top_call.specs.Sampling.{pair_weights, instance_of}
 use Rattle.top_call.specs.Trees.{tree_instance}
 use Rattle.top_call.specs.Subjects.{Subject, instance_over, IsSubjectOf}

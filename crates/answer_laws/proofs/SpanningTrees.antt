@@ -22,8 +22,8 @@ use Rattle.cycle_popping.specs.Trees.{heads_at, heads_of_tree, variable_of}
 use Rattle.cycle_popping.proofs.TreeRows.{variable_below, vertex_of_is}
 use Rattle.pop_print.proofs.TreePlaces.{vertex_rises}
 use Rattle.printed_samples.specs.Arrows.{Arrow, HasEnds, IsAlong}
-use Rattle.printed_trees.specs.Trees.{AreSteps, IsTreeTo, LeadWithin, arrows_to, slot_arrow}
-use Rattle.printed_trees.proofs.Vertices.{no_variable, vertex_back}
+use Rattle.printed_samples.specs.Trees.{AreSteps, IsTreeTo, LeadWithin, arrows_to, slot_arrow}
+use Rattle.printed_samples.proofs.Vertices.{no_variable, vertex_back}
 use Rattle.answer_laws.specs.EverySample.{LeadsToRoot}
 use Rattle.answer_laws.specs.PrintedOnce.{EverySpanningTree}
 

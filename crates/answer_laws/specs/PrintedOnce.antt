@@ -6,7 +6,7 @@ use Rattle.graph_read.specs.Graphs.{GraphOf, IsGraph, IsVertex, edge_at}
 use Rattle.graph_read.specs.Incidence.{edges_at, is_loop}
 use Rattle.pop_print.specs.Output.{assignment_line, orientation_lines, tree_lines}
 use Rattle.printed_samples.specs.Arrows.{Arrow}
-use Rattle.printed_trees.specs.Trees.{IsTreeTo, arrows_to}
+use Rattle.printed_samples.specs.Trees.{IsTreeTo, arrows_to}
 use Rattle.answer_laws.specs.EverySample.{LeadsToRoot}
 
 -- values 0 and 1, so many

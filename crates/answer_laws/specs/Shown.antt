@@ -17,9 +17,9 @@ use Rattle.pop_print.specs.Batches.{batch_line, sample_line}
 use Rattle.printed_samples.specs.Assignments.{ShowsAssignment}
 use Rattle.printed_samples.specs.Orientations.{ShowsOrientation}
 use Rattle.printed_samples.specs.Stuck.{ShowsFalse, ShowsSinks}
-use Rattle.printed_trees.specs.Trees.{ShowsTree}
-use Rattle.printed_trees.specs.ArrowCycles.{ShowsCycles}
-use Rattle.printed_trees.specs.Made.{ShowsMade, CountsCycles}
+use Rattle.printed_samples.specs.Trees.{ShowsTree}
+use Rattle.printed_samples.specs.ArrowCycles.{ShowsCycles}
+use Rattle.printed_samples.specs.Made.{ShowsMade, CountsCycles}
 use Rattle.top_call.specs.Sampling.{pair_weights}
 use Rattle.run_cert.specs.Certificates.{Certificate, IsCertOf}
 use Rattle.top_call.specs.Replays.{job_of}

@@ -7,3 +7,11 @@ pub mod FalseClauses
 pub mod StuckSinks
 pub mod ShownEnds
 mod Vectors
+pub mod Vertices
+pub mod TreeArrows
+pub mod Leading
+pub mod Spanning
+pub mod StuckCycles
+pub mod SoundSlots
+pub mod ShownTrees
+mod TreeVectors

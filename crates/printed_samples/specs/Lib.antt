@@ -3,3 +3,7 @@ pub mod Assignments
 pub mod Orientations
 pub mod Stuck
 pub mod Laws
+pub mod Trees
+pub mod ArrowCycles
+pub mod Made
+pub mod TreeLaws

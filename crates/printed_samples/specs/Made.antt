@@ -8,8 +8,8 @@ use Rattle.graph_read.specs.Grids.{grid_of}
 use Rattle.pop_print.specs.Made.{grid_line, count_line, totals_line, sum_line, slot_sum}
 use Rattle.pop_print.specs.Output.{pops_line}
 use Rattle.printed_samples.specs.Stuck.{AreStuck}
-use Rattle.printed_trees.specs.Trees.{arrows_to, IsTreeTo}
-use Rattle.printed_trees.specs.ArrowCycles.{IsArrowCycle}
+use Rattle.printed_samples.specs.Trees.{arrows_to, IsTreeTo}
+use Rattle.printed_samples.specs.ArrowCycles.{IsArrowCycle}
 
 -- The text is that of slots of the vertices but the first, whose arrows are a spanning tree of the
 -- grid and lead to vertex 1: its sum is over these slots.

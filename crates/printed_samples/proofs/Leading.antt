@@ -18,10 +18,10 @@ use Rattle.graph_read.specs.Incidence.{edges_at}
 use Rattle.cycle_popping.specs.Trees.{variable_of, heads_at, heads_of_tree}
 use Rattle.cycle_popping.proofs.TreeRows.{vertex_of_is, variable_below, tree_arrows}
 use Rattle.printed_samples.specs.Arrows.{Arrow, HasEnds, IsAlong}
-use Rattle.printed_trees.specs.Trees.{slot_arrow, arrows_to, LeadWithin, IsTreeTo}
-use Rattle.printed_trees.specs.Laws.{cycles_over, IsTreeState, PrintedLeads}
-use Rattle.printed_trees.proofs.Vertices.{no_variable, vertex_back, variable_back, turned}
-use Rattle.printed_trees.proofs.TreeArrows as over
+use Rattle.printed_samples.specs.Trees.{slot_arrow, arrows_to, LeadWithin, IsTreeTo}
+use Rattle.printed_samples.specs.TreeLaws.{cycles_over, IsTreeState, PrintedLeads}
+use Rattle.printed_samples.proofs.Vertices.{no_variable, vertex_back, variable_back, turned}
+use Rattle.printed_samples.proofs.TreeArrows as over
 
 module _ (g : GraphOf) (root : ℕ) (s : StackTable) (c : List ℕ) (is : IsTreeState g root s c)
     (finished : IsFinished (cycles_over s g root) c) where

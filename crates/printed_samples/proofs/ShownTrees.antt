@@ -13,12 +13,12 @@ use Rattle.printed_samples.specs.Stuck.{ShowsStuck}
 use Rattle.printed_samples.specs.Laws.{numbers_of}
 use Rattle.printed_samples.proofs.StuckNumbers.{empty_finished}
 use Rattle.printed_samples.proofs.ShownEnds.{shows_stuck}
-use Rattle.printed_trees.specs.Trees.{arrows_to}
-use Rattle.printed_trees.specs.ArrowCycles.{IsArrowCycle}
-use Rattle.printed_trees.specs.Laws.{cycles_over, TreeShown, MadeShown}
-use Rattle.printed_trees.proofs.TreeArrows.{tree_printed}
-use Rattle.printed_trees.proofs.Leading.{printed_leads}
-use Rattle.printed_trees.proofs.StuckCycles.{printed_cycles}
+use Rattle.printed_samples.specs.Trees.{arrows_to}
+use Rattle.printed_samples.specs.ArrowCycles.{IsArrowCycle}
+use Rattle.printed_samples.specs.TreeLaws.{cycles_over, TreeShown, MadeShown}
+use Rattle.printed_samples.proofs.TreeArrows.{tree_printed}
+use Rattle.printed_samples.proofs.Leading.{printed_leads}
+use Rattle.printed_samples.proofs.StuckCycles.{printed_cycles}
 
 -- the law for trees
 pub tree_shown : TreeShown

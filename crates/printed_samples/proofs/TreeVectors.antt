@@ -3,7 +3,7 @@ use Rattle.std.proofs.Common.{inl, inr, ◌≡◌, ◌≢◌, ℕ, zero, suc, �
 use Rattle.std.proofs.lemmas.Bool.{cases_eq}
 use Rattle.graph_read.specs.Graphs.{GraphOf, IsVertex}
 use Rattle.printed_samples.specs.Arrows.{Arrow, IsAlong}
-use Rattle.printed_trees.specs.Trees.{AreSteps, IsTreeTo, LeadWithin}
+use Rattle.printed_samples.specs.Trees.{AreSteps, IsTreeTo, LeadWithin}
 
 -- the edges 1 2 and 2 3
 abbrev path : GraphOf

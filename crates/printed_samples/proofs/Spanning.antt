@@ -10,8 +10,8 @@ use Rattle.graph_read.specs.Paths.{IsPath}
 use Rattle.graph_read.proofs.JoinedPaths.{joined_both_ways}
 use Rattle.graph_read.proofs.Numbering.{contains_map}
 use Rattle.printed_samples.specs.Arrows.{Arrow, HasEnds, IsAlong}
-use Rattle.printed_trees.specs.Trees.{AreSteps, graph_along}
-use Rattle.printed_trees.specs.Laws.{TreeSpans}
+use Rattle.printed_samples.specs.Trees.{AreSteps, graph_along}
+use Rattle.printed_samples.specs.TreeLaws.{TreeSpans}
 
 -- an edge with these ends leads from the one to the other
 ends_lead : (e : Edge) (a b : ℕ) → HasEnds e a b → (touches e a ≡ true) × (other_end e a ≡ b)

@@ -18,9 +18,9 @@ use Rattle.pop_print.specs.Output.{end_text}
 use Rattle.printed_samples.specs.Arrows.{Arrow}
 use Rattle.printed_samples.specs.Stuck.{AreStuck}
 use Rattle.printed_samples.specs.Laws.{numbers_of}
-use Rattle.printed_trees.specs.Trees.{arrows_to, graph_along, IsTreeTo, Spans, ShowsTree}
-use Rattle.printed_trees.specs.ArrowCycles.{IsArrowCycle, ShowsCycles}
-use Rattle.printed_trees.specs.Made.{ShowsMade, CountsCycles}
+use Rattle.printed_samples.specs.Trees.{arrows_to, graph_along, IsTreeTo, Spans, ShowsTree}
+use Rattle.printed_samples.specs.ArrowCycles.{IsArrowCycle, ShowsCycles}
+use Rattle.printed_samples.specs.Made.{ShowsMade, CountsCycles}
 
 -- the current value of each variable is one of the edges at its vertex
 abbrev pub AreSlots : GraphOf → ℕ → StackTable → List ℕ → Type 0

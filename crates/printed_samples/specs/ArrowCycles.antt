@@ -6,7 +6,7 @@ use Rattle.pop_model.specs.Popping.{values_at}
 use Rattle.graph_read.specs.Graphs.{GraphOf}
 use Rattle.printed_samples.specs.Arrows.{Arrow}
 use Rattle.printed_samples.specs.Stuck.{ShowsStuck}
-use Rattle.printed_trees.specs.Trees.{arrows_to, AreSteps}
+use Rattle.printed_samples.specs.Trees.{arrows_to, AreSteps}
 
 -- The numbers are the vertices, rising, of a cycle of the arrows: from each of them an arrow goes
 -- on, none leads to another vertex, and they lead from each to each.

@@ -21,9 +21,9 @@ use Rattle.cycle_popping.proofs.TreeRows.{variable_below, edge_is}
 use Rattle.pop_print.specs.Output.{arrow_line, tree_lines}
 use Rattle.pop_print.proofs.TreePlaces.{vertex_rises}
 use Rattle.printed_samples.specs.Arrows.{Arrow, lines_of, HasEnds, IsAlong}
-use Rattle.printed_trees.specs.Trees.{slot_arrow, arrows_to}
-use Rattle.printed_trees.specs.Laws.{IsTreeState}
-use Rattle.printed_trees.proofs.Vertices.{no_variable, vertex_back, listed_stands, has_ends}
+use Rattle.printed_samples.specs.Trees.{slot_arrow, arrows_to}
+use Rattle.printed_samples.specs.TreeLaws.{IsTreeState}
+use Rattle.printed_samples.proofs.Vertices.{no_variable, vertex_back, listed_stands, has_ends}
 
 -- the arrow of a variable and its slot
 abbrev pair_arrow : GraphOf → ℕ → ℕ × ℕ → Arrow

@@ -1,5 +1,5 @@
 //! Laws of printed trees. The contract of each function is the law.
-ghost use Rattle.printed_trees.specs.Laws.{PrintedLeads, TreeSpans, PrintedCycles, TreeShown, MadeShown, SoundSlots};
+ghost use Rattle.printed_samples.specs.TreeLaws.{PrintedLeads, TreeSpans, PrintedCycles, TreeShown, MadeShown, SoundSlots};
 
 /// Where no cycle of the arrows occurs, they are a spanning tree and lead to the root.
 pub fn printed_leads()

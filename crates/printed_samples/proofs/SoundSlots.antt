@@ -12,7 +12,7 @@ use Rattle.graph_read.specs.Incidence.{edges_at}
 use Rattle.cycle_popping.specs.Trees.{weights_at, weights_of_tree}
 use Rattle.cycle_popping.proofs.TreeRows.{some_slot, tree_weights}
 use Rattle.printed_samples.proofs.SoundValues.{sound_values}
-use Rattle.printed_trees.specs.Laws.{SoundSlots}
+use Rattle.printed_samples.specs.TreeLaws.{SoundSlots}
 
 -- weights that aren't 0 add up to something
 pub some_sum : (weights : List ℕ) → 0 < length weights → All (λ w. 0 < w) weights → 0 < sum weights

@@ -27,11 +27,11 @@ use Rattle.cycle_popping.proofs.TreeRows.{variable_below}
 use Rattle.pop_print.specs.declared.facts.Facts.TheVariants.{Tree}
 use Rattle.pop_print.proofs.TreePlaces.{vertex_rises}
 use Rattle.printed_samples.specs.Arrows.{Arrow}
-use Rattle.printed_trees.specs.Trees.{slot_arrow, arrows_to, AreSteps}
-use Rattle.printed_trees.specs.ArrowCycles.{IsArrowCycle}
-use Rattle.printed_trees.specs.Laws.{cycles_over, IsTreeState, PrintedCycles}
-use Rattle.printed_trees.proofs.Vertices.{vertex_back, variable_back}
-use Rattle.printed_trees.proofs.TreeArrows as over
+use Rattle.printed_samples.specs.Trees.{slot_arrow, arrows_to, AreSteps}
+use Rattle.printed_samples.specs.ArrowCycles.{IsArrowCycle}
+use Rattle.printed_samples.specs.TreeLaws.{cycles_over, IsTreeState, PrintedCycles}
+use Rattle.printed_samples.proofs.Vertices.{vertex_back, variable_back}
+use Rattle.printed_samples.proofs.TreeArrows as over
 use Rattle.printed_samples.proofs.StuckNumbers.{IsNamed, are_stuck}
 
 -- the vertices of variables

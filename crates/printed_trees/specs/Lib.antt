@@ -1,4 +1,0 @@
-pub mod Trees
-pub mod ArrowCycles
-pub mod Made
-pub mod Laws
