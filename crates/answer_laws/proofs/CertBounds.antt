@@ -18,7 +18,7 @@ use Rattle.answer_laws.proofs.HeadBounds.{root_fits}
 use Rattle.answer_laws.proofs.MadeBounds.{AreShort, made_bounded}
 
 -- stacks of a head
-spec_short : (spec : StackSpec) (height : ℕ) → MayBeStacks spec → MayBeHeight spec height → AreShort (origin_of spec height)
+pub spec_short : (spec : StackSpec) (height : ℕ) → MayBeStacks spec → MayBeHeight spec height → AreShort (origin_of spec height)
 spec_short (GivenStacks rows) height may tall = may.1
 spec_short (KeyedStacks key) height may tall = tall
 

@@ -29,6 +29,8 @@ mod PausedExactly
 -- workers. GrownAlike: in stages, or not, and of words StagesAgree, with FirstSampleOfWords of a batch.
 -- ResumedLines: certificates that are accepted are resumed as their lines, and ResumedUnpaused: so a run that paused goes
 -- on as one that didn't. ToldAtStart: what is told before any pop.
+-- CutLogs: where the text of a log begins and ends. UnaskedLogs: a resampling tells its log. ShownLogs: so an output
+-- determines the log that it shows.
 -- FirstSample: a batch begins with the sample of its job without a number. RoundsLikeFormula: rounds of extremal events
 -- end as their run.
 mod AlikeJobs
@@ -39,6 +41,9 @@ mod StagesAgree
 mod ResumedLines
 mod ResumedUnpaused
 mod ToldAtStart
+mod CutLogs
+mod UnaskedLogs
+mod ShownLogs
 mod FirstSample
 mod FirstSampleOfWords
 mod RoundsLikeFormula

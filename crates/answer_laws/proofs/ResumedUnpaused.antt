@@ -168,12 +168,12 @@ ten_pauses job ws text o h is = elim (read_cases job ws text o h) [
 -- ---- its certificate
 
 -- the stacks of the head are those of the job
-height_alike : (spec : StackSpec) (height : ℕ) → origin_of spec (height_said spec height) ≡ origin_of spec height
+pub height_alike : (spec : StackSpec) (height : ℕ) → origin_of spec (height_said spec height) ≡ origin_of spec height
 height_alike (GivenStacks rows) height = refl
 height_alike (KeyedStacks key) height = refl
 
 -- and what is made of the input is the same
-made_alike : (k : Command) (origin other : Origin) (root : ℕ) (text : List ℕ) (facts : Facts) (i : Instance)
+pub made_alike : (k : Command) (origin other : Origin) (root : ℕ) (text : List ℕ) (facts : Facts) (i : Instance)
     → origin ≡ other → IsMade k origin root text facts i → IsMade k other (root_said (has_root k) root) text facts i
 made_alike Formula origin other root text facts i same made = subst (λ o. IsMade Formula o 1 text facts i) same made
 made_alike Orient origin other root text facts i same made = subst (λ o. IsMade Orient o 1 text facts i) same made

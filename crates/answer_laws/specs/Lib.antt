@@ -1,5 +1,6 @@
 pub mod Orders
 pub mod Laws
+pub mod ShownLogs
 pub mod Shown
 pub mod Workers
 pub mod Resumed

@@ -1,5 +1,6 @@
 //! Laws of answers. Each function's contract is the law.
 ghost use Rattle.answer_laws.specs.Laws.{OneAnswer, OneOutcome, OneLoggedAnswer, PausedExactly, SampleFinished};
+ghost use Rattle.answer_laws.specs.ShownLogs.{OneShownLog, OneStoppedRun};
 ghost use Rattle.answer_laws.specs.Shown.{SampleShown, ExhaustedShown};
 ghost use Rattle.answer_laws.specs.Workers.{WorkersAgree};
 ghost use Rattle.answer_laws.specs.Resumed.{ResumedAlike};
@@ -30,6 +31,20 @@ pub fn one_outcome()
 /// choice but the order of pops, and a run that stops none but its pops.
 pub fn one_logged_answer()
     ensures { OneLoggedAnswer }
+{}
+
+/// An output shows one log: where two answers to the same words, watchers and text are the same
+/// bytes, the logs that they show have the same records, in the same layers. A resampling always
+/// shows the log of its run, so its output tells in which layered order the run popped.
+pub fn one_shown_log()
+    ensures { OneShownLog }
+{}
+
+/// A certificate that `--pops` leaves is that of one run: where words and a text are answered by the
+/// same bytes as others are, both runs are of one text and one instance, and popped the same records
+/// in the same layers. So they stand at the same cursors, after as many pops.
+pub fn one_stopped_run()
+    ensures { OneStoppedRun }
 {}
 
 /// A run that may stop after so many pops is answered by a certificate, with status 10, exactly

@@ -11,9 +11,9 @@ mod round_laws;
 pub use key_laws::{keyed_answers, keyed_round_answers};
 pub use laws::{
     asked_rows, complete, every_sample, exchanged_answers, exhausted_shown, first_sample,
-    first_sample_of_words, grown_alike, one_answer, one_logged_answer, one_outcome, paused_exactly,
-    reached_answers, resumed_alike, resumed_unpaused, rounds_like_formula, sample_finished,
-    sample_shown, stages_agree, workers_agree,
+    first_sample_of_words, grown_alike, one_answer, one_logged_answer, one_outcome, one_shown_log,
+    one_stopped_run, paused_exactly, reached_answers, resumed_alike, resumed_unpaused,
+    rounds_like_formula, sample_finished, sample_shown, stages_agree, workers_agree,
 };
 pub use print_laws::{every_spanning_tree, exact_outputs, exact_round_outputs, printed_apart};
 pub use round_laws::{
