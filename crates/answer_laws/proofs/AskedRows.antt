@@ -6,7 +6,7 @@ use Rattle.std.specs.Cmp.Derive.{both_true}
 use Rattle.std.proofs.lemmas.Bool.{le-leb}
 use Rattle.pop_stacks.specs.declared.stack_spec.StackSpec.TheVariants.{Given}
 use Rattle.pop_words.specs.declared.command.Command.{Command}
-use Rattle.pop_words.specs.declared.command.Command.TheVariants.{Formula, Orient, Tree, Make}
+use Rattle.pop_words.specs.declared.command.Command.TheVariants.{Formula, Orient, Tree, Make, Rounds}
 use Rattle.pop_words.specs.declared.job.Job.{Job}
 use Rattle.pop_words.specs.Values.{only_if, number_between}
 use Rattle.pop_words.specs.Options.{default_job}
@@ -38,6 +38,13 @@ formula_asked : (rows : Rows) → MayBeStacks (Given rows)
     → (words : List (List ℕ)) × Asks words (over_rows (default_job Formula) rows)
 formula_asked rows may =
     asked_by_reading (codes "formula" ∷ codes "--stacks" ∷ word_of rows ∷ []) (over_rows (default_job Formula) rows)
+    (rw (rows_again rows may) refl)
+
+-- of rounds
+rounds_asked : (rows : Rows) → MayBeStacks (Given rows)
+    → (words : List (List ℕ)) × Asks words (over_rows (default_job Rounds) rows)
+rounds_asked rows may =
+    asked_by_reading (codes "rounds" ∷ codes "--stacks" ∷ word_of rows ∷ []) (over_rows (default_job Rounds) rows)
     (rw (rows_again rows may) refl)
 
 -- of an orientation
@@ -72,6 +79,8 @@ rows_asked Formula job rows plain may =
     subst (λ j. (words : List (List ℕ)) × Asks words (over_rows j rows)) (sym plain) (formula_asked rows may)
 rows_asked Orient job rows plain may =
     subst (λ j. (words : List (List ℕ)) × Asks words (over_rows j rows)) (sym plain) (orient_asked rows may)
+rows_asked Rounds job rows plain may =
+    subst (λ j. (words : List (List ℕ)) × Asks words (over_rows j rows)) (sym plain) (rounds_asked rows may)
 rows_asked Tree job rows (root, some, fits, is) may =
     subst (λ j. (words : List (List ℕ)) × Asks words (over_rows j rows)) (sym is) (tree_asked rows root some fits may)
 rows_asked Make job rows (side, some, few, is) may =

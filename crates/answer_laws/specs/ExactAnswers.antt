@@ -8,7 +8,7 @@ use Rattle.pop_stacks.specs.Faults.{AreLight}
 use Rattle.pop_samples.specs.Frames.{Rows, Frame, IsSampleOf}
 use Rattle.pop_samples.specs.Exchange.{exchange}
 use Rattle.pop_words.specs.declared.command.Command.{Command}
-use Rattle.pop_words.specs.declared.command.Command.TheVariants.{Formula, Orient, Tree, Make}
+use Rattle.pop_words.specs.declared.command.Command.TheVariants.{Formula, Orient, Tree, Make, Rounds}
 use Rattle.pop_words.specs.declared.job.Job.{Job}
 use Rattle.pop_words.specs.Options.{default_job}
 use Rattle.pop_words.specs.CommandLines.{Asks}
@@ -74,6 +74,7 @@ ReachedAnswers = (job : Job) (text : List ℕ) (s : Subject) (heights x : List �
 abbrev pub IsPlain : Command → Job → Type 0
 IsPlain Formula job = job ≡ default_job Formula
 IsPlain Orient job = job ≡ default_job Orient
+IsPlain Rounds job = job ≡ default_job Rounds
 IsPlain Tree job = (root : ℕ) × (0 < root) × (root < 2 ^ 32)
     × (job ≡ record (default_job Tree) { root = root })
 IsPlain Make job = (side : ℕ) × (0 < side) × (side ≤ 2048)

@@ -151,10 +151,11 @@ pub fn reached_answers()
     ensures { ReachedAnswers }
 {}
 
-/// Words ask for rows, of `formula`, `orient`, `tree` or `make` with no option but a root or a
-/// side, exactly where the rows are within the limits of words: at most 2^22 rows, which have at
-/// most 2^20 numbers together, each of 32 bits, and aren't just one empty row. So the rows of a
-/// sample (`reached_answers`) have words that ask for them where they are within these.
+/// Words ask for rows, of `formula`, `orient`, `tree`, `make` or `rounds` with no option but a root
+/// or a side, exactly where the rows are within the limits of words: at most 2^22 rows, which have
+/// at most 2^20 numbers together, each of 32 bits, and aren't just one empty row. So the rows of a
+/// sample (`reached_answers`, `reached_round_answers`) have words that ask for them where they are
+/// within these.
 pub fn asked_rows()
     ensures { AskedRows }
 {}
