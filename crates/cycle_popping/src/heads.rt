@@ -5,7 +5,7 @@ ghost use Rattle.graph_read.specs.Paths.{IsConnected};
 ghost use Rattle.cycle_popping.specs.Trees.{heads_of_tree, variable_of as variable_in};
 
 use crate::names::variable_of;
-use graph_read::{Adjacency, Graph, Incidence, vertex_of};
+use graph_read::{Adjacency, Graph, OtherEnds, vertex_of};
 use pop_instance::Arrows;
 use pop_rows::RowList;
 use std::alloc::{AllocError, Global};
@@ -19,8 +19,8 @@ pub fn arrows(alloc: Global, graph: &Graph, root: u32) -> Result<Arrows, AllocEr
     requires joined { IsConnected graph.now root }
     ensures { IfOk result (λ arrows. arrows ≡ heads_of_tree graph.now root) }
 {
-    let incidence = Incidence::of(alloc, graph)?;
-    arrows_of(alloc, &incidence, root)
+    let ends = OtherEnds::of(alloc, graph)?;
+    arrows_of(alloc, &ends, root)
 }
 
 /// The arrows of a graph whose edges at each vertex are at hand: those of `arrows`.

@@ -1,9 +1,9 @@
-ghost use Rattle.std.specs.Prelude.{◌≡◌, ◌<◌, ◌↔◌, length, All, IfOk, OnOk, IsTrue};
+ghost use Rattle.std.specs.Prelude.{◌≡◌, ◌↔◌, All, IfOk, IsTrue};
 ghost use Rattle.graph_read.specs.Graphs.{IsVertex};
 ghost use Rattle.graph_read.specs.Paths.{IsConnected};
-ghost use Rattle.cycle_popping.specs.Trees.{weights_along, weights_of_tree};
+ghost use Rattle.cycle_popping.specs.Trees.{weights_of_tree};
 
-use graph_read::{Adjacency, Graph, Incidence, vertex_of};
+use graph_read::{Adjacency, Graph, OtherEnds, vertex_of};
 use pop_rows::RowList;
 use pop_stacks::{Rows, Weights};
 use std::alloc::{AllocError, Global};
@@ -16,20 +16,20 @@ pub fn arrow_weights(alloc: Global, graph: &Graph, root: u32) -> Result<Weights,
     requires joined { IsConnected graph.now root }
     ensures { IfOk result (λ weights. weights ≡ weights_of_tree graph.now root) }
 {
-    let incidence = Incidence::of(alloc, graph)?;
-    weights_of(alloc, &incidence, root)
+    let ends = OtherEnds::of(alloc, graph)?;
+    weights_of(alloc, &ends, root)
 }
 
-/// The weights of the arrows of a graph whose incidence is at hand: those of `arrow_weights`.
-pub fn weights_of(alloc: Global, incidence: &Incidence, root: u32) -> Result<Weights, AllocError>
-    requires root { IsVertex incidence.now.vertices root }
-    requires joined { IsConnected incidence.now root }
-    ensures { IfOk result (λ weights. weights ≡ weights_of_tree incidence.now root) }
+/// The weights of the arrows of a graph whose other ends are at hand: those of `arrow_weights`.
+pub fn weights_of(alloc: Global, ends: &OtherEnds, root: u32) -> Result<Weights, AllocError>
+    requires root { IsVertex ends.now.vertices root }
+    requires joined { IsConnected ends.now root }
+    ensures { IfOk result (λ weights. weights ≡ weights_of_tree ends.now root) }
 {
-    if all_weigh_one(incidence.graph()) {
-        return ones_of(alloc, incidence, root);
+    if all_weigh_one(ends.graph()) {
+        return ones_of(alloc, ends, root);
     }
-    numbers_of(alloc, incidence, root)
+    numbers_of(alloc, ends, root)
 }
 
 // Whether each edge has weight 1.
@@ -66,32 +66,16 @@ pub(crate) fn ones_of<A: Adjacency>(
 }
 
 // The weights of the arrows, each of them stored.
-fn numbers_of(alloc: Global, incidence: &Incidence, root: u32) -> Result<Weights, AllocError>
-    requires root { IsVertex incidence.now.vertices root }
-    requires joined { IsConnected incidence.now root }
-    ensures { IfOk result (λ weights. weights ≡ weights_of_tree incidence.now root) }
+fn numbers_of(alloc: Global, ends: &OtherEnds, root: u32) -> Result<Weights, AllocError>
+    requires root { IsVertex ends.now.vertices root }
+    requires joined { IsConnected ends.now root }
+    ensures { IfOk result (λ weights. weights ≡ weights_of_tree ends.now root) }
 {
-    let count = incidence.vertices() - 1;
-    let mut rows = RowList::with_room(alloc, count as usize, incidence.ends())?;
-
-    // One list serves each variable in turn.
-    let mut weights = Vec::new(alloc);
+    let weights = ends.weights(alloc)?;
+    let count = ends.vertices() - 1;
+    let mut rows = RowList::with_room(alloc, count as usize, ends.ends())?;
     for v in 0..count {
-        let edges = incidence.at(vertex_of(root, v));
-        fill_weights(&mut weights, incidence.graph(), edges)?;
-        rows.push_row(&weights)?;
+        rows.push_row(weights.row(vertex_of(root, v) - 1))?;
     }
     Ok(Weights::of(Rows::flat(rows)))
-}
-
-// Puts the weights of edges into a list, in place of what it has.
-fn fill_weights(weights: &mut Vec<u32>, graph: &Graph, edges: &[u32]) -> Result<(), AllocError>
-    requires known { All (λ i. i < length graph.now.edges) edges.now }
-    ensures { OnOk result (weights.new.items ≡ weights_along graph.now edges.now) }
-{
-    weights.clear();
-    for i in edges {
-        weights.push(graph.edge(*i).weight)?;
-    }
-    Ok(())
 }

@@ -4,13 +4,13 @@
 use Rattle.std.proofs.Common.{◌≡◌, inl, inr, ℕ, suc, ◌+◌, ◌-◌, ◌<◌, ◌≤◌, Bool, true, false, cond, not, nat_eq, List, [], ◌∷◌, ◌++◌, length, map, filter, take, drop, get_or, refl, sym, ap, ◌∙◌, subst, arith, append_assoc, take-append-drop}
 use Rattle.std.specs.Prelude.{All, Contains}
 use Rattle.std.specs.List.{enumerate_from}
-use Rattle.std.proofs.lemmas.List.{get_or_default}
+use Rattle.std.proofs.lemmas.List.{get_or_default, get_or-map, length-map}
 use Rattle.std.proofs.lemmas.List.Elements.{All-nil, All-cons, All-weaker, All-get_or, Contains-push, Contains-append_left}
 use Rattle.std.proofs.lemmas.Bool.{cases_Bool, cases_eq, or_cases, eqb-true, and_parts, and_from, not_from_false}
 use Rattle.graph_read.specs.declared.search.Search.{Search}
 use Rattle.graph_read.specs.declared.edge.Edge.{Edge}
-use Rattle.graph_read.specs.Graphs.{GraphOf, IsVertex, IsEdge}
-use Rattle.graph_read.specs.Incidence.{is_loop, touches, other_end, edges_at}
+use Rattle.graph_read.specs.Graphs.{GraphOf, IsVertex, IsEdge, IsGraph, edge_at}
+use Rattle.graph_read.specs.Incidence.{is_loop, touches, other_end, edges_at, neighbours_of}
 use Rattle.graph_read.specs.Paths.{IsJoined}
 use Rattle.graph_read.specs.Search.{IsMet, IsSearch, Goes, HasVisited}
 use Rattle.graph_read.proofs.JoinedPaths.{joined_more}
@@ -126,35 +126,70 @@ pub record Visits (g : GraphOf) (v k : ℕ) (old now : Search) : Type 0 where
   pub visited : (j : ℕ) (e : Edge) → j < k → e ≡ get_or g.edges (get_or (edges_at g v) j 0) e
       → IsMet now.met.items (other_end e v)
 
+-- an edge at the vertex, and where it leads
+record Leads (g : GraphOf) (v k : ℕ) : Type 0 where
+  edge : Edge
+  at : edge ≡ get_or g.edges (get_or (edges_at g v) k 0) edge
+  known : IsStanding g v (get_or (edges_at g v) k 0)
+  end : get_or (neighbours_of g v) k 0 ≡ other_end edge v
+
+-- at each place among those at it
+leads : (g : GraphOf) (v k : ℕ) → k < length (neighbours_of g v) → Leads g v k
+leads g v k h =
+    let other : ℕ → ℕ = λ i. other_end (edge_at g i) v in
+    let i = get_or (edges_at g v) k 0 in
+    let none : Edge = record { u = 0; v = 0; weight = 0 } in
+    let within : k < length (edges_at g v) = omega (arith, h, length-map (edges_at g v) other) in
+    let stands = standing g v k within in
+    record {
+      edge = edge_at g i;
+      at = get_or_default g.edges i none (edge_at g i) stands.within;
+      known = stands;
+      end = get_or-map other (edges_at g v) k 0 0 within;
+    }
+
+-- where the edges at a vertex lead are vertices
+pub neighbour_vertex : (g : GraphOf) (v k : ℕ) → IsGraph g → k < length (neighbours_of g v)
+    → IsVertex g.vertices (get_or (neighbours_of g v) k 0)
+neighbour_vertex g v k graph h =
+    let l = leads g v k h in
+    let i = get_or (edges_at g v) k 0 in
+    let edge : IsEdge g.vertices l.edge =
+    subst (IsEdge g.vertices) (sym l.at)
+    (All-get_or (IsEdge g.vertices) g.edges i l.edge l.known.within graph.edges_join) in
+    subst (IsVertex g.vertices) (sym l.end) (other_end_vertex g.vertices v l.edge edge)
+
 -- with an edge more
-pub visits_more : (g : GraphOf) (v k i : ℕ) (e : Edge) (old now new : Search) → k < length (edges_at g v)
-    → i ≡ get_or (edges_at g v) k 0 → e ≡ get_or g.edges i e → IsVertex g.vertices v → IsMet old.met.items v
-    → Visits g v k old now → IsMet new.met.items (other_end e v) → Goes now new
-    → ((f : GraphOf) (root : ℕ) → IsSearch f root now → IsJoined f root (other_end e v) → IsSearch f root new)
+pub visits_more : (g : GraphOf) (v k : ℕ) (old now new : Search) → k < length (neighbours_of g v)
+    → IsVertex g.vertices v → IsMet old.met.items v
+    → Visits g v k old now → IsMet new.met.items (get_or (neighbours_of g v) k 0) → Goes now new
+    → ((f : GraphOf) (root : ℕ) → IsSearch f root now → IsJoined f root (get_or (neighbours_of g v) k 0)
+    → IsSearch f root new)
     → Visits g v (k + 1) old new
-visits_more g v k i e old now new h place is vertex met visits here goes search =
-    let s = standing g v k h in
-    let at : e ≡ get_or g.edges (get_or (edges_at g v) k 0) e = is ∙ ap (λ n. get_or g.edges n e) place in
-    let touch : touches e v ≡ true = (and_parts (touches e v) (not (is_loop e)) (s.stands e at)).0 in
-    let has : Contains g.edges e = (get_or (edges_at g v) k 0, s.within, sym at) in
+visits_more g v k old now new h vertex met visits here goes search =
+    let l = leads g v k h in
+    let e = l.edge in
+    let i = get_or (edges_at g v) k 0 in
+    let touch : touches e v ≡ true = (and_parts (touches e v) (not (is_loop e)) (l.known.stands e l.at)).0 in
+    let has : Contains g.edges e = (i, l.known.within, sym l.at) in
     record {
       goes = goes_on old now new visits.goes goes;
       search = λ root begun.
           let so_far = visits.search root begun in
-          search g root so_far
-          (joined_more g root v e (so_far.joined v vertex (visits.goes.kept v met)) has touch);
+          search g root so_far (subst (IsJoined g root) (sym l.end)
+          (joined_more g root v e (so_far.joined v vertex (visits.goes.kept v met)) has touch));
       visited = λ j x lt read.
           elim (cases_eq j k) [
             | inl same ↦
                 (let other : x ≡ e = read ∙ ap (λ n. get_or g.edges (get_or (edges_at g v) n 0) x) same
-                ∙ get_or_default g.edges (get_or (edges_at g v) k 0) x e s.within ∙ sym at in
-                subst (λ y. IsMet new.met.items (other_end y v)) (sym other) here)
+                ∙ get_or_default g.edges i x e l.known.within ∙ sym l.at in
+                subst (IsMet new.met.items) (l.end ∙ ap (λ y. other_end y v) (sym other)) here)
             | inr ne ↦ goes.kept (other_end x v) (visits.visited j x (omega (arith, lt, ne)) read)
           ];
     }
 
 -- once all edges at the vertex were taken, each other end is met
-pub visits_all : (g : GraphOf) (v k : ℕ) (old now : Search) → length (edges_at g v) ≤ k → IsMet old.met.items v
+pub visits_all : (g : GraphOf) (v k : ℕ) (old now : Search) → length (neighbours_of g v) ≤ k → IsMet old.met.items v
     → Visits g v k old now → HasVisited g now v
 visits_all g v k old now all met visits e has touch =
     elim (cases_Bool (is_loop e)) [
@@ -163,7 +198,8 @@ visits_all g v k old now all met visits e has touch =
           (let stands : stands_at e v ≡ true =
           and_from (touches e v) (not (is_loop e)) touch (not_from_false (is_loop e) apart) in
           let listed = edge_listed g v has.0 e has.1 (sym has.2) stands in
-          visits.visited listed.0 e (omega (arith, listed.1, all))
+          let few = length-map (edges_at g v) (λ i. other_end (edge_at g i) v) in
+          visits.visited listed.0 e (omega (arith, listed.1, all, few))
           (sym has.2 ∙ ap (λ n. get_or g.edges n e)
           (sym (get_or_default (edges_at g v) listed.0 0 has.0 listed.1 ∙ listed.2))))
     ]

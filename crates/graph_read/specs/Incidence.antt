@@ -2,6 +2,8 @@
 use Rattle.std.specs.Prelude.{◌≡◌, ℕ, ◌+◌, ◌-◌, ◌<◌, Bool, ◌&&◌, ◌||◌, not, ◌==◌, if◌then◌else◌, List, [], length, map, filter, slice_index, slice_index_or}
 use Rattle.std.specs.List.{enumerate_from, range_with_len}
 use Rattle.graph_read.specs.declared.edge.Edge.{Edge}
+use Rattle.graph_read.specs.declared.put.Put.{Put}
+use Rattle.graph_read.specs.declared.put.Put.TheVariants.{Number, OtherEnd, Weight}
 use Rattle.graph_read.specs.Graphs.{GraphOf, IsVertex, edge_at}
 
 -- both ends of the edge are one vertex
@@ -28,9 +30,19 @@ edges_at g w = map (λ p. p.0) (listed_edges g w)
 abbrev pub neighbours_of : GraphOf → ℕ → List ℕ
 neighbours_of g w = map (λ i. other_end (edge_at g i) w) (edges_at g w)
 
--- the edges at each vertex, from vertex 1 on
-abbrev pub incidence_of : GraphOf → List (List ℕ)
-incidence_of g = map (edges_at g) (range_with_len 1 g.vertices)
+-- what edge i puts into the row of a vertex at which it stands
+abbrev pub put_of : Put → ℕ → Edge → ℕ → ℕ
+put_of Number i e w = i
+put_of OtherEnd i e w = other_end e w
+put_of Weight i e w = e.weight
+
+-- what the edges at a vertex put into its row
+abbrev pub row_by : Put → GraphOf → ℕ → List ℕ
+row_by put g w = map (λ i. put_of put i (edge_at g i) w) (edges_at g w)
+
+-- what the edges at each vertex put there, from vertex 1 on
+abbrev pub rows_by : Put → GraphOf → List (List ℕ)
+rows_by put g = map (row_by put g) (range_with_len 1 g.vertices)
 
 -- how many edges stand at each vertex, loops aside
 abbrev pub degrees_of : GraphOf → List ℕ
@@ -45,4 +57,4 @@ pub record StandAtPlaces (g : GraphOf) (places edges : List ℕ) : Type 0 where
 
 -- what stands there at a vertex
 abbrev pub at_vertex : List (List ℕ) → ℕ → List ℕ
-at_vertex incidence w = slice_index_or incidence (w - 1) []
+at_vertex rows w = slice_index_or rows (w - 1) []

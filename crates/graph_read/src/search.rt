@@ -3,7 +3,7 @@ ghost use Rattle.graph_read.specs.Graphs.{IsVertex};
 ghost use Rattle.graph_read.specs.Paths.{IsFirstCutOff, IsJoined};
 ghost use Rattle.graph_read.specs.Search.{AreJoined, Goes, HasVisited, IsMet, IsSearch};
 
-use crate::{Graph, Incidence};
+use crate::{Graph, OtherEnds};
 use std::alloc::{AllocError, Global};
 
 /// The vertices that a search has come to.
@@ -50,33 +50,34 @@ impl Search {
 }
 
 // Comes to the other ends of the edges at a vertex.
-fn visit(search: &mut Search, incidence: &Incidence, vertex: u32) -> Result<(), AllocError>
-    requires vertex { IsVertex incidence.now.vertices vertex }
-    requires size { length search.old.met.items ≡ incidence.now.vertices }
+fn visit(search: &mut Search, ends: &OtherEnds, vertex: u32) -> Result<(), AllocError>
+    requires vertex { IsVertex ends.now.vertices vertex }
+    requires size { length search.old.met.items ≡ ends.now.vertices }
     requires met { IsMet search.old.met.items vertex }
     ensures goes { OnOk result (Goes search.old search.new) }
-    ensures visited { OnOk result (HasVisited incidence.now search.new vertex) }
-    ensures search { OnOk result ((root : ℕ) → IsSearch incidence.now root search.old
-        → IsSearch incidence.now root search.new) }
+    ensures visited { OnOk result (HasVisited ends.now search.new vertex) }
+    ensures search { OnOk result ((root : ℕ) → IsSearch ends.now root search.old
+        → IsSearch ends.now root search.new) }
 {
-    let graph = incidence.graph();
-    for i in incidence.at(vertex) {
-        search.meet(graph.edge(*i).other_end(vertex))?;
+    // Read for its contract, which says that edges lead to vertices.
+    let _edges = ends.graph().edges();
+    for w in ends.at(vertex) {
+        search.meet(*w)?;
     }
     Ok(())
 }
 
 // The vertices that paths join to the root: for each vertex, from vertex 1 on, whether a path does.
-fn reach(alloc: Global, incidence: &Incidence, root: u32) -> Result<Vec<bool>, AllocError>
-    requires root { IsVertex incidence.now.vertices root }
-    ensures { IfOk result (λ met. AreJoined incidence.now root met.items) }
+fn reach(alloc: Global, ends: &OtherEnds, root: u32) -> Result<Vec<bool>, AllocError>
+    requires root { IsVertex ends.now.vertices root }
+    ensures { IfOk result (λ met. AreJoined ends.now root met.items) }
 {
-    let mut search = Search::new(alloc, incidence.graph().vertices())?;
+    let mut search = Search::new(alloc, ends.graph().vertices())?;
     search.meet(root)?;
     let mut at = 0;
     while at < search.found.len() {
         let vertex = search.found[at];
-        visit(&mut search, incidence, vertex)?;
+        visit(&mut search, ends, vertex)?;
         at += 1;
     }
     let Search { met, found: _ } = search;
@@ -89,7 +90,7 @@ fn first_unmet(met: &[bool]) -> Option<usize>
     met.iter().position(|met| !*met)
 }
 
-impl<'g> Incidence<'g> {
+impl<'g> OtherEnds<'g> {
     /// The least vertex that no path joins to the root, or None where a path joins each. The root
     /// is a vertex.
     pub fn first_cut_off(&self, alloc: Global, root: u32) -> Result<Option<u32>, AllocError>
@@ -112,5 +113,5 @@ pub fn first_cut_off(alloc: Global, graph: &Graph, root: u32) -> Result<Option<u
     requires { IsVertex graph.now.vertices root }
     ensures { IfOk result (IsFirstCutOff graph.now root) }
 {
-    Incidence::of(alloc, graph)?.first_cut_off(alloc, root)
+    OtherEnds::of(alloc, graph)?.first_cut_off(alloc, root)
 }

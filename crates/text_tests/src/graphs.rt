@@ -2,7 +2,8 @@
 ghost use Rattle.std.specs.Prelude.{◌≤◌};
 
 use graph_read::{
-    Edge, Graph, Incidence, edges_at_places, first_cut_off, put_grid_neighbours, read_graph,
+    Adjacency, Edge, Graph, Incidence, OtherEnds, edges_at_places, first_cut_off,
+    put_grid_neighbours, read_graph,
 };
 use pop_edge::{MemSource, ReadRefusal};
 use std::alloc::{AllocError, Global};
@@ -126,6 +127,31 @@ fn each_vertex_has_its_edges_but_for_loops(rt: HostRuntime) -> Result<(), Fail> 
     Ok(())
 }
 
+// The same edges: where they lead, and what they weigh.
+#[test]
+fn each_vertex_has_the_other_ends_of_its_edges(rt: HostRuntime) -> Result<(), Fail> {
+    let graph = read(rt.alloc(), BY_HAND, 4096, &[])??;
+    let ends = OtherEnds::of(rt.alloc(), &graph)?;
+    let weights = ends.weights(rt.alloc())?;
+    let cases: [(u32, &[u32], &[u32]); 3] = [
+        (1, &[2, 3, 2], &[5, 1, 1]),
+        (2, &[1, 1], &[5, 1]),
+        (3, &[1], &[1]),
+    ];
+    let mut neighbours = Vec::new(rt.alloc());
+    assert_eq!(rt; graph.vertices(), 3);
+    assert_eq!(rt; weights.count(), 3);
+    for (vertex, leads, weigh) in cases {
+        assert!(rt; 1 <= vertex && vertex <= 3);
+        assert_eq!(rt; ends.at(vertex), leads, "at {vertex}");
+        assert_eq!(rt; ends.degree(vertex) as usize, leads.len(), "at {vertex}");
+        ends.put_neighbours(&mut neighbours, vertex)?;
+        assert_eq!(rt; neighbours.as_slice(), leads, "at {vertex}");
+        assert_eq!(rt; weights.row(vertex - 1), weigh, "at {vertex}");
+    }
+    Ok(())
+}
+
 // At vertex 1 the second edge, at vertex 2 the second, and at vertex 3 the first.
 #[test]
 fn an_edge_is_found_by_its_place_at_a_vertex(rt: HostRuntime) -> Result<(), Fail> {
@@ -154,6 +180,11 @@ fn the_least_vertex_that_is_cut_off_is_named(rt: HostRuntime) -> Result<(), Fail
         assert!(rt; 1 <= root && root <= graph.vertices());
         assert_eq!(rt;
             first_cut_off(rt.alloc(), &graph, root)?,
+            want,
+            "from {root}"
+        );
+        assert_eq!(rt;
+            OtherEnds::of(rt.alloc(), &graph)?.first_cut_off(rt.alloc(), root)?,
             want,
             "from {root}"
         );

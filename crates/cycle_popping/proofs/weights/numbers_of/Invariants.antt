@@ -5,4 +5,4 @@ use Rattle.cycle_popping.proofs.weights.numbers_of.Given as goal
 
 -- the rows of the variables before here
 abbrev pub invariant-loop-v : goal.invariant-loop-v
-invariant-loop-v l = l.rows ≡ map (weights_at l.incidence l.root) (range_with_len 0 l.v)
+invariant-loop-v l = l.rows ≡ map (weights_at l.ends l.root) (range_with_len 0 l.v)

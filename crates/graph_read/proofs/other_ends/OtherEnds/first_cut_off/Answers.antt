@@ -1,6 +1,6 @@
 use Rattle.std.proofs.Common.{not, position, sym, ap, ◌∙◌}
 use Rattle.graph_read.proofs.ReachedVertices.{least_unmet, none_unmet}
-use Rattle.graph_read.proofs.incidence.Incidence.first_cut_off.Goals as goal
+use Rattle.graph_read.proofs.other_ends.OtherEnds.first_cut_off.Goals as goal
 
 pub returns-in-None : goal.returns-in-None
 returns-in-None c =

@@ -1,6 +1,6 @@
 use Rattle.graph_read.proofs.IncidenceRows.{HoldsEdges}
-use Rattle.graph_read.proofs.incidence.rows_of.Given as goal
+use Rattle.graph_read.proofs.end_rows.put_rows.Given as goal
 
 -- the edges so far are pushed
 abbrev pub invariant-loop-i : goal.invariant-loop-i
-invariant-loop-i l = HoldsEdges l.graph l.i l.rows
+invariant-loop-i l = HoldsEdges l.put l.graph l.i l.rows

@@ -1,7 +1,0 @@
-use Rattle.pop_rows.proofs.Puts.{CountPuts}
-use Rattle.graph_read.proofs.IncidenceRows.{first_ends}
-use Rattle.graph_read.proofs.incidence.count_ends.Given as goal
-
--- the ends of the edges so far are counted
-abbrev pub invariant-loop-i : goal.invariant-loop-i
-invariant-loop-i l = CountPuts l.graph.vertices (first_ends l.graph l.i) l.degrees
