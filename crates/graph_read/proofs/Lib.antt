@@ -1,5 +1,6 @@
 -- The grammar: the line of an edge, the lines that a reader took, its answer, and what has no refusal
 pub mod EdgeLines
+mod FrontNumbers
 pub mod TakenLines
 pub mod AnsweredText
 pub mod GrammarLaw

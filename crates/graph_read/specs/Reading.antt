@@ -5,6 +5,8 @@ use denote.Ref.{Bor}
 use Rattle.pop_edge.specs.declared.refusal.ReadRefusal.{ReadRefusal}
 use Rattle.pop_edge.specs.declared.refusal.ReadRefusal.TheVariants.{OutOfMemory, ReadFault}
 use Rattle.pop_edge.specs.Refusals.{Fault, at_line, refusal_at}
+use Rattle.pop_edge.specs.Words.{words_of}
+use Rattle.pop_edge.specs.Numbers.{number_of}
 use Rattle.graph_read.specs.declared.edge.Edge.{Edge}
 use Rattle.graph_read.specs.declared.reader.Reader.{Reader}
 use Rattle.graph_read.specs.Graphs.{GraphOf}
@@ -20,6 +22,18 @@ abbrev pub AreEdgeWords : List (List ℕ)
     → Option (Bor (List ℕ) × Bor (List ℕ) × Option (Bor (List ℕ))) → Type 0
 AreEdgeWords words None = edge_words words ≡ None
 AreEdgeWords words (Some (u, v, w)) = edge_words words ≡ Some (u.now, v.now, option_copied w)
+
+-- the bytes begin with a word that is this number, and have these behind it
+pub record IsFront (bytes : List ℕ) (number : ℕ) (rest : List ℕ) : Type 0 where
+  pub word : List ℕ
+  pub words : words_of bytes ≡ word ∷ words_of rest
+  pub spelled : number_of word ≡ Some number
+
+-- the words are a weight, or none, and then it is 1
+abbrev pub AreWeight : List (List ℕ) → ℕ → Type 0
+AreWeight [] weight = weight ≡ 1
+AreWeight (word ∷ []) weight = number_of word ≡ Some weight
+AreWeight _ weight = ⊥
 
 -- what was read in a line, or its refusal
 abbrev pub in_line : {A : Type 0} → ℕ → Result A Fault → Result A ReadRefusal

@@ -82,6 +82,41 @@ fn a_bad_text_is_refused_whatever_the_pieces(rt: HostRuntime) -> Result<(), Fail
     Ok(())
 }
 
+// Worked by hand from the grammar: a number has up to ten digits, and is below 2^32.
+#[test]
+fn an_edge_is_read_however_its_numbers_are_written(rt: HostRuntime) -> Result<(), Fail> {
+    let cases: [(&[u8], Result<Edge, u32>); 12] = [
+        (b"e 3 2", Ok(edge(3, 2, 1))),
+        (b"e 3 2 ", Ok(edge(3, 2, 1))),
+        (b"e 3 2 7 ", Ok(edge(3, 2, 7))),
+        (b" e\t 3  2\r", Ok(edge(3, 2, 1))),
+        (b"e 000000003 0000000002 00", Err(14)),
+        (b"e 0000000003 2 999999999", Ok(edge(3, 2, 999999999))),
+        (b"e 3 2 4294967295", Ok(edge(3, 2, 4294967295))),
+        (b"e 3 2 4294967296", Err(12)),
+        (b"e 00000000003 2", Err(12)),
+        (b"e 3 4", Err(13)),
+        (b"e 3 2 1 1", Err(15)),
+        (b"e 3 2x", Err(12)),
+    ];
+    for (line, want) in cases {
+        let mut text = Vec::from_slice(rt.alloc(), b"p edge 3 1\n")?;
+        text.extend_from_slice(line)?;
+        match (read(rt.alloc(), &text, 4096, &[])?, want) {
+            (Ok(graph), Ok(edge)) => {
+                assert_eq!(rt; edges_of(rt.alloc(), &graph)?.as_slice(), [edge].as_slice());
+            }
+            (result, want) => {
+                assert_eq!(rt;
+                    result.err(),
+                    want.err().map(|code| ReadRefusal::Malformed(2, code))
+                );
+            }
+        }
+    }
+    Ok(())
+}
+
 // The line that is bad ends with byte 16 of 23; a read gives one byte.
 #[test]
 fn a_fault_comes_behind_the_lines_before_it(rt: HostRuntime) -> Result<(), Fail> {
