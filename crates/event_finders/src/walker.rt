@@ -3,6 +3,7 @@ ghost use Rattle.pop_model.specs.Popping.{variables};
 ghost use Rattle.claim_words.specs.Maps.{times_in};
 ghost use Rattle.event_finders.specs.Trails.{IsTrail, resting, stand, last_of};
 
+use pop_instance::Cube;
 use std::alloc::{AllocError, Global};
 use std::marker::Model;
 use std::mem;
@@ -117,8 +118,8 @@ impl Walker {
         last
     }
 
-    // The list for the pairs of a cycle, empty. It is given back by `keep_pairs`; where it isn't,
-    // the next cycle has a list that grows anew.
+    // The list for the pairs of a cycle, empty. It is given back by `keep_pairs_of`; where it
+    // isn't, the next cycle has a list that grows anew.
     pub(crate) fn take_pairs(&mut self) -> Vec<(u32, u32)>
         ensures empty { result.items ≡ [] }
         ensures walker { self.new ≡ self.old }
@@ -128,10 +129,12 @@ impl Walker {
         pairs
     }
 
-    // Keeps a list, so that the next cycle has its room.
-    pub(crate) fn keep_pairs(&mut self, pairs: Vec<(u32, u32)>)
+    // Keeps the list of a cube's pairs, so that the next cycle has its room.
+    pub(crate) fn keep_pairs_of(&mut self, cube: Cube)
         ensures { self.new ≡ self.old }
     {
-        self.pairs = pairs;
+        if let Ok(pairs) = cube.into_pairs(self.alloc) {
+            self.pairs = pairs;
+        }
     }
 }

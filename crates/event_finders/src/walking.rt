@@ -237,12 +237,12 @@ pub(crate) fn pop_loop(
     pairs.sort_unstable_by_key(|pair| pair.0);
     let cube = Cube::of(pairs);
     if let Err(failed) = board.reserve(pass, cube.len()) {
-        walker.keep_pairs(cube.into_pairs());
+        walker.keep_pairs_of(cube);
         return Err(failed);
     }
     let (unit, _) = cube.pair(0);
     let ticket = board.pop(pass, unit, &cube);
-    walker.keep_pairs(cube.into_pairs());
+    walker.keep_pairs_of(cube);
     Ok(ticket)
 }
 

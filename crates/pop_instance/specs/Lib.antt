@@ -5,6 +5,7 @@ pub mod Gathering
 pub mod Arrows
 pub mod KeptHeads
 pub mod KeptNumbers
+pub mod KeptPairs
 pub mod FirstValues
 pub mod Family
 pub mod Index

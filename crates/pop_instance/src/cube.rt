@@ -9,6 +9,7 @@ ghost use Rattle.pop_model.specs.Extremal.{Share};
 ghost use Rattle.pop_instance.specs.Cubes.{cube_cmp, cube_total};
 ghost use Rattle.pop_instance.specs.Digests.{digest};
 
+use crate::pairs::Pairs;
 use std::alloc::{AllocError, Global};
 use std::cmp::Ordering;
 use std::marker::Model;
@@ -20,7 +21,7 @@ const DIGEST_BASE: u64 = 6364136223846793005;
 /// one pair, and the variables rise. Variables and values count from 0.
 #[derive(Drop)]
 pub struct Cube {
-    pairs: Vec<(u32, u32)>,
+    pairs: Pairs,
 }
 
 impl Model for Cube {
@@ -29,14 +30,15 @@ impl Model for Cube {
 
     ghost Value = { List (ℕ × ℕ) };
 
-    ghost view = { λ a. a.pairs.items };
+    ghost view = { λ a. a.pairs };
 
-    ghost invariant = { λ a. IsCube a.pairs.items × (length a.pairs.items < 2 ^ 31) };
+    ghost invariant = { λ a. IsCube a.pairs × (length a.pairs < 2 ^ 31) };
 }
 
 impl Cube {
-    /// The cube of these pairs, at most 2^31 - 1, which keeps no room to spare. None exactly where
-    /// there is no pair or the variables don't rise strictly.
+    /// The cube of these pairs, at most 2^31 - 1. Up to four are kept in place, and more in a list
+    /// without room to spare. None exactly where there is no pair or the variables don't rise
+    /// strictly.
     pub fn new(pairs: Vec<(u32, u32)>) -> Option<Cube>
         requires short { length pairs.items < 2 ^ 31 }
         ensures { MatchOption result (IsCube pairs.items → ⊥) (λ cube. cube ≡ pairs.items) }
@@ -44,9 +46,9 @@ impl Cube {
         if pairs.is_empty() || !rises(&pairs) {
             return None;
         }
-        let mut pairs = pairs;
-        pairs.shrink_to_fit();
-        Some(Cube { pairs })
+        Some(Cube {
+            pairs: Pairs::new(pairs),
+        })
     }
 
     /// The cube of pairs whose variables rise strictly: one at least, and at most 2^31 - 1. The
@@ -56,14 +58,17 @@ impl Cube {
         requires short { length pairs.items < 2 ^ 31 }
         ensures { result ≡ pairs.items }
     {
-        Cube { pairs }
+        Cube {
+            pairs: Pairs::of(pairs),
+        }
     }
 
-    /// The pairs, in the list that they are kept in.
-    pub fn into_pairs(self) -> Vec<(u32, u32)>
-        ensures { result.items ≡ self }
+    /// The pairs in a list: that of `of` itself, and a new one of pairs that are kept in place.
+    pub fn into_pairs(self, alloc: Global) -> Result<Vec<(u32, u32)>, AllocError>
+        ensures { IfOk result (λ pairs. pairs.items ≡ self) }
     {
-        self.pairs
+        let Cube { pairs } = self;
+        pairs.into_list(alloc)
     }
 
     /// How many pairs there are: from 1 to 2^31 - 1.
@@ -72,7 +77,7 @@ impl Cube {
         ensures cube { IsCube self.now }
         ensures short { result < 2 ^ 31 }
     {
-        self.pairs.len() as u32
+        self.pairs.as_slice().len() as u32
     }
 
     /// The variable and the value of a pair. Pairs count from 0.
@@ -80,15 +85,16 @@ impl Cube {
         requires { i < length self.now }
         ensures { slice_get self.now i ≡ Some result }
     {
-        self.pairs[i as usize]
+        self.pairs.as_slice()[i as usize]
     }
 
     /// The value that the cube demands of a variable, where it names it. It is found by halving.
     pub fn demand(&self, v: u32) -> Option<u32>
         ensures { result ≡ demand self.now v }
     {
-        match self.pairs.binary_search_by_key(&v, |pair| pair.0) {
-            Ok(place) => Some(self.pairs[place].1),
+        let pairs = self.pairs.as_slice();
+        match pairs.binary_search_by_key(&v, |pair| pair.0) {
+            Ok(place) => Some(pairs[place].1),
             Err(_) => None,
         }
     }
@@ -97,7 +103,7 @@ impl Cube {
     pub fn shares(&self, other: &Cube) -> bool
         ensures { IsTrue result ↔ Share self.now other.now }
     {
-        share(&self.pairs, &other.pairs)
+        share(self.pairs.as_slice(), other.pairs.as_slice())
     }
 
     /// A number by which cubes are told apart: equal cubes have one, and different ones the same
@@ -105,7 +111,7 @@ impl Cube {
     pub(crate) fn digest(&self) -> u64
         ensures { result ≡ digest self.now }
     {
-        digest_of(&self.pairs)
+        digest_of(self.pairs.as_slice())
     }
 
     /// An equal cube.
@@ -113,7 +119,7 @@ impl Cube {
         ensures { IfOk result (λ cube. cube ≡ self.now) }
     {
         Ok(Cube {
-            pairs: Vec::from_slice(alloc, &self.pairs)?,
+            pairs: self.pairs.copy(alloc)?,
         })
     }
 }

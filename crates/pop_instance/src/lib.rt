@@ -14,6 +14,7 @@ mod family;
 mod index;
 mod instance;
 mod kept_heads;
+mod pairs;
 mod values;
 
 pub use arrows::Arrows;

@@ -1,4 +1,4 @@
-//! Cubes: what makes one, and how they are compared.
+//! Cubes: what makes one, what its calls read, and how they are compared.
 use pop_instance::Cube;
 use std::alloc::Global;
 use std::process::Abort;
@@ -28,6 +28,45 @@ fn a_cube_has_pairs_and_its_variables_rise_strictly(rt: HostRuntime) -> Result<(
     Ok(())
 }
 
+// Compares what a cube answers with these pairs, none of which is of variable 1.
+fn has_pairs(rt: &impl Abort, cube: &Cube, pairs: &[(u32, u32)]) {
+    assert_eq!(rt; cube.len() as usize, pairs.len());
+    for i in 0..cube.len() {
+        let (v, x) = pairs[i as usize];
+        assert_eq!(rt; cube.pair(i), (v, x));
+        assert_eq!(rt; cube.demand(v), Some(x));
+    }
+    assert_eq!(rt; cube.demand(1), None);
+}
+
+// Takes a cube's pairs out into a list, and makes the cube of this list.
+fn makes_a_cube_again(rt: &impl Abort, alloc: Global, pairs: &[(u32, u32)]) -> Result<(), Fail> {
+    let cube = cube(alloc, pairs)?;
+    // Read for its contract, which says that the pairs are those of a cube.
+    let _count = cube.len();
+    let again = Cube::of(cube.into_pairs(alloc)?);
+    has_pairs(rt, &again, pairs);
+    assert_eq!(rt; again.into_pairs(alloc)?.as_slice(), pairs);
+    Ok(())
+}
+
+// Pairs, less from list to list: four are kept in place, and more in a list.
+static RISING: [&[(u32, u32)]; 4] = [
+    &[(0, 1), (2, 0), (5, 7), (6, 1)],
+    &[(0, 1), (2, 0), (5, 7), (6, 1), (9, 3)],
+    &[(0, 1), (2, 0), (5, 7), (6, 1), (9, 3), (10, 0), (12, 4)],
+    &[(3, 2)],
+];
+
+#[test]
+fn cubes_of_few_and_of_many_pairs_answer_alike(rt: HostRuntime) -> Result<(), Fail> {
+    for pairs in RISING.iter() {
+        has_a_copy(&rt, rt.alloc(), pairs)?;
+        makes_a_cube_again(&rt, rt.alloc(), pairs)?;
+    }
+    Ok(())
+}
+
 // Compares two cubes, of which the first is less.
 fn is_less(
     rt: &impl Abort,
@@ -41,11 +80,12 @@ fn is_less(
     Ok(())
 }
 
-// Compares a cube with its copy.
+// Compares a cube of these pairs with its copy.
 fn has_a_copy(rt: &impl Abort, alloc: Global, pairs: &[(u32, u32)]) -> Result<(), Fail> {
     let cube = cube(alloc, pairs)?;
     let copy = cube.copy(alloc)?;
     assert!(rt; copy == cube);
+    has_pairs(rt, &copy, pairs);
     Ok(())
 }
 
@@ -65,7 +105,10 @@ fn cubes_are_ordered_as_lists_of_pairs(rt: HostRuntime) -> Result<(), Fail> {
     let alloc = rt.alloc();
     is_less(&rt, alloc, &[(0, 1)], &[(0, 1), (1, 0)])?;
     is_less(&rt, alloc, &[(0, 1), (1, 0)], &[(0, 2)])?;
-    has_a_copy(&rt, alloc, &[(0, 2)])
+    for i in 1..RISING.len() {
+        is_less(&rt, alloc, RISING[i - 1], RISING[i])?;
+    }
+    Ok(())
 }
 
 #[test]
@@ -73,5 +116,7 @@ fn cubes_share_variables_whatever_their_values(rt: HostRuntime) -> Result<(), Fa
     let alloc = rt.alloc();
     assert!(&rt; share_a_variable(alloc, &[(0, 1)], &[(0, 2)])?);
     assert!(&rt; !share_a_variable(alloc, &[(0, 2)], &[(1, 2)])?);
+    assert!(&rt; share_a_variable(alloc, RISING[1], &[(9, 0)])?);
+    assert!(&rt; !share_a_variable(alloc, RISING[0], &[(9, 0)])?);
     Ok(())
 }

@@ -69,3 +69,30 @@ returns-clause-end c =
     let end : IsEnd i c.pops.cursors = rw c.in_default.is at c.in_ok-cube.ensures.first in
     complete_end i c.pops.cursors c.pops.pops c.in_ok-stuck.stuck c.pops.invariant.run end
     c.in_ok-stuck.ensures.stuck_list
+
+pub pops-smaller-in-Some : goal.pops-smaller-in-Some
+pops-smaller-in-Some c =
+    let i = c.args.instance.now in
+    let e = event_of (c.in-Some.field-0-0, c.in-Some.cube) in
+    let first : IsFirstPoppable i c.pops.cursors e = rw c.in-Some.is at c.in_ok-cube.ensures.first in
+    subst (λ d. left_from i.stacks 0 d < left_from i.stacks 0 c.pops.cursors) (sym c.pop.ensures)
+    (event_falls i e c.pops.cursors c.units-units.ensures.instance.family c.units-units.ensures.instance.fits
+    first.event c.pops.invariant.count first.poppable.next)
+
+pub pops-preserved-in-Some : goal.pops-preserved-in-Some
+pops-preserved-in-Some c =
+    let i = c.args.instance.now in
+    let at = c.pops.cursors in
+    let e = event_of (c.in-Some.field-0-0, c.in-Some.cube) in
+    let old = c.pops.invariant in
+    let first : IsFirstPoppable i at e = rw c.in-Some.is at c.in_ok-cube.ensures.first in
+    let falls = event_falls i e at c.units-units.ensures.instance.family c.units-units.ensures.instance.fits first.event
+    old.count first.poppable.next in
+    let popped : c.pop.new.self ≡ pop at e.cube = c.pop.ensures in
+    rw popped (record {
+      count = old.count ∙ sym (length-pop at e.cube);
+      within = within_pop i.stacks at e.cube old.count first.poppable.next old.within;
+      room = omega (arith, falls, old.room);
+      belongs = subst (Belongs i.stacks) (sym c.first_poppable.ensures.reader) old.belongs;
+      run = complete_more i at c.pops.pops e first old.run;
+    })

@@ -1,5 +1,4 @@
-use Rattle.std.proofs.Common.{◌≡◌, ℕ, Some, Ok, Err, get_or, sym, ap, subst, ◌∙◌, rules}
-use Rattle.std.proofs.lemmas.List.{get_or_default}
+use Rattle.std.proofs.Common.{◌≡◌, Ok, Err, sym, ap, subst, ◌∙◌, rules}
 use Rattle.std.proofs.lemmas.List.Sorted.{answers_always}
 use Rattle.pop_model.specs.Popping.{Cube}
 use Rattle.pop_model.specs.Cycles.{demand}
@@ -9,22 +8,18 @@ use Rattle.pop_instance.proofs.cube.Cube.demand.Goals as goal
 
 pub returns-in-Ok : goal.returns-in-Ok
 returns-in-Ok c =
-    let e : Cube = c.deref.result.now in
-    let same : e ≡ c.args.self.now = c.deref.ensures.value ∙ c.self.view_is in
-    let rises : Rises e = subst Rises (sym c.deref.ensures.value) c.self.invariant.0.rising in
+    let e : Cube = c.as_slice-pairs.result.now in
+    let same : e ≡ c.args.self.now = c.as_slice-pairs.ensures ∙ c.self.view_is in
+    let rises : Rises e = subst Rises (sym c.as_slice-pairs.ensures) c.self.invariant.0.rising in
     let by_key = c.in-Ok.ensures.position (λ pair. pair.0) (answers_always _ _ _ (λ f a r g called. search rules)) in
     let found = searched e rises c.args.v (Ok c.in-Ok.place) c.in-Ok.ensures.bound by_key in
-    let pair : ℕ × ℕ = c.index.result.now in
-    let read : pair ≡ get_or e c.in-Ok.place (0, 0) =
-    c.index.ensures ∙ ap (λ (f : Cube). get_or f c.in-Ok.place pair) (sym c.deref.ensures.value)
-    ∙ get_or_default e c.in-Ok.place pair (0, 0) c.in-Ok.ensures.bound in
-    ap (λ (p : ℕ × ℕ). Some p.1) read ∙ sym found ∙ ap (λ (f : Cube). demand f c.args.v) same
+    sym found ∙ ap (λ (f : Cube). demand f c.args.v) same
 
 pub returns-in-Err : goal.returns-in-Err
 returns-in-Err c =
-    let e : Cube = c.deref.result.now in
-    let same : e ≡ c.args.self.now = c.deref.ensures.value ∙ c.self.view_is in
-    let rises : Rises e = subst Rises (sym c.deref.ensures.value) c.self.invariant.0.rising in
+    let e : Cube = c.as_slice-pairs.result.now in
+    let same : e ≡ c.args.self.now = c.as_slice-pairs.ensures ∙ c.self.view_is in
+    let rises : Rises e = subst Rises (sym c.as_slice-pairs.ensures) c.self.invariant.0.rising in
     let by_key = c.in-Err.ensures.position (λ pair. pair.0) (answers_always _ _ _ (λ f a r g called. search rules)) in
     let found = searched e rises c.args.v (Err c.in-Err.field-0) c.in-Err.ensures.bound by_key in
     sym found ∙ ap (λ (f : Cube). demand f c.args.v) same
