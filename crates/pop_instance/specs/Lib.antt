@@ -6,6 +6,7 @@ pub mod Arrows
 pub mod KeptHeads
 pub mod KeptNumbers
 pub mod KeptPairs
+pub mod KeptRows
 pub mod FirstValues
 pub mod Family
 pub mod Index

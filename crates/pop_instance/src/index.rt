@@ -2,25 +2,36 @@ ghost use Rattle.std.specs.Prelude.{◌≡◌, ◌<◌, length, slice_index_or, 
 ghost use Rattle.pop_model.specs.Popping.{NamesBelow};
 ghost use Rattle.pop_rows.specs.FlatRows.{HasRoom};
 ghost use Rattle.pop_instance.specs.Index.{IsIndex, AreTallies, IsPut};
+ghost use Rattle.pop_instance.specs.KeptRows.{rows_kept};
 
 use crate::cursors::raise;
 use crate::{Cube, Events};
-use pop_rows::FlatRows;
+use pop_rows::{FlatRows, RowList};
 use std::alloc::{AllocError, Global};
 use std::marker::Model;
+
+// How the places of all variables are kept.
+#[derive(Drop)]
+enum KeptRows {
+    // In the order of the events, with room for those of each variable.
+    Roomy(FlatRows),
+    // Variable by variable.
+    EndToEnd(RowList),
+}
 
 /// For each variable the places of the events that name it.
 #[derive(Drop)]
 pub struct Index {
-    rows: FlatRows,
+    rows: KeptRows,
 }
 
 impl Model for Index {
     ghost use Rattle.std.specs.Prelude.{ℕ, List};
+    ghost use Rattle.pop_instance.specs.KeptRows.{rows_kept};
 
     ghost Value = { List (List ℕ) };
 
-    ghost view = { λ a. a.rows.rows };
+    ghost view = { λ a. rows_kept a.rows };
 }
 
 impl Index {
@@ -35,7 +46,19 @@ impl Index {
         for place in 0..events.count() {
             push_at_each(&mut rows, events.cube(place), place);
         }
-        Ok(Index { rows })
+        Ok(Index {
+            rows: KeptRows::Roomy(rows),
+        })
+    }
+
+    /// The index with these rows: for each variable the places of the events that name it, rising.
+    /// Where they can be made in the order of the variables, that is faster than `build`.
+    pub fn of(rows: RowList) -> Index
+        ensures { result ≡ rows }
+    {
+        Index {
+            rows: KeptRows::EndToEnd(rows),
+        }
     }
 
     /// The places of the events that name a variable, rising.
@@ -43,7 +66,10 @@ impl Index {
         requires known { v < length self.now }
         ensures { result.now ≡ slice_index_or self.now v [] }
     {
-        self.rows.row(v)
+        match &self.rows {
+            KeptRows::Roomy(rows) => rows.row(v),
+            KeptRows::EndToEnd(rows) => rows.row(v),
+        }
     }
 }
 

@@ -1,3 +1,4 @@
 pub mod SinkCubesLemmas
 mod GatheredSinks
+mod SinkRows
 pub mod OneDirection

@@ -1,3 +1,4 @@
 pub mod Sinks
 pub mod SinkCubes
+pub mod SinkPlaces
 pub mod Laws

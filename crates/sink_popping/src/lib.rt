@@ -3,10 +3,12 @@
 #![tactic(auto)]
 
 mod events;
+mod index;
 pub mod laws;
 mod loops;
 mod sink_cubes;
 mod sink_fault;
 
 pub use events::sinks;
+pub use index::sink_index;
 pub use sink_fault::SinkFault;

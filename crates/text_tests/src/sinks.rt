@@ -1,9 +1,12 @@
-//! The events of sink-free orientations.
+//! The events of sink-free orientations, and their index.
+ghost use Rattle.std.specs.Prelude.{◌≡◌, length, IfOk};
+
 use graph_read::{Graph, read_graph};
 use pop_edge::MemSource;
-use pop_instance::Events;
-use sink_popping::{SinkFault, sinks};
+use pop_instance::{Events, Index};
+use sink_popping::{SinkFault, sink_index, sinks};
 use std::alloc::{AllocError, Global};
+use std::process::Abort;
 use std::test::Fail;
 
 // The graph of a text.
@@ -48,6 +51,51 @@ fn each_vertex_without_a_loop_is_an_event(rt: HostRuntime) -> Result<(), Fail> {
     for (text, events) in cases {
         let found = sinks(rt.alloc(), &graph(rt.alloc(), text)?)?;
         assert_eq!(rt; shown(rt.alloc(), &found)?.as_str(), events, "{text}");
+    }
+    Ok(())
+}
+
+// The index of a graph's events.
+fn index(alloc: Global, graph: &Graph) -> Result<Index, Fail>
+    ensures { IfOk result (λ index. length index ≡ length graph.now.edges) }
+{
+    let events = sinks(alloc, graph)?;
+    Ok(sink_index(alloc, graph, &events)?)
+}
+
+// An index over so many edges as text: of each edge the places.
+fn shown_index(alloc: Global, index: &Index, edges: u32) -> Result<String, AllocError>
+    requires { length index.now ≡ edges }
+{
+    let mut text = String::new(alloc);
+    for i in 0..edges {
+        for place in index.at(i) {
+            write!(text, " {place}")?;
+        }
+        text.push_str(";")?;
+    }
+    Ok(text)
+}
+
+// Compares the index of a graph's events with its text.
+fn has_index(rt: &impl Abort, alloc: Global, graph: &Graph, want: &str) -> Result<(), Fail> {
+    let index = index(alloc, graph)?;
+    assert_eq!(rt; shown_index(alloc, &index, graph.edges())?.as_str(), want);
+    Ok(())
+}
+
+#[test]
+fn each_edge_has_the_places_of_the_events_of_its_ends(rt: HostRuntime) -> Result<(), Fail> {
+    // Worked by hand: places count the vertices without a loop, from 0.
+    let cases = [
+        ("p col 3 3\ne 1 2\ne 2 3\ne 3 1\n", " 0 1; 1 2; 0 2;"),
+        ("p edge 1 1\ne 1 1\n", ";"),
+        ("p edge 2 2\ne 1 2 7\ne 2 1\n", " 0 1; 0 1;"),
+        ("p edge 3 4\ne 2 2\ne 1 2\ne 2 3\ne 3 1\n", "; 0; 1; 0 1;"),
+    ];
+    for (text, places) in cases {
+        let graph = graph(rt.alloc(), text)?;
+        has_index(&rt, rt.alloc(), &graph, places)?;
     }
     Ok(())
 }

@@ -1,0 +1,10 @@
+use Rattle.std.proofs.Common.{◌≡◌, ◌+◌, length}
+use Rattle.sink_popping.specs.SinkPlaces.{ArePlaces}
+use Rattle.sink_popping.proofs.index.places_of.Given as goal
+
+-- the events before here have their places
+abbrev pub invariant-loop-place : goal.invariant-loop-place
+invariant-loop-place l = record {
+  count : length l.places.items ≡ l.vertices + 1;
+  are : ArePlaces l.events l.place l.places.items;
+}
