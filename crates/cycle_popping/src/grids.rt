@@ -19,7 +19,7 @@ pub fn grid_arrows(alloc: Global, side: u32) -> Result<Arrows, AllocError>
     requires side { IsSide side }
     ensures { IfOk result (λ arrows. arrows ≡ heads_of_tree (grid_of side) 1) }
 {
-    arrows_of(alloc, &Grid::of(side), ROOT)
+    arrows_of(alloc, &Grid::of(side), ROOT)?.packed(alloc)
 }
 
 /// The weights of these arrows, which are all 1: those of `arrow_weights` on the grid.

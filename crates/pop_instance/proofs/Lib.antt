@@ -24,3 +24,4 @@ pub mod ListedEvents
 mod FirstValuesLemmas
 -- Worked values
 mod Vectors
+mod ShiftedRowsLemmas

@@ -4,6 +4,7 @@ pub mod Events
 pub mod Gathering
 pub mod Arrows
 pub mod KeptHeads
+pub mod ShiftedRows
 pub mod KeptNumbers
 pub mod KeptPairs
 pub mod KeptRows

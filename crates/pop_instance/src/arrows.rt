@@ -68,6 +68,16 @@ impl Arrows {
         })
     }
 
+    /// The same arrows. Where their heads lie in one array, and there are at most 256 kinds of
+    /// variables by how far from them their slots lead, as in a grid, they take a byte a variable.
+    pub fn packed(self, alloc: Global) -> Result<Arrows, AllocError>
+        ensures { IfOk result (λ arrows. arrows ≡ self) }
+    {
+        Ok(Arrows {
+            heads: self.heads.packed(alloc)?,
+        })
+    }
+
     /// Equal arrows.
     pub fn copy(&self, alloc: Global) -> Result<Arrows, AllocError>
         ensures { IfOk result (λ arrows. arrows ≡ self.now) }

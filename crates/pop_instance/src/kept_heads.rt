@@ -3,6 +3,7 @@ ghost use Rattle.pop_model.specs.Cycles.{head_of};
 ghost use Rattle.pop_instance.specs.Arrows.{heads_of};
 ghost use Rattle.pop_instance.specs.KeptHeads.{heads_kept};
 
+use crate::shifted_rows::ShiftedRows;
 use pop_rows::RowList;
 use std::alloc::{AllocError, Global};
 
@@ -13,6 +14,8 @@ pub(crate) enum KeptHeads {
     Nested(Vec<Vec<Option<u32>>>),
     // Numbers in one array: one below the count of variables is a variable, the count is the root.
     Flat(RowList),
+    // The same numbers, where they have few patterns.
+    Shifted(ShiftedRows),
 }
 
 impl KeptHeads {
@@ -23,6 +26,20 @@ impl KeptHeads {
         Ok(match self {
             KeptHeads::Nested(rows) => KeptHeads::Nested(copy_lists(alloc, rows)?),
             KeptHeads::Flat(rows) => KeptHeads::Flat(rows.copy(alloc)?),
+            KeptHeads::Shifted(rows) => KeptHeads::Shifted(rows.copy(alloc)?),
+        })
+    }
+
+    // The same heads, by their patterns where they lie in one array and have few.
+    pub(crate) fn packed(self, alloc: Global) -> Result<KeptHeads, AllocError>
+        ensures { IfOk result (λ kept. heads_kept kept ≡ heads_kept self) }
+    {
+        let KeptHeads::Flat(rows) = &self else {
+            return Ok(self);
+        };
+        Ok(match ShiftedRows::of(alloc, rows)? {
+            Some(rows) => KeptHeads::Shifted(rows),
+            None => self,
         })
     }
 
@@ -35,6 +52,7 @@ impl KeptHeads {
         match self {
             KeptHeads::Nested(rows) => rows.len() as u32,
             KeptHeads::Flat(rows) => rows.count(),
+            KeptHeads::Shifted(rows) => rows.count(),
         }
     }
 
@@ -48,6 +66,7 @@ impl KeptHeads {
         match self {
             KeptHeads::Nested(rows) => rows[v as usize].len() as u32,
             KeptHeads::Flat(rows) => rows.row(v).len() as u32,
+            KeptHeads::Shifted(rows) => rows.row_len(v),
         }
     }
 
@@ -62,6 +81,10 @@ impl KeptHeads {
             KeptHeads::Nested(rows) => rows[v as usize][slot as usize],
             KeptHeads::Flat(rows) => {
                 let number = rows.row(v)[slot as usize];
+                (number < rows.count()).then_some(number)
+            }
+            KeptHeads::Shifted(rows) => {
+                let number = rows.number(v, slot);
                 (number < rows.count()).then_some(number)
             }
         }

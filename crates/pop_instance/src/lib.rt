@@ -15,6 +15,7 @@ mod index;
 mod instance;
 mod kept_heads;
 mod pairs;
+mod shifted_rows;
 mod values;
 
 pub use arrows::Arrows;

@@ -1,4 +1,4 @@
-//! Arrows, in one array and in lists.
+//! Arrows, in one array, in lists, and packed.
 ghost use Rattle.std.specs.Prelude.{◌<◌, ◌^◌, length, All, IfOk};
 ghost use Rattle.pop_instance.specs.Arrows.{heads_of};
 
@@ -66,15 +66,53 @@ fn is_worked_case(rt: &impl Abort, arrows: &Arrows) {
     }
 }
 
+// Compares arrows that were made, and the same arrows packed, with those of the case.
+fn are_worked_case(rt: &impl Abort, alloc: Global, made: Option<Arrows>) -> Result<(), Fail> {
+    let arrows = made.expect(rt, "heads that are there");
+    is_worked_case(rt, &arrows);
+    is_worked_case(rt, &arrows.packed(alloc)?);
+    Ok(())
+}
+
 // Worked by hand: of three variables, number 3 is the root.
 #[test]
 fn arrows_in_one_array_answer_like_lists(rt: HostRuntime) -> Result<(), Fail> {
     let alloc = rt.alloc();
     let flat = Arrows::flat(numbers(&rt, alloc, &[&[3, 1], &[2], &[0, 0, 3]])?);
-    is_worked_case(&rt, &flat.expect(&rt, "numbers up to 3"));
+    are_worked_case(&rt, alloc, flat)?;
     let lists = Arrows::new(heads(&rt, alloc, &HEADS)?);
-    is_worked_case(&rt, &lists.expect(&rt, "variables below 3"));
+    are_worked_case(&rt, alloc, lists)
+}
+
+// For each of so many variables one number, falling to 0, so that no two lead as far.
+fn falling(rt: &impl Abort, alloc: Global, count: u32) -> Result<RowList, Fail>
+    ensures short { IfOk result (λ rows. length rows < 2 ^ 31) }
+    ensures short_rows { IfOk result (All (λ row. length row < 2 ^ 31)) }
+{
+    let mut rows = RowList::with_room(alloc, 0, 0)?;
+    for v in 0..count {
+        rows.push_row(&[count - 1 - v])?;
+    }
+    assert!(rt; rows.count() < 999);
+    Ok(rows)
+}
+
+// Packs the arrows of falling numbers, and looks where they lead.
+fn packed_fall(rt: &impl Abort, alloc: Global, count: u32) -> Result<(), Fail> {
+    let arrows = Arrows::flat(falling(rt, alloc, count)?);
+    let packed = arrows.expect(rt, "heads below the count").packed(alloc)?;
+    assert!(rt; packed.count() == count);
+    for v in 0..count {
+        leads(rt, &packed, v, &[Some(count - 1 - v)]);
+    }
     Ok(())
+}
+
+// A byte tells 256 variables apart that lead as far as no other.
+#[test]
+fn arrows_that_no_byte_tells_apart_are_packed_as_they_are(rt: HostRuntime) -> Result<(), Fail> {
+    packed_fall(&rt, rt.alloc(), 256)?;
+    packed_fall(&rt, rt.alloc(), 257)
 }
 
 // Rows without a slot of a variable, and with a number past the root.
