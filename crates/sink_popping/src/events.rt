@@ -27,10 +27,21 @@ pub fn sinks(alloc: Global, graph: &Graph) -> Result<Events, SinkFault>
     ensures fault { IfErr result (IsSinkFault graph.now) }
 {
     let incidence = Incidence::of(alloc, graph)?;
+    sinks_of(alloc, &incidence)
+}
+
+/// The events of a graph whose incidence is at hand: those of `sinks`, or its refusals.
+pub(crate) fn sinks_of(alloc: Global, incidence: &Incidence) -> Result<Events, SinkFault>
+    ensures sinks { IfOk result (AreSinksOf incidence.now) }
+    ensures fit { IfOk result (FitVariables (length incidence.now.edges)) }
+    ensures touched { OnOk result ((w : ℕ) → IsIsolated incidence.now w → ⊥) }
+    ensures fault { IfErr result (IsSinkFault incidence.now) }
+{
+    let graph = incidence.graph();
     let loops = loop_marks(alloc, graph)?;
     let mut rows = Vec::with_capacity(alloc, graph.vertices() as usize)?;
     for w in 1..graph.vertices() + 1 {
-        if let Some(cube) = sink_at(alloc, &incidence, &loops, w)? {
+        if let Some(cube) = sink_at(alloc, incidence, &loops, w)? {
             rows.push((w, cube))?;
         }
     }

@@ -1,17 +1,40 @@
-ghost use Rattle.std.specs.Prelude.{◌≡◌, ◌+◌, ◌<◌, ◌≤◌, ◌++◌, [], ◌∷◌, length, All, IfOk, OnOk};
+ghost use Rattle.std.specs.Prelude.{◌≡◌, ◌+◌, ◌<◌, ◌≤◌, ◌++◌, [], ◌∷◌, ℕ, length, All, IfOk, IfErr, OnOk};
+ghost use Rattle.pop_instance.specs.Events.{FitVariables};
 ghost use Rattle.pop_instance.specs.Index.{IsIndex};
-ghost use Rattle.sink_popping.specs.Sinks.{AreSinksOf};
+ghost use Rattle.sink_popping.specs.Sinks.{AreSinksOf, IsIsolated, IsSinkFault};
 ghost use Rattle.sink_popping.specs.SinkPlaces.{ArePlaces, places_at};
 
-use graph_read::{Edge, Graph};
+use crate::SinkFault;
+use crate::events::sinks_of;
+use graph_read::{Edge, Graph, Incidence};
 use pop_instance::{Events, Index};
 use pop_rows::RowList;
 use std::alloc::{AllocError, Global};
 
-/// The index of the events of the graph: for each edge the places of those of its ends. It is made
-/// edge by edge, so that its rows are written in their order, and takes time and memory linear in
-/// vertices and edges.
-pub fn sink_index(alloc: Global, graph: &Graph, events: &Events) -> Result<Index, AllocError>
+/// The events of the graph, those of `sinks`, with their index: for each edge the places of the
+/// events of its ends. Time and memory are linear in vertices and edges. The incidence by which the
+/// events are made is let go behind the index, so that neither leaves a gap in memory.
+///
+/// # Errors
+///
+/// As of `sinks`.
+pub fn indexed_sinks(alloc: Global, graph: &Graph) -> Result<(Events, Index), SinkFault>
+    ensures sinks { IfOk result (λ parts. AreSinksOf graph.now parts.0) }
+    ensures fit { IfOk result (λ parts. FitVariables (length graph.now.edges) parts.0) }
+    ensures index { IfOk result (λ parts. IsIndex parts.0 parts.1) }
+    ensures count { IfOk result (λ parts. length parts.1 ≡ length graph.now.edges) }
+    ensures touched { OnOk result ((w : ℕ) → IsIsolated graph.now w → ⊥) }
+    ensures fault { IfErr result (IsSinkFault graph.now) }
+{
+    let incidence = Incidence::of(alloc, graph)?;
+    let events = sinks_of(alloc, &incidence)?;
+    let index = sink_index(alloc, graph, &events)?;
+    Ok((events, index))
+}
+
+// The index of the events of the graph. It is made edge by edge, so that its rows are written in
+// their order.
+fn sink_index(alloc: Global, graph: &Graph, events: &Events) -> Result<Index, AllocError>
     requires sinks { AreSinksOf graph.now events.now }
     ensures index { IfOk result (IsIndex events.now) }
     ensures count { IfOk result (λ index. length index ≡ length graph.now.edges) }

@@ -10,5 +10,5 @@ mod sink_cubes;
 mod sink_fault;
 
 pub use events::sinks;
-pub use index::sink_index;
+pub use index::indexed_sinks;
 pub use sink_fault::SinkFault;

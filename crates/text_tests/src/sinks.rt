@@ -4,7 +4,7 @@ ghost use Rattle.std.specs.Prelude.{◌≡◌, length, IfOk};
 use graph_read::{Graph, read_graph};
 use pop_edge::MemSource;
 use pop_instance::{Events, Index};
-use sink_popping::{SinkFault, sink_index, sinks};
+use sink_popping::{SinkFault, indexed_sinks, sinks};
 use std::alloc::{AllocError, Global};
 use std::process::Abort;
 use std::test::Fail;
@@ -59,8 +59,8 @@ fn each_vertex_without_a_loop_is_an_event(rt: HostRuntime) -> Result<(), Fail> {
 fn index(alloc: Global, graph: &Graph) -> Result<Index, Fail>
     ensures { IfOk result (λ index. length index ≡ length graph.now.edges) }
 {
-    let events = sinks(alloc, graph)?;
-    Ok(sink_index(alloc, graph, &events)?)
+    let (_events, index) = indexed_sinks(alloc, graph)?;
+    Ok(index)
 }
 
 // An index over so many edges as text: of each edge the places.
