@@ -1,7 +1,7 @@
 -- A work list covers the poppable events. After a pop of e, an event that is poppable and shares no variable with e was
 -- poppable before, since its cursors are the same: so it stands in the list already. One that shares a variable stands
 -- where the index has that variable, and is put into the list.
-use Rattle.std.proofs.Common.{inl, inr, ◌≡◌, ℕ, ◌<◌, true, false, List, [], ◌∷◌, ◌++◌, length, get_or, refl, sym, ap, subst, ◌∙◌, arith, All, Contains}
+use Rattle.std.proofs.Common.{inl, inr, ◌≡◌, ℕ, ◌<◌, true, false, List, [], ◌∷◌, ◌++◌, length, get_or, refl, sym, ap, subst, ◌∙◌, All, Contains}
 use Rattle.std.specs.List.{list_any}
 use Rattle.std.proofs.lemmas.Bool.{cases_Bool, false≢true}
 use Rattle.std.proofs.lemmas.List.Elements.{All-contains, Contains-get_or, Contains-push_cases}
@@ -12,10 +12,10 @@ use Rattle.pop_model.specs.Families.{AreEvents}
 use Rattle.pop_model.proofs.Diamond.{Apart, apart_from, named, names_it, poppable_before}
 use Rattle.pop_instance.specs.Events.{cube_at}
 use Rattle.pop_instance.specs.Index.{IsIndex}
-use Rattle.confluence_core.specs.Runs.{MissesNone}
-use Rattle.confluence_core.specs.Search.{IsPoppableAt, NoneBefore, Covers, IsNextPlace}
+use Rattle.confluence_core.specs.Suspects.{MissesNone}
+use Rattle.confluence_core.specs.Search.{IsPoppableAt, Covers, IsNextPlace}
 use Rattle.confluence_core.specs.WorkList.{Waiting, Gains, GainsSharing}
-use Rattle.confluence_core.proofs.Places.{listed, event_at, event_from}
+use Rattle.confluence_core.proofs.Places.{listed, event_at, event_from, event_to}
 
 -- suspects that miss no poppable event cover them
 pub covers_from : (s : StackTable) (c : List ℕ) (rows : List (ℕ × Cube)) (suspects : List ℕ)
@@ -23,6 +23,12 @@ pub covers_from : (s : StackTable) (c : List ℕ) (rows : List (ℕ × Cube)) (s
     → Covers s c rows suspects
 covers_from s c rows suspects none place within pop =
     none (event_at rows place) (event_from rows (event_at rows place) within refl) pop
+
+-- and what covers them misses none
+pub covers_to : (s : StackTable) (c : List ℕ) (rows : List (ℕ × Cube)) (suspects : List ℕ) → Covers s c rows suspects
+    → MissesNone (listed s rows) c suspects
+covers_to s c rows suspects covers e is pop =
+    let at = event_to rows e is in covers e.unit at.within (subst (IsPoppable s c) (sym at.cube) pop)
 
 -- what has gained a list that covers the poppable events covers them too
 pub covers_gained : (s : StackTable) (c : List ℕ) (rows : List (ℕ × Cube)) (list : List ℕ) (old new : Waiting)
@@ -40,11 +46,6 @@ covers_rest s c rows list place covers not q within pop =
       | inl before ↦ before
       | inr is ↦ absurd (not (subst (IsPoppableAt s c rows) (sym is) pop))
     ]
-
--- an empty list covers nothing
-pub covers_none : (s : StackTable) (c : List ℕ) (rows : List (ℕ × Cube)) → Covers s c rows []
-    → NoneBefore s c rows (length rows)
-covers_none s c rows covers place within pop = let none = covers place within pop in omega (arith, none.1)
 
 module _ (s : StackTable) (c : List ℕ) (rows : List (ℕ × Cube)) (index : List (List ℕ)) (place : ℕ) (old new : Waiting)
     (are : AreEvents rows) (indexed : IsIndex rows index) (next : IsNextPlace s c rows old.list place)

@@ -9,7 +9,7 @@ use Rattle.pop_model.proofs.Room.{left_from, left_bound}
 use Rattle.confluence_core.proofs.EventVariables.{event_falls}
 
 -- a legal log takes its length from the room
-legal_room : (i : Instance) (c : List ℕ) (log : List LogRecord) → IsInstance i → variables_of i.stacks ≡ length c
+pub legal_room : (i : Instance) (c : List ℕ) (log : List LogRecord) → IsInstance i → variables_of i.stacks ≡ length c
     → IsLegal i c log → length log + left_from i.stacks 0 (replay c log) ≤ left_from i.stacks 0 c
 legal_room i c [] instance count legal = omega arith
 legal_room i c (r ∷ log) instance count legal =

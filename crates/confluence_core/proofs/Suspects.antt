@@ -1,15 +1,19 @@
--- All units together miss no event.
-use Rattle.std.proofs.Common.{◌≡◌, ℕ, ◌<◌, List, All, Contains, arith}
+-- All units together miss no event, and nor do those of what occurs.
+use Rattle.std.proofs.Common.{◌≡◌, ℕ, ◌<◌, Bool, true, false, cond, refl, List, [], length, map, get_or, All, Contains, sym, ap, subst, ◌∙◌, arith}
 use Rattle.std.specs.List.{range_with_len}
 use Rattle.std.proofs.lemmas.List.FromFn.{length-range_with_len, get_or-range_with_len}
+use Rattle.std.proofs.lemmas.List.{length-map, get_or-map}
+use Rattle.std.proofs.lemmas.List.Elements.{All-nil, Contains-get_or}
 use Rattle.std.proofs.lemmas.Option.{slice_get_within}
+use Rattle.pop_model.specs.Popping.{names}
+use Rattle.pop_model.specs.Runs.{IsEnd, IsStuckList}
 use Rattle.pop_model.specs.Families.{Event, Family, IsEvent, units_of}
 use Rattle.pop_model.specs.Families.Family.{Listed, Cycles}
 use Rattle.pop_model.specs.Instances.{Instance}
 use Rattle.pop_model.specs.Cycles.{first_of}
 use Rattle.pop_model.proofs.CycleFamily.{first_named}
 use Rattle.pop_model.proofs.Members.{in_range}
-use Rattle.confluence_core.specs.Runs.{IsSuspected, MissesNone}
+use Rattle.confluence_core.specs.Suspects.{IsSuspected, MissesNone}
 use Rattle.confluence_core.proofs.CycleVariables.{cycle_below}
 
 -- each of all units is one
@@ -33,3 +37,48 @@ pub all_miss_none : (i : Instance) (c suspects : List ℕ) → suspects ≡ rang
     → MissesNone i c suspects
 all_miss_none i c suspects are e is poppable =
     all_suspected i.family suspects (λ u below. rw are (in_range (units_of i.family) u below)) e is
+
+-- the unit of one of these events is among theirs, so that it is suspected
+pub unit_suspected : (family : Family) (stuck : List Event) (e : Event) → IsEvent family e → Contains stuck e
+    → IsSuspected family (map (λ e. e.unit) stuck) e
+unit_suspected family stuck e is (k, below, at) = suspected family is (
+  k,
+  omega (arith, below, length-map stuck (λ (x : Event). x.unit)),
+  get_or-map (λ (x : Event). x.unit) stuck k e e.unit below ∙ ap (λ (x : Event). x.unit) at,
+)
+  where
+    suspected : (family : Family) → IsEvent family e → Contains (map (λ (x : Event). x.unit) stuck) e.unit
+        → IsSuspected family (map (λ (x : Event). x.unit) stuck) e
+    suspected (Listed rows) is among = among
+    suspected (Cycles heads) is among =
+        (e.unit, subst (λ v. names e.cube v ≡ true) (sym is.1) (first_named e.cube is.0.cube), among)
+
+-- the unit of an event
+pub unit_below : (family : Family) (e : Event) → IsEvent family e → e.unit < units_of family
+unit_below (Listed rows) e (number, at) = slice_get_within rows e.unit (number, e.cube) at
+unit_below (Cycles heads) e (cycle, unit) =
+    subst (λ n. n < length heads) (sym unit)
+    (cycle_below heads e.cube (first_of e.cube) cycle (first_named e.cube cycle.cube))
+
+-- the units of what occurs are units
+pub unit_known : (i : Instance) (c : List ℕ) (stuck : List Event) → IsStuckList i c stuck
+    → All (λ u. u < units_of i.family) (map (λ e. e.unit) stuck)
+unit_known i c stuck list k d below =
+    let inside : k < length stuck = omega (arith, below, length-map stuck (λ (x : Event). x.unit)) in
+    let none : Event = record { unit = d; cube = [] } in
+    let e : Event = get_or stuck k none in
+    let known = unit_below i.family e ((list.exact e).0 (Contains-get_or stuck k none inside)).0 in
+    let at : get_or (map (λ (x : Event). x.unit) stuck) k d ≡ e.unit =
+    get_or-map (λ (x : Event). x.unit) stuck k none d inside in
+    omega (arith, known, at)
+
+-- no unit at an end, and else all
+pub none_or_all : (i : Instance) (c suspects : List ℕ) (is_end : Bool) → (is_end ≡ true → IsEnd i c)
+    → suspects ≡ cond is_end [] (range_with_len 0 (units_of i.family))
+    → All (λ u. u < units_of i.family) suspects × MissesNone i c suspects
+none_or_all i c suspects true end are = (
+  subst (All (λ u. u < units_of i.family)) (sym are) (All-nil (λ u. u < units_of i.family)),
+  λ e is poppable. absurd (end refl e is poppable),
+)
+none_or_all i c suspects false end are =
+    (all_known (units_of i.family) suspects are, all_miss_none i c suspects are)

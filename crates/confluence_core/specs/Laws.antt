@@ -1,12 +1,15 @@
 -- The laws of popping on extremal instances.
-use Rattle.std.specs.Prelude.{◌≡◌, ◌≢◌, ◌↔◌, ◌≤◌, ℕ, List, [], length, IsPermutation}
+use Rattle.std.specs.Prelude.{◌≡◌, ◌≢◌, ◌↔◌, ◌≤◌, ℕ, Bool, List, [], length, map, IsPermutation}
 use Rattle.pop_model.specs.Stacks.{StackTable, height_of, stacks_raised, Extends}
 use Rattle.pop_model.specs.Popping.{IsPoppable, pop}
 use Rattle.pop_model.specs.Families.{Event, IsEvent}
-use Rattle.pop_model.specs.Instances.{Instance}
+use Rattle.pop_model.specs.Instances.{Instance, IsInstance, instance_raised}
 use Rattle.pop_model.specs.Extremal.{IsExtremal, Share}
 use Rattle.pop_model.specs.Logs.{LogRecord, IsLegal, replay}
 use Rattle.pop_model.specs.Runs.{IsEnd, IsFinished, IsStuckList}
+use Rattle.confluence_core.specs.Indexes.{Serves}
+use Rattle.confluence_core.specs.Stretches.{GoesOn, IsReached}
+use Rattle.confluence_core.specs.declared.reached.Reached.{Reached}
 
 -- two events share no variable, each stays poppable after the other's pop, and both orders leave
 -- the same cursors
@@ -59,3 +62,24 @@ TallerLegal = (i : Instance) (taller : StackTable) → Extends i.stacks taller
 abbrev pub RaisedExtends : Type 0
 RaisedExtends = (s : StackTable) (height : ℕ) → ((v : ℕ) → height_of s v ≤ height)
     → Extends s (stacks_raised height s)
+
+-- two stretches of which the second begins where the first ended are one
+abbrev pub StretchesJoin : Type 0
+StretchesJoin = (i : Instance) (a b c : Reached) → GoesOn i a b → GoesOn i b c → GoesOn i a c
+
+-- who was made for an instance serves it
+abbrev pub ServesItself : Type 0
+ServesItself = (i : Instance) → Serves i i
+
+-- who serves an instance serves it once its stacks are raised
+abbrev pub ServesRaised : Type 0
+ServesRaised = (i made_for : Instance) (height : ℕ) → Serves i made_for
+    → Serves (instance_raised height i) made_for
+
+-- how far a run has come, it has come once the stacks are raised; what occurs there is suspected
+abbrev pub ReachedRaised : Type 0
+ReachedRaised = (i : Instance) (height : ℕ) → IsInstance i
+    → ((v : ℕ) → height_of i.stacks v ≤ height) → (start : List ℕ) (keeps : Bool) (reached : Reached)
+    (stuck : List Event) → IsReached i start keeps reached → IsStuckList i reached.cursors stuck
+    → IsReached (instance_raised height i) start keeps
+    (record reached { suspects = map (λ e. e.unit) stuck })

@@ -4,8 +4,10 @@ pub mod Search
 pub mod WorkList
 pub mod Records
 pub mod Kept
+pub mod Suspects
+pub mod Stretches
+pub mod Indexes
 pub mod Runs
-pub mod Parts
 pub mod CycleTables
 pub mod Loops
 pub mod Walks

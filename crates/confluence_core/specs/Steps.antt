@@ -2,13 +2,13 @@
 use Rattle.std.specs.Prelude.{◌≡◌, ℕ, suc, ◌+◌, ◌<◌, ◌≤◌, ◌++◌, ◌∷◌, [], List, length, if◌then◌else◌, Bool, MatchBool, slice_index, slice_set, Some}
 use Rattle.pop_model.specs.Popping.{Cube, HasNext, pop}
 use Rattle.pop_model.specs.Cycles.{first_of}
-use Rattle.pop_model.specs.Logs.{LogRecord, IsLegal, replay}
-use Rattle.confluence_core.specs.Kept.{keeps_log}
 use Rattle.confluence_core.specs.Records.{record_at}
 use Rattle.confluence_core.specs.CycleTables.{CycleTable, cycles, current_head}
 use Rattle.confluence_core.specs.Loops.{IsCubeOf, Marks}
 use Rattle.confluence_core.specs.Walks.{cycle_event, IsSettled, GoesOn, Closes}
 use Rattle.confluence_core.specs.LoopErasedWalks.{HasPath, Walks, IsOver, begun_at, work}
+use Rattle.confluence_core.specs.Stretches.{LeadsOn, with_more}
+use Rattle.confluence_core.specs.declared.reached.Reached.{Reached}
 use Rattle.confluence_core.specs.declared.walk.Walk.{Walk}
 use Rattle.confluence_core.specs.declared.walked.Walked.{Walked}
 use Rattle.confluence_core.specs.declared.steps.Step.{Step}
@@ -31,7 +31,7 @@ pub record Extends (old new : Walk) : Type 0 where
 -- the record of a cycle's pop is kept, where logs are
 abbrev pub with_record : Walked → Cube → Walked
 with_record w e = record w {
-  log = if keeps_log w.keep then w.log ++ record_at (first_of e) e w.cursors ∷ [] else w.log;
+  log = with_more w.log (record_at (first_of e) e w.cursors ∷ []);
 }
 
 -- the cycle is popped
@@ -61,14 +61,13 @@ PopsOrNotes old new members popped =
     (e : Cube) → IsCubeOf old.current old.walked.cursors members e
     → MatchBool popped (Pops old new members e) (Notes old new e)
 
--- a legal log leads from the old cursors to the new ones, and is kept where logs are
+-- how far walks have come
+abbrev pub reached_by : Walked → Reached
+reached_by w = record { cursors = w.cursors; pops = w.pops; log = w.log; suspects = [] }
+
+-- a legal log leads on from where walks had come, under the same limit
 pub record RunsOn (t : CycleTable) (old new : Walked) : Type 0 where
-  pub log : List LogRecord
-  pub legal : IsLegal (cycles t) old.cursors log
-  pub cursors_are : new.cursors ≡ replay old.cursors log
-  pub pops_are : new.pops ≡ old.pops + length log
-  pub log_is : new.log ≡ (if keeps_log old.keep then old.log ++ log else old.log)
-  pub keep_is : new.keep ≡ old.keep
+  pub leads : LeadsOn (cycles t) (reached_by old) (reached_by new)
   pub limit_is : new.limit ≡ old.limit
   pub most : old.pops ≤ old.limit → new.pops ≤ new.limit
 

@@ -1,59 +1,73 @@
-ghost use Rattle.std.specs.Prelude.{◌≡◌, ◌<◌, ◌^◌, IfOk, length};
+ghost use Rattle.std.specs.Prelude.{◌≡◌, ◌<◌, ◌≤◌, ◌^◌, [], IfOk, length, if◌then◌else◌};
+ghost use Rattle.std.specs.List.{range_with_len};
 ghost use Rattle.pop_model.specs.Stacks.{variables_of};
 ghost use Rattle.pop_model.specs.Popping.{AreWithin};
 ghost use Rattle.pop_model.specs.Families.Family.{Cycles as CycleEvents};
 ghost use Rattle.pop_model.specs.Instances.{FamilyFits};
 ghost use Rattle.pop_model.specs.Runs.{IsStuckList};
 ghost use Rattle.pop_stacks.specs.Readers.{Belongs};
-ghost use Rattle.confluence_core.specs.Kept.{keeps_log};
-ghost use Rattle.confluence_core.specs.Runs.{IsPart};
+ghost use Rattle.confluence_core.specs.Stretches.{HasCome, GoesOn};
 
 use crate::current_arrows::CurrentArrows;
-use crate::part::Part;
 use crate::walk::Walk;
 use crate::walked::Walked;
-use crate::{Keep, Log, Stuck, Terms};
+use crate::{Reached, Stuck, Units};
 use pop_instance::{Arrows, Cursors};
 use pop_stacks::{Reader, Stacks};
 use std::alloc::{AllocError, Global};
 
-/// A run of cycles from any cursors to an end or to so many pops, by the loop-erased walk from each
-/// variable in turn. Suspects would spare nothing: the stuck cycles ask for a look at each
-/// variable's arrow all the same, and a pop may leave a poppable cycle at a variable that no walk
-/// from them would meet again.
-pub(crate) fn run_cycles_from(
+/// Goes on with a run of cycles to an end or to so many pops, by the loop-erased walk from each
+/// variable in turn. Suspects would spare nothing: a pop may leave a poppable cycle at a variable
+/// that no walk from them would meet again. At the limit each variable is one.
+pub(crate) fn pop_cycles(
     alloc: Global,
     stacks: &Stacks,
     arrows: &Arrows,
     reader: &mut Reader,
-    cursors: Cursors,
-    terms: Terms,
-) -> Result<Part, AllocError>
+    reached: Reached,
+    limit: u64,
+) -> Result<Reached, AllocError>
     requires fits { FamilyFits stacks.now (CycleEvents arrows.now) }
-    requires count { variables_of stacks.now ≡ length cursors }
-    requires within { AreWithin stacks.now cursors }
     requires belongs { Belongs stacks.now reader.old }
-    ensures part { IfOk result (λ part. IsPart
-        (record { stacks = stacks.now; family = CycleEvents arrows.now }) cursors terms.limit
-        (keeps_log terms.keep) part.cursors part.pops part.stuck part.log) }
-    ensures few { IfOk result (λ part. part.pops < 2 ^ 63) }
-    ensures count { IfOk result (λ part. variables_of stacks.now ≡ length part.cursors) }
-    ensures within { IfOk result (λ part. AreWithin stacks.now part.cursors) }
+    requires reached { HasCome
+        (record { stacks = stacks.now; family = CycleEvents arrows.now }) reached }
+    ensures on { IfOk result (GoesOn
+        (record { stacks = stacks.now; family = CycleEvents arrows.now }) reached) }
+    ensures most { IfOk result (λ new. reached.pops ≤ limit → new.pops ≤ limit) }
+    ensures end { IfOk result (λ new. new.pops < limit → new.suspects ≡ []) }
+    ensures few { IfOk result (λ new. new.pops < 2 ^ 63) }
     ensures reader { reader.new ≡ reader.old }
 {
     let current = CurrentArrows::of(stacks, arrows);
     let _count = current.count();
+    let Reached {
+        cursors,
+        pops,
+        log,
+        ..
+    } = reached;
     let walked = Walked {
         cursors,
-        pops: 0,
-        limit: terms.limit,
-        keep: terms.keep,
-        log: Log::new(alloc),
+        pops,
+        limit,
+        log,
         stuck: Stuck::new(alloc),
     };
     let mut walk = Walk::new(alloc, current, walked)?;
     walk.settle_all(alloc, reader)?;
-    Ok(walk.into_walked().into_part())
+    let Walked {
+        cursors,
+        pops,
+        log,
+        ..
+    } = walk.into_walked();
+    let suspects = suspects_at(alloc, pops < limit, arrows.count())?;
+    Ok(Reached {
+        cursors,
+        pops,
+        log,
+        suspects,
+    })
 }
 
 /// The cycles that occur at any cursors, by rising unit: a walk that pops nothing notes them. Its
@@ -73,11 +87,26 @@ pub(crate) fn occurring_cycles(
         (record { stacks = stacks.now; family = CycleEvents arrows.now }) cursors.now) }
     ensures reader { reader.new ≡ reader.old }
 {
-    let at = cursors.copy(alloc)?;
-    let terms = Terms {
+    let current = CurrentArrows::of(stacks, arrows);
+    let _count = current.count();
+    let walked = Walked {
+        cursors: cursors.copy(alloc)?,
+        pops: 0,
         limit: 0,
-        keep: Keep::Nothing,
+        log: None,
+        stuck: Stuck::new(alloc),
     };
-    let part = run_cycles_from(alloc, stacks, arrows, reader, at, terms)?;
-    Ok(part.stuck)
+    let mut walk = Walk::new(alloc, current, walked)?;
+    walk.settle_all(alloc, reader)?;
+    Ok(walk.into_walked().stuck)
+}
+
+// No unit at an end, and else all of so many.
+fn suspects_at(alloc: Global, is_end: bool, units: u32) -> Result<Units, AllocError>
+    ensures { IfOk result (λ suspects. suspects ≡ (if is_end then [] else range_with_len 0 units)) }
+{
+    if is_end {
+        return Ok(Units::new(alloc));
+    }
+    Units::all(alloc, units)
 }

@@ -1,9 +1,211 @@
-use pop_instance::{Index, Instance};
+ghost use Rattle.std.specs.Prelude.{◌≡◌, ◌<◌, ◌≤◌, ◌^◌, ℕ, Bool, List, [], IfOk};
+ghost use Rattle.pop_model.specs.Stacks.{stacks_for};
+ghost use Rattle.pop_model.specs.Families.{units_of};
+ghost use Rattle.pop_model.specs.Instances.{IsInstance, instance_for};
+ghost use Rattle.pop_model.specs.Runs.{IsStuckList, start_of};
+ghost use Rattle.pop_stacks.specs.Readers.{Belongs};
+ghost use Rattle.pop_instance.specs.Index.{IsFamilyIndex};
+ghost use Rattle.confluence_core.specs.Kept.{keeps_log};
+ghost use Rattle.confluence_core.specs.Runs.{IsRunOf};
+ghost use Rattle.confluence_core.specs.Stretches.{IsReached, HasCome, GoesOn, CanGoOn};
 
-/// An instance with the index of its family, which several runs may share.
+use crate::cycle_runs::{occurring_cycles, pop_cycles};
+use crate::listed_runs::pop_listed;
+use crate::listed_search::{all_have_next, occurring_listed};
+use crate::{Keep, Reached, Run, Stuck, Units};
+use pop_instance::{Arrows, Cursors, Events, Family, Index, Instance, Values};
+use pop_stacks::{Reader, Stacks};
+use std::alloc::{AllocError, Global};
+use std::marker::Model;
+
+/// Listed events with the index of their variables.
 #[derive(Clone, Copy)]
+pub struct IndexedEvents<'a> {
+    pub events: &'a Events,
+    pub index: &'a Index,
+}
+
+/// A family of events, of which listed ones have their index.
+#[derive(Clone, Copy)]
+pub enum IndexedFamily<'a> {
+    Listed(IndexedEvents<'a>),
+    Cycles(&'a Arrows),
+}
+
+/// What a run goes over: stacks, and a family of events with the index of listed ones. Several
+/// threads may share it, each with a reader of its own. Contracts see the instance.
+#[derive(Drop)]
 pub struct Indexed<'a> {
-    pub instance: &'a Instance,
-    /// The index of listed events; of cycles there is none.
-    pub index: &'a Option<Index>,
+    stacks: &'a Stacks,
+    family: IndexedFamily<'a>,
+}
+
+impl<'a> Model for Indexed<'a> {
+    ghost use Rattle.pop_model.specs.Instances.{Instance as ModelInstance};
+    ghost use Rattle.confluence_core.specs.Indexes.{family_in, IsIndexed};
+
+    ghost Value = { ModelInstance };
+
+    ghost view = { λ a. record { stacks = a.stacks.now; family = family_in a.family } };
+
+    ghost invariant = { λ a. IsIndexed a.stacks.now a.family };
+}
+
+impl<'a> Indexed<'a> {
+    /// An instance with the index of its family. It takes no memory.
+    pub fn of(instance: &'a Instance, index: &'a Option<Index>) -> Indexed<'a>
+        requires index { IsFamilyIndex instance.now.family index.now }
+        ensures { result ≡ instance.now }
+    {
+        let _units = instance.units();
+        let family = match (instance.family(), index) {
+            (Family::Listed(events), Some(index)) => {
+                IndexedFamily::Listed(IndexedEvents { events, index })
+            }
+            (Family::Cycles(arrows), None) => IndexedFamily::Cycles(arrows),
+            _ => unreachable!(),
+        };
+        Indexed {
+            stacks: instance.stacks(),
+            family,
+        }
+    }
+
+    /// The same family over the stacks of sample j. It takes no memory.
+    pub fn for_sample(&self, stacks: &'a Stacks, j: u32) -> Indexed<'a>
+        requires sample { stacks.now ≡ stacks_for j self.now.stacks }
+        ensures { result ≡ instance_for j self.now }
+    {
+        let _count = stacks.count();
+        Indexed {
+            stacks,
+            family: self.family,
+        }
+    }
+
+    /// The stacks.
+    pub fn stacks(&self) -> &'a Stacks
+        ensures stacks { result.now ≡ self.now.stacks }
+        ensures instance { IsInstance self.now }
+    {
+        self.stacks
+    }
+
+    /// How many units there are.
+    pub fn units(&self) -> u32
+        ensures units { result ≡ units_of self.now.family }
+    {
+        match self.family {
+            IndexedFamily::Listed(listed) => listed.events.count(),
+            IndexedFamily::Cycles(arrows) => arrows.count(),
+        }
+    }
+
+    /// A run from zeros before its first pop, with every unit a suspect.
+    pub fn opening(&self, alloc: Global, keep: Keep) -> Result<Reached, AllocError>
+        ensures { IfOk result (IsReached self.now (start_of self.now) (keeps_log keep)) }
+    {
+        let zeros = Cursors::zeros(alloc, self.stacks().count())?;
+        let suspects = Units::all(alloc, self.units())?;
+        Ok(Reached::at(alloc, zeros, suspects, keep))
+    }
+
+    /// Goes on with a run on this thread, to an end or to so many pops in all. Short of these no
+    /// unit is left a suspect. Where none was, the run is at an end, and stays as it was.
+    ///
+    /// Listed events are looked at where they are suspects or share a variable with a popped one,
+    /// until none is left to look at; so the time is linear in the instance, the suspects, and the
+    /// pairs of the events that share a variable with a popped one, pop by pop. Cycles are popped
+    /// by the loop-erased walk (Wilson 1996; Propp and Wilson 1998) from each variable, and need no
+    /// suspects.
+    pub fn advance(
+        &self,
+        alloc: Global,
+        reader: &mut Reader,
+        reached: Reached,
+        limit: u64,
+    ) -> Result<Reached, AllocError>
+        requires belongs { Belongs self.now.stacks reader.old }
+        requires reached { HasCome self.now reached }
+        ensures on { IfOk result (GoesOn self.now reached) }
+        ensures most { IfOk result (λ new. reached.pops ≤ limit → new.pops ≤ limit) }
+        ensures end { IfOk result (λ new. new.pops < limit → new.suspects ≡ []) }
+        ensures few { IfOk result (λ new. new.pops < 2 ^ 63) }
+        ensures reader { reader.new ≡ reader.old }
+    {
+        let _stacks = self.stacks();
+        if reached.suspects.is_empty() {
+            return Ok(reached);
+        }
+        match self.family {
+            IndexedFamily::Listed(listed) => {
+                pop_listed(alloc, self.stacks, listed, reader, reached, limit)
+            }
+            IndexedFamily::Cycles(arrows) => {
+                pop_cycles(alloc, self.stacks, arrows, reader, reached, limit)
+            }
+        }
+    }
+
+    /// Goes on with a run on this thread to an end.
+    pub fn finish(
+        &self,
+        alloc: Global,
+        reader: &mut Reader,
+        reached: Reached,
+    ) -> Result<Reached, AllocError>
+        requires belongs { Belongs self.now.stacks reader.old }
+        requires reached { HasCome self.now reached }
+        ensures on { IfOk result (GoesOn self.now reached) }
+        ensures end { IfOk result (λ new. new.suspects ≡ []) }
+        ensures reader { reader.new ≡ reader.old }
+    {
+        self.advance(alloc, reader, reached, u64::MAX)
+    }
+
+    /// Every event that occurs where a run has come, by rising unit. At an end each of them has a
+    /// variable at its last entry, so where there is no such variable, no event is looked at.
+    pub fn stuck(
+        &self,
+        alloc: Global,
+        reader: &mut Reader,
+        reached: &Reached,
+    ) -> Result<Stuck, AllocError>
+        requires belongs { Belongs self.now.stacks reader.old }
+        requires can { CanGoOn self.now reached.now }
+        ensures stuck_list { IfOk result (IsStuckList self.now reached.now.cursors) }
+        ensures reader { reader.new ≡ reader.old }
+    {
+        let cursors = &reached.cursors;
+        if reached.suspects.is_empty() && all_have_next(self.stacks, cursors) {
+            return Ok(Stuck::new(alloc));
+        }
+        match self.family {
+            IndexedFamily::Listed(listed) => {
+                occurring_listed(alloc, self.stacks, listed.events, reader, cursors)
+            }
+            IndexedFamily::Cycles(arrows) => {
+                occurring_cycles(alloc, self.stacks, arrows, reader, cursors)
+            }
+        }
+    }
+
+    /// Brings a run to its end on this thread, and tells it.
+    pub fn run(
+        &self,
+        alloc: Global,
+        reader: &mut Reader,
+        reached: Reached,
+    ) -> Result<Run, AllocError>
+        requires belongs { Belongs self.now.stacks reader.old }
+        requires reached { HasCome self.now reached }
+        ensures run { (start : List ℕ) → (keeps : Bool) → IsReached self.now start keeps reached
+            → IfOk result (IsRunOf self.now start keeps) }
+        ensures reader { reader.new ≡ reader.old }
+    {
+        let ended = self.finish(alloc, reader, reached)?;
+        let stuck = self.stuck(alloc, reader, &ended)?;
+        let values = Values::at(alloc, self.stacks, reader, &ended.cursors)?;
+        Ok(ended.told(stuck, values))
+    }
 }

@@ -1,5 +1,5 @@
 //! The laws of popping on extremal instances. The contract of each function is the law.
-ghost use Rattle.confluence_core.specs.Laws.{Diamond, UniqueEnd, EqualRecords, ExhaustedExactly, TallerLegal, RaisedExtends};
+ghost use Rattle.confluence_core.specs.Laws.{Diamond, UniqueEnd, EqualRecords, ExhaustedExactly, TallerLegal, RaisedExtends, StretchesJoin, ReachedRaised, ServesItself, ServesRaised};
 
 /// Two different events that are poppable together share no variable, each stays poppable after the
 /// other's pop, and both orders leave the same cursors.
@@ -27,4 +27,17 @@ pub fn exhausted_exactly()
 pub fn taller_legal()
     ensures legal { TallerLegal }
     ensures raised { RaisedExtends }
+{}
+
+/// Two stretches of a run, of which the second begins where the first ended, are one. How far a run
+/// has come, it has come once the stacks are raised too, with what occurs there as its suspects.
+pub fn stretches_join()
+    ensures joined { StretchesJoin }
+    ensures raised { ReachedRaised }
+{}
+
+/// Who was made for an instance serves it, and does so once its stacks are raised.
+pub fn serves_raised()
+    ensures itself { ServesItself }
+    ensures raised { ServesRaised }
 {}

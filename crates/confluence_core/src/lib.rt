@@ -4,6 +4,7 @@
 //! as in the definitions.
 #![tactic(auto)]
 
+mod alone;
 mod closed_walks;
 mod current_arrows;
 mod cycle_runs;
@@ -19,12 +20,10 @@ mod log_record;
 mod looks;
 mod loops;
 mod one_thread;
-mod part;
+mod reached;
 mod run;
-mod shared_runs;
 mod steps;
 mod stuck;
-mod terms;
 mod ticketed;
 mod tickets;
 mod units;
@@ -32,21 +31,20 @@ mod walk;
 mod walked;
 mod work_list;
 
+pub use alone::Alone;
 pub use closed_walks::closed_walk;
 pub use current_arrows::CurrentArrows;
 pub use end::End;
-pub use indexed::Indexed;
+pub use indexed::{Indexed, IndexedEvents, IndexedFamily};
 pub use keep::Keep;
 pub use log::Log;
 pub use log_record::Record;
-pub use looks::{first_poppable, occurring, stuck_at_end};
+pub use looks::{first_poppable, occurring, stuck_at};
 pub use loops::cube_of;
-pub use one_thread::{part_from, run_first, run_from, run_from_zeros, run_indexed, run_until};
-pub use part::Part;
+pub use one_thread::{run_first, run_from, run_from_zeros};
+pub use reached::Reached;
 pub use run::Run;
-pub use shared_runs::{run_arrows, run_events};
 pub use stuck::Stuck;
-pub use terms::Terms;
 pub use ticketed::Ticketed;
 pub use tickets::Tickets;
 pub use units::Units;

@@ -1,100 +1,80 @@
-ghost use Rattle.std.specs.Prelude.{◌≡◌, ◌<◌, ◌^◌, ◌++◌, ◌∷◌, [], length, All, IfOk, OnOk, if◌then◌else◌};
-ghost use Rattle.pop_model.specs.Stacks.{variables_of};
-ghost use Rattle.pop_model.specs.Popping.{AreWithin, NamesBelow};
+ghost use Rattle.std.specs.Prelude.{◌≡◌, ◌<◌, ◌≤◌, ◌^◌, ◌∷◌, [], length, IfOk, OnOk};
+ghost use Rattle.pop_model.specs.Popping.{NamesBelow};
 ghost use Rattle.pop_model.specs.Families.Family.{Listed as ListedEvents};
-ghost use Rattle.pop_model.specs.Instances.{FitsStacks};
+ghost use Rattle.pop_model.specs.Instances.{IsInstance};
 ghost use Rattle.pop_stacks.specs.Readers.{Belongs};
 ghost use Rattle.pop_instance.specs.Index.{IsIndex};
-ghost use Rattle.confluence_core.specs.Kept.{keeps_log};
 ghost use Rattle.confluence_core.specs.Records.{record_at};
-ghost use Rattle.confluence_core.specs.Runs.{IsPart};
-ghost use Rattle.confluence_core.specs.Search.{Covers};
+ghost use Rattle.confluence_core.specs.Stretches.{HasCome, GoesOn, with_more};
 
-use crate::listed_search::{next_below, stuck_after};
-use crate::part::Part;
+use crate::indexed::IndexedEvents;
+use crate::listed_search::next_below;
 use crate::work_list::WorkList;
-use crate::{Keep, Log, Record, Terms, Units};
-use pop_instance::{Cube, Cursors, Events, Index};
+use crate::{Log, Reached, Record};
+use pop_instance::{Cube, Cursors};
 use pop_stacks::{Reader, Stacks};
 use std::alloc::{AllocError, Global};
 
-/// Listed events over stacks, with the index of their variables.
-#[derive(Clone, Copy)]
-pub(crate) struct IndexedEvents<'a> {
-    pub stacks: &'a Stacks,
-    pub events: &'a Events,
-    pub index: &'a Index,
-}
-
-/// A run of listed events from any cursors to an end or to so many pops, by a work list that the
-/// suspects and the index feed.
-pub(crate) fn run_listed_from(
+/// Goes on with a run of listed events to an end or to so many pops, by a work list that the
+/// suspects and the index feed. What waits in it then are the suspects.
+pub(crate) fn pop_listed(
     alloc: Global,
-    indexed: IndexedEvents,
+    stacks: &Stacks,
+    listed: IndexedEvents,
     reader: &mut Reader,
-    cursors: Cursors,
-    suspects: Units,
-    terms: Terms,
-) -> Result<Part, AllocError>
-    requires fits { All (λ r. FitsStacks indexed.stacks.now r.1) indexed.events.now }
-    requires index { IsIndex indexed.events.now indexed.index.now }
-    requires count { variables_of indexed.stacks.now ≡ length cursors }
-    requires within { AreWithin indexed.stacks.now cursors }
-    requires belongs { Belongs indexed.stacks.now reader.old }
-    requires units { All (λ u. u < length indexed.events.now) suspects }
-    requires suspects { Covers indexed.stacks.now cursors indexed.events.now suspects }
-    ensures part { IfOk result (λ part. IsPart (record {
-      stacks = indexed.entry.stacks.now;
-      family = ListedEvents indexed.entry.events.now;
-    }) cursors terms.limit (keeps_log terms.keep) part.cursors part.pops part.stuck part.log) }
-    ensures few { IfOk result (λ part. part.pops < 2 ^ 63) }
-    ensures count { IfOk result (λ part.
-        variables_of indexed.entry.stacks.now ≡ length part.cursors) }
-    ensures within { IfOk result (λ part. AreWithin indexed.entry.stacks.now part.cursors) }
+    reached: Reached,
+    limit: u64,
+) -> Result<Reached, AllocError>
+    requires instance { IsInstance
+        (record { stacks = stacks.now; family = ListedEvents listed.events.now }) }
+    requires index { IsIndex listed.events.now listed.index.now }
+    requires belongs { Belongs stacks.now reader.old }
+    requires reached { HasCome
+        (record { stacks = stacks.now; family = ListedEvents listed.events.now }) reached }
+    ensures on { IfOk result (GoesOn
+        (record { stacks = stacks.now; family = ListedEvents listed.entry.events.now }) reached) }
+    ensures most { IfOk result (λ new. reached.pops ≤ limit → new.pops ≤ limit) }
+    ensures end { IfOk result (λ new. new.pops < limit → new.suspects ≡ []) }
+    ensures few { IfOk result (λ new. new.pops < 2 ^ 63) }
     ensures reader { reader.new ≡ reader.old }
 {
-    let IndexedEvents {
-        stacks,
-        events,
-        index,
-    } = indexed;
-    let _count = stacks.count();
-    let mut cursors = cursors;
+    let IndexedEvents { events, index } = listed;
+    let Reached {
+        mut cursors,
+        mut pops,
+        mut log,
+        suspects,
+    } = reached;
     let mut work = WorkList::new(alloc, events.count())?;
     work.add_all(suspects.as_slice())?;
-    let mut pops: u64 = 0;
-    let mut log = Log::new(alloc);
-    let limit = terms.limit;
     while let Some(place) = next_below(stacks, events, reader, &cursors, &mut work, pops < limit) {
         let cube = events.cube(place);
-        keep_record(alloc, &mut log, terms.keep, place, cube, &cursors)?;
+        keep_record(alloc, &mut log, place, cube, &cursors)?;
         cursors.pop(cube);
         pops += 1;
         work.add_sharing(index, cube)?;
     }
-    let stuck = stuck_after(alloc, stacks, events, reader, &cursors, pops < limit)?;
-    Ok(Part {
+    Ok(Reached {
         cursors,
         pops,
-        stuck,
-        log: terms.keep.keeps_log().then_some(log),
+        log,
+        suspects: work.into_units(),
     })
 }
 
 // Adds the record of an event that is popped at these cursors, where the log is kept.
 fn keep_record(
     alloc: Global,
-    log: &mut Log,
-    keep: Keep,
+    log: &mut Option<Log>,
     unit: u32,
     cube: &Cube,
     cursors: &Cursors,
 ) -> Result<(), AllocError>
     requires known { NamesBelow cube.now (length cursors.now) }
-    ensures { OnOk result (log.new ≡ (if keeps_log keep
-        then log.old ++ record_at unit cube.now cursors.now ∷ [] else log.old)) }
+    ensures { OnOk result
+        (log.new ≡ with_more log.old (record_at unit cube.now cursors.now ∷ [])) }
 {
-    if keep.keeps_log() {
+    if let Some(log) = log {
         log.push(Record::at(alloc, unit, cube, cursors)?)?;
     }
     Ok(())

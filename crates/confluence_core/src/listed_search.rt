@@ -1,4 +1,4 @@
-ghost use Rattle.std.specs.Prelude.{◌≡◌, ◌<◌, ◌↔◌, length, All, IfOk, IsTrue, MatchOption};
+ghost use Rattle.std.specs.Prelude.{◌≡◌, ◌<◌, ◌↔◌, [], length, All, IfOk, IsTrue, MatchOption};
 ghost use Rattle.pop_model.specs.Stacks.{variables_of};
 ghost use Rattle.pop_model.specs.Popping.{AreWithin};
 ghost use Rattle.pop_model.specs.Instances.{FitsStacks};
@@ -57,7 +57,7 @@ pub(crate) fn next_poppable(
     requires units { work.old.units ≡ length events.now }
     requires covers { Covers stacks.now cursors.now events.now work.old.list }
     ensures next { MatchOption result
-        (NoneBefore stacks.now cursors.now events.now (length events.now))
+        ((work.new.list ≡ []) × Covers stacks.now cursors.now events.now work.new.list)
         (IsNextPlace stacks.now cursors.now events.now work.new.list) }
     ensures units { work.new.units ≡ work.old.units }
     ensures reader { reader.new ≡ reader.old }
@@ -112,7 +112,8 @@ pub(crate) fn next_below(
     requires units { work.old.units ≡ length events.now }
     requires covers { Covers stacks.now cursors.now events.now work.old.list }
     ensures next { MatchOption result
-        (IsTrue is_below → NoneBefore stacks.now cursors.now events.now (length events.now))
+        ((IsTrue is_below → work.new.list ≡ [])
+        × Covers stacks.now cursors.now events.now work.new.list)
         (λ place. IsTrue is_below
         × IsNextPlace stacks.now cursors.now events.now work.new.list place) }
     ensures units { work.new.units ≡ work.old.units }
@@ -123,32 +124,6 @@ pub(crate) fn next_below(
     } else {
         None
     }
-}
-
-// The events that occur, by rising unit. At an end, where none is poppable, each of them has a
-// variable at its last entry, so where there is no such variable, no event is looked at.
-pub(crate) fn stuck_after(
-    alloc: Global,
-    stacks: &Stacks,
-    events: &Events,
-    reader: &mut Reader,
-    cursors: &Cursors,
-    is_end: bool,
-) -> Result<Stuck, AllocError>
-    requires fits { All (λ r. FitsStacks stacks.now r.1) events.now }
-    requires count { variables_of stacks.now ≡ length cursors.now }
-    requires within { AreWithin stacks.now cursors.now }
-    requires belongs { Belongs stacks.now reader.old }
-    requires end { IsTrue is_end
-        → NoneBefore stacks.now cursors.now events.now (length events.now) }
-    ensures stuck { IfOk result
-        (IsStuckBelow stacks.now cursors.now events.now (length events.now)) }
-    ensures reader { reader.new ≡ reader.old }
-{
-    if is_end && all_have_next(stacks, cursors) {
-        return Ok(Stuck::new(alloc));
-    }
-    occurring_listed(alloc, stacks, events, reader, cursors)
 }
 
 /// Whether each variable has an entry behind its cursor.

@@ -6,13 +6,14 @@ ghost use Rattle.pop_model.specs.Families.Family.{Listed as ListedEvents, Cycles
 ghost use Rattle.pop_model.specs.Instances.{FamilyFits};
 ghost use Rattle.pop_model.specs.Runs.{IsEnd, IsFirstPoppable, IsStuckList};
 ghost use Rattle.pop_stacks.specs.Readers.{Belongs};
+ghost use Rattle.confluence_core.specs.Stretches.{CanGoOn};
 ghost use Rattle.confluence_core.specs.Stuck.{event_of};
 
-use crate::Stuck;
 use crate::current_arrows::CurrentArrows;
 use crate::cycle_runs::occurring_cycles;
 use crate::cycle_search::first_poppable_cycle;
 use crate::listed_search::{all_have_next, first_poppable_listed, occurring_listed};
+use crate::{Reached, Stuck};
 use pop_instance::{Arrows, Cube, Cursors, Events, Family, Instance};
 use pop_stacks::{Reader, Stacks};
 use std::alloc::{AllocError, Global};
@@ -114,25 +115,22 @@ pub fn occurring(
     }
 }
 
-/// The events that occur at cursors that are below the heights and an end, by rising unit. Each of
-/// them has a variable at its last entry there, so where there is no such variable, no event is
-/// looked at.
-pub fn stuck_at_end(
+/// Every event that occurs where a run has come, by rising unit. At an end each of them has a
+/// variable at its last entry, so where there is no such variable, no event is looked at.
+pub fn stuck_at(
     alloc: Global,
     instance: &Instance,
     reader: &mut Reader,
-    cursors: &Cursors,
+    reached: &Reached,
 ) -> Result<Stuck, AllocError>
-    requires count { variables_of instance.now.stacks ≡ length cursors.now }
-    requires within { AreWithin instance.now.stacks cursors.now }
     requires belongs { Belongs instance.now.stacks reader.old }
-    requires end { IsEnd instance.now cursors.now }
-    ensures stuck_list { IfOk result (IsStuckList instance.now cursors.now) }
+    requires can { CanGoOn instance.now reached.now }
+    ensures stuck_list { IfOk result (IsStuckList instance.now reached.now.cursors) }
     ensures reader { reader.new ≡ reader.old }
 {
     let _units = instance.units();
-    if all_have_next(instance.stacks(), cursors) {
+    if reached.suspects.is_empty() && all_have_next(instance.stacks(), &reached.cursors) {
         return Ok(Stuck::new(alloc));
     }
-    occurring(alloc, instance, reader, cursors)
+    occurring(alloc, instance, reader, &reached.cursors)
 }

@@ -1,7 +1,8 @@
-ghost use Rattle.std.specs.Prelude.{◌≡◌, ◌<◌, ◌++◌, ◌∷◌, [], length, slice_get, Some, OnOk, OnErr};
+ghost use Rattle.std.specs.Prelude.{◌≡◌, ◌<◌, ◌++◌, ◌∷◌, [], length, slice_get, Some, IfOk, OnOk, OnErr, map};
 ghost use Rattle.std.specs.List.Sorted.{IsPermutation, IsNonDecreasingBy};
 ghost use Rattle.confluence_core.specs.Stuck.{event_of};
 
+use crate::Units;
 use pop_instance::Cube;
 use std::alloc::{AllocError, Global};
 use std::marker::Model;
@@ -46,6 +47,17 @@ impl Stuck {
     {
         let (unit, cube) = &self.events[i as usize];
         (*unit, cube)
+    }
+
+    /// The units of the events, in their order.
+    pub fn units(&self, alloc: Global) -> Result<Units, AllocError>
+        ensures { IfOk result (λ units. units ≡ map (λ e. e.unit) self.now) }
+    {
+        let mut units = Units::new(alloc);
+        for i in 0..self.len() {
+            units.push(self.at(i).0)?;
+        }
+        Ok(units)
     }
 
     /// Adds an event at the end.

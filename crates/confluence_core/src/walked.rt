@@ -1,14 +1,12 @@
-ghost use Rattle.std.specs.Prelude.{◌≡◌, ◌<◌, ◌+◌, ◌-◌, ◌^◌, ℕ, List, length, OnOk, if◌then◌else◌, Some, None};
+ghost use Rattle.std.specs.Prelude.{◌≡◌, ◌<◌, ◌+◌, ◌-◌, ◌^◌, ℕ, List, length, OnOk};
 ghost use Rattle.pop_stacks.specs.Readers.{Belongs};
-ghost use Rattle.confluence_core.specs.Kept.{keeps_log};
 ghost use Rattle.confluence_core.specs.CycleTables.{AreCursors};
 ghost use Rattle.confluence_core.specs.Loops.{AreMembers, HaveNext, IsCubeOf};
 ghost use Rattle.confluence_core.specs.Steps.{with_record, with_pop, with_stuck};
 
 use crate::current_arrows::CurrentArrows;
 use crate::loops::{cube_of, raise};
-use crate::part::Part;
-use crate::{Keep, Log, Record, Stuck};
+use crate::{Log, Record, Stuck};
 use pop_instance::Cursors;
 use pop_stacks::Reader;
 use std::alloc::{AllocError, Global};
@@ -20,9 +18,8 @@ pub(crate) struct Walked {
     pub pops: u64,
     /// The walks make no pop more once there are so many.
     pub limit: u64,
-    pub keep: Keep,
-    /// The log of the pops where it is kept, and else empty.
-    pub log: Log,
+    /// The log of the pops, where it is kept.
+    pub log: Option<Log>,
     /// The cycles that were found stuck.
     pub stuck: Stuck,
 }
@@ -46,11 +43,11 @@ impl Walked {
         ensures others { self.new ≡ record self.old { log = self.new.log } }
         ensures reader { reader.new ≡ reader.old }
     {
-        if self.keep.keeps_log() {
+        if let Some(log) = &mut self.log {
             let cube = cube_of(alloc, current, reader, &self.cursors, members)?;
             let (unit, _) = cube.pair(0);
             let popped = Record::of(alloc, unit, cube, &self.cursors)?;
-            self.log.push(popped)?;
+            log.push(popped)?;
         }
         Ok(())
     }
@@ -102,28 +99,5 @@ impl Walked {
         let (unit, _) = cube.pair(0);
         self.stuck.push(unit, cube)?;
         Ok(())
-    }
-
-    /// What the walks leave in the end.
-    pub fn into_part(self) -> Part
-        ensures cursors { result.cursors ≡ self.cursors }
-        ensures pops { result.pops ≡ self.pops }
-        ensures stuck { result.stuck ≡ self.stuck }
-        ensures log { result.log ≡ (if keeps_log self.keep then Some self.log else None) }
-    {
-        let Walked {
-            cursors,
-            pops,
-            limit: _,
-            keep,
-            log,
-            stuck,
-        } = self;
-        Part {
-            cursors,
-            pops,
-            stuck,
-            log: keep.keeps_log().then_some(log),
-        }
     }
 }

@@ -2,6 +2,7 @@ ghost use Rattle.std.specs.Prelude.{◌≡◌, ◌<◌, ◌∷◌, [], length, O
 ghost use Rattle.pop_model.specs.Popping.{NamesBelow};
 ghost use Rattle.confluence_core.specs.WorkList.{Gains, Gives, GainsSharing};
 
+use crate::Units;
 use pop_instance::{Cube, Index};
 use std::alloc::{AllocError, Global};
 use std::marker::Model;
@@ -82,5 +83,14 @@ impl WorkList {
             self.add_all(index.at(v))?;
         }
         Ok(())
+    }
+
+    /// The units that wait. It takes no memory.
+    pub fn into_units(self) -> Units
+        ensures units { result ≡ self.list }
+        ensures known { All (λ u. u < self.units) result }
+    {
+        let WorkList { waiting, marks: _ } = self;
+        Units::of(waiting)
     }
 }

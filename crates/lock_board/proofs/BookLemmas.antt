@@ -1,14 +1,23 @@
 -- A pop whose record is put behind the log leaves a book.
-use Rattle.std.proofs.Common.{◌≡◌, ℕ, List, [], ◌∷◌, ◌++◌, length, refl, sym, ap, subst, ◌∙◌}
+use Rattle.std.proofs.Common.{◌≡◌, ℕ, true, List, [], ◌∷◌, ◌++◌, length, Some, refl, sym, ap, subst, ◌∙◌, arith}
+use Rattle.std.proofs.lemmas.List.{length-append}
+use Rattle.pop_model.specs.Stacks.{variables_of}
 use Rattle.pop_model.specs.Popping.{AreWithin, IsPoppable, pop}
 use Rattle.pop_model.specs.Families.{Event, IsEvent}
 use Rattle.pop_model.specs.Instances.{Instance}
-use Rattle.pop_model.specs.Logs.{IsLegalAt, IsLegal, replay}
+use Rattle.pop_model.specs.Logs.{IsLegalAt}
 use Rattle.pop_model.proofs.PopLemmas.{length-pop}
 use Rattle.pop_model.proofs.Room.{within_pop}
 use Rattle.confluence_core.specs.Records.{record_at}
-use Rattle.confluence_core.proofs.LegalLogs.{legal_push, replay_push}
-use Rattle.lock_board.specs.Books.{Progress, IsBook}
+use Rattle.confluence_core.specs.Stretches.{LeadsOn, before_pops}
+use Rattle.confluence_core.proofs.Reaching.{leads_none, leads_then}
+use Rattle.lock_board.specs.Books.{Progress, IsBook, reached_in}
+
+-- the book before any pop
+pub book_opening : (i : Instance) (start : List ℕ) → variables_of i.stacks ≡ length start → AreWithin i.stacks start
+    → IsBook i start (record { cursors = start; log = [] })
+book_opening i start count within =
+    record { leads = leads_none i start 0 (Some []) [] []; count = count; within = within }
 
 -- the pop of an event whose record is put behind the log
 pub book_pop : (i : Instance) (start : List ℕ) (b new : Progress) (e : Event) → IsBook i start b → IsEvent i.family e
@@ -17,11 +26,15 @@ pub book_pop : (i : Instance) (start : List ℕ) (b new : Progress) (e : Event) 
 book_pop i start b new e is event poppable log cursors =
     let r = record_at e.unit e.cube b.cursors in
     let at : IsLegalAt i b.cursors r = record { event = event; poppable = poppable; entries = refl } in
+    let one : LeadsOn i (reached_in b) (reached_in new) = record {
+      log = r ∷ [];
+      legal = (at, tt);
+      cursors_are = cursors;
+      pops_are = ap length log ∙ length-append b.log (r ∷ []);
+      log_is = ap Some log;
+    } in
     record {
-      legal = subst (IsLegal i start) (sym log)
-          (legal_push i start b.log r is.legal (subst (λ c. IsLegalAt i c r) is.replayed at));
-      replayed = cursors ∙ ap (λ c. pop c e.cube) is.replayed ∙ sym (replay_push start b.log r)
-          ∙ ap (replay start) (sym log);
+      leads = leads_then i (before_pops start true) (reached_in b) (reached_in new) is.leads one;
       count = is.count ∙ sym (ap length cursors ∙ length-pop b.cursors e.cube);
       within = subst (AreWithin i.stacks) (sym cursors)
           (within_pop i.stacks b.cursors e.cube is.count poppable.next is.within);

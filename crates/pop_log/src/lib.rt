@@ -34,7 +34,7 @@ pub use log_refusal::LogRefusal;
 pub use merging::merge;
 pub use names::Names;
 pub use printing::{number_of_event, print_log};
-pub use reading::read_log;
+pub use reading::{read_log, read_run};
 pub use replay_result::Replay;
 pub use replaying::replay;
 pub use text_lines::cut_line;

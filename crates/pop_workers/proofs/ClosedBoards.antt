@@ -10,14 +10,19 @@ use Rattle.pop_model.specs.Instances.{Instance, IsInstance, FamilyFits}
 use Rattle.pop_model.specs.Logs.{LogRecord, IsLegal, replay}
 use Rattle.pop_model.specs.Tickets.{AreNumbered}
 use Rattle.confluence_core.specs.Runs.{MissesNone}
+use Rattle.confluence_core.specs.Stretches.{IsReached, with_more}
+use Rattle.confluence_core.specs.Kept.{keeps_log}
+use Rattle.confluence_core.specs.declared.keep.Keep.{Keep}
 use Rattle.claim_words.specs.declared.closed.Closed.{Closed}
 use Rattle.claim_words.specs.Maps.{Pairs, times}
 use Rattle.claim_words.specs.Changes.{Change, mark_after}
 use Rattle.claim_words.specs.Openings.{is_listed, marks_in}
-use Rattle.claim_words.specs.Closing.{set_after, others}
+use Rattle.claim_words.specs.Closing.{Closes, Leaves, set_after, others}
+use Rattle.claim_words.specs.Passes.{count_of, instance_of, keep_of, kept_tickets, opening_of, view}
+use Rattle.claim_words.specs.declared.board.Board.{Board}
+use Rattle.claim_words.specs.declared.pass.Pass.{Pass}
 use Rattle.claim_words.specs.TicketLogs.{log_of}
 use Rattle.claim_words.proofs.TicketsAreNumbered.{length-below}
-use Rattle.pop_workers.specs.Progressed.{HasProgressed}
 use Rattle.pop_workers.specs.Closings.{IsClosed, AreMerged}
 use Rattle.pop_workers.proofs.OneMerged.{one_merged}
 
@@ -54,6 +59,23 @@ suspects_known s (Listed rows) cs known fits = marks_below cs (length rows)
 suspects_known s (Cycles heads) cs known fits =
     subst (λ n. All (λ u. u < n) (others known (variables_of s))) (sym fits.0) (unset_below known (variables_of s))
 
+-- what a close leaves of a board
+pub is_closed : (i : Instance) (start : List ℕ) (keep : Keep) (board : Board) (pass : Pass) (closed : Closed)
+    → instance_of board ≡ i → (opening_of board).start.value ≡ start → keep_of board ≡ keep
+    → Closes (opening_of board) (view pass) closed.cursors closed.pops
+    → Leaves (opening_of board) (view pass) closed.cursors closed.suspects → closed.log ≡ kept_tickets board pass
+    → length closed.cursors ≡ count_of board → IsClosed i start (keeps_log keep) closed
+is_closed i start keep board pass closed instance start_is keeps closes leaves tickets count = record {
+  opening = opening_of board;
+  view = view pass;
+  instance = instance;
+  start_is = start_is;
+  closes = closes;
+  leaves = leaves;
+  tickets = tickets ∙ ap (λ (k : Keep). if keeps_log k then Some (view pass).mine else None) keeps;
+  count = count;
+}
+
 module _ (i : Instance) (start : List ℕ) (keeps : Bool) (closed : Closed) (is : IsClosed i start keeps closed) where
   -- the tickets that are kept are numbered
   pub tickets_numbered : IfSome closed.log AreNumbered
@@ -64,12 +86,12 @@ module _ (i : Instance) (start : List ℕ) (keeps : Bool) (closed : Closed) (is 
       kept false = tt
 
   -- the suspects miss no poppable event
-  pub suspects_miss_none : MissesNone i closed.cursors closed.suspects
+  suspects_miss_none : MissesNone i closed.cursors closed.suspects
   suspects_miss_none =
       subst (λ (j : Instance). MissesNone j closed.cursors closed.suspects) is.instance is.leaves.missed
 
   -- the suspects are units
-  pub suspects_are_known : IsInstance i → All (λ u. u < units_of i.family) closed.suspects
+  suspects_are_known : IsInstance i → All (λ u. u < units_of i.family) closed.suspects
   suspects_are_known instance =
       let j : Instance = is.opening.instance.value in
       let whole : IsInstance j = subst IsInstance (sym is.instance) instance in
@@ -78,24 +100,35 @@ module _ (i : Instance) (start : List ℕ) (keeps : Bool) (closed : Closed) (is 
       subst (λ (x : Instance). All (λ u. u < units_of x.family) closed.suspects) is.instance known
 
   -- what was popped is a legal log, which is what the tickets are merged into
-  pub has_progressed : (log : Option (List LogRecord)) → AreMerged closed.log log
-      → HasProgressed i start keeps closed.cursors closed.pops log
-  has_progressed log merged =
+  pub closed_reached : (log : Option (List LogRecord)) → IsInstance i → AreMerged closed.log log
+      → IsReached i start keeps (record {
+        cursors = closed.cursors;
+        pops = closed.pops;
+        log = log;
+        suspects = closed.suspects;
+      })
+  closed_reached log instance merged =
       let records : List LogRecord = log_of is.view.mine in
       let from_start : IsLegal i is.opening.start.value records =
       subst (λ (x : Instance). IsLegal x is.opening.start.value records) is.instance is.closes.legal in
       record {
-        log = records;
-        legal = subst (λ c. IsLegal i c records) is.start_is from_start;
-        cursors_are = is.closes.cursors_are ∙ ap (λ c. replay c records) is.start_is;
-        pops_are = is.closes.pops_are ∙ sym (length-below is.view.mine (length is.view.mine));
-        kept_is = kept keeps log (subst (λ t. AreMerged t log) is.tickets merged);
-        count = sym (is.count ∙ ap (λ (x : Instance). variables_of x.stacks) is.instance);
-        within = subst (λ (x : Instance). AreWithin x.stacks closed.cursors) is.instance is.closes.whole.low;
+        leads = record {
+          log = records;
+          legal = subst (λ c. IsLegal i c records) is.start_is from_start;
+          cursors_are = is.closes.cursors_are ∙ ap (λ c. replay c records) is.start_is;
+          pops_are = omega (arith, is.closes.pops_are, length-below is.view.mine (length is.view.mine));
+          log_is = kept keeps log (subst (λ t. AreMerged t log) is.tickets merged);
+        };
+        can = record {
+          count = sym (is.count ∙ ap (λ (x : Instance). variables_of x.stacks) is.instance);
+          within = subst (λ (x : Instance). AreWithin x.stacks closed.cursors) is.instance is.closes.whole.low;
+          units = suspects_are_known instance;
+          suspects = suspects_miss_none;
+        };
       }
     where
       kept : (k : Bool) (l : Option (List LogRecord)) → AreMerged (if k then Some is.view.mine else None) l
-          → l ≡ (if k then Some (log_of is.view.mine) else None)
+          → l ≡ with_more (if k then Some [] else None) (log_of is.view.mine)
       kept true (Some xs) one = ap Some (one_merged is.view.mine xs (log_of is.view.mine) one is.closes.merged)
       kept true None one = absurd one
       kept false (Some xs) one = absurd one

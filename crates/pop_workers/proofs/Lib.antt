@@ -1,8 +1,9 @@
--- A run that goes on where a board was left
-pub mod JoinedRuns
--- What a closed board leaves
+-- What a book and a closed board leave
+mod Books
 mod OneMerged
 mod ClosedBoards
+mod JoinedStretches
+mod ToldRuns
 -- Rounds of a sole pass over all units
 mod Rounds
 -- What the answers of finders say
@@ -13,6 +14,4 @@ mod FamilyIndexes
 mod JobLists
 -- Heights that grow: stacks that are raised, and a stage behind others
 pub mod RaisedInstances
-mod KeyedValues
-mod StageEndsLemmas
 mod StageTurns

@@ -2,16 +2,14 @@
 use Rattle.std.proofs.Common.{◌≡◌, ◌⊎◌, ℕ, ◌≤◌, Bool, List, [], length, Contains, inl, inr, refl, ap, subst, arith}
 use Rattle.pop_model.specs.Stacks.{Origin, height_from, origin_raised, IsKeyed, Extends}
 use Rattle.pop_model.specs.Stacks.Origin.{Given, Keyed}
-use Rattle.pop_model.specs.Popping.{Cube, Occurs}
 use Rattle.pop_model.specs.Families.{Event, Family}
 use Rattle.pop_model.specs.Instances.{Instance, instance_raised}
 use Rattle.pop_model.specs.Runs.{IsEnd, IsStuckList}
 use Rattle.pop_model.proofs.TallerStacks.{legal_extends}
-use Rattle.pop_stacks.specs.Readers.{HasSource}
 use Rattle.confluence_core.specs.declared.run.Run.{Run}
-use Rattle.confluence_core.specs.Runs.{IsRun, IsRunOf}
-use Rattle.confluence_core.proofs.SoFar.{first_end_from}
-use Rattle.pop_workers.specs.Progressed.{HasProgressed}
+use Rattle.confluence_core.specs.Runs.{IsRunOf, ended}
+use Rattle.confluence_core.specs.Stretches.{IsReached}
+use Rattle.confluence_core.proofs.Reaching.{first_end_of}
 use Rattle.pop_workers.specs.Stages.{height}
 
 -- keyed stacks have one height
@@ -49,19 +47,6 @@ raised_twice i h k = ap (with_origin i) (origin_twice i.stacks.origin h k)
 pub raised_same : (i : Instance) → IsKeyed i.stacks.origin → instance_raised (height i) i ≡ i
 raised_same i keyed = ap (with_origin i) (origin_same i.stacks.origin keyed)
 
--- a reader of stacks is a reader of the same stacks when they are raised
-pub source_raised : (o other : Origin) (h : ℕ) → HasSource o other → HasSource (origin_raised h o) other
-source_raised (Given rows) other h source = source
-source_raised (Keyed key sample was) (Given rows) h source = source
-source_raised (Keyed key sample was) (Keyed more number tall) h source = source
-
--- what occurs at a height occurs at each
-pub occurs_raised : (o : Origin) (weights : List (List ℕ)) (h : ℕ) (c : List ℕ) (e : Cube) → IsKeyed o
-    → Occurs (record { origin = origin_raised h o; weights = weights }) c e
-    → Occurs (record { origin = o; weights = weights }) c e
-occurs_raised (Given rows) weights h c e keyed occurs = occurs
-occurs_raised (Keyed key sample was) weights h c e keyed occurs = occurs
-
 -- taller stacks under the same key have the same entries and maybe more
 taller : (key : List ℕ) (sample h last : ℕ) (weights : List (List ℕ)) → h ≤ last
     → Extends (record { origin = Keyed key sample h; weights = weights })
@@ -81,45 +66,35 @@ module _ (weights : List (List ℕ)) (family : Family) (start : List ℕ) (keeps
   pub run_raised : (o : Origin) (h last : ℕ) (run : Run) → IsKeyed o → h ≤ last → (run.end.stuck ≡ []) ⊎ (h ≡ last)
       → IsRunOf (over (origin_raised h o)) start keeps run → IsRunOf (over (origin_raised last o)) start keeps run
   run_raised (Given rows) h last run keyed less is_last of = absurd keyed
-  run_raised (Keyed key sample was) h last run keyed less is_last of =
+  run_raised (Keyed key sample was) h last run keyed less (inr same) of =
+      subst (λ n. IsRunOf (over (Keyed key sample n)) start keeps run) same of
+  run_raised (Keyed key sample was) h last run keyed less (inl none) of =
       let low : Instance = over (Keyed key sample h) in
       let high : Instance = over (Keyed key sample last) in
       let list : IsStuckList high run.end.cursors run.end.stuck =
-      record { rising = of.run.stuck_list.rising; exact = of.run.stuck_list.exact } in
-      let end : IsEnd high run.end.cursors = elim is_last [
-        | inl none ↦ λ e is poppable. none_in run.end.stuck e none ((list.exact e).1 (is, poppable.occurs))
-        | inr same ↦ subst (λ n. IsEnd (over (Keyed key sample n)) run.end.cursors) same of.run.end
-      ] in
-      let whole : IsRun high start keeps run.end.cursors run.end.pops run.end.stuck run.log = record {
-        log = of.run.log;
-        legal = legal_extends low high.stacks (taller key sample h last weights less) start of.run.log of.run.legal;
-        cursors_are = of.run.cursors_are;
-        pops_are = of.run.pops_are;
-        end = end;
-        stuck_list = list;
-        kept_is = of.run.kept_is;
+      record { rising = of.stuck_list.rising; exact = of.stuck_list.exact } in
+      let end : IsEnd high run.end.cursors =
+      λ e is poppable. none_in run.end.stuck e none ((list.exact e).1 (is, poppable.occurs)) in
+      let leads = of.reached.leads in
+      let can = of.reached.can in
+      let reached : IsReached high start keeps (ended run) = record {
+        leads = record {
+          log = leads.log;
+          legal = legal_extends low high.stacks (taller key sample h last weights less) start leads.log leads.legal;
+          cursors_are = leads.cursors_are;
+          pops_are = leads.pops_are;
+          log_is = leads.log_is;
+        };
+        can = record {
+          count = can.count;
+          within = λ v below. let inside = can.within v below in omega (arith, inside, less);
+          units = can.units;
+          suspects = λ e is poppable. absurd (end e is poppable);
+        };
       } in
       record {
-        run = whole;
-        count = of.count;
-        within = λ v below. let inside = of.within v below in omega (arith, inside, less);
+        reached = reached;
+        stuck_list = list;
         values = record { are = of.values.are; within = of.values.within };
-        first = first_end_from high start keeps run.end.cursors run.end.pops run.end.stuck run.log whole;
-      }
-
-  -- what was popped at a height was popped at a greater one
-  pub progress_raised : (o : Origin) (h : ℕ) (run : Run) → IsKeyed o → ((v : ℕ) → height_from o v ≤ h)
-      → IsRunOf (over o) start keeps run
-      → HasProgressed (over (origin_raised h o)) start keeps run.end.cursors run.end.pops run.log
-  progress_raised (Given rows) h run keyed less of = absurd keyed
-  progress_raised (Keyed key sample was) h run keyed less of =
-      record {
-        log = of.run.log;
-        legal = legal_extends (over (Keyed key sample was)) (over (Keyed key sample h)).stacks
-            (taller key sample was h weights (less 0)) start of.run.log of.run.legal;
-        cursors_are = of.run.cursors_are;
-        pops_are = of.run.pops_are;
-        kept_is = of.run.kept_is;
-        count = of.count;
-        within = λ v below. let inside = of.within v below in let more = less 0 in omega (arith, inside, more);
+        first = first_end_of high start keeps (ended run) run.end.stuck reached end list;
       }

@@ -1,63 +1,19 @@
 -- One stage behind others. What is poppable when the stacks are raised occurred at the end before, so it is in the
 -- stuck list there; and the log of all stages is legal at each greater height, since no entry depends on the height.
-use Rattle.std.proofs.Common.{◌≡◌, ◌⊎◌, ℕ, ◌-◌, ◌<◌, ◌≤◌, Bool, true, List, [], ◌∷◌, Option, Some, None, length, map, All, Contains, get_or, inl, inr, refl, sym, ap, subst, ◌∙◌, arith}
-use Rattle.std.proofs.lemmas.List.{get_or-map, length-map}
-use Rattle.std.proofs.lemmas.List.Elements.{Contains-get_or}
-use Rattle.pop_model.specs.Stacks.{variables_of, height_of, IsKeyed}
-use Rattle.pop_model.specs.Popping.{names}
-use Rattle.pop_model.specs.Families.{Event, Family, IsEvent, units_of}
-use Rattle.pop_model.specs.Families.Family.{Listed, Cycles}
+use Rattle.std.proofs.Common.{◌≡◌, ◌⊎◌, ℕ, ◌-◌, ◌<◌, ◌≤◌, Bool, List, [], ◌∷◌, length, map, inl, inr, refl, sym, ap, subst, ◌∙◌, arith}
+use Rattle.pop_model.specs.Stacks.{variables_of, height_of, stacks_raised, IsKeyed}
+use Rattle.pop_model.specs.Families.{Event}
 use Rattle.pop_model.specs.Instances.{Instance, IsInstance, instance_raised}
 use Rattle.pop_model.specs.Runs.{IsStuckList, start_of}
-use Rattle.pop_model.proofs.CycleFamily.{first_named}
-use Rattle.pop_stacks.specs.Readers.{Belongs, ReaderOf}
+use Rattle.pop_model.proofs.TallerStacks.{raised_extends}
+use Rattle.confluence_core.specs.declared.reached.Reached.{Reached}
 use Rattle.confluence_core.specs.declared.run.Run.{Run}
-use Rattle.confluence_core.specs.Runs.{IsSuspected, MissesNone, IsRunOf}
+use Rattle.confluence_core.specs.Runs.{IsRunOf, ended}
+use Rattle.confluence_core.specs.Stretches.{GoesOn, IsReached, IsTold, before_pops}
 use Rattle.confluence_core.proofs.EventVariables.{event_below, event_cube}
-use Rattle.pop_log.proofs.PrintableLemmas.{unit_below}
-use Rattle.pop_workers.specs.declared.alone.Alone.{Alone}
-use Rattle.pop_workers.specs.Alone.{Serves}
-use Rattle.pop_workers.specs.Progressed.{HasProgressed}
-use Rattle.pop_workers.specs.Stages.{height, at_next_height, behind, GoesOnFrom, IsLast, IsToCome, AreStages, HasBegun}
-use Rattle.pop_workers.proofs.JoinedRuns.{run_behind}
-use Rattle.pop_workers.proofs.RaisedInstances.{one_height, raised_height, raised_keyed, raised_twice, raised_same, source_raised, occurs_raised, run_raised, progress_raised}
-
--- the units of these events
-abbrev pub units_in : List Event → List ℕ
-units_in es = map (λ e. e.unit) es
-
--- the unit of a member is among the units
-unit_among : (es : List Event) (e : Event) → Contains es e → Contains (units_in es) e.unit
-unit_among es e (k, below, is) = (
-  k,
-  omega (arith, below, length-map es (λ (x : Event). x.unit)),
-  get_or-map (λ (x : Event). x.unit) es k e e.unit below ∙ ap (λ (x : Event). x.unit) is,
-)
-
--- an event whose unit is among the suspects is suspected
-suspected : (family : Family) (suspects : List ℕ) (e : Event) → IsEvent family e → Contains suspects e.unit
-    → IsSuspected family suspects e
-suspected (Listed rows) suspects e is among = among
-suspected (Cycles heads) suspects e is among =
-    (e.unit, subst (λ v. names e.cube v ≡ true) (sym is.1) (first_named e.cube is.0.cube), among)
-
--- the units of the stuck events miss none that is poppable when the stacks are raised
-pub stuck_miss_none : (i : Instance) (h : ℕ) (c : List ℕ) (stuck : List Event) → IsKeyed i.stacks.origin
-    → IsStuckList i c stuck → MissesNone (instance_raised h i) c (units_in stuck)
-stuck_miss_none i h c stuck keyed list e is poppable =
-    let occurs = occurs_raised i.stacks.origin i.stacks.weights h c e.cube keyed poppable.occurs in
-    suspected i.family (units_in stuck) e is (unit_among stuck e ((list.exact e).1 (is, occurs)))
-
--- and they are units
-pub stuck_known : (i : Instance) (c : List ℕ) (stuck : List Event) → IsStuckList i c stuck
-    → All (λ u. u < units_of i.family) (units_in stuck)
-stuck_known i c stuck list k d below =
-    let inside : k < length stuck = omega (arith, below, length-map stuck (λ (x : Event). x.unit)) in
-    let none : Event = record { unit = d; cube = [] } in
-    let e : Event = get_or stuck k none in
-    let known = unit_below i.family e ((list.exact e).0 (Contains-get_or stuck k none inside)).0 in
-    let at : get_or (units_in stuck) k d ≡ e.unit = get_or-map (λ (x : Event). x.unit) stuck k none d inside in
-    omega (arith, known, at)
+use Rattle.confluence_core.proofs.Reaching.{goes_then, leads_for, reached_raised, told_run}
+use Rattle.pop_workers.specs.Stages.{height, at_next_height, IsLast, IsToCome, IsStageEnd, StagesLead, AreStages, HasBegun}
+use Rattle.pop_workers.proofs.RaisedInstances.{one_height, raised_height, raised_keyed, raised_twice, raised_same, run_raised}
 
 -- where an event is stuck there is a variable
 pub some_variable : (i : Instance) (c : List ℕ) (stuck : List Event) → IsInstance i → IsStuckList i c stuck
@@ -73,49 +29,40 @@ some_variable i c (e ∷ stuck) instance list some =
 pub some_stuck : (stuck : List Event) → 0 < length stuck → stuck ≡ [] → ⊥
 some_stuck stuck some none = let size = ap length none in omega (arith, some, size)
 
--- a reader stays one of the raised stacks
-belongs_raised : (i : Instance) (h : ℕ) (reader : ReaderOf) → Belongs i.stacks reader
-    → Belongs (instance_raised h i).stacks reader
-belongs_raised i h reader belongs = record {
-  source = source_raised i.stacks.origin reader.stacks.origin h belongs.source;
-  weights = belongs.weights;
-}
-
--- what one worker works with serves the raised instance, which has the same family
-pub serves_raised : (i : Instance) (h : ℕ) (alone : Option Alone) → Serves i alone → Serves (instance_raised h i) alone
-serves_raised i h (Some alone) (belongs, index) = (belongs_raised i h alone.reader belongs, index)
-serves_raised i h None serves = tt
-
--- the height of a variable is that of all
-pub as_high : (i : Instance) (v : ℕ) → IsKeyed i.stacks.origin → height_of i.stacks v ≡ height i
-as_high i v keyed = one_height i.stacks.origin v 0 keyed
-
 -- stages that are there have begun
-pub have_begun : {last : ℕ} {i : Instance} {keeps : Bool} {j : Instance} {run : Run}
-    → AreStages last i keeps j run → HasBegun last i keeps j
-have_begun (AreStages.one run of) = inl refl
-have_begun (AreStages.more j before run staged goes_on of) = inr (j, before, staged, goes_on, refl)
+pub have_begun : {last : ℕ} {i : Instance} {keeps : Bool} {j : Instance} {reached : Reached} {stuck : List Event}
+    → StagesLead last i keeps j reached stuck → HasBegun last i keeps j
+have_begun (StagesLead.one reached stuck is end) = inl refl
+have_begun (StagesLead.more j before reached old stuck staged goes_on is end) =
+    inr (j, before, old, staged, goes_on, refl)
 
--- Stages were made: the stacks are keyed and at most as high as the last, the instance is the first one raised, and
--- what is left is a run from zeros at its height.
-pub record AreMade (last : ℕ) (i : Instance) (keeps : Bool) (j : Instance) (run : Run) : Type 0 where
-  pub staged : AreStages last i keeps j run
+-- Stages were made: the stacks are keyed and at most as high as the last, the instance is the first one raised, and the
+-- run has come so far from zeros at its height.
+pub record AreMade (last : ℕ) (i : Instance) (keeps : Bool) (j : Instance) (left : Reached) (stuck : List Event)
+    : Type 0 where
+  pub staged : StagesLead last i keeps j left stuck
   pub keyed : IsKeyed i.stacks.origin
   pub raised : (h : ℕ) × (h ≤ last) × (j ≡ instance_raised h i)
-  pub run_of : IsRunOf j (start_of i) keeps run
+  pub reached : IsReached j (start_of i) keeps left
+  pub end : IsStageEnd j left stuck
 
 -- the first stage was made
-pub first_made : (last : ℕ) (i : Instance) (keeps : Bool) (run : Run) → IsKeyed i.stacks.origin
-    → ((v : ℕ) → height_of i.stacks v ≤ last) → IsRunOf i (start_of i) keeps run → AreMade last i keeps i run
-first_made last i keeps run keyed less of = record {
-  staged = AreStages.one run of;
-  keyed = keyed;
-  raised = (height i, less 0, sym (raised_same i keyed));
-  run_of = of;
-}
+pub first_made : (last : ℕ) (i : Instance) (keeps : Bool) (opening reached : Reached) (stuck : List Event)
+    → IsKeyed i.stacks.origin → ((v : ℕ) → height_of i.stacks v ≤ last) → IsReached i (start_of i) keeps opening
+    → GoesOn i opening reached → IsStageEnd i reached stuck → AreMade last i keeps i reached stuck
+first_made last i keeps opening reached stuck keyed less opens on end =
+    let is : IsReached i (start_of i) keeps reached =
+    goes_then i (before_pops (start_of i) keeps) opening reached opens on in
+    record {
+      staged = StagesLead.one reached stuck is end;
+      keyed = keyed;
+      raised = (height i, less 0, sym (raised_same i keyed));
+      reached = is;
+      end = end;
+    }
 
-module _ (last : ℕ) (i : Instance) (keeps : Bool) (j : Instance) (before : Run)
-    (made : AreMade last i keeps j before) where
+module _ (last : ℕ) (i : Instance) (keeps : Bool) (j : Instance) (before : Reached) (old : List Event)
+    (made : AreMade last i keeps j before old) where
   -- the stacks are keyed still
   pub still_keyed : IsKeyed j.stacks.origin
   still_keyed = subst (λ (x : Instance). IsKeyed x.stacks.origin) (sym made.raised.2)
@@ -129,7 +76,7 @@ module _ (last : ℕ) (i : Instance) (keeps : Bool) (j : Instance) (before : Run
       omega (arith, same, made.raised.1)
 
   -- none is higher than the next one
-  pub all_lower : (h : ℕ) → IsToCome last j before.end.stuck h → (v : ℕ) → height_of j.stacks v ≤ h
+  pub all_lower : (h : ℕ) → IsToCome last j old h → (v : ℕ) → height_of j.stacks v ≤ h
   all_lower h to_come v =
       let same = one_height j.stacks.origin v 0 still_keyed in
       omega (arith, same, to_come.higher)
@@ -139,7 +86,7 @@ module _ (last : ℕ) (i : Instance) (keeps : Bool) (j : Instance) (before : Run
   high h k is = ap height is ∙ raised_height j.stacks.origin h 0 still_keyed
 
   -- the next one is nearer to the last
-  pub nearer : (h : ℕ) (k : Instance) → IsToCome last j before.end.stuck h → k ≡ instance_raised h j
+  pub nearer : (h : ℕ) (k : Instance) → IsToCome last j old h → k ≡ instance_raised h j
       → last - height k < last - height j
   nearer h k to_come is =
       let same = high h k is in
@@ -150,13 +97,13 @@ module _ (last : ℕ) (i : Instance) (keeps : Bool) (j : Instance) (before : Run
   raised_on h k is = is ∙ ap (instance_raised h) made.raised.2 ∙ raised_twice i h made.raised.0
 
   -- the next stage has begun
-  pub next_begun : (h : ℕ) (k : Instance) → IsToCome last j before.end.stuck h → k ≡ instance_raised h j
+  pub next_begun : (h : ℕ) (k : Instance) → IsToCome last j old h → k ≡ instance_raised h j
       → HasBegun last i keeps k
   next_begun h k to_come is =
-      inr (j, before, made.staged, to_come.goes_on, is ∙ ap (λ n. instance_raised n j) to_come.is)
+      inr (j, before, old, made.staged, to_come.goes_on, is ∙ ap (λ n. instance_raised n j) to_come.is)
 
   -- it is at most as high as the last
-  pub next_low : (h : ℕ) (k : Instance) → IsToCome last j before.end.stuck h → k ≡ instance_raised h j → height k ≤ last
+  pub next_low : (h : ℕ) (k : Instance) → IsToCome last j old h → k ≡ instance_raised h j → height k ≤ last
   next_low h k to_come is = omega (arith, high h k is, to_come.most)
 
   -- and is the first one, raised to its height
@@ -173,37 +120,59 @@ module _ (last : ℕ) (i : Instance) (keeps : Bool) (j : Instance) (before : Run
       ∙ raised_height i.stacks.origin made.raised.0 0 made.keyed in
       made.raised.2 ∙ ap (λ n. instance_raised n i) (sym same)
 
+  -- the run has come so far at the next height, where what is stuck is suspected
+  pub next_reached : (h : ℕ) (k : Instance) (suspects : List ℕ) → IsInstance j → IsToCome last j old h
+      → k ≡ instance_raised h j → suspects ≡ map (λ e. e.unit) old
+      → IsReached k (start_of i) keeps (record before { suspects = suspects })
+  next_reached h k suspects instance to_come is are =
+      subst (λ us. IsReached k (start_of i) keeps (record before { suspects = us })) (sym are)
+      (subst (λ (x : Instance). IsReached x (start_of i) keeps (record before { suspects = map (λ e. e.unit) old }))
+      (sym is)
+      (reached_raised j (stacks_raised h j.stacks)
+      (raised_extends j.stacks.origin j.stacks.weights h (all_lower h to_come)) (start_of i) keeps before old instance
+      made.reached made.end.stuck_list))
+
   -- the next stage was made
-  pub next_made : (h : ℕ) (k : Instance) (left : Run) → IsToCome last j before.end.stuck h → k ≡ instance_raised h j
-      → GoesOnFrom k keeps before left → AreMade last i keeps k left
-  next_made h k left to_come is (run, of, left_is) =
+  pub next_made : (h : ℕ) (k : Instance) (suspects : List ℕ) (left : Reached) (stuck : List Event) → IsInstance j
+      → IsToCome last j old h → k ≡ instance_raised h j → suspects ≡ map (λ e. e.unit) old
+      → GoesOn k (record before { suspects = suspects }) left → IsStageEnd k left stuck → AreMade last i keeps k left stuck
+  next_made h k suspects left stuck instance to_come is are on end =
       let at : k ≡ at_next_height last j = is ∙ ap (λ n. instance_raised n j) to_come.is in
-      let joined : Run = behind before.end.pops before.log run in
-      let staged : AreStages last i keeps (at_next_height last j) joined =
-      AreStages.more j before run made.staged to_come.goes_on
-      (subst (λ (x : Instance). IsRunOf x before.end.cursors keeps run) at of) in
-      let progress = progress_raised j.stacks.weights j.family (start_of i) keeps j.stacks.origin h before still_keyed
-      (all_lower h to_come) made.run_of in
-      let whole : IsRunOf k (start_of i) keeps joined =
-      run_behind k (start_of i) keeps before.end.cursors before.end.pops before.log run
-      (subst (λ (x : Instance). HasProgressed x (start_of i) keeps before.end.cursors before.end.pops before.log)
-      (sym is) progress) of in
+      let from : GoesOn k before left = record {
+        leads = leads_for k (record before { suspects = suspects }) left before.suspects left.suspects on.leads;
+        can = on.can;
+      } in
+      let staged : StagesLead last i keeps (at_next_height last j) left stuck =
+      StagesLead.more j before left old stuck made.staged to_come.goes_on
+      (subst (λ (x : Instance). GoesOn x before left) at from) (subst (λ (x : Instance). IsStageEnd x left stuck) at end) in
       record {
-        staged = subst (AreStages last i keeps k) (sym left_is)
-            (subst (λ (x : Instance). AreStages last i keeps x joined) (sym at) staged);
+        staged = subst (λ (x : Instance). StagesLead last i keeps x left stuck) (sym at) staged;
         keyed = made.keyed;
         raised = (h, to_come.most, raised_on h k is);
-        run_of = subst (IsRunOf k (start_of i) keeps) (sym left_is) whole;
+        reached = goes_then k (before_pops (start_of i) keeps) (record before { suspects = suspects }) left
+            (next_reached h k suspects instance to_come is are) on;
+        end = end;
       }
 
-  -- where no stage follows, what is left is a run at the last height
-  pub run_at_last : IsLast last j before.end.stuck → IsRunOf (instance_raised last i) (start_of i) keeps before
-  run_at_last is_last =
+  -- where no stage follows, what is told is a run at the last height
+  pub run_at_last : (run : Run) → IsTold j before run → run.end.stuck ≡ old → IsLast last j old
+      → IsRunOf (instance_raised last i) (start_of i) keeps run
+  run_at_last run told same is_last =
       let h : ℕ = made.raised.0 in
       let high : height j ≡ h = ap height made.raised.2 ∙ raised_height i.stacks.origin h 0 made.keyed in
-      let over : (before.end.stuck ≡ []) ⊎ (h ≡ last) = elim is_last [
-        | inl none ↦ inl none
-        | inr same ↦ inr (sym high ∙ same)
+      let over : (run.end.stuck ≡ []) ⊎ (h ≡ last) = elim is_last [
+        | inl none ↦ inl (same ∙ none)
+        | inr top ↦ inr (sym high ∙ top)
       ] in
-      run_raised i.stacks.weights i.family (start_of i) keeps i.stacks.origin h last before made.keyed made.raised.1
-      over (subst (λ (x : Instance). IsRunOf x (start_of i) keeps before) made.raised.2 made.run_of)
+      let of : IsRunOf j (start_of i) keeps run = told_run j (start_of i) keeps before run made.reached made.end.none told in
+      run_raised i.stacks.weights i.family (start_of i) keeps i.stacks.origin h last run made.keyed made.raised.1 over
+      (subst (λ (x : Instance). IsRunOf x (start_of i) keeps run) made.raised.2 of)
+
+  -- and of the stages
+  pub stages_told : (run : Run) → IsTold j before run → run.end.stuck ≡ old → AreStages last i keeps j run
+  stages_told run told same =
+      let at : ended run ≡ record before { suspects = [] } = ap ended told.are in
+      let whole : before ≡ record before { suspects = [] } =
+      ap (λ us. record before { suspects = us }) made.end.none in
+      subst (StagesLead last i keeps j (ended run)) (sym same)
+      (subst (λ (r : Reached). StagesLead last i keeps j r old) (whole ∙ sym at) made.staged)

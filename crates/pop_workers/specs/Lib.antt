@@ -1,7 +1,5 @@
-pub mod Progressed
 pub mod Closings
 pub mod Attempts
 pub mod Stages
 pub mod Readers
-pub mod Alone
-pub mod StageEnds
+pub mod MadeFor

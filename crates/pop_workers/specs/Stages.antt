@@ -1,13 +1,13 @@
 -- Runs in stages, at heights that grow (this project's choice).
-use Rattle.std.specs.Prelude.{◌≡◌, ◌⊎◌, ℕ, ◌+◌, ◌*◌, ◌<◌, ◌≤◌, min, Bool, List, [], Option}
+use Rattle.std.specs.Prelude.{◌≡◌, ◌⊎◌, ℕ, ◌*◌, ◌<◌, ◌≤◌, min, Bool, List, []}
 use Rattle.pop_model.specs.Stacks.{height_of}
 use Rattle.pop_model.specs.Families.{Event}
 use Rattle.pop_model.specs.Instances.{Instance, instance_raised}
-use Rattle.pop_model.specs.Logs.{LogRecord}
-use Rattle.pop_model.specs.Runs.{start_of}
+use Rattle.pop_model.specs.Runs.{IsStuckList, start_of}
+use Rattle.confluence_core.specs.declared.reached.Reached.{Reached}
 use Rattle.confluence_core.specs.declared.run.Run.{Run}
-use Rattle.confluence_core.specs.Runs.{IsRunOf}
-use Rattle.pop_workers.specs.Progressed.{both_logs}
+use Rattle.confluence_core.specs.Runs.{ended}
+use Rattle.confluence_core.specs.Stretches.{GoesOn, IsReached}
 
 -- the height of keyed stacks, which each variable has
 abbrev pub height : Instance → ℕ
@@ -21,18 +21,6 @@ next_height last h = min (2 * h) last
 abbrev pub at_next_height : ℕ → Instance → Instance
 at_next_height last i = instance_raised (next_height last (height i)) i
 
--- the run, with these pops and this log in front of its own
-abbrev pub behind : ℕ → Option (List LogRecord) → Run → Run
-behind pops log run = record {
-  end = record run.end { pops = pops + run.end.pops };
-  log = both_logs log run.log;
-}
-
--- a run from the end of the one before, behind that one
-abbrev pub GoesOnFrom : Instance → Bool → Run → Run → Type 0
-GoesOnFrom i keeps before left = (run : Run) × IsRunOf i before.end.cursors keeps run
-    × (left ≡ behind before.end.pops before.log run)
-
 -- no stage follows one with this stuck list: no event occurs at its end, or its height is the last
 abbrev pub IsLast : ℕ → Instance → List Event → Type 0
 IsLast last i stuck = (stuck ≡ []) ⊎ (height i ≡ last)
@@ -44,18 +32,31 @@ pub record IsToCome (last : ℕ) (i : Instance) (stuck : List Event) (h : ℕ) :
   pub higher : height i < h
   pub most : h ≤ last
 
--- what stages leave together, the last of them at the height of the second instance
-pub data AreStages (last : ℕ) (i : Instance) (keeps : Bool) : Instance → Run → Type 0 where
+-- a stage that came so far has come to its end, where this is stuck
+pub record IsStageEnd (i : Instance) (reached : Reached) (stuck : List Event) : Type 0 where
+  pub none : reached.suspects ≡ []
+  pub stuck_list : IsStuckList i reached.cursors stuck
+
+-- how far stages have come together, and what is stuck there, the last of them at the height of the
+-- second instance
+pub data StagesLead (last : ℕ) (i : Instance) (keeps : Bool)
+    : Instance → Reached → List Event → Type 0 where
   -- the first stage begins at zeros
-  one : (run : Run) → IsRunOf i (start_of i) keeps run → AreStages last i keeps i run
-  -- each other one begins at the end of the stage before it, and its pops and log stand behind
-  more : (j : Instance) (before run : Run) → AreStages last i keeps j before
-      → (IsLast last j before.end.stuck → ⊥)
-      → IsRunOf (at_next_height last j) before.end.cursors keeps run
-      → AreStages last i keeps (at_next_height last j) (behind before.end.pops before.log run)
+  one : (reached : Reached) (stuck : List Event) → IsReached i (start_of i) keeps reached
+      → IsStageEnd i reached stuck → StagesLead last i keeps i reached stuck
+  -- each other one goes on at the next height from the end of the stage before it
+  more : (j : Instance) (before reached : Reached) (old stuck : List Event)
+      → StagesLead last i keeps j before old → (IsLast last j old → ⊥)
+      → GoesOn (at_next_height last j) before reached
+      → IsStageEnd (at_next_height last j) reached stuck
+      → StagesLead last i keeps (at_next_height last j) reached stuck
+
+-- what stages leave together, the last of them at the height of the second instance
+abbrev pub AreStages : ℕ → Instance → Bool → Instance → Run → Type 0
+AreStages last i keeps j run = StagesLead last i keeps j (ended run) run.end.stuck
 
 -- the stage of the second instance has begun: the first one, or one that follows others
 abbrev pub HasBegun : ℕ → Instance → Bool → Instance → Type 0
-HasBegun last i keeps j = (j ≡ i) ⊎ ((k : Instance) × (before : Run)
-    × AreStages last i keeps k before × (IsLast last k before.end.stuck → ⊥)
+HasBegun last i keeps j = (j ≡ i) ⊎ ((k : Instance) × (before : Reached) × (stuck : List Event)
+    × StagesLead last i keeps k before stuck × (IsLast last k stuck → ⊥)
     × (j ≡ at_next_height last k))

@@ -1,25 +1,30 @@
 //! Runs by workers that claim words.
-ghost use Rattle.std.specs.Prelude.{◌≡◌, ◌<◌, ◌≤◌, length, IfOk, IfSome};
+ghost use Rattle.std.specs.Prelude.{◌≡◌, ◌<◌, ◌≤◌, [], ℕ, Bool, List, length, IfOk, IfSome};
 ghost use Rattle.pop_model.specs.Stacks.{variables_of};
-ghost use Rattle.pop_model.specs.Popping.{AreWithin};
+ghost use Rattle.pop_model.specs.Popping.{AreWithin, AreValuesAt};
+ghost use Rattle.pop_model.specs.Instances.{Instance as ModelInstance, IsInstance};
+ghost use Rattle.pop_model.specs.Runs.{IsStuckList};
 ghost use Rattle.pop_model.specs.Tickets.{AreNumbered};
+ghost use Rattle.pop_instance.specs.Index.{IsFamilyIndex};
 ghost use Rattle.confluence_core.specs.Kept.{keeps_log};
+ghost use Rattle.confluence_core.specs.Indexes.{Serves};
 ghost use Rattle.confluence_core.specs.Runs.{IsRunOf};
-ghost use Rattle.pop_workers.specs.Closings.{IsClosed, AreMerged};
-ghost use Rattle.pop_workers.specs.Readers.{AreReadersOf};
+ghost use Rattle.confluence_core.specs.Stretches.{CanGoOn, GoesOn, HasCome, IsReached};
+ghost use Rattle.pop_workers.specs.Closings.{AreMerged, IsClosed};
 
-use crate::crew::Crew;
-use crate::finishing::{end_here, finish};
-use crate::locked::run_alone;
-use crate::progress::Progress;
+use crate::gated::Gated;
 use crate::words::work_by;
+use crate::workers::Workers;
 use crate::{Gate, Outcome};
 use claim_words::{Board, Closed};
-use confluence_core::{Keep, Log, Tickets};
-use pop_instance::{Cursors, Instance};
+use confluence_core::{Indexed, Keep, Log, Reached, Stuck, Tickets, stuck_at};
+use pop_instance::{Cursors, Index, Instance, Values};
 use pop_log::merge;
 use pop_stacks::Reader;
 use std::alloc::{AllocError, Global};
+use std::marker::Model;
+use std::mem;
+use std::snapshot::Snapshot;
 use std::thread::Threads;
 
 /// A run by 1 to 64 workers that claim words of a board, from cursors that are below the heights.
@@ -45,35 +50,159 @@ pub fn sample_claimed<R: Threads + Sync, G: Gate + Sync>(
     requires most { workers ≤ 64 }
     ensures { IfOk result (IsRunOf instance.now from.now (keeps_log keep)) }
 {
+    let start = from.copy(alloc)?;
+    let opening = Reached::starting(alloc, instance, start, keep)?;
+    let index = instance.index(alloc)?;
     if workers == 1 {
-        gate.at(0, 0);
-        return run_alone(alloc, instance, from, keep);
+        let mut gated = Gated::with(alloc, instance, index, gate)?;
+        let ended = gated.finish(alloc, instance, opening)?;
+        return gated.alone.tell(alloc, instance, ended);
     }
-    let reader = Reader::keeping(alloc, instance.stacks())?;
-    let (board, mut pass) = Board::start(alloc, instance, from, keep)?;
-    let crew = Crew { rt, gate, workers };
-    let mut readers = work_by(alloc, crew, &board, &mut pass, instance, reader)?;
-    match board.close(pass) {
-        Ok(closed) => go_on(alloc, instance, from, closed, keep, &mut readers),
-        Err((_, _, failed)) => Err(failed),
+    let mut claimed = Claimed::with(alloc, instance, index, Workers { rt, gate, workers })?;
+    let ended = claimed.finish(alloc, instance, opening)?;
+    let stuck = claimed.stuck(alloc, instance, &ended)?;
+    let values = claimed.values(alloc, instance, &ended.cursors)?;
+    Ok(ended.told(stuck, values))
+}
+
+/// Several workers, who claim words of a board. What they leave, the calling thread pops; what is
+/// told of the end is looked up by their readers, which keep what they saw. Contracts see the
+/// instance that they were made for.
+#[derive(Drop)]
+pub struct Claimed<'c, R, G> {
+    crew: Workers<'c, R, G>,
+    index: Option<Index>,
+    readers: Vec<Reader>,
+    made_for: Snapshot<Instance>,
+}
+
+impl<'c, R, G> Model for Claimed<'c, R, G> {
+    ghost use Rattle.std.specs.Prelude.{ℕ, ◌<◌, ◌≤◌};
+    ghost use Rattle.pop_model.specs.Instances.{Instance as ModelInstance};
+    ghost use Rattle.pop_instance.specs.Index.{IsFamilyIndex};
+    ghost use Rattle.pop_workers.specs.Readers.{AreReadersOf};
+
+    ghost Value = { ModelInstance };
+
+    ghost view = { λ a. a.made_for.value };
+
+    ghost invariant = { λ a. (0 < a.crew.workers) × (a.crew.workers ≤ 64)
+        × IsFamilyIndex a.made_for.value.family a.index
+        × AreReadersOf a.made_for.value.stacks a.readers.items };
+}
+
+impl<'c, R, G> Claimed<'c, R, G> {
+    /// The workers for an instance, with the index of its family.
+    pub fn with(
+        alloc: Global,
+        instance: &Instance,
+        index: Option<Index>,
+        crew: Workers<'c, R, G>,
+    ) -> Result<Claimed<'c, R, G>, AllocError>
+        requires index { IsFamilyIndex instance.now.family index }
+        requires some { 0 < crew.workers }
+        requires most { crew.workers ≤ 64 }
+        ensures { IfOk result (λ claimed. claimed ≡ instance.now) }
+    {
+        let mut readers = Vec::new(alloc);
+        readers.push(Reader::keeping(alloc, instance.stacks())?)?;
+        Ok(Claimed {
+            crew,
+            index,
+            readers,
+            made_for: Snapshot::of(instance),
+        })
     }
 }
 
-// The run that goes on where a board was closed. Where no unit is suspected it has ended there, and
-// what is told of its end is looked up by the readers of the workers, which keep what they saw.
-fn go_on(
-    alloc: Global,
-    instance: &Instance,
-    from: &Cursors,
-    closed: Closed,
-    keep: Keep,
-    readers: &mut [Reader],
-) -> Result<Outcome, AllocError>
-    requires closed { IsClosed instance.now from.now (keeps_log keep) closed }
-    requires readers { AreReadersOf instance.now.stacks readers.old }
-    ensures { IfOk result (IsRunOf instance.now from.now (keeps_log keep)) }
+impl<'c, R: Threads + Sync, G: Gate + Sync> Claimed<'c, R, G> {
+    /// Goes on with a run to an end. After an error nothing is left of the run.
+    pub fn finish(
+        &mut self,
+        alloc: Global,
+        instance: &Instance,
+        reached: Reached,
+    ) -> Result<Reached, AllocError>
+        requires serves { Serves instance.now self.old }
+        requires reached { HasCome instance.now reached }
+        ensures on { IfOk result (GoesOn instance.now reached) }
+        ensures end { IfOk result (λ new. new.suspects ≡ []) }
+        ensures made_for { self.new ≡ self.old }
+    {
+        let more = self.claim(alloc, instance, &reached.cursors, reached.keep())?;
+        let joined = reached.join(more)?;
+        let over = Indexed::of(instance, &self.index);
+        over.finish(alloc, &mut self.readers[0], joined)
+    }
+
+    // How far the workers come on a board that opens from these cursors.
+    fn claim(
+        &mut self,
+        alloc: Global,
+        instance: &Instance,
+        from: &Cursors,
+        keep: Keep,
+    ) -> Result<Reached, AllocError>
+        requires serves { Serves instance.now self.old }
+        requires count { variables_of instance.now.stacks ≡ length from.now }
+        requires within { AreWithin instance.now.stacks from.now }
+        ensures instance { IsInstance instance.now }
+        ensures reached { IfOk result (IsReached instance.now from.now (keeps_log keep)) }
+        ensures made_for { self.new ≡ self.old }
+    {
+        let _units = instance.units();
+        let Workers { rt, gate, workers } = self.crew;
+        let crew = Workers { rt, gate, workers };
+        let (board, mut pass) = Board::start(alloc, instance, from, keep)?;
+        // Worker 0 goes on with the reader that keeps what was seen last.
+        let reader = mem::replace(&mut self.readers[0], Reader::new(instance.stacks()));
+        let index = &self.index;
+        self.readers = work_by(alloc, crew, &board, &mut pass, instance, index, reader)?;
+        match board.close(pass) {
+            Ok(closed) => left_by(alloc, closed),
+            Err((_, _, failed)) => Err(failed),
+        }
+    }
+
+    /// Every event that occurs where a run has come, by rising unit.
+    pub fn stuck(
+        &mut self,
+        alloc: Global,
+        instance: &Instance,
+        reached: &Reached,
+    ) -> Result<Stuck, AllocError>
+        requires serves { Serves instance.now self.old }
+        requires can { CanGoOn instance.now reached.now }
+        ensures stuck_list { IfOk result (IsStuckList instance.now reached.now.cursors) }
+        ensures made_for { self.new ≡ self.old }
+    {
+        stuck_at(alloc, instance, &mut self.readers[0], reached)
+    }
+
+    /// The value of each variable at its cursor, which is the last that the readers look up.
+    pub fn values(
+        self,
+        alloc: Global,
+        instance: &Instance,
+        cursors: &Cursors,
+    ) -> Result<Values, AllocError>
+        requires serves { Serves instance.now self }
+        requires count { variables_of instance.now.stacks ≡ length cursors.now }
+        requires within { AreWithin instance.now.stacks cursors.now }
+        ensures values { IfOk result (AreValuesAt instance.now.stacks cursors.now) }
+    {
+        let Claimed { mut readers, .. } = self;
+        Values::at_by(alloc, instance.stacks(), &mut readers, cursors)
+    }
+}
+
+// How far a run has come from the cursors from which a board opened that left this.
+fn left_by(alloc: Global, closed: Closed) -> Result<Reached, AllocError>
+    requires closed { (i : ModelInstance) × (start : List ℕ) × (keeps : Bool)
+        × IsClosed i start keeps closed }
+    ensures { (i : ModelInstance) → (start : List ℕ) → (keeps : Bool) → IsInstance i
+        → IsClosed i start keeps closed → IfOk result (IsReached i start keeps) }
 {
-    let _units = instance.units();
     let Closed {
         cursors,
         pops,
@@ -81,11 +210,12 @@ fn go_on(
         suspects,
     } = closed;
     let log = merged(alloc, log)?;
-    let left = Progress { cursors, pops, log };
-    if suspects.len() == 0 {
-        return end_here(alloc, instance, from, left, keep, readers);
-    }
-    finish(alloc, instance, from, left, suspects, keep)
+    Ok(Reached {
+        cursors,
+        pops,
+        log,
+        suspects,
+    })
 }
 
 // The log of the tickets, where they are kept.

@@ -1,16 +1,16 @@
 //! Runs in stages, at heights that grow.
-ghost use Rattle.std.specs.Prelude.{◌≡◌, ◌<◌, ◌≤◌, ◌^◌, ℕ, IfOk, MatchOption};
+ghost use Rattle.std.specs.Prelude.{◌≡◌, ◌<◌, ◌≤◌, ◌^◌, ℕ, List, IfOk, MatchOption};
 ghost use Rattle.pop_model.specs.Stacks.{height_of, IsKeyed};
-ghost use Rattle.pop_model.specs.Instances.{instance_raised};
+ghost use Rattle.pop_model.specs.Instances.{IsInstance, instance_raised};
 ghost use Rattle.pop_model.specs.Runs.{IsStuckList, start_of};
 ghost use Rattle.confluence_core.specs.Kept.{keeps_log};
 ghost use Rattle.confluence_core.specs.Runs.{IsRunOf};
 ghost use Rattle.pop_workers.specs.Stages.{height, AreStages, HasBegun, IsLast, IsToCome};
 
-use crate::stage_end::StageEnd;
-use crate::stages::{StageCrew, first_stage, next_stage};
+use crate::makers::Makers;
+use crate::workers::Workers;
 use crate::{Gate, Outcome};
-use confluence_core::{Keep, Part};
+use confluence_core::{Keep, Reached, Stuck};
 use pop_instance::Instance;
 use std::alloc::{AllocError, Global};
 use std::sync::Wait;
@@ -55,34 +55,33 @@ pub fn sample_grown<R: Threads + Wait + Sync, G: Gate + Sync>(
     ensures raised { instance.new ≡ instance_raised (height instance.new) instance.old }
     ensures low { height instance.new ≤ last }
 {
-    let crew = StageCrew {
-        rt,
-        gate,
-        workers,
-        claimed,
-        keep,
-    };
-    let (mut alone, run) = first_stage(alloc, &crew, instance)?;
-    let mut left = StageEnd::of(run);
-    'stages: while let Some(height) = height_to_come(instance, &left.part, last) {
-        left = next_stage(alloc, &crew, &mut alone, instance, height, left)?;
+    let crew = Workers { rt, gate, workers };
+    let mut makers = Makers::of(alloc, instance, crew, claimed)?;
+    let opening = Reached::opening(alloc, instance, keep)?;
+    let (mut reached, mut stuck) = makers.stage(alloc, instance, opening)?;
+    'stages: while let Some(height) = height_to_come(instance, &stuck, last) {
+        // What is poppable at the new height occurred at the end before.
+        instance.raise(height);
+        reached.suspects = stuck.units(alloc)?;
+        (reached, stuck) = makers.stage(alloc, instance, reached)?;
     }
-    left.into_run(alloc, &mut alone, instance)
+    let values = makers.values(alloc, instance, &reached.cursors)?;
+    Ok(reached.told(stuck, values))
 }
 
 // The height of the stage behind one that left this, where there is to be one.
-fn height_to_come(instance: &Instance, left: &Part, last: u32) -> Option<u32>
-    requires stuck { IsStuckList instance.now left.now.cursors left.now.stuck }
+fn height_to_come(instance: &Instance, stuck: &Stuck, last: u32) -> Option<u32>
+    requires stuck { (c : List ℕ) × IsStuckList instance.now c stuck.now }
     requires keyed { IsKeyed instance.now.stacks.origin }
     requires higher { (v : ℕ) → height_of instance.now.stacks v ≤ last }
-    ensures { MatchOption result (IsLast last instance.now left.now.stuck)
-        (IsToCome last instance.now left.now.stuck) }
+    ensures height { MatchOption result (IsLast last instance.now stuck.now)
+        (IsToCome last instance.now stuck.now) }
+    ensures instance { IsInstance instance.now }
 {
-    let stuck = left.stuck.len();
-    if stuck == 0 {
+    let _units = instance.units();
+    if stuck.len() == 0 {
         return None;
     }
-    let _units = instance.units();
     let height = instance.stacks().height(0);
     if height >= last {
         return None;

@@ -65,15 +65,15 @@ fn job_for<W: Range>(board: &Board, pass: &mut Pass, own: Own<W>) -> Job<W>
 }
 
 /// Lets the workers of these jobs work, each in a thread of its own where one can be started.
-pub(crate) fn work_beside<'i, W: Range + Sync + Send, R: Threads + Sync, G: Gate + Sync>(
+pub(crate) fn work_beside<'i, 'x, W: Range + Sync + Send, R: Threads + Sync, G: Gate + Sync>(
     rt: &R,
     board: &Board<'i>,
-    shared: &Shared<'i, W>,
+    shared: &Shared<'i, 'x, W>,
     jobs: &mut [Job<W>],
     gate: &G,
 )
     requires board { instance_of board.now ≡ shared.now.instance.now }
-    requires index { IsIndexed shared.now.instance.now shared.now.index }
+    requires index { IsIndexed shared.now.instance.now shared.now.index.now }
     requires range { units_of shared.now.instance.now.family ≡ W.units }
     requires passes { All (λ job. IsHelper board.now job.0) jobs.old }
     requires len { length jobs.old < length shared.now.all.items }
@@ -90,7 +90,7 @@ pub(crate) fn work_beside<'i, W: Range + Sync + Send, R: Threads + Sync, G: Gate
         most,
         &|place: usize, job: &mut Job<W>|
             requires board { instance_of board.now ≡ shared.now.instance.now }
-            requires index { IsIndexed shared.now.instance.now shared.now.index }
+            requires index { IsIndexed shared.now.instance.now shared.now.index.now }
             requires range { units_of shared.now.instance.now.family ≡ W.units }
             requires pass { IsHelper board.now job.now.0 }
             requires place { place + 1 < length shared.now.all.items }
@@ -112,7 +112,7 @@ fn do_job<W: Range, G: Gate>(
     gate: &G,
 )
     requires board { instance_of board.now ≡ shared.now.instance.now }
-    requires index { IsIndexed shared.now.instance.now shared.now.index }
+    requires index { IsIndexed shared.now.instance.now shared.now.index.now }
     requires range { units_of shared.now.instance.now.family ≡ W.units }
     requires pass { IsHelper board.now job.old.0 }
     requires worker { worker < length shared.now.all.items }

@@ -2,26 +2,23 @@
 //! The board is a book under a lock, or words that they claim. Stacks may grow on the way.
 #![tactic(auto)]
 
-mod alone;
 mod attempts;
 mod claimed;
-mod crew;
-mod finishing;
 mod found;
 mod gate;
+mod gated;
 mod growing;
 mod jobs;
 mod locked;
+mod makers;
 mod opening;
-mod progress;
 mod rounding;
 mod searching;
 mod shared;
-mod stage_end;
-mod stages;
 mod tools;
 mod turns;
 mod words;
+mod workers;
 mod working;
 
 pub use claimed::sample_claimed;
@@ -29,5 +26,7 @@ pub use confluence_core::Run as Outcome;
 pub use gate::{Gate, NoGate};
 pub use growing::sample_grown;
 pub use locked::sample_locked;
+pub use makers::Makers;
 pub use opening::zeros_of;
 pub use words::work_claimed;
+pub use workers::Workers;

@@ -28,7 +28,7 @@ pub(crate) fn round_off<W: Range>(
     requires pass { IsOf board.now pass.old }
     requires idle { IsIdle pass.old }
     requires sole { IsSole pass.old }
-    requires index { IsIndexed shared.now.instance.now shared.now.index }
+    requires index { IsIndexed shared.now.instance.now shared.now.index.now }
     requires range { units_of shared.now.instance.now.family ≡ W.units }
     requires tools { AreTools shared.now.instance.now tools.old.reader tools.old.walker }
     requires worker { tools.old.worker < length shared.now.all.items }
@@ -62,7 +62,7 @@ fn pops_nothing<W: Range>(
     requires pass { IsOf board.now pass.old }
     requires idle { IsIdle pass.old }
     requires sole { IsSole pass.old }
-    requires index { IsIndexed shared.now.instance.now shared.now.index }
+    requires index { IsIndexed shared.now.instance.now shared.now.index.now }
     requires range { units_of shared.now.instance.now.family ≡ W.units }
     requires tools { AreTools shared.now.instance.now tools.old.reader tools.old.walker }
     requires worker { tools.old.worker < length shared.now.all.items }

@@ -28,7 +28,7 @@ pub(crate) fn search<W: Range>(
     requires board { instance_of board.now ≡ shared.now.instance.now }
     requires pass { IsOf board.now pass.old }
     requires idle { IsIdle pass.old }
-    requires index { IsIndexed shared.now.instance.now shared.now.index }
+    requires index { IsIndexed shared.now.instance.now shared.now.index.now }
     requires tools { AreTools shared.now.instance.now tools.old.reader tools.old.walker }
     requires known { unit < units_of shared.now.instance.now.family }
     requires pops { 1 ≤ pops }
@@ -40,7 +40,7 @@ pub(crate) fn search<W: Range>(
     ensures tools { AreTools shared.now.instance.now tools.new.reader tools.new.walker }
     ensures worker { tools.new.worker ≡ tools.old.worker }
 {
-    match &shared.index {
+    match shared.index {
         Some(index) => search_unit(board, pass, shared.instance, index, tools, unit),
         None => search_from(board, pass, shared.instance, tools, unit, pops),
     }
@@ -120,12 +120,12 @@ fn found(tried: Tried) -> Found
 /// Puts hints where a pop at this unit may have made events poppable: at each unit whose event
 /// shares a variable with it; for a walk, at its start.
 pub(crate) fn spread<W: Range>(shared: &Shared<W>, own: &mut Own<W>, unit: u32)
-    requires index { IsIndexed shared.now.instance.now shared.now.index }
+    requires index { IsIndexed shared.now.instance.now shared.now.index.now }
     requires range { units_of shared.now.instance.now.family ≡ W.units }
     requires known { unit < units_of shared.now.instance.now.family }
 {
     let _units = shared.instance.units();
-    match (&shared.index, shared.instance.family()) {
+    match (shared.index, shared.instance.family()) {
         (Some(index), Family::Listed(events)) => give_sharers(own, index, events.cube(unit)),
         _ => give(own, unit),
     }

@@ -4,11 +4,11 @@ use worker_hints::{Other, Range};
 
 /// What all workers on a board of claim words share.
 #[derive(Drop)]
-pub(crate) struct Shared<'s, W: Range> {
+pub(crate) struct Shared<'s, 'x, W: Range> {
     pub alloc: Global,
     pub instance: &'s Instance,
     /// For each variable the events that name it, of a listed family.
-    pub index: Option<Index>,
+    pub index: &'x Option<Index>,
     /// The deques of all workers, by their numbers.
     pub all: Vec<Other<W>>,
 }

@@ -3,20 +3,21 @@ ghost use Rattle.std.specs.Prelude.{◌≡◌, ◌<◌, ◌≤◌, length, All, 
 ghost use Rattle.pop_model.specs.Families.{units_of};
 ghost use Rattle.pop_model.specs.Runs.{IsEnd};
 ghost use Rattle.pop_stacks.specs.Readers.{Belongs};
+ghost use Rattle.pop_instance.specs.Index.{IsFamilyIndex};
 ghost use Rattle.claim_words.specs.Passes.{IsOf, IsIdle, IsHelper, IsSole, view, instance_of, opening_of};
 ghost use Rattle.claim_words.specs.TicketLogs.{vector};
 ghost use Rattle.pop_workers.specs.Attempts.{IsIndexed};
 ghost use Rattle.pop_workers.specs.Readers.{AreReadersOf};
 
-use crate::crew::Crew;
 use crate::jobs::{Jobs, hand_out, take_back, work_beside};
 use crate::rounding::round_off;
 use crate::shared::Shared;
 use crate::tools::Tools;
+use crate::workers::Workers;
 use crate::working::work;
 use crate::{Gate, NoGate};
 use claim_words::{Board, Pass};
-use pop_instance::Instance;
+use pop_instance::{Index, Instance};
 use pop_stacks::Reader;
 use std::alloc::{AllocError, Global};
 use std::marker::Brand;
@@ -53,26 +54,22 @@ pub fn work_claimed<'i, R: Threads + Sync, G: Gate + Sync>(
     ensures end { OnOk result
         (IsEnd instance.now (vector (opening_of board.now) (view pass.new).mine)) }
 {
+    let index = instance.index(alloc)?;
     let reader = Reader::keeping(alloc, instance.stacks())?;
-    let _kept = work_by(
-        alloc,
-        Crew { rt, gate, workers },
-        board,
-        pass,
-        instance,
-        reader,
-    )?;
+    let crew = Workers { rt, gate, workers };
+    let _kept = work_by(alloc, crew, board, pass, instance, &index, reader)?;
     Ok(())
 }
 
-/// The same, with the reader of worker 0. It comes back before those of the others, with what each
-/// of them keeps.
+/// The same, by the index of the family, and with the reader of worker 0. It comes back before those
+/// of the others, with what each of them keeps.
 pub(crate) fn work_by<'i, R: Threads + Sync, G: Gate + Sync>(
     alloc: Global,
-    crew: Crew<R, G>,
+    crew: Workers<R, G>,
     board: &Board<'i>,
     pass: &mut Pass,
     instance: &'i Instance,
+    index: &Option<Index>,
     reader: Reader,
 ) -> Result<Vec<Reader>, AllocError>
     requires board { instance_of board.now ≡ instance.now }
@@ -81,6 +78,7 @@ pub(crate) fn work_by<'i, R: Threads + Sync, G: Gate + Sync>(
     requires sole { IsSole pass.old }
     requires some { 0 < crew.workers }
     requires most { crew.workers ≤ 64 }
+    requires index { IsFamilyIndex instance.now.family index.now }
     requires belongs { Belongs instance.now.stacks reader }
     ensures pass { IsOf board.now pass.new }
     ensures idle { IsIdle pass.new }
@@ -89,16 +87,17 @@ pub(crate) fn work_by<'i, R: Threads + Sync, G: Gate + Sync>(
         (IsEnd instance.now (vector (opening_of board.now) (view pass.new).mine)) }
     ensures readers { IfOk result (λ readers. AreReadersOf instance.now.stacks readers.items) }
 {
-    work_over::<Brand, R, G>(alloc, crew, board, pass, instance, reader)
+    work_over::<Brand, R, G>(alloc, crew, board, pass, instance, index, reader)
 }
 
 // The same, where the number of units was picked.
 fn work_over<'i, W: Range + Send + Sync, R: Threads + Sync, G: Gate + Sync>(
     alloc: Global,
-    crew: Crew<R, G>,
+    crew: Workers<R, G>,
     board: &Board<'i>,
     pass: &mut Pass,
     instance: &'i Instance,
+    index: &Option<Index>,
     reader: Reader,
 ) -> Result<Vec<Reader>, AllocError>
     requires board { instance_of board.now ≡ instance.now }
@@ -108,6 +107,7 @@ fn work_over<'i, W: Range + Send + Sync, R: Threads + Sync, G: Gate + Sync>(
     requires some { 0 < crew.workers }
     requires most { crew.workers ≤ 64 }
     requires range { units_of instance.now.family ≡ W.units }
+    requires index { IsFamilyIndex instance.now.family index.now }
     requires belongs { Belongs instance.now.stacks reader }
     ensures pass { IsOf board.now pass.new }
     ensures idle { IsIdle pass.new }
@@ -117,7 +117,6 @@ fn work_over<'i, W: Range + Send + Sync, R: Threads + Sync, G: Gate + Sync>(
     ensures readers { IfOk result (λ readers. AreReadersOf instance.now.stacks readers.items) }
 {
     let deques: Vec<Own<W>> = deal_all(alloc, crew.workers, instance.units())?;
-    let index = instance.index(alloc)?;
     let shared = Shared {
         alloc,
         instance,
@@ -128,11 +127,11 @@ fn work_over<'i, W: Range + Send + Sync, R: Threads + Sync, G: Gate + Sync>(
 }
 
 // The same, with the deques of all workers.
-fn work_with<'i, W: Range + Send + Sync, R: Threads + Sync, G: Gate + Sync>(
-    crew: Crew<R, G>,
+fn work_with<'i, 'x, W: Range + Send + Sync, R: Threads + Sync, G: Gate + Sync>(
+    crew: Workers<R, G>,
     board: &Board<'i>,
     pass: &mut Pass,
-    shared: &Shared<'i, W>,
+    shared: &Shared<'i, 'x, W>,
     deques: Vec<Own<W>>,
     reader: Reader,
 ) -> Result<Vec<Reader>, AllocError>
@@ -140,7 +139,7 @@ fn work_with<'i, W: Range + Send + Sync, R: Threads + Sync, G: Gate + Sync>(
     requires pass { IsOf board.now pass.old }
     requires idle { IsIdle pass.old }
     requires sole { IsSole pass.old }
-    requires index { IsIndexed shared.now.instance.now shared.now.index }
+    requires index { IsIndexed shared.now.instance.now shared.now.index.now }
     requires range { units_of shared.now.instance.now.family ≡ W.units }
     requires len { length deques.items ≡ length shared.now.all.items }
     requires some { 0 < length deques.items }
@@ -154,7 +153,7 @@ fn work_with<'i, W: Range + Send + Sync, R: Threads + Sync, G: Gate + Sync>(
     ensures readers { IfOk result
         (λ readers. AreReadersOf shared.now.instance.now.stacks readers.items) }
 {
-    let Crew { rt, gate, .. } = crew;
+    let Workers { rt, gate, .. } = crew;
     let mut deques = deques;
     let first = deques.remove(0);
     let mut tools = Tools::with(shared.alloc, shared.instance, 0, reader)?;
@@ -168,7 +167,7 @@ fn work_with<'i, W: Range + Send + Sync, R: Threads + Sync, G: Gate + Sync>(
         &mut || work(board, pass, shared, &mut tools, own, gate),
         &mut ||
             requires board { instance_of board.now ≡ shared.now.instance.now }
-            requires index { IsIndexed shared.now.instance.now shared.now.index }
+            requires index { IsIndexed shared.now.instance.now shared.now.index.now }
             requires range { units_of shared.now.instance.now.family ≡ W.units }
             requires passes { All (λ job. IsHelper board.now job.0) others.now.items }
             requires len { length others.now.items < length shared.now.all.items }

@@ -38,7 +38,7 @@ pub(crate) fn work<W: Range, G: Gate>(
     requires board { instance_of board.now ≡ shared.now.instance.now }
     requires pass { IsOf board.now pass.old }
     requires idle { IsIdle pass.old }
-    requires index { IsIndexed shared.now.instance.now shared.now.index }
+    requires index { IsIndexed shared.now.instance.now shared.now.index.now }
     requires range { units_of shared.now.instance.now.family ≡ W.units }
     requires tools { AreTools shared.now.instance.now tools.old.reader tools.old.walker }
     requires worker { tools.old.worker < length shared.now.all.items }

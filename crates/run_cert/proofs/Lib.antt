@@ -16,10 +16,9 @@ pub mod Unrefused
 -- its certificate.
 pub mod AskedStacks
 pub mod PrintedCerts
--- Runs so far. StuckEvents: what the list of events that occur has. LegalReplays: the replay of a legal log doesn't stop.
--- Resumed: runs that go on come to the end of every run.
+-- Runs so far. StuckEvents: what the list of events that occur has. Resumed: runs that go on come to the end of every
+-- run.
 mod StuckEvents
-mod LegalReplays
 pub mod Resumed
 -- Worked values
 mod Vectors

@@ -1,14 +1,13 @@
 //! What is seen at cursors, and runs that are stopped after so many pops.
-ghost use Rattle.std.specs.Prelude.{◌≡◌, ◌↔◌, length, true, IfOk, IsTrue};
+ghost use Rattle.std.specs.Prelude.{◌≡◌, ◌↔◌, length, IfOk, IsTrue};
 ghost use Rattle.pop_model.specs.Stacks.{variables_of};
 ghost use Rattle.pop_model.specs.Popping.{AreWithin};
-ghost use Rattle.pop_model.specs.Runs.{IsStuckList, start_of};
+ghost use Rattle.pop_model.specs.Runs.{IsStuckList};
 ghost use Rattle.pop_stacks.specs.Readers.{Belongs};
-ghost use Rattle.confluence_core.specs.Runs.{IsPartOf};
 ghost use Rattle.run_cert.specs.Looks.{HasPoppable, IsLook, IsSeen, IsStopped};
 
 use crate::{Look, Part, Seen};
-use confluence_core::{End, Indexed, Keep, Run, Stuck, Terms, Units, occurring, run_until};
+use confluence_core::{Indexed, Keep, Reached, Stuck, occurring};
 use pop_instance::{Cursors, Instance};
 use pop_stacks::Reader;
 use std::alloc::{AllocError, Global};
@@ -61,41 +60,21 @@ pub fn look(alloc: Global, instance: &Instance, cursors: &Cursors) -> Result<See
     Ok(Seen { look, stuck })
 }
 
-// The run from zeros, to an end or to so many pops, with its log.
-fn run_logged(
-    alloc: Global,
-    instance: &Instance,
-    reader: &mut Reader,
-    limit: u64,
-) -> Result<Run, AllocError>
-    requires belongs { Belongs instance.now.stacks reader.old }
-    ensures run { IfOk result (IsPartOf instance.now (start_of instance.now) limit true) }
-    ensures reader { reader.new ≡ reader.old }
-{
-    let cursors = Cursors::zeros(alloc, instance.stacks().count())?;
-    let suspects = Units::all(alloc, instance.units())?;
-    let keep = Keep::Log;
-    let terms = Terms { limit, keep };
-    let index = instance.index(alloc)?;
-    let indexed = Indexed {
-        instance,
-        index: &index,
-    };
-    run_until(alloc, indexed, reader, cursors, suspects, terms)
-}
-
 /// The run from zeros on one thread, to an end or to so many pops.
 pub fn run_part(alloc: Global, instance: &Instance, limit: u64) -> Result<Part, AllocError>
     ensures part { IfOk result (IsStopped instance.now limit) }
     ensures count { IfOk result (λ part. variables_of instance.now.stacks ≡ length part.cursors) }
     ensures within { IfOk result (λ part. AreWithin instance.now.stacks part.cursors) }
 {
+    let opening = Reached::opening(alloc, instance, Keep::Log)?;
+    let index = instance.index(alloc)?;
+    let indexed = Indexed::of(instance, &index);
     let mut reader = Reader::keeping(alloc, instance.stacks())?;
-    let run = run_logged(alloc, instance, &mut reader, limit)?;
-    let Run { end, log } = run;
-    let End { cursors, stuck, .. } = end;
+    let reached = indexed.advance(alloc, &mut reader, opening, limit)?;
+    let stuck = indexed.stuck(alloc, &mut reader, &reached)?;
+    let look = look_of(instance, &mut reader, &reached.cursors, &stuck);
+    let Reached { cursors, log, .. } = reached;
     let Some(log) = log else { unreachable!() };
-    let look = look_of(instance, &mut reader, &cursors, &stuck);
     let seen = Seen { look, stuck };
     Ok(Part { cursors, log, seen })
 }

@@ -38,10 +38,9 @@ pub mod BatchEnds
 -- Statuses: which a text is answered by. FrontTexts: one refusal of a text past the limit and of its front.
 mod Statuses
 mod FrontTexts
--- Certificates. CertRefusals: how what they hold is refused. ReadToEnd: a source that was read whole. JoinedRuns: the run
--- of both parts. ReplayedCerts, ResumedCerts: what comes of those that are accepted.
+-- Certificates. CertRefusals: how what they hold is refused. ReadToEnd: a source that was read whole. ReplayedCerts,
+-- ResumedCerts: what comes of those that are accepted.
 mod CertRefusals
 mod ReadToEnd
-mod JoinedRuns
 mod ReplayedCerts
 mod ResumedCerts

@@ -1,5 +1,5 @@
 -- From the run of what is made to what comes of the job: its end, or its pause.
-use Rattle.std.proofs.Common.{inl, inr, ◌≡◌, ◌≢◌, ◌≤◌, ◌<◌, ℕ, true, false, List, length, None, Some, Result, Ok, Err, IfOk, refl, sym, ap, subst, ◌∙◌}
+use Rattle.std.proofs.Common.{inl, inr, ◌≡◌, ◌≢◌, ◌≤◌, ◌<◌, ℕ, Bool, true, false, if◌then◌else◌, List, [], length, Option, None, Some, Result, Ok, Err, IfOk, refl, sym, ap, subst, ◌∙◌, arith}
 use Rattle.std.proofs.Math.Nat.{eq-or-lt_of_le}
 use Rattle.pop_model.specs.Instances.{Instance, IsInstance}
 use Rattle.pop_model.specs.Logs.{LogRecord, IsLegal, replay}
@@ -8,8 +8,10 @@ use Rattle.pop_log.specs.Layers.{Placed}
 use Rattle.pop_log.specs.Layered.{AreSorted}
 use Rattle.pop_log.proofs.UnitEvents.{HaveCubes, family_cubes}
 use Rattle.pop_log.proofs.LayeredLaws.{layered_is_legal, placed_in_layers}
-use Rattle.pop_model.specs.Runs.{IsEnd, IsFirstEnd}
-use Rattle.pop_model.proofs.FirstRun.{FirstRunOf, first_run}
+use Rattle.pop_model.specs.Runs.{IsEnd}
+use Rattle.pop_model.specs.Stacks.{variables_of}
+use Rattle.pop_model.specs.Popping.{AreWithin}
+use Rattle.confluence_core.specs.Stretches.{IsReached, with_more}
 use Rattle.run_cert.specs.declared.part.Part.{Part}
 use Rattle.run_cert.specs.declared.look_kind.Look.TheVariants.{Open}
 use Rattle.run_cert.specs.Looks.{HasPoppable, IsSoFar, IsStopped}
@@ -147,17 +149,32 @@ pub full_part : (i : Instance) (limit pops : ℕ) (part : Part) → IsStopped i 
 full_part i limit pops part stopped same is =
     full (length part.log) limit stopped.most (λ less. stopped.fewer less is) ∙ same
 
--- a run to an end is that of the one-thread run, where the instance is extremal
-pub first_of_part : (i : Instance) (part : Part) → IsSoFar i part → IsEnd i part.cursors → IsExtremal i.family
-    → IsFirstEnd i part.cursors (length part.log) part.seen.stuck
-first_of_part i part run end extremal =
-    let start : List ℕ = start_of i in
-    let at : IsEnd i (replay start part.log) = subst (IsEnd i) run.cursors_are end in
-    let one : FirstRunOf i start part.log = first_run i extremal start part.log run.legal at in
-    record {
-      run = (one.first, one.run, run.cursors_are ∙ sym one.end, sym one.size);
-      stuck_list = run.seen.stuck_list;
-    }
+-- a log that is kept stands behind nothing
+kept_more : (keeps : Bool) (log : List LogRecord)
+    → (if keeps then Some log else None) ≡ with_more (if keeps then Some [] else None) log
+kept_more true log = refl
+kept_more false log = refl
+
+-- a run so far, at an end
+pub ended_part : (i : Instance) (part : Part) (keeps : Bool) (pops : ℕ) (kept : Option (List LogRecord))
+    → IsSoFar i part → IsEnd i part.cursors → variables_of i.stacks ≡ length part.cursors
+    → AreWithin i.stacks part.cursors → pops ≡ length part.log → kept ≡ (if keeps then Some part.log else None)
+    → IsReached i (start_of i) keeps (record { cursors = part.cursors; pops = pops; log = kept; suspects = [] })
+ended_part i part keeps pops kept so_far end count within pops_are kept_is = record {
+  leads = record {
+    log = part.log;
+    legal = so_far.legal;
+    cursors_are = so_far.cursors_are;
+    pops_are = omega (arith, pops_are);
+    log_is = kept_is ∙ kept_more keeps part.log;
+  };
+  can = record {
+    count = count;
+    within = within;
+    units = λ k d below. absurd (omega (arith, below));
+    suspects = λ e is poppable. absurd (end e is poppable);
+  };
+}
 
 -- a pause of what is made comes of the job
 paused_comes : (job : Job) (ws : List Watcher) (text : List ℕ) (facts : Facts) (i : Instance) (pops : ℕ)

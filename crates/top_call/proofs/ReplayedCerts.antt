@@ -1,11 +1,15 @@
 -- What comes of a certificate that is accepted, or refused, comes of the bytes that are it.
-use Rattle.std.proofs.Common.{inl, inr, ◌≡◌, ◌<◌, ℕ, List, [], length, Option, Some, Result, Err, IfErr, refl, sym, ap, subst, ◌∙◌, arith}
+use Rattle.std.proofs.Common.{inl, inr, ◌≡◌, ◌<◌, ℕ, List, [], length, Option, Some, Result, Ok, Err, IfOk, IfErr, IfSome, refl, sym, ap, subst, ◌∙◌, arith}
 use Rattle.std.specs.Result.{IsErrAnd, IsErrOf}
 use Rattle.std.proofs.lemmas.Result.{IfErr-weaker}
 use Rattle.pop_model.specs.Instances.{Instance}
 use Rattle.pop_edge.specs.declared.refusal.ReadRefusal.TheVariants.{Malformed as MalformedLine, Limit as PassedLimit}
 use Rattle.pop_print.specs.declared.facts.Facts.{Facts}
+use Rattle.pop_log.specs.LogVersions.{IsReadAs}
 use Rattle.pop_log.specs.Refusals.{IsLogRefusal}
+use Rattle.confluence_core.specs.declared.reached.Reached.{Reached}
+use Rattle.run_cert.specs.declared.look_kind.Look.{Look}
+use Rattle.run_cert.specs.Looks.{IsLook}
 use Rattle.run_cert.specs.Certificates.{Certificate}
 use Rattle.pop_watch.specs.Telling.{Watcher}
 use Rattle.top_call.specs.declared.accepted.Accepted.{Accepted}
@@ -20,7 +24,7 @@ use Rattle.top_call.specs.declared.answer.Answer.{Answer}
 use Rattle.top_call.specs.Results.{ComesRefused, IsResultOf, IsLogRefusalOf}
 use Rattle.top_call.specs.Replays.{cert_limit, job_of, ByLine, IsNoCert, IsNoRun, IsCertified, IsRefusedCert, IsRefused, HasLog, ComesOfReplaying}
 use Rattle.top_call.specs.Resumes.{ComesOfResuming}
-use Rattle.top_call.specs.Accepted.{IsHeldBy, IsAccepted}
+use Rattle.top_call.specs.Accepted.{IsHeldBy, IsAccepted, TellsReplay}
 use Rattle.top_call.specs.Answers.{ComesOf}
 use Rattle.top_call.proofs.Carrying.{refused, passed_on, refused_result}
 use Rattle.top_call.proofs.CertRefusals.{no_run, log_refused}
@@ -93,34 +97,46 @@ held_log cert a held = record {
   facts = a.facts;
   instance = a.instance;
   certified = held.certified;
-  log = a.part.log;
-  read = held.read;
+  log = held.run.leads.log;
+  read = subst (λ kept. IfSome kept (IsReadAs (names_for a.facts) a.instance cert.log_text)) held.run.leads.log_is held.read;
 }
+
+-- what is told of how its run stands
+pub look_told : {E : Type 0} (i : Instance) (reached : Reached) (look : Look) (r : Result Answer E)
+    → IsLook i reached.cursors look → IfOk r (λ a. a.status ≡ look_status look)
+    → IfOk r (λ a. a.text.items ≡ replay_text reached.pops reached.cursors look)
+    → IfOk r (λ a. TellsReplay i reached a.status a.text.items)
+look_told i reached look (Ok a) is status_is text_is =
+    record { look = look; is = is; status_is = status_is; text_is = text_is }
+look_told i reached look (Err e) is status_is text_is = tt
 
 -- what is told of its replay
 pub replay_told : (Line : ByLine) (bytes : List ℕ) (a : Accepted) (status : ℕ) (out : List ℕ) → IsAccepted bytes a
-    → status ≡ look_status a.part.seen.look
-    → out ≡ replay_text (length a.part.log) a.part.cursors a.part.seen.look
-    → AnswersBy (ComesOfReplaying Line bytes) status out
-replay_told Line bytes a status out h status_is out_is = (
-  Replayed a.instance a.part.cursors (length a.part.log) a.part.seen.look,
-  inr (record {
-    short = h.short;
-    cert = h.cert;
-    is = h.is;
-    comes = record {
-      has = held_log h.cert a h.held;
-      is = record {
-        cursors = a.part.cursors;
-        cursors_are = h.held.run.cursors_are;
-        look = a.part.seen.look;
-        is = h.held.run.seen.look;
-        told = refl;
-      };
-    };
-  }),
-  record { status_is = status_is; out_is = out_is },
-)
+    → TellsReplay a.instance a.reached status out → AnswersBy (ComesOfReplaying Line bytes) status out
+replay_told Line bytes a status out h told =
+    let leads = h.held.run.leads in
+    let size : a.reached.pops ≡ length leads.log = omega (arith, leads.pops_are) in (
+      Replayed a.instance a.reached.cursors (length leads.log) told.look,
+      inr (record {
+        short = h.short;
+        cert = h.cert;
+        is = h.is;
+        comes = record {
+          has = held_log h.cert a h.held;
+          is = record {
+            cursors = a.reached.cursors;
+            cursors_are = leads.cursors_are;
+            look = told.look;
+            is = told.is;
+            told = refl;
+          };
+        };
+      }),
+      record {
+        status_is = told.status_is;
+        out_is = told.text_is ∙ ap (λ n. replay_text n a.reached.cursors told.look) size;
+      },
+    )
 
 -- what refuses the bytes that were read refuses the text of the source
 pub read_result : {T : Type 0} (left left' : Option (List ℕ)) (text bytes input : List ℕ) (r : Result T Refusal)
@@ -149,13 +165,10 @@ resume_refused ws text r e is h =
 -- and the replay of what is read of the source is told of its text
 pub replay_result : (left left' : Option (List ℕ)) (text : List ℕ) (a : Accepted) (status : ℕ) (out : List ℕ)
     → left ≡ Some text → ((bytes : List ℕ) × IsReadTo cert_limit left left' bytes × IsAccepted bytes a)
-    → status ≡ look_status a.part.seen.look
-    → out ≡ replay_text (length a.part.log) a.part.cursors a.part.seen.look
-    → AnswersBy (ComesOfReplaying ComesOf text) status out
-replay_result left left' text a status out known (bytes, read, accepted) status_is out_is =
+    → TellsReplay a.instance a.reached status out → AnswersBy (ComesOfReplaying ComesOf text) status out
+replay_result left left' text a status out known (bytes, read, accepted) told =
     replay_told ComesOf text a status out
-    (read_accepted text left' bytes a (subst (λ l. IsReadTo cert_limit l left' bytes) known read) accepted) status_is
-    out_is
+    (read_accepted text left' bytes a (subst (λ l. IsReadTo cert_limit l left' bytes) known read) accepted) told
 
 -- a fault of the source that is passed on is one
 pub same_fault : {T U : Type 0} (r : Result T Refusal) (e : Refusal) → IsErrAnd r (λ x. x ≡ e)

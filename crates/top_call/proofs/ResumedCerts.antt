@@ -1,15 +1,17 @@
 -- The run of a certificate that goes on to an end comes of the bytes that are it: as the line of its command tells its
 -- end, and where that tells its log, with the log of both parts.
-use Rattle.std.proofs.Common.{inl, inr, ◌≡◌, ◌≢◌, ℕ, true, false, if◌then◌else◌, List, Option, None, Some, Result, IfOk, refl, sym, ap, subst, ◌∙◌}
+use Rattle.std.proofs.Common.{inl, inr, ◌≡◌, ◌≢◌, ℕ, Bool, true, false, if◌then◌else◌, List, [], ◌++◌, Option, None, Some, Result, IfOk, refl, sym, ap, subst, ◌∙◌}
 use Rattle.std.proofs.lemmas.Bool.{cases_Bool, false≢true}
-use Rattle.std.proofs.lemmas.Option.{none-some}
+use Rattle.std.proofs.lemmas.Option.{none-some, same_Some}
 use Rattle.std.proofs.lemmas.Result.{IfOk-weaker}
 use Rattle.pop_model.specs.Instances.{Instance}
 use Rattle.pop_model.specs.Extremal.{IsExtremal}
-use Rattle.pop_model.specs.Logs.{LogRecord}
+use Rattle.pop_model.specs.Logs.{LogRecord, IsLegal}
 use Rattle.pop_model.specs.Runs.{start_of}
+use Rattle.confluence_core.specs.declared.reached.Reached.{Reached}
 use Rattle.confluence_core.specs.declared.run.Run.{Run}
-use Rattle.confluence_core.specs.Runs.{IsRunOf}
+use Rattle.confluence_core.specs.Runs.{IsRunOf, ended}
+use Rattle.confluence_core.specs.Stretches.{GoesOn, IsReached, with_more}
 use Rattle.pop_words.specs.declared.command.Command.{Command}
 use Rattle.pop_words.specs.declared.command.Command.TheVariants.{Formula, Orient, Tree, Resample, Check, Make, Rounds, Replay, Resume}
 use Rattle.pop_words.specs.Options.{default_job}
@@ -34,6 +36,60 @@ use Rattle.top_call.proofs.Carrying.{answered}
 use Rattle.top_call.proofs.PausedComes.{end_comes, history_comes}
 use Rattle.top_call.proofs.ReplayedCerts.{held_log, read_accepted}
 use Rattle.top_call.proofs.Statuses.{resumed_status_is}
+
+-- with its log where it is to be kept, a run has come as far
+as_kept : (i : Instance) (start : List ℕ) (keeps : Bool) (reached : Reached) → IsReached i start true reached
+    → IsReached i start keeps (record reached { log = if keeps then reached.log else None })
+as_kept i start true reached is = is
+as_kept i start false reached is = record {
+  leads = record {
+    log = is.leads.log;
+    legal = is.leads.legal;
+    cursors_are = is.leads.cursors_are;
+    pops_are = is.leads.pops_are;
+    log_is = refl;
+  };
+  can = record {
+    count = is.can.count;
+    within = is.can.within;
+    units = is.can.units;
+    suspects = is.can.suspects;
+  };
+}
+
+pub kept_reached : (i : Instance) (start : List ℕ) (keeps : Bool) (reached : Reached) (kept : Option (List LogRecord))
+    → kept ≡ (if keeps then reached.log else None) → IsReached i start true reached
+    → IsReached i start keeps (record reached { log = kept })
+kept_reached i start keeps reached kept same is =
+    subst (λ (log : Option (List LogRecord)). IsReached i start keeps (record reached { log = log })) (sym same)
+    (as_kept i start keeps reached is)
+
+-- what goes on from there to an end is a run
+pub whole_run : (i : Instance) (keeps asked : Bool) (reached : Reached) (kept : Option (List LogRecord)) (whole : Run)
+    → kept ≡ (if keeps then reached.log else None) → IsReached i (start_of i) true reached → keeps ≡ asked
+    → ((start : List ℕ) → (b : Bool) → IsReached i start b (record reached { log = kept }) → IsRunOf i start b whole)
+    → IsRunOf i (start_of i) asked whole
+whole_run i keeps asked reached kept whole same is asks run =
+    subst (λ b. IsRunOf i (start_of i) b whole) asks
+    (run (start_of i) keeps (kept_reached i (start_of i) keeps reached kept same is))
+
+-- a log that is kept is that of both parts
+both_parts : (keeps : Bool) (log kept whole : Option (List LogRecord)) (first rest both : List LogRecord) → log ≡ Some first
+    → kept ≡ (if keeps then log else None) → whole ≡ with_more kept rest → whole ≡ Some both → both ≡ first ++ rest
+both_parts true log kept whole first rest both first_is same whole_is is =
+    same_Some both (first ++ rest) (sym is ∙ whole_is ∙ ap (λ k. with_more k rest) (same ∙ first_is))
+both_parts false log kept whole first rest both first_is same whole_is is =
+    absurd (none-some both (sym (whole_is ∙ ap (λ k. with_more k rest) same) ∙ is))
+
+-- so is that of a run that goes on from there
+pub goes_on_joined : (i : Instance) (keeps : Bool) (reached : Reached) (kept : Option (List LogRecord))
+    (is : IsReached i (start_of i) true reached) (whole : Run) → kept ≡ (if keeps then reached.log else None)
+    → GoesOn i (record reached { log = kept }) (ended whole) → IsJoinedLog i is.leads.log whole.log
+goes_on_joined i keeps reached kept is whole same on both both_is = (
+  on.leads.log,
+  both_parts keeps reached.log kept whole.log is.leads.log on.leads.log both is.leads.log_is same on.leads.log_is both_is,
+  subst (λ c. IsLegal i c on.leads.log) is.leads.cursors_are on.leads.legal,
+)
 
 -- the order of pops is free where a formula is resampled
 free_command : (k : Command) → has_free_order k ≡ true → k ≡ Resample
@@ -76,14 +132,14 @@ resumed_end cert a ws asked held is ordered o end =
     subst (λ q. IsEndOf q ws a.facts a.instance o) (held_asked cert a asked held is) end in
     record {
       has = held_log cert a held;
-      goes_on = end_goes_on a.part.log (asked_by job) ws a.facts a.instance refl o own;
+      goes_on = end_goes_on held.run.leads.log (asked_by job) ws a.facts a.instance refl o own;
       comes = end_comes cert.head.command job ws cert.input a.facts a.instance refl ordered refl held.certified.made o own;
     }
 
 -- its history
-resumed_history : (cert : Certificate) (a : Accepted) (ws : List Watcher) (asked : Asked) → IsHeldBy cert a
+resumed_history : (cert : Certificate) (a : Accepted) (ws : List Watcher) (asked : Asked) (held : IsHeldBy cert a)
     → asked ≡ asked_by (default_job a.command) → cert.head.command ≡ Resample → (log : List LogRecord)
-    → IsJoined a.instance a.part.log log → (o : Outcome) → IsHistoryWith log asked ws a.facts a.instance o
+    → IsJoined a.instance held.run.leads.log log → (o : Outcome) → IsHistoryWith log asked ws a.facts a.instance o
     → IsResumed ComesOf ws cert o
 resumed_history cert a ws asked held is free log joined o history =
     let job = job_of cert.head in
@@ -93,15 +149,15 @@ resumed_history cert a ws asked held is free log joined o history =
     subst (λ k. IsMade k (origin_for job) job.root cert.input a.facts a.instance) free held.certified.made in
     record {
       has = held_log cert a held;
-      goes_on = history_goes_on a.part.log log (asked_by job) ws a.facts a.instance joined o own;
+      goes_on = history_goes_on held.run.leads.log log (asked_by job) ws a.facts a.instance joined o own;
       comes = history_comes job ws cert.input a.facts a.instance free refl made o own.0;
     }
 
 -- the answer that tells it
 pub resumed_result : {E : Type 0} (cert : Certificate) (a : Accepted) (ws : List Watcher) (asked : Asked) (whole : Run)
-    (r : Result Answer E) → IsHeldBy cert a → asked ≡ asked_by (default_job a.command)
+    (r : Result Answer E) (held : IsHeldBy cert a) → asked ≡ asked_by (default_job a.command)
     → IsRunOf a.instance (start_of a.instance) (asks_for_log asked) whole
-    → IsJoinedLog a.instance a.part.log whole.log
+    → IsJoinedLog a.instance held.run.leads.log whole.log
     → (asked.free ≡ false → asked.count ≡ None → IsExtremal a.instance.family
     → IfOk r (λ x. AnswersBy (IsEndOf asked ws a.facts a.instance) x.status x.text.items))
     → (asked.free ≡ true → (log : List LogRecord) → whole.log ≡ Some log
@@ -112,9 +168,9 @@ resumed_result cert a ws asked whole r held is run joined ended history =
       | inl free ↦
           let command : a.command ≡ Resample = free_command a.command free in
           let keeps : asks_for_log asked ≡ true = ap asks_for_log is ∙ ap (λ k. asks_for_log (asked_by (default_job k))) command in
-          let log = run.run.log in
+          let log = run.reached.leads.log in
           let kept : whole.log ≡ Some log =
-          run.run.kept_is ∙ ap (λ b. if b then Some log else None) keeps in
+          run.reached.leads.log_is ∙ ap (λ b. with_more (if b then Some [] else None) log) keeps in
           IfOk-weaker r _ _ (λ x told. answered (IsHistoryWith log asked ws a.facts a.instance)
           (IsResumed ComesOf ws cert) x.status x.text.items
           (resumed_history cert a ws asked held is (sym held.command_is ∙ command) log (joined log kept)) told)

@@ -1,15 +1,19 @@
 -- A run as it is told: its end, and behind it what is asked for of its log, by the layered log.
-use Rattle.std.proofs.Common.{◌≡◌, ℕ, ◌++◌, Bool, true, false, ◌&&◌, ◌||◌, if◌then◌else◌, List, [], Option, None, Some, is_some, Result, Ok, Err, IfOk, length, zip, refl, sym, ap, ap₂, subst, ◌∙◌, append_assoc, true≢false}
+use Rattle.std.proofs.Common.{◌≡◌, ℕ, ◌++◌, Bool, true, false, ◌&&◌, ◌||◌, if◌then◌else◌, List, [], Option, None, Some, is_some, Result, Ok, Err, IfOk, length, zip, refl, sym, ap, ap₂, subst, ◌∙◌, append_assoc, true≢false, arith}
 use Rattle.std.proofs.lemmas.Bool.{or_parts}
 use Rattle.std.proofs.lemmas.List.{append-nil, length-map}
 use Rattle.std.proofs.lemmas.List.Sorted.{length_permutation}
+use Rattle.std.proofs.lemmas.Option.{none-some, same_Some}
 use Rattle.pop_model.specs.Families.{Event}
 use Rattle.pop_model.specs.Instances.{Instance, IsInstance}
 use Rattle.pop_model.specs.Extremal.{IsExtremal}
 use Rattle.pop_model.specs.Logs.{LogRecord, IsLegal, replay}
 use Rattle.pop_model.specs.Runs.{IsEnd, IsStuckList, IsFirstEnd, start_of}
 use Rattle.confluence_core.specs.Laws.{RunsToEnd}
-use Rattle.confluence_core.specs.Runs.{IsRun}
+use Rattle.confluence_core.specs.Runs.{IsRunOf}
+use Rattle.confluence_core.specs.Stretches.{with_more}
+use Rattle.confluence_core.specs.declared.run.Run.{Run}
+use Rattle.confluence_core.proofs.Reaching.{unsuspected_end}
 use Rattle.pop_log.specs.declared.names.Names.{Names}
 use Rattle.pop_log.specs.Layers.{Placed}
 use Rattle.pop_log.specs.Layered.{AreSorted, AreInLayers}
@@ -40,31 +44,41 @@ record IsLogTo (i : Instance) (log : List LogRecord) (cursors : List ℕ) (pops 
   there : cursors ≡ replay (start_of i) log
   size : pops ≡ length log
 
--- so does the log that a run kept
-log_to : (i : Instance) (run_log log : List LogRecord) (cursors : List ℕ) (pops : ℕ) (stuck : List Event)
-    → run_log ≡ log → IsLegal i (start_of i) run_log → cursors ≡ replay (start_of i) run_log → pops ≡ length run_log
-    → IsEnd i cursors → IsStuckList i cursors stuck → IsLogTo i log cursors pops stuck
-log_to i run_log log cursors pops stuck same legal cursors_are pops_are end list =
-    let there : cursors ≡ replay (start_of i) log = cursors_are ∙ ap (replay (start_of i)) same in
+-- so does the log of the pops by which a run came to its end
+log_of : (i : Instance) (keeps : Bool) (run : Run) (of : IsRunOf i (start_of i) keeps run)
+    → IsLogTo i of.reached.leads.log run.end.cursors run.end.pops run.end.stuck
+log_of i keeps run of =
+    let leads = of.reached.leads in
+    let end : IsEnd i run.end.cursors = unsuspected_end i run.end.cursors [] refl of.reached.can.suspects in
     record {
       leads = record {
-        legal = subst (IsLegal i (start_of i)) same legal;
-        end = subst (IsEnd i) there end;
-        stuck_list = subst (λ c. IsStuckList i c stuck) there list;
+        legal = leads.legal;
+        end = subst (IsEnd i) leads.cursors_are end;
+        stuck_list = subst (λ c. IsStuckList i c run.end.stuck) leads.cursors_are of.stuck_list;
       };
-      there = there;
-      size = pops_are ∙ ap (λ (l : List LogRecord). length l) same;
+      there = leads.cursors_are;
+      size = omega (arith, leads.pops_are);
     }
 
+-- a log that is kept is that of the pops
+kept_same : (keeps : Bool) (log kept : List LogRecord) → Some kept ≡ with_more (if keeps then Some [] else None) log
+    → log ≡ kept
+kept_same true log kept is = sym (same_Some kept log is)
+kept_same false log kept is = absurd (none-some kept (sym is))
+
+-- and where none is kept, none is to be
+unkept : (keeps : Bool) (log : List LogRecord) → None ≡ with_more (if keeps then Some [] else None) log
+    → keeps ≡ false
+unkept true log is = absurd (none-some log is)
+unkept false log is = refl
+
 -- the log that a run keeps leads to its end
-kept_log : (i : Instance) (keeps : Bool) (cursors : List ℕ) (pops : ℕ) (stuck : List Event)
-    (kept : Option (List LogRecord)) (log : List LogRecord) → kept ≡ Some log
-    → IsRun i (start_of i) keeps cursors pops stuck kept → IsLogTo i log cursors pops stuck
-kept_log i true cursors pops stuck kept log is run =
-    let kept_is = run.kept_is in
-    let same : run.log ≡ log = cc in
-    log_to i run.log log cursors pops stuck same run.legal run.cursors_are run.pops_are run.end run.stuck_list
-kept_log i false cursors pops stuck kept log is run = let kept_is = run.kept_is in absurd (cc)
+kept_log : (i : Instance) (keeps : Bool) (run : Run) (log : List LogRecord) → run.log ≡ Some log
+    → IsRunOf i (start_of i) keeps run → IsLogTo i log run.end.cursors run.end.pops run.end.stuck
+kept_log i keeps run log is of =
+    let leads = of.reached.leads in
+    subst (λ l. IsLogTo i l run.end.cursors run.end.pops run.end.stuck)
+    (kept_same keeps leads.log log (sym is ∙ leads.log_is)) (log_of i keeps run of)
 
 -- where no witness is asked for, none is told
 unasked : (w : Option (ℕ × ℕ)) → is_some w ≡ false → (names : Names) (cursors : List ℕ) (log : List LogRecord)
@@ -144,27 +158,27 @@ unprinted_behind names i placed printed text hidden =
     sym (append-nil text) ∙ ap (λ l. text ++ l) (unprinted names i placed printed [] hidden refl)
 
 -- what is told of the log that a run kept
-pub told_kept : (asked : Asked) (ws : List Watcher) (names : Names) (i : Instance) (keeps : Bool) (cursors : List ℕ)
-    (pops : ℕ) (stuck : List Event) (kept : Option (List LogRecord)) (log : List LogRecord) (missing : Bool)
-    (text : List ℕ) → kept ≡ Some log → IsRun i (start_of i) keeps cursors pops stuck kept
-    → TellsLog asked ws names i log missing text → TellsRun asked ws names i cursors pops stuck missing text
-told_kept asked ws names i keeps cursors pops stuck kept log missing text is run told =
-    let to = kept_log i keeps cursors pops stuck kept log is run in
+pub told_kept : (asked : Asked) (ws : List Watcher) (names : Names) (i : Instance) (keeps : Bool) (run : Run)
+    (log : List LogRecord) (missing : Bool) (text : List ℕ) → run.log ≡ Some log → IsRunOf i (start_of i) keeps run
+    → TellsLog asked ws names i log missing text
+    → TellsRun asked ws names i run.end.cursors run.end.pops run.end.stuck missing text
+told_kept asked ws names i keeps run log missing text is of told =
+    let to = kept_log i keeps run log is of in
     record { log = log; leads = to.leads; cursors_are = to.there; pops_are = to.size; told = told }
 
 -- and of one that it didn't keep, since nothing of it is asked for
-pub told_unkept : (asked : Asked) (ws : List Watcher) (names : Names) (i : Instance) (keeps : Bool) (cursors : List ℕ)
-    (pops : ℕ) (stuck : List Event) (kept : Option (List LogRecord)) (missing : Bool) (text : List ℕ)
-    → kept ≡ None → keeps ≡ asks_for_log asked → IsInstance i → IsRun i (start_of i) keeps cursors pops stuck kept
-    → missing ≡ false → text ≡ [] → TellsRun asked ws names i cursors pops stuck missing text
-told_unkept asked ws names i true cursors pops stuck kept missing text is asks instance run there empty =
-    let kept_is = run.kept_is in absurd (cc)
-told_unkept asked ws names i false cursors pops stuck kept missing text is asks instance run there empty =
-    let log : List LogRecord = run.log in
-    let parts = or_parts asked.log (looks_at_records asked) (sym asks) in
+pub told_unkept : (asked : Asked) (ws : List Watcher) (names : Names) (i : Instance) (keeps : Bool) (run : Run)
+    (missing : Bool) (text : List ℕ) → run.log ≡ None → keeps ≡ asks_for_log asked → IsInstance i
+    → IsRunOf i (start_of i) keeps run → missing ≡ false → text ≡ []
+    → TellsRun asked ws names i run.end.cursors run.end.pops run.end.stuck missing text
+told_unkept asked ws names i keeps run missing text is asks instance of there empty =
+    let leads = of.reached.leads in
+    let log : List LogRecord = leads.log in
+    let none = unkept keeps log (sym is ∙ leads.log_is) in
+    let parts = or_parts asked.log (looks_at_records asked) (sym asks ∙ none) in
     let order = layered_order log in
     let placed : List Placed = order.0 in
-    let to = log_to i log log cursors pops stuck refl run.legal run.cursors_are run.pops_are run.end run.stuck_list in
+    let to = log_of i keeps run of in
     record {
       log = log;
       leads = to.leads;
@@ -177,27 +191,27 @@ told_unkept asked ws names i false cursors pops stuck kept missing text is asks 
 
 -- the same of results, behind the text that was at hand
 pub kept_result : {E : Type 0} (asked : Asked) (ws : List Watcher) (names : Names) (i : Instance) (keeps : Bool)
-    (cursors : List ℕ) (pops : ℕ) (stuck : List Event) (kept : Option (List LogRecord)) (log : List LogRecord)
-    (before : List ℕ) (r : Result LogText E) → kept ≡ Some log → IsRun i (start_of i) keeps cursors pops stuck kept
+    (run : Run) (log : List LogRecord) (before : List ℕ) (r : Result LogText E) → run.log ≡ Some log
+    → IsRunOf i (start_of i) keeps run
     → IfOk r (λ t. GoesOn before (TellsLog asked ws names i log t.missing) t.bytes.items)
-    → IfOk r (λ t. GoesOn before (TellsRun asked ws names i cursors pops stuck t.missing) t.bytes.items)
-kept_result asked ws names i keeps cursors pops stuck kept log before (Ok t) is run on =
+    → IfOk r (λ t. GoesOn before (TellsRun asked ws names i run.end.cursors run.end.pops run.end.stuck t.missing)
+    t.bytes.items)
+kept_result asked ws names i keeps run log before (Ok t) is of on =
     record {
       told = on.told;
-      says = told_kept asked ws names i keeps cursors pops stuck kept log t.missing on.told is run on.says;
+      says = told_kept asked ws names i keeps run log t.missing on.told is of on.says;
       text_is = on.text_is;
     }
-kept_result asked ws names i keeps cursors pops stuck kept log before (Err e) is run on = tt
+kept_result asked ws names i keeps run log before (Err e) is of on = tt
 
 -- of a run that kept none, nothing is told behind it
-pub unkept_behind : (asked : Asked) (ws : List Watcher) (names : Names) (i : Instance) (keeps : Bool)
-    (cursors : List ℕ) (pops : ℕ) (stuck : List Event) (kept : Option (List LogRecord)) (before : List ℕ)
-    → kept ≡ None → keeps ≡ asks_for_log asked → IsInstance i → IsRun i (start_of i) keeps cursors pops stuck kept
-    → GoesOn before (TellsRun asked ws names i cursors pops stuck false) before
-unkept_behind asked ws names i keeps cursors pops stuck kept before is asks instance run =
+pub unkept_behind : (asked : Asked) (ws : List Watcher) (names : Names) (i : Instance) (keeps : Bool) (run : Run)
+    (before : List ℕ) → run.log ≡ None → keeps ≡ asks_for_log asked → IsInstance i → IsRunOf i (start_of i) keeps run
+    → GoesOn before (TellsRun asked ws names i run.end.cursors run.end.pops run.end.stuck false) before
+unkept_behind asked ws names i keeps run before is asks instance of =
     record {
       told = [];
-      says = told_unkept asked ws names i keeps cursors pops stuck kept false [] is asks instance run refl refl;
+      says = told_unkept asked ws names i keeps run false [] is asks instance of refl refl;
       text_is = sym (append-nil before);
     }
 
@@ -299,16 +313,16 @@ same_told asked ws names i log other before r same on =
 
 -- with the log that it kept
 pub told_history_with : (asked : Asked) (ws : List Watcher) (facts : Facts) (i : Instance) (names : Names)
-    (keeps : Bool) (cursors : List ℕ) (pops : ℕ) (stuck : List Event) (kept : Option (List LogRecord))
-    (log : List LogRecord) (missing : Bool) (status : ℕ) (text told out : List ℕ)
-    → IsInstance i → asked.free ≡ true → EndsWithin asked.pops pops → names ≡ names_for facts → kept ≡ Some log
-    → IsRun i (start_of i) keeps cursors pops stuck kept → TellsLog asked ws names i log missing told
-    → status ≡ (if asked.free && missing then 6 else end_status stuck) → text ≡ end_text facts i cursors pops stuck
-    → out ≡ text ++ told → AnswersBy (IsHistoryWith log asked ws facts i) status out
+    (keeps : Bool) (run : Run) (log : List LogRecord) (missing : Bool) (status : ℕ) (text told out : List ℕ)
+    → IsInstance i → asked.free ≡ true → EndsWithin asked.pops run.end.pops → names ≡ names_for facts
+    → run.log ≡ Some log → IsRunOf i (start_of i) keeps run → TellsLog asked ws names i log missing told
+    → status ≡ (if asked.free && missing then 6 else end_status run.end.stuck)
+    → text ≡ end_text facts i run.end.cursors run.end.pops run.end.stuck → out ≡ text ++ told
+    → AnswersBy (IsHistoryWith log asked ws facts i) status out
 unfolding told_history told_kept
-told_history_with asked ws facts i names keeps cursors pops stuck kept log missing status text told out is free within
-    names_are kept_is run of status_is text_is out_is =
-    let (o, comes, tells) = told_history asked ws facts i names cursors pops stuck missing status text told out is free
-    within names_are (told_kept asked ws names i keeps cursors pops stuck kept log missing told kept_is run of) status_is
-    text_is out_is in
-    (o, (comes, of.sorted), tells)
+told_history_with asked ws facts i names keeps run log missing status text told out is free within names_are kept_is of
+    tells status_is text_is out_is =
+    let (o, comes, said) = told_history asked ws facts i names run.end.cursors run.end.pops run.end.stuck missing status
+    text told out is free within names_are (told_kept asked ws names i keeps run log missing told kept_is of tells)
+    status_is text_is out_is in
+    (o, (comes, tells.sorted), said)

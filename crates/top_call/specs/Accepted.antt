@@ -1,28 +1,30 @@
 -- A certificate that is accepted: its log is legal.
-use Rattle.std.specs.Prelude.{◌≡◌, ◌≢◌, ℕ, ◌≤◌, List, length}
-use Rattle.pop_model.specs.Stacks.{variables_of}
-use Rattle.pop_model.specs.Popping.{AreWithin}
+use Rattle.std.specs.Prelude.{◌≡◌, ◌≢◌, ℕ, ◌≤◌, true, List, length, IfSome}
 use Rattle.pop_model.specs.Extremal.{IsExtremal}
+use Rattle.pop_model.specs.Runs.{start_of}
+use Rattle.pop_model.specs.Instances.{Instance}
+use Rattle.confluence_core.specs.declared.reached.Reached.{Reached}
+use Rattle.confluence_core.specs.Stretches.{IsReached}
 use Rattle.pop_log.specs.LogVersions.{IsReadAs}
 use Rattle.pop_words.specs.declared.command.Command.TheVariants.{Resample}
 use Rattle.pop_print.specs.Ends.{AreFactsOf}
 use Rattle.run_cert.specs.Certificates.{Certificate, IsCertOf}
-use Rattle.run_cert.specs.Looks.{IsSoFar}
+use Rattle.run_cert.specs.declared.look_kind.Look.{Look}
+use Rattle.run_cert.specs.Looks.{IsLook}
+use Rattle.top_call.specs.ReplayTexts.{look_status, replay_text}
 use Rattle.top_call.specs.declared.accepted.Accepted.{Accepted}
 use Rattle.top_call.specs.Names.{names_for}
 use Rattle.top_call.specs.Replays.{cert_limit, IsCertified}
 
 -- the certificate has this command, which runs this instance, told by these facts, and its log is
--- that of this part
+-- that by which the run has come so far from zeros
 pub record IsHeldBy (cert : Certificate) (a : Accepted) : Type 0 where
   pub command_is : a.command ≡ cert.head.command
   pub certified : IsCertified cert a.facts a.instance
-  pub read : IsReadAs (names_for a.facts) a.instance cert.log_text a.part.log
+  pub read : IfSome a.reached.log (IsReadAs (names_for a.facts) a.instance cert.log_text)
   pub told : AreFactsOf a.facts a.instance
   pub extremal : cert.head.command ≢ Resample → IsExtremal a.instance.family
-  pub run : IsSoFar a.instance a.part
-  pub count : variables_of a.instance.stacks ≡ length a.part.cursors
-  pub within : AreWithin a.instance.stacks a.part.cursors
+  pub run : IsReached a.instance (start_of a.instance) true a.reached
 
 -- the bytes are such a certificate
 pub record IsAccepted (bytes : List ℕ) (a : Accepted) : Type 0 where
@@ -30,3 +32,10 @@ pub record IsAccepted (bytes : List ℕ) (a : Accepted) : Type 0 where
   pub cert : Certificate
   pub is : IsCertOf bytes cert
   pub held : IsHeldBy cert a
+
+-- how the run stands where it has come is told so
+pub record TellsReplay (i : Instance) (reached : Reached) (status : ℕ) (text : List ℕ) : Type 0 where
+  pub look : Look
+  pub is : IsLook i reached.cursors look
+  pub status_is : status ≡ look_status look
+  pub text_is : text ≡ replay_text reached.pops reached.cursors look

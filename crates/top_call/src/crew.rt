@@ -1,12 +1,13 @@
 //! Who makes a run.
-ghost use Rattle.std.specs.Prelude.{◌≡◌, ◌<◌, ◌≤◌, length, Some, IfOk, OnOk};
+ghost use Rattle.std.specs.Prelude.{◌≡◌, ◌<◌, ◌≤◌, ℕ, Bool, List, length, Some, IfOk, OnOk};
 ghost use Rattle.pop_model.specs.Stacks.{IsKeyed, variables_of};
-ghost use Rattle.pop_model.specs.Popping.{AreWithin};
 ghost use Rattle.pop_model.specs.Instances.{instance_raised};
 ghost use Rattle.pop_model.specs.Extremal.{IsExtremal};
 ghost use Rattle.pop_model.specs.Runs.{start_of};
+ghost use Rattle.pop_instance.specs.Index.{IsFamilyIndex};
 ghost use Rattle.confluence_core.specs.Kept.{keeps_log};
-ghost use Rattle.confluence_core.specs.Runs.{IsRunOf};
+ghost use Rattle.confluence_core.specs.Runs.{IsRunOf, ended};
+ghost use Rattle.confluence_core.specs.Stretches.{GoesOn, HasCome, IsReached};
 ghost use Rattle.pop_batch.specs.Batches.{AreEnds};
 ghost use Rattle.prs_rounds.specs.Rounds.{IsRoundsEnd};
 ghost use Rattle.prs_rounds.specs.Units.{IsIndexOf};
@@ -14,11 +15,11 @@ ghost use Rattle.pop_print.specs.Rounds.{IsShownAt};
 ghost use Rattle.top_call.specs.Growing.{MayGrowTo, MayIndex};
 
 use crate::growing_instance::GrowingInstance;
-use confluence_core::{Indexed, Keep, run_from_zeros, run_indexed};
+use confluence_core::{Keep, Reached};
 use pop_batch::{Ends, batch};
-use pop_instance::{Cursors, Index, Instance};
+use pop_instance::{Index, Instance};
 use pop_words::BoardKind;
-use pop_workers::{Gate, Outcome, sample_claimed, sample_grown, sample_locked, zeros_of};
+use pop_workers::{Gate, Makers, Outcome, Workers, sample_grown};
 use prs_rounds::{RoundEnd, run_rounds};
 use std::alloc::{AllocError, Global};
 use std::marker::Model;
@@ -46,24 +47,19 @@ impl<'a, R, G> Model for Crew<'a, R, G> {
     ghost invariant = { λ a. (0 < a.workers) × (a.workers ≤ 64) };
 }
 
-// A run of the instance from zeros on this thread, by the index that is at hand, or a new one.
-fn run_alone(
+// The index of the family: the one that is at hand, or a new one.
+fn index_of(
     alloc: Global,
     instance: &Instance,
     at_hand: Option<Index>,
-    keep: Keep,
-) -> Result<Outcome, AllocError>
+) -> Result<Option<Index>, AllocError>
     requires { MayIndex instance.now.family at_hand }
-    ensures { IfOk result (IsRunOf instance.now (start_of instance.now) (keeps_log keep)) }
+    ensures { IfOk result (IsFamilyIndex instance.now.family) }
 {
-    if at_hand.is_none() {
-        return run_from_zeros(alloc, instance, keep);
+    match at_hand {
+        Some(index) => Ok(Some(index)),
+        None => instance.index(alloc),
     }
-    let indexed = Indexed {
-        instance,
-        index: &at_hand,
-    };
-    run_indexed(alloc, indexed, keep)
 }
 
 impl<'a, R: Threads + Wait + Sync, G: Gate + Sync> Crew<'a, R, G> {
@@ -92,47 +88,20 @@ impl<'a, R: Threads + Wait + Sync, G: Gate + Sync> Crew<'a, R, G> {
         ensures instance { IfOk result (λ ran. ran.1 ≡ growing) }
         ensures run { IfOk result (λ ran. IsRunOf ran.1 (start_of ran.1) (keeps_log keep) ran.0) }
     {
-        let (instance, last, index) = growing.into_parts();
+        let (mut instance, last, index) = growing.into_parts();
         match last {
-            None => self.run_whole(alloc, instance, index, keep),
+            None => {
+                let opening = Reached::opening(alloc, &instance, keep)?;
+                let run = self.finish(alloc, &instance, index, opening)?;
+                Ok((run, instance))
+            }
             Some(last) => {
                 // Stages build their own.
                 drop(index);
-                self.run_grown(alloc, instance, last, keep)
+                let run = self.run_in_stages(alloc, &mut instance, last, keep)?;
+                Ok((run, instance))
             }
         }
-    }
-
-    // A run of the instance from zeros at its height, and the instance.
-    fn run_whole(
-        &self,
-        alloc: Global,
-        instance: Instance,
-        index: Option<Index>,
-        keep: Keep,
-    ) -> Result<(Outcome, Instance), AllocError>
-        requires index { MayIndex instance.family index }
-        ensures instance { IfOk result (λ ran. ran.1 ≡ instance) }
-        ensures run { IfOk result (λ ran. IsRunOf ran.1 (start_of ran.1) (keeps_log keep) ran.0) }
-    {
-        let run = self.run_at_once(alloc, &instance, index, keep)?;
-        Ok((run, instance))
-    }
-
-    // A run of the instance in stages, and the instance at the last height.
-    fn run_grown(
-        &self,
-        alloc: Global,
-        mut instance: Instance,
-        last: u32,
-        keep: Keep,
-    ) -> Result<(Outcome, Instance), AllocError>
-        requires { MayGrowTo (Some last) instance.stacks }
-        ensures instance { IfOk result (λ ran. ran.1 ≡ instance_raised last instance) }
-        ensures run { IfOk result (λ ran. IsRunOf ran.1 (start_of ran.1) (keeps_log keep) ran.0) }
-    {
-        let run = self.run_in_stages(alloc, &mut instance, last, keep)?;
-        Ok((run, instance))
     }
 
     // A run of the instance in stages to an end at the last height, which the instance has then,
@@ -155,46 +124,28 @@ impl<'a, R: Threads + Wait + Sync, G: Gate + Sync> Crew<'a, R, G> {
         Ok(run)
     }
 
-    // A run of the instance from zeros. One worker makes it alone, behind the gate and with no
-    // board. It goes by the index that is at hand; several build their own, without it.
-    fn run_at_once(
+    /// Goes on with a run of the instance to an end, and tells it, by the index that is at hand, or
+    /// a new one. One worker makes it alone, behind the gate and with no board; several claim
+    /// words, or share a book under a lock.
+    pub fn finish(
         &self,
         alloc: Global,
         instance: &Instance,
-        index: Option<Index>,
-        keep: Keep,
+        at_hand: Option<Index>,
+        reached: Reached,
     ) -> Result<Outcome, AllocError>
-        requires index { MayIndex instance.now.family index }
-        ensures { IfOk result (IsRunOf instance.now (start_of instance.now) (keeps_log keep)) }
+        requires index { MayIndex instance.now.family at_hand }
+        requires reached { HasCome instance.now reached }
+        ensures on { IfOk result (λ run. GoesOn instance.now reached (ended run)) }
+        ensures run { (start : List ℕ) → (keeps : Bool) → IsReached instance.now start keeps reached
+            → IfOk result (IsRunOf instance.now start keeps) }
     {
-        if self.workers == 1 {
-            self.gate.at(0, 0);
-            return run_alone(alloc, instance, index, keep);
-        }
-        drop(index);
-        let zeros = zeros_of(alloc, instance)?;
-        self.run_from(alloc, instance, &zeros, keep)
-    }
-
-    /// A run of the instance from these cursors, which are below the heights, to an end. One worker
-    /// makes it alone, behind the gate and with no board; several claim words, or share a book
-    /// under a lock.
-    pub fn run_from(
-        &self,
-        alloc: Global,
-        instance: &Instance,
-        from: &Cursors,
-        keep: Keep,
-    ) -> Result<Outcome, AllocError>
-        requires count { variables_of instance.now.stacks ≡ length from.now }
-        requires within { AreWithin instance.now.stacks from.now }
-        ensures { IfOk result (IsRunOf instance.now from.now (keeps_log keep)) }
-    {
+        let index = index_of(alloc, instance, at_hand)?;
         let (rt, gate, workers) = (self.rt, self.gate, self.workers);
-        match self.board {
-            BoardKind::Words => sample_claimed(rt, alloc, instance, from, workers, keep, gate),
-            BoardKind::Lock => sample_locked(rt, alloc, instance, from, workers, keep, gate),
-        }
+        let workers = Workers { rt, gate, workers };
+        let claimed = self.board == BoardKind::Words;
+        let makers = Makers::with(alloc, instance, index, workers, claimed)?;
+        makers.run(alloc, instance, reached)
     }
 
     /// The ends of so many samples of the instance under a key. Each is run on one thread, beside

@@ -1,17 +1,13 @@
 //! Runs that stop at a limit, looks at what they leave, and runs over shared parts.
-ghost use Rattle.std.specs.Prelude.{◌≡◌, ◌<◌, length, All, IfOk};
+ghost use Rattle.std.specs.Prelude.{◌≡◌, length, IfOk};
 ghost use Rattle.pop_model.specs.Stacks.{variables_of};
 ghost use Rattle.pop_model.specs.Popping.{AreWithin};
-ghost use Rattle.pop_model.specs.Families.{units_of};
-ghost use Rattle.confluence_core.specs.Runs.{IsEndOver, MissesNone};
+ghost use Rattle.confluence_core.specs.Runs.{IsEndOver};
 
 use super::{Case, Want, is_end};
 use crate::compare::{same, same_at};
-use confluence_core::{
-    End, Indexed, Keep, Run, Terms, Units, first_poppable, occurring, run_events, run_first,
-    run_until,
-};
-use pop_instance::{Cursors, Family, Index, Instance, Values};
+use confluence_core::{Alone, End, Keep, Reached, Run, first_poppable, occurring, run_first};
+use pop_instance::{Cursors, Instance, Values};
 use pop_stacks::Reader;
 use std::alloc::{AllocError, Global};
 use std::process::Abort;
@@ -34,34 +30,14 @@ fn two_events(alloc: Global) -> Result<Instance, Fail> {
     listed(alloc, TWO_EVENTS.rows, TWO_EVENTS.events)
 }
 
-// The cursors before any pop, and all units as suspects there.
-fn opening(alloc: Global, instance: &Instance) -> Result<(Cursors, Units), AllocError>
-    ensures count { IfOk result (λ r. variables_of instance.now.stacks ≡ length r.0) }
-    ensures within { IfOk result (λ r. AreWithin instance.now.stacks r.0) }
-    ensures units { IfOk result (λ r. All (λ u. u < units_of instance.now.family) r.1) }
-    ensures suspects { IfOk result (λ r. MissesNone instance.now r.0 r.1) }
-{
-    let zeros = Cursors::zeros(alloc, instance.stacks().count())?;
-    let suspects = Units::all(alloc, instance.units())?;
-    Ok((zeros, suspects))
-}
-
-// A run from zeros with every unit a suspect, to this many pops.
+// A run from zeros to this many pops.
 fn run_to(alloc: Global, instance: &Instance, limit: u64) -> Result<Run, AllocError>
-    ensures count { IfOk result (λ run.
-        variables_of instance.now.stacks ≡ length run.end.cursors) }
-    ensures within { IfOk result (λ run. AreWithin instance.now.stacks run.end.cursors) }
+    ensures over { IfOk result (λ run. IsEndOver instance.now.stacks run.end) }
 {
-    let index = instance.index(alloc)?;
-    let indexed = Indexed {
-        instance,
-        index: &index,
-    };
-    let keep = Keep::Log;
-    let terms = Terms { limit, keep };
-    let (zeros, suspects) = opening(alloc, instance)?;
-    let mut reader = Reader::new(instance.stacks());
-    run_until(alloc, indexed, &mut reader, zeros, suspects, terms)
+    let opening = Reached::opening(alloc, instance, Keep::Log)?;
+    let mut alone = Alone::of(alloc, instance)?;
+    let reached = alone.advance(alloc, instance, opening, limit)?;
+    alone.tell(alloc, instance, reached)
 }
 
 // Whether an event is poppable at cursors.
@@ -157,14 +133,12 @@ fn an_end_has_the_values_at_its_cursors(rt: HostRuntime) -> Result<(), Fail> {
 
 // Compares the end of a run by an index that is made apart.
 fn ends_by_index(rt: &impl Abort, alloc: Global, instance: &Instance) -> Result<(), Fail> {
-    let _units = instance.units();
-    let stacks = instance.stacks();
-    let Family::Listed(events) = instance.family() else {
-        panic!(rt; "a listed family");
-    };
-    let index = Index::build(alloc, events, stacks.count())?;
-    let end = run_events(alloc, stacks, events, &index)?;
-    is_end(rt, &end, stacks.count(), &TWO_EVENTS.want);
+    let index = instance.index(alloc)?;
+    let mut alone = Alone::with(alloc, instance, index)?;
+    let opening = Reached::opening(alloc, instance, Keep::Nothing)?;
+    let reached = alone.finish(alloc, instance, opening)?;
+    let run = alone.tell(alloc, instance, reached)?;
+    is_end(rt, &run.end, instance.stacks().count(), &TWO_EVENTS.want);
     Ok(())
 }
 

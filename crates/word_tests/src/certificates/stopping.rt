@@ -4,10 +4,10 @@ ghost use Rattle.std.specs.Prelude.{◌≡◌, length};
 use super::paused::{INPUT, LOG_TEXT, TEXT, is_it};
 use super::printed::job_of;
 use super::{looks_at, same_at, same_bytes};
-use pop_instance::{Cube, Events, Family, Instance};
-use pop_log::{LogRefusal, Names, print_layered};
+use pop_instance::{Cube, Cursors, Events, Family, Instance};
+use pop_log::{LogRefusal, Names, print_layered, read_run};
 use pop_stacks::{Rows, StackSpec, Stacks, Weights};
-use run_cert::{Look, Part, print_cert, read_cert, read_part, run_part};
+use run_cert::{Look, look, print_cert, read_cert, run_part};
 use std::alloc::Global;
 use std::process::Abort;
 use std::test::Fail;
@@ -46,15 +46,22 @@ static LIMITS: [(u64, u64, Look, u64); 5] = [
 
 // Compares how a run of the one variable stands: the records of its log, which are as many as the
 // popped entries, and its look.
-fn stands(rt: &impl Abort, part: &Part, count: u32, wanted: (u64, Look), place: u64)
-    requires { count ≡ length part.now.cursors }
+fn stands(
+    rt: &impl Abort,
+    cursors: &Cursors,
+    count: u32,
+    found: (u64, Look),
+    wanted: (u64, Look),
+    place: u64,
+)
+    requires { count ≡ length cursors.now }
 {
     let (pops, look) = wanted;
-    same_at(rt, part.log.len(), pops, "records", place);
+    same_at(rt, found.0, pops, "records", place);
     assert!(rt; 0 < count);
-    let popped = part.cursors.get(0) as u64;
+    let popped = cursors.get(0) as u64;
     same_at(rt, popped, pops, "popped entries", place);
-    looks_at(rt, part.seen.look, look, place);
+    looks_at(rt, found.1, look, place);
 }
 
 // Compares what a run to a limit leaves.
@@ -67,7 +74,9 @@ fn leaves(
 ) -> Result<(), Fail> {
     let (pops, look, stuck) = wanted;
     let part = run_part(alloc, instance, limit)?;
-    stands(rt, &part, instance.stacks().count(), (pops, look), limit);
+    let found = (part.log.len(), part.seen.look);
+    let count = instance.stacks().count();
+    stands(rt, &part.cursors, count, found, (pops, look), limit);
     same_at(rt, part.seen.stuck.len(), stuck, "stuck events", limit);
     Ok(())
 }
@@ -139,8 +148,10 @@ fn tells(
     text: &[u8],
     wanted: (u64, Look),
 ) -> Result<(), Fail> {
-    let part = read_part(alloc, instance, &Names::Plain, text)?;
-    stands(rt, &part, instance.stacks().count(), wanted, wanted.0);
+    let run = read_run(alloc, instance, &Names::Plain, text)?;
+    let found = (run.pops, look(alloc, instance, &run.cursors)?.look);
+    let count = instance.stacks().count();
+    stands(rt, &run.cursors, count, found, wanted, wanted.0);
     Ok(())
 }
 
@@ -161,7 +172,7 @@ fn a_log_text_tells_how_a_run_stands(rt: HostRuntime) -> Result<(), Fail> {
 
 // Reads a log text whose first record isn't legal.
 fn is_refused(rt: &impl Abort, alloc: Global, instance: &Instance, text: &[u8]) {
-    match read_part(alloc, instance, &Names::Plain, text) {
+    match read_run(alloc, instance, &Names::Plain, text) {
         Ok(_) => panic!(rt; "a legal log"),
         Err(refusal) => assert!(rt; matches!(refusal, LogRefusal::NotLegal(0))),
     }

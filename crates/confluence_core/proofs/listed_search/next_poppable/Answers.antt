@@ -1,8 +1,9 @@
-use Rattle.std.proofs.Common.{refl, sym, subst, ◌∙◌, arith}
+use Rattle.std.proofs.Common.{refl, sym, ap, subst, ◌∙◌, arith}
 use Rattle.std.proofs.lemmas.Bool.{false≢true}
 use Rattle.pop_model.specs.Popping.{IsPoppable}
 use Rattle.confluence_core.specs.Search.{Covers}
-use Rattle.confluence_core.proofs.Covering.{covers_rest, covers_none}
+use Rattle.confluence_core.specs.WorkList.{Waiting}
+use Rattle.confluence_core.proofs.Covering.{covers_rest}
 use Rattle.confluence_core.proofs.listed_search.next_poppable.Goals as goal
 
 pub returns-then-poppable-clause-next : goal.returns-then-poppable-clause-next
@@ -31,7 +32,8 @@ loop-unit-preserved c =
     }
 
 pub returns-clause-next : goal.returns-clause-next
-returns-clause-next c =
-    covers_none c.args.stacks.now c.args.cursors.now c.args.events.now
-    (subst (Covers c.args.stacks.now c.args.cursors.now c.args.events.now) c.in_default.ensures.0
-    c.loop-unit.invariant.covers)
+returns-clause-next c = (
+  ap (λ (w : Waiting). w.list) c.in_default.ensures.1 ∙ c.in_default.ensures.0,
+  subst (λ (w : Waiting). Covers c.args.stacks.now c.args.cursors.now c.args.events.now w.list)
+      (sym c.in_default.ensures.1) c.loop-unit.invariant.covers,
+)

@@ -3,4 +3,4 @@ use Rattle.pop_workers.proofs.words.work_over.Goals as goal
 
 pub work_with-requires-clause-index : goal.work_with-requires-clause-index
 work_with-requires-clause-index g c κs within =
-    indexed c.args.instance.now c.in_ok-index.index c.in_ok-index.ensures
+    indexed c.args.instance.now c.args.index.now c.requires.index

@@ -1,4 +1,4 @@
-use Rattle.std.proofs.Common.{sym, subst}
+use Rattle.std.proofs.Common.{IfSome, sym, subst}
 use Rattle.pop_model.specs.Instances.{Instance}
 use Rattle.pop_model.specs.Extremal.{IsExtremal}
 use Rattle.pop_stacks.specs.Tables.{origin_of}
@@ -20,22 +20,22 @@ returns-in_err-made-clause-refused c =
     c.from_residual.ensures.1 (line_refused ComesOf c.args.cert.now c.in_err-made.field-0.0 c.in_err-made.ensures.refused)
 
 -- so does what refuses its log text
-pub returns-in_err-part-clause-refused : goal.returns-in_err-part-clause-refused
-returns-in_err-part-clause-refused c =
+pub returns-in_err-reached-clause-refused : goal.returns-in_err-reached-clause-refused
+returns-in_err-reached-clause-refused c =
     let cert = c.args.cert.now in
     let facts = c.in_ok-made.made.facts in
     let i = c.raised-instance.result in
     let certified : IsCertified cert facts i = record {
       made = subst (λ (i : Instance). IsMade cert.head.command (origin_of cert.head.stacks cert.head.height)
           cert.head.root cert.input facts i) (sym c.raised-instance.ensures) c.in_ok-made.ensures.made;
-      is = c.part_of.ensures.instance;
-      numbers = c.part_of.ensures.numbers;
+      is = c.run_of.ensures.instance;
+      numbers = c.run_of.ensures.numbers;
     } in
-    refused_as (IsRefusedCert ComesOf cert) c.from_residual-in_err-part.result c.in_err-part.field-0.0
-    c.from_residual-in_err-part.ensures.1
-    (text_refused ComesOf cert facts i c.in_err-part.field-0.0 certified
-    (subst (λ text. IsLogRefusalOf (IsLogRefusal (names_for facts) i text) c.in_err-part.field-0.0) c.log_text.ensures
-    c.in_err-part.ensures.refused))
+    refused_as (IsRefusedCert ComesOf cert) c.from_residual-in_err-reached.result c.in_err-reached.field-0.0
+    c.from_residual-in_err-reached.ensures.1
+    (text_refused ComesOf cert facts i c.in_err-reached.field-0.0 certified
+    (subst (λ text. IsLogRefusalOf (IsLogRefusal (names_for facts) i text) c.in_err-reached.field-0.0) c.log_text.ensures
+    c.in_err-reached.ensures.refused))
 
 -- what the certificate holds
 pub returns-clause-held : goal.returns-clause-held
@@ -45,15 +45,14 @@ returns-clause-held c = record {
     made = subst (λ (i : Instance). IsMade c.args.cert.now.head.command
         (origin_of c.args.cert.now.head.stacks c.args.cert.now.head.height) c.args.cert.now.head.root c.args.cert.now.input
         c.in_ok-made.made.facts i) (sym c.raised-instance.ensures) c.in_ok-made.ensures.made;
-    is = c.part_of.ensures.instance;
-    numbers = c.part_of.ensures.numbers;
+    is = c.run_of.ensures.instance;
+    numbers = c.run_of.ensures.numbers;
   };
-  read = subst (λ text. IsReadAs (names_for c.in_ok-made.made.facts) c.raised-instance.result text c.in_ok-part.part.log)
-      c.log_text.ensures c.in_ok-part.ensures.read;
+  read = subst (λ text. IfSome c.in_ok-reached.reached.log
+      (IsReadAs (names_for c.in_ok-made.made.facts) c.raised-instance.result text)) c.log_text.ensures
+      c.in_ok-reached.ensures.read;
   told = subst (AreFactsOf c.in_ok-made.made.facts) (sym c.raised-instance.ensures) c.in_ok-made.ensures.told;
   extremal = λ ordered. subst (λ (i : Instance). IsExtremal i.family) (sym c.raised-instance.ensures)
       (c.in_ok-made.ensures.extremal ordered);
-  run = c.in_ok-part.ensures.run;
-  count = c.in_ok-part.ensures.count;
-  within = c.in_ok-part.ensures.within;
+  run = c.in_ok-reached.ensures.run;
 }

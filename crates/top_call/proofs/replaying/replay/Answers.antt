@@ -12,12 +12,17 @@ returns-in_err-accepted-clause-answer g c text known failed =
     (λ is. failed (same_fault c.from_residual.result c.in_err-accepted.field-0.0 c.from_residual.ensures.1 is)))
 
 -- or its log is legal
+pub tell_accepted-requires : goal.tell_accepted-requires
+tell_accepted-requires g c =
+    let (bytes, read, accepted) = c.in_ok-accepted.ensures.accepted in accepted.held.run.can
+
 pub returns-clause-answer : goal.returns-clause-answer
 returns-clause-answer g c text known failed =
     replay_result (g.S.Source.left c.args.source.now) (g.S.Source.left c.read_accepted.new.source) text
     c.in_ok-accepted.accepted c.in_ok-tell_accepted.field-0.status c.in_ok-tell_accepted.field-0.text.items known
-    c.in_ok-accepted.ensures.accepted c.in_ok-tell_accepted.ensures.status c.in_ok-tell_accepted.ensures.text
+    c.in_ok-accepted.ensures.accepted c.in_ok-tell_accepted.ensures
 
 pub returns-clause-status : goal.returns-clause-status
 returns-clause-status g c =
-    subst IsTextStatus (sym c.in_ok-tell_accepted.ensures.status) (look_status_is c.in_ok-accepted.accepted.part.seen.look)
+    let told = c.in_ok-tell_accepted.ensures in
+    subst IsTextStatus (sym told.status_is) (look_status_is told.look)

@@ -1,14 +1,36 @@
-use Rattle.std.proofs.Common.{subst}
 use Rattle.pop_model.specs.Runs.{start_of}
-use Rattle.confluence_core.specs.Runs.{IsRunOf}
-use Rattle.top_call.proofs.ResumedCerts.{resumed_result}
+use Rattle.confluence_core.specs.Kept.{keeps_log}
+use Rattle.top_call.specs.Tellings.{asks_for_log}
+use Rattle.top_call.proofs.ResumedCerts.{kept_reached, whole_run, goes_on_joined, resumed_result}
 use Rattle.top_call.proofs.resuming.go_on.Goals as goal
+
+-- the certificate's run has come so far, with its log where it is to be kept
+pub finish-requires-clause-reached : goal.finish-requires-clause-reached
+finish-requires-clause-reached g c κs within =
+    let a = c.args.accepted in
+    let start = start_of a.instance in
+    let keeps = keeps_log c.keep.result in
+    let (cert, held) = c.requires.held in
+    (start, keeps, kept_reached a.instance start keeps a.reached c.kept-log.result c.kept-log.ensures held.run)
+
+-- so what it goes on to is a run
+pub tell_end-requires-clause-run : goal.tell_end-requires-clause-run
+tell_end-requires-clause-run g c =
+    let a = c.args.accepted in
+    let (cert, held) = c.requires.held in
+    whole_run a.instance (keeps_log c.keep.result) (asks_for_log c.of_line-asked.result) a.reached c.kept-log.result
+    c.in_ok-whole.whole c.kept-log.ensures held.run c.keep.ensures c.in_ok-whole.ensures.run
 
 -- the end of both parts is told as the line of the certificate's command tells it
 pub returns : goal.returns
 returns g c cert held =
-    let i = c.args.accepted.instance in
-    resumed_result cert c.args.accepted _ c.of_line-asked.result c.in_ok-whole.whole c.tell_end.result held
-    c.of_line-asked.ensures
-    (subst (λ keeps. IsRunOf i (start_of i) keeps c.in_ok-whole.whole) c.keep.ensures c.in_ok-whole.ensures.run)
-    c.in_ok-whole.ensures.log c.tell_end.ensures.ended c.tell_end.ensures.kept
+    let a = c.args.accepted in
+    let asked = c.of_line-asked.result in
+    let keeps = keeps_log c.keep.result in
+    let whole = c.in_ok-whole.whole in
+    resumed_result cert a _ asked whole c.tell_end.result held c.of_line-asked.ensures
+    (whole_run a.instance keeps (asks_for_log asked) a.reached c.kept-log.result whole c.kept-log.ensures held.run
+    c.keep.ensures c.in_ok-whole.ensures.run)
+    (goes_on_joined a.instance keeps a.reached c.kept-log.result held.run whole c.kept-log.ensures
+    c.in_ok-whole.ensures.on)
+    c.tell_end.ensures.ended c.tell_end.ensures.kept

@@ -26,10 +26,8 @@ returns-clause-history g c free =
 -- with the log that it kept
 pub returns-clause-kept : goal.returns-clause-kept
 returns-clause-kept g c free log is =
-    let end = c.args.run.end in
     let on = c.in_ok-told.ensures.kept log is in
     told_history_with c.args.asked _ c.args.facts.now c.args.instance.now c.names_of-names.result
-    (asks_for_log c.args.asked) end.cursors end.pops end.stuck c.args.run.log log c.in_ok-told.told.missing
-    c.status_with.result c.in_ok-text.text.items on.told _ c.units-units.ensures.instance free
-    c.requires.within c.names_of-names.ensures is c.requires.run.run on.says
+    (asks_for_log c.args.asked) c.args.run log c.in_ok-told.told.missing c.status_with.result c.in_ok-text.text.items
+    on.told _ c.units-units.ensures.instance free c.requires.within c.names_of-names.ensures is c.requires.run on.says
     c.status_with.ensures c.in_ok-text.ensures on.text_is

@@ -1,5 +1,6 @@
 use Rattle.std.proofs.Common.{refl, sym, ◌∙◌}
 use Rattle.std.proofs.lemmas.Option.{same_Some}
+use Rattle.confluence_core.specs.declared.run.Run.{Run}
 use Rattle.top_call.specs.Tellings.{asks_for_log}
 use Rattle.top_call.proofs.ToldRuns.{kept_result, unkept_behind, same_told}
 use Rattle.top_call.proofs.running.tell_run.Goals as goal
@@ -7,11 +8,10 @@ use Rattle.top_call.proofs.running.tell_run.Goals as goal
 -- the run kept its log
 pub returns-in-Some-clause-run : goal.returns-in-Some-clause-run
 returns-in-Some-clause-run g c =
-    let end = c.args.end.now in
+    let run : Run = record { end = c.args.end.now; log = c.args.log } in
     let named = c.args.named.now in
-    kept_result c.args.asked _ named.names.now named.instance.now (asks_for_log c.args.asked) end.cursors end.pops
-    end.stuck c.args.log c.in-Some.log c.args.text.items c.text_of_log.result c.in-Some.is c.requires.run
-    c.text_of_log.ensures
+    kept_result c.args.asked _ named.names.now named.instance.now (asks_for_log c.args.asked) run c.in-Some.log
+    c.args.text.items c.text_of_log.result c.in-Some.is c.requires c.text_of_log.ensures
 
 -- it is the one that is told
 pub returns-in-Some-clause-kept : goal.returns-in-Some-clause-kept
@@ -23,7 +23,7 @@ returns-in-Some-clause-kept g c kept is =
 -- it didn't, since nothing of it is asked for
 pub returns-in-None-clause-run : goal.returns-in-None-clause-run
 returns-in-None-clause-run g c =
-    let end = c.args.end.now in
+    let run : Run = record { end = c.args.end.now; log = c.args.log } in
     let named = c.args.named.now in
-    unkept_behind c.args.asked _ named.names.now named.instance.now (asks_for_log c.args.asked) end.cursors end.pops
-    end.stuck c.args.log c.args.text.items c.in-None.is refl c.units-units.ensures.instance c.requires.run
+    unkept_behind c.args.asked _ named.names.now named.instance.now (asks_for_log c.args.asked) run c.args.text.items
+    c.in-None.is refl c.units-units.ensures.instance c.requires

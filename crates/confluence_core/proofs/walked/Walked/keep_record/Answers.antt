@@ -1,8 +1,9 @@
-use Rattle.std.proofs.Common.{◌≡◌, ◌++◌, ◌∷◌, [], cond, true, ap, sym, ◌∙◌, ◌<◌, length, arith}
+use Rattle.std.proofs.Common.{◌≡◌, ◌++◌, ◌∷◌, [], List, Option, Some, ap, sym, ◌∙◌, ◌<◌, length, arith}
 use Rattle.pop_model.specs.Cycles.{first_of}
 use Rattle.pop_model.proofs.Members.{first_read}
-use Rattle.confluence_core.specs.Kept.{keeps_log}
+use Rattle.pop_model.specs.Logs.{LogRecord}
 use Rattle.confluence_core.specs.Records.{record_at}
+use Rattle.confluence_core.specs.Stretches.{with_more}
 use Rattle.confluence_core.proofs.LoopCubes.{one_cube, cube_all}
 use Rattle.confluence_core.proofs.walked.Walked.keep_record.Goals as goal
 
@@ -24,14 +25,16 @@ returns-in_ok-push-clause-kept c e is =
     c.in_ok-popped.ensures ∙ ap (λ u. record_at u cube w.cursors)
     (sym (first_read cube c.pair-unit.result c.pair-unit.ensures))
     ∙ ap (λ f. record_at (first_of f) f w.cursors) (sym same) in
-    let kept : true ≡ keeps_log w.keep = sym c.if-keeps_log.true ∙ c.keeps_log.ensures in
-    let log : c.push.new.self ≡ cond (keeps_log w.keep) (w.log ++ record_at (first_of e) e w.cursors ∷ []) w.log =
-    c.in_ok-push.ensures.pushed ∙ ap (λ r. w.log ++ r ∷ []) popped
-    ∙ ap (λ b. cond b (w.log ++ record_at (first_of e) e w.cursors ∷ []) w.log) kept in
-    ap (λ xs. record w { log = xs }) log
+    let log : Some c.push.new.self ≡ with_more w.log (record_at (first_of e) e w.cursors ∷ []) =
+    ap Some (c.in_ok-push.ensures.pushed ∙ ap (λ r. c.in-Some.log ++ r ∷ []) popped)
+    ∙ ap (λ (kept : Option (List LogRecord)). with_more kept (record_at (first_of e) e w.cursors ∷ []))
+    (sym c.in-Some.is) in
+    ap (λ (kept : Option (List LogRecord)). record w { log = kept }) log
 
-pub returns-else-keeps_log-clause-kept : goal.returns-else-keeps_log-clause-kept
-returns-else-keeps_log-clause-kept c e is =
+pub returns-in_default-clause-kept : goal.returns-in_default-clause-kept
+returns-in_default-clause-kept c e is =
     let w = c.args.self.now in
-    let none = sym c.if-keeps_log.false ∙ c.keeps_log.ensures in
-    ap (λ b. record w { log = cond b (w.log ++ record_at (first_of e) e w.cursors ∷ []) w.log }) none
+    let none : w.log ≡ with_more w.log (record_at (first_of e) e w.cursors ∷ []) =
+    c.in_default.is ∙ ap (λ (kept : Option (List LogRecord)). with_more kept (record_at (first_of e) e w.cursors ∷ []))
+    (sym c.in_default.is) in
+    ap (λ (kept : Option (List LogRecord)). record w { log = kept }) none

@@ -1,0 +1,165 @@
+ghost use Rattle.std.specs.Prelude.{◌≡◌, ◌<◌, ◌≤◌, [], ℕ, Bool, List, length, IfOk};
+ghost use Rattle.pop_model.specs.Stacks.{variables_of};
+ghost use Rattle.pop_model.specs.Popping.{AreWithin, AreValuesAt};
+ghost use Rattle.pop_model.specs.Runs.{IsStuckList};
+ghost use Rattle.pop_instance.specs.Index.{IsFamilyIndex};
+ghost use Rattle.confluence_core.specs.Indexes.{Serves};
+ghost use Rattle.confluence_core.specs.Runs.{IsRunOf, ended};
+ghost use Rattle.confluence_core.specs.Stretches.{CanGoOn, GoesOn, HasCome, IsReached};
+ghost use Rattle.pop_workers.specs.MadeFor.{made_for};
+ghost use Rattle.pop_workers.specs.Stages.{IsStageEnd};
+
+use crate::claimed::Claimed;
+use crate::gated::Gated;
+use crate::locked::Locked;
+use crate::workers::Workers;
+use crate::{Gate, Outcome};
+use confluence_core::{Reached, Stuck};
+use pop_instance::{Cursors, Index, Instance, Values};
+use std::alloc::{AllocError, Global};
+use std::sync::Wait;
+use std::thread::Threads;
+
+/// Who brings runs to their ends. They were made for an instance, and serve it for the same sample
+/// at each height, so also once its stacks are raised.
+#[derive(Drop)]
+pub enum Makers<'c, R, G> {
+    One(Gated<'c, G>),
+    Claimed(Claimed<'c, R, G>),
+    Locked(Locked<'c, R, G>),
+}
+
+impl<'c, R: Threads + Wait + Sync, G: Gate + Sync> Makers<'c, R, G> {
+    /// A crew for an instance: one worker alone; several claim words, where `claimed` says so, or
+    /// else share a book under a lock.
+    pub fn of(
+        alloc: Global,
+        instance: &Instance,
+        crew: Workers<'c, R, G>,
+        claimed: bool,
+    ) -> Result<Makers<'c, R, G>, AllocError>
+        requires some { 0 < crew.workers }
+        requires most { crew.workers ≤ 64 }
+        ensures { IfOk result (λ makers. made_for makers ≡ instance.now) }
+    {
+        let index = instance.index(alloc)?;
+        Makers::with(alloc, instance, index, crew, claimed)
+    }
+
+    /// The same with the index of the family, which is at hand.
+    pub fn with(
+        alloc: Global,
+        instance: &Instance,
+        index: Option<Index>,
+        crew: Workers<'c, R, G>,
+        claimed: bool,
+    ) -> Result<Makers<'c, R, G>, AllocError>
+        requires index { IsFamilyIndex instance.now.family index }
+        requires some { 0 < crew.workers }
+        requires most { crew.workers ≤ 64 }
+        ensures { IfOk result (λ makers. made_for makers ≡ instance.now) }
+    {
+        if crew.workers == 1 {
+            return Ok(Makers::One(Gated::with(alloc, instance, index, crew.gate)?));
+        }
+        if claimed {
+            return Ok(Makers::Claimed(Claimed::with(alloc, instance, index, crew)?));
+        }
+        Ok(Makers::Locked(Locked::with(alloc, instance, index, crew)?))
+    }
+
+    /// Goes on with a run to an end. After an error nothing is left of the run.
+    pub fn finish(
+        &mut self,
+        alloc: Global,
+        instance: &Instance,
+        reached: Reached,
+    ) -> Result<Reached, AllocError>
+        requires serves { Serves instance.now (made_for self.old) }
+        requires reached { HasCome instance.now reached }
+        ensures on { IfOk result (GoesOn instance.now reached) }
+        ensures end { IfOk result (λ new. new.suspects ≡ []) }
+        ensures made_for { made_for self.new ≡ made_for self.old }
+    {
+        match self {
+            Makers::One(gated) => gated.finish(alloc, instance, reached),
+            Makers::Claimed(claimed) => claimed.finish(alloc, instance, reached),
+            Makers::Locked(locked) => locked.finish(alloc, instance, reached),
+        }
+    }
+
+    /// Every event that occurs where a run has come, by rising unit.
+    pub fn stuck(
+        &mut self,
+        alloc: Global,
+        instance: &Instance,
+        reached: &Reached,
+    ) -> Result<Stuck, AllocError>
+        requires serves { Serves instance.now (made_for self.old) }
+        requires can { CanGoOn instance.now reached.now }
+        ensures stuck_list { IfOk result (IsStuckList instance.now reached.now.cursors) }
+        ensures made_for { made_for self.new ≡ made_for self.old }
+    {
+        match self {
+            Makers::One(gated) => gated.alone.stuck(alloc, instance, reached),
+            Makers::Claimed(claimed) => claimed.stuck(alloc, instance, reached),
+            Makers::Locked(locked) => locked.alone.stuck(alloc, instance, reached),
+        }
+    }
+
+    /// The value of each variable at its cursor, which is the last that they look up.
+    pub fn values(
+        self,
+        alloc: Global,
+        instance: &Instance,
+        cursors: &Cursors,
+    ) -> Result<Values, AllocError>
+        requires serves { Serves instance.now (made_for self) }
+        requires count { variables_of instance.now.stacks ≡ length cursors.now }
+        requires within { AreWithin instance.now.stacks cursors.now }
+        ensures values { IfOk result (AreValuesAt instance.now.stacks cursors.now) }
+    {
+        match self {
+            Makers::One(mut gated) => gated.alone.values(alloc, instance, cursors),
+            Makers::Claimed(claimed) => claimed.values(alloc, instance, cursors),
+            Makers::Locked(mut locked) => locked.alone.values(alloc, instance, cursors),
+        }
+    }
+
+    /// Goes on with a run to an end, and looks up what is stuck there.
+    pub fn stage(
+        &mut self,
+        alloc: Global,
+        instance: &Instance,
+        reached: Reached,
+    ) -> Result<(Reached, Stuck), AllocError>
+        requires serves { Serves instance.now (made_for self.old) }
+        requires reached { HasCome instance.now reached }
+        ensures on { IfOk result (λ stage. GoesOn instance.now reached stage.0) }
+        ensures end { IfOk result (λ stage. IsStageEnd instance.now stage.0 stage.1) }
+        ensures made_for { made_for self.new ≡ made_for self.old }
+    {
+        let ended = self.finish(alloc, instance, reached)?;
+        let stuck = self.stuck(alloc, instance, &ended)?;
+        Ok((ended, stuck))
+    }
+
+    /// Brings a run to its end, and tells it.
+    pub fn run(
+        self,
+        alloc: Global,
+        instance: &Instance,
+        reached: Reached,
+    ) -> Result<Outcome, AllocError>
+        requires serves { Serves instance.now (made_for self) }
+        requires reached { HasCome instance.now reached }
+        ensures on { IfOk result (λ run. GoesOn instance.now reached (ended run)) }
+        ensures run { (start : List ℕ) → (keeps : Bool) → IsReached instance.now start keeps reached
+            → IfOk result (IsRunOf instance.now start keeps) }
+    {
+        let mut makers = self;
+        let (ended, stuck) = makers.stage(alloc, instance, reached)?;
+        let values = makers.values(alloc, instance, &ended.cursors)?;
+        Ok(ended.told(stuck, values))
+    }
+}
