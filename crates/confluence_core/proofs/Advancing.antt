@@ -1,6 +1,6 @@
 -- A step of the code, by what it reads: where the walk goes on, or that it is over. The walk w has put its variable onto
 -- its path, which gave n; a cycle that the path of n closes is popped or noted.
-use Rattle.std.proofs.Common.{inl, inr, ◌≡◌, ℕ, zero, suc, ◌+◌, ◌-◌, ◌<◌, Bool, cond, List, length, get_or, set, Some, refl, sym, ap, subst, ◌∙◌, arith, get_or-set_same, get_or-set_other, length-set, ne_eqb}
+use Rattle.std.proofs.Common.{inl, inr, ◌≡◌, ℕ, zero, suc, ◌+◌, ◌<◌, Bool, cond, List, length, get_or, set, Some, refl, sym, ap, subst, ◌∙◌, arith, get_or-set_same, get_or-set_other, length-set, ne_eqb}
 use Rattle.std.specs.Bool.{MatchBool}
 use Rattle.std.specs.List.{slice_range}
 use Rattle.std.proofs.lemmas.Bool.{cases_eq}
@@ -9,8 +9,7 @@ use Rattle.pop_model.specs.Popping.{Cube, HasNext, cursor, pop}
 use Rattle.pop_model.proofs.Room.{left_from}
 use Rattle.std.proofs.lemmas.List.Elements.{Contains-push_cases}
 use Rattle.confluence_core.specs.CycleTables.{CycleTable, current_head}
-use Rattle.confluence_core.specs.Loops.{Marks}
-use Rattle.confluence_core.specs.Walks.{settled, cycle_event, IsSettled, AreSized, IsPath, GoesOn, Closes}
+use Rattle.confluence_core.specs.Walks.{settled, cycle_event, IsSettled, IsMet, AreSized, IsPath, GoesOn, Closes}
 use Rattle.confluence_core.specs.LoopErasedWalks.{StaySettled, HasPath, IsSized, HasDone, Walks, begun_at}
 use Rattle.confluence_core.specs.Steps.{RunsOn, Extends, Pops, Notes, PopsOrNotes, GoesTo, Ends, with_pop, with_stuck}
 use Rattle.confluence_core.specs.declared.walk.Walk.{Walk}
@@ -18,7 +17,7 @@ use Rattle.confluence_core.proofs.PathsLemmas.{room_for_more, pushed, pushed_her
 use Rattle.confluence_core.proofs.ClosedLoops.{IsClosed, loop_of}
 use Rattle.confluence_core.proofs.DoneVariables.{done_same, done_rests, done_stuck, last_popped}
 use Rattle.confluence_core.proofs.LoopCubes.{cube_occurs}
-use Rattle.confluence_core.proofs.WalkSteps.{closes_here, MarksPlaces, marks_places, sized_popped, sized_same, pop_falls, work_falls, popped_goes_on, popped_done, popped_off, popped_stay}
+use Rattle.confluence_core.proofs.WalkSteps.{closes_here, sized_popped, sized_same, pop_falls, work_falls, popped_goes_on, popped_done, popped_off}
 use Rattle.confluence_core.proofs.Runnings.{runs_noted, runs_popped}
 
 -- where the walk began, once it has a path
@@ -51,7 +50,7 @@ begun_back w (suc place) =
 module _ (t : CycleTable) (c marks path : List ℕ) (depth v : ℕ) (sized : AreSized t c marks path)
     (is : GoesOn t c marks path depth v) where
   -- the variable is on the path, with its mark
-  step_path : IsPath t c (set marks v (depth + 1)) (set path depth v) (suc depth)
+  pub step_path : IsPath t c (set marks v (depth + 1)) (set path depth v) (suc depth)
   step_path =
       let one : suc depth ≡ depth + 1 = omega arith in
       subst (λ n. IsPath t c (set marks v n) (set path depth v)
@@ -71,12 +70,13 @@ module _ (t : CycleTable) (c marks path : List ℕ) (depth v : ℕ) (sized : Are
   pub step_below : (w : ℕ) → current_head t c v ≡ Some w → w < length t.heads
   step_below w leads = sized.instance.family.below v (value_at t.stacks v (cursor c v)) w leads
 
-  -- it leads to one without a mark
-  pub step_on : (w : ℕ) → current_head t c v ≡ Some w → get_or (set marks v (depth + 1)) w 0 ≡ 0
+  -- it leads to one that the walk hasn't met
+  pub step_on : (w : ℕ) → current_head t c v ≡ Some w
+      → (IsMet (set marks v (depth + 1)) (set path depth v) (suc depth) w → ⊥)
       → GoesOn t c (set marks v (depth + 1)) (set path depth v) (suc depth) w
-  step_on w leads none = record {
+  step_on w leads fresh = record {
     trail = step_path;
-    fresh = none;
+    fresh = fresh;
     below = step_below w leads;
     last = λ d same.
         let last : d ≡ depth = omega (arith, same) in
@@ -85,27 +85,14 @@ module _ (t : CycleTable) (c marks path : List ℕ) (depth v : ℕ) (sized : Are
   }
 
   -- it leads back to one of the path
-  pub step_back : (w : ℕ) → current_head t c v ≡ Some w → (get_or (set marks v (depth + 1)) w 0 ≡ 0 → ⊥)
-      → (get_or (set marks v (depth + 1)) w 0 ≡ settled → ⊥)
-      → Closes t c (set marks v (depth + 1)) (set path depth v) depth (get_or (set marks v (depth + 1)) w 0 - 1)
-  step_back w leads marked unsettled =
-      let new = set marks v (depth + 1) in
-      let path' = set path depth v in
-      elim (step_path.others w (step_below w leads)) [
-        | inl none ↦ absurd (marked none)
-        | inr met ↦ elim met [
-          | inl rest ↦ absurd (unsettled rest)
-          | inr (k, less, at) ↦
-              let mark : get_or new w 0 ≡ suc k = ap (λ u. get_or new u 0) (sym at) ∙ step_path.marked k less in
-              let place : k ≡ get_or new w 0 - 1 = omega (arith, mark) in
-              subst (Closes t c new path' depth) place (record {
-                trail = step_path;
-                order = omega arith;
-                back = ap (current_head t c) (pushed_here t c marks path depth v sized is) ∙ leads
-                    ∙ ap (λ u. Some u) (sym at);
-              })
-        ]
-      ]
+  pub step_back : (w : ℕ) → current_head t c v ≡ Some w → (k : ℕ) → k < suc depth
+      → get_or (set path depth v) k 0 ≡ w
+      → Closes t c (set marks v (depth + 1)) (set path depth v) depth k
+  step_back w leads k less at = record {
+    trail = step_path;
+    order = omega arith;
+    back = ap (current_head t c) (pushed_here t c marks path depth v sized is) ∙ leads ∙ ap (λ u. Some u) (sym at);
+  }
 
 module _ (w n : Walk) (walks : Walks w) (ext : Extends w n) where
   -- the walk with the new marks and the new path
@@ -190,11 +177,7 @@ module _ (w n : Walk) (walks : Walks w) (ext : Extends w n) where
     abbrev pub went_cycle : Cube
     went_cycle = loop_of w.current w.walked.cursors n.path.items w.depth place
 
-    -- its variables
-    abbrev pub went_members : List ℕ
-    went_members = slice_range n.path.items place (w.depth + 1)
-
-    -- they are a loop
+    -- its variables are a loop
     pub went_loop : IsClosed w.current w.walked.cursors n.path.items w.depth place went_cycle
     went_loop = closes_here w.current w.walked.cursors n.marks.items n.path.items w.depth place went_sized closes
 
@@ -216,85 +199,67 @@ module _ (w n : Walk) (walks : Walks w) (ext : Extends w n) where
       begun = went_begun;
     }
 
-    module _ (m : Walk) (few : w.walked.pops < w.walked.limit)
-        (next : HasNext w.current.stacks w.walked.cursors went_cycle)
-        (unmarked : Marks went_members (length went_members) 0 n.marks.items m.marks.items) where
-      -- the marks of its variables are gone
-      went_unmarked : MarksPlaces n.path.items place (w.depth + 1) 0 n.marks.items m.marks.items
-      went_unmarked =
-          let order = closes.order in
-          let room = went_room in
-          marks_places n.path.items place (w.depth + 1) 0 n.marks.items m.marks.items (omega arith)
-          (omega (arith, room, went_sized.places_are)) unmarked
+    -- where it is popped the walk goes on from where it closed
+    advances_popped : w.walked.pops < w.walked.limit → HasNext w.current.stacks w.walked.cursors went_cycle
+        → GoesTo w (record went {
+          walked = with_pop w.walked went_cycle;
+          depth = place;
+          at = get_or n.path.items place 0;
+        })
+    advances_popped few next =
+        let t = w.current in
+        let c = w.walked.cursors in
+        let falls = pop_falls t c n.path.items w.depth place went_cycle went_sized.cursors.count went_loop next in
+        let room = walks.room in
+        record {
+          walks = record {
+            sized = sized_popped t c n.marks.items n.path.items went_cycle next went_sized;
+            goes_on = popped_goes_on t c n.marks.items n.path.items w.depth place went_cycle went_few closes went_loop;
+            done = popped_done t c n.marks.items n.path.items w.depth place went_cycle went_few closes went_loop
+                w.walked.stuck went_done;
+            last = λ few' f has. last_popped t c (IsSettled n.marks.items) w.walked.stuck went_cycle
+                (popped_off t c n.marks.items n.path.items w.depth place went_cycle went_few closes went_loop) went_done
+                (walks.last few) f has;
+            room = omega (arith, falls, room);
+          };
+          begun = begun_back went place ∙ went_begun;
+          nearer = work_falls (length t.heads) (left_from t.stacks 0 c) (left_from t.stacks 0 (pop c went_cycle)) w.depth
+              place falls;
+        }
 
-      -- where the cycle was popped the walk goes on from where it closed
-      pub advances_popped : GoesTo w (record went {
-        walked = with_pop w.walked went_cycle;
-        marks = m.marks;
-        depth = place;
-        at = get_or n.path.items place 0;
-      })
-      advances_popped =
-          let t = w.current in
-          let c = w.walked.cursors in
-          let falls = pop_falls t c n.path.items w.depth place went_cycle went_sized.cursors.count went_loop next in
-          let room = walks.room in
-          record {
-            walks = record {
-              sized = sized_popped t c n.marks.items n.path.items m.marks.items went_cycle next unmarked.count went_sized;
-              goes_on = popped_goes_on t c n.marks.items n.path.items m.marks.items w.depth place went_cycle went_few closes
-                  went_loop went_unmarked;
-              done = popped_done t c n.marks.items n.path.items m.marks.items w.depth place went_cycle went_few closes
-                  went_loop went_unmarked w.walked.stuck went_done;
-              last = λ few' f has. last_popped t c (IsSettled n.marks.items) w.walked.stuck went_cycle
-                  (popped_off t c n.marks.items n.path.items m.marks.items w.depth place went_cycle went_few closes
-                  went_loop went_unmarked) went_done (walks.last few) f has;
-              room = omega (arith, falls, room);
-            };
-            begun = begun_back went place ∙ went_begun;
-            nearer = work_falls (length t.heads) (left_from t.stacks 0 c) (left_from t.stacks 0 (pop c went_cycle)) w.depth
-                place falls;
-          }
-
-      -- settled variables stay so
-      pub popped_keeps : (u : ℕ) → IsSettled w.marks.items u → IsSettled m.marks.items u
-      popped_keeps u at =
-          popped_stay w.current w.walked.cursors n.marks.items n.path.items m.marks.items w.depth place went_cycle went_few
-          closes went_loop went_unmarked u (went_stay u at)
-
-      -- the pop is legal
-      pub popped_runs : RunsOn w.current w.walked (with_pop w.walked went_cycle)
-      popped_runs =
-          runs_popped w.current w.walked (with_pop w.walked went_cycle) went_cycle few (went_loop.cycle, refl)
-          (record { occurs = cube_occurs w.current w.walked.cursors _ went_cycle went_loop.cube; next = next }) refl
+    -- which is a legal pop
+    popped_runs : w.walked.pops < w.walked.limit → HasNext w.current.stacks w.walked.cursors went_cycle
+        → RunsOn w.current w.walked (with_pop w.walked went_cycle)
+    popped_runs few next =
+        runs_popped w.current w.walked (with_pop w.walked went_cycle) went_cycle few (went_loop.cycle, refl)
+        (record { occurs = cube_occurs w.current w.walked.cursors _ went_cycle went_loop.cube; next = next }) refl
 
     module _ (m : Walk) where
       -- what was done with the cycle
       pub closed_by : (popped : Bool) → PopsOrNotes n m (slice_range n.path.items place (n.depth + 1)) popped
-          → MatchBool popped (Pops went m went_members went_cycle) (Notes went m went_cycle)
+          → MatchBool popped (Pops went m went_cycle) (Notes went m went_cycle)
       closed_by popped by =
           subst (λ (x : Walk). PopsOrNotes x m (slice_range x.path.items place (x.depth + 1)) popped) ext.others by went_cycle
           went_loop.cube
 
       -- it was popped: the walk goes on from where it closed
-      pub pops_goes_to : Pops went m went_members went_cycle
+      pub pops_goes_to : Pops went m went_cycle
           → GoesTo w (record m { depth = place; at = get_or m.path.items place 0 })
       pops_goes_to pops =
           subst (λ (x : Walk). GoesTo w (record x { depth = place; at = get_or x.path.items place 0 })) (sym pops.popped)
-          (advances_popped m pops.few pops.next pops.unmarked)
+          (advances_popped pops.few pops.next)
 
       -- the pop is legal
-      pub pops_runs : Pops went m went_members went_cycle → RunsOn w.current w.walked m.walked
+      pub pops_runs : Pops went m went_cycle → RunsOn w.current w.walked m.walked
       pops_runs pops =
-          subst (λ (x : Walk). RunsOn w.current w.walked x.walked) (sym pops.popped)
-          (popped_runs m pops.few pops.next pops.unmarked)
+          subst (λ (x : Walk). RunsOn w.current w.walked x.walked) (sym pops.popped) (popped_runs pops.few pops.next)
 
       -- settled variables stay so
-      pub pops_keeps : Pops went m went_members went_cycle → StaySettled w m
-      pops_keeps pops u at = popped_keeps m pops.few pops.next pops.unmarked u at
+      pub pops_keeps : Pops went m went_cycle → StaySettled w m
+      pops_keeps pops = subst (StaySettled w) (sym pops.popped) went_stay
 
       -- on the same arrows
-      pub pops_current : Pops went m went_members went_cycle → m.current ≡ w.current
+      pub pops_current : Pops went m went_cycle → m.current ≡ w.current
       pops_current pops = ap (λ (x : Walk). x.current) pops.popped
 
       -- it was noted: the walk is over

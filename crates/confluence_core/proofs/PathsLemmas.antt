@@ -8,7 +8,7 @@ use Rattle.pop_model.specs.Cycles.{IsCycle}
 use Rattle.pop_model.proofs.Loops.{Distinct, path_short}
 use Rattle.pop_model.proofs.TreeEnd.{stays_at}
 use Rattle.confluence_core.specs.CycleTables.{CycleTable, current_head}
-use Rattle.confluence_core.specs.Walks.{settled, IsSettled, AreSized, IsPath, GoesOn}
+use Rattle.confluence_core.specs.Walks.{settled, IsSettled, IsOn, AreSized, IsPath, GoesOn}
 
 -- the variable at a place of the path
 abbrev pub at_place : List ℕ → ℕ → ℕ
@@ -30,11 +30,19 @@ path_fits t c marks path depth is =
     path_short (at_place path) 0 depth (length t.heads) (path_distinct t c marks path depth is)
     (λ k from less. is.below k (omega arith))
 
--- a variable without a mark isn't on the path
-pub fresh_off : (t : CycleTable) (c marks path : List ℕ) (depth v : ℕ) → IsPath t c marks path depth
-    → get_or marks v 0 ≡ 0 → (k : ℕ) → k < depth → get_or path k 0 ≢ v
-fresh_off t c marks path depth v is fresh k less same =
-    let none : suc k ≡ 0 = sym (is.marked k less) ∙ ap (λ u. get_or marks u 0) same ∙ fresh in absurd (omega arith)
+-- the code's question where a variable stands, by the mark m that it has
+module _ (t : CycleTable) (c marks path : List ℕ) (depth v m : ℕ) (is : IsPath t c marks path depth)
+    (read : m ≡ get_or marks v 0) where
+  -- it stands nowhere but at the place of its mark
+  pub on_marked : (k : ℕ) → k < depth → get_or path k 0 ≡ v → m ≡ suc k
+  on_marked k less at = read ∙ ap (λ u. get_or marks u 0) (sym at) ∙ is.marked k less
+
+  -- so nowhere where another one stands there
+  pub off_other : get_or path (m - 1) 0 ≢ v → IsOn path depth v → ⊥
+  off_other other (k, less, at) =
+      let mark = on_marked k less at in
+      let place : k ≡ m - 1 = omega arith in
+      other (ap (λ j. get_or path j 0) (sym place) ∙ at)
 
 -- a settled variable isn't on the path
 pub settled_off : (t : CycleTable) (c marks path : List ℕ) (depth v : ℕ) → depth < settled
@@ -55,8 +63,7 @@ room_for_more t c marks path depth v is =
           path_distinct t c marks path depth is.trail a b from less (omega arith)
           (sym (old a (omega arith)) ∙ same ∙ old b within)
       | inr last ↦
-          fresh_off t c marks path depth v is.trail is.fresh a (omega arith) (sym (old a (omega arith)) ∙ same
-          ∙ new b last)
+          is.fresh (inr (a, omega arith, sym (old a (omega arith)) ∙ same ∙ new b last))
     ] in
     let short = path_short at 0 (suc depth) (length t.heads) distinct (λ k from less. elim (cases_lt k depth) [
       | inl within ↦ subst (λ u. u < length t.heads) (sym (old k within)) (is.trail.below k within)
@@ -81,7 +88,7 @@ module _ (t : CycleTable) (c marks path : List ℕ) (depth v : ℕ) (sized : Are
       let marks' = set marks v (suc depth) in
       let path' = set path depth v in
       let within : v < length marks = omega (arith, is.below, sized.marks_are) in
-      let apart : (k : ℕ) → k < depth → get_or path k 0 ≢ v = fresh_off t c marks path depth v is.trail is.fresh in
+      let apart : (k : ℕ) → k < depth → get_or path k 0 ≢ v = λ k less same. is.fresh (inr (k, less, same)) in
       record {
         leads = λ k less. elim (cases_eq (suc k) depth) [
           | inl last ↦
@@ -106,19 +113,6 @@ module _ (t : CycleTable) (c marks path : List ℕ) (depth v : ℕ) (sized : Are
               ∙ get_or-set_other marks v (get_or path k 0) (suc depth) 0 (apart k (omega arith))
               ∙ is.trail.marked k (omega arith)
         ];
-        others = λ u below. elim (cases_eq u v) [
-          | inl same ↦ inr (inr (depth, omega arith, pushed_here ∙ sym same))
-          | inr differ ↦
-              let kept : get_or marks' u 0 ≡ get_or marks u 0 =
-              get_or-set_other marks v u (suc depth) 0 differ in
-              elim (is.trail.others u below) [
-                | inl none ↦ inl (kept ∙ none)
-                | inr met ↦ elim met [
-                  | inl rest ↦ inr (inl (kept ∙ rest))
-                  | inr (k, less, at) ↦ inr (inr (k, omega (arith, less), pushed_old k less ∙ at))
-                ]
-              ]
-        ];
       }
 
   -- there are fewer places than marks
@@ -131,8 +125,7 @@ module _ (t : CycleTable) (c marks path : List ℕ) (depth v : ℕ) (sized : Are
   -- which leaves settled variables settled
   pub pushed_stay : (u : ℕ) → IsSettled marks u → IsSettled (set marks v (suc depth)) u
   pushed_stay u at = elim (cases_eq u v) [
-    | inl same ↦
-        let none : settled ≡ 0 = sym at ∙ ap (λ w. get_or marks w 0) same ∙ is.fresh in absurd (omega arith)
+    | inl same ↦ absurd (is.fresh (inl (subst (IsSettled marks) same at)))
     | inr differ ↦ get_or-set_other marks v u (suc depth) 0 differ ∙ at
   ]
 

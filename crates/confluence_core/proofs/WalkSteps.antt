@@ -1,8 +1,8 @@
 -- The steps of a walk keep what holds in it, and take from the work that is left: the walk goes on to a variable that it
 -- hasn't met, a cycle that closes is popped, or the walk is over, and what it met is settled.
-use Rattle.std.proofs.Common.{inl, inr, ◌≡◌, ◌≢◌, ℕ, suc, ◌+◌, ◌-◌, ◌*◌, ◌^◌, ◌<◌, ◌≤◌, true, false, List, length, take, get_or, Some, sym, ap, subst, ◌∙◌, arith}
+use Rattle.std.proofs.Common.{inl, inr, ◌≡◌, ◌≢◌, ℕ, suc, ◌+◌, ◌-◌, ◌*◌, ◌^◌, ◌<◌, ◌≤◌, false, List, length, take, get_or, Some, refl, sym, ap, subst, ◌∙◌, arith}
 use Rattle.std.specs.List.{slice_range}
-use Rattle.std.proofs.lemmas.Bool.{cases_lt, cases_Bool, false≢true}
+use Rattle.std.proofs.lemmas.Bool.{cases_Bool}
 use Rattle.std.proofs.lemmas.Nat.{mul-le}
 use Rattle.std.proofs.Math.Nat.{add-mul}
 use Rattle.std.proofs.lemmas.List.{length-take-le, get_or-take}
@@ -14,9 +14,9 @@ use Rattle.confluence_core.specs.CycleTables.{CycleTable}
 use Rattle.confluence_core.specs.Loops.{Marks}
 use Rattle.confluence_core.specs.Walks.{settled, IsSettled, AreDone, AreSized, GoesOn, Closes}
 use Rattle.confluence_core.proofs.LoopCubes.{cube_all}
-use Rattle.confluence_core.proofs.PathsLemmas.{at_place, path_distinct, path_fits, settled_off}
-use Rattle.confluence_core.proofs.ClosedLoops.{IsClosed, closed, closes_loop, loop_of, range_length, range_at}
-use Rattle.confluence_core.proofs.DoneVariables.{done_same, done_popped, arrow_kept}
+use Rattle.confluence_core.proofs.PathsLemmas.{path_distinct, path_fits, settled_off}
+use Rattle.confluence_core.proofs.ClosedLoops.{IsClosed, closed, closes_loop, loop_of}
+use Rattle.confluence_core.proofs.DoneVariables.{done_popped, arrow_kept}
 
 -- what a path closes is a loop
 pub closes_here : (t : CycleTable) (c marks path : List ℕ) (depth place : ℕ) → AreSized t c marks path
@@ -34,50 +34,32 @@ closes_short t c marks path depth place sized is =
     let units = sized.instance.units in
     omega (arith, fits, short, units)
 
--- marks at the places of a loop
-pub record MarksPlaces (path : List ℕ) (from end mark : ℕ) (marks new : List ℕ) : Type 0 where
-  pub marked : (k : ℕ) → from ≤ k → k < end → get_or new (get_or path k 0) 0 ≡ mark
-  pub kept : (v : ℕ) → ((k : ℕ) → from ≤ k → k < end → get_or path k 0 ≢ v) → get_or new v 0 ≡ get_or marks v 0
+-- marks at the first places of a path
+pub record MarksFront (path : List ℕ) (end mark : ℕ) (marks new : List ℕ) : Type 0 where
+  pub marked : (k : ℕ) → k < end → get_or new (get_or path k 0) 0 ≡ mark
+  pub kept : (v : ℕ) → ((k : ℕ) → k < end → get_or path k 0 ≢ v) → get_or new v 0 ≡ get_or marks v 0
 
-pub marks_places : (path : List ℕ) (from end mark : ℕ) (marks new : List ℕ) → from ≤ end → end ≤ length path
-    → Marks (slice_range path from end) (length (slice_range path from end)) mark marks new
-    → MarksPlaces path from end mark marks new
-marks_places path from end mark marks new order within are =
-    let size : length (slice_range path from end) ≡ end - from = range_length path from end within in
-    record {
-      marked = λ k low high.
-          let sum : from + (k - from) ≡ k = omega arith in
-          let at : get_or (slice_range path from end) (k - from) 0 ≡ get_or path k 0 =
-          range_at path from end (k - from) (omega arith) ∙ ap (at_place path) sum in
-          subst (λ v. get_or new v 0 ≡ mark) at (are.marked (k - from) (omega (arith, size)));
-      kept = λ v none. are.kept v (λ k less same.
-          none (from + k) (omega arith) (omega (arith, size)) (sym (range_at path from end k (omega (arith, size)))
-          ∙ same));
-    }
-
--- and at the first places of a path
 pub marks_front : (path : List ℕ) (end mark : ℕ) (marks new : List ℕ) → end ≤ length path
-    → Marks (take end path) (length (take end path)) mark marks new → MarksPlaces path 0 end mark marks new
+    → Marks (take end path) (length (take end path)) mark marks new → MarksFront path end mark marks new
 marks_front path end mark marks new within are =
     let size : length (take end path) ≡ end = length-take-le end path within in
     record {
-      marked = λ k low high.
-          subst (λ v. get_or new v 0 ≡ mark) (get_or-take end path k 0 high) (are.marked k (omega (arith, size)));
+      marked = λ k less.
+          subst (λ v. get_or new v 0 ≡ mark) (get_or-take end path k 0 less) (are.marked k (omega (arith, size)));
       kept = λ v none. are.kept v (λ k less same.
-          none k (omega arith) (omega (arith, size)) (sym (get_or-take end path k 0 (omega (arith, size))) ∙ same));
+          none k (omega (arith, size)) (sym (get_or-take end path k 0 (omega (arith, size))) ∙ same));
     }
 
 -- a pop leaves the sizes as they are
-pub sized_popped : (t : CycleTable) (c marks path new_marks : List ℕ) (e : Cube) → HasNext t.stacks c e
-    → length new_marks ≡ length marks
-    → AreSized t c marks path → AreSized t (pop c e) new_marks path
-sized_popped t c marks path new_marks e next same old = record {
+pub sized_popped : (t : CycleTable) (c marks path : List ℕ) (e : Cube) → HasNext t.stacks c e
+    → AreSized t c marks path → AreSized t (pop c e) marks path
+sized_popped t c marks path e next old = record {
   instance = old.instance;
   cursors = record {
     count = length-pop c e ∙ old.cursors.count;
     within = within_pop t.stacks c e (sym old.instance.fits.0 ∙ sym old.cursors.count) next old.cursors.within;
   };
-  marks_are = same ∙ old.marks_are;
+  marks_are = old.marks_are;
   places_are = old.places_are;
 }
 
@@ -115,21 +97,8 @@ work_falls count before after depth place falls =
     let spread : (after + 1) * n ≡ after * n + 1 * n = add-mul after 1 n in
     omega (arith, most, spread)
 
-module _ (t : CycleTable) (c marks path new_marks : List ℕ) (depth place : ℕ) (e : Cube) (few : suc depth < settled)
-    (is : Closes t c marks path depth place) (loop : IsClosed t c path depth place e)
-    (un : MarksPlaces path place (depth + 1) 0 marks new_marks) where
-  -- a variable that isn't on the loop keeps its mark
-  off_kept : (v : ℕ) → names e v ≡ false → get_or new_marks v 0 ≡ get_or marks v 0
-  off_kept v other = un.kept v (λ k low high same.
-      false≢true (sym other ∙ ap (names e) (sym same) ∙ loop.on k low (omega arith)))
-
-  -- one that is on it has none
-  on_cleared : (v : ℕ) → names e v ≡ true → get_or new_marks v 0 ≡ 0
-  on_cleared v there =
-      let at = loop.on_only v there in
-      let below = at.2 in
-      subst (λ u. get_or new_marks u 0 ≡ 0) at.3 (un.marked at.0 at.1 (omega arith))
-
+module _ (t : CycleTable) (c marks path : List ℕ) (depth place : ℕ) (e : Cube) (few : suc depth < settled)
+    (is : Closes t c marks path depth place) (loop : IsClosed t c path depth place e) where
   -- no settled variable is on the loop
   pub popped_off : (v : ℕ) → IsSettled marks v → names e v ≡ false
   popped_off v at = elim (cases_Bool (names e v)) [
@@ -138,17 +107,6 @@ module _ (t : CycleTable) (c marks path new_marks : List ℕ) (depth place : ℕ
         let below = stands.2 in
         absurd (settled_off t c marks path (suc depth) v few is.trail at stands.0 (omega arith) stands.3)
     | inr other ↦ other
-  ]
-
-  -- settled variables stay so
-  pub popped_stay : (v : ℕ) → IsSettled marks v → IsSettled new_marks v
-  popped_stay v at = off_kept v (popped_off v at) ∙ at
-
-  -- and no others are settled
-  pub popped_before : (v : ℕ) → IsSettled new_marks v → IsSettled marks v
-  popped_before v at = elim (cases_Bool (names e v)) [
-    | inl there ↦ let none : settled ≡ 0 = sym at ∙ on_cleared v there in absurd (omega arith)
-    | inr other ↦ sym (off_kept v other) ∙ at
   ]
 
   -- a variable in front of the loop isn't on it
@@ -164,7 +122,7 @@ module _ (t : CycleTable) (c marks path new_marks : List ℕ) (depth place : ℕ
   ]
 
   -- the walk goes on from where the cycle closed
-  pub popped_goes_on : GoesOn t (pop c e) new_marks path place (get_or path place 0)
+  pub popped_goes_on : GoesOn t (pop c e) marks path place (get_or path place 0)
   popped_goes_on =
       let order = is.order in
       record {
@@ -172,23 +130,13 @@ module _ (t : CycleTable) (c marks path new_marks : List ℕ) (depth place : ℕ
           leads = λ k less. arrow_kept t c e (get_or path k 0) (front_off k (omega arith))
               ∙ is.trail.leads k (omega arith);
           below = λ k less. is.trail.below k (omega arith);
-          marked = λ k less. off_kept (get_or path k 0) (front_off k less) ∙ is.trail.marked k (omega arith);
-          others = λ v below. elim (cases_Bool (names e v)) [
-            | inl there ↦ inl (on_cleared v there)
-            | inr other ↦ elim (is.trail.others v below) [
-              | inl none ↦ inl (off_kept v other ∙ none)
-              | inr met ↦ elim met [
-                | inl at ↦ inr (inl (off_kept v other ∙ at))
-                | inr (k, less, at) ↦ elim (cases_lt k place) [
-                  | inl early ↦ inr (inr (k, early, at))
-                  | inr late ↦
-                      absurd (false≢true (sym other ∙ ap (names e) (sym at) ∙ loop.on k late (omega arith)))
-                ]
-              ]
-            ]
-          ];
+          marked = λ k less. is.trail.marked k (omega arith);
         };
-        fresh = un.marked place (omega arith) (omega arith);
+        fresh = λ met. elim met [
+          | inl at ↦ settled_off t c marks path (suc depth) (get_or path place 0) few is.trail at place (omega arith) refl
+          | inr (k, less, same) ↦
+              path_distinct t c marks path (suc depth) is.trail k place (omega arith) less (omega arith) same
+        ];
         below = is.trail.below place (omega arith);
         last = λ d same.
             let next : suc d ≡ place = sym same in
@@ -198,7 +146,5 @@ module _ (t : CycleTable) (c marks path new_marks : List ℕ) (depth place : ℕ
 
   -- the done variables stay so
   pub popped_done : (stuck : List Event) → AreDone t c (IsSettled marks) stuck
-      → AreDone t (pop c e) (IsSettled new_marks) stuck
-  popped_done stuck old =
-      done_same t (pop c e) (IsSettled marks) (IsSettled new_marks) stuck popped_stay popped_before
-      (done_popped t c (IsSettled marks) stuck e popped_off old)
+      → AreDone t (pop c e) (IsSettled marks) stuck
+  popped_done stuck = done_popped t c (IsSettled marks) stuck e popped_off

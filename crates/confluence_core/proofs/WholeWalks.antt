@@ -1,4 +1,4 @@
--- Walks as a whole: each begins at a variable without a mark and settles what it met; where every variable is settled
+-- Walks as a whole: each begins at a variable that isn't settled and settles what it met; where every variable is settled
 -- those that were noted are all that occur.
 use Rattle.std.proofs.Common.{inl, inr, ◌≡◌, ℕ, suc, ◌+◌, ◌<◌, List, [], length, take, get_or, replicate, refl, sym, ap, subst, ◌∙◌, arith, Contains}
 use Rattle.std.specs.List.Sorted.{IsPermutation, IsNonDecreasingBy}
@@ -21,21 +21,20 @@ use Rattle.confluence_core.specs.declared.walk.Walk.{Walk}
 use Rattle.confluence_core.proofs.SortedKeys.{rises_sorted}
 use Rattle.confluence_core.proofs.PathsLemmas.{at_place, path_fits}
 use Rattle.confluence_core.proofs.DoneVariables.{done_same}
-use Rattle.confluence_core.proofs.WalkSteps.{MarksPlaces, marks_front, sized_same}
+use Rattle.confluence_core.proofs.WalkSteps.{MarksFront, marks_front, sized_same}
 
--- a walk begins at a variable without a mark
+-- a walk begins at a variable that isn't settled
 pub walk_begins : (w : Walk) (start : ℕ) → Stands w → start < length w.current.heads
-    → get_or w.marks.items start 0 ≡ 0 → Walks (record w { depth = 0; at = start })
-walk_begins w start stands below fresh = record {
+    → (get_or w.marks.items start 0 ≡ settled → ⊥) → Walks (record w { depth = 0; at = start })
+walk_begins w start stands below unsettled = record {
   sized = stands.sized;
   goes_on = record {
     trail = record {
       leads = λ k less. absurd (omega arith);
       below = λ k less. absurd (omega arith);
       marked = λ k less. absurd (omega arith);
-      others = λ v within. elim (stands.clear v within) [ inl none ↦ inl none | inr at ↦ inr (inl at) ];
     };
-    fresh = fresh;
+    fresh = λ met. elim met [ inl at ↦ unsettled at | inr (k, less, same) ↦ absurd (omega arith) ];
     below = below;
     last = λ d same. absurd (omega arith);
   };
@@ -44,21 +43,13 @@ walk_begins w start stands below fresh = record {
   room = stands.room;
 }
 
--- so does one from a variable that isn't settled
-pub walk_begins_at : (w : Walk) (start : ℕ) → Stands w → start < length w.current.heads
-    → (get_or w.marks.items start 0 ≡ settled → ⊥) → Walks (record w { depth = 0; at = start })
-walk_begins_at w start stands below unsettled = walk_begins w start stands below (elim (stands.clear start below) [
-  | inl none ↦ none
-  | inr at ↦ absurd (unsettled at)
-])
-
-module _ (path : List ℕ) (depth : ℕ) (marks new : List ℕ) (are : MarksPlaces path 0 (suc depth) settled marks new) where
+module _ (path : List ℕ) (depth : ℕ) (marks new : List ℕ) (are : MarksFront path (suc depth) settled marks new) where
   -- what was met is settled
   pub met_settled : (v : ℕ) → IsMet marks path (suc depth) v → IsSettled new v
   met_settled v met = elim (find (at_place path) v (suc depth)) [
-    | inl (k, less, same) ↦ subst (IsSettled new) same (are.marked k (omega arith) less)
+    | inl (k, less, same) ↦ subst (IsSettled new) same (are.marked k less)
     | inr none ↦ elim met [
-      | inl at ↦ are.kept v (λ k low high. none k high) ∙ at
+      | inl at ↦ are.kept v none ∙ at
       | inr (k, less, same) ↦ absurd (none k less same)
     ]
   ]
@@ -67,24 +58,16 @@ module _ (path : List ℕ) (depth : ℕ) (marks new : List ℕ) (are : MarksPlac
   pub settled_met : (v : ℕ) → IsSettled new v → IsMet marks path (suc depth) v
   settled_met v at = elim (find (at_place path) v (suc depth)) [
     | inl on ↦ inr on
-    | inr none ↦ inl (sym (are.kept v (λ k low high. none k high)) ∙ at)
+    | inr none ↦ inl (sym (are.kept v none) ∙ at)
   ]
 
 -- what a walk that is over met is settled
 pub walk_settles : (w new : Walk) → IsOver w → new ≡ record w { marks = new.marks }
     → length new.marks.items ≡ length w.marks.items
-    → MarksPlaces w.path.items 0 (suc w.depth) settled w.marks.items new.marks.items → Stands new
+    → MarksFront w.path.items (suc w.depth) settled w.marks.items new.marks.items → Stands new
 walk_settles w new over is size are = subst Stands (sym is) (record {
   sized = sized_same w.current w.walked.cursors w.marks.items w.path.items new.marks.items w.path.items size refl
       over.sized;
-  clear = λ v below. elim (over.trail.others v below) [
-    | inl none ↦ elim (find (at_place w.path.items) v (suc w.depth)) [
-      | inl (k, less, same) ↦
-          inr (met_settled w.path.items w.depth w.marks.items new.marks.items are v (inr (k, less, same)))
-      | inr off ↦ inl (are.kept v (λ k low high. off k high) ∙ none)
-    ]
-    | inr met ↦ inr (met_settled w.path.items w.depth w.marks.items new.marks.items are v met)
-  ];
   done = done_same w.current w.walked.cursors (IsMet w.marks.items w.path.items (suc w.depth))
       (IsSettled new.marks.items) w.walked.stuck
       (met_settled w.path.items w.depth w.marks.items new.marks.items are)
@@ -98,11 +81,11 @@ module _ (old w m : Walk) (ends : Ends old w) (is : m ≡ record w { marks = m.m
     (marked : Marks (take (w.depth + 1) w.path.items) (length (take (w.depth + 1) w.path.items)) settled w.marks.items
     m.marks.items) where
   -- so the first places of the path are
-  front_marked : MarksPlaces w.path.items 0 (suc w.depth) settled w.marks.items m.marks.items
+  front_marked : MarksFront w.path.items (suc w.depth) settled w.marks.items m.marks.items
   front_marked =
       let one : w.depth + 1 ≡ suc w.depth = omega arith in
       let fits = path_fits w.current w.walked.cursors w.marks.items w.path.items (suc w.depth) ends.over.trail in
-      subst (λ k. MarksPlaces w.path.items 0 k settled w.marks.items m.marks.items) one
+      subst (λ k. MarksFront w.path.items k settled w.marks.items m.marks.items) one
       (marks_front w.path.items (w.depth + 1) settled w.marks.items m.marks.items
       (omega (arith, fits, ends.over.sized.places_are)) marked)
 
@@ -143,7 +126,6 @@ walks_begin w n sized are none room =
     λ v at. let big : settled ≡ 0 = sym at ∙ unmarked v in absurd (omega arith) in
     record {
       sized = sized;
-      clear = λ v below. inl (unmarked v);
       done = record {
         closed = λ v w at. absurd (unsettled v at);
         found = λ v e at. absurd (unsettled v at);

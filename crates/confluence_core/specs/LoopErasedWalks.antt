@@ -1,7 +1,7 @@
 -- A loop-erased walk along the current arrows (Wilson 1996; Propp and Wilson 1998).
 use Rattle.std.specs.Prelude.{ℕ, suc, ◌+◌, ◌-◌, ◌*◌, ◌==◌, if◌then◌else◌, length, slice_index}
 use Rattle.pop_model.proofs.Room.{left_from}
-use Rattle.confluence_core.specs.Walks.{IsSettled, IsMet, AreDone, AreSized, IsPath, GoesOn, AreClear, HasRoom, AreLast}
+use Rattle.confluence_core.specs.Walks.{IsSettled, IsMet, AreDone, AreSized, IsPath, GoesOn, HasRoom, AreLast}
 use Rattle.confluence_core.specs.declared.walk.Walk.{Walk}
 
 -- a settled variable stays so
@@ -23,7 +23,6 @@ HasDone w = AreDone w.current w.walked.cursors (IsSettled w.marks.items) w.walke
 -- what holds between two walks
 pub record Stands (w : Walk) : Type 0 where
   pub sized : IsSized w
-  pub clear : AreClear w.current w.marks.items
   pub done : HasDone w
   pub last : AreLast w.current w.walked
   pub room : HasRoom w.current w.walked

@@ -1,10 +1,10 @@
 -- What a step of a walk leaves, and what popping a cycle does to what the walks have left so far.
-use Rattle.std.specs.Prelude.{◌≡◌, ℕ, suc, ◌+◌, ◌<◌, ◌≤◌, ◌++◌, ◌∷◌, [], List, length, if◌then◌else◌, Bool, MatchBool, slice_index, slice_set, Some}
+use Rattle.std.specs.Prelude.{◌≡◌, ℕ, suc, ◌+◌, ◌<◌, ◌≤◌, ◌++◌, ◌∷◌, [], List, Bool, MatchBool, slice_index, slice_set, Some}
 use Rattle.pop_model.specs.Popping.{Cube, HasNext, pop}
 use Rattle.pop_model.specs.Cycles.{first_of}
 use Rattle.confluence_core.specs.Records.{record_at}
 use Rattle.confluence_core.specs.CycleTables.{CycleTable, cycles, current_head}
-use Rattle.confluence_core.specs.Loops.{IsCubeOf, Marks}
+use Rattle.confluence_core.specs.Loops.{IsCubeOf}
 use Rattle.confluence_core.specs.Walks.{cycle_event, IsSettled, GoesOn, Closes}
 use Rattle.confluence_core.specs.LoopErasedWalks.{HasPath, Walks, IsOver, begun_at, work}
 use Rattle.confluence_core.specs.Stretches.{LeadsOn, with_more}
@@ -42,12 +42,11 @@ with_pop w e = record (with_record w e) { cursors = pop w.cursors e; pops = w.po
 abbrev pub with_stuck : Walked → Cube → Walked
 with_stuck w e = record w { stuck = w.stuck ++ cycle_event e ∷ [] }
 
--- the cycle was popped, and its variables are unmarked
-pub record Pops (old new : Walk) (members : List ℕ) (e : Cube) : Type 0 where
+-- the cycle was popped
+pub record Pops (old new : Walk) (e : Cube) : Type 0 where
   pub few : old.walked.pops < old.walked.limit
   pub next : HasNext old.current.stacks old.walked.cursors e
-  pub unmarked : Marks members (length members) 0 old.marks.items new.marks.items
-  pub popped : new ≡ record old { walked = with_pop old.walked e; marks = new.marks }
+  pub popped : new ≡ record old { walked = with_pop old.walked e }
 
 -- the cycle can't be popped, or the limit is reached; so it was noted
 pub record Notes (old new : Walk) (e : Cube) : Type 0 where
@@ -59,7 +58,7 @@ pub record Notes (old new : Walk) (e : Cube) : Type 0 where
 abbrev pub PopsOrNotes : Walk → Walk → List ℕ → Bool → Type 0
 PopsOrNotes old new members popped =
     (e : Cube) → IsCubeOf old.current old.walked.cursors members e
-    → MatchBool popped (Pops old new members e) (Notes old new e)
+    → MatchBool popped (Pops old new e) (Notes old new e)
 
 -- how far walks have come
 abbrev pub reached_by : Walked → Reached

@@ -1,6 +1,6 @@
 -- Paths along the current arrows: what holds at cursors c, under a mark for each variable, along
 -- the variables at the first places of a path.
-use Rattle.std.specs.Prelude.{◌≡◌, ◌≢◌, ◌⊎◌, ℕ, suc, ◌+◌, ◌-◌, ◌^◌, ◌<◌, ◌≤◌, true, List, length, slice_index, AllPairs, Contains, Some}
+use Rattle.std.specs.Prelude.{◌≡◌, ◌≢◌, ◌⊎◌, ℕ, suc, ◌+◌, ◌-◌, ◌^◌, ◌<◌, ◌≤◌, true, List, length, slice_index, AllPairs, Contains, Option, Some, MatchOption}
 use Rattle.pop_model.specs.Popping.{Cube, Occurs, HasNext, names}
 use Rattle.pop_model.specs.Cycles.{IsCycle, first_of}
 use Rattle.pop_model.specs.Families.{Event, IsEvent}
@@ -9,7 +9,7 @@ use Rattle.pop_model.proofs.Room.{left_from}
 use Rattle.confluence_core.specs.CycleTables.{CycleTable, cycles, current_head, AreCursors}
 use Rattle.confluence_core.specs.declared.walked.Walked.{Walked}
 
--- the mark of a settled variable; one on the path has its place plus 1, and each other one 0
+-- the mark of a settled variable; one on the path has its place there plus 1
 abbrev pub settled : ℕ
 settled = 2 ^ 32 - 1
 
@@ -20,6 +20,11 @@ IsSettled marks v = slice_index marks v ≡ settled
 -- the variable stands at one of the first places of the path
 abbrev pub IsOn : List ℕ → ℕ → ℕ → Type 0
 IsOn path depth v = (k : ℕ) × (k < depth) × (slice_index path k ≡ v)
+
+-- where the variable stands among the first places of the path, if it does
+abbrev pub IsPlaceOf : List ℕ → ℕ → ℕ → Option ℕ → Type 0
+IsPlaceOf path depth v found =
+    MatchOption found (IsOn path depth v → ⊥) (λ k. (k < depth) × (slice_index path k ≡ v))
 
 -- settled, or on the path
 abbrev pub IsMet : List ℕ → List ℕ → ℕ → ℕ → Type 0
@@ -59,12 +64,11 @@ pub record IsPath (t : CycleTable) (c marks path : List ℕ) (depth : ℕ) : Typ
       → current_head t c (slice_index path k) ≡ Some (slice_index path (suc k))
   pub below : (k : ℕ) → k < depth → slice_index path k < length t.heads
   pub marked : (k : ℕ) → k < depth → slice_index marks (slice_index path k) ≡ suc k
-  pub others : (v : ℕ) → v < length t.heads → (slice_index marks v ≡ 0) ⊎ IsMet marks path depth v
 
 -- a walk may go on from v, which it hasn't met: the last arrow of the path leads there
 pub record GoesOn (t : CycleTable) (c marks path : List ℕ) (depth v : ℕ) : Type 0 where
   pub trail : IsPath t c marks path depth
-  pub fresh : slice_index marks v ≡ 0
+  pub fresh : IsMet marks path depth v → ⊥
   pub below : v < length t.heads
   pub last : (d : ℕ) → depth ≡ suc d → current_head t c (slice_index path d) ≡ Some v
 
@@ -73,10 +77,6 @@ pub record Closes (t : CycleTable) (c marks path : List ℕ) (depth place : ℕ)
   pub trail : IsPath t c marks path (suc depth)
   pub order : place ≤ depth
   pub back : current_head t c (slice_index path depth) ≡ Some (slice_index path place)
-
--- each variable is settled or unmarked
-abbrev pub AreClear : CycleTable → List ℕ → Type 0
-AreClear t marks = (v : ℕ) → v < length t.heads → (slice_index marks v ≡ 0) ⊎ IsSettled marks v
 
 -- the pops made and those to come fit a count
 abbrev pub HasRoom : CycleTable → Walked → Type 0

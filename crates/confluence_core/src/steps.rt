@@ -1,19 +1,20 @@
-ghost use Rattle.std.specs.Prelude.{◌≡◌, ◌<◌, ◌↔◌, length, All, IfOk, OnOk, IsTrue, slice_range, ◌+◌};
+ghost use Rattle.std.specs.Prelude.{◌≡◌, suc, ◌<◌, ◌↔◌, length, All, IfOk, OnOk, IsTrue, slice_range, ◌+◌};
 ghost use Rattle.pop_stacks.specs.Readers.{Belongs};
 ghost use Rattle.confluence_core.specs.CycleTables.{AreCursors};
 ghost use Rattle.confluence_core.specs.Loops.{HaveNext};
-ghost use Rattle.confluence_core.specs.Walks.{Closes, HasRoom};
-ghost use Rattle.confluence_core.specs.LoopErasedWalks.{StaySettled, IsSized, Walks};
+ghost use Rattle.confluence_core.specs.Walks.{IsPlaceOf, Closes, HasRoom};
+ghost use Rattle.confluence_core.specs.LoopErasedWalks.{StaySettled, IsSized, HasPath, Walks};
 ghost use Rattle.confluence_core.specs.Steps.{LeadsTo, Extends, RunsOn, PopsOrNotes, Advances};
 
 use crate::current_arrows::CurrentArrows;
-use crate::loops::{have_next, mark_all};
+use crate::loops::have_next;
 use crate::walk::Walk;
 use crate::walked::Walked;
 use pop_stacks::Reader;
 use std::alloc::{AllocError, Global};
 
-/// The mark of a settled variable. One on the path has its place plus 1, and each other one 0.
+/// The mark of a settled variable. One on the path has its place there plus 1. What another has
+/// means nothing: one that was popped off the path keeps its mark.
 pub(crate) const SETTLED: u32 = u32::MAX;
 
 // Where the arrow of the last variable of a path leads.
@@ -38,6 +39,24 @@ fn is_to_pop(current: &CurrentArrows, walked: &Walked, members: &[u32]) -> bool
 }
 
 impl<'a> Walk<'a> {
+    // Where a variable stands on the path: only where its mark says so, and it stands there.
+    fn place_of(&self, variable: u32) -> Option<usize>
+        requires sized { IsSized self.now }
+        requires trail { HasPath self.now (suc self.now.depth) }
+        requires known { variable < length self.now.current.heads }
+        ensures { IsPlaceOf self.now.path.items (suc self.now.depth) variable result }
+    {
+        let mark = self.marks[variable as usize] as usize;
+        if mark == 0 || mark - 1 > self.depth {
+            return None;
+        }
+        let place = mark - 1;
+        if self.path[place] != variable {
+            return None;
+        }
+        Some(place)
+    }
+
     // Puts the variable to which the path leads onto it, and looks where its arrow leads.
     fn extend(&mut self, reader: &mut Reader) -> Step
         requires walks { Walks self.old }
@@ -55,15 +74,14 @@ impl<'a> Walk<'a> {
         if mark == SETTLED {
             return Step::Rests;
         }
-        if mark == 0 {
-            return Step::On(w);
+        match self.place_of(w) {
+            Some(place) => Step::Back(place),
+            None => Step::On(w),
         }
-        Step::Back(mark as usize - 1)
     }
 
-    // Pops the cycle that the path closes from a place on, and takes the marks from its variables;
-    // or notes it, where one of them is at its last entry or the limit is reached. Whether it was
-    // popped.
+    // Pops the cycle that the path closes from a place on; or notes it, where one of its variables
+    // is at its last entry or the limit is reached. Whether it was popped.
     fn close(
         &mut self,
         alloc: Global,
@@ -85,7 +103,6 @@ impl<'a> Walk<'a> {
             return Ok(false);
         }
         self.walked.pop(alloc, &self.current, reader, members)?;
-        mark_all(&mut self.marks, members, 0);
         Ok(true)
     }
 

@@ -20,7 +20,8 @@ pub(crate) struct Walk<'a> {
     pub current: CurrentArrows<'a>,
     /// What walks have left so far.
     pub walked: Walked,
-    /// For each variable its place on the path plus 1, `SETTLED` or 0.
+    /// `SETTLED` for each settled variable, and for each on the path its place there plus 1. What
+    /// another has means nothing.
     pub marks: Vec<u32>,
     /// The path stands at the first `depth` places.
     pub path: Vec<u32>,

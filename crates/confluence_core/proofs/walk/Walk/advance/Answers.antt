@@ -2,10 +2,11 @@ use Rattle.std.proofs.Common.{rules, ◌≡◌, ◌+◌, ◌<◌, length, get_or
 use Rattle.std.proofs.lemmas.List.{get_or_default}
 use Rattle.std.proofs.lemmas.Bool.{MatchBool-at_true, MatchBool-at_false}
 use Rattle.confluence_core.specs.Walks.{Closes}
-use Rattle.confluence_core.specs.Steps.{LeadsTo, GoesTo, Ends}
+use Rattle.confluence_core.specs.Steps.{LeadsTo, RunsOn, GoesTo, Ends}
 use Rattle.confluence_core.specs.declared.walk.Walk.{Walk}
 use Rattle.confluence_core.specs.declared.steps.Step.TheVariants.{On, Back, Rests}
 use Rattle.confluence_core.proofs.Advancing.{went_few, went_room, went_sized, advances_on, advances_rests, closed_by, pops_goes_to, pops_runs, pops_keeps, pops_current, notes_ends, notes_runs, notes_keeps, notes_current}
+use Rattle.confluence_core.proofs.Runnings.{runs_none}
 use Rattle.confluence_core.proofs.walk.Walk.advance.Goals as goal
 
 pub overflow_add-self : goal.overflow_add-self
@@ -33,6 +34,12 @@ returns-in-Rests-clause-next c =
     let ext = c.extend.ensures.extends in
     subst (Ends w) (sym ext.others) (advances_rests w n c.requires.walks ext
     (subst (λ (x : Walk). LeadsTo x Rests) ext.others c.in-Rests.ensures.leads))
+
+pub returns-in-Rests-clause-runs : goal.returns-in-Rests-clause-runs
+returns-in-Rests-clause-runs c =
+    let w = c.args.self.now in
+    let ext = c.extend.ensures.extends in
+    subst (λ (x : Walk). RunsOn w.current w.walked x.walked) (sym ext.others) (runs_none w.current w.walked)
 
 pub returns-then-not-branch-clause-next : goal.returns-then-not-branch-clause-next
 returns-then-not-branch-clause-next c =

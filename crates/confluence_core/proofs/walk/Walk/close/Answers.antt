@@ -1,11 +1,9 @@
-use Rattle.std.proofs.Common.{rules, ◌≡◌, ◌+◌, ◌<◌, ◌≤◌, ℕ, List, suc, length, refl, ap, sym, subst, ◌∙◌, arith, All}
+use Rattle.std.proofs.Common.{rules, ◌+◌, ◌<◌, ◌≤◌, suc, length, refl, ap, sym, subst, arith, All}
 use Rattle.std.specs.List.{slice_range}
-use Rattle.std.specs.Vec.{with_items}
-use Rattle.std.proofs.lemmas.List.{with_items_is}
 use Rattle.std.proofs.lemmas.Bool.{false≢true}
 use Rattle.pop_model.specs.Stacks.{height_of}
 use Rattle.pop_model.specs.Popping.{cursor}
-use Rattle.confluence_core.specs.Loops.{AreMembers, IsCubeOf, Marks}
+use Rattle.confluence_core.specs.Loops.{AreMembers, IsCubeOf}
 use Rattle.confluence_core.specs.declared.walked.Walked.{Walked}
 use Rattle.confluence_core.proofs.LoopCubes.{cube_all, loop_all}
 use Rattle.confluence_core.proofs.PathsLemmas.{path_fits}
@@ -59,18 +57,6 @@ pop-requires-clause-members c =
     subst (λ p. AreMembers w.current (slice_range p c.args.place (w.depth + 1))) (sym c.deref.ensures.value)
     loop.members
 
-pub mark_all-requires : goal.mark_all-requires
-mark_all-requires c = record {
-  known = λ k d less.
-      let w = c.args.self.now in
-      let loop = closes_here w.current w.walked.cursors w.marks.items w.path.items w.depth c.args.place c.requires.sized
-      c.requires.closes in
-      let all = subst (λ p. All (λ v. v < length w.current.heads) (slice_range p c.args.place (w.depth + 1)))
-      (sym c.deref.ensures.value) loop.members.known in
-      let known = all k d less in
-      omega (arith, known, c.requires.sized.marks_are, ap length c.deref_mut.ensures.value);
-}
-
 pub returns-then-not-is_to_pop-clause-closed : goal.returns-then-not-is_to_pop-clause-closed
 returns-then-not-is_to_pop-clause-closed c e is =
     let w = c.args.self.now in
@@ -92,23 +78,10 @@ returns-clause-closed c e is =
     let here : IsCubeOf w.current w.walked.cursors (slice_range c.deref.result.now c.args.place (w.depth + 1)) e =
     subst (λ p. IsCubeOf w.current w.walked.cursors (slice_range p c.args.place (w.depth + 1)) e)
     (sym c.deref.ensures.value) is in
-    let same : (with_items w.marks c.mark_all.new.marks).items ≡ c.mark_all.new.marks =
-    with_items_is w.marks c.mark_all.new.marks (c.mark_all.auto.marks ∙ c.deref_mut.ensures.len) in
-    let Marked : List ℕ → List ℕ → List ℕ → Type 0 =
-    λ p old new. Marks (slice_range p c.args.place (w.depth + 1))
-    (length (slice_range p c.args.place (w.depth + 1))) 0 old new in
-    let raw : Marked c.deref.result.now c.deref_mut.result.now c.mark_all.new.marks = c.mark_all.ensures in
-    let old : Marked c.deref.result.now w.marks.items c.mark_all.new.marks =
-    subst (λ xs. Marked c.deref.result.now xs c.mark_all.new.marks) c.deref_mut.ensures.value raw in
-    let new : Marked c.deref.result.now w.marks.items (with_items w.marks c.mark_all.new.marks).items =
-    subst (Marked c.deref.result.now w.marks.items) (sym same) old in
     record {
       few = (c.if-not-is_to_pop.ensures.0 refl).0;
       next = cube_all w.current w.walked.cursors (slice_range c.deref.result.now c.args.place (w.depth + 1)) e here
           (λ v. cursor w.walked.cursors v + 1 < height_of w.current.stacks v)
           (c.if-not-is_to_pop.ensures.0 refl).1;
-      unmarked = subst (λ p. Marked p w.marks.items (with_items w.marks c.mark_all.new.marks).items)
-          c.deref.ensures.value new;
-      popped = ap (λ (x : Walked). record w { walked = x; marks = with_items w.marks c.mark_all.new.marks })
-          (c.in_ok-pop.ensures.popped e here);
+      popped = ap (λ (x : Walked). record w { walked = x }) (c.in_ok-pop.ensures.popped e here);
     }

@@ -1,10 +1,11 @@
-use Rattle.std.proofs.Common.{rules, ◌≡◌, ◌+◌, ◌-◌, ◌<◌, Some, None, length, get_or, set, sym, subst, ◌∙◌, arith, length-set}
+use Rattle.std.proofs.Common.{inl, inr, rules, ◌≡◌, ◌+◌, ◌<◌, Some, None, length, get_or, set, sym, subst, ◌∙◌, arith, length-set}
 use Rattle.std.proofs.lemmas.List.{get_or_default}
 use Rattle.std.proofs.lemmas.Option.{none-some, same_Some}
 use Rattle.confluence_core.specs.CycleTables.{current_head}
-use Rattle.confluence_core.specs.Walks.{IsSettled, Closes}
+use Rattle.confluence_core.specs.Walks.{IsSettled}
 use Rattle.confluence_core.proofs.PathsLemmas.{room_for_more}
-use Rattle.confluence_core.proofs.Advancing.{step_rests, step_on, step_back, step_below}
+use Rattle.confluence_core.proofs.Advancing.{step_path, step_rests, step_on, step_back, step_below}
+use Rattle.confluence_core.proofs.WalkSteps.{sized_same}
 use Rattle.confluence_core.proofs.walk.Walk.extend.Goals as goal
 
 pub index_mut-requires : goal.index_mut-requires
@@ -50,8 +51,35 @@ returns-then-mark-clause-leads c =
     c.requires.walks.goes_on
     (λ v on. subst (IsSettled marks) (same_Some c.in-Some.w v (sym leads ∙ on)) (sym read ∙ c.if-mark.true))
 
-pub returns-then-mark-eq0-clause-leads : goal.returns-then-mark-eq0-clause-leads
-returns-then-mark-eq0-clause-leads c =
+pub place_of-requires-clause-sized : goal.place_of-requires-clause-sized
+place_of-requires-clause-sized c =
+    let w = c.args.self.now in
+    sized_same w.current w.walked.cursors w.marks.items w.path.items (set w.marks.items w.at (w.depth + 1))
+    (set w.path.items w.depth w.at) (length-set w.marks.items w.at (w.depth + 1))
+    (length-set w.path.items w.depth w.at) c.requires.walks.sized
+
+pub place_of-requires-clause-trail : goal.place_of-requires-clause-trail
+place_of-requires-clause-trail c =
+    let w = c.args.self.now in
+    step_path w.current w.walked.cursors w.marks.items w.path.items w.depth w.at c.requires.walks.sized
+    c.requires.walks.goes_on
+
+pub place_of-requires-clause-known : goal.place_of-requires-clause-known
+place_of-requires-clause-known c =
+    let w = c.args.self.now in
+    step_below w.current w.walked.cursors w.marks.items w.path.items w.depth w.at c.requires.walks.sized
+    c.requires.walks.goes_on c.in-Some.w (sym c.head.ensures.head ∙ c.in-Some.is)
+
+pub returns-in-Some-place_of-clause-leads : goal.returns-in-Some-place_of-clause-leads
+returns-in-Some-place_of-clause-leads c =
+    let w = c.args.self.now in
+    let found = c.in-Some-place_of.ensures in
+    step_back w.current w.walked.cursors w.marks.items w.path.items w.depth w.at c.requires.walks.sized
+    c.requires.walks.goes_on c.in-Some.w (sym c.head.ensures.head ∙ c.in-Some.is) c.in-Some-place_of.place found.0
+    found.1
+
+pub returns-in-None-clause-leads : goal.returns-in-None-clause-leads
+returns-in-None-clause-leads c =
     let w = c.args.self.now in
     let leads : current_head w.current w.walked.cursors w.at ≡ Some c.in-Some.w = sym c.head.ensures.head ∙ c.in-Some.is in
     let below = step_below w.current w.walked.cursors w.marks.items w.path.items w.depth w.at c.requires.walks.sized
@@ -61,19 +89,7 @@ returns-then-mark-eq0-clause-leads c =
     c.index-mark.ensures ∙ get_or_default marks c.in-Some.w c.index-mark.result.now 0
     (omega (arith, below, c.requires.walks.sized.marks_are, length-set w.marks.items w.at (w.depth + 1))) in
     step_on w.current w.walked.cursors w.marks.items w.path.items w.depth w.at c.requires.walks.sized
-    c.requires.walks.goes_on c.in-Some.w leads (sym read ∙ c.if-mark-eq0.true)
-
-pub returns-clause-leads : goal.returns-clause-leads
-returns-clause-leads c =
-    let w = c.args.self.now in
-    let leads : current_head w.current w.walked.cursors w.at ≡ Some c.in-Some.w = sym c.head.ensures.head ∙ c.in-Some.is in
-    let below = step_below w.current w.walked.cursors w.marks.items w.path.items w.depth w.at c.requires.walks.sized
-    c.requires.walks.goes_on c.in-Some.w leads in
-    let marks = set w.marks.items w.at (w.depth + 1) in
-    let read : c.index-mark.result.now ≡ get_or marks c.in-Some.w 0 =
-    c.index-mark.ensures ∙ get_or_default marks c.in-Some.w c.index-mark.result.now 0
-    (omega (arith, below, c.requires.walks.sized.marks_are, length-set w.marks.items w.at (w.depth + 1))) in
-    subst (λ m. Closes w.current w.walked.cursors marks (set w.path.items w.depth w.at) w.depth (m - 1)) (sym read)
-    (step_back w.current w.walked.cursors w.marks.items w.path.items w.depth w.at c.requires.walks.sized
-    c.requires.walks.goes_on c.in-Some.w leads (λ none. c.if-mark-eq0.false (read ∙ none))
-    (λ at. c.if-mark.false (read ∙ at)))
+    c.requires.walks.goes_on c.in-Some.w leads (λ met. elim met [
+      | inl at ↦ c.if-mark.false (read ∙ at)
+      | inr on ↦ c.in-None.ensures on
+    ])
