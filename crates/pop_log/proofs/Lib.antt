@@ -51,7 +51,7 @@ mod ReadLogs
 -- log. ReadBack: a layered text is read as the layered log. OneRefusal: a text is refused in one way.
 mod LegalRecords
 mod WrittenLines
-mod OnePlaced
+pub mod OnePlaced
 pub mod ExactReading
 mod ReadBack
 pub mod OneRefusal
