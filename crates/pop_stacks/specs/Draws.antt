@@ -1,5 +1,6 @@
 -- Weights by their running sums.
 use Rattle.std.specs.Prelude.{◌≡◌, ℕ, ◌+◌, ◌-◌, ◌*◌, ◌^◌, ◌<◌, ◌≤◌, ltb, if◌then◌else◌, List, [], ◌∷◌, ⊤, All, length, slice_index}
+use Rattle.std.specs.Int.{bit_at}
 use Rattle.pop_model.specs.Stacks.{scaled, weighted}
 use Rattle.pop_stacks.specs.Rows.{AreShort}
 
@@ -28,6 +29,11 @@ abbrev pub AreDrawn : List ℕ → List ℕ → ℕ → List ℕ → Type 0
 AreDrawn weights words n values = (i : ℕ) → i < n
     → (slice_index values i ≡ weighted weights (number_in words i))
     × (slice_index values i < length weights)
+
+-- the first eight bits are the values that the words from a place on give two values of weight 1
+abbrev pub AreDrawnBits : List ℕ → ℕ → ℕ → Type 0
+AreDrawnBits words at bits = (i : ℕ) → i < 8 → bit_at bits i ≡ weighted (1 ∷ 1 ∷ [])
+    (slice_index words (at + 2 * i) + 2 ^ 32 * slice_index words (at + 2 * i + 1))
 
 -- the first numbers are those that these words make, scaled to a total
 abbrev pub AreScaled : ℕ → List ℕ → ℕ → List ℕ → Type 0

@@ -1,5 +1,6 @@
--- Values of entries that are kept, a group of 32 entries of a variable at a time.
-use Rattle.std.specs.Prelude.{◌≡◌, ℕ, ◌+◌, ◌*◌, ◌/◌, ◌%◌, ◌<◌, ◌≤◌, ◌==◌, if◌then◌else◌, Option, Some, None, List, length, slice_index, slice_get, Bool, true, false}
+-- Values of entries that are kept: a group of 32 entries of a variable at a time, or the eight of its
+-- first block.
+use Rattle.std.specs.Prelude.{◌≡◌, ℕ, ◌+◌, ◌*◌, ◌/◌, ◌%◌, ◌-◌, ◌^◌, ◌<◌, ◌≤◌, ltb, ◌==◌, if◌then◌else◌, Option, Some, None, List, length, slice_index, slice_get, Bool, true, false}
 use Rattle.std.specs.Option.{option_and_then}
 use Rattle.std.specs.Int.{bit_at}
 use Rattle.pop_model.specs.Stacks.{StackTable, value_at, domain_of}
@@ -10,6 +11,15 @@ use Rattle.pop_stacks.specs.declared.kept_values.KeptValues.TheVariants.{Nothing
 abbrev pub kept_in : ℕ → (ℕ → ℕ) → ℕ → Option ℕ
 kept_in filled value k = if filled == k / 32 + 1 then Some (value (k % 32)) else None
 
+-- what is kept of entry k where the eight entries of the first block are
+abbrev pub begun_in : (ℕ → ℕ) → ℕ → Option ℕ
+begun_in value k = if ltb k 8 then Some (value k) else None
+
+-- what a line of bits keeps of entry k: its mark may say that it has the first block alone
+abbrev pub kept_or_begun_in : ℕ → (ℕ → ℕ) → ℕ → Option ℕ
+kept_or_begun_in filled value k =
+    if filled == 2 ^ 32 - 1 then begun_in value k else kept_in filled value k
+
 -- the number of two bits at a place of two words
 abbrev pub two_bits_at : ℕ → ℕ → ℕ → ℕ
 two_bits_at low high i = bit_at low i + 2 * bit_at high i
@@ -18,7 +28,7 @@ two_bits_at low high i = bit_at low i + 2 * bit_at high i
 abbrev pub kept_at : KeptValues → ℕ → ℕ → Option ℕ
 kept_at Nothing v k = None
 kept_at (Bits lines) v k =
-    option_and_then (λ l. kept_in l.filled (bit_at l.bits) k) (slice_get lines.items v)
+    option_and_then (λ l. kept_or_begun_in l.filled (bit_at l.bits) k) (slice_get lines.items v)
 kept_at (Quads lines) v k =
     option_and_then (λ l. kept_in l.filled (two_bits_at l.low l.high) k) (slice_get lines.items v)
 kept_at (Bytes lines) v k =
@@ -36,6 +46,11 @@ CanKeep (Bits lines) v domain = (v < length lines.items) × (domain ≤ 2)
 CanKeep (Quads lines) v domain = (v < length lines.items) × (domain ≤ 4)
 CanKeep (Bytes lines) v domain = (v < length lines.items) × (domain ≤ 256)
 
+-- the variable has a line for values 0 and 1
+abbrev pub CanBegin : KeptValues → ℕ → Type 0
+CanBegin (Bits lines) v = v < length lines.items
+CanBegin kept v = ⊥
+
 -- the first 32 of the values are below this number
 abbrev pub AreBelow : ℕ → List ℕ → Type 0
 AreBelow domain values = (i : ℕ) → i < 32 → slice_index values i < domain
@@ -44,6 +59,11 @@ AreBelow domain values = (i : ℕ) → i < 32 → slice_index values i < domain
 abbrev pub Replaces : KeptValues → KeptValues → ℕ → ℕ → List ℕ → Type 0
 Replaces old new v group values = (u k : ℕ) → kept_at new u k
     ≡ (if u == v then kept_in (group + 1) (slice_index values) k else kept_at old u k)
+
+-- the values of the first block of variable v, a bit each, took the place of what was kept of it
+abbrev pub Begins : KeptValues → KeptValues → ℕ → ℕ → Type 0
+Begins old new v bits = (u k : ℕ) → kept_at new u k
+    ≡ (if u == v then begun_in (bit_at bits) k else kept_at old u k)
 
 -- values of the 32 entries of a group of variable v
 abbrev pub AreValuesOf : StackTable → ℕ → ℕ → List ℕ → Type 0

@@ -1,7 +1,7 @@
 // Values of the 32 entries of a group. Each step goes over the whole group in a loop of constant
 // length, and but for halving none has a branch that depends on the words.
 ghost use Rattle.std.specs.Prelude.{◌≡◌, ◌<◌, ◌≤◌, ◌-◌, ℕ, [], ◌∷◌, length, slice_index};
-ghost use Rattle.pop_stacks.specs.Draws.{differences, past, RisesFrom, AreDrawn, AreScaled, AreFirstAbove};
+ghost use Rattle.pop_stacks.specs.Draws.{differences, past, RisesFrom, AreDrawn, AreDrawnBits, AreScaled, AreFirstAbove};
 ghost use Rattle.pop_stacks.specs.KeptValues.{AreBelow};
 
 use crate::drawing::{first_above, scale};
@@ -19,6 +19,21 @@ pub fn draw_pairs(words: &[u32; 64]) -> [u8; 32]
         values[i] = (words[2 * i + 1] >> 31) as u8;
     }
     values
+}
+
+/// The same of the eight entries of a block, whose words stand from a place on, a bit each; that of
+/// the first entry is the lowest bit.
+pub fn draw_pair_bits(words: &[u32; 64], at: usize) -> u32
+    requires { at ≤ 48 }
+    ensures { AreDrawnBits words.now at result }
+{
+    let mut bits: u32 = 0;
+    for i in 0..8 {
+        if words[at + 2 * i + 1] >> 31 == 1 {
+            bits |= 1 << i;
+        }
+    }
+    bits
 }
 
 // The numbers of the entries, scaled to a total.

@@ -1,6 +1,6 @@
 ghost use Rattle.std.specs.Prelude.{◌≡◌, ◌<◌, ◌^◌, ℕ, ◌↔◌, IfOk, IsTrue, None};
 
-use crate::bit_line::{self, BitLine};
+use crate::bit_line::{self, BEGUN, BitLine};
 use crate::bit_planes::plane;
 use crate::byte_line::{self, ByteLine};
 use crate::quad_line::{self, QuadLine};
@@ -20,7 +20,7 @@ pub enum KeptValues {
 }
 
 impl KeptValues {
-    ghost use Rattle.pop_stacks.specs.KeptValues.{kept_at, keeps, CanKeep, AreBelow, Replaces};
+    ghost use Rattle.pop_stacks.specs.KeptValues.{kept_at, keeps, CanKeep, CanBegin, AreBelow, Replaces, Begins};
 
     /// Empty lines for this many variables, for values 0 and 1.
     pub fn bits(alloc: Global, count: u32) -> Result<KeptValues, AllocError>
@@ -67,6 +67,36 @@ impl KeptValues {
             KeptValues::Bits(lines) => (v as usize) < lines.len() && domain <= 2,
             KeptValues::Quads(lines) => (v as usize) < lines.len() && domain <= 4,
             KeptValues::Bytes(lines) => (v as usize) < lines.len() && domain <= 256,
+        }
+    }
+
+    /// Whether variable v has a line for values 0 and 1, which keeps nothing yet.
+    pub fn can_begin(&self, v: u32) -> bool
+        ensures { IsTrue result → CanBegin self.now v }
+    {
+        match self {
+            KeptValues::Bits(lines) => {
+                (v as usize) < lines.len() && lines[v as usize].filled == 0
+            }
+            KeptValues::Nothing | KeptValues::Quads(_) | KeptValues::Bytes(_) => false,
+        }
+    }
+
+    /// Keeps the values of the first block of variable v, a bit each, in the place of what was kept
+    /// of it.
+    pub fn begin(&mut self, v: u32, bits: u32)
+        requires known { CanBegin self.old v }
+        ensures begun { Begins self.old self.new v bits }
+        ensures keeping { keeps self.new ≡ keeps self.old }
+    {
+        match self {
+            KeptValues::Bits(lines) => {
+                lines[v as usize] = BitLine {
+                    filled: BEGUN,
+                    bits,
+                };
+            }
+            KeptValues::Nothing | KeptValues::Quads(_) | KeptValues::Bytes(_) => {}
         }
     }
 

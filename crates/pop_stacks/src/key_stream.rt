@@ -1,10 +1,15 @@
 ghost use Rattle.std.specs.Prelude.{◌≡◌, ◌<◌, ◌+◌, ◌*◌, ◌^◌, ℕ};
 ghost use Rattle.rand_chacha.specs.ChaCha.{word_at, key_of};
 
+use crate::lanes::first_blocks;
 use crate::refill::{GROUP, NONE, Refill, read_group};
 use rand_chacha::ChaCha20Rng;
 use rand_core::SeedableRng;
+use rand_core::utils::read_u32;
 use std::marker::Model;
+
+// ChaCha20 has ten double rounds.
+const DOUBLE_ROUNDS: u32 = 10;
 
 // How many refills are kept, each at its stream's number modulo this.
 const KEPT: usize = 16;
@@ -14,22 +19,24 @@ const KEPT: usize = 16;
 #[derive(Drop)]
 pub struct KeyStream {
     rng: ChaCha20Rng,
+    // The words of the key.
+    key: [u32; 8],
     kept: [Refill; KEPT],
 }
 
 impl Model for KeyStream {
-    ghost use Rattle.std.specs.Prelude.{ℕ, List, All};
+    ghost use Rattle.std.specs.Prelude.{◌≡◌, ℕ, List, All};
     ghost use Rattle.pop_stacks.specs.Words.{HoldsWords};
 
     ghost Value = { List ℕ };
 
     ghost view = { λ a. a.rng.key };
 
-    ghost invariant = { λ a. All (HoldsWords a.rng.key) a.kept };
+    ghost invariant = { λ a. (a.key ≡ a.rng.key) × All (HoldsWords a.rng.key) a.kept };
 }
 
 impl KeyStream {
-    ghost use Rattle.pop_stacks.specs.Words.{AreWordsOf};
+    ghost use Rattle.pop_stacks.specs.Words.{AreWordsOf, AreFirstWords};
 
     /// The key stream of the key with these bytes.
     pub fn new(key: [u8; 32]) -> KeyStream
@@ -37,8 +44,27 @@ impl KeyStream {
     {
         KeyStream {
             rng: ChaCha20Rng::from_seed(key),
+            key: [
+                read_u32(&key, 0),
+                read_u32(&key, 1),
+                read_u32(&key, 2),
+                read_u32(&key, 3),
+                read_u32(&key, 4),
+                read_u32(&key, 5),
+                read_u32(&key, 6),
+                read_u32(&key, 7),
+            ],
             kept: [NONE; KEPT],
         }
+    }
+
+    /// Reads the first 16 words of each of the four streams from this one on, one stream after
+    /// another: one block each, in the time of one refill.
+    pub fn read_first(&self, stream: u64, words: &mut [u32; 64])
+        requires { stream + 3 < 2 ^ 64 }
+        ensures { AreFirstWords self.now stream words.new }
+    {
+        first_blocks(DOUBLE_ROUNDS, &self.key, stream, words);
     }
 
     /// Reads the words of a group of entries of a stream, and keeps none of them.

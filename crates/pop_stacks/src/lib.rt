@@ -10,6 +10,7 @@ mod drawing;
 mod group_drawing;
 mod kept_values;
 mod key_stream;
+mod lanes;
 mod laws;
 mod prefix_sums;
 mod quad_line;

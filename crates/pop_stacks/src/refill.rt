@@ -8,6 +8,9 @@ use rand_core::utils::NextWord;
 /// has two words.
 pub const GROUP: u32 = 32;
 
+/// How many entries a block of the cipher holds.
+pub const BLOCK: u32 = 8;
+
 /// The words of one group of entries of a stream.
 #[derive(Clone, Copy)]
 pub struct Refill {

@@ -1,4 +1,4 @@
-ghost use Rattle.std.specs.Prelude.{◌≡◌, ◌<◌, ◌≤◌, ◌+◌, ◌*◌, ◌^◌, ◌↔◌, ℕ, List, length, OnOk, IfOk, IfErr, IsTrue};
+ghost use Rattle.std.specs.Prelude.{◌≡◌, ◌<◌, ◌≤◌, ◌+◌, ◌*◌, ◌^◌, ◌↔◌, ℕ, List, [], ◌∷◌, length, OnOk, IfOk, IfErr, IsTrue};
 ghost use Rattle.pop_model.specs.Stacks.{row_of, weighted};
 ghost use Rattle.pop_model.specs.Places.{IsLeast};
 ghost use Rattle.pop_stacks.specs.Faults.{AreLight, IsTooHeavy};
@@ -98,6 +98,16 @@ impl Sums {
             }
         }
         true
+    }
+
+    /// Whether each variable has two values of weight 1.
+    pub fn are_pairs(&self) -> bool
+        ensures { IsTrue result → (v : ℕ) → v < length self.now → row_of self.now v ≡ 1 ∷ 1 ∷ [] }
+    {
+        match &self.kept {
+            KeptSums::Pairs(_) => true,
+            KeptSums::Rows(_) => false,
+        }
     }
 
     /// How many values variable v has.

@@ -14,6 +14,8 @@ mod events;
 #[cfg(test)]
 mod faults;
 #[cfg(test)]
+mod first_blocks;
+#[cfg(test)]
 mod flat_rows;
 #[cfg(test)]
 mod fronts;

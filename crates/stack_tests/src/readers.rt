@@ -178,8 +178,8 @@ fn a_look_at_another_variable_changes_no_answer(rt: HostRuntime) -> Result<(), F
     read_beside_by_both(&rt, rt.alloc(), &stacks)
 }
 
-// Compares an entry as a reader that keeps values gives it with the answer of a fresh reader.
-fn compare(rt: &impl Abort, stacks: &Stacks, keeping: &mut Reader, v: u32, k: u32)
+/// Compares an entry as a reader that keeps values gives it with the answer of a fresh reader.
+pub fn compare(rt: &impl Abort, stacks: &Stacks, keeping: &mut Reader, v: u32, k: u32)
     requires { Belongs stacks.now keeping.old }
     ensures { Belongs stacks.now keeping.new }
 {

@@ -1,0 +1,25 @@
+use Rattle.std.proofs.Common.{◌≡◌, ◌<◌, refl, sym, ap, ap₂, slice_index, ◌∙◌, arith, add-one}
+use Rattle.rand_chacha.specs.Block.{add32, column_round, diagonal_round, double_rounds, block_word}
+use Rattle.rand_chacha.proofs.LaneLemmas.{slice_index-lane}
+use Rattle.pop_stacks.proofs.lanes.first_blocks.Goals as goal
+
+pub rounds-init : goal.rounds-init
+unfolding double_rounds
+rounds-init c j h = refl
+
+pub rounds-preserved : goal.rounds-preserved
+unfolding double_rounds
+rounds-preserved c j h =
+    rw add-one (c.diagonal_round-x.ensures j h
+    ∙ ap diagonal_round (c.column_round.ensures j h ∙ ap column_round (c.rounds.invariant j h)))
+
+pub returns : goal.returns
+unfolding block_word
+returns c j k lane word =
+    let written : k < c.words.k = omega arith in
+    let done : c.rounds._round ≡ c.args.double_rounds = omega arith in
+    let first = c.first_states-first.ensures j lane in
+    c.words.invariant.1 j k lane written
+    ∙ ap₂ add32
+    (sym (slice_index-lane c.rounds.x j k word) ∙ ap (λ x. slice_index x k) (c.rounds.invariant j lane ∙ ap₂ double_rounds done first))
+    (sym (slice_index-lane c.first_states-first.result j k word) ∙ ap (λ x. slice_index x k) first)
