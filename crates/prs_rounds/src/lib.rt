@@ -5,12 +5,15 @@
 //! one thread makes, so that no cutting of the work shows.
 #![tactic(auto)]
 
+mod alone;
 mod growth;
 pub mod laws;
+mod looker;
 mod looks;
 mod mark;
 mod moves;
 mod numbers;
+mod on_threads;
 mod resampling;
 mod round_end;
 mod rounds;
@@ -22,4 +25,4 @@ mod values;
 pub use looks::violated;
 pub use resampling::resampling_set;
 pub use round_end::RoundEnd;
-pub use rounds::run_rounds;
+pub use rounds::{run_rounds, run_rounds_alone};

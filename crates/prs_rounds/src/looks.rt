@@ -7,6 +7,7 @@ ghost use Rattle.prs_rounds.specs.Resampling.{OccursIn};
 ghost use Rattle.prs_rounds.specs.Units.{IsListed, AreUnitsOf};
 ghost use Rattle.prs_rounds.specs.Values.{shown_places, shown_units};
 
+use crate::on_threads::OnThreads;
 use crate::seen::see_all;
 use confluence_core::Units;
 use pop_instance::{Cursors, Events, Family, Instance};
@@ -52,6 +53,6 @@ fn violated_of<R: Threads + Sync>(
     ensures list { IfOk result (λ units.
         units ≡ shown_places (values_at stacks.now cursors.now) events.now) }
 {
-    let seen = see_all(rt, alloc, stacks, events, cursors)?;
+    let seen = see_all(&OnThreads { rt }, alloc, stacks, events, cursors)?;
     Ok(Units::of(seen.found))
 }

@@ -5,11 +5,10 @@ ghost use Rattle.confluence_core.specs.Loops.{Raises};
 ghost use Rattle.prs_rounds.specs.Moves.{IsLeastShort, Puts};
 ghost use Rattle.prs_rounds.specs.Values.{AreValues};
 
-use crate::values::read;
+use crate::looker::Looker;
 use pop_instance::Cursors;
 use pop_stacks::Stacks;
 use std::alloc::{AllocError, Global};
-use std::thread::Threads;
 
 // Whether a variable is at its last entry.
 fn is_last(stacks: &Stacks, cursors: &Cursors, v: u32) -> bool
@@ -74,14 +73,15 @@ fn put(values: &mut Vec<u32>, variables: &[u32], read: &[u32])
 }
 
 /// Reads the values of these variables anew, whose cursors have moved on.
-pub(crate) fn refresh<R: Threads + Sync>(
-    rt: &R,
+pub(crate) fn refresh<L: Looker>(
+    looker: &L,
     alloc: Global,
     stacks: &Stacks,
     cursors: &Cursors,
     variables: &[u32],
     values: &mut Vec<u32>,
 ) -> Result<(), AllocError>
+    requires can_look { L.can_look }
     requires known { All (λ v. v < length cursors.now) variables.now }
     requires differ { AllPairs (λ v w. v ≢ w) variables.now }
     requires count { variables_of stacks.now ≡ length cursors.now }
@@ -91,7 +91,7 @@ pub(crate) fn refresh<R: Threads + Sync>(
         → Raises variables.now (length variables.now) c cursors.now
         → AreValues stacks.now cursors.now values.new.items) }
 {
-    let now = read(rt, alloc, stacks, cursors, variables)?;
+    let now = looker.read(alloc, stacks, cursors, variables)?;
     put(values, variables, &now);
     Ok(())
 }

@@ -10,6 +10,7 @@ ghost use Rattle.prs_rounds.specs.Growth.{mark_of, is_joined};
 
 use crate::growth::Growth;
 use crate::numbers::all_below;
+use crate::on_threads::OnThreads;
 use crate::seen::see_all;
 use confluence_core::Units;
 use pop_instance::{Cursors, Events, Family, Index, Instance};
@@ -59,7 +60,7 @@ fn set_of<R: Threads + Sync>(
     ensures { IfOk result (AreUnitsOf (IsResampled
         (record { stacks = stacks.now; family = ListedEvents events.now }) cursors.now)) }
 {
-    let seen = see_all(rt, alloc, stacks, events, cursors)?;
+    let seen = see_all(&OnThreads { rt }, alloc, stacks, events, cursors)?;
     let mut growth = Growth::blank(alloc, events.count(), stacks.count())?;
     growth.grow(events, index, &seen.values, &seen.found)?;
     let places = all_below(alloc, events.count())?;

@@ -10,6 +10,9 @@ ghost use Rattle.prs_rounds.specs.Rounds.{IsRoundsEnd};
 ghost use Rattle.prs_rounds.specs.Units.{IsIndexOf};
 
 use crate::RoundEnd;
+use crate::alone::Alone;
+use crate::looker::Looker;
+use crate::on_threads::OnThreads;
 use crate::seen::see_all;
 use crate::state::{start, turn};
 use confluence_core::Stuck;
@@ -41,9 +44,50 @@ pub fn run_rounds<R: Threads + Sync>(
     ensures values { IfOk result
         (λ end. end.values.items ≡ values_at instance.now.stacks end.cursors) }
 {
+    rounds_by(&OnThreads { rt }, alloc, instance, index)
+}
+
+/// The run of `run_rounds` on the calling thread, which starts no other: variables and events are
+/// looked at one after another, in time linear in the same.
+pub fn run_rounds_alone(
+    alloc: Global,
+    instance: &Instance,
+    index: &Index,
+) -> Result<RoundEnd, AllocError>
+    requires index { IsIndexOf instance.now.family index.now }
+    requires variables { length index.now ≡ variables_of instance.now.stacks }
+    ensures end { IfOk result
+        (λ end. IsRoundsEnd instance.now end.cursors end.rounds end.stuck end.short) }
+    ensures count { IfOk result
+        (λ end. length end.cursors ≡ variables_of instance.now.stacks) }
+    ensures within { IfOk result (λ end. AreWithin instance.now.stacks end.cursors) }
+    ensures values { IfOk result
+        (λ end. end.values.items ≡ values_at instance.now.stacks end.cursors) }
+{
+    rounds_by(&Alone, alloc, instance, index)
+}
+
+// The run of an instance's listed events, looked at by either.
+fn rounds_by<L: Looker>(
+    looker: &L,
+    alloc: Global,
+    instance: &Instance,
+    index: &Index,
+) -> Result<RoundEnd, AllocError>
+    requires can_look { L.can_look }
+    requires index { IsIndexOf instance.now.family index.now }
+    requires variables { length index.now ≡ variables_of instance.now.stacks }
+    ensures end { IfOk result
+        (λ end. IsRoundsEnd instance.now end.cursors end.rounds end.stuck end.short) }
+    ensures count { IfOk result
+        (λ end. length end.cursors ≡ variables_of instance.now.stacks) }
+    ensures within { IfOk result (λ end. AreWithin instance.now.stacks end.cursors) }
+    ensures values { IfOk result
+        (λ end. end.values.items ≡ values_at instance.now.stacks end.cursors) }
+{
     let _units = instance.units();
     match instance.family() {
-        Family::Listed(events) => rounds_of(rt, alloc, instance.stacks(), events, index),
+        Family::Listed(events) => rounds_of(looker, alloc, instance.stacks(), events, index),
         Family::Cycles(_) => unreachable!(),
     }
 }
@@ -62,31 +106,33 @@ fn copies(alloc: Global, events: &Events, places: &[u32]) -> Result<Stuck, Alloc
 }
 
 // The events that occur, by rising unit.
-fn stuck_at<R: Threads + Sync>(
-    rt: &R,
+fn stuck_at<L: Looker>(
+    looker: &L,
     alloc: Global,
     stacks: &Stacks,
     events: &Events,
     cursors: &Cursors,
 ) -> Result<Stuck, AllocError>
+    requires can_look { L.can_look }
     requires fits { All (λ r. FitsStacks stacks.now r.1) events.now }
     requires count { variables_of stacks.now ≡ length cursors.now }
     requires within { AreWithin stacks.now cursors.now }
     ensures { IfOk result (IsStuckList
         (record { stacks = stacks.now; family = ListedEvents events.now }) cursors.now) }
 {
-    let seen = see_all(rt, alloc, stacks, events, cursors)?;
+    let seen = see_all(looker, alloc, stacks, events, cursors)?;
     copies(alloc, events, &seen.found)
 }
 
 // The run of listed events.
-fn rounds_of<R: Threads + Sync>(
-    rt: &R,
+fn rounds_of<L: Looker>(
+    looker: &L,
     alloc: Global,
     stacks: &Stacks,
     events: &Events,
     index: &Index,
 ) -> Result<RoundEnd, AllocError>
+    requires can_look { L.can_look }
     requires fits { All (λ r. FitsStacks stacks.now r.1) events.now }
     requires index { IsIndex events.now index.now }
     requires variables { length index.now ≡ variables_of stacks.now }
@@ -100,11 +146,11 @@ fn rounds_of<R: Threads + Sync>(
 {
     let _table = stacks.count();
     let _events = events.count();
-    let mut state = start(rt, alloc, stacks, events)?;
+    let mut state = start(looker, alloc, stacks, events)?;
     let mut rounds: u64 = 0;
     'rounds: while 0 < state.found.len() {
-        if let Some(v) = turn(rt, alloc, stacks, events, index, &mut state)? {
-            let stuck = stuck_at(rt, alloc, stacks, events, &state.cursors)?;
+        if let Some(v) = turn(looker, alloc, stacks, events, index, &mut state)? {
+            let stuck = stuck_at(looker, alloc, stacks, events, &state.cursors)?;
             return Ok(RoundEnd {
                 cursors: state.cursors,
                 rounds,

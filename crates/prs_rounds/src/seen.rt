@@ -8,13 +8,11 @@ ghost use Rattle.prs_rounds.specs.Units.{AreUnitsOf};
 ghost use Rattle.prs_rounds.specs.Values.{shown_places};
 ghost use Rattle.prs_rounds.specs.Grown.{StartsAt};
 
+use crate::looker::Looker;
 use crate::numbers::all_below;
-use crate::shown::occurring;
-use crate::values::read;
 use pop_instance::{Cursors, Events};
 use pop_stacks::Stacks;
 use std::alloc::{AllocError, Global};
-use std::thread::Threads;
 
 /// What is seen at cursors.
 #[derive(Drop)]
@@ -26,14 +24,15 @@ pub(crate) struct Seen {
 }
 
 /// The current values, and the rising places of the events that occur. Each variable and each event
-/// is looked at once, in parallel.
-pub(crate) fn see_all<R: Threads + Sync>(
-    rt: &R,
+/// is looked at once.
+pub(crate) fn see_all<L: Looker>(
+    looker: &L,
     alloc: Global,
     stacks: &Stacks,
     events: &Events,
     cursors: &Cursors,
 ) -> Result<Seen, AllocError>
+    requires can_look { L.can_look }
     requires fits { All (λ r. FitsStacks stacks.now r.1) events.now }
     requires count { variables_of stacks.now ≡ length cursors.now }
     requires within { AreWithin stacks.now cursors.now }
@@ -46,8 +45,8 @@ pub(crate) fn see_all<R: Threads + Sync>(
         StartsAt stacks.now events.now cursors.now seen.values.items seen.found.items) }
 {
     let variables = all_below(alloc, stacks.count())?;
-    let values = read(rt, alloc, stacks, cursors, &variables)?;
+    let values = looker.read(alloc, stacks, cursors, &variables)?;
     let places = all_below(alloc, events.count())?;
-    let found = occurring(rt, alloc, events, &values, &places)?;
+    let found = looker.occurring(alloc, events, &values, &places)?;
     Ok(Seen { values, found })
 }

@@ -5,13 +5,12 @@ ghost use Rattle.pop_instance.specs.Index.{IsIndex};
 ghost use Rattle.prs_rounds.specs.States.{IsAt, Turns};
 
 use crate::growth::Growth;
+use crate::looker::Looker;
 use crate::moves::{least_short, move_on, refresh};
 use crate::seen::see_all;
-use crate::shown::occurring;
 use pop_instance::{Cursors, Events, Index};
 use pop_stacks::Stacks;
 use std::alloc::{AllocError, Global};
-use std::thread::Threads;
 
 /// Where a run by rounds stands between two rounds.
 #[derive(Drop)]
@@ -26,18 +25,19 @@ pub(crate) struct State {
 }
 
 /// The state before any round. Each variable and each event is looked at.
-pub(crate) fn start<R: Threads + Sync>(
-    rt: &R,
+pub(crate) fn start<L: Looker>(
+    looker: &L,
     alloc: Global,
     stacks: &Stacks,
     events: &Events,
 ) -> Result<State, AllocError>
+    requires can_look { L.can_look }
     requires fits { All (λ r. FitsStacks stacks.now r.1) events.now }
     ensures at { IfOk result (IsAt stacks.now events.now) }
     ensures zeros { IfOk result (λ state. state.cursors ≡ replicate (variables_of stacks.now) 0) }
 {
     let cursors = Cursors::zeros(alloc, stacks.count())?;
-    let seen = see_all(rt, alloc, stacks, events, &cursors)?;
+    let seen = see_all(looker, alloc, stacks, events, &cursors)?;
     let growth = Growth::blank(alloc, events.count(), stacks.count())?;
     Ok(State {
         cursors,
@@ -50,14 +50,15 @@ pub(crate) fn start<R: Threads + Sync>(
 /// Makes a round, where each variable of the resampling set has a next entry; else names the least
 /// that has none, and the cursors stay. Only events that name a variable of the set are looked at:
 /// no other can have begun or ceased to occur.
-pub(crate) fn turn<R: Threads + Sync>(
-    rt: &R,
+pub(crate) fn turn<L: Looker>(
+    looker: &L,
     alloc: Global,
     stacks: &Stacks,
     events: &Events,
     index: &Index,
     state: &mut State,
 ) -> Result<Option<u32>, AllocError>
+    requires can_look { L.can_look }
     requires fits { All (λ r. FitsStacks stacks.now r.1) events.now }
     requires index { IsIndex events.now index.now }
     requires variables { length index.now ≡ variables_of stacks.now }
@@ -74,14 +75,14 @@ pub(crate) fn turn<R: Threads + Sync>(
     }
     move_on(&mut state.cursors, &state.growth.variables);
     refresh(
-        rt,
+        looker,
         alloc,
         stacks,
         &state.cursors,
         &state.growth.variables,
         &mut state.values,
     )?;
-    state.found = occurring(rt, alloc, events, &state.values, &state.growth.looked)?;
+    state.found = looker.occurring(alloc, events, &state.values, &state.growth.looked)?;
     state.growth.clear();
     Ok(None)
 }

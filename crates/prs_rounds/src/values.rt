@@ -13,8 +13,8 @@ use std::thread::Threads;
 // no thread is started, since that would cost more than it saves.
 const PIECE: usize = 512;
 
-// The values of the variables from place `start` on, as many as there is room for.
-fn read_piece(
+/// The values of the variables from place `start` on, as many as there is room for.
+pub(crate) fn read_piece(
     stacks: &Stacks,
     cursors: &Cursors,
     variables: &[u32],

@@ -15,18 +15,18 @@ below_count : (s : StackTable) (rows : List (ℕ × Cube)) (c : List ℕ) → va
 below_count s rows c count fits k d h k' d' h' = let fit = (fits k d h k' d' h').0 in omega (arith, fit, count)
 
 pub read-requires-clause-known : goal.read-requires-clause-known
-read-requires-clause-known g c κs within =
+read-requires-clause-known g c =
     all_known (length c.args.cursors.now) c.deref.result.now
     (c.deref.ensures.value ∙ c.in_ok-variables.ensures ∙ ap (range_with_len 0) (c.count.ensures.count
     ∙ c.requires.count))
 
 pub occurring-requires-clause-known : goal.occurring-requires-clause-known
-occurring-requires-clause-known g c κs within =
+occurring-requires-clause-known g c =
     all_known (length c.args.events.now) c.deref-3.result.now
     (c.deref-3.ensures.value ∙ c.in_ok-places.ensures ∙ ap (range_with_len 0) c.count-2.ensures.count)
 
 pub occurring-requires-clause-fits : goal.occurring-requires-clause-fits
-occurring-requires-clause-fits g c κs within k d h k' d' h' =
+occurring-requires-clause-fits g c k d h k' d' h' =
     let fits = (c.requires.fits k d h k' d' h').0 in
     let all = ap length (c.deref.ensures.value ∙ c.in_ok-variables.ensures
     ∙ ap (range_with_len 0) c.count.ensures.count) in

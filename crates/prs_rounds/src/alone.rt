@@ -1,0 +1,42 @@
+use crate::looker::Looker;
+use crate::shown::is_shown;
+use crate::values::read_piece;
+use pop_instance::{Cursors, Events};
+use pop_stacks::Stacks;
+use std::alloc::{AllocError, Global};
+
+/// Looks on the calling thread alone, at one after another.
+#[derive(Drop)]
+pub(crate) struct Alone;
+
+impl Looker for Alone {
+    ghost can_look = { Unit {0} };
+
+    fn occurring(
+        &self,
+        alloc: Global,
+        events: &Events,
+        values: &[u32],
+        places: &[u32],
+    ) -> Result<Vec<u32>, AllocError> {
+        let mut found = Vec::new(alloc);
+        for place in places {
+            if is_shown(values, events.cube(*place)) {
+                found.push(*place)?;
+            }
+        }
+        Ok(found)
+    }
+
+    fn read(
+        &self,
+        alloc: Global,
+        stacks: &Stacks,
+        cursors: &Cursors,
+        variables: &[u32],
+    ) -> Result<Vec<u32>, AllocError> {
+        let mut values = vec![in alloc; 0; variables.len()]?;
+        read_piece(stacks, cursors, variables, 0, &mut values);
+        Ok(values)
+    }
+}

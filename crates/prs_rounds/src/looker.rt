@@ -1,0 +1,44 @@
+ghost use Rattle.std.specs.Prelude.{◌≡◌, ◌<◌, length, All, IfOk};
+ghost use Rattle.pop_model.specs.Stacks.{variables_of};
+ghost use Rattle.pop_model.specs.Popping.{NamesBelow, AreWithin};
+ghost use Rattle.prs_rounds.specs.Values.{AreRead, shown_among};
+
+use pop_instance::{Cursors, Events};
+use pop_stacks::Stacks;
+use std::alloc::{AllocError, Global};
+
+/// What looks at many variables or events: threads, or the calling thread alone.
+pub(crate) trait Looker {
+    // What has to hold of its type, as that threads may share what it lends them.
+    ghost can_look: { Type 0 };
+
+    /// Of these places, in their order, those whose events the values show.
+    fn occurring(
+        &self,
+        alloc: Global,
+        events: &Events,
+        values: &[u32],
+        places: &[u32],
+    ) -> Result<Vec<u32>, AllocError>
+        requires can_look { can_look }
+        requires known { All (λ u. u < length events.now) places.now }
+        requires fits { All (λ r. NamesBelow r.1 (length values.now)) events.now }
+        ensures { IfOk result (λ found.
+            found.items ≡ shown_among values.now events.now places.now) };
+
+    /// The values of these variables at their cursors.
+    fn read(
+        &self,
+        alloc: Global,
+        stacks: &Stacks,
+        cursors: &Cursors,
+        variables: &[u32],
+    ) -> Result<Vec<u32>, AllocError>
+        requires can_look { can_look }
+        requires count { variables_of stacks.now ≡ length cursors.now }
+        requires within { AreWithin stacks.now cursors.now }
+        requires known { All (λ v. v < length cursors.now) variables.now }
+        ensures len { IfOk result (λ values. length values.items ≡ length variables.now) }
+        ensures read { IfOk result (λ values.
+            AreRead stacks.now cursors.now variables.now 0 values.items) };
+}
