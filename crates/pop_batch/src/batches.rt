@@ -29,6 +29,18 @@ pub fn batch<R: Threads + Sync>(
     Ok(Ends::of(ends))
 }
 
+/// The ends that `batch` makes, of runs one after another on the calling thread, which starts no
+/// other. Want of memory in one of them is that of the whole.
+pub fn batch_alone(alloc: Global, instance: &Instance, count: u32) -> Result<Ends, AllocError>
+    requires keyed { IsKeyed instance.now.stacks.origin }
+    requires extremal { IsExtremal instance.now.family }
+    ensures ends { IfOk result (AreEnds instance.now count) }
+{
+    let index = instance.index(alloc)?;
+    let ends = run_in_turn(alloc, instance, &index, count)?;
+    Ok(Ends::of(ends))
+}
+
 // The ends of so many samples.
 fn run_all<R: Threads + Sync>(
     rt: &R,
@@ -87,4 +99,23 @@ fn run_each<R: Threads + Sync>(
             { run_sample(alloc, instance, index, j) },
         )
         .collect::<Result<Vec<End>, AllocError>>(rt, alloc)?
+}
+
+// The same, run one after another.
+fn run_in_turn(
+    alloc: Global,
+    instance: &Instance,
+    index: &Option<Index>,
+    count: u32,
+) -> Result<Vec<End>, AllocError>
+    requires index { IsFamilyIndex instance.now.family index.now }
+    requires keyed { IsKeyed instance.now.stacks.origin }
+    requires extremal { IsExtremal instance.now.family }
+    ensures { IfOk result (λ ends. AreEnds instance.now count ends.items) }
+{
+    let mut ends = Vec::with_capacity(alloc, count as usize)?;
+    for j in 0..count {
+        ends.push(run_sample(alloc, instance, index, j)?)?;
+    }
+    Ok(ends)
 }

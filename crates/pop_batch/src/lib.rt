@@ -1,4 +1,5 @@
-//! Batches: many samples of one instance under a key, run in parallel, each on one thread.
+//! Batches: many samples of one instance under a key, run in parallel or one after another,
+//! each on one thread.
 //!
 //! Contracts see the ends as a list, in which end j is that of the one-thread run on sample j, so
 //! that no cutting of the work shows.
@@ -8,5 +9,5 @@ mod batches;
 mod ends;
 pub mod laws;
 
-pub use batches::batch;
+pub use batches::{batch, batch_alone};
 pub use ends::Ends;
