@@ -7,7 +7,7 @@ ghost use Rattle.pop_batch.specs.Batches.{AreEnds};
 use crate::compare::{same, same_at};
 use confluence_core::{End, Stuck, run_first};
 use instances::{cycles, listed};
-use pop_batch::{Ends, batch};
+use pop_batch::{Ends, batch, batch_alone};
 use pop_instance::Instance;
 use pop_stacks::Stacks;
 use std::alloc::Global;
@@ -108,7 +108,17 @@ fn are_those_of_first(
     Ok(())
 }
 
-// Compares three samples of an instance with one-thread runs, and returns whether one is stuck.
+// Compares three samples that are run on this thread with one-thread runs.
+fn three_alone(rt: &impl Abort, alloc: Global, instance: &Instance) -> Result<(), Fail>
+    requires keyed { IsKeyed instance.now.stacks.origin }
+    requires extremal { IsExtremal instance.now.family }
+{
+    let ends = batch_alone(alloc, instance, 3)?;
+    are_those_of_first(rt, alloc, instance, &ends)
+}
+
+// Compares three samples of an instance, run in parallel and run on this thread, with one-thread
+// runs, and returns whether one is stuck.
 fn three_samples<R: Threads + Abort + Sync>(
     rt: &R,
     alloc: Global,
@@ -117,6 +127,7 @@ fn three_samples<R: Threads + Abort + Sync>(
     requires keyed { IsKeyed instance.now.stacks.origin }
     requires extremal { IsExtremal instance.now.family }
 {
+    three_alone(rt, alloc, instance)?;
     let ends = batch(rt, alloc, instance, 3)?;
     are_those_of_first(rt, alloc, instance, &ends)?;
     Ok(ends.some_stuck())

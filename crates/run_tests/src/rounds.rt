@@ -6,7 +6,7 @@ use crate::compare::{are_cursors, are_stuck};
 use confluence_core::Units;
 use instances::{index_of, many};
 use pop_instance::{Cursors, Index, Instance};
-use prs_rounds::{RoundEnd, resampling_set, run_rounds, violated};
+use prs_rounds::{RoundEnd, resampling_set, run_rounds, run_rounds_alone, violated};
 use std::alloc::Global;
 use std::process::Abort;
 use std::test::Fail;
@@ -99,6 +99,31 @@ fn are_units(rt: &impl Abort, units: &Units, want: &[u32]) {
     }
 }
 
+// Compares the end of rounds over so many variables.
+fn is_end(rt: &impl Abort, count: u32, end: &RoundEnd, want: &Want)
+    requires { count ≡ length end.now.cursors }
+{
+    are_cursors(rt, &end.cursors, count, want.cursors);
+    are_stuck(rt, &end.stuck, want.stuck);
+    assert_eq!(rt; (end.rounds, end.short), (want.rounds, want.short));
+}
+
+// Compares the end of the rounds of an instance that are run on this thread.
+fn ends_alone(
+    rt: &impl Abort,
+    alloc: Global,
+    instance: &Instance,
+    index: &Index,
+    want: &Want,
+) -> Result<(), Fail>
+    requires index { IsIndexOf instance.now.family index.now }
+    requires variables { length index.now ≡ variables_of instance.now.stacks }
+{
+    let end = run_rounds_alone(alloc, instance, index)?;
+    is_end(rt, instance.stacks().count(), &end, want);
+    Ok(())
+}
+
 // Compares what comes of an instance.
 fn comes_of<R: Threads + Abort + Sync>(
     rt: &R,
@@ -120,10 +145,8 @@ fn comes_of<R: Threads + Abort + Sync>(
         want.set,
     );
     let end = run_rounds(rt, alloc, instance, index)?;
-    are_cursors(rt, &end.cursors, count, want.cursors);
-    are_stuck(rt, &end.stuck, want.stuck);
-    assert_eq!(rt; (end.rounds, end.short), (want.rounds, want.short));
-    Ok(())
+    is_end(rt, count, &end, want);
+    ends_alone(rt, alloc, instance, index, want)
 }
 
 #[test]
