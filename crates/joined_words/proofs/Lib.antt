@@ -1,0 +1,2 @@
+mod FoundWords
+mod NoWords

@@ -1,0 +1,43 @@
+//! The words of a call.
+ghost use Rattle.std.specs.Prelude.{◌≡◌, ◌++◌, ◌∷◌, [], map, string_bytes, IfOk, MatchOption, IsUtf8, Ok, true, false};
+ghost use Rattle.joined_words.specs.Joined.{AreJoined, AreNoWords};
+
+use std::alloc::{AllocError, Global};
+use std::str;
+
+// Adds a word behind others, where it is UTF-8, and says whether it is.
+fn push_word(alloc: Global, words: &mut Vec<String>, word: &[u8]) -> Result<bool, AllocError>
+    ensures pushed { result ≡ Ok true → map string_bytes words.new.items
+        ≡ map string_bytes words.old.items ++ word.now ∷ [] }
+    ensures bad { result ≡ Ok false → IsUtf8 word.now → ⊥ }
+{
+    match str::from_utf8(word) {
+        Ok(word) => {
+            words.push(word.to_string(alloc)?)?;
+            Ok(true)
+        }
+        Err(_) => Ok(false),
+    }
+}
+
+/// The words in bytes where a byte 0 ends each, which determine them. None where the last byte
+/// isn't 0, or a word isn't UTF-8. No bytes have no words.
+pub fn words_of(alloc: Global, bytes: &[u8]) -> Result<Option<Vec<String>>, AllocError>
+    ensures { IfOk result (λ found. MatchOption found (AreNoWords bytes.now)
+        (λ words. AreJoined bytes.now (map string_bytes words.items))) }
+{
+    let mut words = Vec::new(alloc);
+    let mut start = 0;
+    for at in 0..bytes.len() {
+        if bytes[at] == 0 {
+            if !push_word(alloc, &mut words, &bytes[start..at])? {
+                return Ok(None);
+            }
+            start = at + 1;
+        }
+    }
+    if start < bytes.len() {
+        return Ok(None);
+    }
+    Ok(Some(words))
+}
