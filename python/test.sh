@@ -1,13 +1,15 @@
 #!/usr/bin/env bash
-# Runs the tests of the Python module with a built program, where there is a python3 that the module takes.
+# Runs the tests of the Python module with a built program, where there is a python3 that the module takes, and once more
+# with a built library, where one is named:
 #
-#     python/test.sh PROGRAM
+#     python/test.sh PROGRAM [LIBRARY]
 #
-# The status is 0 where all passed or there is no such python3, 1 where some failed, and 2 where the call is wrong.
+# LIBRARY is a libpopsample.so. The status is 0 where all passed or there is no such python3, 1 where some failed, and 2
+# where the call is wrong.
 set -euo pipefail
 
-if [ $# -ne 1 ] || [ ! -x "$1" ] || [ -d "$1" ]; then
-    echo "usage: python/test.sh PROGRAM" >&2
+if [ $# -lt 1 ] || [ $# -gt 2 ] || [ ! -x "$1" ] || [ -d "$1" ] || [ ! -f "${2:-$1}" ]; then
+    echo "usage: python/test.sh PROGRAM [LIBRARY]" >&2
     exit 2
 fi
 if ! python3 -c 'import sys; sys.exit(sys.version_info < (3, 11))' 2> /dev/null; then
@@ -18,5 +20,10 @@ fi
 export PYTHONDONTWRITEBYTECODE=1
 POPSAMPLE=$(realpath "$1")
 export POPSAMPLE
+# The empty name says that there is none.
+libraries=("" ${2:+"$(realpath "$2")"})
 cd "$(dirname "$0")"
-exec python3 -m unittest discover -s tests -t .
+for POPSAMPLE_LIBRARY in "${libraries[@]}"; do
+    export POPSAMPLE_LIBRARY
+    python3 -m unittest discover -s tests -t .
+done

@@ -6,10 +6,11 @@
     {'Bob': 'Cem', 'Cem': 'Ann'}
 
 The functions run the program `popsample`, which is what the environment variable POPSAMPLE names, else what was
-installed with the module, else what the PATH has, else what is built in the checkout that this module stands in. A
-result has the key that it came from: the same call with that key gives the same result. All that is raised is an
-`Error`, whose message says what was refused, where, and what to do: an `ArgumentError` before the program runs, and a
-`Refusal` of what the program refuses.
+installed with the module, else what the PATH has, else what is built in the checkout that this module stands in; or
+they call its library in this process, where that is there and serves (`find_library`). A result has the key that it
+came from: the same call with that key gives the same result. All that is raised is an `Error`, whose message says what
+was refused, where, and what to do: an `ArgumentError` before the program runs, and a `Refusal` of what the program
+refuses.
 """
 
 from .argument_errors import (
@@ -38,6 +39,7 @@ from .errors import (
     LimitError,
     MalformedError,
     NoAnswerError,
+    NoLibraryError,
     NoProgramError,
     NotInstalledError,
     NotLegalError,
@@ -58,6 +60,7 @@ from .formulas import check, formula_samples, resample, rounds, sample_formula
 from .graph_input import from_adjacency
 from .graphs import sink_free_orientation, sink_free_orientations, spanning_tree, spanning_trees
 from .keys import batch_key, derived_key, draw_key, seed_key
+from .library import find_library
 from .old_names import (
     Clash,
     Count,
@@ -133,6 +136,7 @@ __all__ = [
     "Memory",
     "NoAnswer",
     "NoAnswerError",
+    "NoLibraryError",
     "NoProgram",
     "NoProgramError",
     "NoWeightError",
@@ -179,6 +183,7 @@ __all__ = [
     "check",
     "derived_key",
     "draw_key",
+    "find_library",
     "find_program",
     "formula_samples",
     "from_adjacency",

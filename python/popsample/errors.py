@@ -386,6 +386,16 @@ class NoProgramError(Error):
         super().__init__(f"{where}: install or build it, and name it by POPSAMPLE or put its folder on the PATH.")
 
 
+class NoLibraryError(Error):
+    """What POPSAMPLE_LIBRARY names can't be loaded."""
+
+    def __init__(self, named: str) -> None:
+        super().__init__(
+            f"POPSAMPLE_LIBRARY names {named!r}, which is no library of popsample: name another one, or, by an empty "
+            "value, none, so that the program runs."
+        )
+
+
 class NoAnswerError(Error):
     """The program ended with a status and a text that are none of its answers, as one that was killed."""
 

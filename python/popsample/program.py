@@ -1,4 +1,4 @@
-"""The program: where it is, and a call of it."""
+"""The program: where it is, and a call of it, or of the library in its place."""
 
 from __future__ import annotations
 
@@ -12,6 +12,7 @@ from functools import cache
 from pathlib import Path
 
 from .errors import NoProgramError, RunTimeoutError
+from .library import answered, find_library, takes
 
 # Where a build in the checkout leaves the program, seen from the checkout.
 BUILT = Path("crates", "popsample", "out", "popsample")
@@ -45,10 +46,18 @@ def find_program() -> str:
 
 
 def printed(words: Sequence[str], text: bytes, timeout: float | None = None) -> tuple[int, bytes]:
-    """Runs the program with these words and this input: its status, and what it prints.
+    """The status for these words and this input, and what the program prints: by the library, where it is there and may
+    answer them, and else by a run of the program, since a call of the library can't be ended.
 
-    Raises RunTimeoutError where it isn't at its end after so many seconds, and ends it.
+    Raises RunTimeoutError where the program isn't at its end after so many seconds, and ends it.
     """
+    if timeout is None and takes(words, text) and (library := find_library()):
+        return answered(library, words, text)
+    return run(words, text, timeout)
+
+
+def run(words: Sequence[str], text: bytes, timeout: float | None) -> tuple[int, bytes]:
+    """Runs the program with these words and this input: its status, and what it prints."""
     try:
         ran = subprocess.run([find_program(), *words], input=text, stdout=subprocess.PIPE, timeout=timeout)
     except subprocess.TimeoutExpired as expired:

@@ -69,7 +69,7 @@ def program_of(script: str) -> Iterator[None]:
     program = popsample.find_program()
     with file_of(f"#!/bin/sh\nPROGRAM='{program}'\n{script}\n") as path:
         path.chmod(0o755)
-        with mock.patch.dict(os.environ, {"POPSAMPLE": str(path)}):
+        with mock.patch.dict(os.environ, {"POPSAMPLE": str(path), "POPSAMPLE_LIBRARY": ""}):
             yield
 
 

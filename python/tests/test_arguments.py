@@ -33,7 +33,7 @@ ROWS = "it is a list of rows, each a list of whole numbers from 0 on"
 WEIGHT = "it is the name of the attribute that has the weights"
 REPORTS = "it has some of the names totals, heights, layers, each once"
 SECONDS = "it is a number of seconds above 0, up to 1000000"
-NO_PROGRAM = {"POPSAMPLE": "/nowhere/popsample"}
+NO_PROGRAM = {"POPSAMPLE": "/nowhere/popsample", "POPSAMPLE_LIBRARY": ""}
 
 
 @mock.patch.dict(os.environ, NO_PROGRAM)

@@ -183,7 +183,7 @@ class OfDevices(Refusing):
         self.assertEqual(error.status, 9)
 
     def test_no_program(self):
-        with mock.patch.dict(os.environ, {"POPSAMPLE": "/nowhere/popsample"}):
+        with mock.patch.dict(os.environ, {"POPSAMPLE": "/nowhere/popsample", "POPSAMPLE_LIBRARY": ""}):
             error = self.refused(popsample.NoProgramError, check, [[1]])
         self.assertIn("'/nowhere/popsample'", str(error))
 
