@@ -100,7 +100,7 @@ def faults_of(name):
 
 def build_below(name):
     """Builds the libraries that a crate stands on, where they stand, since work that is kept there serves again."""
-    listed = re.search(rf"^{name}:([^#\n]*)", text_of(os.path.join(TOP, "crates.txt")), re.MULTILINE)
+    listed = re.search(rf"^{name}(?: staticlib)?:([^#\n]*)", text_of(os.path.join(TOP, "crates.txt")), re.MULTILINE)
     for library in listed[1].split() if listed else []:
         folder = os.path.join(CRATES, library)
         if not os.path.isdir(folder):

@@ -1,0 +1,81 @@
+#!/usr/bin/env bash
+# Tries the library for C as c/build.sh made it:
+#
+#     c/test.sh LIBRARIES
+#
+# LIBRARIES is the folder with libpopsample.a and libpopsample.so. Both are seen to export popsample_run alone, and to
+# need nothing of others but memory; each status is made, with too little room, with memory that is refused and on many
+# threads, under valgrind where it is installed; and the program over the library is tried on the examples, as popsample
+# is. It takes a C compiler.
+#
+# The status is 0 where all is well, 1 where something isn't, and 2 where the call is wrong.
+set -euo pipefail
+export LC_ALL=C
+
+if [ $# -ne 1 ] || [ ! -f "$1/libpopsample.a" ] || [ ! -f "$1/libpopsample.so" ]; then
+    echo "usage: c/test.sh LIBRARIES, as c/build.sh makes them" >&2
+    exit 2
+fi
+libraries=$(realpath "$1")
+cd "$(dirname "$0")"
+room=$(mktemp -d)
+trap 'rm -rf "$room"' EXIT
+compile=("${CC:-cc}" -Wall -Wextra -Wpedantic -Werror -O2 -Iinclude)
+
+fail() {
+    echo "c/test.sh: $*" >&2
+    exit 1
+}
+
+# The names are these, one a line, in their order: WHAT WANTED, and the found ones on standard input.
+has_names() {
+    diff <(tr ' ' '\n' <<< "$2") <(sort -u) >&2 || fail "$1"
+}
+
+check_symbols() {
+    local needs="free malloc memcpy memmove memset realloc"
+    nm -g --defined-only -f posix "$libraries/libpopsample.a" | sed -n 's/ T .*//p' \
+        | has_names "libpopsample.a exports something else" popsample_run
+    nm -D --defined-only -f posix "$libraries/libpopsample.so" | sed 's/[ @].*//' \
+        | has_names "libpopsample.so exports something else" popsample_run
+    nm -u -f posix "$libraries/libpopsample.a" | sed -n 's/ U.*//p' | has_names "libpopsample.a needs something else" "$needs"
+    nm -D -u -f posix "$libraries/libpopsample.so" | sed -n 's/[ @].*//p' \
+        | has_names "libpopsample.so needs something else" "$needs"
+    echo "symbols: ok"
+}
+
+check_header() {
+    "${compile[@]}" -std=c99 -fsyntax-only -x c include/popsample.h
+    if command -v "${CXX:-c++}" > /dev/null; then
+        "${CXX:-c++}" -Wall -Wextra -Wpedantic -Werror -std=c++98 -fsyntax-only -x c++ <(echo '#include "include/popsample.h"') \
+            -I. -Wno-long-long
+    fi
+    echo "header: ok"
+}
+
+check_calls() {
+    "${compile[@]}" -g -std=c11 -pthread -o "$room/calls" calls.c "$libraries/libpopsample.a" \
+        -Wl,--wrap=malloc,--wrap=realloc,--wrap=free
+    "$room/calls"
+    if command -v valgrind > /dev/null; then
+        valgrind --quiet --error-exitcode=1 --leak-check=full "$room/calls" || fail "valgrind has something to say"
+        echo "valgrind: ok"
+    else
+        echo "valgrind: left out, since it isn't installed"
+    fi
+}
+
+check_examples() {
+    mkdir "$room/static" "$room/shared"
+    "${compile[@]}" -std=c99 -o "$room/static/popsample" popsample_main.c "$libraries/libpopsample.a"
+    "${compile[@]}" -std=c99 -o "$room/shared/popsample" popsample_main.c -L"$libraries" -lpopsample
+    ../examples/cases/compare.sh "$room/static/popsample" || fail "the library differs from the cases"
+    cp "$libraries/libpopsample.so" "$room/shared/libpopsample.so.0"
+    LD_LIBRARY_PATH=$room/shared ../release/first_output.sh "$room/shared/popsample" || fail "libpopsample.so differs"
+    echo "shared library: ok"
+}
+
+check_symbols
+check_header
+check_calls
+check_examples
