@@ -24,7 +24,7 @@ trap 'rm -rf "$room"' EXIT
 
 # All of the crate, and of the kit's archive what that calls, as one object.
 ld -r -o "$room/popsample.o" --whole-archive "$crate/libpopsample_c.a" --no-whole-archive "$kit/c/liblibc_c.a"
-objcopy --keep-global-symbol=popsample_run --strip-unneeded "$room/popsample.o"
+objcopy --keep-global-symbol=popsample_run --strip-unneeded -R .comment "$room/popsample.o"
 rm -f "$out/libpopsample.a"
 ar rcsD "$out/libpopsample.a" "$room/popsample.o"
 "${CC:-cc}" -shared -s -nostartfiles -o "$out/libpopsample.so" -Wl,-soname,libpopsample.so.0 -Wl,-z,defs,-z,relro,-z,now \

@@ -1,11 +1,12 @@
 """Builds the wheel of popsample, of what stands in this folder, with the standard library alone.
 
 It has the hooks of a build backend (PEP 517) that pip calls, what `pyproject.toml` says, and the version of the file
-`VERSION` at the top of the repository. Two settings name files that the wheel holds too, as in
+`VERSION` at the top of the repository. Three settings name files that the wheel holds too, as in
 `pip wheel ./python --config-settings program=PATH`:
 
 - `program`: a built program, which is installed among the commands of the environment. The wheel is then for machines
   that can run it: Linux on x86-64, with the C library that the program asks for.
+- `library`: the library for C, beside the module, which calls it in its own process; for the same machines.
 - `copyright`: whose all this is.
 
 Equal files make equal wheels.
@@ -115,6 +116,9 @@ def build_wheel(
         # What stands in this folder of a wheel is installed among the commands.
         files[f"{stem}.data/scripts/popsample"] = program = Path(path).read_bytes()
         platform = platform_of(program)
+    if path := settings.get("library"):
+        files[f"{said['name']}/libpopsample.so"] = library = Path(path).read_bytes()
+        platform = platform_of(library) if platform == "any" else platform
     if path := settings.get("copyright"):
         licences = ["COPYRIGHT"]
         files[f"{stem}.dist-info/licenses/COPYRIGHT"] = Path(path).read_bytes()

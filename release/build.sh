@@ -6,9 +6,10 @@
 # OUT, which is a new or an empty folder, gets an archive, Debian packages of the program and of the Python module, a
 # wheel of both, PROVENANCE.txt, which tells where they come from, and SHA256SUMS. A program that holds the C library,
 # as release/static.sh links it, has no Debian packages: it is for systems that they don't fit. RECORD is what the run
-# printed that proved the program, as of `.ci/run` or `rt run`. Two variables may be set: MAINTAINER, whom the Debian
-# packages name, else the last commit's author; and NOTICE, the file with the C library's notice, else that of Debian's
-# package libc6.
+# printed that proved the program, as of `.ci/run` or `rt run`. Three variables may be set: LIBRARIES, the folder in which
+# c/build.sh made the libraries for C, which the archive, the wheel and a Debian package of their own get then, with the
+# header; MAINTAINER, whom the Debian packages name, else the last commit's author; and NOTICE, the file with the C
+# library's notice, else that of Debian's package libc6.
 #
 # The program is packed as it was built, to the byte: its SHA-256 is the one that a build at the same commit has.
 # Nothing is compiled or fetched, and equal programs and commits make equal files. It takes the kit, whose crates have
@@ -28,6 +29,7 @@ program=$(realpath "$1")
 mkdir -p "$2"
 out=$(realpath "$2")
 record=${3:+$(realpath -e "$3")}
+libraries=${LIBRARIES:+$(realpath -e "$LIBRARIES")}
 cd "$(dirname "$0")/.."
 version=$(cat VERSION)
 maintainer=${MAINTAINER:-$(git log -1 --format='%an <%ae>')}
@@ -51,14 +53,23 @@ verdict() {
     [[ $last == *" passed, 0 failed" || $last == "logic=proved "* ]] && echo "$last"
 }
 
+# A line for each file, with its name there: NAME FILE..
+sums_of() {
+    while [ $# -gt 0 ]; do
+        printf '%-10s %s\n' "$1" "$(sha256sum < "$2" | cut -d ' ' -f 1)"
+        shift 2
+    done
+}
+
 # Tells where all this comes from.
 provenance() {
-    local changed="" library="glibc $glibc or later" leaves="it as crates/popsample/out/popsample, whose"
+    local changed="" library="glibc $glibc or later" beside="" leaves="it as crates/popsample/out/popsample, whose"
     [ -z "$(git status --porcelain --untracked-files=no)" ] || changed=", with changes that aren't committed"
     if [ -z "$glibc" ]; then
         library="linked with the program"
         leaves="crates/popsample/out/popsample.o, of which release/static.sh links this one: its"
     fi
+    [ -z "$libraries" ] || beside=$'\n'"The libraries for C are left in crates/popsample_c/out."
     cat << TEXT
 popsample $version for Linux on x86-64
 
@@ -68,11 +79,12 @@ date       $(date -u -d "@$SOURCE_DATE_EPOCH" +%F)
 kit        $(rt version)
 processor  x86-64-v2 or later
 C library  $library
-program    $(sha256sum < "$program" | cut -d ' ' -f 1)
+$(sums_of program "$program" \
+    ${libraries:+"static lib" "$libraries/libpopsample.a" "shared lib" "$libraries/libpopsample.so"})
 verdict    ${proved:-no run that proved it was named when it was packed}
 
 At this commit and with this kit, \`.ci/run\` proves the program and leaves
-$leaves SHA-256 is on the line \`program\`.
+$leaves SHA-256 is on the line \`program\`.$beside
 TEXT
 }
 
@@ -89,17 +101,26 @@ lay_out() {
     install -D -m 644 -t "$documents/examples" examples/roads.col
 }
 
+# Puts the libraries and the header below a folder: FOLDER LIB, where LIB is the folder of libraries in it.
+lay_out_libraries() {
+    install -D -m 644 -t "$1/include" c/include/popsample.h
+    install -D -m 644 -t "$1/$2" "$libraries/libpopsample.a"
+    install -D -m 644 "$libraries/libpopsample.so" "$1/$2/libpopsample.so.0"
+    ln -s libpopsample.so.0 "$1/$2/libpopsample.so"
+}
+
 pack_archive() {
     local name=popsample-$version-linux-x86_64
     [ -n "$glibc" ] || name+=-static
     lay_out "$room/archive/$name" site-functions
+    [ -z "$libraries" ] || lay_out_libraries "$room/archive/$name" lib
     tar --sort=name --mtime="@$SOURCE_DATE_EPOCH" --owner=0 --group=0 --numeric-owner --format=gnu \
         -C "$room/archive" -cf - "$name" | gzip -9n > "$out/$name.tar.gz"
 }
 
 pack_wheel() {
-    backend 'backend.build_wheel(words[0], {"program": words[1], "copyright": words[2]})' \
-        "$out" "$program" "$room/copyright" > /dev/null
+    backend 'backend.build_wheel(words[0], {"program": words[1], "copyright": words[2], "library": words[3]})' \
+        "$out" "$program" "$room/copyright" "${libraries:+$libraries/libpopsample.so}" > /dev/null
 }
 
 # Packs what is laid out for the Debian package NAME, with what release/debian says of it.
@@ -128,6 +149,15 @@ pack_program() {
     gzip -9n "$usr/share/man/man1/popsample.1" "$usr/share/doc/popsample/"{FORMATS,DEFINITIONS}.md
     install -D -m 644 release/debian/popsample.lintian-overrides "$usr/share/lintian/overrides/popsample"
     pack_debian popsample
+}
+
+pack_libraries() {
+    local name=libpopsample-dev folder=$room/libpopsample-dev
+    lay_out_libraries "$folder/usr" lib/x86_64-linux-gnu
+    install -D -m 644 "release/debian/$name.lintian-overrides" "$folder/usr/share/lintian/overrides/$name"
+    install -D -m 644 "release/debian/$name.triggers" "$folder/DEBIAN/triggers"
+    echo "libpopsample 0 $name (>= $version)" > "$folder/DEBIAN/shlibs"
+    pack_debian "$name"
 }
 
 pack_module() {
@@ -159,6 +189,7 @@ pack_wheel
 if [ -n "$glibc" ]; then
     pack_program
     pack_module
+    [ -z "$libraries" ] || pack_libraries
 fi
 cd "$out"
 sums=$(sha256sum -- *)

@@ -3,18 +3,20 @@
 # that failed, or that proved some crates alone; release/test.sh passes what was packed, and refuses it where a byte of
 # the program or of SHA256SUMS is another one.
 #
-#     release/gate.sh PROGRAM RECORD
+#     release/gate.sh PROGRAM RECORD [LIBRARIES]
 #
-# The words are those of release/build.sh. The status is 0 where all is so, 1 where something isn't, and 2 where the
+# The words are those of release/build.sh, and LIBRARIES is its variable. The status is 0 where all is so, 1 where something isn't, and 2 where the
 # call is wrong.
 set -euo pipefail
 
-if [ $# -ne 2 ] || [ ! -x "$1" ] || [ -d "$1" ] || [ ! -f "$2" ]; then
-    echo "usage: release/gate.sh PROGRAM RECORD" >&2
+if [ $# -lt 2 ] || [ $# -gt 3 ] || [ ! -x "$1" ] || [ -d "$1" ] || [ ! -f "$2" ]; then
+    echo "usage: release/gate.sh PROGRAM RECORD [LIBRARIES]" >&2
     exit 2
 fi
 program=$(realpath "$1")
 record=$(realpath "$2")
+LIBRARIES=${3:+$(realpath "$3")}
+export LIBRARIES
 cd "$(dirname "$0")/.."
 room=$(mktemp -d)
 trap 'rm -rf "$room"' EXIT

@@ -71,10 +71,15 @@ LINES
     tell "version $version"
 }
 
-# What is unpacked has the program that PROVENANCE.txt tells of: PROGRAM.
-check_program() {
-    echo "$(sed -n 's/^program  *//p' "$out/PROVENANCE.txt")  $1" | sha256sum --quiet --strict --check \
-        || fail "$1 isn't the program of PROVENANCE.txt"
+# What is unpacked has what PROVENANCE.txt tells of: NAME FILE, where NAME stands there.
+check_sum() {
+    echo "$(sed -n "s/^$1  *//p" "$out/PROVENANCE.txt")  $2" | sha256sum --quiet --strict --check \
+        || fail "$2 isn't the $1 of PROVENANCE.txt"
+}
+
+# Whether there are libraries.
+has_libraries() {
+    grep -q "^shared lib " "$out/PROVENANCE.txt"
 }
 
 # What else is unpacked says whose it is in the words of the archive: FILE..
@@ -89,12 +94,25 @@ check_archive() {
     local top=$room/archive
     mkdir "$top"
     tar -xzf "$out/$archive" -C "$top" --strip-components=1
-    check_program "$top/bin/popsample"
+    check_sum program "$top/bin/popsample"
     cmp "$top/share/doc/popsample/PROVENANCE.txt" "$out/PROVENANCE.txt" || fail "the archive comes from elsewhere"
     [ -f LICENSE ] || grep -q "^No licence has been chosen yet" "$top/share/doc/popsample/copyright" \
         || fail "the archive doesn't say that there is no licence"
     "$cases" "$top/bin/popsample" || fail "the program of the archive differs from the cases"
+    ! has_libraries || check_libraries "$top" lib
     tell "archive"
+}
+
+# A program over the libraries below a folder answers as README says: TOP LIB, where LIB is the folder of libraries.
+check_libraries() {
+    local compile=("${CC:-cc}" -I"$1/include" -o "$room/linked" c/popsample_main.c)
+    check_sum "static lib" "$1/$2/libpopsample.a"
+    check_sum "shared lib" "$1/$2/libpopsample.so.0"
+    command -v "${CC:-cc}" > /dev/null || return 0
+    "${compile[@]}" "$1/$2/libpopsample.a"
+    release/first_output.sh "$room/linked" || fail "the program over libpopsample.a differs"
+    "${compile[@]}" -L"$1/$2" -lpopsample
+    LD_LIBRARY_PATH=$1/$2 release/first_output.sh "$room/linked" || fail "the program over libpopsample.so differs"
 }
 
 # A root that holds the program and the C library that it asks for, as the loader finds it here, and nothing else.
@@ -117,17 +135,18 @@ check_bare_root() {
 }
 
 check_debian() {
-    local root=$room/debian file
+    local root=$room/debian lib=usr/lib/x86_64-linux-gnu file
     if [ -n "$static" ]; then
         tell "Debian packages" "left out, since there are none of a program that holds the C library"
         return
     fi
-    for file in "$out/popsample_${version}_amd64.deb" "$out/python3-popsample_${version}_all.deb"; do
+    for file in "$out"/*.deb; do
         dpkg-deb -x "$file" "$root"
         [ "$(dpkg-deb -f "$file" Version)" = "$version" ] || fail "$file has another version"
     done
-    check_program "$root/usr/bin/popsample"
-    check_copyright "$root"/usr/share/doc/{popsample,python3-popsample}/copyright
+    check_sum program "$root/usr/bin/popsample"
+    check_copyright "$root"/usr/share/doc/*popsample*/copyright
+    ! has_libraries || check_libraries "$root/usr" "${lib#usr/}"
     alone PATH="$root/usr/bin:/usr/bin:/bin" PYTHONPATH="$root/usr/lib/python3/dist-packages" \
         "$room/venv/bin/python" -B release/call.py "$root/usr/bin/popsample" > /dev/null
     tell "Debian packages"
@@ -142,17 +161,24 @@ check_debian() {
     fi
 }
 
+# The module of a wheel finds what came with it: SITE PROGRAM VARIABLE.., where SITE has the module.
+call_module() {
+    local parts=("$2")
+    ! has_libraries || parts+=("$1/popsample/libpopsample.so")
+    alone "${@:3}" "$room/venv/bin/python" -B release/call.py "${parts[@]}" > /dev/null
+}
+
 check_wheel() {
     local venv=$room/venv beside=$room/beside
     local pip=("$venv/bin/pip" --quiet --disable-pip-version-check install --no-index)
     "${pip[@]}" "$out"/popsample-*.whl
-    check_program "$venv/bin/popsample"
+    check_sum program "$venv/bin/popsample"
     check_copyright "$venv"/lib/python3*/site-packages/popsample-"$version".dist-info/licenses/COPYRIGHT
-    alone "$venv/bin/python" -B release/call.py "$venv/bin/popsample" > /dev/null
+    call_module "$venv"/lib/python3*/site-packages "$venv/bin/popsample"
     "$venv/bin/pip" --quiet --disable-pip-version-check uninstall --yes popsample
     "${pip[@]}" --target "$beside" "$out"/popsample-*.whl
-    check_program "$beside/bin/popsample"
-    alone PYTHONPATH="$beside" "$venv/bin/python" -B release/call.py "$beside/bin/popsample" > /dev/null
+    check_sum program "$beside/bin/popsample"
+    call_module "$beside" "$beside/bin/popsample" PYTHONPATH="$beside"
     tell "wheel"
 }
 

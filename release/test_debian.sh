@@ -49,7 +49,8 @@ if ls "$root"/srv/*.deb > /dev/null 2>&1; then
     quietly "${inside[@]}" sh -c 'apt-get install --yes /srv/*.deb'
     judge "Debian packages" popsample
     "${inside[@]}" python3 -c "$call"
-    quietly "${inside[@]}" apt-get purge --yes popsample python3-popsample
+    mapfile -t packages < <(for file in "$root"/srv/*.deb; do dpkg-deb -f "$file" Package; done)
+    quietly "${inside[@]}" apt-get purge --yes "${packages[@]}"
     left=$(find "$root/usr" "$root/etc" -name '*popsample*')
     if [ -n "$left" ]; then
         echo "release/test_debian.sh: this stays where the packages are removed: $left" >&2

@@ -82,6 +82,13 @@ class Wheels(unittest.TestCase):
         self.assertEqual(said["Root-Is-Purelib"], "false")
         self.assertEqual(said.get_all("Tag"), [f"py3-none-{tag}" for tag in wheel_backend.ANY_LINUX.split(".")])
 
+    def test_a_library_stands_beside_the_module(self):
+        for settings in ({"library": self.file(X86_64)}, {"library": self.file(X86_64), "program": self.file(X86_64)}):
+            name, files = self.wheel(**settings)
+            self.assertEqual(name, f"popsample-{VERSION}-py3-none-{wheel_backend.ANY_LINUX}.whl")
+            self.assertEqual(files["popsample/libpopsample.so"][1], X86_64)
+        self.assertEqual(self.wheel(library="")[0], f"popsample-{VERSION}-py3-none-any.whl")
+
     def test_whose_it_is_goes_along(self):
         _, files = self.wheel(copyright=self.file(b"whose\n"))
         self.assertEqual(files[f"{INFO}/licenses/COPYRIGHT"][1], b"whose\n")
