@@ -5,8 +5,9 @@
 #
 # LIBRARIES is the folder with libpopsample.a and libpopsample.so. Both are seen to export popsample_run alone, and to
 # need nothing of others but memory; each status is made, with too little room, with memory that is refused and on many
-# threads, under valgrind where it is installed; and the program over the library is tried on the examples, as popsample
-# is. It takes a C compiler.
+# threads, under valgrind where it is installed; the program over the library is tried on the examples, as popsample is;
+# and the examples that call it from C, and from R and Julia where these are installed, draw the program's tree. It takes
+# a C compiler.
 #
 # The status is 0 where all is well, 1 where something isn't, and 2 where the call is wrong.
 set -euo pipefail
@@ -65,6 +66,31 @@ check_calls() {
     fi
 }
 
+# An example prints the arrows of the tree that the program prints: NAME COMMAND.., which is run where R's library lies.
+draws_a_tree() {
+    diff <("$room/static/popsample" tree --key "$key" < "$roads" | sed -n 's/^a \([0-9]*\) \([0-9]*\) .*/\1 -> \2/p') \
+        <(cd "$room" && "${@:2}" < "$roads") || fail "the example in $1 draws another tree"
+    echo "example in $1: ok"
+}
+
+check_callers() {
+    local callers=../examples/in_process roads key
+    roads=$(realpath ../examples/roads.col)
+    key=$(sed -n 's/^key.*"\(.*\)"$/\1/p' "$callers/tree.jl")
+    "${compile[@]}" -std=c99 -o "$room/tree" "$callers/tree.c" "$libraries/libpopsample.a"
+    draws_a_tree C "$room/tree" "$key"
+    if command -v R > /dev/null; then
+        # The linker's object goes beside its source.
+        cp "$callers"/{popsample_r.c,tree.R} "$room"
+        PKG_CPPFLAGS=-I$PWD/include PKG_LIBS=$libraries/libpopsample.a \
+            R CMD SHLIB --output="$room/popsample_r.so" "$room/popsample_r.c" > "$room/log" 2>&1 || fail "$(cat "$room/log")"
+        draws_a_tree R Rscript "$room/tree.R" "$roads"
+    fi
+    if command -v julia > /dev/null; then
+        POPSAMPLE_LIBRARY=$libraries/libpopsample.so draws_a_tree Julia julia "$PWD/$callers/tree.jl" "$roads"
+    fi
+}
+
 check_examples() {
     mkdir "$room/static" "$room/shared"
     "${compile[@]}" -std=c99 -o "$room/static/popsample" popsample_main.c "$libraries/libpopsample.a"
@@ -79,3 +105,4 @@ check_symbols
 check_header
 check_calls
 check_examples
+check_callers
