@@ -1,5 +1,5 @@
 -- The path of a walk: the variables that a pass claimed along the arrows, each with its cursor.
-use Rattle.std.specs.Prelude.{◌≡◌, ◌⊎◌, ℕ, suc, ◌+◌, ◌-◌, ◌<◌, ◌≤◌, ◌^◌, List, [], length, slice_index, slice_index_or, Some}
+use Rattle.std.specs.Prelude.{◌≡◌, ℕ, suc, ◌+◌, ◌-◌, ◌<◌, ◌≤◌, ◌^◌, List, [], length, slice_index, slice_index_or, Some}
 use Rattle.pop_model.specs.Popping.{variables}
 use Rattle.claim_words.specs.Maps.{Pairs, times_in}
 use Rattle.claim_words.specs.Openings.{count, height, head_at}
@@ -29,15 +29,12 @@ pub record IsTrail (count : ℕ) (path : Pairs) : Type 0 where
   pub below : (j : ℕ) → j < length path → slice_index (variables path) j < count
   pub short : length path ≤ count
 
--- each variable of the path has its place plus 1 as its mark, and each other one 0; there is room
--- for a path of all variables
+-- each variable of the path has its place as its mark, and there is room for a path of all variables
 pub record IsKept (marks : List ℕ) (path : Pairs) (room : ℕ) : Type 0 where
   pub trail : IsTrail (length marks) path
   pub small : length marks < 2 ^ 31
   pub marked : (j : ℕ) → j < length path
-      → slice_index marks (slice_index (variables path) j) ≡ suc j
-  pub others : (v : ℕ) → v < length marks → (slice_index marks v ≡ 0)
-      ⊎ ((j : ℕ) × (j < length path) × (slice_index (variables path) j ≡ v))
+      → slice_index marks (slice_index (variables path) j) ≡ j
   pub roomy : length marks ≤ room
 
 -- the variable is one of the board, and its cursor below its height

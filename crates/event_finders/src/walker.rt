@@ -12,7 +12,7 @@ use std::mem;
 /// for how many variables it is, and the path of a walk, which is empty between walks.
 #[derive(Drop)]
 pub struct Walker {
-    // One on the path has its place plus 1, and each other one 0.
+    // One on the path has its place there as its mark. What another has means nothing.
     marks: Vec<u32>,
     // Each variable of the path with its cursor.
     path: Vec<(u32, u32)>,
@@ -55,17 +55,20 @@ impl Walker {
         self.path.len()
     }
 
-    // Where a variable stands on the path.
+    // Where a variable stands on the path: only where its mark says so, and it stands there.
     pub(crate) fn place(&self, v: u32) -> Option<usize>
         requires known { v < self.now.count }
         ensures { MatchOption result (times_in v (variables self.now.path) ≡ 0)
             (λ j. (j < length self.now.path) × (slice_index (variables self.now.path) j ≡ v)) }
     {
-        let mark = self.marks[v as usize];
-        if mark == 0 {
+        let place = self.marks[v as usize] as usize;
+        if place >= self.path.len() {
             return None;
         }
-        Some(mark as usize - 1)
+        if self.path[place].0 != v {
+            return None;
+        }
+        Some(place)
     }
 
     // What stands at a place of the path.
@@ -100,11 +103,11 @@ impl Walker {
         ensures path { self.new ≡ record self.old { path = self.old.path ++ (v, cursor) ∷ [] } }
         ensures trail { IsTrail self.new.count self.new.path }
     {
-        self.path.push_reserved((v, cursor));
         self.marks[v as usize] = self.path.len() as u32;
+        self.path.push_reserved((v, cursor));
     }
 
-    // Takes the last variable off the path.
+    // Takes the last variable off the path. Its mark stays.
     pub(crate) fn pop(&mut self) -> (u32, u32)
         requires { 0 < length self.old.path }
         ensures path { self.old.path ≡ self.new.path ++ result ∷ [] }
@@ -114,7 +117,6 @@ impl Walker {
         let Some(last) = self.path.pop() else {
             unreachable!()
         };
-        self.marks[last.0 as usize] = 0;
         last
     }
 
