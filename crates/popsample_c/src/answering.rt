@@ -10,6 +10,20 @@ use pop_watch::{Heights, Layers, Totals, Watch};
 use std::alloc::{AllocError, Global};
 use top_call::{Answer, answer_alone};
 
+// The answer to words and a text, with these watchers.
+fn answer_with(
+    alloc: Global,
+    words: &[String],
+    watchers: Vec<Box<dyn Watch>>,
+    text: &[u8],
+) -> Result<Answer, AllocError>
+    ensures answer { IfOk result (λ a. IsAnswer (map string_bytes words.now)
+        (map (λ b. (kind b, state b)) watchers.items) text.now a.status a.text.items) }
+    ensures status { IfOk result (λ a. IsAnswerStatus a.status) }
+{
+    answer_alone(alloc, words, watchers, text)
+}
+
 // The answer to words and a text, with a watcher of each kind.
 fn watched_answer(alloc: Global, words: &[String], text: &[u8]) -> Result<Answer, AllocError>
     ensures answer { IfOk result (λ a. IsAnswer (map string_bytes words.now) fresh_watchers
@@ -23,10 +37,7 @@ fn watched_answer(alloc: Global, words: &[String], text: &[u8]) -> Result<Answer
     watchers.push(totals)?;
     watchers.push(heights)?;
     watchers.push(layers)?;
-    match answer_alone(alloc, words, watchers, text) {
-        Ok(answer) => Ok(answer),
-        Err(_) => Err(AllocError),
-    }
+    answer_with(alloc, words, watchers, text)
 }
 
 /// The answer to the words in these bytes and to a text; None where no words are in them.
