@@ -27,5 +27,5 @@ ld -r -o "$room/popsample.o" --whole-archive "$crate/libpopsample_c.a" --no-whol
 objcopy --keep-global-symbol=popsample_run --strip-unneeded -R .comment "$room/popsample.o"
 rm -f "$out/libpopsample.a"
 ar rcsD "$out/libpopsample.a" "$room/popsample.o"
-"${CC:-cc}" -shared -s -nostartfiles -o "$out/libpopsample.so" -Wl,-soname,libpopsample.so.0 -Wl,-z,defs,-z,relro,-z,now \
-    -Wl,-z,noexecstack -Wl,--gc-sections -Wl,--build-id=none "$room/popsample.o"
+"${CC:-cc}" -shared -s -nostartfiles -o "$out/libpopsample.so" -Wl,-soname,libpopsample.so.0 -Wl,--gc-sections \
+    -Wl,-z,defs,-z,relro,-z,now,-z,noexecstack -Wl,--build-id=none "$room/popsample.o"

@@ -1,5 +1,5 @@
-/* Calls of the library: each status, what is left of the output, memory that is refused, and calls on many threads. It is
-   linked with libpopsample.a, and with --wrap for malloc, realloc and free. */
+/* Calls of the library: each status, what is left of the output, memory that is refused, and calls on many threads. It
+   is linked with libpopsample.a, and with --wrap for malloc, realloc and free. */
 #include <popsample.h>
 #include <pthread.h>
 #include <stdatomic.h>
@@ -85,8 +85,8 @@ static uint8_t output[ROOM];
 static uint32_t run(const struct call *c, size_t room, size_t *written)
 {
     memset(output, UNTOUCHED, sizeof output);
-    return popsample_run((const uint8_t *)c->words, c->words_len, (const uint8_t *)c->text, strlen(c->text), output, room,
-                         written);
+    return popsample_run((const uint8_t *)c->words, c->words_len, (const uint8_t *)c->text, strlen(c->text), output,
+                         room, written);
 }
 
 /* The output is as it was from a byte on. */

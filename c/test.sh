@@ -5,9 +5,9 @@
 #
 # LIBRARIES is the folder with libpopsample.a and libpopsample.so. Both are seen to export popsample_run alone, and to
 # need nothing of others but memory; each status is made, with too little room, with memory that is refused and on many
-# threads, under valgrind where it is installed; the program over the library is tried on the examples, as popsample is;
-# and the examples that call it from C, and from R and Julia where these are installed, draw the program's tree. It takes
-# a C compiler.
+# threads, under valgrind where it is installed; the program over the library is tried on the examples, as popsample
+# is; and the examples that call it from C, and from R and Julia where these are installed, draw the program's tree. It
+# takes a C compiler.
 #
 # The status is 0 where all is well, 1 where something isn't, and 2 where the call is wrong.
 set -euo pipefail
@@ -28,28 +28,32 @@ fail() {
     exit 1
 }
 
-# The names are these, one a line, in their order: WHAT WANTED, and the found ones on standard input.
-has_names() {
-    diff <(tr ' ' '\n' <<< "$2") <(sort -u) >&2 || fail "$1"
+# The symbols that nm tells, without versions: WORDS FILE.
+symbols_of() {
+    # shellcheck disable=SC2086 # The words are several.
+    nm $1 -f posix "$2" | sed -n 's/[ @].* *//p' | grep -v ':$' | sort -u
 }
 
 check_symbols() {
-    local needs="free malloc memcpy memmove memset realloc"
-    nm -g --defined-only -f posix "$libraries/libpopsample.a" | sed -n 's/ T .*//p' \
-        | has_names "libpopsample.a exports something else" popsample_run
-    nm -D --defined-only -f posix "$libraries/libpopsample.so" | sed 's/[ @].*//' \
-        | has_names "libpopsample.so exports something else" popsample_run
-    nm -u -f posix "$libraries/libpopsample.a" | sed -n 's/ U.*//p' | has_names "libpopsample.a needs something else" "$needs"
-    nm -D -u -f posix "$libraries/libpopsample.so" | sed -n 's/[ @].*//p' \
-        | has_names "libpopsample.so needs something else" "$needs"
+    local words file more
+    while read -r file words; do
+        [ "$(symbols_of "$words --defined-only" "$libraries/$file")" = popsample_run ] \
+            || fail "$file exports something else"
+        more=$(symbols_of "$words --undefined-only" "$libraries/$file" \
+            | grep -vxE 'malloc|realloc|free|memcpy|memmove|memset') || continue
+        fail "$file needs more: $more"
+    done << 'FILES'
+libpopsample.a -g
+libpopsample.so -D
+FILES
     echo "symbols: ok"
 }
 
 check_header() {
     "${compile[@]}" -std=c99 -fsyntax-only -x c include/popsample.h
     if command -v "${CXX:-c++}" > /dev/null; then
-        "${CXX:-c++}" -Wall -Wextra -Wpedantic -Werror -std=c++98 -fsyntax-only -x c++ <(echo '#include "include/popsample.h"') \
-            -I. -Wno-long-long
+        echo '#include <popsample.h>' \
+            | "${CXX:-c++}" -Wall -Wextra -Wpedantic -Werror -std=c++11 -Iinclude -fsyntax-only -x c++ -
     fi
     echo "header: ok"
 }
@@ -83,7 +87,8 @@ check_callers() {
         # The linker's object goes beside its source.
         cp "$callers"/{popsample_r.c,tree.R} "$room"
         PKG_CPPFLAGS=-I$PWD/include PKG_LIBS=$libraries/libpopsample.a \
-            R CMD SHLIB --output="$room/popsample_r.so" "$room/popsample_r.c" > "$room/log" 2>&1 || fail "$(cat "$room/log")"
+            R CMD SHLIB --output="$room/popsample_r.so" "$room/popsample_r.c" > "$room/log" 2>&1 \
+            || fail "$(cat "$room/log")"
         draws_a_tree R Rscript "$room/tree.R" "$roads"
     fi
     if command -v julia > /dev/null; then

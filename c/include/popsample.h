@@ -41,8 +41,8 @@ enum popsample_status {
    It is for the caller to see to this, which nothing checks: no pointer is NULL, also where the length beside it is 0;
    each points to so many bytes, of less than 2^63; the output and *written overlap neither each other nor the words nor
    the text, and nothing else writes to any of these before the call returns; malloc, realloc and free are of one
-   allocator, which aligns a block to each power of two up to 16 that divides its size; and no call is made from a signal
-   handler, or in the child of a process with threads that was forked. */
+   allocator, which aligns a block to each power of two up to 16 that divides its size; and no call is made from a
+   signal handler, or in the child of a process with threads that was forked. */
 uint32_t popsample_run(const uint8_t *words, size_t words_len, const uint8_t *text, size_t text_len,
                        uint8_t *output, size_t room, size_t *written);
 
