@@ -1,5 +1,5 @@
 #!/usr/bin/env bash
-# Makes the library for C of what `rt lib` built in crates/popsample_c:
+# Makes the library for C of what `rt lib` in crates/popsample_c, or c/archive.sh, built:
 #
 #     c/build.sh [OUT]
 #
@@ -13,7 +13,7 @@ set -euo pipefail
 here=$(realpath "$(dirname "$0")")
 crate=$here/../crates/popsample_c/out
 if [ $# -gt 1 ] || [ ! -f "$crate/libpopsample_c.a" ]; then
-    echo "usage: c/build.sh [OUT], behind \`rt lib\` in crates/popsample_c" >&2
+    echo "usage: c/build.sh [OUT], behind \`rt lib\` in crates/popsample_c, or c/archive.sh" >&2
     exit 2
 fi
 out=${1:-$crate}
