@@ -3,9 +3,10 @@
 #
 #     c/archive.sh
 #
-# `rt ci` only checks a static library. `rt lib` builds one, but takes over nothing of `rt ci`, and would prove all crates
-# below it once more. So this calls the kit's compiler, which proves popsample_c itself and takes the others as they are
-# built, as `rt ci` does for a program. Where checks of somebody's own are kept in this checkout, `rt lib` takes these.
+# `rt ci` only checks a static library. `rt lib` builds one, but takes over nothing of `rt ci`, and would prove all
+# crates below it once more. So this calls the kit's compiler, which proves popsample_c itself and takes the others as
+# they are built, as `rt ci` does for a program. Where checks of somebody's own are kept in this checkout, `rt lib` takes
+# these.
 #
 # The status is that of the compiler, and 2 where a crate isn't built.
 set -euo pipefail
