@@ -10,6 +10,7 @@ use std::test::Fail;
 use std::thread::Threads;
 use top_call::run;
 
+mod alone;
 mod faults;
 mod watchers;
 mod workers;

@@ -1,4 +1,5 @@
 pub mod Growing
+pub mod Makers
 pub mod Refusals
 pub mod Stacks
 pub mod Names

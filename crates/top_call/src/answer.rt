@@ -17,6 +17,7 @@ ghost use Rattle.top_call.specs.declared.stop.Stop.TheVariants.{ReadFault, OutOf
 use crate::call::Call;
 use crate::commands::{answer_formula, answer_graph, answer_grid};
 use crate::crew::Crew;
+use crate::maker::Maker;
 use crate::pausing::pause_or_tell;
 use crate::reading::{formula_of, graph_of};
 use crate::refusal::Refusal;
@@ -26,10 +27,7 @@ use crate::stop::Stop;
 use pop_edge::Source;
 use pop_watch::Watch;
 use pop_words::{Command, Job, read_words};
-use pop_workers::Gate;
 use std::alloc::Global;
-use std::sync::Wait;
-use std::thread::Threads;
 
 /// A status, and the whole text that goes with it.
 #[derive(Drop)]
@@ -40,11 +38,12 @@ pub struct Answer {
 
 // The answer to a job whose run doesn't stop before its end. A grid is made without the source, and
 // each other command reads it.
-fn run_job<S: Source, R: Threads + Wait + Sync, G: Gate + Sync>(
-    call: &mut Call<R, G>,
+fn run_job<S: Source, M: Maker>(
+    call: &mut Call<M>,
     job: Job,
     source: &mut S,
 ) -> Result<Answer, Refusal>
+    requires maker { M.fits call.old.maker.now }
     requires line { IsOfLine job.command }
     requires run_out { job.pops ≡ None }
     requires some { 0 < job.height }
@@ -79,49 +78,14 @@ fn run_job<S: Source, R: Threads + Wait + Sync, G: Gate + Sync>(
     }
 }
 
-// The answer to a job by the line of its command. One that says after how many pops its run stops
-// reads the source whole first.
-fn answer_line<S: Source, R: Threads + Wait + Sync, G: Gate + Sync>(
-    call: &mut Call<R, G>,
+// The answer to a job. One that says after how many pops its run stops reads the source whole first,
+// and so does a certificate, which is replayed or resumed.
+fn answer_job<S: Source, M: Maker>(
+    call: &mut Call<M>,
     job: Job,
     source: &mut S,
 ) -> Result<Answer, Refusal>
-    requires line { IsOfLine job.command }
-    requires some { 0 < job.height }
-    requires short { job.height < 2 ^ 31 }
-    requires grow { IfSome job.grow (λ last. (0 < last) × (last < 2 ^ 31)) }
-    requires root { 1 ≤ job.root }
-    requires side { job.command ≡ Make → (1 ≤ job.size) × (job.size ≤ 2048) }
-    requires stops { (pops : ℕ) → job.pops ≡ Some pops → MayStop job }
-    requires keyed { (count : ℕ) → job.count ≡ Some count → IsKeyed (origin_for job) }
-    ensures answer { (text : List ℕ) → (S.left source.old ≡ Some text) ⊎ (job.command ≡ Make)
-        → (IsErrOf result (Stopped ReadFault) → ⊥)
-        → IsResultOf (ComesOf job (map (λ b. (kind b, state b)) call.old.watchers.items) text)
-        result }
-    ensures status { IsTextResult result }
-    ensures unread { job.command ≡ Make → source.new ≡ source.old }
-    ensures whole { IfOk result (λ a.
-        HasRun a.status → job.command ≢ Make → IsAtEnd (S.left source.new)) }
-    ensures read_fault { IsErrOf result (Stopped ReadFault)
-        → Rose (S.faults source.old) (S.faults source.new) }
-    ensures no_bad_line { IsErrOf result (Stopped ReadFault) → (taken : List ℕ)
-        × Consumes (S.left source.old) (S.left source.new) taken
-        × MayFailBehind job.pops job.command taken }
-    ensures read { IsJudged result
-        → WasReadWhole job.pops job.command (S.left source.old) (S.left source.new) }
-{
-    match job.pops {
-        Some(pops) => pause_or_tell(call, &job, pops, source),
-        None => run_job(call, job, source),
-    }
-}
-
-// The answer to a job. A certificate is replayed or resumed.
-fn answer_job<S: Source, R: Threads + Wait + Sync, G: Gate + Sync>(
-    call: &mut Call<R, G>,
-    job: Job,
-    source: &mut S,
-) -> Result<Answer, Refusal>
+    requires maker { M.fits call.old.maker.now }
     requires some { 0 < job.height }
     requires short { job.height < 2 ^ 31 }
     requires grow { IfSome job.grow (λ last. (0 < last) × (last < 2 ^ 31)) }
@@ -145,62 +109,25 @@ fn answer_job<S: Source, R: Threads + Wait + Sync, G: Gate + Sync>(
     ensures read { IsJudged result
         → WasReadWhole job.pops job.command (S.left source.old) (S.left source.new) }
 {
+    if let Some(pops) = job.pops {
+        return pause_or_tell(call, &job, pops, source);
+    }
     match job.command {
         Command::Replay => replay(call.alloc, source),
         Command::Resume => resume(call, source),
-        _ => answer_line(call, job, source),
+        _ => run_job(call, job, source),
     }
 }
 
-// The answer to command words, watchers and the text of a source, or a refusal.
-fn answer_words<S: Source, R: Threads + Wait + Sync, G: Gate + Sync>(
-    rt: &R,
-    alloc: Global,
-    words: &[String],
-    watchers: Vec<Box<dyn Watch>>,
-    gate: &G,
-    source: &mut S,
-) -> Result<Answer, Refusal>
-    ensures answer { (text : List ℕ)
-        → IsInput (map string_bytes words.now) (S.left source.old) text
-        → (IsErrOf result (Stopped ReadFault) → ⊥)
-        → IsResultOf (IsOutcome (map string_bytes words.now)
-        (map (λ b. (kind b, state b)) watchers.items) text) result }
-    ensures status { IfOk result (λ a. IsAnswerStatus a.status) }
-    ensures usage { IfOk result (λ a. a.status ≢ 2) }
-    ensures bad_place { (place : ℕ) → IsErrOf result (Usage place)
-        → IsBadPlace (map string_bytes words.now) place }
-    ensures only_words { (AreWords (map string_bytes words.now) → ⊥)
-        → MatchResult result (λ a. ⊥) IsOfWords }
-    ensures unread { (AreWords (map string_bytes words.now) → ⊥)
-        ⊎ AskForGrid (map string_bytes words.now) → source.new ≡ source.old }
-    ensures whole { IfOk result (λ a. HasRun a.status
-        → (AskForGrid (map string_bytes words.now) → ⊥) → IsAtEnd (S.left source.new)) }
-    ensures read_fault { IsErrOf result (Stopped ReadFault)
-        → HasReadFault (map string_bytes words.now) (S.left source.old) (S.left source.new)
-        (S.faults source.old) (S.faults source.new) }
-    ensures read { (job : Job) → Asks (map string_bytes words.now) job → IsJudged result
-        → WasReadWhole job.pops job.command (S.left source.old) (S.left source.new) }
-{
-    let job = read_words(alloc, words)?;
-    let crew = Crew::new(rt, gate, job.workers, job.board);
-    let mut call = Call {
-        alloc,
-        crew,
-        watchers,
-    };
-    answer_job(&mut call, job, source)
-}
-
 /// The answer to command words, watchers and the text of a source, or why there is none.
-pub fn answer_to<S: Source, R: Threads + Wait + Sync, G: Gate + Sync>(
-    rt: &R,
+pub fn answer_to<S: Source, M: Maker>(
+    maker: &M,
     alloc: Global,
     words: &[String],
     watchers: Vec<Box<dyn Watch>>,
-    gate: &G,
     source: &mut S,
 ) -> Result<Answer, Stop>
+    requires maker { M.fits maker.now }
     ensures answer { (text : List ℕ)
         → IsInput (map string_bytes words.now) (S.left source.old) text
         → IfOk result (λ a. IsAnswer (map string_bytes words.now)
@@ -228,7 +155,18 @@ pub fn answer_to<S: Source, R: Threads + Wait + Sync, G: Gate + Sync>(
     ensures read { (job : Job) → Asks (map string_bytes words.now) job → IfOk result (λ a.
         WasReadWhole job.pops job.command (S.left source.old) (S.left source.new)) }
 {
-    match answer_words(rt, alloc, words, watchers, gate, source) {
+    let job = match read_words(alloc, words) {
+        Ok(job) => job,
+        Err(fault) => return Refusal::from(fault).told(alloc),
+    };
+    let crew = Crew::new(job.workers, job.board);
+    let mut call = Call {
+        alloc,
+        maker,
+        crew,
+        watchers,
+    };
+    match answer_job(&mut call, job, source) {
         Ok(answer) => Ok(answer),
         Err(refusal) => refusal.told(alloc),
     }

@@ -13,14 +13,12 @@ use crate::answer::Answer;
 use crate::asked::Asked;
 use crate::call::Call;
 use crate::growing_instance::GrowingInstance;
+use crate::maker::Maker;
 use crate::running::run_and_tell;
 use pop_batch::Ends;
 use pop_instance::Instance;
 use pop_print::{Facts, text_of_batch};
-use pop_workers::Gate;
 use std::alloc::AllocError;
-use std::sync::Wait;
-use std::thread::Threads;
 
 // The status of a batch: 1 where at some end an event still occurs.
 fn status_of_batch(ends: &Ends) -> u8
@@ -31,13 +29,14 @@ fn status_of_batch(ends: &Ends) -> u8
 
 // Runs as many samples of the instance as are asked for, and tells the end of each. No watcher is
 // told of them.
-fn batch_and_tell<R: Threads + Wait + Sync, G: Gate + Sync>(
-    call: &Call<R, G>,
+fn batch_and_tell<M: Maker>(
+    call: &Call<M>,
     facts: &Facts,
     instance: &Instance,
     asked: Asked,
     count: u32,
 ) -> Result<Answer, AllocError>
+    requires maker { M.fits call.now.maker.now }
     requires facts { AreFactsOf facts.now instance.now }
     requires asked { asked.count ≡ Some count }
     requires keyed { IsKeyed instance.now.stacks.origin }
@@ -45,7 +44,7 @@ fn batch_and_tell<R: Threads + Wait + Sync, G: Gate + Sync>(
     ensures { IfOk result (λ a. (watchers : List Watcher)
         → AnswersBy (IsEndOf asked watchers facts.now instance.now) a.status a.text.items) }
 {
-    let ends = call.crew.batch(call.alloc, instance, count)?;
+    let ends = call.maker.batch(call.alloc, instance, count)?;
     let text = text_of_batch(call.alloc, facts, instance, &ends)?;
     Ok(Answer {
         status: status_of_batch(&ends),
@@ -55,12 +54,13 @@ fn batch_and_tell<R: Threads + Wait + Sync, G: Gate + Sync>(
 
 /// Samples the instance, and tells what is asked for: so many samples, where a number is asked for
 /// and the order of pops is determined, and else one run.
-pub fn sample_and_tell<R: Threads + Wait + Sync, G: Gate + Sync>(
-    call: &mut Call<R, G>,
+pub fn sample_and_tell<M: Maker>(
+    call: &mut Call<M>,
     facts: &Facts,
     growing: GrowingInstance,
     asked: Asked,
 ) -> Result<Answer, AllocError>
+    requires maker { M.fits call.old.maker.now }
     requires facts { AreFactsOf facts.now growing }
     requires run_out { asked.pops ≡ None }
     requires keyed { (count : ℕ) → asked.count ≡ Some count → IsKeyed growing.stacks.origin }

@@ -15,6 +15,7 @@ use crate::answer::Answer;
 use crate::asked::Asked;
 use crate::call::Call;
 use crate::formula::{check_formula, sample_formula};
+use crate::maker::Maker;
 use crate::orientation::orient;
 use crate::origin::StackOrigin;
 use crate::refusal::Refusal;
@@ -23,16 +24,14 @@ use crate::tree::{tree, tree_of_grid};
 use dimacs_read::Formula;
 use graph_read::Graph;
 use pop_words::{Command, Job};
-use pop_workers::Gate;
-use std::sync::Wait;
-use std::thread::Threads;
 
 /// The answer to a job on the formula that was read.
-pub fn answer_formula<R: Threads + Wait + Sync, G: Gate + Sync>(
-    call: &mut Call<R, G>,
+pub fn answer_formula<M: Maker>(
+    call: &mut Call<M>,
     job: Job,
     formula: &Formula,
 ) -> Result<Answer, Refusal>
+    requires maker { M.fits call.old.maker.now }
     requires command { ReadsFormula job.command }
     requires filled { first_empty formula.now ≡ None }
     requires run_out { job.pops ≡ None }
@@ -58,11 +57,8 @@ pub fn answer_formula<R: Threads + Wait + Sync, G: Gate + Sync>(
 }
 
 /// The answer to a job on the graph that was read.
-pub fn answer_graph<R: Threads + Wait + Sync, G: Gate + Sync>(
-    call: &mut Call<R, G>,
-    job: Job,
-    graph: Graph,
-) -> Result<Answer, Refusal>
+pub fn answer_graph<M: Maker>(call: &mut Call<M>, job: Job, graph: Graph) -> Result<Answer, Refusal>
+    requires maker { M.fits call.old.maker.now }
     requires command { ReadsGraph job.command }
     requires run_out { job.pops ≡ None }
     requires some { 0 < job.height }
@@ -86,10 +82,8 @@ pub fn answer_graph<R: Threads + Wait + Sync, G: Gate + Sync>(
 }
 
 /// The answer to a job on the grid of its number, whatever the text.
-pub fn answer_grid<R: Threads + Wait + Sync, G: Gate + Sync>(
-    call: &mut Call<R, G>,
-    job: Job,
-) -> Result<Answer, Refusal>
+pub fn answer_grid<M: Maker>(call: &mut Call<M>, job: Job) -> Result<Answer, Refusal>
+    requires maker { M.fits call.old.maker.now }
     requires command { job.command ≡ Make }
     requires run_out { job.pops ≡ None }
     requires some { 0 < job.height }

@@ -13,24 +13,23 @@ use crate::answer::Answer;
 use crate::asked::Asked;
 use crate::batching::sample_and_tell;
 use crate::call::Call;
+use crate::maker::Maker;
 use crate::making::{Made, make_formula, refuse_clash};
 use crate::origin::StackOrigin;
 use crate::refusal::{Refusal, told_in_line};
 use dimacs_read::Formula;
-use pop_workers::Gate;
 use std::alloc::Global;
-use std::sync::Wait;
-use std::thread::Threads;
 
 /// Samples the formula: the answer of `formula`, where its events may not clash, and of `resample`,
 /// where they may. That pops in an order of its own, which the log tells.
-pub fn sample_formula<R: Threads + Wait + Sync, G: Gate + Sync>(
-    call: &mut Call<R, G>,
+pub fn sample_formula<M: Maker>(
+    call: &mut Call<M>,
     origin: StackOrigin,
     asked: Asked,
     may_clash: bool,
     formula: &Formula,
 ) -> Result<Answer, Refusal>
+    requires maker { M.fits call.old.maker.now }
     requires filled { first_empty formula.now ≡ None }
     requires free { asked.free ≡ may_clash }
     requires run_out { asked.pops ≡ None }

@@ -4,9 +4,11 @@
 #![tactic(auto)]
 
 mod accepted;
+mod alone;
 mod answer;
 mod asked;
 mod batching;
+mod by;
 mod call;
 mod commands;
 mod crew;
@@ -14,9 +16,12 @@ mod formula;
 mod growing_instance;
 mod growing_stacks;
 mod instances;
+mod maker;
 mod making;
 mod named;
 mod names;
+mod on_threads;
+mod opening;
 mod orientation;
 mod origin;
 mod pausing;
@@ -28,10 +33,12 @@ mod resuming;
 mod rounds;
 mod running;
 mod stop;
+mod stretch;
 mod telling;
 mod top;
 mod tree;
 mod whole;
 mod witness;
 
-pub use top::run;
+pub use answer::Answer;
+pub use top::{answer_alone, run};

@@ -8,22 +8,21 @@ use crate::answer::Answer;
 use crate::asked::Asked;
 use crate::batching::sample_and_tell;
 use crate::call::Call;
+use crate::maker::Maker;
 use crate::making::{Made, make_orientation};
 use crate::origin::StackOrigin;
 use crate::refusal::Refusal;
 use graph_read::Graph;
-use pop_workers::Gate;
-use std::sync::Wait;
-use std::thread::Threads;
 
 /// Orients the graph so that each vertex that an edge touches has an edge that leaves it: the
 /// answer of `orient`. A loop leaves its vertex.
-pub fn orient<R: Threads + Wait + Sync, G: Gate + Sync>(
-    call: &mut Call<R, G>,
+pub fn orient<M: Maker>(
+    call: &mut Call<M>,
     origin: StackOrigin,
     asked: Asked,
     graph: Graph,
 ) -> Result<Answer, Refusal>
+    requires maker { M.fits call.old.maker.now }
     requires ordered { asked.free ≡ false }
     requires run_out { asked.pops ≡ None }
     requires keyed { (count : ℕ) → asked.count ≡ Some count → IsKeyed origin }

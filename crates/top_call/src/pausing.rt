@@ -98,8 +98,8 @@ fn ended(alloc: Global, instance: &Instance, part: Part, keep: Keep) -> Result<O
 
 // Runs the instance up to so many pops, and tells the certificate where an event is poppable then,
 // and else the end.
-fn run_up_to<R, G>(
-    call: &mut Call<R, G>,
+fn run_up_to<M>(
+    call: &mut Call<M>,
     job: &Job,
     pops: u32,
     input: &[u8],
@@ -129,8 +129,8 @@ fn run_up_to<R, G>(
 }
 
 // The same of what was made, at its last height.
-fn stop_and_tell<R, G>(
-    call: &mut Call<R, G>,
+fn stop_and_tell<M>(
+    call: &mut Call<M>,
     job: &Job,
     pops: u32,
     input: &[u8],
@@ -153,8 +153,8 @@ fn stop_and_tell<R, G>(
 }
 
 // The answer to a job whose run stops after so many pops, on the bytes that were read.
-fn judge_and_stop<R, G>(
-    call: &mut Call<R, G>,
+fn judge_and_stop<M>(
+    call: &mut Call<M>,
     job: &Job,
     pops: u32,
     input: &[u8],
@@ -179,8 +179,8 @@ fn judge_and_stop<R, G>(
 
 /// The answer to a job whose run stops after so many pops. The source is read whole before a byte
 /// of it is judged.
-pub fn pause_or_tell<S: Source, R, G>(
-    call: &mut Call<R, G>,
+pub fn pause_or_tell<S: Source, M>(
+    call: &mut Call<M>,
     job: &Job,
     pops: u32,
     source: &mut S,

@@ -19,15 +19,14 @@ use crate::accepted::Accepted;
 use crate::answer::Answer;
 use crate::asked::Asked;
 use crate::call::Call;
+use crate::maker::Maker;
 use crate::refusal::Refusal;
 use crate::replaying::read_accepted;
 use crate::running::tell_end;
+use crate::stretch::Stretch;
 use confluence_core::{Keep, Log, Reached};
 use pop_edge::Source;
-use pop_workers::Gate;
 use std::alloc::AllocError;
-use std::sync::Wait;
-use std::thread::Threads;
 
 // A log, where it is to be kept.
 fn kept(log: Option<Log>, keep: Keep) -> Option<Log>
@@ -40,10 +39,8 @@ fn kept(log: Option<Log>, keep: Keep) -> Option<Log>
 }
 
 // Goes on with the run of a certificate, and tells its end.
-fn go_on<R: Threads + Wait + Sync, G: Gate + Sync>(
-    call: &mut Call<R, G>,
-    accepted: Accepted,
-) -> Result<Answer, AllocError>
+fn go_on<M: Maker>(call: &mut Call<M>, accepted: Accepted) -> Result<Answer, AllocError>
+    requires maker { M.fits call.old.maker.now }
     requires held { (cert : Certificate) × IsHeldBy cert accepted }
     ensures { (cert : Certificate) → IsHeldBy cert accepted → IfOk result (λ a. AnswersBy
         (IsResumed ComesOf (map (λ b. (kind b, state b)) call.old.watchers.items) cert)
@@ -58,16 +55,20 @@ fn go_on<R: Threads + Wait + Sync, G: Gate + Sync>(
     let asked = Asked::of_line(command);
     let log = kept(reached.log, asked.keep());
     let so_far = Reached { log, ..reached };
-    let whole = call.crew.finish(call.alloc, &instance, None, so_far)?;
+    let whole = call.maker.finish(Stretch {
+        alloc: call.alloc,
+        crew: call.crew,
+        instance: &instance,
+        at_hand: None,
+        reached: so_far,
+    })?;
     tell_end(call, &facts, &instance, whole, asked)
 }
 
 /// Goes on with the run of the certificate that the source has to an end, and tells what the line
 /// of the certificate's command tells: the answer of `resume`.
-pub fn resume<S: Source, R: Threads + Wait + Sync, G: Gate + Sync>(
-    call: &mut Call<R, G>,
-    source: &mut S,
-) -> Result<Answer, Refusal>
+pub fn resume<S: Source, M: Maker>(call: &mut Call<M>, source: &mut S) -> Result<Answer, Refusal>
+    requires maker { M.fits call.old.maker.now }
     ensures answer { (text : List ℕ) → S.left source.old ≡ Some text
         → (IsErrOf result (Stopped ReadFault) → ⊥)
         → IsResultOf (ComesOfResuming ComesOf (map (λ b. (kind b, state b)) call.old.watchers.items)

@@ -14,6 +14,7 @@ use crate::answer::Answer;
 use crate::call::Call;
 use crate::growing_stacks::GrowingStacks;
 use crate::instances::of_events;
+use crate::maker::Maker;
 use crate::making::stacks_for;
 use crate::origin::StackOrigin;
 use crate::refusal::Refusal;
@@ -21,26 +22,24 @@ use crate::running::status_by;
 use dimacs_read::Formula;
 use pop_instance::{Index, Instance};
 use pop_print::text_of_rounds;
-use pop_workers::Gate;
 use std::alloc::AllocError;
-use std::sync::Wait;
-use std::thread::Threads;
 
 // Makes the rounds of an instance over so many variables, by the index of its events, and tells
 // their end.
-fn round_and_tell<R: Threads + Wait + Sync, G: Gate + Sync>(
-    call: &Call<R, G>,
+fn round_and_tell<M: Maker>(
+    call: &Call<M>,
     variables: u32,
     instance: &Instance,
     index: &Index,
 ) -> Result<Answer, AllocError>
+    requires maker { M.fits call.now.maker.now }
     requires pairs { IsOfPairs variables instance.now }
     requires index { IsIndexOf instance.now.family index.now }
     requires variables { length index.now ≡ variables_of instance.now.stacks }
     ensures { IfOk result (λ a. AnswersBy (IsRoundsEndOf (FormulaFacts variables) instance.now)
         a.status a.text.items) }
 {
-    let end = call.crew.rounds(call.alloc, instance, index)?;
+    let end = call.maker.rounds(call.alloc, instance, index)?;
     let text = text_of_rounds(call.alloc, variables, instance, &end)?;
     Ok(Answer {
         status: status_by(&end.stuck),
@@ -49,11 +48,12 @@ fn round_and_tell<R: Threads + Wait + Sync, G: Gate + Sync>(
 }
 
 // Makes the rounds of the formula's events over these stacks of its variables, and tells their end.
-fn rounds_over<R: Threads + Wait + Sync, G: Gate + Sync>(
-    call: &Call<R, G>,
+fn rounds_over<M: Maker>(
+    call: &Call<M>,
     stacks: GrowingStacks,
     formula: &Formula,
 ) -> Result<Answer, AllocError>
+    requires maker { M.fits call.now.maker.now }
     requires filled { first_empty formula.now ≡ None }
     requires weights { stacks.weights ≡ pair_weights formula.now.variables }
     ensures { IfOk result (λ a.
@@ -68,11 +68,12 @@ fn rounds_over<R: Threads + Wait + Sync, G: Gate + Sync>(
 
 /// Samples the formula by rounds, whether or not its events clash: the answer of `rounds`. They are
 /// made at the last height: they have one result there, which stages would only come to later.
-pub fn sample_rounds<R: Threads + Wait + Sync, G: Gate + Sync>(
-    call: &Call<R, G>,
+pub fn sample_rounds<M: Maker>(
+    call: &Call<M>,
     origin: StackOrigin,
     formula: &Formula,
 ) -> Result<Answer, Refusal>
+    requires maker { M.fits call.now.maker.now }
     requires filled { first_empty formula.now ≡ None }
     ensures { IsResultOf (ComesOfRounds origin formula.now) result }
 {

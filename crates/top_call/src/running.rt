@@ -18,18 +18,18 @@ use crate::answer::Answer;
 use crate::asked::Asked;
 use crate::call::Call;
 use crate::growing_instance::GrowingInstance;
+use crate::maker::Maker;
 use crate::named::Named;
 use crate::names::names_of;
+use crate::opening::Opening;
 use crate::reporting::report_log;
 use crate::witness::{LogText, witness_of};
 use confluence_core::{End, Log, Stuck};
 use pop_instance::{Cursors, Instance};
 use pop_log::{LayeredLog, Names};
 use pop_print::{Facts, text};
-use pop_workers::{Gate, Outcome};
+use pop_workers::Outcome;
 use std::alloc::{AllocError, Global};
-use std::sync::Wait;
-use std::thread::Threads;
 
 /// The status of a run by the events that occur at its end: 1 where there are any.
 pub fn status_by(stuck: &Stuck) -> u8
@@ -72,11 +72,7 @@ fn tell_witness(
 
 // The reports that are asked for of a layered log. Where the watchers are told it, each is told
 // each record, in order and once.
-fn tell_watchers<R, G>(
-    call: &mut Call<R, G>,
-    log: &Log,
-    asked: Asked,
-) -> Result<Vec<u8>, AllocError>
+fn tell_watchers<M>(call: &mut Call<M>, log: &Log, asked: Asked) -> Result<Vec<u8>, AllocError>
     ensures { IfOk result (λ bytes. bytes.items ≡ reports_text asked.reports
         (log_told log.now (map (λ b. (kind b, state b)) call.old.watchers.items))) }
 {
@@ -87,8 +83,8 @@ fn tell_watchers<R, G>(
 }
 
 // What is told of a layered log behind its text: the witness and the reports that are asked for.
-fn tell_records<R, G>(
-    call: &mut Call<R, G>,
+fn tell_records<M>(
+    call: &mut Call<M>,
     instance: &Instance,
     names: &Names,
     cursors: &Cursors,
@@ -113,8 +109,8 @@ fn tell_records<R, G>(
 }
 
 // What is told of a layered log behind its text. It is copied where its records are looked at.
-fn tell_in_layers<R, G>(
-    call: &mut Call<R, G>,
+fn tell_in_layers<M>(
+    call: &mut Call<M>,
     instance: &Instance,
     names: &Names,
     cursors: &Cursors,
@@ -155,8 +151,8 @@ fn text_if(
 
 // A text, and behind it what is told of a log: its text in its layered order, the witness and the
 // reports, each where it is asked for.
-fn text_of_log<R, G>(
-    call: &mut Call<R, G>,
+fn text_of_log<M>(
+    call: &mut Call<M>,
     named: &Named,
     cursors: &Cursors,
     log: &Log,
@@ -185,8 +181,8 @@ fn text_of_log<R, G>(
 
 // A text, and behind it what is told of a run behind its end. It kept its log where something of it
 // is asked for. The log is let go of.
-fn tell_run<R, G>(
-    call: &mut Call<R, G>,
+fn tell_run<M>(
+    call: &mut Call<M>,
     named: &Named,
     end: &End,
     log: Option<Log>,
@@ -216,8 +212,8 @@ fn tell_run<R, G>(
 }
 
 /// Tells the end of a run of the instance, and behind it what is asked for.
-pub fn tell_end<R, G>(
-    call: &mut Call<R, G>,
+pub fn tell_end<M>(
+    call: &mut Call<M>,
     facts: &Facts,
     instance: &Instance,
     run: Outcome,
@@ -257,12 +253,13 @@ pub fn tell_end<R, G>(
 /// Runs the instance, and tells its end at its last height, and behind it what is asked for. Of an
 /// extremal instance the pops are made in an order of their own, since all orders end alike, and
 /// have one layered log.
-pub fn run_and_tell<R: Threads + Wait + Sync, G: Gate + Sync>(
-    call: &mut Call<R, G>,
+pub fn run_and_tell<M: Maker>(
+    call: &mut Call<M>,
     facts: &Facts,
     growing: GrowingInstance,
     asked: Asked,
 ) -> Result<Answer, AllocError>
+    requires maker { M.fits call.old.maker.now }
     requires facts { AreFactsOf facts.now growing }
     requires run_out { asked.pops ≡ None }
     ensures ended { asked.free ≡ false → asked.count ≡ None → IsExtremal growing.family
@@ -273,6 +270,11 @@ pub fn run_and_tell<R: Threads + Wait + Sync, G: Gate + Sync>(
         (map (λ b. (kind b, state b)) call.old.watchers.items) facts.now growing)
         a.status a.text.items) }
 {
-    let (run, instance) = call.crew.run(call.alloc, growing, asked.keep())?;
+    let (run, instance) = call.maker.run(Opening {
+        alloc: call.alloc,
+        crew: call.crew,
+        growing,
+        keep: asked.keep(),
+    })?;
     tell_end(call, facts, &instance, run, asked)
 }

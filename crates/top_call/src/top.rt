@@ -1,22 +1,30 @@
 //! The top call: command words and bytes in, bytes and a status out.
-ghost use Rattle.std.specs.Prelude.{◌≡◌, ◌≢◌, ◌⊎◌, ◌≤◌, ℕ, List, map, string_bytes};
+ghost use Rattle.std.specs.Prelude.{◌≡◌, ◌≢◌, ◌⊎◌, ◌≤◌, ℕ, List, Some, map, string_bytes, IfOk};
 ghost use Rattle.std.specs.Io.KnownBytes.{Appends, IsAtEnd};
 ghost use Rattle.pop_model.specs.Faults.{Rose};
 ghost use Rattle.pop_edge.specs.Devices.{AppendsFront};
 ghost use Rattle.pop_edge.specs.declared.refusal.ReadRefusal.TheVariants.{ReadFault, OutOfMemory};
 ghost use Rattle.pop_words.specs.CommandLines.{AreWords, Asks};
 ghost use Rattle.pop_words.specs.declared.job.Job.{Job};
+ghost use Rattle.confluence_core.specs.Kept.{keeps_log};
+ghost use Rattle.top_call.specs.Makers.{IsRunTo, MayGoOn, IsBroughtOn};
 ghost use Rattle.top_call.specs.Refusals.{reading_line};
-ghost use Rattle.top_call.specs.Outcomes.{HasRun};
-ghost use Rattle.top_call.specs.Answers.{AskForGrid, IsInput, WasReadWhole};
+ghost use Rattle.top_call.specs.Outcomes.{HasRun, IsAnswerStatus};
+ghost use Rattle.top_call.specs.Answers.{AskForGrid, IsAnswer, IsInput, WasReadWhole};
 ghost use Rattle.top_call.specs.TopCall.{IsBreak, Answered, AnsweredUsage, HasReadFault, IsCutShort, IsUsageCutShort};
 
-use crate::answer::answer_to;
+use crate::alone::Alone;
+use crate::answer::{Answer, answer_to};
+use crate::by::By;
+use crate::on_threads::OnThreads;
+use crate::opening::Opening;
 use crate::stop::Stop;
-use pop_edge::{Sink, Source, put_all};
+use crate::stretch::Stretch;
+use pop_edge::{Sink, SliceSource, Source, put_all};
+use pop_instance::Instance;
 use pop_watch::Watch;
-use pop_workers::Gate;
-use std::alloc::Global;
+use pop_workers::{Gate, Outcome};
+use std::alloc::{AllocError, Global};
 use std::sync::Wait;
 use std::thread::Threads;
 
@@ -136,9 +144,50 @@ pub fn run<S: Source, K: Sink, R: Threads + Wait + Sync, G: Gate + Sync>(
         → (IsBreak result → ⊥)
         → WasReadWhole job.pops job.command (S.left source.old) (S.left source.new) }
 {
-    match answer_to(rt, alloc, words, watchers, gate, source) {
+    let threads = OnThreads { rt, gate };
+    let make = |opening: Opening| -> Result<(Outcome, Instance), AllocError>
+        ensures { IfOk result (IsRunTo opening.growing (keeps_log opening.keep)) }
+    { threads.run(opening) };
+    let finish = |stretch: Stretch| -> Result<Outcome, AllocError>
+        requires { MayGoOn stretch.instance.now stretch.at_hand stretch.reached }
+        ensures { IfOk result (IsBroughtOn stretch.entry.instance.now stretch.entry.reached) }
+    { threads.finish(stretch) };
+    let by = By {
+        rt,
+        run: &make,
+        finish: &finish,
+    };
+    match answer_to(&by, alloc, words, watchers, source) {
         Ok(answer) => deliver(sink, &answer.text, answer.status),
         Err(Stop::ReadFault) => deliver(sink, b"s READFAULT\n", 7),
         Err(Stop::OutOfMemory) => deliver(sink, b"s MEMORY\n", 9),
+    }
+}
+
+/// The answer to the words and the bytes of a text: the status that `run` ends with, and the text
+/// that it writes, where the source has these bytes and no sink fails. It is refused only where
+/// memory ran out. The bytes are no input where a grid is made.
+///
+/// The calling thread does all of the work. However many workers the words ask for, and on
+/// whichever board, it makes the run alone, passes no gate and starts no thread; an answer doesn't
+/// tell how many there were. With `--grow` the run is made at the last height at once. The
+/// watchers are told what `run` tells them, and are dropped when the call ends.
+pub fn answer_alone(
+    alloc: Global,
+    words: &[String],
+    watchers: Vec<Box<dyn Watch>>,
+    text: &[u8],
+) -> Result<Answer, AllocError>
+    ensures answer { (input : List ℕ) → IsInput (map string_bytes words.now) (Some text.now) input
+        → IfOk result (λ a. IsAnswer (map string_bytes words.now)
+        (map (λ b. (kind b, state b)) watchers.items) input a.status a.text.items) }
+    ensures status { IfOk result (λ a. IsAnswerStatus a.status) }
+{
+    let mut source = SliceSource::new(text);
+    match answer_to(&Alone, alloc, words, watchers, &mut source) {
+        Ok(answer) => Ok(answer),
+        Err(Stop::OutOfMemory) => Err(AllocError),
+        // No read of bytes that are lent fails.
+        Err(Stop::ReadFault) => unreachable!(),
     }
 }

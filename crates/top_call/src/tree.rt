@@ -10,22 +10,21 @@ use crate::answer::Answer;
 use crate::asked::Asked;
 use crate::batching::sample_and_tell;
 use crate::call::Call;
+use crate::maker::Maker;
 use crate::making::{Made, make_grid, make_tree};
 use crate::origin::StackOrigin;
 use crate::refusal::Refusal;
 use graph_read::Graph;
-use pop_workers::Gate;
-use std::sync::Wait;
-use std::thread::Threads;
 
 /// Samples a spanning tree of the graph with this root, from 1: the answer of `tree`.
-pub fn tree<R: Threads + Wait + Sync, G: Gate + Sync>(
-    call: &mut Call<R, G>,
+pub fn tree<M: Maker>(
+    call: &mut Call<M>,
     origin: StackOrigin,
     asked: Asked,
     root: u32,
     graph: Graph,
 ) -> Result<Answer, Refusal>
+    requires maker { M.fits call.old.maker.now }
     requires ordered { asked.free ≡ false }
     requires run_out { asked.pops ≡ None }
     requires keyed { (count : ℕ) → asked.count ≡ Some count → IsKeyed origin }
@@ -40,12 +39,13 @@ pub fn tree<R: Threads + Wait + Sync, G: Gate + Sync>(
 
 /// Samples a spanning tree of the grid of so many rows and columns, from 1 to 2048, with its arrows
 /// to vertex 1: the answer of `make`.
-pub fn tree_of_grid<R: Threads + Wait + Sync, G: Gate + Sync>(
-    call: &mut Call<R, G>,
+pub fn tree_of_grid<M: Maker>(
+    call: &mut Call<M>,
     origin: StackOrigin,
     asked: Asked,
     side: u32,
 ) -> Result<Answer, Refusal>
+    requires maker { M.fits call.old.maker.now }
     requires ordered { asked.free ≡ false }
     requires run_out { asked.pops ≡ None }
     requires keyed { (count : ℕ) → asked.count ≡ Some count → IsKeyed origin }

@@ -2,9 +2,9 @@ use Rattle.std.proofs.Common.{inl, inr, ◌≡◌, sym, subst, ◌∙◌}
 use Rattle.std.proofs.lemmas.Result.{IfOk-weaker}
 use Rattle.pop_words.specs.declared.command.Command.{Command}
 use Rattle.pop_words.specs.declared.command.Command.TheVariants.{Make, Replay, Resume}
-use Rattle.top_call.specs.Answers.{HasNoBadLine, IsOfLine}
+use Rattle.top_call.specs.Answers.{HasNoBadLine, MayFailBehind, WasReadWhole, IsOfLine}
 use Rattle.top_call.proofs.ByCommand.{line_result, reads_no_cert}
-use Rattle.top_call.proofs.PauseWords.{cert_behind, cert_whole}
+use Rattle.top_call.proofs.PauseWords.{not_made, paused_line, cert_behind, cert_whole, line_whole}
 use Rattle.top_call.proofs.answer.answer_job.Goals as goal
 
 -- the command of a certificate makes no grid
@@ -13,6 +13,35 @@ not_replay k replay make = subst IsOfLine (sym make ∙ replay) tt
 
 not_resume : (k : Command) → k ≡ Resume → k ≡ Make → ⊥
 not_resume k resume make = subst IsOfLine (sym make ∙ resume) tt
+
+-- the run may stop, so the command is neither one that makes a grid nor one that reads a certificate
+pub returns-in-Some-clause-answer : goal.returns-in-Some-clause-answer
+returns-in-Some-clause-answer g c text input read =
+    let paused = (c.requires.stops c.in-Some.pops c.in-Some.is).command in
+    elim input [
+      | inl known ↦
+          line_result c.args.job.command c.args.job _ text c.pause_or_tell.result (paused_line c.args.job.command paused)
+          (c.pause_or_tell.ensures.answer text known read)
+      | inr make ↦ absurd (not_made c.args.job.command paused make)
+    ]
+
+pub returns-in-Some-clause-unread : goal.returns-in-Some-clause-unread
+returns-in-Some-clause-unread g c make =
+    absurd (not_made c.args.job.command (c.requires.stops c.in-Some.pops c.in-Some.is).command make)
+
+pub returns-in-Some-clause-whole : goal.returns-in-Some-clause-whole
+returns-in-Some-clause-whole g c =
+    IfOk-weaker c.pause_or_tell.result _ _ (λ a whole has other. whole has) c.pause_or_tell.ensures.whole
+
+pub returns-in-Some-clause-no_bad_line : goal.returns-in-Some-clause-no_bad_line
+returns-in-Some-clause-no_bad_line g c failed =
+    let short = c.pause_or_tell.ensures.short failed in
+    (short.0, short.1, subst (λ p. MayFailBehind p c.args.job.command short.0) (sym c.in-Some.is) short.2)
+
+pub returns-in-Some-clause-read : goal.returns-in-Some-clause-read
+returns-in-Some-clause-read g c judged =
+    subst (λ p. WasReadWhole p c.args.job.command (g.S.Source.left c.args.source.now)
+    (g.S.Source.left c.pause_or_tell.new.source)) (sym c.in-Some.is) (c.pause_or_tell.ensures.read judged)
 
 -- a certificate is replayed
 pub returns-in-Replay-clause-answer : goal.returns-in-Replay-clause-answer
@@ -38,6 +67,10 @@ returns-in-Replay-clause-no_bad_line g c failed =
           (subst (λ k. HasNoBadLine k short.0) (sym c.in-Replay.is) short.2),
     )
 
+pub returns-in-Replay-clause-read : goal.returns-in-Replay-clause-read
+returns-in-Replay-clause-read g c judged =
+    cert_whole c.args.job _ _ c.requires.stops Replay c.in-Replay.is (λ line. line) (c.replay.ensures.read judged)
+
 -- or resumed
 pub returns-in-Resume-clause-answer : goal.returns-in-Resume-clause-answer
 returns-in-Resume-clause-answer g c text input read = elim input [
@@ -62,17 +95,24 @@ returns-in-Resume-clause-no_bad_line g c failed =
           (subst (λ k. HasNoBadLine k short.0) (sym c.in-Resume.is) short.2),
     )
 
--- any other text is answered by the line of its command
-pub returns-in_default-clause-answer : goal.returns-in_default-clause-answer
-returns-in_default-clause-answer g c text input read =
-    let line = reads_no_cert c.args.job.command c.in_default.not-Replay c.in_default.not-Resume in
-    line_result c.args.job.command c.args.job _ text c.answer_line.result line (c.answer_line.ensures.answer text input read)
-
--- a certificate is read whole
-pub returns-in-Replay-clause-read : goal.returns-in-Replay-clause-read
-returns-in-Replay-clause-read g c judged =
-    cert_whole c.args.job _ _ c.requires.stops Replay c.in-Replay.is (λ line. line) (c.replay.ensures.read judged)
-
 pub returns-in-Resume-clause-read : goal.returns-in-Resume-clause-read
 returns-in-Resume-clause-read g c judged =
     cert_whole c.args.job _ _ c.requires.stops Resume c.in-Resume.is (λ line. line) (c.resume.ensures.read judged)
+
+-- any other text is answered by the line of its command
+pub returns-in_default-command-clause-answer : goal.returns-in_default-command-clause-answer
+returns-in_default-command-clause-answer g c text input read =
+    let line = reads_no_cert c.args.job.command c.in_default-command.not-Replay c.in_default-command.not-Resume in
+    line_result c.args.job.command c.args.job _ text c.run_job.result line (c.run_job.ensures.answer text input read)
+
+pub returns-in_default-command-clause-no_bad_line : goal.returns-in_default-command-clause-no_bad_line
+returns-in_default-command-clause-no_bad_line g c failed =
+    let front = c.run_job.ensures.no_bad_line failed in
+    (front.0, front.1, subst (λ p. MayFailBehind p c.args.job.command front.0) (sym c.in_default.is) front.2)
+
+pub returns-in_default-command-clause-read : goal.returns-in_default-command-clause-read
+returns-in_default-command-clause-read g c judged =
+    let line = reads_no_cert c.args.job.command c.in_default-command.not-Replay c.in_default-command.not-Resume in
+    subst (λ p. WasReadWhole p c.args.job.command (g.S.Source.left c.args.source.now)
+    (g.S.Source.left c.run_job.new.source)) (sym c.in_default.is)
+    (line_whole c.args.job.command (g.S.Source.left c.args.source.now) (g.S.Source.left c.run_job.new.source) line)

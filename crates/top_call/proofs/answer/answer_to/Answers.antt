@@ -1,41 +1,145 @@
-use Rattle.std.proofs.Common.{Err, map, string_bytes, ap}
-use Rattle.top_call.specs.Answers.{IsOutcome}
+use Rattle.std.proofs.Common.{inl, inr, Ok, Err, map, string_bytes, ap, subst}
+use Rattle.pop_words.specs.declared.job.Job.{Job}
+use Rattle.top_call.specs.Answers.{ComesBy, IsOutcome, WasReadWhole}
+use Rattle.pop_words.proofs.OneJob.{same_job}
+use Rattle.pop_words.proofs.JobsInRange.{asked_height, asked_grow, asked_root, asked_size, asked_workers}
+use Rattle.top_call.proofs.BatchWords.{counted_keyed}
+use Rattle.top_call.proofs.PauseWords.{stopped_may}
+use Rattle.top_call.proofs.Carrying.{carried}
+use Rattle.top_call.proofs.Lifting.{of_words, input_of_job, grid_job}
+use Rattle.top_call.proofs.WordResults.{words_refused, words_bad, words_only, words_judged, words_no_fault, job_low, job_no_usage, job_past_words}
 use Rattle.top_call.proofs.ToldRefusals.{err_is, told_answer, told_low, told_high, told_usage, told_words, told_fault, told_judged}
 use Rattle.top_call.proofs.answer.answer_to.Goals as goal
 
--- an answer is no fault of the source
-pub returns-in-Ok-clause-answer : goal.returns-in-Ok-clause-answer
-returns-in-Ok-clause-answer g c text input = c.in-Ok.ensures.answer text input (λ failed. absurd (cc))
-
+-- the words are no command line, which is told
 pub returns-in-Err-clause-answer : goal.returns-in-Err-clause-answer
 returns-in-Err-clause-answer g c text input =
-    told_answer (IsOutcome (map string_bytes c.args.words.now) _ text) c.in-Err.refusal c.told.result c.told.ensures.told
-    (λ read. c.in-Err.ensures.answer text input (λ failed. read (err_is _ _ failed)))
+    told_answer (IsOutcome (map string_bytes c.args.words.now) _ text) c.from.result c.told.result c.told.ensures.told
+    (λ read. words_refused (map string_bytes c.args.words.now) _ text c.in-Err.fault (Err c.from.result)
+    (ap (λ r. Err r) c.from.ensures) c.in-Err.ensures.fault)
 
 pub returns-in-Err-clause-status : goal.returns-in-Err-clause-status
-returns-in-Err-clause-status g c = told_low c.in-Err.refusal c.told.result c.told.ensures.told
+returns-in-Err-clause-status g c = told_low c.from.result c.told.result c.told.ensures.told
 
 pub returns-in-Err-clause-usage : goal.returns-in-Err-clause-usage
 returns-in-Err-clause-usage g c =
-    told_usage (map string_bytes c.args.words.now) c.in-Err.refusal c.told.result
-    (λ place is. c.in-Err.ensures.bad_place place (ap (λ r. Err r) is)) c.told.ensures.told
+    told_usage (map string_bytes c.args.words.now) c.from.result c.told.result
+    (λ place is. words_bad (map string_bytes c.args.words.now) c.in-Err.fault (Err c.from.result) place
+    (ap (λ r. Err r) c.from.ensures) c.in-Err.ensures.fault (ap (λ r. Err r) is)) c.told.ensures.told
 
 pub returns-in-Err-clause-only_usage : goal.returns-in-Err-clause-only_usage
 returns-in-Err-clause-only_usage g c outside =
-    told_words c.in-Err.refusal c.told.result (c.in-Err.ensures.only_words outside) c.told.ensures.told
+    told_words c.from.result c.told.result
+    (words_only c.in-Err.fault (Err c.from.result) (ap (λ r. Err r) c.from.ensures)) c.told.ensures.told
     c.told.ensures.stopped
 
 pub returns-in-Err-clause-whole : goal.returns-in-Err-clause-whole
-returns-in-Err-clause-whole g c = told_high _ c.in-Err.refusal c.told.result c.told.ensures.told
+returns-in-Err-clause-whole g c = told_high _ c.from.result c.told.result c.told.ensures.told
 
 pub returns-in-Err-clause-read_fault : goal.returns-in-Err-clause-read_fault
 returns-in-Err-clause-read_fault g c failed =
-    c.in-Err.ensures.read_fault (ap (λ r. Err r) (told_fault c.in-Err.refusal c.told.result c.told.ensures.stopped failed))
-
--- an answer, and a refusal that is told, is of what was read
-pub returns-in-Ok-clause-read : goal.returns-in-Ok-clause-read
-returns-in-Ok-clause-read g c job asks = c.in-Ok.ensures.read job asks tt
+    absurd (words_no_fault c.in-Err.fault (Err c.from.result) (ap (λ r. Err r) c.from.ensures)
+    (ap (λ r. Err r) (told_fault c.from.result c.told.result c.told.ensures.stopped failed)))
 
 pub returns-in-Err-clause-read : goal.returns-in-Err-clause-read
 returns-in-Err-clause-read g c job asks =
-    told_judged _ c.in-Err.refusal c.told.result c.told.ensures.told (c.in-Err.ensures.read job asks)
+    told_judged _ c.from.result c.told.result c.told.ensures.told
+    (λ judged. words_judged _ (map string_bytes c.args.words.now) job c.in-Err.fault (Err c.from.result)
+    (ap (λ r. Err r) c.from.ensures) c.in-Err.ensures.fault asks judged)
+
+-- the words ask for the job, so that what comes of it comes of them
+pub returns-in-Ok-answer_job-clause-answer : goal.returns-in-Ok-answer_job-clause-answer
+returns-in-Ok-answer_job-clause-answer g c text input =
+    carried (ComesBy c.in-Ok.job.command c.in-Ok.job _ text) (IsOutcome (map string_bytes c.args.words.now) _ text)
+    (Ok c.in-Ok-answer_job.answer)
+    (of_words (map string_bytes c.args.words.now) c.in-Ok.job _ text c.in-Ok.ensures.job)
+    (c.in-Ok-answer_job.ensures.answer text
+    (input_of_job (map string_bytes c.args.words.now) c.in-Ok.job _ text c.in-Ok.ensures.job input)
+    (λ failed. absurd (cc)))
+
+pub returns-in-Ok-answer_job-clause-unread : goal.returns-in-Ok-answer_job-clause-unread
+returns-in-Ok-answer_job-clause-unread g c (inl outside) = absurd (outside (c.in-Ok.job, c.in-Ok.ensures.job))
+returns-in-Ok-answer_job-clause-unread g c (inr grid) =
+    c.in-Ok-answer_job.ensures.unread (grid_job (map string_bytes c.args.words.now) c.in-Ok.job c.in-Ok.ensures.job grid)
+
+pub returns-in-Ok-answer_job-clause-read : goal.returns-in-Ok-answer_job-clause-read
+returns-in-Ok-answer_job-clause-read g c job asks =
+    subst (λ (j : Job). WasReadWhole j.pops j.command (g.S.Source.left c.args.source.now)
+    (g.S.Source.left c.answer_job.new.source))
+    (same_job (map string_bytes c.args.words.now) c.in-Ok.job job c.in-Ok.ensures.job asks)
+    (c.in-Ok-answer_job.ensures.read tt)
+
+-- a refusal of the job is told
+pub returns-clause-answer : goal.returns-clause-answer
+returns-clause-answer g c text input =
+    told_answer (IsOutcome (map string_bytes c.args.words.now) _ text) c.in-Err-answer_job.refusal
+    c.told-in-Err-answer_job.result c.told-in-Err-answer_job.ensures.told
+    (λ read. carried (ComesBy c.in-Ok.job.command c.in-Ok.job _ text)
+    (IsOutcome (map string_bytes c.args.words.now) _ text) (Err c.in-Err-answer_job.refusal)
+    (of_words (map string_bytes c.args.words.now) c.in-Ok.job _ text c.in-Ok.ensures.job)
+    (c.in-Err-answer_job.ensures.answer text
+    (input_of_job (map string_bytes c.args.words.now) c.in-Ok.job _ text c.in-Ok.ensures.job input)
+    (λ failed. read (err_is _ _ failed))))
+
+pub returns-clause-usage : goal.returns-clause-usage
+returns-clause-usage g c =
+    told_usage (map string_bytes c.args.words.now) c.in-Err-answer_job.refusal c.told-in-Err-answer_job.result
+    (λ place is. absurd (job_past_words (Err c.in-Err-answer_job.refusal) place c.in-Err-answer_job.ensures.status
+    (ap (λ r. Err r) is))) c.told-in-Err-answer_job.ensures.told
+
+pub returns-clause-unread : goal.returns-clause-unread
+returns-clause-unread g c (inl outside) = absurd (outside (c.in-Ok.job, c.in-Ok.ensures.job))
+returns-clause-unread g c (inr grid) =
+    c.in-Err-answer_job.ensures.unread (grid_job (map string_bytes c.args.words.now) c.in-Ok.job c.in-Ok.ensures.job grid)
+
+pub returns-clause-whole : goal.returns-clause-whole
+returns-clause-whole g c =
+    told_high _ c.in-Err-answer_job.refusal c.told-in-Err-answer_job.result c.told-in-Err-answer_job.ensures.told
+
+pub returns-clause-read : goal.returns-clause-read
+returns-clause-read g c job asks =
+    told_judged _ c.in-Err-answer_job.refusal c.told-in-Err-answer_job.result c.told-in-Err-answer_job.ensures.told
+    (λ judged. subst (λ (j : Job). WasReadWhole j.pops j.command (g.S.Source.left c.args.source.now)
+    (g.S.Source.left c.answer_job.new.source))
+    (same_job (map string_bytes c.args.words.now) c.in-Ok.job job c.in-Ok.ensures.job asks)
+    (c.in-Err-answer_job.ensures.read judged))
+
+pub answer_job-requires-clause-some : goal.answer_job-requires-clause-some
+answer_job-requires-clause-some g c =
+    (asked_height (map string_bytes c.args.words.now) c.in-Ok.job c.in-Ok.ensures.job).0
+
+pub answer_job-requires-clause-short : goal.answer_job-requires-clause-short
+answer_job-requires-clause-short g c =
+    (asked_height (map string_bytes c.args.words.now) c.in-Ok.job c.in-Ok.ensures.job).1
+
+pub answer_job-requires-clause-grow : goal.answer_job-requires-clause-grow
+answer_job-requires-clause-grow g c =
+    asked_grow (map string_bytes c.args.words.now) c.in-Ok.job c.in-Ok.ensures.job
+
+pub answer_job-requires-clause-root : goal.answer_job-requires-clause-root
+answer_job-requires-clause-root g c =
+    (asked_root (map string_bytes c.args.words.now) c.in-Ok.job c.in-Ok.ensures.job).0
+
+-- a run that may stop is one of a command that has such runs
+pub answer_job-requires-clause-stops : goal.answer_job-requires-clause-stops
+answer_job-requires-clause-stops g c pops is =
+    stopped_may (map string_bytes c.args.words.now) c.in-Ok.job c.in-Ok.ensures.job pops is
+
+pub answer_job-requires-clause-side : goal.answer_job-requires-clause-side
+answer_job-requires-clause-side g c make =
+    let range = asked_size (map string_bytes c.args.words.now) c.in-Ok.job c.in-Ok.ensures.job in
+    (range.1 make, range.0)
+
+-- from 1 to 64 workers are asked for
+pub new-crew-requires-clause-one : goal.new-crew-requires-clause-one
+new-crew-requires-clause-one g c =
+    (asked_workers (map string_bytes c.args.words.now) c.in-Ok.job c.in-Ok.ensures.job).0
+
+pub new-crew-requires-clause-few : goal.new-crew-requires-clause-few
+new-crew-requires-clause-few g c =
+    (asked_workers (map string_bytes c.args.words.now) c.in-Ok.job c.in-Ok.ensures.job).1
+
+-- a number of samples is asked for beside a key
+pub answer_job-requires-clause-keyed : goal.answer_job-requires-clause-keyed
+answer_job-requires-clause-keyed g c count is =
+    counted_keyed (map string_bytes c.args.words.now) c.in-Ok.job c.in-Ok.ensures.job count is

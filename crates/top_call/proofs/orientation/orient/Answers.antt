@@ -12,5 +12,5 @@ returns-in_err-made g c =
 
 -- the sinks of a graph are extremal
 pub sample_and_tell-requires-clause-extremal : goal.sample_and_tell-requires-clause-extremal
-sample_and_tell-requires-clause-extremal g c κs within ordered =
+sample_and_tell-requires-clause-extremal g c ordered =
     orientation_extremal c.args.origin c.args.asked.count c.args.graph _ _ c.in_ok-made.ensures.made

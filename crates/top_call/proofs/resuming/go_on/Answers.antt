@@ -5,13 +5,16 @@ use Rattle.top_call.proofs.ResumedCerts.{kept_reached, whole_run, goes_on_joined
 use Rattle.top_call.proofs.resuming.go_on.Goals as goal
 
 -- the certificate's run has come so far, with its log where it is to be kept
-pub finish-requires-clause-reached : goal.finish-requires-clause-reached
-finish-requires-clause-reached g c κs within =
+pub finish-requires-clause-may : goal.finish-requires-clause-may
+finish-requires-clause-may g c =
     let a = c.args.accepted in
     let start = start_of a.instance in
     let keeps = keeps_log c.keep.result in
     let (cert, held) = c.requires.held in
-    (start, keeps, kept_reached a.instance start keeps a.reached c.kept-log.result c.kept-log.ensures held.run)
+    record {
+      index = tt;
+      reached = (start, keeps, kept_reached a.instance start keeps a.reached c.kept-log.result c.kept-log.ensures held.run);
+    }
 
 -- so what it goes on to is a run
 pub tell_end-requires-clause-run : goal.tell_end-requires-clause-run

@@ -10,5 +10,5 @@ returns-in_err-made g c =
 
 -- cycles are extremal
 pub sample_and_tell-requires-clause-extremal : goal.sample_and_tell-requires-clause-extremal
-sample_and_tell-requires-clause-extremal g c κs within ordered =
+sample_and_tell-requires-clause-extremal g c ordered =
     tree_extremal c.args.origin c.args.asked.count c.args.root c.args.graph _ _ c.in_ok-made.ensures.made
