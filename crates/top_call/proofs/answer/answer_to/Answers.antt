@@ -7,7 +7,7 @@ use Rattle.top_call.proofs.BatchWords.{counted_keyed}
 use Rattle.top_call.proofs.PauseWords.{stopped_may}
 use Rattle.top_call.proofs.Carrying.{carried}
 use Rattle.top_call.proofs.Lifting.{of_words, input_of_job, grid_job}
-use Rattle.top_call.proofs.WordResults.{words_refused, words_bad, words_only, words_judged, words_no_fault, job_low, job_no_usage, job_past_words}
+use Rattle.top_call.proofs.WordResults.{words_refused, words_bad, words_only, words_judged, words_no_fault, job_past_words}
 use Rattle.top_call.proofs.ToldRefusals.{err_is, told_answer, told_low, told_high, told_usage, told_words, told_fault, told_judged}
 use Rattle.top_call.proofs.answer.answer_to.Goals as goal
 
