@@ -7,7 +7,7 @@
 #include <stdlib.h>
 #include <string.h>
 
-enum { ROOM = 4096, THREADS = 8, ROUNDS = 50, KEYS = 16, UNTOUCHED = 0xa5, NONE_REFUSED = -1 };
+enum { ROOM = 4096, THREADS = 8, ROUNDS = 25, KEYS = 16, UNTOUCHED = 0xa5, NONE_REFUSED = -1 };
 
 /* How many blocks the library holds, and how many more it is given before one is refused. */
 static atomic_long held = 0;
@@ -75,7 +75,7 @@ static const struct call calls[] = {
      "cert 1 tree\nstacks 1,0;0,0\nroot 1\ninput 29\np edge 3 3\ne 1 2\ne 2 3\ne 1 3\nlog 2 2\n"
      "pop 1 2 2:0 3:0\npop 2 2 2:1 3:1\n",
      POPSAMPLE_NOT_LEGAL, "s NOTLEGAL 2\n"},
-    {WORDS("make\0grid\0" "24\0--report\0totals,heights,layers"), "", POPSAMPLE_OK, "s SAMPLE\ngrid 24\n"},
+    {WORDS("make\0grid\0" "4\0--report\0totals,heights,layers"), "", POPSAMPLE_OK, "s SAMPLE\ngrid 4\n"},
     {"tree", 4, "p edge 2 1\ne 1 2\n", POPSAMPLE_NO_WORDS, ""},
     {WORDS("tree\0\xff"), "p edge 2 1\ne 1 2\n", POPSAMPLE_NO_WORDS, ""},
 };
@@ -137,7 +137,7 @@ static size_t keyed(int number, uint8_t *to)
 {
     char words[128];
     size_t written;
-    int len = snprintf(words, sizeof words, "make%cgrid%c20%c--key%c%064x", 0, 0, 0, 0, number);
+    int len = snprintf(words, sizeof words, "make%cgrid%c12%c--key%c%064x", 0, 0, 0, 0, number);
 
     if (popsample_run((uint8_t *)words, (size_t)len + 1, (const uint8_t *)"", 0, to, ROOM, &written) != POPSAMPLE_OK)
         fail("no tree of a grid");
