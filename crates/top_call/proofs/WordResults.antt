@@ -1,5 +1,5 @@
 -- The results of words: of those that are no command line, and of those that ask for a job.
-use Rattle.std.proofs.Common.{◌≡◌, ◌≢◌, ℕ, List, Result, Ok, Err, IfOk, MatchResult, refl, sym, subst}
+use Rattle.std.proofs.Common.{◌≡◌, ℕ, List, Result, Ok, Err, MatchResult, refl, sym, subst}
 use Rattle.pop_words.specs.declared.fault.WordFault.{WordFault}
 use Rattle.pop_words.specs.declared.fault.WordFault.TheVariants.{Usage as BadWord, OutOfMemory as WordMemory}
 use Rattle.pop_words.specs.CommandLines.{Asks, IsBadPlace, IsWordFault}
@@ -9,7 +9,6 @@ use Rattle.top_call.specs.declared.answer.Answer.{Answer}
 use Rattle.top_call.specs.declared.stop.Stop.TheVariants.{ReadFault}
 use Rattle.top_call.specs.declared.refusal.Refusal.{Refusal}
 use Rattle.top_call.specs.declared.refusal.Refusal.TheVariants.{Usage, Stopped}
-use Rattle.top_call.specs.Outcomes.{IsAnswerStatus}
 use Rattle.top_call.specs.Answers.{IsOutcome}
 use Rattle.top_call.specs.Results.{unworded, ComesRefused, IsJudged, IsResultOf, IsTextResult, IsOfWords}
 
@@ -50,16 +49,6 @@ pub words_no_fault : (fault : WordFault) (r : Result Answer Refusal) → r ≡ E
 words_no_fault (BadWord p) r is failed = absurd (cc)
 words_no_fault WordMemory r is failed = absurd (cc)
 
--- the answer to a job's text isn't one of words
-pub job_low : (r : Result Answer Refusal) → IsTextResult r → IfOk r (λ a. IsAnswerStatus a.status)
-job_low (Ok a) is = is.answers
-job_low (Err e) is = tt
-
--- nor has it the status of words
-pub job_no_usage : (r : Result Answer Refusal) → IsTextResult r → IfOk r (λ a. a.status ≢ 2)
-job_no_usage (Ok a) is = is.no_usage
-job_no_usage (Err e) is = tt
-
--- nor is it a refusal of words
+-- the answer to a job's text is no refusal of words
 pub job_past_words : (r : Result Answer Refusal) (place : ℕ) → IsTextResult r → r ≡ Err (Usage place) → ⊥
 job_past_words r place is usage = subst IsTextResult usage is

@@ -7,11 +7,11 @@ ghost use Rattle.pop_words.specs.CommandLines.{AreWords, Asks, IsBadPlace};
 ghost use Rattle.pop_words.specs.declared.job.Job.{Job};
 ghost use Rattle.pop_words.specs.declared.command.Command.TheVariants.{Make};
 ghost use Rattle.top_call.specs.TopCall.{HasReadFault};
-ghost use Rattle.top_call.specs.Answers.{IsAnswer, IsOutcome, ComesOf, origin_for, AskForGrid, IsInput, HasNoBadLine, MayFailBehind, WasReadWhole, MayStop, ComesBy, IsOfLine};
+ghost use Rattle.top_call.specs.Answers.{IsAnswer, ComesOf, origin_for, AskForGrid, IsInput, HasNoBadLine, MayFailBehind, WasReadWhole, MayStop, ComesBy, IsOfLine};
 ghost use Rattle.top_call.specs.Outcomes.{IsAnswerStatus, HasRun};
-ghost use Rattle.top_call.specs.Results.{IsJudged, IsResultOf, IsTextResult, IsOfWords};
+ghost use Rattle.top_call.specs.Results.{IsJudged, IsResultOf, IsTextResult};
 ghost use Rattle.top_call.specs.Refusals.{usage_line};
-ghost use Rattle.top_call.specs.declared.refusal.Refusal.TheVariants.{Usage, Stopped};
+ghost use Rattle.top_call.specs.declared.refusal.Refusal.TheVariants.{Stopped};
 ghost use Rattle.top_call.specs.declared.stop.Stop.TheVariants.{ReadFault, OutOfMemory};
 
 use crate::call::Call;
