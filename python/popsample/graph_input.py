@@ -20,6 +20,9 @@ from .weights import attribute_weights, is_hashable, whole_weights
 
 Arrows = Sequence[Arrow]
 
+# What an edge of a list may be: the abstract class, behind those that most are, which are told in a tenth of its time.
+PAIRS = (tuple, list, Sequence)
+
 KINDS = (
     "a graph is a list of edges (pairs, or triples with a weight), a dict of lists or of dicts, an undirected graph of "
     "networkx, igraph or graph-tool, a sparse matrix of scipy, or the path of a graph file"
@@ -127,7 +130,7 @@ def array_rows(array: Any) -> list[list[int]]:
 
 def named_edge(place: int, edge: Any) -> Edge:
     """The edge at a place of an edge list: two names, and behind them nothing, a weight, or a dict of attributes."""
-    if isinstance(edge, (str, bytes, bytearray)) or not isinstance(edge, Sequence) and not hasattr(edge, "tolist"):
+    if isinstance(edge, (str, bytes, bytearray)) or not isinstance(edge, PAIRS) and not hasattr(edge, "tolist"):
         raise InputTypeError(f"the edge {edge!r} is no pair or triple: {KINDS}")
     if len(edge) not in (2, 3):
         raise ArgumentError(f"the edge {edge!r} has neither two nor three parts: {KINDS}")

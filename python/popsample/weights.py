@@ -13,6 +13,8 @@ from .results import Edge
 WANTED = "it is the name of the attribute that has the weights"
 # The greatest number that the program reads.
 GREATEST = 2**32 - 1
+# What attributes may be: the abstract class, behind the one that most are, which is told in a tenth of its time.
+ATTRIBUTES = (dict, Mapping)
 
 
 def is_hashable(name: Any) -> bool:
@@ -39,10 +41,12 @@ def attribute_weights(edges: Iterable[Edge], weight: str | None) -> list[Edge]:
     """
     attribute_name(weight)
     given = list(edges)
-    has_it = [not isinstance(edge[2], Mapping) or weight in edge[2] for edge in given]
-    if weight is not None and given and not any(has_it):
+    named = [isinstance(edge[2], ATTRIBUTES) for edge in given]
+    if weight is not None and given and all(named) and not any(weight in edge[2] for edge in given):
         raise NoWeightError(weight)
-    return [(*edge[:2], edge[2].get(weight, 1) if isinstance(edge[2], Mapping) else edge[2], edge[3]) for edge in given]
+    return [
+        (*edge[:2], edge[2].get(weight, 1) if has_names else edge[2], edge[3]) for edge, has_names in zip(given, named)
+    ]
 
 
 def ratio(edge: Edge) -> tuple[int, int]:
