@@ -9,12 +9,11 @@ use Rattle.std.proofs.lemmas.List.{get_or_default, get_or-set_same, get_or-set_o
 use Rattle.std.proofs.lemmas.Option.{get_or_from_slice_get, slice_get_within, slice_get_read}
 use Rattle.pop_model.specs.Popping.{Cube, NamesBelow, variables}
 use Rattle.pop_model.specs.Extremal.{Exclude}
-use Rattle.pop_model.specs.Places.{IsLeast}
 use Rattle.pop_model.proofs.Diamond.{named, names_it}
 use Rattle.pop_model.proofs.Members.{variable_at}
 use Rattle.pop_instance.specs.Events.{cube_at}
 use Rattle.pop_instance.specs.Index.{IsIndex}
-use Rattle.extremal_check.specs.Clashes.{ClashAt, HasNoClash}
+use Rattle.extremal_check.specs.Clashes.{ClashAt}
 use Rattle.extremal_check.specs.Tries.{AreLaterSharing, AreStamped, IsLeastTried}
 
 -- the variable of a pair that was read
@@ -119,26 +118,6 @@ not_below_least rows index i least is within none j clash =
     let named_there = names_it (cube_at rows j) (v, shared.2) there in
     let has : Contains (slice_index_or index v []) j = (is.exact v j below).1 (clash.within, named_there) in
     none here.0 here.1 j (subst (λ (w : ℕ). Contains (slice_index_or index w []) j) (sym variable) has) clash
-
--- so `least` is the least that clashes, or none does
-pub least_is_least : (rows : List (ℕ × Cube)) (index : List (List ℕ)) (i least : ℕ) (stamps : List ℕ)
-    → IsIndex rows index
-    → i < length rows → IsLeastTried rows i stamps least → NoneBelow rows index i least (length (cube_at rows i))
-    → least < length rows → IsLeast (ClashAt rows i) least
-least_is_least rows index i least stamps is within tried none less = record {
-  holds = tried.clash less;
-  none_before = λ j before clash. let le =
-      not_below_least rows index i least is within none j clash in omega (arith, le, before);
-}
-
--- where none was found, none clashes
-pub none_clashes : (rows : List (ℕ × Cube)) (index : List (List ℕ)) (i least : ℕ) → IsIndex rows index
-    → i < length rows → NoneBelow rows index i least (length (cube_at rows i))
-    → length rows ≤ least → HasNoClash rows i
-none_clashes rows index i least is within none far j clash =
-    let le = not_below_least rows index i least is within none j clash in
-    let below = clash.within in
-    omega (arith, le, below, far)
 
 -- events that exclude each other don't clash
 pub excluded : (rows : List (ℕ × Cube)) (i j : ℕ) → Exclude (cube_at rows i) (cube_at rows j) → ClashAt rows i j → ⊥

@@ -1,4 +1,5 @@
 ghost use Rattle.std.specs.Prelude.{◌≡◌, ◌<◌, ◌≤◌, ◌+◌, ◌↔◌, ℕ, length, Contains, IfOk, IfSome, IfNone};
+ghost use Rattle.std.specs.Bool.{OnTrue};
 ghost use Rattle.std.specs.List.Sorted.{IsStrictlyIncreasing};
 ghost use Rattle.pop_model.specs.Families.Family.{Listed};
 ghost use Rattle.pop_model.specs.Extremal.{IsExtremal, Share};
@@ -55,6 +56,20 @@ fn first_with(events: &Events, index: &Index, stamps: &mut [u32], i: u32) -> Opt
     ensures none { IfNone result (HasNoClash events.now i) }
     ensures found { IfSome result (IsLeast (ClashAt events.now i)) }
 {
+    let count = events.count();
+    let least = least_with(events, index, stamps, i);
+    if least < count { Some(least) } else { None }
+}
+
+// The same, or the number of events where none clashes. Once a row has each later event, as where
+// all events share a variable, the other rows have none that wasn't tried.
+fn least_with(events: &Events, index: &Index, stamps: &mut [u32], i: u32) -> u32
+    requires index { IsIndex events.now index.now }
+    requires within { i < length events.now }
+    requires stamped { AreStamped events.now i stamps.old }
+    ensures tried { IsLeastTried events.now i stamps.new result }
+    ensures none_below { (j : ℕ) → ClashAt events.now i j → result ≤ j }
+{
     let cube = events.cube(i);
     let count = events.count();
     let mut least = count;
@@ -62,8 +77,28 @@ fn first_with(events: &Events, index: &Index, stamps: &mut [u32], i: u32) -> Opt
         let (v, _) = cube.pair(k);
         let later = places_after(index.at(v), i);
         least = least_in_row(events, later, stamps, i, least);
+        if has_all_later(later, i, count) {
+            return least;
+        }
     }
-    if least < count { Some(least) } else { None }
+    least
+}
+
+// Whether a row has each place after place i that is below the count, one after another.
+fn has_all_later(row: &[u32], i: u32, count: u32) -> bool
+    requires { i < count }
+    ensures { OnTrue result ((j : ℕ) → i < j → j < count → Contains row.now j) }
+{
+    let first = i as usize + 1;
+    if row.len() != count as usize - first {
+        return false;
+    }
+    for k in 0..row.len() {
+        if row[k] as usize != first + k {
+            return false;
+        }
+    }
+    true
 }
 
 // The places of a row that come after place i.

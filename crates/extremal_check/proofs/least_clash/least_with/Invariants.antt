@@ -1,6 +1,6 @@
 use Rattle.extremal_check.specs.Tries.{IsLeastTried}
 use Rattle.extremal_check.proofs.Trying.{NoneBelow}
-use Rattle.extremal_check.proofs.least_clash.first_with.Given as goal
+use Rattle.extremal_check.proofs.least_clash.least_with.Given as goal
 
 abbrev pub invariant-loop-k : goal.invariant-loop-k
 invariant-loop-k l = record {
