@@ -9,6 +9,12 @@ PATH = "p edge 2 1\ne 1 2\n"
 # Worked by hand. Under the key of zeros the first entry of variable 1 is 1 in samples 0 to 2, and 0 in sample 3; its
 # second entry in sample 0 is 0 (RFC 8439, 2.3, with the number of the sample in the high half of the stream).
 RUNS = [
+    # the entries are by a ChaCha20 of its own (RFC 8439, 2.3), and the cycles were popped by hand
+    (f"tree --height 9 --key {ZERO_KEY} --count 4", "p edge 4 4\ne 1 2\ne 1 3\ne 2 4\ne 3 4\n", 0,
+     "batch 4\nsample 0\ns SAMPLE\na 2 1 1\na 3 4 4\na 4 2 3\nused 1 1 2\npops 2\n"
+     "sample 1\ns SAMPLE\na 2 1 1\na 3 4 4\na 4 2 3\nused 1 0 1\npops 1\n"
+     "sample 2\ns SAMPLE\na 2 1 1\na 3 1 2\na 4 2 3\nused 1 0 1\npops 1\n"
+     "sample 3\ns SAMPLE\na 2 1 1\na 3 1 2\na 4 3 4\nused 0 1 1\npops 1\n"),
     (f"formula --key {ZERO_KEY} --count 1", "p cnf 1 1\n-1 0\n", 0,
      "batch 1\nsample 0\ns SAMPLE\nv -1 0\nused 1\npops 1\n"),
     ("tree --count 2", PATH, 0,

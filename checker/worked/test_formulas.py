@@ -7,6 +7,7 @@ from worked.answers import ZERO_KEY, Worked, answer, chain
 # Worked by hand from the definitions.
 RUNS = [
     ("formula --stacks 0,0,1", "p cnf 1 1\n1 0\n", 0, "s SAMPLE\nv 1 0\nused 2\npops 2\n"),
+    ("formula --stacks 1,0", "p cnf 1 1\n-1 0\n", 0, "s SAMPLE\nv -1 0\nused 1\npops 1\n"),
     ("formula --stacks 0,0", "p cnf 1 1\n1 0\n", 1, "s EXHAUSTED\nstuck 1\nused 1\npops 1\n"),
     ("formula --stacks ''", "p cnf 0 0\n", 0, "s SAMPLE\nv 0\nused\npops 0\n"),
     # popping goes on past a stuck event

@@ -17,6 +17,8 @@ SMALL = [
     ("make --stacks '0;1;0' grid 2", "", 0, "s SAMPLE\ngrid 2\nused 0 0\npops 0\nsum 12\n"),
     # the cycle of 2 and 4 is popped
     ("make grid 2 --stacks '1,0;0;0,0'", "", 0, "s SAMPLE\ngrid 2\nused 2 1\npops 1\nsum 9\n"),
+    # the cycle of 2 and 4 is popped, then that of 3 and 4; then 4 leads to 3
+    ("make grid 2 --stacks '1,0;1,0;0,1,1'", "", 0, "s SAMPLE\ngrid 2\nused 4 2\npops 2\nsum 13\n"),
     # it can't be
     ("make grid 2 --stacks '1;0;0'", "", 1, "s EXHAUSTED\ngrid 2\nstuck 1\nused 0 0\npops 0\n"),
     ("make grid 2 --stacks '0;0'", "", 3, "s ROWS 2 3\n"),

@@ -15,8 +15,6 @@ mod rounds;
 mod sample;
 mod stuck;
 mod summary;
-#[cfg(test)]
-mod tests;
 mod tree;
 
 pub use batches::text_of_batch;
