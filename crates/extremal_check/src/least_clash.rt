@@ -149,6 +149,3 @@ fn try_with(events: &Events, stamps: &mut [u32], i: u32, j: u32, least: u32) -> 
     }
     j
 }
-
-#[cfg(test)]
-mod tests;

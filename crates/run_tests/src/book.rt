@@ -2,7 +2,6 @@ ghost use Rattle.std.specs.Prelude.{◌≡◌, ◌<◌, length, IfOk};
 ghost use Rattle.pop_model.specs.Stacks.{variables_of};
 ghost use Rattle.pop_model.specs.Runs.{start_of};
 
-use crate::arrows::arrows_of;
 use crate::compare::{same, same_at};
 use confluence_core::{Log, Record};
 use lock_board::{Attempt, Book, Site};
@@ -12,7 +11,7 @@ use std::alloc::{AllocError, Global};
 use std::marker::Brand;
 use std::process::Abort;
 use std::test::Fail;
-use test_instances::{EventRow, cycles, listed};
+use test_instances::{EventRow, arrows, cycles, listed};
 
 // What attempts answered, and the parts of the book that they left.
 #[derive(Drop)]
@@ -190,7 +189,7 @@ fn heads(alloc: Global, count: u32, back: u32) -> Result<Vec<[Option<u32>; 2]>, 
 fn lasso_arrows(rt: &impl Abort, alloc: Global, count: u32, back: u32) -> Result<Arrows, Fail> {
     assert!(rt; count < 1000);
     let heads = heads(alloc, count, back)?;
-    arrows_of(rt, alloc, &heads)
+    arrows(alloc, &heads)
 }
 
 // Such variables, each with these entries.

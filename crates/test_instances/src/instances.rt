@@ -21,6 +21,21 @@ pub fn listed(alloc: Global, rows: &[&[u32]], table: &[EventRow]) -> Result<Inst
     over(stacks(alloc, rows)?, family)
 }
 
+/// The arrows of these heads, two for each of fewer than 1000 variables; none is the root.
+pub fn arrows(alloc: Global, heads: &[[Option<u32>; 2]]) -> Result<Arrows, Fail> {
+    let mut rows = Vec::new(alloc);
+    for row in heads {
+        rows.push(Vec::from_slice(alloc, row)?)?;
+    }
+    if rows.len() >= 1000 {
+        return Err(Fail::new("too many variables"));
+    }
+    match Arrows::new(rows) {
+        Some(arrows) => Ok(arrows),
+        None => Err(Fail::new("no arrows")),
+    }
+}
+
 /// The instance of these rows of entries and the cycles of these arrows.
 pub fn cycles(alloc: Global, rows: &[&[u32]], arrows: Arrows) -> Result<Instance, Fail> {
     over(stacks(alloc, rows)?, Family::Cycles(arrows))

@@ -8,4 +8,4 @@ mod instances;
 
 pub use events::{EventRow, cube, event_rows, family};
 pub use given::{keyed, stacks};
-pub use instances::{cycles, listed, over};
+pub use instances::{arrows, cycles, listed, over};

@@ -4,14 +4,13 @@ ghost use Rattle.std.specs.Prelude.{IfOk, OnOk};
 ghost use Rattle.pop_model.specs.Stacks.{IsKeyed};
 ghost use Rattle.pop_model.specs.Extremal.{IsExtremal};
 
-use crate::arrows::arrows_of;
 use extremal_check::{Verdict, check};
 use pop_instance::{Cube, Family, Index, Instance};
 use pop_stacks::{StackSpec, Stacks, Weights};
 use std::alloc::Global;
 use std::process::Abort;
 use std::test::Fail;
-use test_instances::{EventRow, cube, family};
+use test_instances::{EventRow, arrows, cube, family};
 
 // The stacks of so many variables with two values each, under the key of zeros.
 fn stacks(rt: &impl Abort, count: u32, height: u32) -> Result<Stacks, Fail>
@@ -89,7 +88,7 @@ pub fn cycles(
     ensures keyed { IfOk result (λ i. IsKeyed i.stacks.origin) }
     ensures extremal { IfOk result (λ i. IsExtremal i.family) }
 {
-    let arrows = arrows_of(rt, alloc, table)?;
+    let arrows = arrows(alloc, table)?;
     let stacks = stacks(rt, arrows.count(), height)?;
     let instance = Instance::new(stacks, Family::Cycles(arrows)).expect(rt, "two slots for each");
     Ok(instance)

@@ -2,13 +2,12 @@
 ghost use Rattle.std.specs.Prelude.{◌<◌};
 
 use super::{Term, logs, pops_and_stuck};
-use crate::arrows::arrows_of;
 use crate::compare::same;
 use pop_instance::{Arrows, Family, Instance};
 use std::alloc::{AllocError, Global};
 use std::process::Abort;
 use std::test::Fail;
-use test_instances::{cycles, keyed, over};
+use test_instances::{arrows, cycles, keyed, over};
 
 // Where a variable leads in rings of this size, of which the last may be shorter: to the next one
 // of its ring.
@@ -43,7 +42,7 @@ fn ring_arrows(rt: &impl Abort, alloc: Global, count: u32, size: u32) -> Result<
     assert!(rt; 0 < size);
     assert!(rt; count < 1000);
     let heads = heads(alloc, count, size)?;
-    arrows_of(rt, alloc, &heads)
+    arrows(alloc, &heads)
 }
 
 // Rings: how many variables there are, and the size of a ring.
@@ -155,8 +154,8 @@ static TWO_ARROWS: Case = Case {
 static TERMS: &[&[Term]] = &[&[(0, 1, 0), (1, 0, 0)]];
 
 // Their instance.
-fn two_arrows(rt: &impl Abort, alloc: Global) -> Result<Instance, Fail> {
-    let arrows = arrows_of(rt, alloc, TWO_ARROWS.heads)?;
+fn two_arrows(alloc: Global) -> Result<Instance, Fail> {
+    let arrows = arrows(alloc, TWO_ARROWS.heads)?;
     cycles(alloc, TWO_ARROWS.rows, arrows)
 }
 
@@ -165,7 +164,7 @@ fn two_arrows(rt: &impl Abort, alloc: Global) -> Result<Instance, Fail> {
 #[test]
 fn the_log_has_the_cycle_with_its_entries(rt: HostRuntime) -> Result<(), Fail> {
     let alloc = rt.alloc();
-    let instance = two_arrows(&rt, alloc)?;
+    let instance = two_arrows(alloc)?;
     let (pops, stuck) = pops_and_stuck(&rt, alloc, &instance)?;
     same(&rt, pops, 1, "pops");
     same(&rt, stuck, 0, "stuck cycles");

@@ -1,6 +1,6 @@
 use Rattle.std.proofs.Common.{ℕ, ◌<◌, arith}
 use Rattle.pop_model.proofs.Members.{all_more, all_whole}
-use Rattle.extremal_check.proofs.least_clash.tests.is_known.Goals as goal
+use Rattle.run_tests.proofs.extremal.is_known.Goals as goal
 
 pub loop-i-preserved : goal.loop-i-preserved
 loop-i-preserved c =

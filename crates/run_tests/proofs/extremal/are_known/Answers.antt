@@ -1,6 +1,6 @@
 use Rattle.std.proofs.Common.{[], arith}
 use Rattle.std.proofs.lemmas.List.{get_or_default}
-use Rattle.extremal_check.proofs.least_clash.tests.are_known.Goals as goal
+use Rattle.run_tests.proofs.extremal.are_known.Goals as goal
 
 pub returns : goal.returns
 returns c = λ k d within.
