@@ -1,102 +1,165 @@
 //! Formulas and their events.
-ghost use Rattle.std.specs.Prelude.{◌≡◌, ◌≤◌, IfOk, None};
+ghost use Rattle.std.specs.Prelude.{◌≡◌, IfOk, None};
 ghost use Rattle.dimacs_read.specs.Cnf.{first_empty};
 
+use crate::comparing::{same, same_at, same_refusal};
+use crate::sources::{PIECES, source};
 use dimacs_read::{Formula, read_formula};
-use pop_edge::{MemSource, ReadRefusal};
+use pop_edge::ReadRefusal;
+use pop_instance::Events;
 use std::alloc::{AllocError, Global};
+use std::process::Abort;
 use std::test::Fail;
 
-// A text with a comment within a clause, and a last clause that `%` closes.
-const BY_HAND: &[u8] = b"c by hand\np cnf 3 2\n1 -2\nc in the middle\n0\n2 3\n%\n0\n";
-
+// What is read of a text in pieces of so many bytes, where the read of this number fails.
 fn read(
     alloc: Global,
     text: &[u8],
     piece: usize,
-    failing: &[u64],
+    failing: u64,
 ) -> Result<Result<Formula, ReadRefusal>, AllocError>
-    requires { 1 ≤ piece }
     ensures { IfOk result (λ answer. IfOk answer (λ formula. first_empty formula ≡ None)) }
 {
-    let bytes = Vec::from_slice(alloc, text)?;
-    let mut source = MemSource::new(bytes, piece, Vec::from_slice(alloc, failing)?);
+    let mut source = source(alloc, text, piece, failing)?;
     Ok(read_formula(alloc, &mut source))
 }
 
-/// The literals of all clauses, with a 0 behind each.
-fn literals(alloc: Global, formula: &Formula) -> Result<Vec<i32>, AllocError> {
-    let mut all = Vec::new(alloc);
-    for i in 0..formula.clauses() {
-        all.extend_from_slice(formula.clause(i))?;
-        all.push(0)?;
+// A text with a comment within a clause, and a last clause that `%` closes.
+static BY_HAND: &[u8] = b"c by hand\np cnf 3 2\n1 -2\nc in the middle\n0\n2 3\n%\n0\n";
+
+static CLAUSES: [&[i32]; 2] = [&[1, -2], &[2, 3]];
+
+// Compares the literals of a clause.
+fn is_clause(rt: &impl Abort, found: &[i32], want: &[i32], i: u32) {
+    assert!(rt; found == want, "clause {i}");
+}
+
+// Compares a formula with that of the text by hand.
+fn is_by_hand(rt: &impl Abort, formula: &Formula) {
+    same(rt, u64::from(formula.variables()), 3, "variables");
+    assert!(rt; formula.clauses() == 2);
+    for i in 0..2 {
+        is_clause(rt, formula.clause(i), CLAUSES[i as usize], i);
     }
-    Ok(all)
+}
+
+// Compares what is read of that text in pieces of so many bytes.
+fn is_read_by_hand(rt: &impl Abort, alloc: Global, piece: usize) -> Result<(), Fail> {
+    let formula = read(alloc, BY_HAND, piece, 0)??;
+    is_by_hand(rt, &formula);
+    Ok(())
 }
 
 #[test]
 fn a_formula_is_the_same_whatever_the_pieces(rt: HostRuntime) -> Result<(), Fail> {
-    for piece in [1, 2, 3, 7, 4096] {
-        let formula = read(rt.alloc(), BY_HAND, piece, &[])??;
-        assert_eq!(rt; formula.variables(), 3, "in pieces of {piece}");
-        let all = literals(rt.alloc(), &formula)?;
-        assert_eq!(rt;
-            all.as_slice(),
-            [1, -2, 0, 2, 3, 0].as_slice(),
-            "in pieces of {piece}"
-        );
+    for piece in PIECES.iter() {
+        is_read_by_hand(&rt, rt.alloc(), *piece)?;
+    }
+    Ok(())
+}
+
+// Compares why a text in pieces of so many bytes is refused, where the read of this number fails.
+fn is_refused(
+    rt: &impl Abort,
+    alloc: Global,
+    text: &[u8],
+    piece: usize,
+    failing: u64,
+    want: ReadRefusal,
+) -> Result<(), Fail> {
+    let found = read(alloc, text, piece, failing)?.err();
+    same_refusal(rt, found, want, piece, failing);
+    Ok(())
+}
+
+// Worked by hand from the grammar.
+static REFUSED: [(&[u8], ReadRefusal); 9] = [
+    (b"1 0\n", ReadRefusal::Malformed(1, 1)),
+    (b"c\n\n", ReadRefusal::Malformed(3, 1)),
+    (b"p cnf 1 1\n1 x 0\ny\n", ReadRefusal::Malformed(2, 2)),
+    (b"p cnf 1 1\n2 0\n", ReadRefusal::Malformed(2, 3)),
+    (b"p cnf 4194305 0 7\n", ReadRefusal::Malformed(1, 4)),
+    (b"p cnf 4194305 0\n", ReadRefusal::Limit(2, 1)),
+    (b"p cnf 1 4194305\n", ReadRefusal::Limit(3, 1)),
+    (b"p cnf 1 1\n1 0\n1 0", ReadRefusal::Count(1, 2)),
+    (b"p cnf 1 2\n1 0\n0\n", ReadRefusal::EmptyClause(2)),
+];
+
+// Compares why a text is refused in pieces of each size.
+fn is_refused_in_pieces(
+    rt: &impl Abort,
+    alloc: Global,
+    text: &[u8],
+    want: ReadRefusal,
+) -> Result<(), Fail> {
+    for piece in PIECES.iter() {
+        is_refused(rt, alloc, text, *piece, 0, want)?;
     }
     Ok(())
 }
 
 #[test]
 fn a_bad_text_is_refused_whatever_the_pieces(rt: HostRuntime) -> Result<(), Fail> {
-    // Worked by hand from the grammar.
-    let cases: [(&[u8], ReadRefusal); 9] = [
-        (b"1 0\n", ReadRefusal::Malformed(1, 1)),
-        (b"c\n\n", ReadRefusal::Malformed(3, 1)),
-        (b"p cnf 1 1\n1 x 0\ny\n", ReadRefusal::Malformed(2, 2)),
-        (b"p cnf 1 1\n2 0\n", ReadRefusal::Malformed(2, 3)),
-        (b"p cnf 4194305 0 7\n", ReadRefusal::Malformed(1, 4)),
-        (b"p cnf 4194305 0\n", ReadRefusal::Limit(2, 1)),
-        (b"p cnf 1 4194305\n", ReadRefusal::Limit(3, 1)),
-        (b"p cnf 1 1\n1 0\n1 0", ReadRefusal::Count(1, 2)),
-        (b"p cnf 1 2\n1 0\n0\n", ReadRefusal::EmptyClause(2)),
-    ];
-    for (text, want) in cases {
-        for piece in [1, 2, 3, 7, 4096] {
-            let result = read(rt.alloc(), text, piece, &[])?;
-            assert_eq!(rt; result.err(), Some(want), "in pieces of {piece}");
-        }
+    for (text, want) in REFUSED.iter() {
+        is_refused_in_pieces(&rt, rt.alloc(), text, *want)?;
     }
     Ok(())
 }
 
+// Texts of which the second line is read by the second read, in pieces of 10.
+static FAULTS: [(&[u8], ReadRefusal); 2] = [
+    (b"p cnf 1 1\n1 0\n", ReadRefusal::ReadFault),
+    (b"p cnf x 1\n1 0\n", ReadRefusal::Malformed(1, 1)),
+];
+
 #[test]
 fn a_fault_comes_behind_the_lines_before_it(rt: HostRuntime) -> Result<(), Fail> {
-    // In pieces of 10 the second line is read by the second read.
-    let good = read(rt.alloc(), b"p cnf 1 1\n1 0\n", 10, &[2])?;
-    assert_eq!(rt; good.err(), Some(ReadRefusal::ReadFault));
-    let bad = read(rt.alloc(), b"p cnf x 1\n1 0\n", 10, &[2])?;
-    assert_eq!(rt; bad.err(), Some(ReadRefusal::Malformed(1, 1)));
+    for (text, want) in FAULTS.iter() {
+        is_refused(&rt, rt.alloc(), text, 10, 2, *want)?;
+    }
     Ok(())
+}
+
+// Worked by hand: clause 2 has the cube of clause 1, clause 3 is always true, and clause 4 repeats
+// a literal.
+static FOUR_CLAUSES: &[u8] = b"p cnf 3 4\n2 -1 0\n-1 2 0\n1 -1 0\n3 3 -2 3 0\n";
+
+static EVENTS: [(u32, [(u32, u32); 2]); 2] = [(1, [(0, 1), (1, 0)]), (4, [(1, 1), (2, 0)])];
+
+// Compares a pair of an event.
+fn is_pair(rt: &impl Abort, found: (u32, u32), want: (u32, u32), number: u32) {
+    same_at(rt, found.0, want.0, "variable of event", number);
+    same_at(rt, found.1, want.1, "value of event", number);
+}
+
+// Compares an event: its number, and its two pairs.
+fn is_event(rt: &impl Abort, events: &Events, place: u32, want: (u32, [(u32, u32); 2])) {
+    assert!(rt; place < events.count());
+    let (number, pairs) = want;
+    same_at(rt, events.number(place), number, "event", place);
+    let cube = events.cube(place);
+    assert!(rt; cube.len() == 2);
+    is_pair(rt, cube.pair(0), pairs[0], number);
+    is_pair(rt, cube.pair(1), pairs[1], number);
+}
+
+// Compares the events of those clauses.
+fn are_events(rt: &impl Abort, events: &Events) {
+    assert!(rt; events.count() == 2);
+    for place in 0..2 {
+        is_event(rt, events, place, EVENTS[place as usize]);
+    }
+}
+
+// The events of a text.
+fn events_of(alloc: Global, text: &[u8]) -> Result<Events, Fail> {
+    let formula = read(alloc, text, 4096, 0)??;
+    Ok(formula.events(alloc)?)
 }
 
 #[test]
 fn events_falsify_their_clauses(rt: HostRuntime) -> Result<(), Fail> {
-    // Worked by hand: clause 2 has the cube of clause 1, clause 3 is always true, and clause 4
-    // repeats a literal.
-    let text = b"p cnf 3 4\n2 -1 0\n-1 2 0\n1 -1 0\n3 3 -2 3 0\n";
-    let formula = read(rt.alloc(), text, 4096, &[])??;
-    let events = formula.events(rt.alloc())?;
-    let want = [(1, [(0, 1), (1, 0)]), (4, [(1, 1), (2, 0)])];
-    assert_eq!(rt; events.count(), 2);
-    for place in 0..events.count() {
-        let (number, pairs) = want[place as usize];
-        assert_eq!(rt; events.number(place), number);
-        let cube = events.cube(place);
-        assert_eq!(rt; cube.len(), 2);
-        assert_eq!(rt; [cube.pair(0), cube.pair(1)], pairs);
-    }
+    let events = events_of(rt.alloc(), FOUR_CLAUSES)?;
+    are_events(&rt, &events);
     Ok(())
 }

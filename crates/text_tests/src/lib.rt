@@ -5,6 +5,8 @@
 #![tactic(auto)]
 
 #[cfg(test)]
+mod comparing;
+#[cfg(test)]
 mod formulas;
 #[cfg(test)]
 mod graphs;
@@ -12,5 +14,7 @@ mod graphs;
 mod lines;
 #[cfg(test)]
 mod sinks;
+#[cfg(test)]
+mod sources;
 #[cfg(test)]
 mod trees;

@@ -1,6 +1,5 @@
 //! Sources, sinks, and the lines, words and numbers of a text.
-ghost use Rattle.std.specs.Prelude.{◌≤◌};
-
+use crate::sources::{PIECES, source};
 use pop_edge::{
     Failed, Lines, MemSink, MemSource, Next, ReadRefusal, Sink, Source, StdSink, StdSource,
     next_word, number, put_all,
@@ -8,30 +7,247 @@ use pop_edge::{
 use std::alloc::{AllocError, Global};
 use std::io;
 use std::io::{Error, ErrorKind, Read, Write};
+use std::process::Abort;
 use std::test::Fail;
 
-/// The lines of a text that comes in pieces, each line with a `/` behind it, and what came after
-/// them: the answers of two more calls.
-fn joined(
-    alloc: Global,
-    text: &[u8],
+// A text that comes in pieces of so many bytes, where the read of this number fails; its lines,
+// each with a `/` behind it, and what each call behind them answers.
+#[derive(Clone, Copy)]
+struct Case<'a> {
+    text: &'a [u8],
     piece: usize,
-    failing: &[u64],
-) -> Result<(Vec<u8>, [Result<Next, ReadRefusal>; 2]), AllocError>
-    requires { 1 ≤ piece }
-{
-    let bytes = Vec::from_slice(alloc, text)?;
-    let mut source = MemSource::new(bytes, piece, Vec::from_slice(alloc, failing)?);
-    let mut lines = Lines::new(alloc)?;
-    let mut all = Vec::new(alloc);
+    failing: u64,
+    lines: &'a [u8],
+    after: Result<Next, ReadRefusal>,
+}
+
+// Adds the lines of a source, each with a `/` behind it.
+fn push_lines(
+    all: &mut Vec<u8>,
+    lines: &mut Lines,
+    source: &mut MemSource,
+) -> Result<(), AllocError> {
     for _ in 0..100 {
-        if lines.next(&mut source) != Ok(Next::Line) {
+        if lines.next(source) != Ok(Next::Line) {
             break;
         }
         all.extend_from_slice(lines.line())?;
         all.push(b'/')?;
     }
-    Ok((all, [lines.next(&mut source), lines.next(&mut source)]))
+    Ok(())
+}
+
+// The lines of a source up to the first call that gives none, which is made.
+fn joined(alloc: Global, lines: &mut Lines, source: &mut MemSource) -> Result<Vec<u8>, AllocError> {
+    let mut all = Vec::new(alloc);
+    push_lines(&mut all, lines, source)?;
+    Ok(all)
+}
+
+// Compares bytes.
+fn same_bytes(rt: &impl Abort, found: &[u8], want: &[u8]) {
+    assert_eq!(rt; found, want);
+}
+
+// Compares the lines of a case.
+fn are_lines(rt: &impl Abort, found: &[u8], case: &Case) {
+    let Case { piece, failing, .. } = case;
+    assert_eq!(rt;
+        found,
+        case.lines,
+        "pieces of {piece}, read {failing} fails"
+    );
+}
+
+// Compares what one more call answers.
+fn comes_after(rt: &impl Abort, lines: &mut Lines, source: &mut MemSource, case: &Case) {
+    let Case { piece, failing, .. } = case;
+    let after = lines.next(source);
+    assert_eq!(rt;
+        after,
+        case.after,
+        "pieces of {piece}, read {failing} fails"
+    );
+}
+
+// Compares the lines of a source with those of a case, and two calls behind the first that gave
+// none.
+fn gives(
+    rt: &impl Abort,
+    alloc: Global,
+    lines: &mut Lines,
+    source: &mut MemSource,
+    case: &Case,
+) -> Result<(), Fail> {
+    let all = joined(alloc, lines, source)?;
+    are_lines(rt, &all, case);
+    comes_after(rt, lines, source, case);
+    comes_after(rt, lines, source, case);
+    Ok(())
+}
+
+// Compares the lines of a case's text.
+fn is_cut(rt: &impl Abort, alloc: Global, case: &Case) -> Result<(), Fail> {
+    let mut source = source(alloc, case.text, case.piece, case.failing)?;
+    let mut lines = Lines::new(alloc)?;
+    gives(rt, alloc, &mut lines, &mut source, case)
+}
+
+// Texts and their lines. Worked by hand: the last line may have no end, and an end makes no line.
+static TEXTS: [(&[u8], &[u8]); 5] = [
+    (b"", b""),
+    (b"one\n\nthree\n", b"one//three/"),
+    (b"one\ntwo", b"one/two/"),
+    (b"\r\n \n", b"\r/ /"),
+    (b"\n", b"/"),
+];
+
+// Compares the lines of a text in pieces of each size.
+fn is_cut_in_pieces(rt: &impl Abort, alloc: Global, text: &[u8], lines: &[u8]) -> Result<(), Fail> {
+    for piece in PIECES.iter() {
+        let case = Case {
+            text,
+            piece: *piece,
+            failing: 0,
+            lines,
+            after: Ok(Next::End),
+        };
+        is_cut(rt, alloc, &case)?;
+    }
+    Ok(())
+}
+
+#[test]
+fn lines_are_the_same_whatever_the_pieces(rt: HostRuntime) -> Result<(), Fail> {
+    for (text, lines) in TEXTS.iter() {
+        is_cut_in_pieces(&rt, rt.alloc(), text, lines)?;
+    }
+    Ok(())
+}
+
+// Each read of the text in pieces of 2 fails once: only the lines before it were given.
+static FAULTS: [(u64, &[u8]); 5] = [
+    (1, b""),
+    (2, b""),
+    (3, b"ab/"),
+    (4, b"ab/cd/"),
+    (5, b"ab/cd/"),
+];
+
+#[test]
+fn a_refusal_is_answered_again(rt: HostRuntime) -> Result<(), Fail> {
+    for (failing, lines) in FAULTS.iter() {
+        let case = Case {
+            text: b"ab\ncd\nef",
+            piece: 2,
+            failing: *failing,
+            lines,
+            after: Err(ReadRefusal::ReadFault),
+        };
+        is_cut(&rt, rt.alloc(), &case)?;
+    }
+    Ok(())
+}
+
+// Makes so many calls, each of which is answered so.
+fn comes(
+    rt: &impl Abort,
+    lines: &mut Lines,
+    source: &mut MemSource,
+    calls: u32,
+    want: Result<Next, ReadRefusal>,
+) {
+    for _ in 0..calls {
+        let answer = lines.next(source);
+        assert!(rt; answer == want);
+    }
+}
+
+// The next read fails.
+fn fails_next(rt: &impl Abort, source: &mut MemSource) {
+    let mut room = [0; 4];
+    let read = source.read(&mut room);
+    assert!(rt; read == Err(Failed));
+}
+
+// Read 2 gives the second line.
+#[test]
+fn no_read_is_made_behind_a_whole_line(rt: HostRuntime) -> Result<(), Fail> {
+    let mut source = source(rt.alloc(), b"ab\ncd", 3, 2)?;
+    let mut lines = Lines::new(rt.alloc())?;
+    comes(&rt, &mut lines, &mut source, 1, Ok(Next::Line));
+    fails_next(&rt, &mut source);
+    Ok(())
+}
+
+// Read 2 gives nothing.
+#[test]
+fn no_read_is_made_behind_the_end(rt: HostRuntime) -> Result<(), Fail> {
+    let mut source = source(rt.alloc(), b"ab\n", 3, 3)?;
+    let mut lines = Lines::new(rt.alloc())?;
+    comes(&rt, &mut lines, &mut source, 1, Ok(Next::Line));
+    comes(&rt, &mut lines, &mut source, 2, Ok(Next::End));
+    fails_next(&rt, &mut source);
+    Ok(())
+}
+
+// Compares the first word of a line, and gives what is behind it.
+fn behind_word<'a>(rt: &impl Abort, line: &'a [u8], want: &[u8]) -> &'a [u8] {
+    let (word, rest) = next_word(line).expect(rt, "a word");
+    same_bytes(rt, word, want);
+    rest
+}
+
+#[test]
+fn words_are_cut_from_a_line(rt: HostRuntime) {
+    let rest = behind_word(&rt, b"\t 0012 x\r", b"0012");
+    let rest = behind_word(&rt, rest, b"x");
+    assert!(&rt; next_word(rest).is_none());
+}
+
+// Words and their numbers; with the greatest number, one more, and eleven digits.
+static NUMBERS: [(&[u8], Option<u32>); 5] = [
+    (b"0012", Some(12)),
+    (b"x", None),
+    (b"4294967295", Some(4294967295)),
+    (b"4294967296", None),
+    (b"00000000001", None),
+];
+
+#[test]
+fn a_number_has_at_most_ten_digits_and_32_bits(rt: HostRuntime) {
+    for (word, want) in NUMBERS.iter() {
+        assert_eq!(&rt; number(word), *want, "{word:?}");
+    }
+}
+
+// Compares what is answered to bytes that are put.
+fn puts(rt: &impl Abort, sink: &mut MemSink, bytes: &[u8], want: Result<(), Failed>) {
+    assert_eq!(rt; put_all(sink, bytes), want);
+}
+
+// A sink with room for nine bytes, which takes four at a time, where the write of this number
+// fails; 0 is none.
+fn sink(alloc: Global, failing: u64) -> Result<MemSink, AllocError> {
+    let failing = vec![in alloc; failing]?;
+    MemSink::new(alloc, 9, 4, failing)
+}
+
+#[test]
+fn a_sink_holds_what_there_is_room_for(rt: HostRuntime) -> Result<(), Fail> {
+    let mut whole = sink(rt.alloc(), 0)?;
+    puts(&rt, &mut whole, b"s SAMPLE\n", Ok(()));
+    same_bytes(&rt, whole.bytes(), b"s SAMPLE\n");
+    puts(&rt, &mut whole, b"x", Err(Failed));
+    Ok(())
+}
+
+#[test]
+fn a_sink_that_fails_holds_a_front_of_the_bytes(rt: HostRuntime) -> Result<(), Fail> {
+    let mut failing = sink(rt.alloc(), 2)?;
+    puts(&rt, &mut failing, b"s SAMPLE\n", Err(Failed));
+    same_bytes(&rt, failing.bytes(), b"s SA");
+    Ok(())
 }
 
 /// Fails once and then gives a byte at a time.
@@ -49,6 +265,22 @@ impl Read for Stutter {
         buf[0] = b'x';
         Ok(1)
     }
+}
+
+// Compares what a read answers, into room for four bytes.
+fn reads(rt: &impl Abort, source: &mut StdSource<Stutter>, want: Result<usize, Failed>) -> u8 {
+    let mut room = [0; 4];
+    let found = source.read(&mut room);
+    assert_eq!(rt; found, want);
+    room[0]
+}
+
+#[test]
+fn an_error_of_a_reader_is_a_fault(rt: HostRuntime) {
+    let mut source = StdSource::new(Stutter { failed: false });
+    reads(&rt, &mut source, Err(Failed));
+    let byte = reads(&rt, &mut source, Ok(1));
+    assert_eq!(&rt; byte, b'x');
 }
 
 /// Takes a byte, then none, and then fails.
@@ -72,93 +304,17 @@ impl Write for Clog {
     }
 }
 
-#[test]
-fn lines_are_the_same_whatever_the_pieces(rt: HostRuntime) -> Result<(), Fail> {
-    // Worked by hand: the last line may have no end, and an end makes no line.
-    let cases: [(&[u8], &[u8]); 5] = [
-        (b"", b""),
-        (b"one\n\nthree\n", b"one//three/"),
-        (b"one\ntwo", b"one/two/"),
-        (b"\r\n \n", b"\r/ /"),
-        (b"\n", b"/"),
-    ];
-    for (text, want) in cases {
-        for piece in [1, 2, 3, 7, 4096] {
-            let (all, after) = joined(rt.alloc(), text, piece, &[])?;
-            assert_eq!(rt; all.as_slice(), want, "in pieces of {piece}");
-            assert_eq!(rt;
-                after,
-                [Ok(Next::End), Ok(Next::End)],
-                "in pieces of {piece}"
-            );
-        }
-    }
-    Ok(())
+// Compares what a write of two bytes answers.
+fn writes(rt: &impl Abort, sink: &mut StdSink<Clog>, want: Result<usize, Failed>) {
+    let found = sink.write(b"ab");
+    assert_eq!(rt; found, want);
 }
 
+// The second takes 0 bytes.
 #[test]
-fn a_refusal_is_answered_again(rt: HostRuntime) -> Result<(), Fail> {
-    // Each read of the text in pieces of 2 fails once: only the lines before it were given.
-    let text = b"ab\ncd\nef";
-    let cases: [(u64, &[u8]); 5] = [
-        (1, b""),
-        (2, b""),
-        (3, b"ab/"),
-        (4, b"ab/cd/"),
-        (5, b"ab/cd/"),
-    ];
-    for (failing, want) in cases {
-        let (all, after) = joined(rt.alloc(), text, 2, &[failing])?;
-        let fault = Err(ReadRefusal::ReadFault);
-        assert_eq!(rt; all.as_slice(), want, "read {failing} fails");
-        assert_eq!(rt; after, [fault, fault], "read {failing} fails");
-    }
-    Ok(())
-}
-
-#[test]
-fn words_and_numbers_are_cut_from_a_line(rt: HostRuntime) -> Result<(), Fail> {
-    let (word, rest) = next_word(b"\t 0012 x\r").ok_or("no word")?;
-    assert_eq!(rt; word, b"0012".as_slice());
-    assert_eq!(rt; number(word), Some(12));
-    let (word, rest) = next_word(rest).ok_or("no second word")?;
-    assert_eq!(rt; word, b"x".as_slice());
-    assert_eq!(rt; number(word), None);
-    assert!(rt; next_word(rest).is_none());
-    // The greatest number, one more, and eleven digits.
-    assert_eq!(rt; number(b"4294967295"), Some(4294967295));
-    assert_eq!(rt; number(b"4294967296"), None);
-    assert_eq!(rt; number(b"00000000001"), None);
-    Ok(())
-}
-
-#[test]
-fn a_sink_that_fails_holds_a_front_of_the_bytes(rt: HostRuntime) -> Result<(), Fail> {
-    let mut whole = MemSink::new(rt.alloc(), 9, 4, Vec::new(rt.alloc()))?;
-    assert_eq!(rt; put_all(&mut whole, b"s SAMPLE\n"), Ok(()));
-    assert_eq!(rt; whole.bytes(), b"s SAMPLE\n".as_slice());
-    assert_eq!(rt;
-        put_all(&mut whole, b"x"),
-        Err(Failed),
-        "the room is used up"
-    );
-
-    let mut failing = MemSink::new(rt.alloc(), 9, 4, vec![in rt.alloc(); 2]?)?;
-    assert_eq!(rt; put_all(&mut failing, b"s SAMPLE\n"), Err(Failed));
-    assert_eq!(rt; failing.bytes(), b"s SA".as_slice());
-    Ok(())
-}
-
-#[test]
-fn errors_of_std_are_faults(rt: HostRuntime) {
-    let mut source = StdSource::new(Stutter { failed: false });
-    let mut room = [0; 4];
-    assert_eq!(rt; source.read(&mut room), Err(Failed));
-    assert_eq!(rt; source.read(&mut room), Ok(1));
-    assert_eq!(rt; room[0], b'x');
-
+fn errors_of_a_writer_are_faults(rt: HostRuntime) {
     let mut sink = StdSink::new(Clog { writes: 0 });
-    assert_eq!(rt; sink.write(b"ab"), Ok(1));
-    assert_eq!(rt; sink.write(b"ab"), Err(Failed), "it took 0 bytes");
-    assert_eq!(rt; sink.write(b"ab"), Err(Failed));
+    writes(&rt, &mut sink, Ok(1));
+    writes(&rt, &mut sink, Err(Failed));
+    writes(&rt, &mut sink, Err(Failed));
 }

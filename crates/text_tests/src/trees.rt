@@ -5,10 +5,11 @@ ghost use Rattle.graph_read.specs.Graphs.{IsVertex};
 ghost use Rattle.graph_read.specs.Paths.{IsConnected};
 ghost use Rattle.cycle_popping.specs.Walks.{AreCycles};
 
+use crate::comparing::{same, same_at};
+use crate::sources::graph;
 use confluence_core::{End, Stuck, run_first};
 use cycle_popping::{arrow_weights, arrows, run_walks};
-use graph_read::{Graph, first_cut_off, read_graph};
-use pop_edge::MemSource;
+use graph_read::{Graph, first_cut_off};
 use pop_instance::{Arrows, Cursors, Family, Instance};
 use pop_stacks::{Reader, Rows, StackSpec, Stacks};
 use std::alloc::Global;
@@ -18,12 +19,6 @@ use std::test::Fail;
 mod draws;
 mod grids;
 mod multigraphs;
-
-// The graph of a text.
-fn graph(alloc: Global, text: &[u8]) -> Result<Graph, Fail> {
-    let mut source = MemSource::new(Vec::from_slice(alloc, text)?, 4096, Vec::new(alloc));
-    Ok(read_graph(alloc, &mut source)?)
-}
 
 // Stops the test where a vertex is cut off from the root, or the root is no vertex.
 fn expect_joined(rt: &impl Abort, alloc: Global, graph: &Graph, root: u32) -> Result<(), Fail>
@@ -96,17 +91,6 @@ fn trees(
     trees_of(rt, alloc, &graph, root, stacks)
 }
 
-// Compares two counts. Tests compare by this call and the next, so that what tells of numbers that
-// differ is proved once.
-fn same(rt: &impl Abort, found: u64, want: u64, what: &str) {
-    assert_eq!(rt; found, want, "{what}");
-}
-
-// Compares two numbers at a place.
-fn same_at(rt: &impl Abort, found: u32, want: u32, what: &str, place: u64) {
-    assert_eq!(rt; found, want, "{what} {place}");
-}
-
 // What an end is to be: its cursors, its pops and the units of its stuck cycles.
 struct Want {
     cursors: &'static [u32],
@@ -118,8 +102,7 @@ struct Want {
 fn are_stuck(rt: &impl Abort, stuck: &Stuck, units: &[u32]) {
     assert!(rt; stuck.len() == units.len() as u64);
     for (i, unit) in units.iter().enumerate() {
-        let place = i as u64;
-        same_at(rt, stuck.at(place).0, *unit, "stuck cycle", place);
+        same_at(rt, stuck.at(i as u64).0, *unit, "stuck cycle", i as u32);
     }
 }
 
@@ -129,7 +112,7 @@ fn are_cursors(rt: &impl Abort, cursors: &Cursors, count: u32, want: &[u32])
 {
     assert!(rt; want.len() == count as usize);
     for v in 0..count {
-        same_at(rt, cursors.get(v), want[v as usize], "variable", v as u64);
+        same_at(rt, cursors.get(v), want[v as usize], "variable", v);
     }
 }
 

@@ -5,7 +5,8 @@ ghost use Rattle.graph_read.specs.Graphs.{IsVertex};
 ghost use Rattle.graph_read.specs.Grids.{IsSide};
 ghost use Rattle.graph_read.specs.Paths.{IsConnected};
 
-use super::{expect_joined, first_value, same_at};
+use super::{expect_joined, first_value};
+use crate::comparing::same_at;
 use cycle_popping::{arrow_weights, arrows, grid_arrows, grid_weights};
 use graph_read::Graph;
 use pop_instance::Arrows;
@@ -86,20 +87,14 @@ fn same_value(rt: &impl Abort, made: &Stacks, want: &Stacks, v: u32)
     requires made { v < variables_of made.now }
     requires want { v < variables_of want.now }
 {
-    same_at(
-        rt,
-        made.domain(v),
-        want.domain(v),
-        "values of variable",
-        v as u64,
-    );
+    same_at(rt, made.domain(v), want.domain(v), "values of variable", v);
     let value = first_value(rt, made, v);
     same_at(
         rt,
         value,
         first_value(rt, want, v),
         "first value of variable",
-        v as u64,
+        v,
     );
 }
 
