@@ -25,17 +25,22 @@ static ROWS: [&[u32]; 2] = [&[0, 1, 1, 1], &[0, 0, 1]];
 // The clauses `1 2` and `-1 2`.
 static CLAUSES: [EventRow; 2] = [(1, &[(0, 0), (1, 0)]), (2, &[(0, 1), (1, 0)])];
 
-// Worked by hand: the first pop uses the entries 0 and 0, the second 1 and 1.
+// Variables, entries of theirs, and the places of the pops that used them. Worked by hand: the first
+// pop uses the entries 0 and 0, the second 1 and 1.
+static PLACES: [(u32, u32, Option<u64>); 3] = [(0, 0, Some(0)), (1, 1, Some(1)), (0, 2, None)];
+
+// Compares the places of the pops.
+fn are_places(rt: &impl Abort, alloc: Global, instance: &Instance) -> Result<(), Fail> {
+    for (v, k, want) in PLACES.iter() {
+        let found = place(rt, alloc, instance, *v, *k)?;
+        assert!(rt; found == *want, "entry {k} of variable {v}");
+    }
+    Ok(())
+}
+
 #[test]
 fn a_pop_is_found_by_a_variable_and_its_entry(rt: HostRuntime) -> Result<(), Fail> {
     let alloc = rt.alloc();
     let instance = listed(alloc, &ROWS, &CLAUSES)?;
-    for (v, k, want) in [(0, 0, Some(0)), (1, 1, Some(1)), (0, 2, None)] {
-        assert_eq!(rt;
-            place(&rt, alloc, &instance, v, k)?,
-            want,
-            "entry {k} of variable {v}"
-        );
-    }
-    Ok(())
+    are_places(&rt, alloc, &instance)
 }

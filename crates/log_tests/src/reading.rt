@@ -1,12 +1,12 @@
 mod texts;
 
 use confluence_core::{Log, Record};
-use pop_instance::{Arrows, Instance};
+use pop_instance::Instance;
 use pop_log::{LogRefusal, Names, read_log};
 use std::alloc::{AllocError, Global};
 use std::process::Abort;
 use std::test::Fail;
-use test_instances::{EventRow, cycles, listed};
+use test_instances::{EventRow, arrows, cycles, listed};
 use texts::{FIRST, FORMULA, LAST, LAYERED, MIDDLE, ONE_CLAUSE, SINKS};
 
 // The instance of the clause `1`: value 0 of its one variable. The stack is 0, 0, 1.
@@ -46,19 +46,12 @@ fn triangle(alloc: Global) -> Result<Instance, Fail> {
     listed(alloc, &ROWS, &SINKS)
 }
 
-// The arrows of two variables, each with one to the root and one to the other.
-fn arrows(rt: &impl Abort, alloc: Global) -> Result<Arrows, Fail> {
-    let first = vec![in alloc; None, Some(1)]?;
-    let second = vec![in alloc; None, Some(0)]?;
-    let heads = vec![in alloc; first, second]?;
-    Ok(Arrows::new(heads).expect(rt, "arrows"))
-}
-
 // The trees of the triangle to its vertex 2. Each other vertex has an arrow to it, and one to the
 // other.
-fn tree(rt: &impl Abort, alloc: Global) -> Result<Instance, Fail> {
+fn tree(alloc: Global) -> Result<Instance, Fail> {
     static ROWS: [&[u32]; 2] = [&[1, 1, 0], &[1, 1, 0]];
-    let arrows = arrows(rt, alloc)?;
+    static HEADS: [[Option<u32>; 2]; 2] = [[None, Some(1)], [None, Some(0)]];
+    let arrows = arrows(alloc, &HEADS)?;
     cycles(alloc, &ROWS, arrows)
 }
 
@@ -164,7 +157,7 @@ fn compare_trees(rt: &impl Abort, alloc: Global, instance: &Instance) -> Result<
 #[test]
 fn logs_of_trees_are_read_by_the_names_of_their_root(rt: HostRuntime) -> Result<(), Fail> {
     let alloc = rt.alloc();
-    let instance = tree(&rt, alloc)?;
+    let instance = tree(alloc)?;
     compare_trees(&rt, alloc, &instance)
 }
 
@@ -184,7 +177,7 @@ static CUT: [u8; 28] = *b"log 1 2\npop 1 1:0\npop 1 1:1\n";
 fn compare_cuts(rt: &impl Abort, alloc: Global, instance: &Instance) -> Result<(), Fail> {
     for n in 0..29 {
         let found = answer(alloc, instance, &Names::Plain, &CUT[..n])?;
-        assert_eq!(rt; found.as_str(), cut_answer(n), "the first {n} bytes");
+        assert!(rt; found.as_str() == cut_answer(n), "the first {n} bytes");
     }
     Ok(())
 }

@@ -1,11 +1,11 @@
 use crate::records::popped_with;
 use confluence_core::Log;
-use pop_instance::{Arrows, Instance};
+use pop_instance::Instance;
 use pop_log::{Replay, replay};
 use std::alloc::{AllocError, Global};
 use std::process::Abort;
 use std::test::Fail;
-use test_instances::{EventRow, cycles, listed};
+use test_instances::{EventRow, arrows, cycles, listed};
 
 // The log of pops, each of a unit, a variable below 10 that has value 0, and its entry.
 fn log_of(rt: &impl Abort, alloc: Global, pops: &[(u32, u32, u32)]) -> Result<Log, Fail> {
@@ -24,17 +24,11 @@ fn two_events(alloc: Global) -> Result<Instance, Fail> {
     listed(alloc, &ROWS, &EVENTS)
 }
 
-// The arrows of a variable that leads to itself by value 0 and to the root by value 1.
-fn arrows(rt: &impl Abort, alloc: Global) -> Result<Arrows, Fail> {
-    let row = vec![in alloc; Some(0), None]?;
-    let heads = vec![in alloc; row]?;
-    Ok(Arrows::new(heads).expect(rt, "arrows"))
-}
-
 // Variable 0 leads to itself by value 0 and to the root by value 1. It has the entries 0, 0, 1.
-fn ring(rt: &impl Abort, alloc: Global) -> Result<Instance, Fail> {
+fn ring(alloc: Global) -> Result<Instance, Fail> {
     static ROWS: [&[u32]; 1] = [&[0, 0, 1]];
-    let arrows = arrows(rt, alloc)?;
+    static HEADS: [[Option<u32>; 2]; 1] = [[Some(0), None]];
+    let arrows = arrows(alloc, &HEADS)?;
     cycles(alloc, &ROWS, arrows)
 }
 
@@ -123,6 +117,6 @@ static RING_LOGS: [(&[(u32, u32, u32)], Result<u32, u64>); 2] = [
 #[test]
 fn cycles_are_replayed_under_their_least_variable(rt: HostRuntime) -> Result<(), Fail> {
     let alloc = rt.alloc();
-    let instance = ring(&rt, alloc)?;
+    let instance = ring(alloc)?;
     are_replays(&rt, alloc, &instance, &RING_LOGS)
 }

@@ -5,13 +5,16 @@ use confluence_core::Log;
 use std::alloc::Global;
 use std::process::Abort;
 use std::test::Fail;
-use witness_trees::tree;
+use witness_trees::{Tree, print_missing, tree};
 
 // All variables are below this.
 const COUNT: u32 = 7;
 
+// A pop: its unit and its variables.
+type Pop = (u32, &'static [u32]);
+
 // The log of these units and variables.
-fn log_of(rt: &impl Abort, alloc: Global, pops: &[(u32, &[u32])]) -> Result<Log, Fail> {
+fn log_of(rt: &impl Abort, alloc: Global, pops: &[Pop]) -> Result<Log, Fail> {
     let mut log = Log::new(alloc);
     for (unit, variables) in pops {
         log.push(popped(rt, alloc, COUNT, *unit, variables)?)?;
@@ -19,108 +22,158 @@ fn log_of(rt: &impl Abort, alloc: Global, pops: &[(u32, &[u32])]) -> Result<Log,
     Ok(log)
 }
 
-// Compares the tree of record t with depths and units in preorder.
-fn is_tree(
-    rt: &impl Abort,
-    alloc: Global,
-    pops: &[(u32, &[u32])],
+// Compares the depths and units of a tree, in preorder.
+fn has_vertices(rt: &impl Abort, tree: &Tree, want: &[(u64, u32)], what: &str) {
+    assert!(rt; tree.len() == want.len() as u64, "{what}");
+    for i in 0..tree.len() {
+        let found = (tree.depth(i), tree.unit(i));
+        assert!(rt; found == want[i as usize], "{what}, vertex {i}");
+    }
+}
+
+// Pops, the place of one of them, and the depths and units of its tree, in preorder.
+struct Case {
+    what: &'static str,
+    pops: &'static [Pop],
     t: u64,
-    want: &[(u64, u32)],
-) -> Result<(), Fail> {
-    let log = log_of(rt, alloc, pops)?;
-    assert!(rt; t < log.len());
-    let tree = tree(alloc, &log, t)?;
-    assert_eq!(rt; tree.len(), want.len() as u64);
-    for (i, (depth, unit)) in want.iter().enumerate() {
-        let i = i as u64;
-        assert!(rt; i < tree.len());
-        assert_eq!(rt;
-            (tree.depth(i), tree.unit(i)),
-            (*depth, *unit),
-            "vertex {i}"
-        );
+    tree: &'static [(u64, u32)],
+}
+
+// Compares the tree of the record of a case.
+fn is_case(rt: &impl Abort, alloc: Global, log: &Log, case: &Case) -> Result<(), Fail> {
+    assert!(rt; case.t < log.len(), "{}", case.what);
+    let tree = tree(alloc, log, case.t)?;
+    has_vertices(rt, &tree, case.tree, case.what);
+    Ok(())
+}
+
+// The events of the clauses `1 2 0`, `3 4 0` and `2 3 0`.
+const FIRST: Pop = (1, &[0, 1]);
+
+const SECOND: Pop = (2, &[2, 3]);
+
+const THIRD: Pop = (3, &[1, 2]);
+
+// Two events that each share a variable with the root's and one with the last one's.
+const ROOT: Pop = (1, &[0, 1]);
+
+const LESSER: Pop = (2, &[0, 5]);
+
+const GREATER: Pop = (3, &[1, 6]);
+
+const LAST: Pop = (4, &[5, 6]);
+
+// Worked by hand.
+static CASES: [Case; 9] = [
+    Case {
+        what: "siblings come by rising label, here as they were popped",
+        pops: &[FIRST, SECOND, THIRD],
+        t: 2,
+        tree: &[(0, 3), (1, 1), (1, 2)],
+    },
+    Case {
+        what: "siblings come by rising label, here the other way round",
+        pops: &[SECOND, FIRST, THIRD],
+        t: 2,
+        tree: &[(0, 3), (1, 1), (1, 2)],
+    },
+    // Two vertices of depth 1 meet event 4; event 2 has the lesser label.
+    Case {
+        what: "of two vertices of one depth that with the lesser label is the parent, popped first",
+        pops: &[LAST, LESSER, GREATER, ROOT],
+        t: 3,
+        tree: &[(0, 1), (1, 2), (2, 4), (1, 3)],
+    },
+    Case {
+        what: "of two vertices of one depth that with the lesser label is the parent, popped last",
+        pops: &[LAST, GREATER, LESSER, ROOT],
+        t: 3,
+        tree: &[(0, 1), (1, 2), (2, 4), (1, 3)],
+    },
+    Case {
+        what: "a record that meets no vertex is left out",
+        pops: &[FIRST, (7, &[5]), SECOND, FIRST],
+        t: 3,
+        tree: &[(0, 1), (1, 1)],
+    },
+    Case {
+        what: "a record stands below the deepest vertex that it meets",
+        pops: &[THIRD, (5, &[1]), THIRD],
+        t: 2,
+        tree: &[(0, 3), (1, 5), (2, 3)],
+    },
+    Case {
+        what: "records behind the first one have no part",
+        pops: &[FIRST, THIRD, SECOND, THIRD],
+        t: 0,
+        tree: &[(0, 1)],
+    },
+    Case {
+        what: "records behind the second one have no part",
+        pops: &[FIRST, THIRD, SECOND, THIRD],
+        t: 1,
+        tree: &[(0, 3), (1, 1)],
+    },
+    Case {
+        what: "records behind the third one have no part",
+        pops: &[FIRST, THIRD, SECOND, THIRD],
+        t: 2,
+        tree: &[(0, 2), (1, 3), (2, 1)],
+    },
+];
+
+#[test]
+fn trees_have_the_vertices_that_are_worked_by_hand(rt: HostRuntime) -> Result<(), Fail> {
+    let alloc = rt.alloc();
+    for case in CASES.iter() {
+        let log = log_of(&rt, alloc, case.pops)?;
+        is_case(&rt, alloc, &log, case)?;
     }
     Ok(())
 }
 
-const FIRST: (u32, &[u32]) = (1, &[0, 1]);
+// Variables, entries and cursors, and what is printed of a pop that isn't there. Worked by hand.
+static MISSING: [(u32, u32, u32, &[u8]); 2] = [
+    (7, 2, 2, b"witness none 7 2 2\n"),
+    (1, 0, 4294967295, b"witness none 1 0 4294967295\n"),
+];
 
-const SECOND: (u32, &[u32]) = (2, &[2, 3]);
-
-const THIRD: (u32, &[u32]) = (3, &[1, 2]);
-
-// The events of the clauses `1 2 0`, `3 4 0` and `2 3 0`, worked by hand.
-#[test]
-fn siblings_come_by_rising_label_whatever_the_order_of_their_pops(
-    rt: HostRuntime,
-) -> Result<(), Fail> {
-    let alloc = rt.alloc();
-    let want = [(0, 3), (1, 1), (1, 2)];
-    is_tree(&rt, alloc, &[FIRST, SECOND, THIRD], 2, &want)?;
-    is_tree(&rt, alloc, &[SECOND, FIRST, THIRD], 2, &want)
-}
-
-// Two vertices of depth 1 meet event 4; event 2 has the lesser label. Worked by hand.
-#[test]
-fn of_two_vertices_of_one_depth_that_with_the_lesser_label_is_the_parent(
-    rt: HostRuntime,
-) -> Result<(), Fail> {
-    let alloc = rt.alloc();
-    let root: (u32, &[u32]) = (1, &[0, 1]);
-    let lesser: (u32, &[u32]) = (2, &[0, 5]);
-    let greater: (u32, &[u32]) = (3, &[1, 6]);
-    let first: (u32, &[u32]) = (4, &[5, 6]);
-    let want = [(0, 1), (1, 2), (2, 4), (1, 3)];
-    is_tree(&rt, alloc, &[first, lesser, greater, root], 3, &want)?;
-    is_tree(&rt, alloc, &[first, greater, lesser, root], 3, &want)
+// Compares a text.
+fn is_printed(rt: &impl Abort, found: &[u8], want: &[u8], entry: u32) {
+    assert!(rt; found == want, "entry {entry}");
 }
 
 #[test]
-fn a_record_that_meets_no_vertex_is_left_out(rt: HostRuntime) -> Result<(), Fail> {
-    let alloc = rt.alloc();
-    is_tree(
-        &rt,
-        alloc,
-        &[FIRST, (7, &[5]), SECOND, FIRST],
-        3,
-        &[(0, 1), (1, 1)],
-    )
+fn a_missing_pop_is_printed_with_its_entry_and_the_cursor(rt: HostRuntime) -> Result<(), Fail> {
+    for (name, entry, cursor, want) in MISSING.iter() {
+        let text = print_missing(rt.alloc(), *name, *entry, *cursor)?;
+        is_printed(&rt, &text, want, *entry);
+    }
+    Ok(())
 }
 
-#[test]
-fn a_record_stands_below_the_deepest_vertex_that_it_meets(rt: HostRuntime) -> Result<(), Fail> {
-    let alloc = rt.alloc();
-    is_tree(
-        &rt,
-        alloc,
-        &[THIRD, (5, &[1]), THIRD],
-        2,
-        &[(0, 3), (1, 5), (2, 3)],
-    )
+// The log of so many pops of one event, of unit 3.
+fn log_of_one(rt: &impl Abort, alloc: Global, pops: u64) -> Result<Log, Fail> {
+    let mut log = Log::new(alloc);
+    for _ in 0..pops {
+        log.push(popped(rt, alloc, COUNT, 3, &[1, 2])?)?;
+    }
+    Ok(log)
 }
 
-#[test]
-fn records_behind_the_asked_one_have_no_part(rt: HostRuntime) -> Result<(), Fail> {
-    let alloc = rt.alloc();
-    let pops = [FIRST, THIRD, SECOND, THIRD];
-    is_tree(&rt, alloc, &pops, 0, &[(0, 1)])?;
-    is_tree(&rt, alloc, &pops, 1, &[(0, 3), (1, 1)])?;
-    is_tree(&rt, alloc, &pops, 2, &[(0, 2), (1, 3), (2, 1)])
+// Compares a tree with a path of so many vertices of unit 3.
+fn is_path(rt: &impl Abort, tree: &Tree, vertices: u64) {
+    assert!(rt; tree.len() == vertices);
+    for i in 0..vertices {
+        assert!(rt; (tree.depth(i), tree.unit(i)) == (i, 3), "vertex {i}");
+    }
 }
 
 #[test]
 fn pops_of_one_event_make_a_path(rt: HostRuntime) -> Result<(), Fail> {
-    let alloc = rt.alloc();
-    let mut log = Log::new(alloc);
-    for _ in 0..1000 {
-        log.push(popped(&rt, alloc, COUNT, 3, &[1, 2])?)?;
-    }
+    let log = log_of_one(&rt, rt.alloc(), 1000)?;
     assert!(&rt; log.len() == 1000);
-    let tree = tree(alloc, &log, 999)?;
-    assert!(&rt; tree.len() == 1000);
-    for i in 0..1000 {
-        assert!(&rt; i < tree.len());
-        assert_eq!(&rt; (tree.depth(i), tree.unit(i)), (i, 3));
-    }
+    let tree = tree(rt.alloc(), &log, 999)?;
+    is_path(&rt, &tree, 1000);
     Ok(())
 }

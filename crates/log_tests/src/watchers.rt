@@ -1,89 +1,101 @@
-use crate::records::{popped, popped_with};
-use confluence_core::Record;
+//! What watchers report of pops of one unit.
+use crate::records::popped_with;
 use pop_watch::{Heights, Layers, Totals, Watch};
 use std::alloc::Global;
 use std::process::Abort;
 use std::test::Fail;
 
-// The first variables.
-static VARIABLES: [u32; 5] = [0, 1, 2, 3, 4];
+// The variables of a pop, all below 8, the entries that it used, and what is reported behind it.
+type Told = (&'static [u32], &'static [u32], &'static str);
 
-// A pop that used these entries of as many variables, from the first one on.
-fn popped_from_0(rt: &impl Abort, alloc: Global, entries: &[u32]) -> Result<Record, Fail> {
-    assert!(rt; entries.len() < 6);
-    popped_with(rt, alloc, 5, 0, &VARIABLES[..entries.len()], entries)
+// Compares what a watcher reports.
+fn reports<W: Watch>(rt: &impl Abort, alloc: Global, watcher: &W, want: &str) -> Result<(), Fail> {
+    let text = watcher.report(alloc)?;
+    assert!(rt; text.as_slice() == want.as_bytes(), "{want}");
+    Ok(())
 }
+
+// Tells a watcher a pop.
+fn tell<W: Watch>(
+    rt: &impl Abort,
+    alloc: Global,
+    watcher: &mut W,
+    variables: &[u32],
+    entries: &[u32],
+) -> Result<(), Fail> {
+    let popped = popped_with(rt, alloc, 8, 0, variables, entries)?;
+    watcher.tell(&popped)?;
+    Ok(())
+}
+
+// Compares what a watcher reports at first, and behind each pop that it is told.
+fn reports_each<W: Watch>(
+    rt: &impl Abort,
+    alloc: Global,
+    watcher: &mut W,
+    first: &str,
+    pops: &[Told],
+) -> Result<(), Fail> {
+    reports(rt, alloc, watcher, first)?;
+    for (variables, entries, want) in pops {
+        tell(rt, alloc, watcher, variables, entries)?;
+        reports(rt, alloc, watcher, want)?;
+    }
+    Ok(())
+}
+
+// Worked by hand.
+static TOTALS: [Told; 3] = [
+    (&[0], &[0], "report totals 1 1 1\n"),
+    (&[0, 1, 2], &[4, 0, 7], "report totals 2 4 3\n"),
+    (&[0, 1], &[1, 1], "report totals 3 6 3\n"),
+];
 
 #[test]
 fn totals_count_records_entries_and_the_longest(rt: HostRuntime) -> Result<(), Fail> {
-    // Worked by hand.
-    let alloc = rt.alloc();
     let mut totals = Totals::new();
-    assert_eq!(rt; totals.kind(), 1);
-    assert_eq!(rt;
-        totals.report(alloc)?.as_slice(),
-        b"report totals 0 0 0\n".as_slice()
-    );
-    totals.tell(&popped_from_0(&rt, alloc, &[0])?)?;
-    totals.tell(&popped_from_0(&rt, alloc, &[4, 0, 7])?)?;
-    totals.tell(&popped_from_0(&rt, alloc, &[1, 1])?)?;
-    assert_eq!(rt;
-        totals.report(alloc)?.as_slice(),
-        b"report totals 3 6 3\n".as_slice()
-    );
-    Ok(())
+    assert!(&rt; totals.kind() == 1);
+    reports_each(
+        &rt,
+        rt.alloc(),
+        &mut totals,
+        "report totals 0 0 0\n",
+        &TOTALS,
+    )
 }
+
+// Worked by hand: 0 has no digit, 1 has one, 2 and 3 have two, 8 has four, and 2^32 - 1 has 32.
+static HEIGHTS: [Told; 2] = [
+    (
+        &[0, 1, 2, 3, 4],
+        &[3, 0, 8, 2, 1],
+        "report heights 1 1 2 0 1\n",
+    ),
+    (
+        &[0],
+        &[4294967295],
+        "report heights 1 1 2 0 1 0 0 0 0 0 0 0 0 0 0 0 0 0 0 0 0 0 0 0 0 0 0 0 0 0 0 0 1\n",
+    ),
+];
 
 #[test]
 fn heights_are_counted_by_binary_digits(rt: HostRuntime) -> Result<(), Fail> {
-    // Worked by hand: 0 has no digit, 1 has one, 2 and 3 have two, 8 has four, and 2^32 - 1 has 32.
-    let alloc = rt.alloc();
     let mut heights = Heights::new();
-    assert_eq!(rt;
-        heights.report(alloc)?.as_slice(),
-        b"report heights\n".as_slice()
-    );
-    heights.tell(&popped_from_0(&rt, alloc, &[3, 0, 8, 2, 1])?)?;
-    assert_eq!(rt;
-        heights.report(alloc)?.as_slice(),
-        b"report heights 1 1 2 0 1\n".as_slice()
-    );
-    heights.tell(&popped_from_0(&rt, alloc, &[u32::MAX])?)?;
-    let mut wanted = String::from_str(alloc, "report heights 1 1 2 0 1")?;
-    for _ in 5..32 {
-        wanted.push_str(" 0")?;
-    }
-    wanted.push_str(" 1\n")?;
-    assert_eq!(rt; heights.report(alloc)?.as_slice(), wanted.as_bytes());
-    Ok(())
+    reports_each(&rt, rt.alloc(), &mut heights, "report heights\n", &HEIGHTS)
 }
 
-// The variables of pops, all below 8, and the report behind each, which were worked by hand: the
-// greatest layer so far, and how many variables were named.
-static POPS: [(&[u32], &str); 6] = [
-    (&[0], "report layers 1 1\n"),
-    (&[1], "report layers 1 2\n"),
-    (&[0], "report layers 2 2\n"),
-    (&[7], "report layers 2 3\n"),
-    (&[0, 7], "report layers 3 3\n"),
-    (&[1, 4], "report layers 3 4\n"),
+// Worked by hand: the greatest layer so far, and how many variables were named.
+static LAYERS: [Told; 6] = [
+    (&[0], &[0], "report layers 1 1\n"),
+    (&[1], &[0], "report layers 1 2\n"),
+    (&[0], &[0], "report layers 2 2\n"),
+    (&[7], &[0], "report layers 2 3\n"),
+    (&[0, 7], &[0, 0], "report layers 3 3\n"),
+    (&[1, 4], &[0, 0], "report layers 3 4\n"),
 ];
 
 #[test]
 fn layers_tell_the_greatest_and_the_variables_named(rt: HostRuntime) -> Result<(), Fail> {
-    let alloc = rt.alloc();
-    let mut layers = Layers::new(alloc)?;
-    assert_eq!(&rt;
-        layers.report(alloc)?.as_slice(),
-        b"report layers 0 0\n".as_slice()
-    );
-    for (variables, want) in POPS.iter() {
-        layers.tell(&popped(&rt, alloc, 8, 0, variables)?)?;
-        assert_eq!(&rt;
-            layers.report(alloc)?.as_slice(),
-            want.as_bytes(),
-            "{variables:?}"
-        );
-    }
-    Ok(())
+    let mut layers = Layers::new(rt.alloc())?;
+    reports_each(&rt, rt.alloc(), &mut layers, "report layers 0 0\n", &LAYERS)
 }

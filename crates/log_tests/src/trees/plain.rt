@@ -8,7 +8,7 @@ use confluence_core::Log;
 use std::alloc::Global;
 use std::process::Abort;
 use std::test::Fail;
-use witness_trees::tree;
+use witness_trees::{Tree, tree};
 
 // A vertex that was found by search: the variables of the labels from the root down to it, and its
 // unit.
@@ -46,19 +46,41 @@ fn parent<'a, 'b>(found: &'b [Found<'a>], variables: &[u32]) -> Option<&'b [&'a 
     best
 }
 
+// The path to a vertex of these variables: none where they meet no vertex that was found.
+fn path_of<'a>(
+    alloc: Global,
+    found: &[Found<'a>],
+    variables: &'a [u32],
+) -> Result<Option<Vec<&'a [u32]>>, Fail> {
+    let mut path: Vec<&'a [u32]> = Vec::new(alloc);
+    if !found.is_empty() {
+        match parent(found, variables) {
+            None => return Ok(None),
+            Some(above) => path = Vec::from_slice(alloc, above)?,
+        }
+    }
+    path.push(variables)?;
+    Ok(Some(path))
+}
+
+// Adds the vertex of a pop, unless it meets none that was found.
+fn add<'a>(
+    alloc: Global,
+    found: &mut Vec<Found<'a>>,
+    unit: u32,
+    variables: &'a [u32],
+) -> Result<(), Fail> {
+    if let Some(path) = path_of(alloc, found, variables)? {
+        found.push(Found { path, unit })?;
+    }
+    Ok(())
+}
+
 // The vertices of the tree of the last pop, in preorder.
 fn search<'a>(alloc: Global, pops: &'a [(u32, Vec<u32>)]) -> Result<Vec<Found<'a>>, Fail> {
     let mut found: Vec<Found<'a>> = Vec::new(alloc);
     for (unit, variables) in pops.iter().rev() {
-        let mut path: Vec<&'a [u32]> = Vec::new(alloc);
-        if !found.is_empty() {
-            match parent(&found, variables) {
-                None => continue,
-                Some(above) => path = Vec::from_slice(alloc, above)?,
-            }
-        }
-        path.push(variables.as_slice())?;
-        found.push(Found { path, unit: *unit })?;
+        add(alloc, &mut found, *unit, variables.as_slice())?;
     }
     found.sort_unstable_by(|vertex, other| vertex.path.cmp(&other.path));
     Ok(found)
@@ -108,21 +130,31 @@ fn logged(rt: &impl Abort, alloc: Global, pops: &[(u32, Vec<u32>)]) -> Result<Lo
     Ok(log)
 }
 
-// Compares the tree of the last pop with what is found by search.
-fn agree(rt: &impl Abort, alloc: Global, pops: &[(u32, Vec<u32>)]) -> Result<(), Fail> {
-    let log = logged(rt, alloc, pops)?;
-    let want = search(alloc, pops)?;
-    assert!(rt; 0 < log.len());
-    let tree = tree(alloc, &log, log.len() - 1)?;
+// Compares a tree with what is found by search.
+fn is_found(rt: &impl Abort, tree: &Tree, want: &[Found]) {
     assert!(rt; tree.len() == want.len() as u64);
-    for (i, vertex) in want.iter().enumerate() {
-        let i = i as u64;
-        assert!(rt; i < tree.len());
-        assert_eq!(rt; tree.unit(i), vertex.unit, "vertex {i}");
+    for i in 0..tree.len() {
+        let vertex = &want[i as usize];
+        assert!(rt; tree.unit(i) == vertex.unit, "vertex {i}");
         let depth = (vertex.path.len() as u64).checked_sub(1);
         assert!(rt; depth == Some(tree.depth(i)), "the depth of vertex {i}");
     }
+}
+
+// Compares the tree of the last record of a log with what is found by search.
+fn has_found(rt: &impl Abort, alloc: Global, log: &Log, want: &[Found]) -> Result<(), Fail> {
+    let count = log.len();
+    assert!(rt; 0 < count);
+    let tree = tree(alloc, log, count - 1)?;
+    is_found(rt, &tree, want);
     Ok(())
+}
+
+// Compares the tree of the last pop with what is found by search.
+fn agree(rt: &impl Abort, alloc: Global, pops: &[(u32, Vec<u32>)]) -> Result<(), Fail> {
+    let want = search(alloc, pops)?;
+    let log = logged(rt, alloc, pops)?;
+    has_found(rt, alloc, &log, &want)
 }
 
 #[test]
