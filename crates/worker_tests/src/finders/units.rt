@@ -125,10 +125,19 @@ fn a_stuck_unit_has_no_mark(rt: HostRuntime) -> Result<(), Fail> {
     leaves(&rt, rt.alloc(), &instance, &ONE_TRIES, &ONE_LEFT)
 }
 
+// The same and an event that demands 0 of the last variable alone.
+const THREE_EVENTS: [EventRow; 3] = [
+    (1, &[(0, 0), (1, 0)]),
+    (2, &[(0, 1), (1, 0)]),
+    (3, &[(1, 0)]),
+];
+
 // Worked by hand: bit 63 is 9223372036854775808.
-static BUSY_TRIES: [(u32, Tried); 2] = [
+static BUSY_TRIES: [(u32, Tried); 4] = [
     (0, Tried::Busy(1, 9223372036854775808)),
     (0, Tried::Busy(1, 9223372036854775808)),
+    (2, Tried::Busy(1, 9223372036854775808)),
+    (2, Tried::Busy(1, 9223372036854775808)),
 ];
 
 static FREE_TRIES: [(u32, Tried); 2] = [(0, Tried::Popped(0)), (1, Tried::Cleared(1, 1))];
@@ -172,6 +181,6 @@ fn try_apart(rt: &impl Abort, alloc: Global, instance: &Instance) -> Result<(), 
 
 #[test]
 fn a_unit_that_was_refused_is_marked_again(rt: HostRuntime) -> Result<(), Fail> {
-    let instance = listed(rt.alloc(), &TWO_ROWS, &TWO_EVENTS)?;
+    let instance = listed(rt.alloc(), &TWO_ROWS, &THREE_EVENTS)?;
     try_apart(&rt, rt.alloc(), &instance)
 }
