@@ -10,6 +10,3 @@ pub use laws::{
     finishes_exactly, finishes_first, listed_samples, listed_samples_at, numbered_entries,
     reached_samples, same_pops,
 };
-
-#[cfg(test)]
-mod tests;

@@ -1,5 +1,6 @@
-//! Tests of readers, of runs on one thread, of verdicts, rounds, books of pops and batches, by public
-//! calls alone. They stand above the crates that they test, so that each of those is proved once.
+//! Tests of readers, of runs on one thread and the law of their samples, of verdicts, rounds, books
+//! of pops and batches, by public calls alone. They stand above the crates that they test, so that
+//! each of those is proved once.
 #![tactic(auto)]
 
 #[cfg(test)]
@@ -16,3 +17,5 @@ mod one_thread;
 mod readers;
 #[cfg(test)]
 mod rounds;
+#[cfg(test)]
+mod samples;

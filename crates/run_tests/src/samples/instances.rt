@@ -3,11 +3,12 @@
 ghost use Rattle.std.specs.Prelude.{◌≡◌, ◌<◌, length};
 
 use confluence_core::{End, run_first};
-use pop_instance::{Arrows, Cube, Cursors, Events, Family, Instance};
-use pop_stacks::{Rows, StackSpec, Stacks, Weights};
+use pop_instance::{Cube, Cursors, Family, Instance};
+use pop_stacks::Stacks;
 use std::alloc::{AllocError, Global};
 use std::process::Abort;
 use std::test::Fail;
+use test_instances::{arrows, cube, family, over, stacks};
 
 /// A formula of two clauses that share a variable and exclude each other.
 pub const FORMULA: usize = 0;
@@ -140,73 +141,49 @@ fn pairs(alloc: Global, names: u32, values: u32) -> Result<Vec<(u32, u32)>, Allo
 }
 
 // The cube of an event.
-fn cube(rt: &impl Abort, alloc: Global, which: usize, e: usize) -> Result<Cube, Fail> {
+fn cube_of(rt: &impl Abort, alloc: Global, which: usize, e: usize) -> Result<Cube, Fail> {
     let (names, values) = event(rt, which, e);
     let pairs = pairs(alloc, names, values)?;
-    assert!(rt; pairs.len() < 9);
-    Ok(Cube::new(pairs).expect(rt, "a cube"))
+    cube(alloc, &pairs)
 }
 
 // Where the arrows of the path lead: variables 0, 1 and 2 in a row, with the root before and behind
 // them.
 static HEADS: [[Option<u32>; 2]; 3] = [[None, Some(1)], [Some(0), Some(2)], [Some(1), None]];
 
-// The arrows of these heads.
-fn arrows_of(rt: &impl Abort, alloc: Global, heads: &[[Option<u32>; 2]]) -> Result<Arrows, Fail> {
+// The listed events of an instance, which aren't the path's.
+fn events(rt: &impl Abort, alloc: Global, which: usize) -> Result<Vec<(u32, Cube)>, Fail> {
     let mut rows = Vec::new(alloc);
-    for row in heads {
-        rows.push(Vec::from_slice(alloc, row)?)?;
+    for e in 0..3 {
+        let cube = cube_of(rt, alloc, which, e)?;
+        rows.push((e as u32 + 1, cube))?;
     }
-    assert!(rt; rows.len() < 9);
-    Ok(Arrows::new(rows).expect(rt, "arrows"))
+    Ok(rows)
 }
 
-fn listed(rt: &impl Abort, alloc: Global, which: usize) -> Result<Family, Fail> {
-    let first = cube(rt, alloc, which, 0)?;
-    let second = cube(rt, alloc, which, 1)?;
-    let third = cube(rt, alloc, which, 2)?;
-    let events = vec![in alloc; (1, first), (2, second), (3, third)]?;
-    Ok(Family::Listed(Events::gather(alloc, events)?))
-}
-
-fn family(rt: &impl Abort, alloc: Global, which: usize) -> Result<Family, Fail> {
+// The events of an instance.
+fn family_of(rt: &impl Abort, alloc: Global, which: usize) -> Result<Family, Fail> {
     if which != PATH {
-        return listed(rt, alloc, which);
+        let rows = events(rt, alloc, which)?;
+        return family(alloc, rows);
     }
-    let arrows = arrows_of(rt, alloc, &HEADS)?;
+    let arrows = arrows(alloc, &HEADS)?;
     Ok(Family::Cycles(arrows))
 }
 
-// The entries of each variable.
-fn entries(rt: &impl Abort, alloc: Global, n: u32) -> Result<Rows, Fail> {
-    let mut rows = Vec::new(alloc);
-    for v in 0..3 {
-        let row = [bit(n, 3 * v), bit(n, 3 * v + 1), bit(n, 3 * v + 2)];
-        rows.push(Vec::from_slice(alloc, &row)?)?;
-    }
-    assert!(rt; rows.len() < 9);
-    Ok(Rows::of(rows))
-}
-
-fn weights(alloc: Global) -> Result<Weights, AllocError> {
-    Ok(Weights::of(Rows::of(vec![in alloc;
-        vec![in alloc; 2, 1]?,
-        vec![in alloc; 1, 3]?,
-        vec![in alloc; 3, 2]?,
-    ]?)))
-}
-
-fn stacks(rt: &impl Abort, alloc: Global, n: u32) -> Result<Stacks, Fail> {
-    let rows = entries(rt, alloc, n)?;
-    let weights = weights(alloc)?;
-    Ok(Stacks::new(StackSpec::Given(rows), weights, 3)?)
+// The stacks of these rows. No weight chooses an entry where rows are given.
+fn stacks_of(alloc: Global, rows: u32) -> Result<Stacks, Fail> {
+    let first = [bit(rows, 0), bit(rows, 1), bit(rows, 2)];
+    let second = [bit(rows, 3), bit(rows, 4), bit(rows, 5)];
+    let third = [bit(rows, 6), bit(rows, 7), bit(rows, 8)];
+    stacks(alloc, &[&first, &second, &third])
 }
 
 // The instance of these rows.
 fn instance(rt: &impl Abort, alloc: Global, which: usize, rows: u32) -> Result<Instance, Fail> {
-    let family = family(rt, alloc, which)?;
-    let stacks = stacks(rt, alloc, rows)?;
-    Ok(Instance::new(stacks, family).expect(rt, "an instance"))
+    let family = family_of(rt, alloc, which)?;
+    let stacks = stacks_of(alloc, rows)?;
+    over(stacks, family)
 }
 
 // Three cursors as one number.
