@@ -2,7 +2,7 @@
 ghost use Rattle.std.specs.Prelude.{◌≡◌, IfOk, None};
 ghost use Rattle.dimacs_read.specs.Cnf.{first_empty};
 
-use crate::comparing::{same, same_at, same_refusal};
+use crate::comparing::{Event, are_events, same, same_refusal};
 use crate::sources::{PIECES, source};
 use dimacs_read::{Formula, read_formula};
 use pop_edge::ReadRefusal;
@@ -124,32 +124,7 @@ fn a_fault_comes_behind_the_lines_before_it(rt: HostRuntime) -> Result<(), Fail>
 // a literal.
 static FOUR_CLAUSES: &[u8] = b"p cnf 3 4\n2 -1 0\n-1 2 0\n1 -1 0\n3 3 -2 3 0\n";
 
-static EVENTS: [(u32, [(u32, u32); 2]); 2] = [(1, [(0, 1), (1, 0)]), (4, [(1, 1), (2, 0)])];
-
-// Compares a pair of an event.
-fn is_pair(rt: &impl Abort, found: (u32, u32), want: (u32, u32), number: u32) {
-    same_at(rt, found.0, want.0, "variable of event", number);
-    same_at(rt, found.1, want.1, "value of event", number);
-}
-
-// Compares an event: its number, and its two pairs.
-fn is_event(rt: &impl Abort, events: &Events, place: u32, want: (u32, [(u32, u32); 2])) {
-    assert!(rt; place < events.count());
-    let (number, pairs) = want;
-    same_at(rt, events.number(place), number, "event", place);
-    let cube = events.cube(place);
-    assert!(rt; cube.len() == 2);
-    is_pair(rt, cube.pair(0), pairs[0], number);
-    is_pair(rt, cube.pair(1), pairs[1], number);
-}
-
-// Compares the events of those clauses.
-fn are_events(rt: &impl Abort, events: &Events) {
-    assert!(rt; events.count() == 2);
-    for place in 0..2 {
-        is_event(rt, events, place, EVENTS[place as usize]);
-    }
-}
+static EVENTS: [Event; 2] = [(1, &[(0, 1), (1, 0)]), (4, &[(1, 1), (2, 0)])];
 
 // The events of a text.
 fn events_of(alloc: Global, text: &[u8]) -> Result<Events, Fail> {
@@ -160,6 +135,6 @@ fn events_of(alloc: Global, text: &[u8]) -> Result<Events, Fail> {
 #[test]
 fn events_falsify_their_clauses(rt: HostRuntime) -> Result<(), Fail> {
     let events = events_of(rt.alloc(), FOUR_CLAUSES)?;
-    are_events(&rt, &events);
+    are_events(&rt, &events, &EVENTS);
     Ok(())
 }

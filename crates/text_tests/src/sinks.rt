@@ -1,38 +1,14 @@
 //! The events of sink-free orientations, and their index.
 ghost use Rattle.std.specs.Prelude.{◌≡◌, length, IfOk};
 
-use crate::comparing::{same_at, same_list};
+use crate::comparing::{Event, are_events, same_list};
 use crate::sources::graph;
 use graph_read::Graph;
-use pop_instance::{Cube, Events, Index};
+use pop_instance::{Events, Index};
 use sink_popping::{SinkFault, indexed_sinks, sinks};
 use std::alloc::Global;
 use std::process::Abort;
 use std::test::Fail;
-
-// An event: its number, and the pairs of its cube.
-type Sink = (u32, &'static [(u32, u32)]);
-
-// Compares the pairs of the cube of an event.
-fn has_pairs(rt: &impl Abort, cube: &Cube, number: u32, want: &[(u32, u32)]) {
-    assert!(rt; cube.len() as usize == want.len());
-    for i in 0..cube.len() {
-        let (v, x) = cube.pair(i);
-        let (want_v, want_x) = want[i as usize];
-        same_at(rt, v, want_v, "variable of event", number);
-        same_at(rt, x, want_x, "value of event", number);
-    }
-}
-
-// Compares events.
-fn are_events(rt: &impl Abort, events: &Events, want: &[Sink]) {
-    assert!(rt; events.count() as usize == want.len());
-    for place in 0..events.count() {
-        let (number, pairs) = want[place as usize];
-        same_at(rt, events.number(place), number, "event", place);
-        has_pairs(rt, events.cube(place), number, pairs);
-    }
-}
 
 // The events of the graph of a text.
 fn sinks_of(alloc: Global, text: &[u8]) -> Result<Result<Events, SinkFault>, Fail> {
@@ -41,14 +17,14 @@ fn sinks_of(alloc: Global, text: &[u8]) -> Result<Result<Events, SinkFault>, Fai
 }
 
 // Compares the events of the graph of a text.
-fn has_sinks(rt: &impl Abort, alloc: Global, text: &[u8], want: &[Sink]) -> Result<(), Fail> {
+fn has_sinks(rt: &impl Abort, alloc: Global, text: &[u8], want: &[Event]) -> Result<(), Fail> {
     let events = sinks_of(alloc, text)??;
     are_events(rt, &events, want);
     Ok(())
 }
 
 // Worked by hand: value 0 points from the first vertex of an edge to the second.
-static SINKS: [(&[u8], &[Sink]); 6] = [
+static SINKS: [(&[u8], &[Event]); 6] = [
     (
         b"p col 3 3\ne 1 2\ne 2 3\ne 3 1\n",
         &[
