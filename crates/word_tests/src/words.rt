@@ -59,35 +59,55 @@ fn push_if(text: &mut String, is_so: bool, word: &str) -> Result<(), AllocError>
     Ok(())
 }
 
-/// A job by its command and what differs from the defaults.
-fn shown(alloc: Global, job: &Job) -> Result<String, AllocError> {
-    let mut text = String::from_str(alloc, job.command.word())?;
-    push_stacks(&mut text, &job.stacks)?;
-    push_number(&mut text, "height", job.height, 1048576)?;
-    push_some(&mut text, "grow", job.grow)?;
-    push_some(&mut text, "count", job.count)?;
-    push_some(&mut text, "pops", job.pops)?;
-    push_number(&mut text, "root", job.root, 1)?;
-    push_number(&mut text, "workers", job.workers, 1)?;
-    push_if(&mut text, job.board == BoardKind::Lock, " lock")?;
-    push_if(&mut text, job.log, " log")?;
+/// What a job runs, where it differs from the defaults.
+fn push_run(text: &mut String, job: &Job) -> Result<(), AllocError> {
+    push_stacks(text, &job.stacks)?;
+    push_number(text, "height", job.height, 1048576)?;
+    push_some(text, "grow", job.grow)?;
+    push_some(text, "count", job.count)?;
+    push_some(text, "pops", job.pops)?;
+    push_number(text, "root", job.root, 1)?;
+    push_number(text, "workers", job.workers, 1)?;
+    push_if(text, job.board == BoardKind::Lock, " lock")
+}
+
+/// What a job tells of its log.
+fn push_told(text: &mut String, job: &Job) -> Result<(), AllocError> {
+    push_if(text, job.log, " log")?;
     if let Some((name, entry)) = job.witness {
         write!(text, " witness {name} {entry}")?;
     }
-    push_if(&mut text, job.reports.totals, " totals")?;
-    push_if(&mut text, job.reports.heights, " heights")?;
-    push_if(&mut text, job.reports.layers, " layers")?;
-    push_number(&mut text, "grid", job.size, 0)?;
+    push_if(text, job.reports.totals, " totals")?;
+    push_if(text, job.reports.heights, " heights")?;
+    push_if(text, job.reports.layers, " layers")
+}
+
+/// Tells what of a job differs from the defaults.
+fn push_job(text: &mut String, job: &Job) -> Result<(), AllocError> {
+    push_run(text, job)?;
+    push_told(text, job)?;
+    push_number(text, "grid", job.size, 0)
+}
+
+/// A job by its command and what differs from the defaults.
+fn shown(alloc: Global, job: &Job) -> Result<String, AllocError> {
+    let mut text = String::from_str(alloc, job.command.word())?;
+    push_job(&mut text, job)?;
     Ok(text)
 }
 
-/// What is read of a line, whose words have one space between them: a space at the end makes an
-/// empty word.
-fn read_line(alloc: Global, line: &str) -> Result<Job, WordFault> {
+/// The words of a line, which have one space between them: a space at the end makes an empty word.
+fn words_of(alloc: Global, line: &str) -> Result<Vec<String>, AllocError> {
     let mut words = Vec::new(alloc);
     for word in line.split(' ') {
         words.push(String::from_str(alloc, if word == "Z" { ZEROS } else { word })?)?;
     }
+    Ok(words)
+}
+
+/// What is read of a line.
+fn read_line(alloc: Global, line: &str) -> Result<Job, WordFault> {
+    let words = words_of(alloc, line)?;
     read_words(alloc, &words)
 }
 
@@ -107,20 +127,32 @@ fn repeated(
     Ok(all)
 }
 
+/// Compares a job that was read of a line.
+fn is_job(rt: &impl Abort, alloc: Global, job: &Job, want: &str, line: &str) -> Result<(), Fail> {
+    let text = shown(alloc, job)?;
+    assert!(rt; text.as_str() == want, "{line}");
+    Ok(())
+}
+
 /// Reads lines of the grammar.
 fn read_each(rt: &impl Abort, alloc: Global, lines: &[(&str, &str)]) -> Result<(), Fail> {
-    for (line, job) in lines.iter() {
-        let read = read_line(alloc, line)?;
-        assert_eq!(rt; shown(alloc, &read)?.as_str(), *job, "{line}");
+    for (line, want) in lines.iter() {
+        let job = read_line(alloc, line)?;
+        is_job(rt, alloc, &job, want, line)?;
     }
     Ok(())
+}
+
+/// Compares why a line is refused, where it is.
+fn is_refused(rt: &impl Abort, alloc: Global, line: &str, want: Option<WordFault>, what: &str) {
+    let fault = read_line(alloc, line).err();
+    assert!(rt; fault == want, "{what}");
 }
 
 /// Reads lines outside the grammar.
 fn refuse_each(rt: &impl Abort, alloc: Global, lines: &[(&str, u32)]) {
     for (line, place) in lines.iter() {
-        let fault = read_line(alloc, line).err();
-        assert_eq!(rt; fault, Some(WordFault::Usage(*place)), "{line}");
+        is_refused(rt, alloc, line, Some(WordFault::Usage(*place)), line);
     }
 }
 
@@ -152,13 +184,12 @@ fn words_of_certificates_outside_the_grammar_give_their_first_bad_place(rt: Host
 fn rows_end_at_their_limits(rt: HostRuntime) -> Result<(), Fail> {
     for (front, text, count, last, refused) in LIMITS.iter() {
         let line = repeated(rt.alloc(), front, text, *count, last)?;
-        let fault = read_line(rt.alloc(), line.as_str()).err();
         let wanted = if *refused {
             Some(WordFault::Usage(3))
         } else {
             None
         };
-        assert_eq!(rt; fault, wanted, "{text} {count} times");
+        is_refused(&rt, rt.alloc(), line.as_str(), wanted, text);
     }
     Ok(())
 }
