@@ -1,2 +1,2 @@
 -- Lemmas of the crate.
-mod SomeWatchers
+mod Pushed

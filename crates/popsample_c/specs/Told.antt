@@ -1,17 +1,20 @@
 -- What a call is told.
-use Rattle.std.specs.Prelude.{◌≡◌, ◌⊎◌, ◌<◌, ℕ, List, length}
+use Rattle.std.specs.Prelude.{◌≡◌, ◌⊎◌, ◌<◌, ℕ, List, [], ◌∷◌, length, replicate}
 use Rattle.joined_words.specs.Joined.{AreJoined}
 use Rattle.pop_watch.specs.Telling.{Watcher}
 use Rattle.top_call.specs.Answers.{IsAnswer}
 use Rattle.top_call.specs.Outcomes.{IsAnswerStatus}
 
--- the status and the output are those of an answer to the words in these bytes and to the text, by the reports of some
--- watchers
+-- a watcher of each kind, in the order of kinds, which was told nothing
+abbrev pub fresh_watchers : List Watcher
+fresh_watchers = (1, 0 ∷ 0 ∷ 0 ∷ []) ∷ (2, replicate 33 0) ∷ (3, 0 ∷ []) ∷ []
+
+-- the status and the output are those of an answer to the words in these bytes and to the text,
+-- with three new watchers, one of each kind
 pub record IsTold (bytes text : List ℕ) (status : ℕ) (out : List ℕ) : Type 0 where
   pub words : List (List ℕ)
-  pub watchers : List Watcher
   pub are_words : AreJoined bytes words
-  pub answer : IsAnswer words watchers text status out
+  pub answer : IsAnswer words fresh_watchers text status out
 
 -- such an output has so many bytes, and there is room for fewer
 pub record IsTooLong (bytes text : List ℕ) (room count : ℕ) : Type 0 where

@@ -1,34 +1,19 @@
 //! The answer to words and a text in memory.
-ghost use Rattle.std.specs.Prelude.{List, map, string_bytes, IfOk, IfSome, MatchOption};
-ghost use Rattle.pop_watch.specs.Telling.{Watcher};
+ghost use Rattle.std.specs.Prelude.{map, string_bytes, IfOk, IfSome, MatchOption};
 ghost use Rattle.joined_words.specs.Joined.{AreNoWords};
 ghost use Rattle.top_call.specs.Answers.{IsAnswer};
 ghost use Rattle.top_call.specs.Outcomes.{IsAnswerStatus};
-ghost use Rattle.popsample_c.specs.Told.{IsTold};
+ghost use Rattle.popsample_c.specs.Told.{IsTold, fresh_watchers};
 
 use joined_words::words_of;
 use pop_watch::{Heights, Layers, Totals, Watch};
 use std::alloc::{AllocError, Global};
 use top_call::{Answer, answer_alone};
 
-// The answer to words and a text, with these watchers.
-fn answer_with(
-    alloc: Global,
-    words: &[String],
-    watchers: Vec<Box<dyn Watch>>,
-    text: &[u8],
-) -> Result<Answer, AllocError>
-    ensures answer { IfOk result (λ a. (told : List Watcher)
-        × IsAnswer (map string_bytes words.now) told text.now a.status a.text.items) }
-    ensures status { IfOk result (λ a. IsAnswerStatus a.status) }
-{
-    answer_alone(alloc, words, watchers, text)
-}
-
 // The answer to words and a text, with a watcher of each kind.
 fn watched_answer(alloc: Global, words: &[String], text: &[u8]) -> Result<Answer, AllocError>
-    ensures answer { IfOk result (λ a. (told : List Watcher)
-        × IsAnswer (map string_bytes words.now) told text.now a.status a.text.items) }
+    ensures answer { IfOk result (λ a. IsAnswer (map string_bytes words.now) fresh_watchers
+        text.now a.status a.text.items) }
     ensures status { IfOk result (λ a. IsAnswerStatus a.status) }
 {
     let totals = Box::new(alloc, Totals::new())?;
@@ -38,7 +23,7 @@ fn watched_answer(alloc: Global, words: &[String], text: &[u8]) -> Result<Answer
     watchers.push(totals)?;
     watchers.push(heights)?;
     watchers.push(layers)?;
-    answer_with(alloc, words, watchers, text)
+    answer_alone(alloc, words, watchers, text)
 }
 
 /// The answer to the words in these bytes and to a text; None where no words are in them.
