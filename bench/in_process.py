@@ -55,14 +55,21 @@ def seconds_each(command_for, text):
 
 
 def with_networkx(edges):
-    """A call of networkx on a graph, or None where networkx, or numpy, which it asks for, isn't here."""
+    """networkx with its version, and a call of it on a graph; nothing where it, or what it asks for, isn't here."""
     try:
         import networkx
-        import numpy  # noqa: F401
+        import numpy
+        import scipy  # noqa: F401
     except ImportError:
-        return None
+        return []
     graph = networkx.Graph(edges)
-    return lambda number: networkx.random_spanning_tree(graph, seed=number)
+
+    def call(number):
+        # It counts trees by doubles. Where these have no room for the number, what it gives back is no tree.
+        with numpy.errstate(over="raise", invalid="raise"):
+            return networkx.random_spanning_tree(graph, seed=number)
+
+    return [(f"networkx {networkx.__version__}", lambda: least_of(call))]
 
 
 def words_of(number, *more):
@@ -84,10 +91,15 @@ def contenders(asked, text):
     yield f"program, one of {TREES} by `--count`", lambda: least_of(lambda n: output_of(counted, text)) / TREES
     for peer in asked.peers:
         yield f"{peer.name}, one of {TREES} in a process", lambda peer=peer: seconds_each(peer.command, text)
-    call = with_networkx(edges)
-    # Its time grows with the cube of the vertices.
-    if call and len(edges) < 1000:
-        yield "networkx", lambda: least_of(call)
+    yield from with_networkx(edges)
+
+
+def microseconds_of(seconds):
+    """What a contender takes, or why that can't be told."""
+    try:
+        return round(1e6 * seconds())
+    except FloatingPointError as fault:
+        return f"no tree: {fault}"
 
 
 def agree(asked, text):
@@ -126,7 +138,7 @@ def main():
             text = text_of(vertices)
             agree(asked, text)
             for name, seconds in contenders(asked, text):
-                print_row(vertices, 2 * vertices, name, round(1e6 * seconds()))
+                print_row(vertices, 2 * vertices, name, microseconds_of(seconds))
     print()
     print_head("vertices", *(f"trees a second on {threads} threads" for threads in THREADS))
     for vertices in VERTICES:
