@@ -6,6 +6,8 @@ import os
 from collections.abc import Callable, Hashable, Iterable, Mapping, Sequence, Set
 from dataclasses import dataclass
 from functools import cached_property, partial
+from itertools import chain
+from operator import itemgetter
 from pathlib import Path
 from typing import Any
 
@@ -22,6 +24,8 @@ Arrows = Sequence[Arrow]
 
 # What an edge of a list may be: the abstract class, behind those that most are, which are told in a tenth of its time.
 PAIRS = (tuple, list, Sequence)
+# The ends of an edge.
+ENDS = itemgetter(0, 1)
 
 KINDS = (
     "a graph is a list of edges (pairs, or triples with a weight), a dict of lists or of dicts, an undirected graph of "
@@ -105,11 +109,16 @@ def read_list(graph: Any, weight: str | None) -> tuple[list[Hashable], list[Edge
     if isinstance(graph, (bytes, bytearray)) or not isinstance(graph, Iterable):
         raise InputTypeError(f"{graph!r} is no graph: {KINDS}")
     rows = array_rows(graph) if hasattr(graph, "shape") and hasattr(graph, "dtype") else graph
-    edges = attribute_weights((named_edge(place, edge) for place, edge in enumerate(rows)), weight)
+    # Most edges are plain pairs, which are told here and spare a call.
+    named = (
+        (edge[0], edge[1], {}, place) if type(edge) is tuple and len(edge) == 2 else named_edge(place, edge)
+        for place, edge in enumerate(rows)
+    )
+    edges = attribute_weights(named, weight)
     try:
-        return list(dict.fromkeys(vertex for edge in edges for vertex in edge[:2])), edges
+        return list(dict.fromkeys(chain.from_iterable(map(ENDS, edges)))), edges
     except TypeError:
-        wrong = next(vertex for edge in edges for vertex in edge[:2] if not is_hashable(vertex))
+        wrong = next(vertex for vertex in chain.from_iterable(map(ENDS, edges)) if not is_hashable(vertex))
         raise InputTypeError(f"the vertex {wrong!r} can't be hashed: a name is a number, a string or a tuple") from None
 
 
@@ -142,9 +151,11 @@ def listed(
 ) -> GraphInput:
     """The graph of these vertices and edges."""
     given = list(edges)
-    numbers = {name: number for number, name in enumerate(vertices, 1)}
+    # As text, so that each is written once and not for every edge.
+    numbers = {name: str(number) for number, name in enumerate(vertices, 1)}
     lines = [
-        f"e {numbers[edge[0]]} {numbers[edge[1]]} {weight}" for edge, weight in zip(given, whole_weights(given))
+        f"e {numbers[tail]} {numbers[head]} {weight}"
+        for (tail, head, _, _), weight in zip(given, whole_weights(given))
     ]
     text = "\n".join([f"p edge {len(vertices)} {len(lines)}", *lines, ""])
     return GraphInput(text.encode(), vertices, [edge[3] for edge in given], directed)

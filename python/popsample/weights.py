@@ -45,7 +45,8 @@ def attribute_weights(edges: Iterable[Edge], weight: str | None) -> list[Edge]:
     if weight is not None and given and all(named) and not any(weight in edge[2] for edge in given):
         raise NoWeightError(weight)
     return [
-        (*edge[:2], edge[2].get(weight, 1) if has_names else edge[2], edge[3]) for edge, has_names in zip(given, named)
+        (tail, head, value.get(weight, 1) if has_names else value, name)
+        for (tail, head, value, name), has_names in zip(given, named)
     ]
 
 
@@ -76,8 +77,9 @@ def whole_weights(edges: Sequence[Edge]) -> list[int]:
     exactly, so 0.1, which no binary fraction is, hardly fits. Raises WeightError where a weight isn't above 0 or they
     don't fit, and InputTypeError where one is no number.
     """
-    if all(type(edge[2]) is int and 0 < edge[2] <= GREATEST for edge in edges):
-        return [edge[2] for edge in edges]
+    given = [edge[2] for edge in edges]
+    if set(map(type, given)) <= {int} and min(given, default=1) > 0 and max(given, default=1) <= GREATEST:
+        return given
     ratios = [ratio(edge) for edge in edges]
     common = math.lcm(*(bottom for _, bottom in ratios))
     numbers = [top * (common // bottom) for top, bottom in ratios]
