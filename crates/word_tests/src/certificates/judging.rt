@@ -6,7 +6,7 @@ use std::process::Abort;
 use std::test::Fail;
 
 // How a text is judged.
-#[derive(Clone, Copy, Debug, PartialEq, Eq)]
+#[derive(Clone, Copy, PartialEq, Eq)]
 enum Verdict {
     // It is the certificate of the paused run.
     Itself,

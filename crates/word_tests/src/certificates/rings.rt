@@ -6,12 +6,12 @@ ghost use Rattle.pop_model.specs.Popping.{AreWithin};
 
 use super::{looks_at, same_at};
 use confluence_core::{End, run_first};
-use pop_instance::{Arrows, Family, Instance};
-use pop_stacks::{StackSpec, Stacks, Weights};
+use pop_instance::{Family, Instance};
 use run_cert::{Look, Part, look, run_part};
 use std::alloc::{AllocError, Global};
 use std::process::Abort;
 use std::test::Fail;
+use test_instances::{arrows, keyed, over};
 
 // The two heads of each of so many variables in a ring: the next one, and the one before it;
 // variable 0 leads to the root.
@@ -24,42 +24,18 @@ fn heads(alloc: Global, count: u32) -> Result<Vec<[Option<u32>; 2]>, AllocError>
     Ok(heads)
 }
 
-// The arrows of these heads.
-fn arrows_of(rt: &impl Abort, alloc: Global, heads: &[[Option<u32>; 2]]) -> Result<Arrows, Fail> {
-    let mut rows = Vec::new(alloc);
-    for row in heads {
-        rows.push(Vec::from_slice(alloc, row)?)?;
-    }
-    assert!(rt; rows.len() < 1000);
-    Ok(Arrows::new(rows).expect(rt, "arrows"))
-}
-
 // The cycles of a ring of so many variables.
-fn cycles(rt: &impl Abort, alloc: Global, count: u32) -> Result<Family, Fail> {
+fn cycles(alloc: Global, count: u32) -> Result<Family, Fail> {
     let heads = heads(alloc, count)?;
-    let arrows = arrows_of(rt, alloc, &heads)?;
+    let arrows = arrows(alloc, &heads)?;
     Ok(Family::Cycles(arrows))
 }
 
-// The stacks of so many variables, of this height under a key of 32 such bytes.
-fn keyed(rt: &impl Abort, count: u32, key: u8, height: u32) -> Result<Stacks, Fail> {
-    assert!(rt; count < 1000);
-    assert!(rt; 0 < height);
-    assert!(rt; height < 1000);
-    Ok(Stacks::new(StackSpec::Key([key; 32]), Weights::pairs(count), height)?)
-}
-
 // A ring of so many variables, over stacks of this height under a key of 32 such bytes.
-fn ring(
-    rt: &impl Abort,
-    alloc: Global,
-    count: u32,
-    key: u8,
-    height: u32,
-) -> Result<Instance, Fail> {
-    let stacks = keyed(rt, count, key, height)?;
-    let family = cycles(rt, alloc, count)?;
-    Ok(Instance::new(stacks, family).expect(rt, "an instance"))
+fn ring(alloc: Global, count: u32, key: u8, height: u32) -> Result<Instance, Fail> {
+    let family = cycles(alloc, count)?;
+    let stacks = keyed(key, count, height)?;
+    over(stacks, family)
 }
 
 // Compares what a run to a limit leaves with the end of the run of first events: as many records as
@@ -152,7 +128,7 @@ fn stop_ring(
     key: u8,
     height: u32,
 ) -> Result<u64, Fail> {
-    let ring = ring(rt, alloc, count, key, height)?;
+    let ring = ring(alloc, count, key, height)?;
     stop_at_each(rt, alloc, &ring)
 }
 

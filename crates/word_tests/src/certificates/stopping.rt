@@ -4,34 +4,18 @@ ghost use Rattle.std.specs.Prelude.{◌≡◌, length};
 use super::paused::{INPUT, LOG_TEXT, TEXT, is_it};
 use super::printed::job_of;
 use super::{looks_at, same_at, same_bytes};
-use pop_instance::{Cube, Cursors, Events, Family, Instance};
+use pop_instance::{Cursors, Instance};
 use pop_log::{LogRefusal, Names, print_layered, read_run};
-use pop_stacks::{Rows, StackSpec, Stacks, Weights};
 use run_cert::{Look, look, print_cert, read_cert, run_part};
 use std::alloc::Global;
 use std::process::Abort;
 use std::test::Fail;
-
-// The stacks of the row 0, 0, 1.
-fn one_row(alloc: Global) -> Result<Stacks, Fail> {
-    let row = vec![in alloc; 0, 0, 1]?;
-    let rows = Rows::of(vec![in alloc; row]?);
-    Ok(Stacks::new(StackSpec::Given(rows), Weights::pairs(1), 1)?)
-}
-
-// The event that the one variable has the value 0.
-fn one_event(rt: &impl Abort, alloc: Global) -> Result<Family, Fail> {
-    let cube = Cube::new(vec![in alloc; (0, 0)]?).expect(rt, "a cube");
-    let events = Events::gather(alloc, vec![in alloc; (1, cube)]?)?;
-    Ok(Family::Listed(events))
-}
+use test_instances::listed;
 
 // The instance of the clause `1` over the row 0, 0, 1: the event is that its variable has the
 // value 0.
-fn one_clause(rt: &impl Abort, alloc: Global) -> Result<Instance, Fail> {
-    let stacks = one_row(alloc)?;
-    let family = one_event(rt, alloc)?;
-    Ok(Instance::new(stacks, family).expect(rt, "an instance"))
+fn one_clause(alloc: Global) -> Result<Instance, Fail> {
+    listed(alloc, &[&[0, 0, 1]], &[(1, &[(0, 0)])])
 }
 
 // Limits, and what a run to them leaves: the records of its log, which are as many as the popped
@@ -92,7 +76,7 @@ fn leaves_each(rt: &impl Abort, alloc: Global, instance: &Instance) -> Result<()
 #[test]
 fn a_run_stops_at_its_limit(rt: HostRuntime) -> Result<(), Fail> {
     let alloc = rt.alloc();
-    let instance = one_clause(&rt, alloc)?;
+    let instance = one_clause(alloc)?;
     leaves_each(&rt, alloc, &instance)
 }
 
@@ -128,7 +112,7 @@ fn is_told(rt: &impl Abort, alloc: Global, instance: &Instance) -> Result<(), Fa
 #[test]
 fn a_paused_run_is_told(rt: HostRuntime) -> Result<(), Fail> {
     let alloc = rt.alloc();
-    let instance = one_clause(&rt, alloc)?;
+    let instance = one_clause(alloc)?;
     is_told(&rt, alloc, &instance)
 }
 
@@ -166,7 +150,7 @@ fn tells_each(rt: &impl Abort, alloc: Global, instance: &Instance) -> Result<(),
 #[test]
 fn a_log_text_tells_how_a_run_stands(rt: HostRuntime) -> Result<(), Fail> {
     let alloc = rt.alloc();
-    let instance = one_clause(&rt, alloc)?;
+    let instance = one_clause(alloc)?;
     tells_each(&rt, alloc, &instance)
 }
 
@@ -196,6 +180,6 @@ fn a_changed_entry_is_no_legal_log(rt: HostRuntime) -> Result<(), Fail> {
     let alloc = rt.alloc();
     let mut text = TEXT;
     text[69] = b'1';
-    let instance = one_clause(&rt, alloc)?;
+    let instance = one_clause(alloc)?;
     reads_refused(&rt, alloc, &instance, text.as_slice())
 }
