@@ -23,12 +23,12 @@ use Rattle.pop_words.specs.declared.job.Job.{Job}
 use Rattle.pop_words.proofs.OneJob.{same_job}
 use Rattle.pop_watch.specs.Telling.{Watcher}
 use Rattle.pop_edge.specs.declared.refusal.ReadRefusal.{ReadRefusal}
-use Rattle.top_call.specs.declared.asked.Asked.{Asked}
-use Rattle.top_call.specs.Witnesses.{Witness, is_missing}
-use Rattle.top_call.specs.Witnesses.Witness.{Unasked, Missing, Shown}
-use Rattle.top_call.specs.Batches.{AreFew}
-use Rattle.top_call.specs.Outcomes.{Outcome, status_of, end_status, resampled_status}
-use Rattle.top_call.specs.Outcomes.Outcome.{Usage, Unread, Isolated, NoRoot, CutOff, TooMany, Unsound, Clashes, Extremal, Ended, Resampled, Rounded, Batched, Paused, Replayed, NotLegal}
+use Rattle.told_runs.specs.declared.asked.Asked.{Asked}
+use Rattle.told_runs.specs.Witnesses.{Witness, is_missing}
+use Rattle.told_runs.specs.Witnesses.Witness.{Unasked, Missing, Shown}
+use Rattle.told_runs.specs.Batches.{AreFew}
+use Rattle.told_runs.specs.Outcomes.{Outcome, status_of, end_status, resampled_status}
+use Rattle.told_runs.specs.Outcomes.Outcome.{Usage, Unread, Isolated, NoRoot, CutOff, TooMany, Unsound, Clashes, Extremal, Ended, Resampled, Rounded, Batched, Paused, Replayed, NotLegal}
 use Rattle.top_call.specs.Sampling.{pair_weights}
 use Rattle.top_call.specs.Formulas.{ComesOfFormula, ComesOfChecking}
 use Rattle.top_call.specs.Resamplings.{ComesOfResampling}
@@ -36,7 +36,7 @@ use Rattle.top_call.specs.Rounds.{ComesOfRounds}
 use Rattle.top_call.specs.Orientations.{ComesOfOrienting}
 use Rattle.top_call.specs.Trees.{ComesOfTree}
 use Rattle.top_call.specs.Grids.{ComesOfGrid}
-use Rattle.top_call.specs.ReplayTexts.{look_status}
+use Rattle.told_runs.specs.ReplayTexts.{look_status}
 use Rattle.top_call.specs.Replays.{ComesOfReplaying}
 use Rattle.top_call.specs.Resumes.{GoesOnFrom, ComesOfResuming}
 use Rattle.top_call.specs.Answers.{ComesOfCommand, ComesOf, IsOfText, Refuses, origin_for, asked_by, ComesBy}

@@ -18,13 +18,13 @@ use Rattle.pop_words.proofs.JobsInRange.{asked_root, asked_size}
 use Rattle.pop_watch.specs.Telling.{Watcher}
 use Rattle.pop_print.specs.declared.facts.Facts.{Facts}
 use Rattle.pop_print.specs.declared.facts.Facts.TheVariants.{Tree as TreeFacts, Made as MadeFacts}
-use Rattle.top_call.specs.Names.{names_for}
-use Rattle.top_call.specs.Tellings.{Telling}
-use Rattle.top_call.specs.Outcomes.Outcome.{Ended, Batched}
-use Rattle.top_call.specs.Batches.{AreFew, IsBatchOf}
+use Rattle.told_runs.specs.Names.{names_for}
+use Rattle.told_runs.specs.Tellings.{Telling}
+use Rattle.told_runs.specs.Outcomes.Outcome.{Ended, Batched}
+use Rattle.told_runs.specs.Batches.{AreFew, IsBatchOf}
 use Rattle.top_call.specs.Sampling.{IsToldOfFirst, EndsWithin}
 use Rattle.top_call.specs.Answers.{ComesOfCommand, origin_for, asked_by}
-use Rattle.top_call.specs.Subjects.{Subject, instance_over, assignments, orientations, arrows_to, AreArrowsOf, AreArrowsOfGrid, IsSubjectOf}
+use Rattle.job_subjects.specs.Subjects.{Subject, instance_over, assignments, orientations, arrows_to, AreArrowsOf, AreArrowsOfGrid, IsSubjectOf}
 
 -- what was sampled, with the end of its one-thread run
 pub record IsEndOfSubject (command : Command) (job : Job) (ws : List Watcher) (text : List ℕ) (facts : Facts)

@@ -26,7 +26,7 @@ use Rattle.pop_samples.specs.Frames.{Rows}
 use Rattle.pop_samples.proofs.MovedLogs.{known_variable}
 use Rattle.top_call.specs.Sampling.{pair_weights}
 use Rattle.answer_laws.specs.EverySample.{IsTrueUnder, Satisfies, LeavesEach, LeadsToRoot, EveryAssignment, EveryOrientation, EveryTree}
-use Rattle.top_call.proofs.MadeInstances.{count_of_weights, slots_of_weights, tree_fits}
+use Rattle.job_subjects.proofs.MadeInstances.{count_of_weights, slots_of_weights, tree_fits}
 
 -- the row of an event is one of the rows
 pub row_there : (rows : List (ℕ × Cube)) (e : Event) (is : IsEvent (Listed rows) e) → Contains rows (is.0, e.cube)

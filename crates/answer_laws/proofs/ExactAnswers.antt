@@ -31,18 +31,18 @@ use Rattle.pop_words.proofs.GivenAlone.{asked_alone}
 use Rattle.pop_words.proofs.OneJob.{same_job}
 use Rattle.pop_watch.specs.Telling.{Watcher}
 use Rattle.pop_print.specs.declared.facts.Facts.{Facts}
-use Rattle.top_call.specs.declared.asked.Asked.{Asked}
-use Rattle.top_call.specs.Names.{names_for}
-use Rattle.top_call.specs.Tellings.{Telling}
-use Rattle.top_call.specs.Outcomes.Outcome.{Ended}
+use Rattle.told_runs.specs.declared.asked.Asked.{Asked}
+use Rattle.told_runs.specs.Names.{names_for}
+use Rattle.told_runs.specs.Tellings.{Telling}
+use Rattle.told_runs.specs.Outcomes.Outcome.{Ended}
 use Rattle.top_call.specs.Sampling.{IsToldOfFirst, EndsWithin}
 use Rattle.top_call.specs.Answers.{ComesOfCommand, asked_by, IsOfLine, ComesBy}
-use Rattle.top_call.specs.Subjects.{Subject, instance_over, IsSubjectOf}
+use Rattle.job_subjects.specs.Subjects.{Subject, instance_over, IsSubjectOf}
 use Rattle.answer_laws.specs.ExactAnswers.{over_rows, frame_of, frame_over, IsSampledBy, ExchangedAnswers, ReachedAnswers}
 use Rattle.top_call.proofs.ByCommand.{by_line, of_line}
 use Rattle.answer_laws.proofs.RowWords.{rows_line}
 use Rattle.answer_laws.proofs.EndedSubjects.{IsEndOfSubject, ended_subject, subject_ended}
-use Rattle.top_call.proofs.ToldOfFirst.{first_runs, sorted_first, told_of_first}
+use Rattle.told_runs.proofs.ToldOfFirst.{first_runs, sorted_first, told_of_first}
 use Rattle.answer_laws.proofs.ToldAtStart.{told_at_start}
 use Rattle.answer_laws.proofs.SubjectFrames.{IsSampled, subject_sampled, subject_frame}
 

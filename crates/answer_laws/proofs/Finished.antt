@@ -10,14 +10,14 @@ use Rattle.pop_words.specs.declared.command.Command.TheVariants.{Formula, Orient
 use Rattle.pop_words.specs.declared.job.Job.{Job}
 use Rattle.pop_watch.specs.Telling.{Watcher}
 use Rattle.pop_print.specs.declared.facts.Facts.{Facts}
-use Rattle.top_call.specs.Witnesses.{Witness}
-use Rattle.top_call.specs.Witnesses.Witness.{Unasked, Missing, Shown}
-use Rattle.top_call.specs.Tellings.{Telling, records_of}
-use Rattle.top_call.specs.Outcomes.{Outcome, status_of, end_status, resampled_status}
-use Rattle.top_call.specs.Outcomes.Outcome.{Usage, Unread, Isolated, NoRoot, CutOff, TooMany, Unsound, Clashes, Extremal, Ended, Resampled, Rounded, Batched, Paused, Replayed, NotLegal}
+use Rattle.told_runs.specs.Witnesses.{Witness}
+use Rattle.told_runs.specs.Witnesses.Witness.{Unasked, Missing, Shown}
+use Rattle.told_runs.specs.Tellings.{Telling, records_of}
+use Rattle.told_runs.specs.Outcomes.{Outcome, status_of, end_status, resampled_status}
+use Rattle.told_runs.specs.Outcomes.Outcome.{Usage, Unread, Isolated, NoRoot, CutOff, TooMany, Unsound, Clashes, Extremal, Ended, Resampled, Rounded, Batched, Paused, Replayed, NotLegal}
 use Rattle.run_cert.specs.declared.look_kind.Look.{Look}
 use Rattle.run_cert.specs.declared.look_kind.Look.TheVariants.{Finished, Exhausted, Open}
-use Rattle.top_call.specs.ReplayTexts.{look_status}
+use Rattle.told_runs.specs.ReplayTexts.{look_status}
 use Rattle.top_call.specs.Replays.{job_of, IsNoRun, IsReplay}
 use Rattle.top_call.specs.Answers.{ComesOfCommand, ComesOf, IsOutcome}
 use Rattle.answer_laws.specs.Laws.{EndsFinished}

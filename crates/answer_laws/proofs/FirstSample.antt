@@ -24,15 +24,15 @@ use Rattle.pop_watch.specs.Telling.{Watcher, log_told}
 use Rattle.pop_print.specs.declared.facts.Facts.{Facts}
 use Rattle.pop_print.specs.Output.{full_text, end_text}
 use Rattle.pop_print.specs.Batches.{batch_line, sample_line, numbered_text, batch_text}
-use Rattle.top_call.specs.Names.{names_for}
-use Rattle.top_call.specs.Reports.{reports_text}
-use Rattle.top_call.specs.Witnesses.{IsWitness}
-use Rattle.top_call.specs.Witnesses.Witness.{Unasked}
-use Rattle.top_call.specs.Tellings.{Telling, records_of, layered_text, telling_text}
-use Rattle.top_call.specs.Outcomes.{Outcome, status_of, text_of, run_text, end_status}
-use Rattle.top_call.specs.Outcomes.Outcome.{Usage, Unread, Isolated, NoRoot, CutOff, TooMany, Unsound, Clashes, Extremal, Ended, Resampled, Rounded, Batched, Paused, Replayed, NotLegal}
+use Rattle.told_runs.specs.Names.{names_for}
+use Rattle.told_runs.specs.Reports.{reports_text}
+use Rattle.told_runs.specs.Witnesses.{IsWitness}
+use Rattle.told_runs.specs.Witnesses.Witness.{Unasked}
+use Rattle.told_runs.specs.Tellings.{Telling, records_of, layered_text, telling_text}
+use Rattle.told_runs.specs.Outcomes.{Outcome, status_of, text_of, run_text, end_status}
+use Rattle.told_runs.specs.Outcomes.Outcome.{Usage, Unread, Isolated, NoRoot, CutOff, TooMany, Unsound, Clashes, Extremal, Ended, Resampled, Rounded, Batched, Paused, Replayed, NotLegal}
 use Rattle.top_call.specs.Sampling.{IsToldOfFirst, EndsWithin}
-use Rattle.top_call.specs.Subjects.{Subject, instance_over, IsSubjectOf}
+use Rattle.job_subjects.specs.Subjects.{Subject, instance_over, IsSubjectOf}
 use Rattle.pop_words.specs.declared.command.Command.{Command}
 use Rattle.pop_words.specs.declared.command.Command.TheVariants.{Formula, Orient, Tree}
 use Rattle.top_call.specs.Answers.{last_height, ComesOfCommand, ComesOf, IsOfLine, ComesBy, origin_for, asked_by}
@@ -40,7 +40,7 @@ use Rattle.answer_laws.specs.FirstSample.{of_one, BeginsWithOne, FirstSample}
 use Rattle.top_call.proofs.BatchWords.{is_batched, IsQuiet, counted_command, counted_quiet, uncounted}
 use Rattle.top_call.proofs.PauseWords.{counted_runs_out}
 use Rattle.answer_laws.proofs.EndedSubjects.{IsBatchOfSubject, batched_subject, subject_ended}
-use Rattle.top_call.proofs.LayeredOrders.{layered_order}
+use Rattle.told_runs.proofs.LayeredOrders.{layered_order}
 use Rattle.top_call.proofs.ByCommand.{of_line}
 use Rattle.top_call.proofs.Lifting.{no_replay}
 use Rattle.answer_laws.proofs.OneOutcome.{word_cases}

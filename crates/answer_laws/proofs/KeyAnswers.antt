@@ -49,12 +49,12 @@ use Rattle.pop_words.proofs.OneJob.{same_job}
 use Rattle.pop_watch.specs.Telling.{Watcher}
 use Rattle.pop_log.specs.Layers.{Placed}
 use Rattle.pop_print.specs.declared.facts.Facts.{Facts}
-use Rattle.top_call.specs.Outcomes.{Outcome, end_status, status_of}
-use Rattle.top_call.specs.Outcomes.Outcome.{Usage, Unread, Isolated, NoRoot, CutOff, TooMany, Unsound, Clashes, Extremal, Ended, Resampled, Rounded, Batched, Paused, Replayed, NotLegal}
-use Rattle.top_call.specs.Tellings.{Telling}
+use Rattle.told_runs.specs.Outcomes.{Outcome, end_status, status_of}
+use Rattle.told_runs.specs.Outcomes.Outcome.{Usage, Unread, Isolated, NoRoot, CutOff, TooMany, Unsound, Clashes, Extremal, Ended, Resampled, Rounded, Batched, Paused, Replayed, NotLegal}
+use Rattle.told_runs.specs.Tellings.{Telling}
 use Rattle.top_call.specs.Sampling.{pair_weights}
 use Rattle.top_call.specs.Answers.{ComesBy, ComesOf, ComesOfCommand, IsOfLine, last_height, origin_for}
-use Rattle.top_call.specs.Subjects.{Subject, assignments, instance_over, IsSubjectOf}
+use Rattle.job_subjects.specs.Subjects.{Subject, assignments, instance_over, IsSubjectOf}
 use Rattle.answer_laws.specs.KeyAnswers.{IsDrawn, IsKeyedAnswer, IsKeyedRounds, KeyedAnswers, KeyedRoundAnswers, keyed_frame}
 use Rattle.top_call.proofs.ByCommand.{of_line}
 use Rattle.answer_laws.proofs.EndedSubjects.{IsBatchOfSubject, IsEndOfSubject, batched_subject, ended_subject}

@@ -17,7 +17,7 @@ use Rattle.pop_samples.specs.Frames.{IsSampleOf}
 use Rattle.pop_samples.specs.Weights.{sample_weight}
 use Rattle.pop_print.specs.Output.{arrow_line, edge_line, orientation_lines, oriented_line}
 use Rattle.top_call.specs.Sampling.{pair_weights}
-use Rattle.top_call.specs.Subjects.{orientations}
+use Rattle.job_subjects.specs.Subjects.{orientations}
 use Rattle.answer_laws.specs.ExactAnswers.{frame_over}
 use Rattle.answer_laws.specs.PrintedOnce.{AreBits}
 use Rattle.answer_laws.proofs.EverySample.{row_there}

@@ -35,9 +35,9 @@ use Rattle.pop_words.specs.declared.command.Command.TheVariants.{Formula, Orient
 use Rattle.pop_print.specs.declared.facts.Facts.{Facts}
 use Rattle.pop_print.specs.declared.facts.Facts.TheVariants.{Tree as TreeFacts}
 use Rattle.top_call.specs.Sampling.{pair_weights}
-use Rattle.top_call.specs.Subjects.{instance_over, assignments, orientations, arrows_to}
-use Rattle.top_call.specs.Made.{IsMade}
-use Rattle.top_call.proofs.MadeInstances.{count_of_weights, tree_fits}
+use Rattle.job_subjects.specs.Subjects.{instance_over, assignments, orientations, arrows_to}
+use Rattle.job_subjects.specs.Made.{IsMade}
+use Rattle.job_subjects.proofs.MadeInstances.{count_of_weights, tree_fits}
 use Rattle.answer_laws.proofs.ListedEvents.{sinks_family, sinks_fit, pairs_fit}
 use Rattle.answer_laws.proofs.SubjectFrames.{literals_known, graph_known}
 

@@ -12,9 +12,9 @@ use Rattle.dimacs_read.specs.Falsifying.{AreEventsOf}
 use Rattle.extremal_check.specs.Clashes.{AreClashing}
 use Rattle.pop_watch.specs.Telling.{Watcher}
 use Rattle.pop_print.specs.declared.facts.Facts.TheVariants.{Formula as FormulaFacts}
-use Rattle.top_call.specs.declared.asked.Asked.{Asked}
-use Rattle.top_call.specs.Outcomes.{Outcome}
-use Rattle.top_call.specs.Outcomes.Outcome.{Usage, Unread, Isolated, NoRoot, CutOff, TooMany, Unsound, Clashes, Extremal, Ended, Resampled, Rounded, Batched, Paused, Replayed, NotLegal}
+use Rattle.told_runs.specs.declared.asked.Asked.{Asked}
+use Rattle.told_runs.specs.Outcomes.{Outcome}
+use Rattle.told_runs.specs.Outcomes.Outcome.{Usage, Unread, Isolated, NoRoot, CutOff, TooMany, Unsound, Clashes, Extremal, Ended, Resampled, Rounded, Batched, Paused, Replayed, NotLegal}
 use Rattle.top_call.specs.Sampling.{pair_weights, instance_of, IsEndOf}
 use Rattle.top_call.specs.Formulas.{ClashesAt, EndsFormula, ComesOfRunning, ComesOfFormula, ComesOfChecking}
 use Rattle.answer_laws.specs.Laws.{ReportAlike}

@@ -15,10 +15,10 @@ use Rattle.pop_words.specs.CommandLines.{AreWords}
 use Rattle.pop_words.proofs.OneJob.{same_job, same_first_bad}
 use Rattle.pop_watch.specs.Telling.{Watcher}
 use Rattle.pop_print.specs.declared.facts.Facts.{Facts}
-use Rattle.top_call.specs.Names.{names_for}
-use Rattle.top_call.specs.Tellings.{Telling, records_of, IsToldOf, LeadsToEnd}
-use Rattle.top_call.specs.Outcomes.{Outcome}
-use Rattle.top_call.specs.Outcomes.Outcome.{Usage, Resampled, Paused}
+use Rattle.told_runs.specs.Names.{names_for}
+use Rattle.told_runs.specs.Tellings.{Telling, records_of, IsToldOf, LeadsToEnd}
+use Rattle.told_runs.specs.Outcomes.{Outcome}
+use Rattle.told_runs.specs.Outcomes.Outcome.{Usage, Resampled, Paused}
 use Rattle.top_call.specs.Resamplings.{IsHistoryOf}
 use Rattle.run_cert.specs.Certificates.{Certificate}
 use Rattle.run_cert.proofs.OneText.{one_cert}

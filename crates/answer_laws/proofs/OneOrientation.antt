@@ -10,9 +10,9 @@ use Rattle.sink_popping.specs.Sinks.{AreSinksOf, IsIsolated}
 use Rattle.sink_popping.proofs.OneDirection.{sinks_extremal}
 use Rattle.pop_watch.specs.Telling.{Watcher}
 use Rattle.pop_print.specs.declared.facts.Facts.TheVariants.{Orient as OrientFacts}
-use Rattle.top_call.specs.declared.asked.Asked.{Asked}
-use Rattle.top_call.specs.Outcomes.{Outcome}
-use Rattle.top_call.specs.Outcomes.Outcome.{Usage, Unread, Isolated, NoRoot, CutOff, TooMany, Unsound, Clashes, Extremal, Ended, Resampled, Rounded, Batched, Paused, Replayed, NotLegal}
+use Rattle.told_runs.specs.declared.asked.Asked.{Asked}
+use Rattle.told_runs.specs.Outcomes.{Outcome}
+use Rattle.told_runs.specs.Outcomes.Outcome.{Usage, Unread, Isolated, NoRoot, CutOff, TooMany, Unsound, Clashes, Extremal, Ended, Resampled, Rounded, Batched, Paused, Replayed, NotLegal}
 use Rattle.top_call.specs.Sampling.{pair_weights, instance_of, IsEndOf, ComesOfSampling}
 use Rattle.top_call.specs.Orientations.{EndsOrientation, ComesOfOrienting}
 use Rattle.answer_laws.specs.Laws.{ReportAlike}

@@ -13,15 +13,15 @@ use Rattle.pop_words.specs.declared.job.Job.{Job}
 use Rattle.pop_words.specs.CommandLines.{IsBadPlace}
 use Rattle.pop_watch.specs.Telling.{Watcher}
 use Rattle.pop_print.specs.declared.facts.Facts.{Facts}
-use Rattle.top_call.specs.Outcomes.{Outcome}
-use Rattle.top_call.specs.Outcomes.Outcome.{Usage, Unread, Isolated, NoRoot, CutOff, TooMany, Unsound, Clashes, Extremal, Ended, Resampled, Rounded, Batched, Paused, Replayed, NotLegal}
+use Rattle.told_runs.specs.Outcomes.{Outcome}
+use Rattle.told_runs.specs.Outcomes.Outcome.{Usage, Unread, Isolated, NoRoot, CutOff, TooMany, Unsound, Clashes, Extremal, Ended, Resampled, Rounded, Batched, Paused, Replayed, NotLegal}
 use Rattle.top_call.specs.Formulas.{ComesOfFormula, ComesOfChecking}
 use Rattle.top_call.specs.Resamplings.{ComesOfResampling}
 use Rattle.top_call.specs.Rounds.{ComesOfRounds}
 use Rattle.top_call.specs.Orientations.{ComesOfOrienting}
 use Rattle.top_call.specs.Trees.{ComesOfTree}
 use Rattle.top_call.specs.Answers.{ComesOfCnf, ComesOfGraph, origin_for, asked_by, ComesOfCommand, IsOfText, Refuses, ComesOf, ComesOfJob, IsOutcome}
-use Rattle.top_call.specs.Made.{IsMade}
+use Rattle.job_subjects.specs.Made.{IsMade}
 use Rattle.top_call.specs.Pauses.{IsPause}
 use Rattle.answer_laws.specs.Orders.{HasOneEnd}
 use Rattle.answer_laws.specs.Laws.{ReportAlike, AreHistories, Agree}

@@ -22,20 +22,20 @@ use Rattle.pop_watch.specs.Telling.{Watcher}
 use Rattle.pop_print.specs.declared.facts.Facts.{Facts}
 use Rattle.pop_print.specs.declared.facts.Facts.TheVariants.{Formula as FormulaFacts, Orient as OrientFacts, Tree as TreeFacts}
 use Rattle.run_cert.proofs.Resumed.{open_shorter}
-use Rattle.top_call.specs.declared.asked.Asked.{Asked}
-use Rattle.top_call.specs.Tellings.{records_of, LeadsToEnd}
-use Rattle.top_call.specs.Outcomes.{Outcome}
-use Rattle.top_call.specs.Outcomes.Outcome.{Resampled, Paused}
+use Rattle.told_runs.specs.declared.asked.Asked.{Asked}
+use Rattle.told_runs.specs.Tellings.{records_of, LeadsToEnd}
+use Rattle.told_runs.specs.Outcomes.{Outcome}
+use Rattle.told_runs.specs.Outcomes.Outcome.{Resampled, Paused}
 use Rattle.top_call.specs.Sampling.{pair_weights, instance_of, EndsWithin, IsEndOf}
 use Rattle.top_call.specs.Formulas.{ComesOfRunning, ComesOfFormula}
 use Rattle.top_call.specs.Resamplings.{IsHistoryOf, EndsResampling, ComesOfResampling}
 use Rattle.top_call.specs.Orientations.{EndsOrientation, ComesOfOrienting}
 use Rattle.top_call.specs.Trees.{tree_instance, ComesOfTree}
-use Rattle.top_call.specs.Made.{IsMadeFormula, IsMadeOrientation, IsMadeTree, IsMade}
+use Rattle.job_subjects.specs.Made.{IsMadeFormula, IsMadeOrientation, IsMadeTree, IsMade}
 use Rattle.top_call.specs.Pauses.{IsPause}
 use Rattle.top_call.specs.Answers.{origin_for, asked_by, ComesOfCommand}
 use Rattle.answer_laws.specs.Laws.{EndsAndPauses, AreHistories}
-use Rattle.top_call.proofs.ToldOfFirst.{first_runs}
+use Rattle.told_runs.proofs.ToldOfFirst.{first_runs}
 use Rattle.answer_laws.proofs.OneSampling.{ended, of_run}
 use Rattle.answer_laws.proofs.OneFormula.{one_events, of_extremal}
 use Rattle.answer_laws.proofs.OneOrientation.{one_sinks, of_unisolated}

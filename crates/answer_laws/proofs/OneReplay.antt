@@ -22,17 +22,17 @@ use Rattle.run_cert.specs.Certificates.{Certificate, IsCertOf}
 use Rattle.run_cert.specs.Looks.{IsLook}
 use Rattle.run_cert.proofs.OneText.{one_cert}
 use Rattle.run_cert.proofs.Unrefused.{unrefused, one_refusal as cert_refused_once}
-use Rattle.top_call.specs.declared.asked.Asked.{Asked}
-use Rattle.top_call.specs.Names.{names_for}
-use Rattle.top_call.specs.Outcomes.{Outcome}
-use Rattle.top_call.specs.Outcomes.Outcome.{Usage, Unread, Ended, Resampled, Paused, Replayed, Batched}
+use Rattle.told_runs.specs.declared.asked.Asked.{Asked}
+use Rattle.told_runs.specs.Names.{names_for}
+use Rattle.told_runs.specs.Outcomes.{Outcome}
+use Rattle.told_runs.specs.Outcomes.Outcome.{Usage, Unread, Ended, Resampled, Paused, Replayed, Batched}
 use Rattle.top_call.specs.Sampling.{pair_weights, instance_of, IsEndOf}
 use Rattle.top_call.specs.Formulas.{ComesOfRunning, ComesOfFormula}
 use Rattle.top_call.specs.Resamplings.{IsHistoryOf, EndsResampling, ComesOfResampling}
 use Rattle.top_call.specs.Orientations.{EndsOrientation, ComesOfOrienting}
 use Rattle.top_call.specs.Trees.{tree_instance, ComesOfTree}
 use Rattle.cycle_popping.specs.Trees.{weights_of_tree}
-use Rattle.top_call.specs.Made.{IsMade}
+use Rattle.job_subjects.specs.Made.{IsMade}
 use Rattle.top_call.specs.Answers.{origin_for, asked_by, ComesOfCommand, ComesOf}
 use Rattle.answer_laws.specs.Orders.{HasOneEnd}
 use Rattle.answer_laws.specs.Laws.{Agree}

@@ -14,12 +14,12 @@ use Rattle.dimacs_read.specs.Cnf.{Cnf}
 use Rattle.pop_watch.specs.Telling.{Watcher}
 use Rattle.pop_print.specs.declared.facts.Facts.{Facts}
 use Rattle.pop_print.specs.declared.facts.Facts.TheVariants.{Formula as FormulaFacts}
-use Rattle.top_call.specs.declared.asked.Asked.{Asked}
-use Rattle.top_call.specs.Outcomes.{Outcome}
-use Rattle.top_call.specs.Outcomes.Outcome.{Resampled}
+use Rattle.told_runs.specs.declared.asked.Asked.{Asked}
+use Rattle.told_runs.specs.Outcomes.{Outcome}
+use Rattle.told_runs.specs.Outcomes.Outcome.{Resampled}
 use Rattle.top_call.specs.Sampling.{pair_weights, instance_of}
-use Rattle.top_call.specs.Names.{names_for}
-use Rattle.top_call.specs.Tellings.{records_of, IsToldOf, LeadsToEnd}
+use Rattle.told_runs.specs.Names.{names_for}
+use Rattle.told_runs.specs.Tellings.{records_of, IsToldOf, LeadsToEnd}
 use Rattle.top_call.specs.Resamplings.{IsHistoryOf, EndsResampling, ComesOfResampling}
 use Rattle.answer_laws.specs.Orders.{HasExtremalEvents}
 use Rattle.answer_laws.specs.Laws.{ReportAlike, AreHistories, Agree}

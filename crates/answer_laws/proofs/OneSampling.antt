@@ -16,12 +16,12 @@ use Rattle.pop_stacks.specs.Faults.{IsSound, IsCause}
 use Rattle.pop_log.proofs.UnitEvents.{HaveCubes}
 use Rattle.pop_watch.specs.Telling.{Watcher}
 use Rattle.pop_print.specs.declared.facts.Facts.{Facts}
-use Rattle.top_call.specs.declared.asked.Asked.{Asked}
-use Rattle.top_call.specs.Names.{names_for}
-use Rattle.top_call.specs.Tellings.{Telling}
-use Rattle.top_call.specs.Batches.{IsTooMany, AreFew, IsBatchOf}
-use Rattle.top_call.specs.Outcomes.{Outcome}
-use Rattle.top_call.specs.Outcomes.Outcome.{Usage, Unread, Isolated, NoRoot, CutOff, TooMany, Unsound, Clashes, Extremal, Ended, Resampled, Rounded, Batched, Paused, Replayed, NotLegal}
+use Rattle.told_runs.specs.declared.asked.Asked.{Asked}
+use Rattle.told_runs.specs.Names.{names_for}
+use Rattle.told_runs.specs.Tellings.{Telling}
+use Rattle.told_runs.specs.Batches.{IsTooMany, AreFew, IsBatchOf}
+use Rattle.told_runs.specs.Outcomes.{Outcome}
+use Rattle.told_runs.specs.Outcomes.Outcome.{Usage, Unread, Isolated, NoRoot, CutOff, TooMany, Unsound, Clashes, Extremal, Ended, Resampled, Rounded, Batched, Paused, Replayed, NotLegal}
 use Rattle.top_call.specs.Sampling.{IsToldOfFirst, EndsWithin, IsEndOf, ComesOfSampling}
 use Rattle.answer_laws.specs.Laws.{ReportAlike}
 use Rattle.answer_laws.proofs.OneFault.{one_cause, sound_has_none}

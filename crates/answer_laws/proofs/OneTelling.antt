@@ -10,12 +10,12 @@ use Rattle.pop_log.specs.Layers.{Placed}
 use Rattle.pop_log.proofs.UnitEvents.{HaveCubes}
 use Rattle.pop_log.proofs.LayeredLaws.{layered_is_legal, one_layered_log}
 use Rattle.pop_watch.specs.Telling.{Watcher}
-use Rattle.top_call.specs.declared.asked.Asked.{Asked}
-use Rattle.top_call.specs.Witnesses.{Witness}
-use Rattle.top_call.specs.Tellings.{Telling, records_of, IsToldOf}
+use Rattle.told_runs.specs.declared.asked.Asked.{Asked}
+use Rattle.told_runs.specs.Witnesses.{Witness}
+use Rattle.told_runs.specs.Tellings.{Telling, records_of, IsToldOf}
 use Rattle.top_call.specs.Sampling.{IsToldOfFirst}
 use Rattle.answer_laws.specs.Laws.{ReportAlike}
-use Rattle.top_call.proofs.ToldOfFirst.{first_runs}
+use Rattle.told_runs.proofs.ToldOfFirst.{first_runs}
 use Rattle.answer_laws.proofs.OneWitness.{one_witness}
 
 -- what is told is made of its parts

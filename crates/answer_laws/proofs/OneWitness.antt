@@ -12,8 +12,8 @@ use Rattle.witness_trees.specs.Vertices.{Vertex}
 use Rattle.witness_trees.specs.Trees.{IsTree}
 use Rattle.witness_trees.proofs.OneTree.{one_tree}
 use Rattle.witness_trees.proofs.OneUse.{one_use, used_below}
-use Rattle.top_call.specs.Witnesses.{Witness, IsCursorNamed, IsWitnessTree, IsWitness}
-use Rattle.top_call.specs.Witnesses.Witness.{Unasked, Missing, Shown}
+use Rattle.told_runs.specs.Witnesses.{Witness, IsCursorNamed, IsWitnessTree, IsWitness}
+use Rattle.told_runs.specs.Witnesses.Witness.{Unasked, Missing, Shown}
 
 -- a name has one cursor
 one_cursor : (names : Names) (cursors : List ℕ) (name c d : ℕ) → IsCursorNamed names cursors name c

@@ -7,8 +7,8 @@ use Rattle.pop_words.specs.declared.job.Job.{Job}
 use Rattle.pop_words.specs.CommandLines.{AreWords}
 use Rattle.pop_words.proofs.OneJob.{same_job, same_first_bad}
 use Rattle.pop_watch.specs.Telling.{Watcher}
-use Rattle.top_call.specs.Outcomes.{Outcome}
-use Rattle.top_call.specs.Outcomes.Outcome.{Usage}
+use Rattle.told_runs.specs.Outcomes.{Outcome}
+use Rattle.told_runs.specs.Outcomes.Outcome.{Usage}
 use Rattle.top_call.specs.Answers.{ComesBy, IsOutcome}
 use Rattle.answer_laws.specs.Orders.{HasOneEnd, LeadsToOneEnd}
 use Rattle.answer_laws.specs.Laws.{AskForOneEnd, AskForLikeReports, ReportAlike, AskForLike, Agree}

@@ -8,22 +8,22 @@ use Rattle.pop_model.specs.Extremal.{IsExtremal}
 use Rattle.pop_model.specs.Runs.{IsFirstEnd}
 use Rattle.pop_log.specs.Layers.{Placed}
 use Rattle.pop_print.specs.declared.facts.Facts.{Facts}
-use Rattle.top_call.specs.Tellings.{Telling, records_of, LeadsToEnd}
-use Rattle.top_call.specs.Made.{IsMade}
+use Rattle.told_runs.specs.Tellings.{Telling, records_of, LeadsToEnd}
+use Rattle.job_subjects.specs.Made.{IsMade}
 use Rattle.pop_words.specs.declared.command.Command.{Command}
 use Rattle.pop_words.specs.declared.command.Command.TheVariants.{Formula, Orient, Tree, Resample, Check, Make, Rounds, Replay, Resume}
 use Rattle.pop_words.specs.declared.job.Job.{Job}
 use Rattle.pop_words.specs.CommandLines.{Asks}
 use Rattle.pop_words.proofs.OneJob.{same_job}
 use Rattle.pop_watch.specs.Telling.{Watcher}
-use Rattle.top_call.specs.Outcomes.{Outcome}
-use Rattle.top_call.specs.Outcomes.Outcome.{Usage, Unread, Isolated, NoRoot, CutOff, TooMany, Unsound, Clashes, Extremal, Ended, Resampled, Rounded, Batched, Paused, Replayed, NotLegal}
+use Rattle.told_runs.specs.Outcomes.{Outcome}
+use Rattle.told_runs.specs.Outcomes.Outcome.{Usage, Unread, Isolated, NoRoot, CutOff, TooMany, Unsound, Clashes, Extremal, Ended, Resampled, Rounded, Batched, Paused, Replayed, NotLegal}
 use Rattle.top_call.specs.Sampling.{EndsWithin}
 use Rattle.top_call.specs.Answers.{ComesOfCommand, ComesOf, IsOfLine, ComesBy}
 use Rattle.answer_laws.specs.Orders.{HasOneEnd}
 use Rattle.answer_laws.specs.Laws.{TellsPause, PausedExactly}
 use Rattle.answer_laws.proofs.EndedSubjects.{ended_subject}
-use Rattle.top_call.proofs.MadeExtremal.{made_extremal}
+use Rattle.job_subjects.proofs.MadeExtremal.{made_extremal}
 use Rattle.answer_laws.proofs.OnePause.{pause_shorter}
 use Rattle.top_call.proofs.ByCommand.{of_line}
 use Rattle.top_call.proofs.PauseWords.{paused_line, stopped_may}

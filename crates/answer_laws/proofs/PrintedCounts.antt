@@ -49,13 +49,13 @@ use Rattle.pop_print.specs.declared.facts.Facts.{Facts}
 use Rattle.pop_print.specs.declared.facts.Facts.TheVariants.{Formula as FormulaFacts, Orient as OrientFacts, Tree as TreeFacts, Made as MadeFacts}
 use Rattle.pop_print.specs.Output.{assignment_line, pops_line, sample_lines, tree_lines, used_line}
 use Rattle.pop_print.specs.Rounds.{rounds_line}
-use Rattle.top_call.specs.Names.{names_for}
-use Rattle.top_call.specs.Outcomes.{Outcome, end_status, run_text, status_of, text_of}
-use Rattle.top_call.specs.Outcomes.Outcome.{Ended}
-use Rattle.top_call.specs.Tellings.{Telling, telling_text}
+use Rattle.told_runs.specs.Names.{names_for}
+use Rattle.told_runs.specs.Outcomes.{Outcome, end_status, run_text, status_of, text_of}
+use Rattle.told_runs.specs.Outcomes.Outcome.{Ended}
+use Rattle.told_runs.specs.Tellings.{Telling, telling_text}
 use Rattle.top_call.specs.Sampling.{pair_weights, instance_of}
 use Rattle.top_call.specs.Answers.{ComesBy, ComesOf, ComesOfCommand, ComesOfJob, IsOutcome}
-use Rattle.top_call.specs.Subjects.{Subject, assignments, arrows_to, instance_over, orientations, IsSubjectOf}
+use Rattle.job_subjects.specs.Subjects.{Subject, assignments, arrows_to, instance_over, orientations, IsSubjectOf}
 use Rattle.answer_laws.specs.ExactAnswers.{IsSampledBy, frame_of, frame_over, over_rows}
 use Rattle.answer_laws.specs.EverySample.{Satisfies}
 use Rattle.answer_laws.specs.PrintedOnce.{AreBits, AreSlots}
@@ -66,7 +66,7 @@ use Rattle.answer_laws.proofs.EndedSubjects.{IsEndOfSubject, batched_subject, en
 use Rattle.answer_laws.proofs.EverySample.{every_assignment}
 use Rattle.answer_laws.proofs.ExactAnswers.{exchanged_answers, of_rows, sound_rows, subject_line, values_are}
 use Rattle.answer_laws.proofs.KeyAnswers.{is_quiet, low_cases}
-use Rattle.top_call.proofs.MadeInstances.{count_of_weights, slots_of_weights}
+use Rattle.job_subjects.proofs.MadeInstances.{count_of_weights, slots_of_weights}
 use Rattle.answer_laws.proofs.LoopedEdges.{DifferAtLoops, bits_weigh, carried, carried_alike, carried_back, carried_sample, same_lines}
 use Rattle.answer_laws.proofs.OneFormula.{one_events}
 use Rattle.answer_laws.proofs.OneOrientation.{one_sinks}

@@ -14,9 +14,9 @@ use Rattle.pop_words.proofs.OneJob.{same_job}
 use Rattle.pop_watch.specs.Telling.{Watcher}
 use Rattle.run_cert.specs.Certificates.{Certificate}
 use Rattle.run_cert.proofs.OneText.{one_cert}
-use Rattle.top_call.specs.Refusals.{reading_status, stacks_status}
-use Rattle.top_call.specs.Outcomes.{Outcome, HasRun, status_of}
-use Rattle.top_call.specs.Outcomes.Outcome.{Usage, Unread, Isolated, NoRoot, CutOff, TooMany, Unsound, Clashes, NotLegal}
+use Rattle.job_subjects.specs.Refusals.{reading_status, stacks_status}
+use Rattle.told_runs.specs.Outcomes.{Outcome, HasRun, status_of}
+use Rattle.told_runs.specs.Outcomes.Outcome.{Usage, Unread, Isolated, NoRoot, CutOff, TooMany, Unsound, Clashes, NotLegal}
 use Rattle.top_call.specs.Replays.{job_of, IsNoRun, ComesOfCert, IsReplayed}
 use Rattle.top_call.specs.Answers.{ComesOf, ComesBy, IsOutcome}
 use Rattle.answer_laws.specs.Resumed.{AskFor, AcceptsReplay, ResumedAlike}

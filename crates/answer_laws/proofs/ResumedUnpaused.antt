@@ -28,18 +28,18 @@ use Rattle.run_cert.specs.Heads.{has_root}
 use Rattle.run_cert.specs.Certificates.{Certificate, IsCertOf, height_said, root_said, head_of, cert_of}
 use Rattle.run_cert.proofs.OneText.{one_cert}
 use Rattle.run_cert.proofs.PrintedCerts.{printed_is_read}
-use Rattle.top_call.specs.Names.{names_for}
-use Rattle.top_call.specs.Witnesses.{Witness as ToldWitness}
-use Rattle.top_call.specs.Witnesses.Witness.{Unasked, Missing, Shown}
-use Rattle.top_call.specs.Tellings.{records_of}
-use Rattle.top_call.specs.Outcomes.{Outcome, status_of, text_of, end_status, resampled_status}
-use Rattle.top_call.specs.Outcomes.Outcome.{Usage, Unread, Isolated, NoRoot, CutOff, TooMany, Unsound, Clashes, Extremal, Ended, Resampled, Rounded, Batched, Paused, Replayed, NotLegal}
-use Rattle.top_call.specs.Made.{IsMade}
+use Rattle.told_runs.specs.Names.{names_for}
+use Rattle.told_runs.specs.Witnesses.{Witness as ToldWitness}
+use Rattle.told_runs.specs.Witnesses.Witness.{Unasked, Missing, Shown}
+use Rattle.told_runs.specs.Tellings.{records_of}
+use Rattle.told_runs.specs.Outcomes.{Outcome, status_of, text_of, end_status, resampled_status}
+use Rattle.told_runs.specs.Outcomes.Outcome.{Usage, Unread, Isolated, NoRoot, CutOff, TooMany, Unsound, Clashes, Extremal, Ended, Resampled, Rounded, Batched, Paused, Replayed, NotLegal}
+use Rattle.job_subjects.specs.Made.{IsMade}
 use Rattle.top_call.specs.Replays.{job_of, HasLog}
 use Rattle.top_call.specs.Answers.{origin_for, ComesOfCommand, ComesOf, IsOfLine, ComesBy}
 use Rattle.top_call.proofs.ByCommand.{by_line, of_line}
 use Rattle.top_call.proofs.Lifting.{of_words, no_replay}
-use Rattle.top_call.proofs.MadeExtremal.{made_short}
+use Rattle.job_subjects.proofs.MadeExtremal.{made_short}
 use Rattle.top_call.proofs.PauseWords.{paused_line, stopped_may}
 use Rattle.top_call.proofs.ReadCases.{TellsPaused, read_cases}
 use Rattle.answer_laws.specs.Unpaused.{tells_pops, but_pops, DifferInPops, ResumedUnpaused}

@@ -32,11 +32,11 @@ use Rattle.pop_watch.specs.Telling.{Watcher}
 use Rattle.pop_print.specs.declared.facts.Facts.{Facts}
 use Rattle.pop_print.specs.declared.facts.Facts.TheVariants.{Formula as FormulaFacts}
 use Rattle.printed_samples.proofs.ShownEnds.{literals_of_text}
-use Rattle.top_call.specs.Outcomes.{Outcome}
-use Rattle.top_call.specs.Outcomes.Outcome.{Rounded}
+use Rattle.told_runs.specs.Outcomes.{Outcome}
+use Rattle.told_runs.specs.Outcomes.Outcome.{Rounded}
 use Rattle.top_call.specs.Sampling.{pair_weights, instance_of}
 use Rattle.top_call.specs.Answers.{ComesBy, ComesOfCommand, IsOfLine, IsOutcome, origin_for}
-use Rattle.top_call.specs.Subjects.{Subject, assignments}
+use Rattle.job_subjects.specs.Subjects.{Subject, assignments}
 use Rattle.answer_laws.specs.ExactAnswers.{frame_over, over_rows}
 use Rattle.answer_laws.specs.RoundAnswers.{ExchangedRoundAnswers, IsRoundedBy, ReachedRoundAnswers}
 use Rattle.top_call.proofs.ByCommand.{by_line, of_line}

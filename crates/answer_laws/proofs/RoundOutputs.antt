@@ -29,8 +29,8 @@ use Rattle.pop_print.specs.declared.facts.Facts.{Facts}
 use Rattle.pop_print.specs.declared.facts.Facts.TheVariants.{Formula as FormulaFacts}
 use Rattle.pop_print.specs.Rounds.{rounds_text}
 use Rattle.printed_samples.proofs.ShownEnds.{literals_of_text, pair_bits}
-use Rattle.top_call.specs.Outcomes.{Outcome, Tells, end_status, status_of, text_of}
-use Rattle.top_call.specs.Outcomes.Outcome.{Usage, Unread, Isolated, NoRoot, CutOff, TooMany, Unsound, Clashes, Extremal, Ended, Resampled, Rounded, Batched, Paused, Replayed, NotLegal}
+use Rattle.told_runs.specs.Outcomes.{Outcome, Tells, end_status, status_of, text_of}
+use Rattle.told_runs.specs.Outcomes.Outcome.{Usage, Unread, Isolated, NoRoot, CutOff, TooMany, Unsound, Clashes, Extremal, Ended, Resampled, Rounded, Batched, Paused, Replayed, NotLegal}
 use Rattle.top_call.specs.Sampling.{pair_weights, instance_of}
 use Rattle.top_call.specs.Answers.{ComesBy, ComesOf, ComesOfCommand, IsOutcome, origin_for}
 use Rattle.answer_laws.specs.EverySample.{Satisfies}

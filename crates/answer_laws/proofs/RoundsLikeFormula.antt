@@ -23,14 +23,14 @@ use Rattle.pop_watch.specs.Telling.{Watcher}
 use Rattle.pop_print.specs.declared.facts.Facts.{Facts}
 use Rattle.pop_print.specs.declared.facts.Facts.TheVariants.{Formula as FormulaFacts}
 use Rattle.pop_print.specs.Output.{findings}
-use Rattle.top_call.specs.Names.{names_for}
-use Rattle.top_call.specs.Tellings.{Telling, telling_text}
-use Rattle.top_call.specs.Outcomes.{Outcome, status_of, text_of, end_status}
-use Rattle.top_call.specs.Outcomes.Outcome.{Ended, Rounded}
+use Rattle.told_runs.specs.Names.{names_for}
+use Rattle.told_runs.specs.Tellings.{Telling, telling_text}
+use Rattle.told_runs.specs.Outcomes.{Outcome, status_of, text_of, end_status}
+use Rattle.told_runs.specs.Outcomes.Outcome.{Ended, Rounded}
 use Rattle.top_call.specs.Formulas.{EndsFormula, ComesOfRunning, ComesOfFormula}
 use Rattle.top_call.specs.Rounds.{IsRoundsEndOf, EndsRounds, ComesOfRounds}
 use Rattle.top_call.specs.Sampling.{pair_weights, instance_of}
-use Rattle.top_call.specs.Made.{IsMade}
+use Rattle.job_subjects.specs.Made.{IsMade}
 use Rattle.top_call.specs.Answers.{ComesOfCnf, Refuses, ComesOf, ComesOfCommand, IsOfLine, ComesBy, origin_for, asked_by}
 use Rattle.top_call.proofs.ByCommand.{of_line}
 use Rattle.top_call.proofs.ReadCases.{read_cases}

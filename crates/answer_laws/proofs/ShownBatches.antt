@@ -17,9 +17,9 @@ use Rattle.pop_watch.specs.Telling.{Watcher}
 use Rattle.pop_print.specs.declared.facts.Facts.{Facts}
 use Rattle.pop_print.specs.Output.{full_text, end_text}
 use Rattle.pop_print.specs.Batches.{batch_line, sample_line, numbered_text, batch_text}
-use Rattle.top_call.specs.Batches.{batch_status}
-use Rattle.top_call.specs.Outcomes.Outcome.{Batched}
-use Rattle.top_call.specs.Subjects.{Subject, instance_over, IsSubjectOf}
+use Rattle.told_runs.specs.Batches.{batch_status}
+use Rattle.told_runs.specs.Outcomes.Outcome.{Batched}
+use Rattle.job_subjects.specs.Subjects.{Subject, instance_over, IsSubjectOf}
 use Rattle.top_call.specs.Answers.{ComesOfCommand, origin_for}
 use Rattle.answer_laws.specs.Shown.{ShowsSample, ShowsExhausted, ShowsEnd, ShowsEach, ShowsSamples, ShowsStuckSamples}
 use Rattle.top_call.proofs.BatchWords.{is_batched, counted_command}

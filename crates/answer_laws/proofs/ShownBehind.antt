@@ -16,7 +16,7 @@ use Rattle.printed_samples.specs.Assignments.{ShowsAssignment}
 use Rattle.printed_samples.specs.Orientations.{ShowsOrientation}
 use Rattle.printed_samples.specs.Stuck.{stuck_text, ShowsStuck}
 use Rattle.printed_samples.specs.Trees.{ShowsTree}
-use Rattle.top_call.specs.Outcomes.{end_status}
+use Rattle.told_runs.specs.Outcomes.{end_status}
 use Rattle.answer_laws.specs.Shown.{BeginsWith, ShowsSample, ShowsExhausted, ShowsEnd}
 
 -- a text of a front and a rest, with more behind it

@@ -31,17 +31,17 @@ use Rattle.pop_print.specs.Output.{end_text}
 use Rattle.run_cert.specs.Certificates.{Certificate, IsCertOf, height_said, cert_of, cert_text}
 use Rattle.run_cert.proofs.OneText.{one_cert}
 use Rattle.run_cert.proofs.PrintedCerts.{printed_is_read}
-use Rattle.top_call.specs.Names.{names_for}
-use Rattle.top_call.specs.Witnesses.{witness_text}
-use Rattle.top_call.specs.Tellings.{Telling, records_of, layered_text, telling_text}
-use Rattle.top_call.specs.Outcomes.{Outcome, text_of}
-use Rattle.top_call.specs.Outcomes.Outcome.{Resampled, Paused}
+use Rattle.told_runs.specs.Names.{names_for}
+use Rattle.told_runs.specs.Witnesses.{witness_text}
+use Rattle.told_runs.specs.Tellings.{Telling, records_of, layered_text, telling_text}
+use Rattle.told_runs.specs.Outcomes.{Outcome, text_of}
+use Rattle.told_runs.specs.Outcomes.Outcome.{Resampled, Paused}
 use Rattle.top_call.specs.Sampling.{instance_of}
-use Rattle.top_call.specs.Made.{IsMade}
+use Rattle.job_subjects.specs.Made.{IsMade}
 use Rattle.top_call.specs.Replays.{job_of}
 use Rattle.top_call.specs.Answers.{origin_for, ComesOfCommand, ComesOf, IsOutcome}
 use Rattle.top_call.proofs.ByCommand.{by_kind, refused_no_run}
-use Rattle.top_call.proofs.MadeExtremal.{made_short}
+use Rattle.job_subjects.proofs.MadeExtremal.{made_short}
 use Rattle.top_call.proofs.PauseWords.{stopped_may}
 use Rattle.answer_laws.specs.Laws.{Agree, shown_log}
 use Rattle.answer_laws.specs.ShownLogs.{StopsBehind, AreOneRun, OneShownLog, OneStoppedRun}

@@ -18,7 +18,7 @@ use Rattle.pop_print.specs.declared.facts.Facts.TheVariants.{Formula as FormulaF
 use Rattle.pop_print.specs.Output.{findings, used_line}
 use Rattle.pop_print.specs.Rounds.{rounds_line, short_line, rounds_text}
 use Rattle.printed_samples.specs.Laws.{ShowsFormula}
-use Rattle.top_call.specs.Outcomes.Outcome.{Rounded}
+use Rattle.told_runs.specs.Outcomes.Outcome.{Rounded}
 use Rattle.top_call.specs.Sampling.{pair_weights, instance_of}
 use Rattle.top_call.specs.Answers.{ComesOfCommand, origin_for}
 use Rattle.answer_laws.specs.Shown.{stacks_by, ShowsEnd}

@@ -22,15 +22,15 @@ use Rattle.pop_print.specs.declared.facts.Facts.TheVariants.{Formula as FormulaF
 use Rattle.pop_print.specs.Output.{pops_line, end_text}
 use Rattle.pop_print.specs.Rounds.{rounds_text}
 use Rattle.printed_samples.specs.Laws.{ShowsFormula}
-use Rattle.top_call.specs.Refusals.{reading_status, stacks_status}
-use Rattle.top_call.specs.Names.{names_for}
-use Rattle.top_call.specs.Witnesses.{Witness}
-use Rattle.top_call.specs.Witnesses.Witness.{Unasked, Missing, Shown}
-use Rattle.top_call.specs.Tellings.{Telling, records_of, telling_text}
-use Rattle.top_call.specs.Outcomes.{Outcome, status_of, text_of, end_status, run_text, resampled_text, resampled_status}
-use Rattle.top_call.specs.Outcomes.Outcome.{Usage, Unread, Isolated, NoRoot, CutOff, TooMany, Unsound, Clashes, Extremal, Ended, Resampled, Rounded, Batched, Paused, Replayed, NotLegal}
+use Rattle.job_subjects.specs.Refusals.{reading_status, stacks_status}
+use Rattle.told_runs.specs.Names.{names_for}
+use Rattle.told_runs.specs.Witnesses.{Witness}
+use Rattle.told_runs.specs.Witnesses.Witness.{Unasked, Missing, Shown}
+use Rattle.told_runs.specs.Tellings.{Telling, records_of, telling_text}
+use Rattle.told_runs.specs.Outcomes.{Outcome, status_of, text_of, end_status, run_text, resampled_text, resampled_status}
+use Rattle.told_runs.specs.Outcomes.Outcome.{Usage, Unread, Isolated, NoRoot, CutOff, TooMany, Unsound, Clashes, Extremal, Ended, Resampled, Rounded, Batched, Paused, Replayed, NotLegal}
 use Rattle.top_call.specs.Sampling.{pair_weights, instance_of}
-use Rattle.top_call.specs.Subjects.{instance_over}
+use Rattle.job_subjects.specs.Subjects.{instance_over}
 use Rattle.run_cert.specs.Heads.{has_root}
 use Rattle.run_cert.specs.Certificates.{Certificate, IsCertOf}
 use Rattle.top_call.specs.Replays.{job_of, IsNoRun, IsRefused}

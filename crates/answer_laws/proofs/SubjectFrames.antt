@@ -24,9 +24,9 @@ use Rattle.pop_words.specs.declared.command.Command.TheVariants.{Formula, Orient
 use Rattle.pop_words.specs.declared.job.Job.{Job}
 use Rattle.pop_print.specs.declared.facts.Facts.{Facts}
 use Rattle.pop_samples.specs.Frames.{IsFrame}
-use Rattle.top_call.specs.Subjects.{Subject, arrows_to, IsSubjectOf}
+use Rattle.job_subjects.specs.Subjects.{Subject, arrows_to, IsSubjectOf}
 use Rattle.answer_laws.specs.ExactAnswers.{frame_over}
-use Rattle.top_call.proofs.MadeInstances.{tree_fits}
+use Rattle.job_subjects.proofs.MadeInstances.{tree_fits}
 use Rattle.answer_laws.proofs.ListedEvents.{formula_family, sinks_family, sinks_fit, pairs_fit}
 
 -- a family that fits any stacks of the subject's weights, and is extremal

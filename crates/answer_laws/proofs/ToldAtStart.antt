@@ -9,13 +9,13 @@ use Rattle.pop_log.specs.declared.names.Names.{Names}
 use Rattle.pop_log.specs.Printed.{name_of}
 use Rattle.pop_log.specs.Layers.{Placed}
 use Rattle.pop_watch.specs.Telling.{Watcher, log_told}
-use Rattle.top_call.specs.declared.asked.Asked.{Asked}
-use Rattle.top_call.specs.Witnesses.{Witness, IsCursorNamed, IsWitness}
-use Rattle.top_call.specs.Witnesses.Witness.{Unasked, Missing}
-use Rattle.top_call.specs.Reports.{reports_text}
-use Rattle.top_call.specs.Tellings.{Telling}
+use Rattle.told_runs.specs.declared.asked.Asked.{Asked}
+use Rattle.told_runs.specs.Witnesses.{Witness, IsCursorNamed, IsWitness}
+use Rattle.told_runs.specs.Witnesses.Witness.{Unasked, Missing}
+use Rattle.told_runs.specs.Reports.{reports_text}
+use Rattle.told_runs.specs.Tellings.{Telling}
 use Rattle.top_call.specs.Sampling.{IsToldOfFirst}
-use Rattle.top_call.proofs.LayeredOrders.{nothing_sorted}
+use Rattle.told_runs.proofs.LayeredOrders.{nothing_sorted}
 
 -- some variable below a number has the name, or none has
 named_or_not : (names : Names) (name n : ℕ) → ((v : ℕ) × (v < n) × (name_of names v ≡ name))

@@ -13,7 +13,7 @@ use Rattle.pop_words.specs.Values.{number_between, rows_in, key_in, board_in, sw
 use Rattle.pop_words.specs.Options.{value_of, default_job}
 use Rattle.pop_words.specs.CommandLines.{job_from}
 use Rattle.pop_stacks.specs.declared.stack_spec.StackSpec.TheVariants.{Key as KeyedStacks, Given as GivenStacks}
-use Rattle.top_call.specs.Outcomes.{status_of, text_of}
+use Rattle.told_runs.specs.Outcomes.{status_of, text_of}
 use Rattle.top_call.specs.Answers.{IsOutcome}
 use Rattle.answer_laws.specs.Workers.{tells_crew, but_workers, DifferInWorkers, WorkersAgree}
 use Rattle.answer_laws.proofs.AlikeJobs.{AreAlike, Said, said_by, comes_of_alike}

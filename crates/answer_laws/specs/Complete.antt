@@ -19,14 +19,14 @@ use Rattle.pop_words.specs.declared.job.Job.{Job}
 use Rattle.pop_words.specs.CommandLines.{Asks}
 use Rattle.pop_watch.specs.Telling.{Watcher}
 use Rattle.pop_print.specs.declared.facts.Facts.{Facts}
-use Rattle.top_call.specs.Witnesses.{is_missing}
-use Rattle.top_call.specs.Batches.{AreFew}
-use Rattle.top_call.specs.Outcomes.{Outcome, AnswersBy}
-use Rattle.top_call.specs.Outcomes.Outcome.{Resampled}
+use Rattle.told_runs.specs.Witnesses.{is_missing}
+use Rattle.told_runs.specs.Batches.{AreFew}
+use Rattle.told_runs.specs.Outcomes.{Outcome, AnswersBy}
+use Rattle.told_runs.specs.Outcomes.Outcome.{Resampled}
 use Rattle.top_call.specs.Sampling.{pair_weights}
 use Rattle.run_cert.specs.Certificates.{Certificate, IsCertOf}
-use Rattle.top_call.specs.Names.{names_for}
-use Rattle.top_call.specs.Made.{IsMade}
+use Rattle.told_runs.specs.Names.{names_for}
+use Rattle.job_subjects.specs.Made.{IsMade}
 use Rattle.top_call.specs.Replays.{cert_limit}
 use Rattle.top_call.specs.Answers.{IsOutcome, origin_for}
 use Rattle.answer_laws.specs.Orders.{HasExtremalEvents}

@@ -13,7 +13,7 @@ use Rattle.sink_popping.specs.Sinks.{AreSinksOf, pointing_to}
 use Rattle.cycle_popping.specs.Trees.{heads_of_tree}
 use Rattle.pop_print.specs.declared.facts.Facts.{Facts}
 use Rattle.pop_samples.specs.Frames.{IsSampleOf}
-use Rattle.top_call.specs.Subjects.{assignments, orientations, arrows_to}
+use Rattle.job_subjects.specs.Subjects.{assignments, orientations, arrows_to}
 use Rattle.answer_laws.specs.ExactAnswers.{frame_over}
 
 -- the literal is true: its variable has the value 1, or 0 where it is negated

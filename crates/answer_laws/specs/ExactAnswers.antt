@@ -15,10 +15,10 @@ use Rattle.pop_words.specs.CommandLines.{Asks}
 use Rattle.pop_watch.specs.Telling.{Watcher}
 use Rattle.run_cert.specs.Heads.{MayBeStacks}
 use Rattle.pop_print.specs.declared.facts.Facts.{Facts}
-use Rattle.top_call.specs.Tellings.{Telling}
-use Rattle.top_call.specs.Outcomes.Outcome.{Ended}
+use Rattle.told_runs.specs.Tellings.{Telling}
+use Rattle.told_runs.specs.Outcomes.Outcome.{Ended}
 use Rattle.top_call.specs.Answers.{IsOutcome}
-use Rattle.top_call.specs.Subjects.{Subject, IsSubjectOf}
+use Rattle.job_subjects.specs.Subjects.{Subject, IsSubjectOf}
 
 -- the job with these rows for its stacks
 abbrev pub over_rows : Job → Rows → Job

@@ -16,7 +16,7 @@ use Rattle.pop_print.specs.declared.facts.Facts.{Facts}
 use Rattle.pop_print.specs.declared.facts.Facts.TheVariants.{Formula as FormulaFacts, Orient as OrientFacts, Tree as TreeFacts, Made as MadeFacts}
 use Rattle.pop_print.specs.Output.{sample_lines}
 use Rattle.top_call.specs.Answers.{IsAnswer}
-use Rattle.top_call.specs.Subjects.{Subject, assignments, IsSubjectOf}
+use Rattle.job_subjects.specs.Subjects.{Subject, assignments, IsSubjectOf}
 use Rattle.answer_laws.specs.ExactAnswers.{frame_over, over_rows}
 use Rattle.answer_laws.specs.EverySample.{Satisfies}
 

@@ -4,7 +4,7 @@ use Rattle.pop_words.specs.declared.job.Job.{Job}
 use Rattle.pop_words.specs.CommandLines.{Choice, Asks}
 use Rattle.pop_watch.specs.Telling.{Watcher}
 use Rattle.pop_print.specs.Batches.{batch_line, sample_line}
-use Rattle.top_call.specs.Outcomes.{AnswersBy}
+use Rattle.told_runs.specs.Outcomes.{AnswersBy}
 use Rattle.top_call.specs.Answers.{ComesOf, IsAnswer}
 
 -- the job where no number of samples is asked for

@@ -17,10 +17,10 @@ use Rattle.pop_words.specs.declared.job.Job.{Job}
 use Rattle.pop_words.specs.Options.{quiet}
 use Rattle.pop_words.specs.CommandLines.{Asks}
 use Rattle.pop_watch.specs.Telling.{Watcher}
-use Rattle.top_call.specs.Outcomes.{Outcome, status_of}
-use Rattle.top_call.specs.Outcomes.Outcome.{Ended, Rounded, Batched}
+use Rattle.told_runs.specs.Outcomes.{Outcome, status_of}
+use Rattle.told_runs.specs.Outcomes.Outcome.{Ended, Rounded, Batched}
 use Rattle.top_call.specs.Answers.{IsOutcome, last_height}
-use Rattle.top_call.specs.Subjects.{Subject, assignments, IsSubjectOf}
+use Rattle.job_subjects.specs.Subjects.{Subject, assignments, IsSubjectOf}
 use Rattle.answer_laws.specs.ExactAnswers.{frame_over}
 
 -- a run, rounds or a batch ended with these samples, in order: at no end an event occurs

@@ -11,11 +11,11 @@ use Rattle.pop_model.specs.Logs.{LogRecord, replay}
 use Rattle.pop_model.specs.Runs.{IsFinished, IsFirstEnd, start_of}
 use Rattle.confluence_core.specs.declared.end.End.{End}
 use Rattle.confluence_core.specs.Laws.{RunsToEnd}
-use Rattle.top_call.specs.Outcomes.{Outcome, status_of, AnswersBy}
-use Rattle.top_call.specs.Outcomes.Outcome.{Ended, Resampled, Rounded, Paused, Replayed, Batched}
+use Rattle.told_runs.specs.Outcomes.{Outcome, status_of, AnswersBy}
+use Rattle.told_runs.specs.Outcomes.Outcome.{Ended, Resampled, Rounded, Paused, Replayed, Batched}
 use Rattle.pop_log.specs.Layers.{Placed}
-use Rattle.top_call.specs.Reports.{reports_text}
-use Rattle.top_call.specs.Tellings.{records_of, LeadsToEnd}
+use Rattle.told_runs.specs.Reports.{reports_text}
+use Rattle.told_runs.specs.Tellings.{records_of, LeadsToEnd}
 use Rattle.top_call.specs.Pauses.{IsPause}
 use Rattle.top_call.specs.Answers.{IsOutcome, IsAnswer}
 use Rattle.answer_laws.specs.Orders.{HasOneEnd, LeadsToOneEnd}

@@ -8,7 +8,7 @@ use Rattle.pop_words.specs.CommandLines.{Asks}
 use Rattle.pop_watch.specs.Telling.{Watcher}
 use Rattle.run_cert.specs.Heads.{Head}
 use Rattle.run_cert.specs.Certificates.{Certificate, IsCertOf}
-use Rattle.top_call.specs.Outcomes.{HasRun}
+use Rattle.told_runs.specs.Outcomes.{HasRun}
 use Rattle.top_call.specs.Replays.{job_of}
 use Rattle.top_call.specs.Answers.{IsAnswer}
 

@@ -17,9 +17,9 @@ use Rattle.pop_watch.specs.Telling.{Watcher}
 use Rattle.pop_print.specs.declared.facts.Facts.TheVariants.{Formula as FormulaFacts}
 use Rattle.pop_print.specs.Output.{assignment_line, used_line}
 use Rattle.pop_print.specs.Rounds.{rounds_line}
-use Rattle.top_call.specs.Outcomes.Outcome.{Rounded}
+use Rattle.told_runs.specs.Outcomes.Outcome.{Rounded}
 use Rattle.top_call.specs.Answers.{IsOutcome, IsAnswer}
-use Rattle.top_call.specs.Subjects.{assignments}
+use Rattle.job_subjects.specs.Subjects.{assignments}
 use Rattle.answer_laws.specs.ExactAnswers.{over_rows, frame_over}
 use Rattle.answer_laws.specs.EverySample.{Satisfies}
 

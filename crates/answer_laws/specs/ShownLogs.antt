@@ -3,8 +3,8 @@ use Rattle.std.specs.Prelude.{◌≡◌, ℕ, List, Option}
 use Rattle.pop_model.specs.Instances.{Instance}
 use Rattle.pop_log.specs.Layers.{Placed}
 use Rattle.pop_watch.specs.Telling.{Watcher}
-use Rattle.top_call.specs.Outcomes.{Outcome, AnswersBy}
-use Rattle.top_call.specs.Outcomes.Outcome.{Paused}
+use Rattle.told_runs.specs.Outcomes.{Outcome, AnswersBy}
+use Rattle.told_runs.specs.Outcomes.Outcome.{Paused}
 use Rattle.top_call.specs.Answers.{IsOutcome}
 use Rattle.answer_laws.specs.Laws.{IsAnswerShowing}
 

@@ -3,7 +3,7 @@ use Rattle.std.specs.Prelude.{◌≡◌, ◌⊎◌, ◌<◌, ℕ, List, [], ◌�
 use Rattle.joined_words.specs.Joined.{AreJoined}
 use Rattle.pop_watch.specs.Telling.{Watcher}
 use Rattle.top_call.specs.Answers.{IsAnswer}
-use Rattle.top_call.specs.Outcomes.{IsAnswerStatus}
+use Rattle.told_runs.specs.Outcomes.{IsAnswerStatus}
 
 -- a watcher of each kind, in the order of kinds, which was told nothing
 abbrev pub fresh_watchers : List Watcher

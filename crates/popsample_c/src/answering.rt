@@ -2,7 +2,7 @@
 ghost use Rattle.std.specs.Prelude.{map, string_bytes, IfOk, IfSome, MatchOption};
 ghost use Rattle.joined_words.specs.Joined.{AreNoWords};
 ghost use Rattle.top_call.specs.Answers.{IsAnswer};
-ghost use Rattle.top_call.specs.Outcomes.{IsAnswerStatus};
+ghost use Rattle.told_runs.specs.Outcomes.{IsAnswerStatus};
 ghost use Rattle.popsample_c.specs.Told.{IsTold, fresh_watchers};
 
 use joined_words::words_of;

@@ -14,9 +14,9 @@ use Rattle.pop_words.specs.declared.job.Job.{Job}
 use Rattle.pop_words.proofs.ListTests.{some_from}
 use Rattle.pop_watch.specs.Telling.{Watcher}
 use Rattle.pop_print.specs.declared.facts.Facts.{Facts}
-use Rattle.top_call.specs.Batches.{IsBatchOf, batch_status}
-use Rattle.top_call.specs.Outcomes.{end_status}
-use Rattle.top_call.specs.Outcomes.Outcome.{Batched}
+use Rattle.told_runs.specs.Batches.{IsBatchOf, batch_status}
+use Rattle.told_runs.specs.Outcomes.{end_status}
+use Rattle.told_runs.specs.Outcomes.Outcome.{Batched}
 use Rattle.top_call.specs.Answers.{ComesOfCommand}
 
 -- a batch of the same instance

@@ -1,19 +1,22 @@
 -- What comes of a job by its command: by the command's line, or of a certificate that is replayed or resumed.
-use Rattle.std.proofs.Common.{inl, inr, ◌≡◌, ◌⊎◌, ℕ, List, Result, refl, sym, subst}
+use Rattle.std.proofs.Common.{inl, inr, ◌≡◌, ◌≢◌, ◌⊎◌, ℕ, true, false, List, [], None, Result, refl}
 use Rattle.pop_words.specs.declared.command.Command.{Command}
 use Rattle.pop_words.specs.declared.command.Command.TheVariants.{Formula, Orient, Tree, Resample, Check, Make, Rounds, Replay, Resume}
 use Rattle.pop_words.specs.declared.job.Job.{Job}
 use Rattle.pop_watch.specs.Telling.{Watcher}
 use Rattle.pop_log.specs.declared.log_refusal.LogRefusal.{LogRefusal}
 use Rattle.pop_log.specs.declared.log_refusal.LogRefusal.TheVariants.{Limit as LongLog, Malformed as MalformedLog, NotLegal as IllegalRecord, Unlayered as UnlayeredRecord, OutOfMemory as LogMemory}
-use Rattle.top_call.specs.declared.answer.Answer.{Answer}
-use Rattle.top_call.specs.declared.refusal.Refusal.{Refusal}
-use Rattle.top_call.specs.Results.{IsResultOf}
-use Rattle.top_call.specs.Outcomes.{Outcome}
-use Rattle.top_call.specs.Outcomes.Outcome.{Usage, Unread}
-use Rattle.top_call.specs.Replays.{ByLine, IsNoRun, log_outcome, IsNoCert, IsRefused, ComesOfReplaying}
+use Rattle.run_cert.specs.Certificates.{Certificate}
+use Rattle.job_subjects.specs.declared.answer.Answer.{Answer}
+use Rattle.job_subjects.specs.declared.refusal.Refusal.{Refusal}
+use Rattle.job_subjects.specs.Refusals.{unlogged}
+use Rattle.job_subjects.proofs.TextRefusals.{IsOfInput, of_same, of_unread, of_clash, of_formula, of_orienting, of_tree, of_grid}
+use Rattle.told_runs.specs.Outcomes.{Outcome}
+use Rattle.told_runs.specs.Outcomes.Outcome.{Refused}
+use Rattle.told_runs.specs.Results.{IsResultOf}
+use Rattle.top_call.specs.Replays.{job_of, IsNoCert, IsRefusedCert, IsRefused, ComesOfReplaying}
 use Rattle.top_call.specs.Resumes.{ComesOfResuming}
-use Rattle.top_call.specs.Answers.{ComesOf, IsOfLine, ComesBy}
+use Rattle.top_call.specs.Answers.{origin_for, Refuses, ComesOfCommand, ComesOf, IsOfLine, ComesBy}
 use Rattle.top_call.proofs.Carrying.{carried}
 
 -- what comes of a command's line comes by the command, where it reads no certificate
@@ -78,50 +81,43 @@ by_kind Rounds job ws text o h = inl (tt, h)
 by_kind Replay job ws text o h = inr (inl (refl, h))
 by_kind Resume job ws text o h = inr (inr (refl, h))
 
--- a log text that is refused isn't words that are
-log_no_usage : (place : ℕ) (cause : LogRefusal) → Usage place ≡ log_outcome cause → ⊥
-log_no_usage place LongLog is = cc
-log_no_usage place (MalformedLog l) is = cc
-log_no_usage place (IllegalRecord k) is = cc
-log_no_usage place (UnlayeredRecord k) is = cc
-log_no_usage place LogMemory is = cc
+-- a log text that is refused is told
+log_input : (cause : LogRefusal) → cause ≢ LogMemory → IsOfInput (unlogged cause)
+log_input LongLog of = tt
+log_input (MalformedLog l) of = tt
+log_input (IllegalRecord k) of = tt
+log_input (UnlayeredRecord k) of = tt
+log_input LogMemory of = of refl
 
--- nor a run
-log_no_run : (cause : LogRefusal) → IsNoRun (log_outcome cause)
-log_no_run LongLog = tt
-log_no_run (MalformedLog l) = tt
-log_no_run (IllegalRecord k) = tt
-log_no_run (UnlayeredRecord k) = tt
-log_no_run LogMemory = tt
+-- so are bytes that are no certificate
+no_cert_input : (bytes : List ℕ) (r : Refusal) → IsNoCert bytes r → IsOfInput r
+no_cert_input bytes r (inl (long, is)) = of_same r _ is tt
+no_cert_input bytes r (inr (short, (l, code, bad, is))) = of_same r _ is tt
 
--- nor are bytes that are no certificate
-no_cert_no_run : (bytes : List ℕ) (o : Outcome) → IsNoCert bytes o → IsNoRun o
-no_cert_no_run bytes (Unread r) bad = tt
-no_cert_no_run bytes o bad = absurd bad
+-- what refuses a command's text, once it is read, is told
+command_input : (k : Command) (job : Job) (ws : List Watcher) (text : List ℕ) (r : Refusal)
+    → ComesOfCommand k job ws text (Refused r) → IsOfInput r
+command_input Formula job ws text r h = of_formula false (origin_for job) job.count h.formula r h.comes
+command_input Orient job ws text r h = of_orienting (origin_for job) job.count h.graph r h.comes
+command_input Tree job ws text r h = of_tree (origin_for job) job.count job.root h.graph r h.comes
+command_input Resample job ws text r h = of_formula true (origin_for job) job.count h.formula r h.comes
+command_input Check job ws text r h = of_clash h.formula r h.comes
+command_input Make job ws text r h = of_grid (origin_for job) job.count job.size r h
+command_input Rounds job ws text r h = of_formula true (origin_for job) None h.formula r h.comes
+command_input Replay job ws text r h = absurd h
+command_input Resume job ws text r h = absurd h
 
--- so bytes that are refused are no run
-pub refused_no_run : (Line : ByLine) (bytes : List ℕ) (o : Outcome) → IsRefused Line bytes o → IsNoRun o
-refused_no_run Line bytes o (inl bad) = no_cert_no_run bytes o bad
-refused_no_run Line bytes o (inr a) = elim a.comes [
-  | inl (none, h) ↦ none
-  | inr log ↦ subst IsNoRun (sym log.told) (log_no_run log.refusal)
-]
+-- and so is what refuses a job's text
+pub line_input : (job : Job) (ws : List Watcher) (text : List ℕ) (r : Refusal) → ComesOf job ws text (Refused r)
+    → IsOfInput r
+line_input job ws text r (inl unread) = of_unread (Refuses job.command text) r unread
+line_input job ws text r (inr h) = command_input job.command job ws text r h
 
--- nor words that are refused
-pub refused_no_usage : (bytes : List ℕ) (place : ℕ) → IsRefused ComesOf bytes (Usage place) → ⊥
-refused_no_usage bytes place (inl bad) = bad
-refused_no_usage bytes place (inr a) = elim a.comes [
-  | inl (none, h) ↦ h
-  | inr log ↦ log_no_usage place log.refusal log.told
-]
+-- a certificate is refused as its line refuses its input, or for its log
+cert_input : (cert : Certificate) (r : Refusal) → IsRefusedCert ComesOf cert r → IsOfInput r
+cert_input cert r (inl h) = line_input (job_of cert.head) [] cert.input r h
+cert_input cert r (inr log) = of_same r (unlogged log.cause) log.is (log_input log.cause log.of_text)
 
--- so what comes of a job finds no fault with the words
-pub no_bad_word : (k : Command) (job : Job) (ws : List Watcher) (text : List ℕ) (place : ℕ)
-    → ComesBy k job ws text (Usage place) → ⊥
-no_bad_word k job ws text place h = elim (by_kind k job ws text (Usage place) h) [
-  | inl (line, comes) ↦ comes
-  | inr (inl (is, inl refused)) ↦ refused_no_usage text place refused
-  | inr (inl (is, inr b)) ↦ let told = b.comes.is.told in absurd (cc)
-  | inr (inr (is, inl refused)) ↦ refused_no_usage text place refused
-  | inr (inr (is, inr b)) ↦ b.comes.goes_on
-]
+pub refused_input : (bytes : List ℕ) (r : Refusal) → IsRefused ComesOf bytes r → IsOfInput r
+refused_input bytes r (inl bad) = no_cert_input bytes r bad
+refused_input bytes r (inr a) = cert_input a.cert r a.comes

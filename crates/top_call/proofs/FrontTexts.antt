@@ -18,14 +18,15 @@ use Rattle.pop_words.specs.declared.command.Command.TheVariants.{Formula, Orient
 use Rattle.pop_words.specs.declared.job.Job.{Job}
 use Rattle.pop_words.specs.Options.{paused}
 use Rattle.pop_watch.specs.Telling.{Watcher}
-use Rattle.top_call.specs.declared.answer.Answer.{Answer}
-use Rattle.top_call.specs.declared.refusal.Refusal.{Refusal}
+use Rattle.job_subjects.specs.declared.answer.Answer.{Answer}
+use Rattle.job_subjects.specs.declared.refusal.Refusal.{Refusal}
 use Rattle.top_call.specs.Whole.{IsReadTo}
-use Rattle.top_call.specs.Outcomes.{Outcome, HasRun}
-use Rattle.top_call.specs.Results.{IsResultOf}
-use Rattle.top_call.specs.Answers.{origin_for, IsOfText, Refuses, ComesOfCommand, ComesOf}
+use Rattle.told_runs.specs.Outcomes.{Outcome, HasRun}
+use Rattle.told_runs.specs.Results.{IsResultOf}
+use Rattle.job_subjects.specs.Refused.{IsOfText}
+use Rattle.top_call.specs.Answers.{origin_for, Refuses, ComesOfCommand, ComesOf}
 use Rattle.top_call.proofs.Carrying.{carried}
-use Rattle.top_call.proofs.MadeExtremal.{made_short}
+use Rattle.job_subjects.proofs.MadeExtremal.{made_short}
 use Rattle.top_call.proofs.ReadCases.{read_cases}
 use Rattle.top_call.proofs.PauseWords.{is_paused, paused_is}
 
@@ -98,9 +99,14 @@ nothing_done command is job ws text o h long = false≢true is
 front_comes : (job : Job) (ws : List Watcher) (front rest : List ℕ) → is_paused job.command ≡ true
     → text_limit < length front → (o : Outcome) → ComesOf job ws front o → ComesOf job ws (front ++ rest) o
 front_comes job ws front rest is long o h = elim (read_cases job ws front o h) [
-  | inl (r, o_is, of, refused) ↦
+  | inl (r, o_is, unread) ↦
       subst (ComesOf job ws (front ++ rest)) (sym o_is)
-      (of, refuses_more job.command is front rest long r of refused)
+      (inl (record {
+        cause = unread.cause;
+        of_text = unread.of_text;
+        refused = refuses_more job.command is front rest long unread.cause unread.of_text unread.refused;
+        is = unread.is;
+      }))
   | inr (inl done) ↦ absurd (nothing_done job.command is job ws front o done long)
   | inr (inr p) ↦
       let short = made_short job.command (origin_for job) job.root front p.facts p.i p.made in

@@ -2,7 +2,7 @@
 use Rattle.std.proofs.Common.{inl, inr, ◌≡◌, ◌≢◌, ◌⊎◌, ◌≤◌, ℕ, List, Option, sym, subst, arith}
 use Rattle.std.specs.Io.KnownBytes.{Appends}
 use Rattle.pop_watch.specs.Telling.{Watcher}
-use Rattle.top_call.specs.Outcomes.{IsAnswerStatus, HasRun}
+use Rattle.told_runs.specs.Outcomes.{IsAnswerStatus, HasRun}
 use Rattle.top_call.specs.Answers.{IsAnswer}
 use Rattle.top_call.specs.TopCall.{Answered}
 

@@ -1,8 +1,8 @@
 -- From what comes of a formula or a graph to what comes of its text, and from there to what comes of the words.
-use Rattle.std.proofs.Common.{inl, inr, ◌≡◌, ◌⊎◌, ℕ, true, false, List, Option, Some, Result, Ok, refl, sym, ap, subst, ◌∙◌}
+use Rattle.std.proofs.Common.{inl, inr, ◌≡◌, ◌⊎◌, ℕ, true, false, List, Option, Some, Result, Ok, Err, sym, ap, subst, ◌∙◌}
 use Rattle.pop_model.specs.Stacks.{Origin}
+use Rattle.pop_model.specs.Instances.{Instance}
 use Rattle.pop_edge.specs.declared.refusal.ReadRefusal.{ReadRefusal}
-use Rattle.pop_edge.specs.declared.refusal.ReadRefusal.TheVariants.{Malformed as MalformedLine, Count as WrongCount, EmptyClause as NoLiteral, Limit as PassedLimit}
 use Rattle.dimacs_read.specs.Cnf.{Cnf}
 use Rattle.dimacs_read.specs.CnfText.{AnswersCnf}
 use Rattle.graph_read.specs.Graphs.{GraphOf}
@@ -13,56 +13,27 @@ use Rattle.pop_words.specs.declared.job.Job.{Job}
 use Rattle.pop_words.specs.CommandLines.{Asks}
 use Rattle.pop_words.proofs.OneJob.{same_job}
 use Rattle.pop_watch.specs.Telling.{Watcher}
-use Rattle.pop_model.specs.Instances.{Instance}
 use Rattle.pop_log.specs.Layers.{Placed}
 use Rattle.run_cert.specs.declared.look_kind.Look.{Look}
 use Rattle.pop_print.specs.declared.facts.Facts.{Facts}
-use Rattle.pop_print.specs.declared.facts.Facts.TheVariants.{Formula as FormulaFacts}
-use Rattle.top_call.specs.declared.answer.Answer.{Answer}
-use Rattle.top_call.specs.declared.asked.Asked.{Asked}
-use Rattle.top_call.specs.declared.stop.Stop.TheVariants.{ReadFault, OutOfMemory}
-use Rattle.top_call.specs.declared.refusal.Refusal.{Refusal}
-use Rattle.top_call.specs.declared.refusal.Refusal.TheVariants.{Malformed, Count, EmptyClause, Limit, Stopped}
-use Rattle.top_call.specs.Outcomes.{Outcome}
-use Rattle.top_call.specs.Outcomes.Outcome.{Usage, Unread, Isolated, NoRoot, CutOff, TooMany, Unsound, Clashes, Extremal, Ended, Resampled, Rounded, Batched, Paused, Replayed, NotLegal}
-use Rattle.top_call.specs.Results.{ComesRefused, IsResultOf, IsRefusalOf}
-use Rattle.top_call.specs.Sampling.{pair_weights, ComesOfSampling}
+use Rattle.job_subjects.specs.declared.answer.Answer.{Answer}
+use Rattle.job_subjects.specs.declared.stop.Stop.TheVariants.{ReadFault, OutOfMemory}
+use Rattle.job_subjects.specs.declared.refusal.Refusal.{Refusal}
+use Rattle.job_subjects.specs.declared.refusal.Refusal.TheVariants.{Stopped}
+use Rattle.job_subjects.specs.Refused.{IsRefusalOf}
+use Rattle.told_runs.specs.declared.asked.Asked.{Asked}
+use Rattle.told_runs.specs.Asking.{has_free_order, asked_by}
+use Rattle.told_runs.specs.Outcomes.{Outcome}
+use Rattle.told_runs.specs.Outcomes.Outcome.{Refused, Extremal, Ended, Resampled, Rounded, Batched, Paused, Replayed}
+use Rattle.told_runs.specs.Results.{ComesRefused, IsResultOf}
 use Rattle.top_call.specs.Formulas.{ComesOfFormula, ComesOfChecking}
-use Rattle.top_call.specs.Resamplings.{RunsFormula, ComesOfResampling}
 use Rattle.top_call.specs.Rounds.{ComesOfRounds}
 use Rattle.top_call.specs.Orientations.{ComesOfOrienting}
-use Rattle.top_call.specs.Trees.{ComesOfTree}
-use Rattle.top_call.specs.Answers.{ComesOfCnf, ComesOfGraph, origin_for, has_free_order, asked_by, ComesOfCommand, Refuses, ComesOf, ComesBy, IsOutcome, AskForGrid, IsInput}
+use Rattle.top_call.specs.Trees.{ComesOfTree, ComesOfGrid}
+use Rattle.top_call.specs.Answers.{ComesOfCnf, ComesOfGraph, origin_for, ComesOfCommand, Refuses, ComesOf, ComesBy, IsOutcome, AskForGrid, IsInput}
 use Rattle.top_call.proofs.Carrying.{carried}
-use Rattle.top_call.proofs.ByCommand.{no_bad_word}
 
--- no command finds fault with the words
-no_usage : (command : Command) (job : Job) (ws : List Watcher) (text : List ℕ) (place : ℕ)
-    → ComesOfCommand command job ws text (Usage place) → ⊥
-no_usage Formula job ws text place h = h.comes.1.end
-no_usage Orient job ws text place h = h.comes.1.1.end
-no_usage Tree job ws text place h = h.comes.2.1
-no_usage Resample job ws text place h = h.comes.1.history
-no_usage Check job ws text place h = h.comes
-no_usage Make job ws text place h = h.1
-no_usage Rounds job ws text place h = h.comes.1.end
-no_usage Replay job ws text place h = h
-no_usage Resume job ws text place h = h
-
--- nor, once the text is read, with the text
-no_refusal : (command : Command) (job : Job) (ws : List Watcher) (text : List ℕ) (refusal : ReadRefusal)
-    → ComesOfCommand command job ws text (Unread refusal) → ⊥
-no_refusal Formula job ws text refusal h = h.comes.1.end
-no_refusal Orient job ws text refusal h = h.comes.1.1.end
-no_refusal Tree job ws text refusal h = h.comes.2.1
-no_refusal Resample job ws text refusal h = h.comes.1.history
-no_refusal Check job ws text refusal h = h.comes
-no_refusal Make job ws text refusal h = h.1
-no_refusal Rounds job ws text refusal h = h.comes.1.end
-no_refusal Replay job ws text refusal h = h
-no_refusal Resume job ws text refusal h = h
-
--- nor does it stop a run
+-- no command's line stops a run
 no_pause : (command : Command) (job : Job) (ws : List Watcher) (text : List ℕ) (told : Job) (input : List ℕ)
     (facts : Facts) (i : Instance) (placed : List Placed)
     → ComesOfCommand command job ws text (Paused told input facts i placed) → ⊥
@@ -92,16 +63,7 @@ no_replay Resume job ws text i c n k h = h
 -- what a job's command makes of a text comes of the job and the text
 pub of_command : (job : Job) (ws : List Watcher) (text : List ℕ) (o : Outcome)
     → ComesOfCommand job.command job ws text o → ComesOf job ws text o
-of_command job ws text (Usage p) h =
-    absurd (no_usage job.command job ws text p h)
-of_command job ws text (Unread r) h =
-    absurd (no_refusal job.command job ws text r h)
-of_command job ws text (Isolated w) h = h
-of_command job ws text (NoRoot r) h = h
-of_command job ws text (CutOff w) h = h
-of_command job ws text (TooMany n) h = h
-of_command job ws text (Unsound t f) h = h
-of_command job ws text (Clashes i j) h = h
+of_command job ws text (Refused r) h = inr h
 of_command job ws text (Extremal n) h = h
 of_command job ws text (Ended t i c n s a) h = h
 of_command job ws text (Resampled t i l s a) h = h
@@ -109,19 +71,11 @@ of_command job ws text (Rounded t i c n s v) h = h
 of_command job ws text (Batched t i es) h = h
 of_command job ws text (Paused j w t i l) h = absurd (no_pause job.command job ws text j w t i l h)
 of_command job ws text (Replayed i c n k) h = h
-of_command job ws text (NotLegal p) h = h
 
 -- what comes of a job comes of the words that ask for it
 pub of_words : (words : List (List ℕ)) (job : Job) (ws : List Watcher) (text : List ℕ) → Asks words job → (o : Outcome)
     → ComesBy job.command job ws text o → IsOutcome words ws text o
-of_words words job ws text asks (Usage p) comes = absurd (no_bad_word job.command job ws text p comes)
-of_words words job ws text asks (Unread refusal) comes = record { job = job; asks = asks; comes = comes }
-of_words words job ws text asks (Isolated w) comes = record { job = job; asks = asks; comes = comes }
-of_words words job ws text asks (NoRoot r) comes = record { job = job; asks = asks; comes = comes }
-of_words words job ws text asks (CutOff w) comes = record { job = job; asks = asks; comes = comes }
-of_words words job ws text asks (TooMany n) comes = record { job = job; asks = asks; comes = comes }
-of_words words job ws text asks (Unsound t f) comes = record { job = job; asks = asks; comes = comes }
-of_words words job ws text asks (Clashes i j) comes = record { job = job; asks = asks; comes = comes }
+of_words words job ws text asks (Refused r) comes = inr (record { job = job; asks = asks; comes = comes })
 of_words words job ws text asks (Extremal n) comes = record { job = job; asks = asks; comes = comes }
 of_words words job ws text asks (Ended t i c n s a) comes = record { job = job; asks = asks; comes = comes }
 of_words words job ws text asks (Resampled t i l s a) comes = record { job = job; asks = asks; comes = comes }
@@ -129,7 +83,6 @@ of_words words job ws text asks (Rounded t i c n s v) comes = record { job = job
 of_words words job ws text asks (Batched t i es) comes = record { job = job; asks = asks; comes = comes }
 of_words words job ws text asks (Paused j w t i l) comes = record { job = job; asks = asks; comes = comes }
 of_words words job ws text asks (Replayed i c n k) comes = record { job = job; asks = asks; comes = comes }
-of_words words job ws text asks (NotLegal p) comes = record { job = job; asks = asks; comes = comes }
 
 -- what a command makes of a text is what the job's command makes
 pub by_command : (job : Job) (ws : List Watcher) (text : List ℕ) (command : Command) → job.command ≡ command → (o : Outcome)
@@ -159,23 +112,21 @@ of_graph job ws text command g Comes r is lifts spelled =
 pub lifted_formula : (job : Job) (ws : List Watcher) (text : List ℕ) (f : Cnf) (origin : Origin) (asked : Asked)
     (r : Result Answer Refusal) → job.command ≡ Formula → origin ≡ origin_for job → asked ≡ asked_by job
     → AnswersCnf text (Ok f)
-    → IsResultOf (ComesOfSampling (FormulaFacts f.variables) origin (pair_weights f.variables) asked.count
-    (RunsFormula false origin asked ws f)) r → IsResultOf (ComesOf job ws text) r
+    → IsResultOf (ComesOfFormula false origin asked ws f) r → IsResultOf (ComesOf job ws text) r
 lifted_formula job ws text f origin asked r is from asked_is spelled comes =
-    of_cnf job ws text Formula f (ComesOfFormula (origin_for job) (asked_by job) ws) r is (λ o h. h) spelled
-    (subst (λ s. IsResultOf (ComesOfFormula s (asked_by job) ws f) r) from
-    (subst (λ a. IsResultOf (ComesOfFormula origin a ws f) r) asked_is comes))
+    of_cnf job ws text Formula f (ComesOfFormula false (origin_for job) (asked_by job) ws) r is (λ o h. h) spelled
+    (subst (λ s. IsResultOf (ComesOfFormula false s (asked_by job) ws f) r) from
+    (subst (λ a. IsResultOf (ComesOfFormula false origin a ws f) r) asked_is comes))
 
 -- of a formula that is resampled
 pub lifted_resample : (job : Job) (ws : List Watcher) (text : List ℕ) (f : Cnf) (origin : Origin) (asked : Asked)
     (r : Result Answer Refusal) → job.command ≡ Resample → origin ≡ origin_for job → asked ≡ asked_by job
     → AnswersCnf text (Ok f)
-    → IsResultOf (ComesOfSampling (FormulaFacts f.variables) origin (pair_weights f.variables) asked.count
-    (RunsFormula true origin asked ws f)) r → IsResultOf (ComesOf job ws text) r
+    → IsResultOf (ComesOfFormula true origin asked ws f) r → IsResultOf (ComesOf job ws text) r
 lifted_resample job ws text f origin asked r is from asked_is spelled comes =
-    of_cnf job ws text Resample f (ComesOfResampling (origin_for job) (asked_by job) ws) r is (λ o h. h) spelled
-    (subst (λ s. IsResultOf (ComesOfResampling s (asked_by job) ws f) r) from
-    (subst (λ a. IsResultOf (ComesOfResampling origin a ws f) r) asked_is comes))
+    of_cnf job ws text Resample f (ComesOfFormula true (origin_for job) (asked_by job) ws) r is (λ o h. h) spelled
+    (subst (λ s. IsResultOf (ComesOfFormula true s (asked_by job) ws f) r) from
+    (subst (λ a. IsResultOf (ComesOfFormula true origin a ws f) r) asked_is comes))
 
 -- of one that is sampled by rounds
 pub lifted_rounds : (job : Job) (ws : List Watcher) (text : List ℕ) (f : Cnf) (origin : Origin)
@@ -211,22 +162,61 @@ lifted_tree job ws text g origin asked r is from asked_is spelled comes =
     (subst (λ s. IsResultOf (ComesOfTree s (asked_by job) ws job.root g) r) from
     (subst (λ a. IsResultOf (ComesOfTree origin a ws job.root g) r) asked_is comes))
 
+-- and of a grid, whatever the text
+pub lifted_grid : (job : Job) (ws : List Watcher) (text : List ℕ) (origin : Origin) (asked : Asked)
+    (r : Result Answer Refusal) → job.command ≡ Make → origin ≡ origin_for job → asked ≡ asked_by job
+    → IsResultOf (ComesOfGrid origin asked ws job.size) r → IsResultOf (ComesOf job ws text) r
+lifted_grid job ws text origin asked r is from asked_is comes =
+    carried (ComesOfGrid (origin_for job) (asked_by job) ws job.size) (ComesOf job ws text) r
+    (by_command job ws text Make is)
+    (subst (λ s. IsResultOf (ComesOfGrid s (asked_by job) ws job.size) r) from
+    (subst (λ a. IsResultOf (ComesOfGrid origin a ws job.size) r) asked_is comes))
+
 -- a refusal of a text, which the grammar of a job's command refuses so, comes of the job and the text
-pub read_refused : (job : Job) (ws : List Watcher) (text : List ℕ) (Refused : ReadRefusal → Type 0) (r : Refusal)
-    → ((cause : ReadRefusal) → Refused cause → Refuses job.command text cause) → IsRefusalOf Refused r
+pub read_refused : (job : Job) (ws : List Watcher) (text : List ℕ) (Causes : ReadRefusal → Type 0) (r : Refusal)
+    → ((cause : ReadRefusal) → Causes cause → Refuses job.command text cause) → IsRefusalOf Causes r
     → (r ≡ Stopped ReadFault → ⊥) → ComesRefused (ComesOf job ws text) r
-read_refused job ws text Refused (Malformed l c) refuses h read = (tt, refuses (MalformedLine l c) h)
-read_refused job ws text Refused (Count d f) refuses h read = (tt, refuses (WrongCount d f) h)
-read_refused job ws text Refused (EmptyClause n) refuses h read = (tt, refuses (NoLiteral n) h)
-read_refused job ws text Refused (Limit k l) refuses h read = (tt, refuses (PassedLimit k l) h)
-read_refused job ws text Refused (Stopped ReadFault) refuses h read = absurd (read refl)
-read_refused job ws text Refused (Stopped OutOfMemory) refuses h read = refl
-read_refused job ws text Refused r refuses h read = absurd h
+read_refused job ws text Causes r refuses (inl (ReadFault, is)) read = absurd (read is)
+read_refused job ws text Causes r refuses (inl (OutOfMemory, is)) read = inl is
+read_refused job ws text Causes r refuses (inr unread) read =
+    inr (inl (record {
+      cause = unread.cause;
+      of_text = unread.of_text;
+      refused = refuses unread.cause unread.refused;
+      is = unread.is;
+    }))
 
 -- a refusal by the grammar of a command is one by that of a job whose command it is
 pub refuses_as : (job : Job) (command : Command) (text : List ℕ) → job.command ≡ command → (cause : ReadRefusal)
     → Refuses command text cause → Refuses job.command text cause
 refuses_as job command text is cause h = subst (λ k. Refuses k text cause) (sym is) h
+
+-- of one that reads a formula, of one that reads a graph
+pub cnf_refuses : (job : Job) (text : List ℕ)
+    → (job.command ≡ Formula) ⊎ ((job.command ≡ Resample) ⊎ ((job.command ≡ Check) ⊎ (job.command ≡ Rounds)))
+    → (cause : ReadRefusal) → AnswersCnf text (Err cause) → Refuses job.command text cause
+cnf_refuses job text (inl is) cause h = refuses_as job Formula text is cause h
+cnf_refuses job text (inr (inl is)) cause h = refuses_as job Resample text is cause h
+cnf_refuses job text (inr (inr (inl is))) cause h = refuses_as job Check text is cause h
+cnf_refuses job text (inr (inr (inr is))) cause h = refuses_as job Rounds text is cause h
+
+pub graph_refuses : (job : Job) (text : List ℕ) → (job.command ≡ Orient) ⊎ (job.command ≡ Tree) → (cause : ReadRefusal)
+    → AnswersGraph text (Err cause) → Refuses job.command text cause
+graph_refuses job text (inl is) cause h = refuses_as job Orient text is cause h
+graph_refuses job text (inr is) cause h = refuses_as job Tree text is cause h
+
+-- neither makes a grid
+pub cnf_no_grid : (job : Job)
+    → (job.command ≡ Formula) ⊎ ((job.command ≡ Resample) ⊎ ((job.command ≡ Check) ⊎ (job.command ≡ Rounds)))
+    → job.command ≡ Make → ⊥
+cnf_no_grid job (inl is) make = absurd (cc)
+cnf_no_grid job (inr (inl is)) make = absurd (cc)
+cnf_no_grid job (inr (inr (inl is))) make = absurd (cc)
+cnf_no_grid job (inr (inr (inr is))) make = absurd (cc)
+
+pub graph_no_grid : (job : Job) → (job.command ≡ Orient) ⊎ (job.command ≡ Tree) → job.command ≡ Make → ⊥
+graph_no_grid job (inl is) make = absurd (cc)
+graph_no_grid job (inr is) make = absurd (cc)
 
 -- whether the order of pops is free goes by the command
 pub free_by : (job : Job) (asked : Asked) (command : Command) → asked ≡ asked_by job → job.command ≡ command

@@ -21,26 +21,22 @@ use Rattle.pop_words.specs.declared.command.Command.TheVariants.{Formula, Orient
 use Rattle.pop_words.specs.declared.job.Job.{Job}
 use Rattle.pop_watch.specs.Telling.{Watcher}
 use Rattle.pop_print.specs.declared.facts.Facts.{Facts}
-use Rattle.top_call.specs.declared.asked.Asked.{Asked}
-use Rattle.top_call.specs.Outcomes.{Outcome, AnswersBy}
-use Rattle.top_call.specs.Outcomes.Outcome.{Paused}
-use Rattle.top_call.specs.Tellings.{records_of}
-use Rattle.top_call.specs.Sampling.{IsEndOf}
-use Rattle.top_call.specs.Resamplings.{IsHistoryOf}
-use Rattle.top_call.specs.Made.{IsMadeFormula, IsMadeOrientation, IsMadeTree, IsMade}
+use Rattle.told_runs.specs.declared.asked.Asked.{Asked}
+use Rattle.told_runs.specs.Outcomes.{Outcome, AnswersBy}
+use Rattle.told_runs.specs.Outcomes.Outcome.{Paused}
+use Rattle.told_runs.specs.Tellings.{records_of}
+use Rattle.told_runs.specs.Ends.{IsEndOf, IsHistoryOf}
+use Rattle.job_subjects.specs.Made.{IsMadeFormula, IsMadeOrientation, IsMadeTree, IsMade}
 use Rattle.top_call.specs.Pauses.{IsPause, IsPausedAt}
-use Rattle.top_call.specs.Answers.{origin_for, has_free_order, asked_by, ComesOf, IsJobOf}
-use Rattle.top_call.specs.declared.answer.Answer.{Answer}
-use Rattle.top_call.specs.declared.refusal.Refusal.{Refusal}
-use Rattle.top_call.specs.Results.{ComesRefused, IsResultOf}
-use Rattle.std.specs.Result.{IsErrAnd}
-use Rattle.pop_model.specs.Stacks.{Origin}
-use Rattle.top_call.proofs.Carrying.{answered, refused_result}
+use Rattle.told_runs.specs.Asking.{has_free_order, asked_by}
+use Rattle.top_call.specs.Answers.{origin_for, ComesOf}
+use Rattle.job_subjects.specs.declared.answer.Answer.{Answer}
+use Rattle.top_call.proofs.Carrying.{answered}
 use Rattle.top_call.proofs.Lifting.{by_command, free_by}
 use Rattle.top_call.proofs.FormulaRuns.{formula_ends, formula_histories}
 use Rattle.top_call.proofs.GoodForms.{orientation_ends, tree_ends}
-use Rattle.top_call.proofs.ToldRuns.{placed_size}
-use Rattle.top_call.proofs.MadeExtremal.{made_extremal}
+use Rattle.told_runs.proofs.ToldRuns.{placed_size}
+use Rattle.job_subjects.proofs.MadeExtremal.{made_extremal}
 
 -- the end of the run of what is made comes of the job, where the order of pops isn't free
 pub end_comes : (command : Command) (job : Job) (ws : List Watcher) (text : List ℕ) (facts : Facts) (i : Instance)
@@ -222,13 +218,3 @@ ended_result job ws text facts i made_i asked (Ok a) is made asks once ended his
     ended_comes job.command job ws text facts i asked a.status a.text.items refl asks once
     (subst (IsMade job.command (origin_for job) job.root text facts) (sym is) made) ended history
 ended_result job ws text facts i made_i asked (Err e) is made asks once ended history = tt
-
--- a refusal of what is to be made is the result
-pub made_error : (job : Job) (ws : List Watcher) (text : List ℕ) (origin : Origin) (r : Result Answer Refusal)
-    (e : Refusal) → IsErrAnd r (λ x. x ≡ e)
-    → ((other : Job) (others : List Watcher) → IsJobOf other job.command origin job.root
-    → ComesRefused (ComesOf other others text) e) → origin ≡ origin_for job → job.count ≡ None
-    → IsResultOf (ComesOf job ws text) r
-made_error job ws text origin r e is h from once =
-    refused_result (ComesOf job ws text) r e is
-    (h job ws (record { command_is = refl; origin_is = sym from; root_is = refl; once = once }))

@@ -2,15 +2,16 @@
 -- or its run pauses.
 use Rattle.std.proofs.Common.{inl, inr, ◌≡◌, ◌⊎◌, ℕ, List, None, Some, refl, ap₂}
 use Rattle.pop_model.specs.Instances.{Instance}
-use Rattle.pop_edge.specs.declared.refusal.ReadRefusal.{ReadRefusal}
+use Rattle.job_subjects.specs.declared.refusal.Refusal.{Refusal}
+use Rattle.job_subjects.specs.Refused.{IsUnread}
 use Rattle.pop_words.specs.declared.job.Job.{Job}
 use Rattle.pop_log.specs.Layers.{Placed}
 use Rattle.pop_watch.specs.Telling.{Watcher}
 use Rattle.pop_print.specs.declared.facts.Facts.{Facts}
-use Rattle.top_call.specs.Outcomes.{Outcome}
-use Rattle.top_call.specs.Outcomes.Outcome.{Usage, Unread, Isolated, NoRoot, CutOff, TooMany, Unsound, Clashes, Extremal, Ended, Resampled, Rounded, Batched, Paused, Replayed, NotLegal}
-use Rattle.top_call.specs.Answers.{origin_for, ComesOfCommand, IsOfText, Refuses, ComesOf}
-use Rattle.top_call.specs.Made.{IsMade}
+use Rattle.told_runs.specs.Outcomes.{Outcome}
+use Rattle.told_runs.specs.Outcomes.Outcome.{Refused, Extremal, Ended, Resampled, Rounded, Batched, Paused, Replayed}
+use Rattle.top_call.specs.Answers.{origin_for, ComesOfCommand, Refuses, ComesOf}
+use Rattle.job_subjects.specs.Made.{IsMade}
 use Rattle.top_call.specs.Pauses.{IsPause}
 
 -- what comes of a job's command and a text
@@ -31,10 +32,10 @@ pub record TellsPaused (job : Job) (text : List ℕ) (o : Outcome) : Type 0 wher
 
 -- what comes of a job and a text is a refusal of the text, or comes of what it spells, or is a pause
 pub read_cases : (job : Job) (ws : List Watcher) (text : List ℕ) (o : Outcome) → ComesOf job ws text o
-    → ((r : ReadRefusal) × (o ≡ Unread r) × IsOfText r × Refuses job.command text r)
+    → ((r : Refusal) × (o ≡ Refused r) × IsUnread (Refuses job.command text) r)
     ⊎ (Done job ws text o ⊎ TellsPaused job text o)
-read_cases job ws text (Usage place) h = absurd h
-read_cases job ws text (Unread r) h = inl (r, refl, h.0, h.1)
+read_cases job ws text (Refused r) (inl unread) = inl (r, refl, unread)
+read_cases job ws text (Refused r) (inr h) = inr (inl h)
 read_cases job ws text (Paused told input facts i placed) (told_is, input_is, made, (pops, stop, pause), once) =
     inr (inr (record {
       facts = facts;
@@ -47,16 +48,9 @@ read_cases job ws text (Paused told input facts i placed) (told_is, input_is, ma
       pause = pause;
       once = once;
     }))
-read_cases job ws text (Isolated w) h = inr (inl h)
-read_cases job ws text (NoRoot r) h = inr (inl h)
-read_cases job ws text (CutOff w) h = inr (inl h)
-read_cases job ws text (TooMany n) h = inr (inl h)
-read_cases job ws text (Unsound t f) h = inr (inl h)
-read_cases job ws text (Clashes i j) h = inr (inl h)
 read_cases job ws text (Extremal n) h = inr (inl h)
 read_cases job ws text (Ended t i c n s a) h = inr (inl h)
 read_cases job ws text (Resampled t i l s a) h = inr (inl h)
 read_cases job ws text (Rounded t i c n s v) h = inr (inl h)
 read_cases job ws text (Batched t i es) h = inr (inl h)
 read_cases job ws text (Replayed i c n k) h = inr (inl h)
-read_cases job ws text (NotLegal p) h = inr (inl h)

@@ -3,7 +3,9 @@ use Rattle.std.proofs.Common.{inl, inr, ◌≡◌, ◌<◌, ℕ, List, [], lengt
 use Rattle.std.specs.Result.{IsErrAnd, IsErrOf}
 use Rattle.std.proofs.lemmas.Result.{IfErr-weaker}
 use Rattle.pop_model.specs.Instances.{Instance}
-use Rattle.pop_edge.specs.declared.refusal.ReadRefusal.TheVariants.{Malformed as MalformedLine, Limit as PassedLimit}
+use Rattle.pop_stacks.specs.Tables.{origin_of}
+use Rattle.pop_log.specs.declared.log_refusal.LogRefusal.{LogRefusal}
+use Rattle.pop_log.specs.declared.log_refusal.LogRefusal.TheVariants.{OutOfMemory}
 use Rattle.pop_print.specs.declared.facts.Facts.{Facts}
 use Rattle.pop_log.specs.LogVersions.{IsReadAs}
 use Rattle.pop_log.specs.Refusals.{IsLogRefusal}
@@ -13,74 +15,72 @@ use Rattle.run_cert.specs.Looks.{IsLook}
 use Rattle.run_cert.specs.Certificates.{Certificate}
 use Rattle.pop_watch.specs.Telling.{Watcher}
 use Rattle.top_call.specs.declared.accepted.Accepted.{Accepted}
-use Rattle.top_call.specs.declared.refusal.Refusal.{Refusal}
-use Rattle.top_call.specs.declared.refusal.Refusal.TheVariants.{Stopped}
-use Rattle.top_call.specs.declared.stop.Stop.TheVariants.{ReadFault}
-use Rattle.top_call.specs.Names.{names_for}
-use Rattle.top_call.specs.ReplayTexts.{look_status, replay_text}
-use Rattle.top_call.specs.Outcomes.{Outcome, AnswersBy}
-use Rattle.top_call.specs.Outcomes.Outcome.{Unread, Replayed}
-use Rattle.top_call.specs.declared.answer.Answer.{Answer}
-use Rattle.top_call.specs.Results.{ComesRefused, IsResultOf, IsLogRefusalOf}
-use Rattle.top_call.specs.Replays.{cert_limit, job_of, ByLine, IsNoCert, IsNoRun, IsCertified, IsRefusedCert, IsRefused, HasLog, ComesOfReplaying}
-use Rattle.top_call.specs.Resumes.{ComesOfResuming}
+use Rattle.job_subjects.specs.declared.refusal.Refusal.{Refusal}
+use Rattle.job_subjects.specs.declared.refusal.Refusal.TheVariants.{Stopped}
+use Rattle.job_subjects.specs.declared.stop.Stop.TheVariants.{ReadFault}
+use Rattle.told_runs.specs.Names.{names_for}
+use Rattle.told_runs.specs.ReplayTexts.{look_status, replay_text}
+use Rattle.told_runs.specs.Outcomes.{Outcome, AnswersBy}
+use Rattle.told_runs.specs.Outcomes.Outcome.{Replayed}
+use Rattle.job_subjects.specs.declared.answer.Answer.{Answer}
+use Rattle.job_subjects.specs.Refusals.{IsRefusal, IsPastWords, unlogged}
+use Rattle.job_subjects.specs.Refused.{RefusesText}
+use Rattle.top_call.specs.Replays.{cert_limit, job_of, ByLine, IsNoCert, IsCertified, IsRefusedCert, IsRefused, HasLog, ComesOfReplaying}
 use Rattle.top_call.specs.Accepted.{IsHeldBy, IsAccepted, TellsReplay}
 use Rattle.top_call.specs.Answers.{ComesOf}
-use Rattle.top_call.proofs.Carrying.{refused, passed_on, refused_result}
-use Rattle.top_call.proofs.CertRefusals.{no_run, log_refused}
+use Rattle.job_subjects.proofs.Carrying.{refused_by, passed_on}
+use Rattle.job_subjects.proofs.TextRefusals.{IsOfInput}
+use Rattle.top_call.proofs.ByCommand.{refused_input}
+use Rattle.top_call.proofs.MadeRefusals.{made_refused}
+use Rattle.top_call.proofs.Statuses.{past_words}
 use Rattle.top_call.proofs.ReadToEnd.{read_to}
 use Rattle.top_call.specs.Whole.{IsReadTo}
 
--- a refusal that is passed on refuses so
-pub refused_as : {T : Type 0} (Comes : Outcome → Type 0) (r : Result T Refusal) (e : Refusal)
-    → IsErrAnd r (λ x. x ≡ e) → ComesRefused Comes e → IfErr r (ComesRefused Comes)
-refused_as Comes r e is comes = subst (λ q. IfErr q (ComesRefused Comes)) (sym (passed_on r e is)) comes
-
 -- what refuses the line of the certificate's command refuses the certificate
-pub line_refused : (Line : ByLine) (cert : Certificate) (r : Refusal)
-    → ComesRefused (Line (job_of cert.head) [] cert.input) r → ComesRefused (IsRefusedCert Line cert) r
-line_refused Line cert r h =
-    refused (λ o. IsNoRun o × Line (job_of cert.head) [] cert.input o) (IsRefusedCert Line cert) r (λ o bad. inl bad)
-    (no_run (Line (job_of cert.head) [] cert.input) r h)
+pub line_refused : (cert : Certificate) (r : Refusal)
+    → IsRefusal (RefusesText cert.head.command (origin_of cert.head.stacks cert.head.height) cert.head.root cert.input) r
+    → IsRefusal (IsRefusedCert ComesOf cert) r
+line_refused cert r h =
+    refused_by (RefusesText cert.head.command (origin_of cert.head.stacks cert.head.height) cert.head.root cert.input)
+    (IsRefusedCert ComesOf cert) r
+    (λ q bad. inl (made_refused cert.head.command (job_of cert.head) [] cert.input q refl refl bad)) h
 
 -- so does what refuses its log text
-pub text_refused : (Line : ByLine) (cert : Certificate) (facts : Facts) (i : Instance) (r : Refusal)
-    → IsCertified cert facts i → IsLogRefusalOf (IsLogRefusal (names_for facts) i cert.log_text) r
-    → ComesRefused (IsRefusedCert Line cert) r
-text_refused Line cert facts i r certified (cause, is, same) =
-    subst (ComesRefused (IsRefusedCert Line cert)) (sym same)
-    (log_refused (IsRefusedCert Line cert) cause (λ some. inr (record {
+pub text_refused : (cert : Certificate) (facts : Facts) (i : Instance) (r : Refusal) → IsCertified cert facts i
+    → ((cause : LogRefusal) × IsLogRefusal (names_for facts) i cert.log_text cause × (r ≡ unlogged cause))
+    → IsRefusal (IsRefusedCert ComesOf cert) r
+text_refused cert facts i r certified (OutOfMemory, refused, is) = inl is
+text_refused cert facts i r certified (cause, refused, is) =
+    inr (inr (record {
       facts = facts;
       instance = i;
       certified = certified;
-      refusal = cause;
-      of_text = some;
+      cause = cause;
+      of_text = λ memory. absurd (cc);
+      refused = refused;
       is = is;
-      told = refl;
-    })))
+    }))
 
 -- bytes past the limit are no certificate, as the longer text that they are a front of
-longer_no_cert : (bytes text : List ℕ) → cert_limit < length bytes → cert_limit < length text → (o : Outcome)
-    → IsNoCert bytes o → IsNoCert text o
-longer_no_cert bytes text long longer (Unread (PassedLimit k l)) bad = (bad.0, bad.1, longer)
-longer_no_cert bytes text long longer (Unread (MalformedLine l c)) bad =
-    let short = bad.0 in absurd (omega (arith, long, short))
-longer_no_cert bytes text long longer o bad = absurd bad
+longer_no_cert : (bytes text : List ℕ) → cert_limit < length bytes → cert_limit < length text → (r : Refusal)
+    → IsNoCert bytes r → IsNoCert text r
+longer_no_cert bytes text long longer r (inl (past, is)) = inl (longer, is)
+longer_no_cert bytes text long longer r (inr (short, bad)) = absurd (omega (arith, long, short))
 
 -- so they are refused as it
 longer_refused : (Line : ByLine) (bytes text : List ℕ) → cert_limit < length bytes → cert_limit < length text
-    → (o : Outcome) → IsRefused Line bytes o → IsRefused Line text o
-longer_refused Line bytes text long longer o (inl bad) = inl (longer_no_cert bytes text long longer o bad)
-longer_refused Line bytes text long longer o (inr comes) = let short = comes.short in absurd (omega (arith, long, short))
+    → (r : Refusal) → IsRefused Line bytes r → IsRefused Line text r
+longer_refused Line bytes text long longer r (inl bad) = inl (longer_no_cert bytes text long longer r bad)
+longer_refused Line bytes text long longer r (inr comes) = let short = comes.short in absurd (omega (arith, long, short))
 
 -- what was read of a text is refused as the text
 pub read_refused : (Line : ByLine) (text : List ℕ) (left' : Option (List ℕ)) (bytes : List ℕ) (r : Refusal)
-    → IsReadTo cert_limit (Some text) left' bytes → ComesRefused (IsRefused Line bytes) r
-    → ComesRefused (IsRefused Line text) r
+    → IsReadTo cert_limit (Some text) left' bytes → IsRefusal (IsRefused Line bytes) r
+    → IsRefusal (IsRefused Line text) r
 read_refused Line text left' bytes r read h = elim (read_to cert_limit text left' bytes read) [
-  | inl (short, same) ↦ subst (λ t. ComesRefused (IsRefused Line t) r) (sym same) h
+  | inl (short, same) ↦ subst (λ t. IsRefusal (IsRefused Line t) r) (sym same) h
   | inr (long, longer) ↦
-      refused (IsRefused Line bytes) (IsRefused Line text) r (longer_refused Line bytes text long longer) h
+      refused_by (IsRefused Line bytes) (IsRefused Line text) r (longer_refused Line bytes text long longer) h
 ]
 
 -- and accepted as it
@@ -117,7 +117,7 @@ replay_told Line bytes a status out h told =
     let leads = h.held.run.leads in
     let size : a.reached.pops ≡ length leads.log = omega (arith, leads.pops_are) in (
       Replayed a.instance a.reached.cursors (length leads.log) told.look,
-      inr (record {
+      record {
         short = h.short;
         cert = h.cert;
         is = h.is;
@@ -131,7 +131,7 @@ replay_told Line bytes a status out h told =
             told = refl;
           };
         };
-      }),
+      },
       record {
         status_is = told.status_is;
         out_is = told.text_is ∙ ap (λ n. replay_text n a.reached.cursors told.look) size;
@@ -141,26 +141,24 @@ replay_told Line bytes a status out h told =
 -- what refuses the bytes that were read refuses the text of the source
 pub read_result : {T : Type 0} (left left' : Option (List ℕ)) (text bytes input : List ℕ) (r : Result T Refusal)
     → left ≡ Some text → IsReadTo cert_limit left left' bytes → input ≡ bytes
-    → IfErr r (ComesRefused (IsRefused ComesOf input)) → IfErr r (ComesRefused (IsRefused ComesOf text))
+    → IfErr r (IsRefusal (IsRefused ComesOf input)) → IfErr r (IsRefusal (IsRefused ComesOf text))
 read_result left left' text bytes input r known read same =
     IfErr-weaker r _ _ (λ e h. read_refused ComesOf text left' bytes e
     (subst (λ l. IsReadTo cert_limit l left' bytes) known read)
-    (subst (λ b. ComesRefused (IsRefused ComesOf b) e) same h))
+    (subst (λ b. IsRefusal (IsRefused ComesOf b) e) same h))
 
--- a refusal of the text is one of what is replayed
-pub replay_refused : (text : List ℕ) (r : Result Answer Refusal) (e : Refusal) → IsErrAnd r (λ x. x ≡ e)
-    → ComesRefused (IsRefused ComesOf text) e → IsResultOf (ComesOfReplaying ComesOf text) r
-replay_refused text r e is h =
-    refused_result (ComesOfReplaying ComesOf text) r e is
-    (refused (IsRefused ComesOf text) (ComesOfReplaying ComesOf text) e (λ o comes. inl comes) h)
+-- it is no refusal of words
+pub bytes_past_words : (bytes : List ℕ) (r : Refusal) → IsRefusal (IsRefused ComesOf bytes) r → IsPastWords r
+bytes_past_words bytes r (inl memory) = subst IsPastWords (sym memory) tt
+bytes_past_words bytes r (inr h) = past_words r (refused_input bytes r h)
 
--- or of what is resumed
-pub resume_refused : (ws : List Watcher) (text : List ℕ) (r : Result Answer Refusal) (e : Refusal)
-    → IsErrAnd r (λ x. x ≡ e) → ComesRefused (IsRefused ComesOf text) e
-    → IsResultOf (ComesOfResuming ComesOf ws text) r
-resume_refused ws text r e is h =
-    refused_result (ComesOfResuming ComesOf ws text) r e is
-    (refused (IsRefused ComesOf text) (ComesOfResuming ComesOf ws text) e (λ o comes. inl comes) h)
+-- nor a fault of the source
+pub bytes_unfailing : {T : Type 0} (bytes : List ℕ) (r : Result T Refusal)
+    → IfErr r (IsRefusal (IsRefused ComesOf bytes)) → IsErrOf r (Stopped ReadFault) → ⊥
+bytes_unfailing bytes (Ok a) h is = absurd (cc)
+bytes_unfailing bytes (Err e) (inl memory) is = let same : e ≡ Stopped ReadFault = cc in absurd (cc)
+bytes_unfailing bytes (Err e) (inr h) is =
+    let same : e ≡ Stopped ReadFault = cc in subst IsOfInput same (refused_input bytes e h)
 
 -- and the replay of what is read of the source is told of its text
 pub replay_result : (left left' : Option (List ℕ)) (text : List ℕ) (a : Accepted) (status : ℕ) (out : List ℕ)

@@ -1,6 +1,6 @@
 -- The run of a certificate that goes on to an end comes of the bytes that are it: as the line of its command tells its
 -- end, and where that tells its log, with the log of both parts.
-use Rattle.std.proofs.Common.{inl, inr, ◌≡◌, ◌≢◌, ℕ, Bool, true, false, if◌then◌else◌, List, [], ◌++◌, Option, None, Some, Result, IfOk, refl, sym, ap, subst, ◌∙◌}
+use Rattle.std.proofs.Common.{inl, inr, ◌≡◌, ◌≢◌, ℕ, Bool, true, false, if◌then◌else◌, List, [], ◌++◌, ◌≤◌, length, Option, None, Some, Result, IfOk, refl, sym, ap, subst, ◌∙◌}
 use Rattle.std.proofs.lemmas.Bool.{cases_Bool, false≢true}
 use Rattle.std.proofs.lemmas.Option.{none-some, same_Some}
 use Rattle.std.proofs.lemmas.Result.{IfOk-weaker}
@@ -17,21 +17,21 @@ use Rattle.pop_words.specs.declared.command.Command.TheVariants.{Formula, Orient
 use Rattle.pop_words.specs.Options.{default_job}
 use Rattle.pop_watch.specs.Telling.{Watcher}
 use Rattle.pop_print.specs.declared.facts.Facts.{Facts}
-use Rattle.run_cert.specs.Certificates.{Certificate}
+use Rattle.run_cert.specs.Certificates.{Certificate, IsCertOf}
 use Rattle.top_call.specs.declared.accepted.Accepted.{Accepted}
-use Rattle.top_call.specs.declared.answer.Answer.{Answer}
-use Rattle.top_call.specs.declared.asked.Asked.{Asked}
+use Rattle.job_subjects.specs.declared.answer.Answer.{Answer}
+use Rattle.told_runs.specs.declared.asked.Asked.{Asked}
 use Rattle.top_call.specs.Whole.{IsReadTo}
-use Rattle.top_call.specs.Outcomes.{Outcome, IsTextStatus, AnswersBy}
-use Rattle.top_call.specs.Outcomes.Outcome.{Ended, Resampled, Batched}
-use Rattle.top_call.specs.Tellings.{asks_for_log}
-use Rattle.top_call.specs.Sampling.{IsEndOf}
-use Rattle.top_call.specs.Resamplings.{IsHistoryWith}
-use Rattle.top_call.specs.Made.{IsMade}
+use Rattle.told_runs.specs.Outcomes.{Outcome, IsTextStatus, AnswersBy}
+use Rattle.told_runs.specs.Outcomes.Outcome.{Ended, Resampled, Batched}
+use Rattle.told_runs.specs.Tellings.{asks_for_log}
+use Rattle.told_runs.specs.Ends.{IsEndOf, IsHistoryWith}
+use Rattle.job_subjects.specs.Made.{IsMade}
 use Rattle.top_call.specs.Replays.{cert_limit, job_of}
 use Rattle.top_call.specs.Resumes.{IsJoined, IsJoinedLog, GoesOnFrom, IsResumed, ComesOfResuming}
 use Rattle.top_call.specs.Accepted.{IsHeldBy, IsAccepted}
-use Rattle.top_call.specs.Answers.{origin_for, has_free_order, asked_by, ComesOf}
+use Rattle.told_runs.specs.Asking.{has_free_order, asked_by}
+use Rattle.top_call.specs.Answers.{origin_for, ComesOf}
 use Rattle.top_call.proofs.Carrying.{answered}
 use Rattle.top_call.proofs.PausedComes.{end_comes, history_comes}
 use Rattle.top_call.proofs.ReplayedCerts.{held_log, read_accepted}
@@ -183,6 +183,15 @@ resumed_result cert a ws asked whole r held is run joined ended history =
           (ended (ap (λ (q : Asked). q.free) is ∙ ordered) (ap (λ (q : Asked). q.count) is) (held.extremal other))
     ]
 
+-- so it comes of the bytes that are the certificate
+resumed_comes : (ws : List Watcher) (bytes : List ℕ) (cert : Certificate) → length bytes ≤ cert_limit
+    → IsCertOf bytes cert → (o : Outcome) → IsResumed ComesOf ws cert o → ComesOfResuming ComesOf ws bytes o
+resumed_comes ws bytes cert short is (Ended t i c n s a) h =
+    record { short = short; cert = cert; is = is; comes = h }
+resumed_comes ws bytes cert short is (Resampled t i l s a) h =
+    record { short = short; cert = cert; is = is; comes = h }
+resumed_comes ws bytes cert short is o h = absurd h.goes_on
+
 -- what is told of the run of what is read of a source comes of its text
 pub resume_result : (left left' : Option (List ℕ)) (text : List ℕ) (a : Accepted) (ws : List Watcher) (status : ℕ)
     (out : List ℕ) → left ≡ Some text → ((bytes : List ℕ) × IsReadTo cert_limit left left' bytes × IsAccepted bytes a)
@@ -192,7 +201,7 @@ resume_result left left' text a ws status out known (bytes, read, accepted) told
     let acc : IsAccepted text a =
     read_accepted text left' bytes a (subst (λ l. IsReadTo cert_limit l left' bytes) known read) accepted in
     answered (IsResumed ComesOf ws acc.cert) (ComesOfResuming ComesOf ws text) status out
-    (λ o h. inr (record { short = acc.short; cert = acc.cert; is = acc.is; comes = h })) (told acc.cert acc.held)
+    (λ o. resumed_comes ws text acc.cert acc.short acc.is o) (told acc.cert acc.held)
 
 -- and its status is one of a text
 pub resume_status : (left left' : Option (List ℕ)) (a : Accepted) (ws : List Watcher) (status : ℕ) (out : List ℕ)

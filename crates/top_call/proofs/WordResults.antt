@@ -1,22 +1,24 @@
 -- The results of words: of those that are no command line, and of those that ask for a job.
-use Rattle.std.proofs.Common.{◌≡◌, ℕ, List, Result, Ok, Err, MatchResult, refl, sym, subst}
+use Rattle.std.proofs.Common.{inl, inr, ◌≡◌, ℕ, List, Result, Ok, Err, MatchResult, refl, sym, subst}
 use Rattle.pop_words.specs.declared.fault.WordFault.{WordFault}
 use Rattle.pop_words.specs.declared.fault.WordFault.TheVariants.{Usage as BadWord, OutOfMemory as WordMemory}
 use Rattle.pop_words.specs.CommandLines.{Asks, IsBadPlace, IsWordFault}
 use Rattle.pop_words.specs.declared.job.Job.{Job}
 use Rattle.pop_watch.specs.Telling.{Watcher}
-use Rattle.top_call.specs.declared.answer.Answer.{Answer}
-use Rattle.top_call.specs.declared.stop.Stop.TheVariants.{ReadFault}
-use Rattle.top_call.specs.declared.refusal.Refusal.{Refusal}
-use Rattle.top_call.specs.declared.refusal.Refusal.TheVariants.{Usage, Stopped}
+use Rattle.job_subjects.specs.declared.answer.Answer.{Answer}
+use Rattle.job_subjects.specs.declared.stop.Stop.TheVariants.{ReadFault}
+use Rattle.job_subjects.specs.declared.refusal.Refusal.{Refusal}
+use Rattle.job_subjects.specs.declared.refusal.Refusal.TheVariants.{Usage, Stopped}
 use Rattle.top_call.specs.Answers.{IsOutcome}
-use Rattle.top_call.specs.Results.{unworded, ComesRefused, IsJudged, IsResultOf, IsTextResult, IsOfWords}
+use Rattle.job_subjects.specs.Refusals.{unworded, IsJudged}
+use Rattle.told_runs.specs.Results.{ComesRefused, IsResultOf, IsTextResult}
+use Rattle.top_call.proofs.ToldRefusals.{IsOfWords}
 
 -- a fault of words is an outcome of theirs
 refused_by : (words : List (List ℕ)) (ws : List Watcher) (text : List ℕ) (fault : WordFault) → IsWordFault words fault
     → ComesRefused (IsOutcome words ws text) (unworded fault)
-refused_by words ws text (BadWord place) bad = bad
-refused_by words ws text WordMemory bad = refl
+refused_by words ws text (BadWord place) bad = inr (inl (record { place = place; bad = bad; is = refl }))
+refused_by words ws text WordMemory bad = inl refl
 
 -- bad words are refused at their first bad place
 pub words_refused : (words : List (List ℕ)) (ws : List Watcher) (text : List ℕ) (fault : WordFault)

@@ -11,9 +11,9 @@ use Rattle.pop_print.specs.Ends.{AreFactsOf}
 use Rattle.run_cert.specs.Certificates.{Certificate, IsCertOf}
 use Rattle.run_cert.specs.declared.look_kind.Look.{Look}
 use Rattle.run_cert.specs.Looks.{IsLook}
-use Rattle.top_call.specs.ReplayTexts.{look_status, replay_text}
+use Rattle.told_runs.specs.ReplayTexts.{look_status, replay_text}
 use Rattle.top_call.specs.declared.accepted.Accepted.{Accepted}
-use Rattle.top_call.specs.Names.{names_for}
+use Rattle.told_runs.specs.Names.{names_for}
 use Rattle.top_call.specs.Replays.{cert_limit, IsCertified}
 
 -- the certificate has this command, which runs this instance, told by these facts, and its log is

@@ -1,9 +1,8 @@
 -- What the sampler answers to command words and a text.
-use Rattle.std.specs.Prelude.{◌≡◌, ◌⊎◌, ℕ, ◌≤◌, Bool, true, false, List, length, Contains, Option, unwrap_or, Ok, Err, None, Some, ⊤}
+use Rattle.std.specs.Prelude.{◌≡◌, ◌⊎◌, ℕ, ◌≤◌, true, false, List, length, Contains, Option, unwrap_or, Ok, Err, None, Some, ⊤}
 use Rattle.pop_model.specs.Stacks.{Origin}
 use Rattle.pop_edge.specs.Lines.{text_limit}
 use Rattle.pop_edge.specs.declared.refusal.ReadRefusal.{ReadRefusal}
-use Rattle.pop_edge.specs.declared.refusal.ReadRefusal.TheVariants.{ReadFault, OutOfMemory}
 use Rattle.pop_stacks.specs.Tables.{origin_of}
 use Rattle.dimacs_read.specs.Cnf.{Cnf}
 use Rattle.dimacs_read.specs.CnfText.{AnswersCnf, HasNoBadLine as HasNoBadCnfLine}
@@ -15,16 +14,17 @@ use Rattle.pop_words.specs.declared.job.Job.{Job}
 use Rattle.pop_words.specs.Options.{paused}
 use Rattle.pop_words.specs.CommandLines.{Asks, IsBadPlace}
 use Rattle.pop_watch.specs.Telling.{Watcher}
-use Rattle.top_call.specs.declared.asked.Asked.{Asked}
-use Rattle.top_call.specs.Outcomes.{Outcome, AnswersBy}
-use Rattle.top_call.specs.Outcomes.Outcome.{Usage, Unread, Paused}
+use Rattle.job_subjects.specs.declared.refusal.Refusal.{Refusal}
+use Rattle.job_subjects.specs.declared.refusal.Refusal.TheVariants.{Usage}
+use Rattle.job_subjects.specs.Refused.{IsUnread}
+use Rattle.told_runs.specs.Asking.{asked_by}
+use Rattle.told_runs.specs.Outcomes.{Outcome, AnswersBy}
+use Rattle.told_runs.specs.Outcomes.Outcome.{Refused, Paused}
 use Rattle.top_call.specs.Formulas.{ComesOfFormula, ComesOfChecking}
-use Rattle.top_call.specs.Resamplings.{ComesOfResampling}
 use Rattle.top_call.specs.Rounds.{ComesOfRounds}
 use Rattle.top_call.specs.Orientations.{ComesOfOrienting}
-use Rattle.top_call.specs.Trees.{ComesOfTree}
-use Rattle.top_call.specs.Grids.{ComesOfGrid}
-use Rattle.top_call.specs.Made.{IsMade}
+use Rattle.top_call.specs.Trees.{ComesOfTree, ComesOfGrid}
+use Rattle.job_subjects.specs.Made.{IsMade}
 use Rattle.top_call.specs.Pauses.{PausesAt}
 use Rattle.top_call.specs.Whole.{WasRead}
 use Rattle.top_call.specs.Replays.{cert_limit, ComesOfReplaying}
@@ -52,34 +52,18 @@ last_height job = unwrap_or job.grow job.height
 abbrev pub origin_for : Job → Origin
 origin_for job = origin_of job.stacks (last_height job)
 
--- the order of a command's pops isn't determined
-abbrev pub has_free_order : Command → Bool
-has_free_order Resample = true
-has_free_order command = false
-
--- what a job asks to be told behind the end
-abbrev pub asked_by : Job → Asked
-asked_by job = record {
-  log = job.log;
-  witness = job.witness;
-  reports = job.reports;
-  free = has_free_order job.command;
-  count = job.count;
-  pops = job.pops;
-}
-
 -- What comes of a command, with what the job says beside it, the watchers, and the text that it
 -- reads; a grid is made without one. Of a command that reads a certificate nothing comes here
 -- (`ComesBy`).
 abbrev pub ComesOfCommand : Command → Job → List Watcher → List ℕ → Outcome → Type 0
 ComesOfCommand Formula job watchers text o =
-    ComesOfCnf (ComesOfFormula (origin_for job) (asked_by job) watchers) text o
+    ComesOfCnf (ComesOfFormula false (origin_for job) (asked_by job) watchers) text o
 ComesOfCommand Orient job watchers text o =
     ComesOfGraph (ComesOfOrienting (origin_for job) (asked_by job) watchers) text o
 ComesOfCommand Tree job watchers text o =
     ComesOfGraph (ComesOfTree (origin_for job) (asked_by job) watchers job.root) text o
 ComesOfCommand Resample job watchers text o =
-    ComesOfCnf (ComesOfResampling (origin_for job) (asked_by job) watchers) text o
+    ComesOfCnf (ComesOfFormula true (origin_for job) (asked_by job) watchers) text o
 ComesOfCommand Check job watchers text o = ComesOfCnf ComesOfChecking text o
 ComesOfCommand Make job watchers text o =
     ComesOfGrid (origin_for job) (asked_by job) watchers job.size o
@@ -99,16 +83,11 @@ Refuses Rounds text refusal = AnswersCnf text (Err refusal)
 Refuses Replay text refusal = ⊥
 Refuses Resume text refusal = ⊥
 
--- the refusal is one of the text itself, and not of the source or of memory
-abbrev pub IsOfText : ReadRefusal → Type 0
-IsOfText ReadFault = ⊥
-IsOfText OutOfMemory = ⊥
-IsOfText refusal = ⊤
-
 -- what comes of a job, watchers and a text, by the line of the job's command
 abbrev pub ComesOf : Job → List Watcher → List ℕ → Outcome → Type 0
-ComesOf job watchers text (Usage place) = ⊥
-ComesOf job watchers text (Unread refusal) = IsOfText refusal × Refuses job.command text refusal
+ComesOf job watchers text (Refused refusal) =
+    IsUnread (Refuses job.command text) refusal
+    ⊎ ComesOfCommand job.command job watchers text (Refused refusal)
 ComesOf job watchers text (Paused told input facts i placed) =
     (told ≡ job) × (input ≡ text) × IsMade job.command (origin_for job) job.root text facts i
     × PausesAt job.pops i placed × (job.count ≡ None)
@@ -134,9 +113,16 @@ pub record ComesOfJob (words : List (List ℕ)) (watchers : List Watcher) (text 
   pub asks : Asks words job
   pub comes : ComesBy job.command job watchers text o
 
+-- the words are no command line, and refused for their first bad word
+pub record AreRefused (words : List (List ℕ)) (refusal : Refusal) : Type 0 where
+  pub place : ℕ
+  pub bad : IsBadPlace words place
+  pub is : refusal ≡ Usage place
+
 -- what comes of words, watchers and a text
 abbrev pub IsOutcome : List (List ℕ) → List Watcher → List ℕ → Outcome → Type 0
-IsOutcome words watchers text (Usage place) = IsBadPlace words place
+IsOutcome words watchers text (Refused refusal) =
+    AreRefused words refusal ⊎ ComesOfJob words watchers text (Refused refusal)
 IsOutcome words watchers text o = ComesOfJob words watchers text o
 
 -- the status and the output that words, watchers and a text are answered by
@@ -185,10 +171,3 @@ pub record MayStop (job : Job) : Type 0 where
   pub command : Contains paused job.command
   pub once : job.count ≡ None
   pub level : job.grow ≡ None
-
--- a job of this command, with stacks of this origin and this root, that asks for one sample
-pub record IsJobOf (job : Job) (command : Command) (origin : Origin) (root : ℕ) : Type 0 where
-  pub command_is : job.command ≡ command
-  pub origin_is : origin_for job ≡ origin
-  pub root_is : job.root ≡ root
-  pub once : job.count ≡ None

@@ -8,9 +8,9 @@ use Rattle.pop_log.specs.Layered.{AreInLayers}
 use Rattle.pop_words.specs.declared.job.Job.{Job}
 use Rattle.pop_print.specs.declared.facts.Facts.{Facts}
 use Rattle.run_cert.specs.Looks.{HasPoppable}
-use Rattle.top_call.specs.Tellings.{records_of}
-use Rattle.top_call.specs.Outcomes.{Outcome}
-use Rattle.top_call.specs.Outcomes.Outcome.{Paused}
+use Rattle.told_runs.specs.Tellings.{records_of}
+use Rattle.told_runs.specs.Outcomes.{Outcome}
+use Rattle.told_runs.specs.Outcomes.Outcome.{Paused}
 
 -- a legal log of exactly so many pops, layered as it stands, behind which an event is poppable
 pub record IsPause (i : Instance) (pops : ℕ) (placed : List Placed) : Type 0 where

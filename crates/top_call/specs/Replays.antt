@@ -1,16 +1,15 @@
 -- What comes of a certificate that is replayed: it is refused, or its log is legal and leads to
 -- cursors.
-use Rattle.std.specs.Prelude.{◌≡◌, ◌≢◌, ◌⊎◌, ℕ, ◌+◌, ◌<◌, ◌≤◌, ◌^◌, List, [], length, ⊤}
+use Rattle.std.specs.Prelude.{◌≡◌, ◌≢◌, ◌⊎◌, ℕ, ◌<◌, ◌≤◌, ◌^◌, List, [], length}
 use Rattle.pop_model.specs.Instances.{Instance, IsInstance}
 use Rattle.pop_model.specs.Logs.{LogRecord, replay}
 use Rattle.pop_model.specs.Runs.{start_of}
 use Rattle.pop_stacks.specs.Tables.{origin_of}
-use Rattle.pop_edge.specs.declared.refusal.ReadRefusal.TheVariants.{Malformed as MalformedLine, Limit as PassedLimit, OutOfMemory as ReadMemory}
 use Rattle.pop_log.specs.Candidates.{NumbersFit}
 use Rattle.pop_log.specs.LogVersions.{IsReadAs}
 use Rattle.pop_log.specs.Refusals.{IsLogRefusal}
 use Rattle.pop_log.specs.declared.log_refusal.LogRefusal.{LogRefusal}
-use Rattle.pop_log.specs.declared.log_refusal.LogRefusal.TheVariants.{Limit, Malformed, NotLegal, Unlayered, OutOfMemory}
+use Rattle.pop_log.specs.declared.log_refusal.LogRefusal.TheVariants.{OutOfMemory}
 use Rattle.pop_words.specs.declared.job.Job.{Job}
 use Rattle.pop_words.specs.Options.{default_job}
 use Rattle.pop_watch.specs.Telling.{Watcher}
@@ -21,10 +20,13 @@ use Rattle.run_cert.specs.Heads.{Head}
 use Rattle.run_cert.specs.Certificates.{Certificate, IsCertOf}
 use Rattle.run_cert.specs.Refusals.{IsCertRefusal}
 use Rattle.run_cert.specs.Looks.{IsLook}
-use Rattle.top_call.specs.Names.{names_for}
-use Rattle.top_call.specs.Made.{IsMade}
-use Rattle.top_call.specs.Outcomes.{Outcome}
-use Rattle.top_call.specs.Outcomes.Outcome.{Unread, Extremal, Ended, Resampled, Rounded, Paused, Replayed, Batched, NotLegal as NotLegalAt}
+use Rattle.job_subjects.specs.declared.refusal.Refusal.{Refusal}
+use Rattle.job_subjects.specs.declared.refusal.Refusal.TheVariants.{Limit, Malformed}
+use Rattle.job_subjects.specs.Refusals.{unlogged}
+use Rattle.told_runs.specs.Names.{names_for}
+use Rattle.job_subjects.specs.Made.{IsMade}
+use Rattle.told_runs.specs.Outcomes.{Outcome}
+use Rattle.told_runs.specs.Outcomes.Outcome.{Refused, Replayed}
 
 -- how many bytes a certificate may have
 abbrev pub cert_limit : ℕ
@@ -44,31 +46,19 @@ job_of head =
     }
 
 -- the bytes are too many, or no certificate
-abbrev pub IsNoCert : List ℕ → Outcome → Type 0
-IsNoCert bytes (Unread (PassedLimit kind l)) =
-    (kind ≡ 8) × (l ≡ 1) × (cert_limit < length bytes)
-IsNoCert bytes (Unread (MalformedLine l code)) =
-    (length bytes ≤ cert_limit) × IsCertRefusal bytes (MalformedCert l code)
-IsNoCert bytes o = ⊥
+abbrev pub IsNoCert : List ℕ → Refusal → Type 0
+IsNoCert bytes refusal =
+    ((cert_limit < length bytes) × (refusal ≡ Limit 8 1))
+    ⊎ ((length bytes ≤ cert_limit) × ((l code : ℕ) × IsCertRefusal bytes (MalformedCert l code)
+    × (refusal ≡ Malformed l code)))
 
 -- the bytes are a certificate, of which this comes
-pub record ComesOfCert (Comes : Certificate → Outcome → Type 0) (bytes : List ℕ) (o : Outcome)
+pub record ComesOfCert {T : Type 0} (Comes : Certificate → T → Type 0) (bytes : List ℕ) (x : T)
     : Type 0 where
   pub short : length bytes ≤ cert_limit
   pub cert : Certificate
   pub is : IsCertOf bytes cert
-  pub comes : Comes cert o
-
--- there is no run and no verdict
-abbrev pub IsNoRun : Outcome → Type 0
-IsNoRun (Extremal count) = ⊥
-IsNoRun (Ended facts i cursors pops stuck telling) = ⊥
-IsNoRun (Resampled facts i placed stuck telling) = ⊥
-IsNoRun (Rounded facts i cursors rounds stuck short) = ⊥
-IsNoRun (Paused job input facts i placed) = ⊥
-IsNoRun (Replayed i cursors records look) = ⊥
-IsNoRun (Batched facts i ends) = ⊥
-IsNoRun o = ⊤
+  pub comes : Comes cert x
 
 -- what the certificate's command runs, of the input and over the stacks of the certificate; its
 -- events have numbers of 32 bits
@@ -78,33 +68,26 @@ pub record IsCertified (cert : Certificate) (facts : Facts) (i : Instance) : Typ
   pub is : IsInstance i
   pub numbers : NumbersFit i.family
 
--- The outcome of a log text that is refused. Lines and records count from 1 there.
-abbrev pub log_outcome : LogRefusal → Outcome
-log_outcome Limit = Unread (PassedLimit 7 1)
-log_outcome (Malformed l) = Unread (MalformedLine l 31)
-log_outcome (NotLegal k) = NotLegalAt (k + 1)
-log_outcome (Unlayered k) = Unread (MalformedLine (k + 2) 32)
-log_outcome OutOfMemory = Unread ReadMemory
-
--- the log text is refused so
-pub record IsLogRefused (cert : Certificate) (o : Outcome) : Type 0 where
+-- the log text is refused
+pub record IsLogRefused (cert : Certificate) (refusal : Refusal) : Type 0 where
   pub facts : Facts
   pub instance : Instance
   pub certified : IsCertified cert facts instance
-  pub refusal : LogRefusal
-  pub of_text : refusal ≢ OutOfMemory
-  pub is : IsLogRefusal (names_for facts) instance cert.log_text refusal
-  pub told : o ≡ log_outcome refusal
+  pub cause : LogRefusal
+  pub of_text : cause ≢ OutOfMemory
+  pub refused : IsLogRefusal (names_for facts) instance cert.log_text cause
+  pub is : refusal ≡ unlogged cause
 
 -- A certificate is refused: as the line of its command refuses its input, its stacks or what it
 -- would run; or its log text is.
-abbrev pub IsRefusedCert : ByLine → Certificate → Outcome → Type 0
-IsRefusedCert Line cert o =
-    (IsNoRun o × Line (job_of cert.head) [] cert.input o) ⊎ IsLogRefused cert o
+abbrev pub IsRefusedCert : ByLine → Certificate → Refusal → Type 0
+IsRefusedCert Line cert refusal =
+    Line (job_of cert.head) [] cert.input (Refused refusal) ⊎ IsLogRefused cert refusal
 
 -- the bytes are no certificate, or one that is refused
-abbrev pub IsRefused : ByLine → List ℕ → Outcome → Type 0
-IsRefused Line bytes o = IsNoCert bytes o ⊎ ComesOfCert (IsRefusedCert Line) bytes o
+abbrev pub IsRefused : ByLine → List ℕ → Refusal → Type 0
+IsRefused Line bytes refusal =
+    IsNoCert bytes refusal ⊎ ComesOfCert (IsRefusedCert Line) bytes refusal
 
 -- the log text is that of a legal log
 pub record HasLog (cert : Certificate) : Type 0 where
@@ -129,4 +112,5 @@ pub record IsReplayed (cert : Certificate) (o : Outcome) : Type 0 where
 
 -- what comes of bytes that are replayed
 abbrev pub ComesOfReplaying : ByLine → List ℕ → Outcome → Type 0
-ComesOfReplaying Line bytes o = IsRefused Line bytes o ⊎ ComesOfCert IsReplayed bytes o
+ComesOfReplaying Line bytes (Refused refusal) = IsRefused Line bytes refusal
+ComesOfReplaying Line bytes o = ComesOfCert IsReplayed bytes o

@@ -6,8 +6,8 @@ use Rattle.pop_model.specs.Runs.{start_of}
 use Rattle.pop_log.specs.Layered.{AreSorted}
 use Rattle.pop_watch.specs.Telling.{Watcher}
 use Rattle.run_cert.specs.Certificates.{Certificate}
-use Rattle.top_call.specs.Outcomes.{Outcome}
-use Rattle.top_call.specs.Outcomes.Outcome.{Ended, Resampled}
+use Rattle.told_runs.specs.Outcomes.{Outcome}
+use Rattle.told_runs.specs.Outcomes.Outcome.{Refused, Ended, Resampled}
 use Rattle.top_call.specs.Replays.{ByLine, job_of, ComesOfCert, HasLog, IsRefused}
 
 -- a log has these records, and those of one that is legal from their replay on
@@ -36,5 +36,5 @@ pub record IsResumed (Line : ByLine) (watchers : List Watcher) (cert : Certifica
 
 -- what comes of bytes that are resumed
 abbrev pub ComesOfResuming : ByLine → List Watcher → List ℕ → Outcome → Type 0
-ComesOfResuming Line watchers bytes o =
-    IsRefused Line bytes o ⊎ ComesOfCert (IsResumed Line watchers) bytes o
+ComesOfResuming Line watchers bytes (Refused refusal) = IsRefused Line bytes refusal
+ComesOfResuming Line watchers bytes o = ComesOfCert (IsResumed Line watchers) bytes o

@@ -3,11 +3,12 @@ use Rattle.std.specs.Prelude.{◌≡◌, ◌⊎◌, ℕ, List, Option}
 use Rattle.std.specs.Io.KnownBytes.{Appends, Consumes}
 use Rattle.pop_model.specs.Faults.{Rose}
 use Rattle.pop_edge.specs.Devices.{AppendsFront}
-use Rattle.pop_edge.specs.declared.refusal.ReadRefusal.TheVariants.{ReadFault, OutOfMemory}
 use Rattle.pop_words.specs.declared.job.Job.{Job}
 use Rattle.pop_words.specs.CommandLines.{Asks, IsBadPlace}
 use Rattle.pop_watch.specs.Telling.{Watcher}
-use Rattle.top_call.specs.Refusals.{usage_line, reading_line}
+use Rattle.job_subjects.specs.declared.stop.Stop.TheVariants.{ReadFault, OutOfMemory}
+use Rattle.job_subjects.specs.declared.refusal.Refusal.TheVariants.{Usage, Stopped}
+use Rattle.job_subjects.specs.Refusals.{refusal_line}
 use Rattle.top_call.specs.Answers.{IsAnswer, MayFailBehind}
 
 -- a fault of a device or want of memory, and no answer to words and a text
@@ -25,7 +26,7 @@ pub record Answered (words : List (List ℕ)) (watchers : List Watcher) (text : 
 pub record AnsweredUsage (words : List (List ℕ)) (old new : Option (List ℕ)) : Type 0 where
   pub place : ℕ
   pub bad : IsBadPlace words place
-  pub held : Appends old new (usage_line place)
+  pub held : Appends old new (refusal_line (Usage place))
 
 -- The source failed: its count rose, the words ask for a job that reads, what was taken is within
 -- the limit, and, but where it is read whole before, no line of it whose end was taken is refused.
@@ -42,7 +43,7 @@ pub record HasReadFault (words : List (List ℕ)) (left left' : Option (List ℕ
 abbrev pub MayWrite : List (List ℕ) → List Watcher → List ℕ → Type 0 → List ℕ → Type 0
 MayWrite words watchers text fault out =
     ((status : ℕ) × IsAnswer words watchers text status out)
-    ⊎ ((fault × (out ≡ reading_line ReadFault)) ⊎ (out ≡ reading_line OutOfMemory))
+    ⊎ ((fault × (out ≡ refusal_line (Stopped ReadFault))) ⊎ (out ≡ refusal_line (Stopped OutOfMemory)))
 
 -- the sink holds just a front of such a text more
 pub record IsCutShort (words : List (List ℕ)) (watchers : List Watcher) (text : List ℕ)
@@ -55,8 +56,8 @@ pub record IsCutShort (words : List (List ℕ)) (watchers : List Watcher) (text 
 -- of want of memory
 abbrev pub MayWriteUsage : List (List ℕ) → List ℕ → Type 0
 MayWriteUsage words out =
-    ((place : ℕ) × IsBadPlace words place × (out ≡ usage_line place))
-    ⊎ (out ≡ reading_line OutOfMemory)
+    ((place : ℕ) × IsBadPlace words place × (out ≡ refusal_line (Usage place)))
+    ⊎ (out ≡ refusal_line (Stopped OutOfMemory))
 
 -- the sink holds just a front of such a text more
 pub record IsUsageCutShort (words : List (List ℕ)) (old new : Option (List ℕ)) : Type 0 where

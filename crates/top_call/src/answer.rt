@@ -8,33 +8,23 @@ ghost use Rattle.pop_words.specs.declared.job.Job.{Job};
 ghost use Rattle.pop_words.specs.declared.command.Command.TheVariants.{Make};
 ghost use Rattle.top_call.specs.TopCall.{HasReadFault};
 ghost use Rattle.top_call.specs.Answers.{IsAnswer, ComesOf, origin_for, AskForGrid, IsInput, HasNoBadLine, MayFailBehind, WasReadWhole, MayStop, ComesBy, IsOfLine};
-ghost use Rattle.top_call.specs.Outcomes.{IsAnswerStatus, HasRun};
-ghost use Rattle.top_call.specs.Results.{IsJudged, IsResultOf, IsTextResult};
-ghost use Rattle.top_call.specs.Refusals.{usage_line};
-ghost use Rattle.top_call.specs.declared.refusal.Refusal.TheVariants.{Stopped};
-ghost use Rattle.top_call.specs.declared.stop.Stop.TheVariants.{ReadFault, OutOfMemory};
+ghost use Rattle.told_runs.specs.Outcomes.{IsAnswerStatus, HasRun};
+ghost use Rattle.told_runs.specs.Results.{IsResultOf, IsTextResult};
+ghost use Rattle.job_subjects.specs.Refusals.{IsJudged, refusal_line};
+ghost use Rattle.job_subjects.specs.declared.refusal.Refusal.TheVariants.{Usage, Stopped};
+ghost use Rattle.job_subjects.specs.declared.stop.Stop.TheVariants.{ReadFault, OutOfMemory};
 
-use crate::call::Call;
 use crate::commands::{answer_formula, answer_graph, answer_grid};
-use crate::crew::Crew;
-use crate::maker::Maker;
 use crate::pausing::pause_or_tell;
-use crate::reading::{formula_of, graph_of};
-use crate::refusal::Refusal;
 use crate::replaying::replay;
 use crate::resuming::resume;
-use crate::stop::Stop;
+use job_subjects::{Answer, Refusal, Stop, formula_of, graph_of};
 use pop_edge::Source;
 use pop_watch::Watch;
 use pop_words::{Command, Job, read_words};
+use run_makers::{Crew, Maker};
 use std::alloc::Global;
-
-/// A status, and the whole text that goes with it.
-#[derive(Drop)]
-pub struct Answer {
-    pub status: u8,
-    pub text: Vec<u8>,
-}
+use told_runs::Call;
 
 // The answer to a job whose run doesn't stop before its end. A grid is made without the source, and
 // each other command reads it.
@@ -54,7 +44,10 @@ fn run_job<S: Source, M: Maker>(
     requires keyed { (count : ℕ) → job.count ≡ Some count → IsKeyed (origin_for job) }
     ensures answer { (text : List ℕ) → (S.left source.old ≡ Some text) ⊎ (job.command ≡ Make)
         → (IsErrOf result (Stopped ReadFault) → ⊥)
-        → IsResultOf (ComesOf job (map (λ b. (kind b, state b)) call.old.watchers.items) text)
+        → IsResultOf (ComesOf job (map (λ b. (
+          (⟦<dyn Watch as Watch>⟧ b.vtable).kind b.value,
+          (⟦<dyn Watch as Watch>⟧ b.vtable).state b.value,
+        )) call.old.watchers.items) text)
         result }
     ensures status { IsTextResult result }
     ensures unread { job.command ≡ Make → source.new ≡ source.old }
@@ -95,7 +88,10 @@ fn answer_job<S: Source, M: Maker>(
     requires keyed { (count : ℕ) → job.count ≡ Some count → IsKeyed (origin_for job) }
     ensures answer { (text : List ℕ) → (S.left source.old ≡ Some text) ⊎ (job.command ≡ Make)
         → (IsErrOf result (Stopped ReadFault) → ⊥)
-        → IsResultOf (ComesBy job.command job (map (λ b. (kind b, state b)) call.old.watchers.items)
+        → IsResultOf (ComesBy job.command job (map (λ b. (
+          (⟦<dyn Watch as Watch>⟧ b.vtable).kind b.value,
+          (⟦<dyn Watch as Watch>⟧ b.vtable).state b.value,
+        )) call.old.watchers.items)
         text) result }
     ensures status { IsTextResult result }
     ensures unread { job.command ≡ Make → source.new ≡ source.old }
@@ -136,7 +132,7 @@ pub fn answer_to<S: Source, M: Maker>(
 
     // Words outside the grammar are told of whatever the source is.
     ensures usage { IfOk result (λ a. a.status ≡ 2 → (place : ℕ)
-        × IsBadPlace (map string_bytes words.now) place × (a.text.items ≡ usage_line place)) }
+        × IsBadPlace (map string_bytes words.now) place × (a.text.items ≡ refusal_line (Usage place))) }
     ensures only_usage { (AreWords (map string_bytes words.now) → ⊥)
         → MatchResult result (λ a. a.status ≡ 2) (λ stop. stop ≡ OutOfMemory) }
 

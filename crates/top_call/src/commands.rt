@@ -7,23 +7,21 @@ ghost use Rattle.graph_read.specs.GraphText.{AnswersGraph};
 ghost use Rattle.pop_words.specs.declared.command.Command.TheVariants.{Make};
 ghost use Rattle.top_call.specs.Answers.{ComesOf, origin_for};
 ghost use Rattle.top_call.specs.Commands.{ReadsFormula, ReadsGraph};
-ghost use Rattle.top_call.specs.Results.{IsResultOf, IsTextResult};
-ghost use Rattle.top_call.specs.declared.refusal.Refusal.TheVariants.{Stopped};
-ghost use Rattle.top_call.specs.declared.stop.Stop.TheVariants.{ReadFault};
+ghost use Rattle.told_runs.specs.Results.{IsResultOf, IsTextResult};
+ghost use Rattle.job_subjects.specs.declared.refusal.Refusal.TheVariants.{Stopped};
+ghost use Rattle.job_subjects.specs.declared.stop.Stop.TheVariants.{ReadFault};
 
-use crate::answer::Answer;
-use crate::asked::Asked;
-use crate::call::Call;
 use crate::formula::{check_formula, sample_formula};
-use crate::maker::Maker;
 use crate::orientation::orient;
-use crate::origin::StackOrigin;
-use crate::refusal::Refusal;
 use crate::rounds::sample_rounds;
 use crate::tree::{tree, tree_of_grid};
 use dimacs_read::Formula;
 use graph_read::Graph;
+use job_subjects::{Answer, Refusal, StackOrigin};
+use pop_watch::Watch;
 use pop_words::{Command, Job};
+use run_makers::Maker;
+use told_runs::{Asked, Call};
 
 /// The answer to a job on the formula that was read.
 pub fn answer_formula<M: Maker>(
@@ -40,7 +38,10 @@ pub fn answer_formula<M: Maker>(
     requires grow { IfSome job.grow (λ last. (0 < last) × (last < 2 ^ 31)) }
     requires keyed { (count : ℕ) → job.count ≡ Some count → IsKeyed (origin_for job) }
     ensures answer { (text : List ℕ) → AnswersCnf text (Ok formula.now)
-        → IsResultOf (ComesOf job (map (λ b. (kind b, state b)) call.old.watchers.items) text)
+        → IsResultOf (ComesOf job (map (λ b. (
+          (⟦<dyn Watch as Watch>⟧ b.vtable).kind b.value,
+          (⟦<dyn Watch as Watch>⟧ b.vtable).state b.value,
+        )) call.old.watchers.items) text)
         result }
     ensures status { IsTextResult result }
     ensures read { IsErrOf result (Stopped ReadFault) → ⊥ }
@@ -67,7 +68,10 @@ pub fn answer_graph<M: Maker>(call: &mut Call<M>, job: Job, graph: Graph) -> Res
     requires root { 1 ≤ job.root }
     requires keyed { (count : ℕ) → job.count ≡ Some count → IsKeyed (origin_for job) }
     ensures answer { (text : List ℕ) → AnswersGraph text (Ok graph)
-        → IsResultOf (ComesOf job (map (λ b. (kind b, state b)) call.old.watchers.items) text)
+        → IsResultOf (ComesOf job (map (λ b. (
+          (⟦<dyn Watch as Watch>⟧ b.vtable).kind b.value,
+          (⟦<dyn Watch as Watch>⟧ b.vtable).state b.value,
+        )) call.old.watchers.items) text)
         result }
     ensures status { IsTextResult result }
     ensures read { IsErrOf result (Stopped ReadFault) → ⊥ }
@@ -92,7 +96,10 @@ pub fn answer_grid<M: Maker>(call: &mut Call<M>, job: Job) -> Result<Answer, Ref
     requires side { (1 ≤ job.size) × (job.size ≤ 2048) }
     requires keyed { (count : ℕ) → job.count ≡ Some count → IsKeyed (origin_for job) }
     ensures answer { (text : List ℕ)
-        → IsResultOf (ComesOf job (map (λ b. (kind b, state b)) call.old.watchers.items) text)
+        → IsResultOf (ComesOf job (map (λ b. (
+          (⟦<dyn Watch as Watch>⟧ b.vtable).kind b.value,
+          (⟦<dyn Watch as Watch>⟧ b.vtable).state b.value,
+        )) call.old.watchers.items) text)
         result }
     ensures status { IsTextResult result }
     ensures read { IsErrOf result (Stopped ReadFault) → ⊥ }

@@ -3,22 +3,15 @@
 ghost use Rattle.std.specs.Prelude.{◌≡◌, ℕ, None, Some, map};
 ghost use Rattle.pop_model.specs.Stacks.{IsKeyed};
 ghost use Rattle.dimacs_read.specs.Cnf.{first_empty};
-ghost use Rattle.pop_print.specs.declared.facts.Facts.TheVariants.{Formula as FormulaFacts};
-ghost use Rattle.top_call.specs.Results.{IsResultOf};
-ghost use Rattle.top_call.specs.Sampling.{pair_weights, ComesOfSampling};
-ghost use Rattle.top_call.specs.Formulas.{ComesOfChecking};
-ghost use Rattle.top_call.specs.Resamplings.{RunsFormula};
+ghost use Rattle.told_runs.specs.Results.{IsResultOf};
+ghost use Rattle.top_call.specs.Formulas.{ComesOfFormula, ComesOfChecking};
 
-use crate::answer::Answer;
-use crate::asked::Asked;
-use crate::batching::sample_and_tell;
-use crate::call::Call;
-use crate::maker::Maker;
-use crate::making::{Made, make_formula, refuse_clash};
-use crate::origin::StackOrigin;
-use crate::refusal::{Refusal, told_in_line};
 use dimacs_read::Formula;
+use job_subjects::{Answer, Made, Refusal, StackOrigin, make_formula, refuse_clash, told_in_line};
+use pop_watch::Watch;
+use run_makers::Maker;
 use std::alloc::Global;
+use told_runs::{Asked, Call, sample_and_tell};
 
 /// Samples the formula: the answer of `formula`, where its events may not clash, and of `resample`,
 /// where they may. That pops in an order of its own, which the log tells.
@@ -34,9 +27,11 @@ pub fn sample_formula<M: Maker>(
     requires free { asked.free ≡ may_clash }
     requires run_out { asked.pops ≡ None }
     requires keyed { (count : ℕ) → asked.count ≡ Some count → IsKeyed origin }
-    ensures { IsResultOf (ComesOfSampling (FormulaFacts formula.now.variables) origin
-        (pair_weights formula.now.variables) asked.count (RunsFormula may_clash origin asked
-        (map (λ b. (kind b, state b)) call.old.watchers.items) formula.now)) result }
+    ensures { IsResultOf (ComesOfFormula may_clash origin asked
+        (map (λ b. (
+          (⟦<dyn Watch as Watch>⟧ b.vtable).kind b.value,
+          (⟦<dyn Watch as Watch>⟧ b.vtable).state b.value,
+        )) call.old.watchers.items) formula.now) result }
 {
     let made = make_formula(call.alloc, origin, asked.count, may_clash, formula)?;
     let Made { facts, instance } = made;

@@ -4,41 +4,17 @@
 #![tactic(auto)]
 
 mod accepted;
-mod alone;
 mod answer;
-mod asked;
-mod batching;
-mod by;
-mod call;
 mod commands;
-mod crew;
 mod formula;
-mod growing_instance;
-mod growing_stacks;
-mod instances;
-mod maker;
-mod making;
-mod named;
-mod names;
-mod on_threads;
-mod opening;
 mod orientation;
-mod origin;
 mod pausing;
-mod reading;
-mod refusal;
 mod replaying;
-mod reporting;
 mod resuming;
 mod rounds;
-mod running;
-mod stop;
-mod stretch;
-mod telling;
 mod top;
 mod tree;
 mod whole;
-mod witness;
 
-pub use answer::Answer;
+pub use job_subjects::Answer;
 pub use top::{answer_alone, run};

@@ -16,33 +16,29 @@ ghost use Rattle.pop_words.specs.Options.{paused};
 ghost use Rattle.pop_print.specs.Ends.{AreFactsOf};
 ghost use Rattle.run_cert.specs.Looks.{HasPoppable, IsSoFar};
 ghost use Rattle.top_call.specs.Answers.{ComesOf, origin_for};
-ghost use Rattle.top_call.specs.Made.{IsMade};
-ghost use Rattle.top_call.specs.Outcomes.{AnswersBy, HasRun};
+ghost use Rattle.job_subjects.specs.Made.{IsMade};
+ghost use Rattle.told_runs.specs.Outcomes.{AnswersBy, HasRun};
 ghost use Rattle.top_call.specs.Pauses.{IsPausedAt};
-ghost use Rattle.top_call.specs.Results.{IsJudged, IsResultOf, IsTextResult};
+ghost use Rattle.told_runs.specs.Results.{IsResultOf, IsTextResult};
+ghost use Rattle.job_subjects.specs.Refusals.{IsJudged};
 ghost use Rattle.top_call.specs.Whole.{WasRead};
-ghost use Rattle.top_call.specs.declared.refusal.Refusal.TheVariants.{Stopped};
-ghost use Rattle.top_call.specs.declared.stop.Stop.TheVariants.{ReadFault};
+ghost use Rattle.job_subjects.specs.declared.refusal.Refusal.TheVariants.{Stopped};
+ghost use Rattle.job_subjects.specs.declared.stop.Stop.TheVariants.{ReadFault};
 
-use crate::answer::Answer;
-use crate::asked::Asked;
-use crate::call::Call;
-use crate::making::{Made, made_of};
-use crate::names::names_of;
-use crate::origin::{StackOrigin, copy_spec};
-use crate::refusal::Refusal;
-use crate::running::tell_end;
 use crate::whole::read_whole;
 use confluence_core::{End, Keep, Log};
+use job_subjects::{Answer, Made, Refusal, StackOrigin, copy_spec, made_of};
 use pop_edge::Source;
 use pop_instance::{Instance, Values};
 use pop_log::LayeredLog;
 use pop_print::Facts;
 use pop_stacks::Reader;
+use pop_watch::Watch;
 use pop_words::Job;
 use pop_workers::Outcome;
 use run_cert::{Look, Part, print_cert, run_part};
 use std::alloc::{AllocError, Global};
+use told_runs::{Asked, Call, names_of, tell_end};
 
 // How many bytes an input may have: a longer one is read up to the first byte too many, by which
 // its grammar refuses it.
@@ -115,7 +111,10 @@ fn run_up_to<M>(
     requires told { AreFactsOf facts.now instance.now }
     requires extremal { job.now.command ≢ Resample → IsExtremal instance.now.family }
     ensures { IfOk result (λ a. AnswersBy (ComesOf job.now
-        (map (λ b. (kind b, state b)) call.old.watchers.items) input.now) a.status a.text.items) }
+        (map (λ b. (
+          (⟦<dyn Watch as Watch>⟧ b.vtable).kind b.value,
+          (⟦<dyn Watch as Watch>⟧ b.vtable).state b.value,
+        )) call.old.watchers.items) input.now) a.status a.text.items) }
 {
     let part = run_part(call.alloc, instance, u64::from(pops))?;
     match part.seen.look {
@@ -145,7 +144,10 @@ fn stop_and_tell<M>(
     requires told { AreFactsOf made.facts made.instance }
     requires extremal { job.now.command ≢ Resample → IsExtremal made.instance.family }
     ensures { IfOk result (λ a. AnswersBy (ComesOf job.now
-        (map (λ b. (kind b, state b)) call.old.watchers.items) input.now) a.status a.text.items) }
+        (map (λ b. (
+          (⟦<dyn Watch as Watch>⟧ b.vtable).kind b.value,
+          (⟦<dyn Watch as Watch>⟧ b.vtable).state b.value,
+        )) call.old.watchers.items) input.now) a.status a.text.items) }
 {
     let Made { facts, instance } = made;
     let instance = instance.raised();
@@ -167,7 +169,10 @@ fn judge_and_stop<M>(
     requires grow { job.now.grow ≡ None }
     requires root { 1 ≤ job.now.root }
     ensures answer { IsResultOf (ComesOf job.now
-        (map (λ b. (kind b, state b)) call.old.watchers.items) input.now) result }
+        (map (λ b. (
+          (⟦<dyn Watch as Watch>⟧ b.vtable).kind b.value,
+          (⟦<dyn Watch as Watch>⟧ b.vtable).state b.value,
+        )) call.old.watchers.items) input.now) result }
     ensures status { IsTextResult result }
     ensures short { IfOk result (λ a. HasRun a.status → length input.now ≤ text_limit) }
 {
@@ -194,7 +199,10 @@ pub fn pause_or_tell<S: Source, M>(
     requires root { 1 ≤ job.now.root }
     ensures answer { (text : List ℕ) → S.left source.old ≡ Some text
         → (IsErrOf result (Stopped ReadFault) → ⊥)
-        → IsResultOf (ComesOf job.now (map (λ b. (kind b, state b)) call.old.watchers.items) text)
+        → IsResultOf (ComesOf job.now (map (λ b. (
+          (⟦<dyn Watch as Watch>⟧ b.vtable).kind b.value,
+          (⟦<dyn Watch as Watch>⟧ b.vtable).state b.value,
+        )) call.old.watchers.items) text)
         result }
     ensures status { IsTextResult result }
     ensures whole { IfOk result (λ a. HasRun a.status → IsAtEnd (S.left source.new)) }

@@ -5,10 +5,11 @@ ghost use Rattle.std.specs.Io.KnownBytes.{Consumes, IsAtEnd};
 ghost use Rattle.pop_model.specs.Faults.{Rose};
 ghost use Rattle.confluence_core.specs.Kept.{keeps_log};
 ghost use Rattle.run_cert.specs.Certificates.{Certificate};
-ghost use Rattle.top_call.specs.declared.refusal.Refusal.TheVariants.{Stopped};
-ghost use Rattle.top_call.specs.declared.stop.Stop.TheVariants.{ReadFault};
-ghost use Rattle.top_call.specs.Outcomes.{AnswersBy};
-ghost use Rattle.top_call.specs.Results.{IsJudged, IsResultOf, IsTextResult};
+ghost use Rattle.job_subjects.specs.declared.refusal.Refusal.TheVariants.{Stopped};
+ghost use Rattle.job_subjects.specs.declared.stop.Stop.TheVariants.{ReadFault};
+ghost use Rattle.told_runs.specs.Outcomes.{AnswersBy};
+ghost use Rattle.told_runs.specs.Results.{IsResultOf, IsTextResult};
+ghost use Rattle.job_subjects.specs.Refusals.{IsJudged};
 ghost use Rattle.top_call.specs.Replays.{cert_limit};
 ghost use Rattle.top_call.specs.Whole.{WasRead};
 ghost use Rattle.top_call.specs.Resumes.{IsResumed, ComesOfResuming};
@@ -16,17 +17,14 @@ ghost use Rattle.top_call.specs.Accepted.{IsHeldBy};
 ghost use Rattle.top_call.specs.Answers.{ComesOf};
 
 use crate::accepted::Accepted;
-use crate::answer::Answer;
-use crate::asked::Asked;
-use crate::call::Call;
-use crate::maker::Maker;
-use crate::refusal::Refusal;
 use crate::replaying::read_accepted;
-use crate::running::tell_end;
-use crate::stretch::Stretch;
 use confluence_core::{Keep, Log, Reached};
+use job_subjects::{Answer, Refusal};
 use pop_edge::Source;
+use pop_watch::Watch;
+use run_makers::{Maker, Stretch};
 use std::alloc::AllocError;
+use told_runs::{Asked, Call, tell_end};
 
 // A log, where it is to be kept.
 fn kept(log: Option<Log>, keep: Keep) -> Option<Log>
@@ -43,7 +41,10 @@ fn go_on<M: Maker>(call: &mut Call<M>, accepted: Accepted) -> Result<Answer, All
     requires maker { M.fits call.old.maker.now }
     requires held { (cert : Certificate) × IsHeldBy cert accepted }
     ensures { (cert : Certificate) → IsHeldBy cert accepted → IfOk result (λ a. AnswersBy
-        (IsResumed ComesOf (map (λ b. (kind b, state b)) call.old.watchers.items) cert)
+        (IsResumed ComesOf (map (λ b. (
+          (⟦<dyn Watch as Watch>⟧ b.vtable).kind b.value,
+          (⟦<dyn Watch as Watch>⟧ b.vtable).state b.value,
+        )) call.old.watchers.items) cert)
         a.status a.text.items) }
 {
     let Accepted {
@@ -71,7 +72,10 @@ pub fn resume<S: Source, M: Maker>(call: &mut Call<M>, source: &mut S) -> Result
     requires maker { M.fits call.old.maker.now }
     ensures answer { (text : List ℕ) → S.left source.old ≡ Some text
         → (IsErrOf result (Stopped ReadFault) → ⊥)
-        → IsResultOf (ComesOfResuming ComesOf (map (λ b. (kind b, state b)) call.old.watchers.items)
+        → IsResultOf (ComesOfResuming ComesOf (map (λ b. (
+          (⟦<dyn Watch as Watch>⟧ b.vtable).kind b.value,
+          (⟦<dyn Watch as Watch>⟧ b.vtable).state b.value,
+        )) call.old.watchers.items)
         text) result }
     ensures status { IsTextResult result }
     ensures whole { OnOk result (IsAtEnd (S.left source.new)) }

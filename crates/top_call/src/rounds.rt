@@ -1,51 +1,17 @@
 //! The command `rounds`: a formula is sampled by rounds.
-ghost use Rattle.std.specs.Prelude.{◌≡◌, None, length, IfOk};
-ghost use Rattle.pop_model.specs.Stacks.{variables_of};
-ghost use Rattle.pop_print.specs.declared.facts.Facts.TheVariants.{Formula as FormulaFacts};
-ghost use Rattle.pop_print.specs.Ends.{IsOfPairs};
-ghost use Rattle.prs_rounds.specs.Units.{IsIndexOf};
+ghost use Rattle.std.specs.Prelude.{◌≡◌, None, IfOk};
 ghost use Rattle.dimacs_read.specs.Cnf.{first_empty};
-ghost use Rattle.top_call.specs.Results.{IsResultOf};
-ghost use Rattle.top_call.specs.Outcomes.{AnswersBy};
-ghost use Rattle.top_call.specs.Sampling.{pair_weights};
-ghost use Rattle.top_call.specs.Rounds.{IsRoundsEndOf, EndsRounds, ComesOfRounds};
+ghost use Rattle.job_subjects.specs.Subjects.{pair_weights};
+ghost use Rattle.told_runs.specs.Outcomes.{AnswersBy};
+ghost use Rattle.told_runs.specs.Results.{IsResultOf};
+ghost use Rattle.top_call.specs.Rounds.{EndsRounds, ComesOfRounds};
 
-use crate::answer::Answer;
-use crate::call::Call;
-use crate::growing_stacks::GrowingStacks;
-use crate::instances::of_events;
-use crate::maker::Maker;
-use crate::making::stacks_for;
-use crate::origin::StackOrigin;
-use crate::refusal::Refusal;
-use crate::running::status_by;
 use dimacs_read::Formula;
-use pop_instance::{Index, Instance};
-use pop_print::text_of_rounds;
+use job_subjects::{Answer, Refusal, StackOrigin, of_events, stacks_for};
+use pop_instance::Index;
+use run_makers::{GrowingStacks, Maker};
 use std::alloc::AllocError;
-
-// Makes the rounds of an instance over so many variables, by the index of its events, and tells
-// their end.
-fn round_and_tell<M: Maker>(
-    call: &Call<M>,
-    variables: u32,
-    instance: &Instance,
-    index: &Index,
-) -> Result<Answer, AllocError>
-    requires maker { M.fits call.now.maker.now }
-    requires pairs { IsOfPairs variables instance.now }
-    requires index { IsIndexOf instance.now.family index.now }
-    requires variables { length index.now ≡ variables_of instance.now.stacks }
-    ensures { IfOk result (λ a. AnswersBy (IsRoundsEndOf (FormulaFacts variables) instance.now)
-        a.status a.text.items) }
-{
-    let end = call.maker.rounds(call.alloc, instance, index)?;
-    let text = text_of_rounds(call.alloc, variables, instance, &end)?;
-    Ok(Answer {
-        status: status_by(&end.stuck),
-        text,
-    })
-}
+use told_runs::{Call, round_and_tell};
 
 // Makes the rounds of the formula's events over these stacks of its variables, and tells their end.
 fn rounds_over<M: Maker>(

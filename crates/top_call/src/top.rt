@@ -3,27 +3,24 @@ ghost use Rattle.std.specs.Prelude.{◌≡◌, ◌≢◌, ◌⊎◌, ◌≤◌, 
 ghost use Rattle.std.specs.Io.KnownBytes.{Appends, IsAtEnd};
 ghost use Rattle.pop_model.specs.Faults.{Rose};
 ghost use Rattle.pop_edge.specs.Devices.{AppendsFront};
-ghost use Rattle.pop_edge.specs.declared.refusal.ReadRefusal.TheVariants.{ReadFault, OutOfMemory};
 ghost use Rattle.pop_words.specs.CommandLines.{AreWords, Asks};
 ghost use Rattle.pop_words.specs.declared.job.Job.{Job};
 ghost use Rattle.confluence_core.specs.Kept.{keeps_log};
-ghost use Rattle.top_call.specs.Makers.{IsRunTo, MayGoOn, IsBroughtOn};
-ghost use Rattle.top_call.specs.Refusals.{reading_line};
-ghost use Rattle.top_call.specs.Outcomes.{HasRun, IsAnswerStatus};
+ghost use Rattle.run_makers.specs.Makers.{IsRunTo, MayGoOn, IsBroughtOn};
+ghost use Rattle.job_subjects.specs.Refusals.{refusal_line};
+ghost use Rattle.job_subjects.specs.declared.refusal.Refusal.TheVariants.{Stopped};
+ghost use Rattle.job_subjects.specs.declared.stop.Stop.TheVariants.{ReadFault, OutOfMemory};
+ghost use Rattle.told_runs.specs.Outcomes.{HasRun, IsAnswerStatus};
 ghost use Rattle.top_call.specs.Answers.{AskForGrid, IsAnswer, IsInput, WasReadWhole};
 ghost use Rattle.top_call.specs.TopCall.{IsBreak, Answered, AnsweredUsage, HasReadFault, IsCutShort, IsUsageCutShort};
 
-use crate::alone::Alone;
-use crate::answer::{Answer, answer_to};
-use crate::by::By;
-use crate::on_threads::OnThreads;
-use crate::opening::Opening;
-use crate::stop::Stop;
-use crate::stretch::Stretch;
+use crate::answer::answer_to;
+use job_subjects::{Answer, Stop};
 use pop_edge::{Sink, SliceSource, Source, put_all};
 use pop_instance::Instance;
 use pop_watch::Watch;
 use pop_workers::{Gate, Outcome};
+use run_makers::{Alone, By, OnThreads, Opening, Stretch};
 use std::alloc::{AllocError, Global};
 use std::sync::Wait;
 use std::thread::Threads;
@@ -119,7 +116,7 @@ pub fn run<S: Source, K: Sink, R: Threads + Wait + Sync, G: Gate + Sync>(
         → HasReadFault (map string_bytes words.now) (S.left source.old) (S.left source.new)
         (S.faults source.old) (S.faults source.new) }
     ensures told_read_fault { result ≡ 7
-        → Appends (K.holds sink.old) (K.holds sink.new) (reading_line ReadFault) }
+        → Appends (K.holds sink.old) (K.holds sink.new) (refusal_line (Stopped ReadFault)) }
     ensures write_fault { result ≡ 8 → Rose (K.faults sink.old) (K.faults sink.new) }
     ensures cut { (text : List ℕ)
         → IsInput (map string_bytes words.now) (S.left source.old) text → result ≡ 8
@@ -130,7 +127,7 @@ pub fn run<S: Source, K: Sink, R: Threads + Wait + Sync, G: Gate + Sync>(
     ensures cut_usage { (AreWords (map string_bytes words.now) → ⊥) → result ≡ 8
         → IsUsageCutShort (map string_bytes words.now) (K.holds sink.old) (K.holds sink.new) }
     ensures memory { result ≡ 9
-        → Appends (K.holds sink.old) (K.holds sink.new) (reading_line OutOfMemory) }
+        → Appends (K.holds sink.old) (K.holds sink.new) (refusal_line (Stopped OutOfMemory)) }
 
     // With a sample, a verdict, an exhausted end or a certificate a source that is read was read to
     // its end.

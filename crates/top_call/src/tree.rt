@@ -2,19 +2,14 @@
 //! that is made from a number.
 ghost use Rattle.std.specs.Prelude.{◌≡◌, false, ℕ, None, Some, ◌≤◌, map};
 ghost use Rattle.pop_model.specs.Stacks.{IsKeyed};
-ghost use Rattle.top_call.specs.Results.{IsResultOf};
-ghost use Rattle.top_call.specs.Trees.{ComesOfTree};
-ghost use Rattle.top_call.specs.Grids.{ComesOfGrid};
+ghost use Rattle.told_runs.specs.Results.{IsResultOf};
+ghost use Rattle.top_call.specs.Trees.{ComesOfTree, ComesOfGrid};
 
-use crate::answer::Answer;
-use crate::asked::Asked;
-use crate::batching::sample_and_tell;
-use crate::call::Call;
-use crate::maker::Maker;
-use crate::making::{Made, make_grid, make_tree};
-use crate::origin::StackOrigin;
-use crate::refusal::Refusal;
 use graph_read::Graph;
+use job_subjects::{Answer, Made, Refusal, StackOrigin, make_grid, make_tree};
+use pop_watch::Watch;
+use run_makers::Maker;
+use told_runs::{Asked, Call, sample_and_tell};
 
 /// Samples a spanning tree of the graph with this root, from 1: the answer of `tree`.
 pub fn tree<M: Maker>(
@@ -30,7 +25,10 @@ pub fn tree<M: Maker>(
     requires keyed { (count : ℕ) → asked.count ≡ Some count → IsKeyed origin }
     requires root { 1 ≤ root }
     ensures { IsResultOf (ComesOfTree origin asked
-        (map (λ b. (kind b, state b)) call.old.watchers.items) root graph) result }
+        (map (λ b. (
+          (⟦<dyn Watch as Watch>⟧ b.vtable).kind b.value,
+          (⟦<dyn Watch as Watch>⟧ b.vtable).state b.value,
+        )) call.old.watchers.items) root graph) result }
 {
     let made = make_tree(call.alloc, origin, asked.count, root, graph)?;
     let Made { facts, instance } = made;
@@ -51,7 +49,10 @@ pub fn tree_of_grid<M: Maker>(
     requires keyed { (count : ℕ) → asked.count ≡ Some count → IsKeyed origin }
     requires side { (1 ≤ side) × (side ≤ 2048) }
     ensures { IsResultOf (ComesOfGrid origin asked
-        (map (λ b. (kind b, state b)) call.old.watchers.items) side) result }
+        (map (λ b. (
+          (⟦<dyn Watch as Watch>⟧ b.vtable).kind b.value,
+          (⟦<dyn Watch as Watch>⟧ b.vtable).state b.value,
+        )) call.old.watchers.items) side) result }
 {
     let made = make_grid(call.alloc, origin, asked.count, side)?;
     let Made { facts, instance } = made;

@@ -1,5 +1,5 @@
 use Rattle.std.proofs.Common.{refl, sym, ap, ◌∙◌}
-use Rattle.top_call.specs.Outcomes.{status_of, text_of}
+use Rattle.told_runs.specs.Outcomes.{status_of, text_of}
 use Rattle.answer_laws.proofs.OneWords.{one_outcome}
 use Rattle.answer_laws.proofs.OneLog.{one_logged}
 use Rattle.answer_laws.proofs.laws.one_logged_answer.Goals as goal

@@ -14,36 +14,35 @@ use Rattle.top_call.proofs.answer.answer_to.Goals as goal
 -- the words are no command line, which is told
 pub returns-in-Err-clause-answer : goal.returns-in-Err-clause-answer
 returns-in-Err-clause-answer g c text input =
-    told_answer (IsOutcome (map string_bytes c.args.words.now) _ text) c.from.result c.told.result c.told.ensures.told
+    told_answer (IsOutcome (map string_bytes c.args.words.now) _ text) c.from.result c.told.result c.told.ensures
     (λ read. words_refused (map string_bytes c.args.words.now) _ text c.in-Err.fault (Err c.from.result)
     (ap (λ r. Err r) c.from.ensures) c.in-Err.ensures.fault)
 
 pub returns-in-Err-clause-status : goal.returns-in-Err-clause-status
-returns-in-Err-clause-status g c = told_low c.from.result c.told.result c.told.ensures.told
+returns-in-Err-clause-status g c = told_low c.from.result c.told.result c.told.ensures
 
 pub returns-in-Err-clause-usage : goal.returns-in-Err-clause-usage
 returns-in-Err-clause-usage g c =
     told_usage (map string_bytes c.args.words.now) c.from.result c.told.result
     (λ place is. words_bad (map string_bytes c.args.words.now) c.in-Err.fault (Err c.from.result) place
-    (ap (λ r. Err r) c.from.ensures) c.in-Err.ensures.fault (ap (λ r. Err r) is)) c.told.ensures.told
+    (ap (λ r. Err r) c.from.ensures) c.in-Err.ensures.fault (ap (λ r. Err r) is)) c.told.ensures
 
 pub returns-in-Err-clause-only_usage : goal.returns-in-Err-clause-only_usage
 returns-in-Err-clause-only_usage g c outside =
     told_words c.from.result c.told.result
-    (words_only c.in-Err.fault (Err c.from.result) (ap (λ r. Err r) c.from.ensures)) c.told.ensures.told
-    c.told.ensures.stopped
+    (words_only c.in-Err.fault (Err c.from.result) (ap (λ r. Err r) c.from.ensures)) c.told.ensures
 
 pub returns-in-Err-clause-whole : goal.returns-in-Err-clause-whole
-returns-in-Err-clause-whole g c = told_high _ c.from.result c.told.result c.told.ensures.told
+returns-in-Err-clause-whole g c = told_high _ c.from.result c.told.result c.told.ensures
 
 pub returns-in-Err-clause-read_fault : goal.returns-in-Err-clause-read_fault
 returns-in-Err-clause-read_fault g c failed =
     absurd (words_no_fault c.in-Err.fault (Err c.from.result) (ap (λ r. Err r) c.from.ensures)
-    (ap (λ r. Err r) (told_fault c.from.result c.told.result c.told.ensures.stopped failed)))
+    (ap (λ r. Err r) (told_fault c.from.result c.told.result c.told.ensures failed)))
 
 pub returns-in-Err-clause-read : goal.returns-in-Err-clause-read
 returns-in-Err-clause-read g c job asks =
-    told_judged _ c.from.result c.told.result c.told.ensures.told
+    told_judged _ c.from.result c.told.result c.told.ensures
     (λ judged. words_judged _ (map string_bytes c.args.words.now) job c.in-Err.fault (Err c.from.result)
     (ap (λ r. Err r) c.from.ensures) c.in-Err.ensures.fault asks judged)
 
@@ -73,7 +72,7 @@ returns-in-Ok-answer_job-clause-read g c job asks =
 pub returns-clause-answer : goal.returns-clause-answer
 returns-clause-answer g c text input =
     told_answer (IsOutcome (map string_bytes c.args.words.now) _ text) c.in-Err-answer_job.refusal
-    c.told-in-Err-answer_job.result c.told-in-Err-answer_job.ensures.told
+    c.told-in-Err-answer_job.result c.told-in-Err-answer_job.ensures
     (λ read. carried (ComesBy c.in-Ok.job.command c.in-Ok.job _ text)
     (IsOutcome (map string_bytes c.args.words.now) _ text) (Err c.in-Err-answer_job.refusal)
     (of_words (map string_bytes c.args.words.now) c.in-Ok.job _ text c.in-Ok.ensures.job)
@@ -85,7 +84,7 @@ pub returns-clause-usage : goal.returns-clause-usage
 returns-clause-usage g c =
     told_usage (map string_bytes c.args.words.now) c.in-Err-answer_job.refusal c.told-in-Err-answer_job.result
     (λ place is. absurd (job_past_words (Err c.in-Err-answer_job.refusal) place c.in-Err-answer_job.ensures.status
-    (ap (λ r. Err r) is))) c.told-in-Err-answer_job.ensures.told
+    (ap (λ r. Err r) is))) c.told-in-Err-answer_job.ensures
 
 pub returns-clause-unread : goal.returns-clause-unread
 returns-clause-unread g c (inl outside) = absurd (outside (c.in-Ok.job, c.in-Ok.ensures.job))
@@ -94,11 +93,11 @@ returns-clause-unread g c (inr grid) =
 
 pub returns-clause-whole : goal.returns-clause-whole
 returns-clause-whole g c =
-    told_high _ c.in-Err-answer_job.refusal c.told-in-Err-answer_job.result c.told-in-Err-answer_job.ensures.told
+    told_high _ c.in-Err-answer_job.refusal c.told-in-Err-answer_job.result c.told-in-Err-answer_job.ensures
 
 pub returns-clause-read : goal.returns-clause-read
 returns-clause-read g c job asks =
-    told_judged _ c.in-Err-answer_job.refusal c.told-in-Err-answer_job.result c.told-in-Err-answer_job.ensures.told
+    told_judged _ c.in-Err-answer_job.refusal c.told-in-Err-answer_job.result c.told-in-Err-answer_job.ensures
     (λ judged. subst (λ (j : Job). WasReadWhole j.pops j.command (g.S.Source.left c.args.source.now)
     (g.S.Source.left c.answer_job.new.source))
     (same_job (map string_bytes c.args.words.now) c.in-Ok.job job c.in-Ok.ensures.job asks)

@@ -1,3 +1,5 @@
+use Rattle.std.proofs.Common.{true, false, None}
+use Rattle.job_subjects.proofs.TextRefusals.{of_formula, of_clash}
 use Rattle.top_call.proofs.Carrying.{unfailing}
 use Rattle.top_call.proofs.Lifting.{lifted_formula, lifted_resample, lifted_check, lifted_rounds}
 use Rattle.top_call.proofs.commands.answer_formula.Goals as goal
@@ -24,13 +26,13 @@ returns-in-Rounds-clause-answer g c text spelled =
 
 -- no source is read
 pub returns-in-Formula-clause-read : goal.returns-in-Formula-clause-read
-returns-in-Formula-clause-read g c failed = unfailing _ c.sample_formula.result c.sample_formula.ensures failed
+returns-in-Formula-clause-read g c failed = unfailing _ c.sample_formula.result (of_formula false _ _ c.args.formula.now) c.sample_formula.ensures failed
 
 pub returns-in-Resample-clause-read : goal.returns-in-Resample-clause-read
-returns-in-Resample-clause-read g c failed = unfailing _ c.sample_formula-in-Resample.result c.sample_formula-in-Resample.ensures failed
+returns-in-Resample-clause-read g c failed = unfailing _ c.sample_formula-in-Resample.result (of_formula true _ _ c.args.formula.now) c.sample_formula-in-Resample.ensures failed
 
 pub returns-in-Check-clause-read : goal.returns-in-Check-clause-read
-returns-in-Check-clause-read g c failed = unfailing _ c.check_formula.result c.check_formula.ensures failed
+returns-in-Check-clause-read g c failed = unfailing _ c.check_formula.result (of_clash c.args.formula.now) c.check_formula.ensures failed
 
 pub returns-in-Rounds-clause-read : goal.returns-in-Rounds-clause-read
-returns-in-Rounds-clause-read g c failed = unfailing _ c.sample_rounds.result c.sample_rounds.ensures failed
+returns-in-Rounds-clause-read g c failed = unfailing _ c.sample_rounds.result (of_formula true _ None c.args.formula.now) c.sample_rounds.ensures failed

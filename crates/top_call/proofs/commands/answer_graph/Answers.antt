@@ -1,3 +1,4 @@
+use Rattle.job_subjects.proofs.TextRefusals.{of_orienting, of_tree}
 use Rattle.top_call.proofs.Carrying.{unfailing}
 use Rattle.top_call.proofs.Lifting.{lifted_orient, lifted_tree}
 use Rattle.top_call.proofs.commands.answer_graph.Goals as goal
@@ -15,7 +16,7 @@ returns-in-Tree-clause-answer g c text spelled =
 
 -- no source is read
 pub returns-in-Orient-clause-read : goal.returns-in-Orient-clause-read
-returns-in-Orient-clause-read g c failed = unfailing _ c.orient.result c.orient.ensures failed
+returns-in-Orient-clause-read g c failed = unfailing _ c.orient.result (of_orienting _ _ _) c.orient.ensures failed
 
 pub returns-in-Tree-clause-read : goal.returns-in-Tree-clause-read
-returns-in-Tree-clause-read g c failed = unfailing _ c.tree.result c.tree.ensures failed
+returns-in-Tree-clause-read g c failed = unfailing _ c.tree.result (of_tree _ _ _ _) c.tree.ensures failed

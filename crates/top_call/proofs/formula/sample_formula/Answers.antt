@@ -1,6 +1,4 @@
-use Rattle.pop_print.specs.declared.facts.Facts.TheVariants.{Formula as FormulaFacts}
-use Rattle.top_call.specs.Sampling.{pair_weights, ComesOfSampling}
-use Rattle.top_call.specs.Resamplings.{RunsFormula}
+use Rattle.top_call.specs.Formulas.{ComesOfFormula}
 use Rattle.top_call.proofs.Carrying.{refused_result}
 use Rattle.top_call.proofs.FormulaRuns.{formula_answers}
 use Rattle.top_call.proofs.formula.sample_formula.Goals as goal
@@ -8,11 +6,8 @@ use Rattle.top_call.proofs.formula.sample_formula.Goals as goal
 -- nothing is made of the formula
 pub returns-in_err-made : goal.returns-in_err-made
 returns-in_err-made g c =
-    let f = c.args.formula.now in
-    refused_result
-    (ComesOfSampling (FormulaFacts f.variables) c.args.origin (pair_weights f.variables) c.args.asked.count
-    (RunsFormula c.args.may_clash c.args.origin c.args.asked _ f)) c.from_residual.result c.in_err-made.field-0.0
-    c.from_residual.ensures.1 (c.in_err-made.ensures.refused c.args.asked _)
+    refused_result (ComesOfFormula c.args.may_clash c.args.origin c.args.asked _ c.args.formula.now)
+    c.from_residual.result c.in_err-made.field-0.0 c.from_residual.ensures.1 c.in_err-made.ensures.refused
 
 pub returns : goal.returns
 returns g c =

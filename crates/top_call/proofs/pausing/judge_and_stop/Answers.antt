@@ -1,8 +1,8 @@
-use Rattle.std.proofs.Common.{[], ap, ◌∙◌}
+use Rattle.std.proofs.Common.{[], Ok, ap, ◌∙◌}
 use Rattle.pop_stacks.specs.Tables.{origin_of}
 use Rattle.top_call.specs.Answers.{last_height}
-use Rattle.top_call.proofs.MadeExtremal.{made_short}
-use Rattle.top_call.proofs.PausedComes.{made_error}
+use Rattle.job_subjects.proofs.MadeExtremal.{made_short}
+use Rattle.top_call.proofs.MadeRefusals.{made_error}
 use Rattle.top_call.proofs.Statuses.{job_result}
 use Rattle.top_call.proofs.pausing.judge_and_stop.Goals as goal
 
@@ -21,6 +21,11 @@ returns-in_err-made-clause-status g c =
     c.from_residual-in_err-made.ensures.1 c.in_err-made.ensures.refused
     (c.new-origin.ensures ∙ ap (λ s. origin_of s (last_height c.args.job.now)) c.in_ok-spec.ensures)
     c.requires.once)
+
+-- what is told of its run is told with a status of a text
+pub returns-clause-status : goal.returns-clause-status
+returns-clause-status g c =
+    job_result c.args.job.now _ c.args.input.now (Ok c.in_ok-stop_and_tell.field-0) c.in_ok-stop_and_tell.ensures
 
 -- what is made is made of a text within the limit
 pub stop_and_tell-requires-clause-short : goal.stop_and_tell-requires-clause-short

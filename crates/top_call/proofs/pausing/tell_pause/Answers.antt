@@ -6,7 +6,7 @@ use Rattle.pop_model.specs.Runs.{start_of}
 use Rattle.pop_log.specs.LayeredTexts.{placed_text}
 use Rattle.pop_log.proofs.LayeredPrinting.{records_below}
 use Rattle.run_cert.specs.Certificates.{cert_of, cert_text}
-use Rattle.top_call.specs.Outcomes.Outcome.{Paused}
+use Rattle.told_runs.specs.Outcomes.Outcome.{Paused}
 use Rattle.top_call.proofs.PausedComes.{pause_of}
 use Rattle.top_call.proofs.pausing.tell_pause.Goals as goal
 

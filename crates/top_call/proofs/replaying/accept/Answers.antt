@@ -1,23 +1,25 @@
-use Rattle.std.proofs.Common.{IfSome, sym, subst}
+use Rattle.std.proofs.Common.{◌≡◌, IfSome, sym, subst}
 use Rattle.pop_model.specs.Instances.{Instance}
 use Rattle.pop_model.specs.Extremal.{IsExtremal}
 use Rattle.pop_stacks.specs.Tables.{origin_of}
 use Rattle.pop_log.specs.LogVersions.{IsReadAs}
 use Rattle.pop_log.specs.Refusals.{IsLogRefusal}
 use Rattle.pop_print.specs.Ends.{AreFactsOf}
-use Rattle.top_call.specs.Names.{names_for}
-use Rattle.top_call.specs.Made.{IsMade}
-use Rattle.top_call.specs.Results.{IsLogRefusalOf}
+use Rattle.told_runs.specs.Names.{names_for}
+use Rattle.job_subjects.specs.Made.{IsMade}
+use Rattle.pop_log.specs.declared.log_refusal.LogRefusal.{LogRefusal}
+use Rattle.job_subjects.specs.Refusals.{IsRefusal, unlogged}
 use Rattle.top_call.specs.Replays.{IsCertified, IsRefusedCert}
 use Rattle.top_call.specs.Answers.{ComesOf}
-use Rattle.top_call.proofs.ReplayedCerts.{line_refused, text_refused, refused_as}
+use Rattle.job_subjects.proofs.Carrying.{refused_error}
+use Rattle.top_call.proofs.ReplayedCerts.{line_refused, text_refused}
 use Rattle.top_call.proofs.replaying.accept.Goals as goal
 
 -- what refuses the line of the certificate's command refuses it
 pub returns-in_err-made-clause-refused : goal.returns-in_err-made-clause-refused
 returns-in_err-made-clause-refused c =
-    refused_as (IsRefusedCert ComesOf c.args.cert.now) c.from_residual.result c.in_err-made.field-0.0
-    c.from_residual.ensures.1 (line_refused ComesOf c.args.cert.now c.in_err-made.field-0.0 c.in_err-made.ensures.refused)
+    refused_error (IsRefusal (IsRefusedCert ComesOf c.args.cert.now)) c.from_residual.result c.in_err-made.field-0.0
+    c.from_residual.ensures.1 (line_refused c.args.cert.now c.in_err-made.field-0.0 c.in_err-made.ensures.refused)
 
 -- so does what refuses its log text
 pub returns-in_err-reached-clause-refused : goal.returns-in_err-reached-clause-refused
@@ -31,11 +33,11 @@ returns-in_err-reached-clause-refused c =
       is = c.run_of.ensures.instance;
       numbers = c.run_of.ensures.numbers;
     } in
-    refused_as (IsRefusedCert ComesOf cert) c.from_residual-in_err-reached.result c.in_err-reached.field-0.0
-    c.from_residual-in_err-reached.ensures.1
-    (text_refused ComesOf cert facts i c.in_err-reached.field-0.0 certified
-    (subst (λ text. IsLogRefusalOf (IsLogRefusal (names_for facts) i text) c.in_err-reached.field-0.0) c.log_text.ensures
-    c.in_err-reached.ensures.refused))
+    refused_error (IsRefusal (IsRefusedCert ComesOf cert)) c.from_residual-in_err-reached.result
+    c.in_err-reached.field-0.0 c.from_residual-in_err-reached.ensures.1
+    (text_refused cert facts i c.in_err-reached.field-0.0 certified
+    (subst (λ text. (cause : LogRefusal) × IsLogRefusal (names_for facts) i text cause
+    × (c.in_err-reached.field-0.0 ≡ unlogged cause)) c.log_text.ensures c.in_err-reached.ensures.refused))
 
 -- what the certificate holds
 pub returns-clause-held : goal.returns-clause-held

@@ -1,4 +1,4 @@
-use Rattle.top_call.proofs.CertRefusals.{early_record}
+use Rattle.top_call.proofs.EarlyRecords.{early_record}
 use Rattle.top_call.proofs.replaying.run_of.Goals as goal
 
 -- a legal log has so few records

@@ -1,6 +1,6 @@
 use Rattle.pop_model.specs.Runs.{start_of}
 use Rattle.confluence_core.specs.Kept.{keeps_log}
-use Rattle.top_call.specs.Tellings.{asks_for_log}
+use Rattle.told_runs.specs.Tellings.{asks_for_log}
 use Rattle.top_call.proofs.ResumedCerts.{kept_reached, whole_run, goes_on_joined, resumed_result}
 use Rattle.top_call.proofs.resuming.go_on.Goals as goal
 

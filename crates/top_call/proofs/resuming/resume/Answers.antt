@@ -1,11 +1,14 @@
-use Rattle.top_call.proofs.ReplayedCerts.{resume_refused, same_fault}
+use Rattle.top_call.specs.Resumes.{ComesOfResuming}
+use Rattle.top_call.specs.Answers.{ComesOf}
+use Rattle.top_call.proofs.Carrying.{refused_result}
+use Rattle.top_call.proofs.ReplayedCerts.{same_fault}
 use Rattle.top_call.proofs.ResumedCerts.{resume_result, resume_status}
 use Rattle.top_call.proofs.resuming.resume.Goals as goal
 
 -- the text is refused
 pub returns-in_err-accepted-clause-answer : goal.returns-in_err-accepted-clause-answer
 returns-in_err-accepted-clause-answer g c text known failed =
-    resume_refused _ text c.from_residual.result c.in_err-accepted.field-0.0 c.from_residual.ensures.1
+    refused_result (ComesOfResuming ComesOf _ text) c.from_residual.result c.in_err-accepted.field-0.0 c.from_residual.ensures.1
     (c.in_err-accepted.ensures.refused text known
     (λ is. failed (same_fault c.from_residual.result c.in_err-accepted.field-0.0 c.from_residual.ensures.1 is)))
 

@@ -1,6 +1,6 @@
 use Rattle.std.proofs.Common.{◌≡◌, ◌∙◌}
 use Rattle.std.proofs.lemmas.Result.{IfOk-weaker}
-use Rattle.top_call.specs.Sampling.{instance_of}
+use Rattle.job_subjects.specs.Subjects.{instance_of}
 use Rattle.top_call.proofs.FormulaRuns.{end_of_rounds}
 use Rattle.top_call.proofs.rounds.rounds_over.Goals as goal
 

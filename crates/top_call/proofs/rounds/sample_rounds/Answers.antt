@@ -1,6 +1,6 @@
 use Rattle.std.proofs.Common.{subst}
 use Rattle.pop_model.specs.Stacks.{StackTable}
-use Rattle.top_call.specs.Outcomes.{AnswersBy}
+use Rattle.told_runs.specs.Outcomes.{AnswersBy}
 use Rattle.top_call.specs.Rounds.{EndsRounds}
 use Rattle.top_call.proofs.FormulaRuns.{rounds_answer}
 use Rattle.top_call.proofs.rounds.sample_rounds.Goals as goal

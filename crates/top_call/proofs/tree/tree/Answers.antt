@@ -1,11 +1,12 @@
-use Rattle.top_call.proofs.GoodForms.{tree_error}
-use Rattle.top_call.proofs.MadeExtremal.{tree_extremal}
+use Rattle.top_call.specs.Trees.{ComesOfTree}
+use Rattle.top_call.proofs.Carrying.{refused_result}
+use Rattle.job_subjects.proofs.MadeExtremal.{tree_extremal}
 use Rattle.top_call.proofs.tree.tree.Goals as goal
 
 -- nothing is made of the graph
 pub returns-in_err-made : goal.returns-in_err-made
 returns-in_err-made g c =
-    tree_error c.args.origin c.args.asked _ c.args.root c.args.graph c.from_residual.result c.in_err-made.field-0.0
+    refused_result (ComesOfTree c.args.origin c.args.asked _ c.args.root c.args.graph) c.from_residual.result c.in_err-made.field-0.0
     c.from_residual.ensures.1 c.in_err-made.ensures.refused
 
 -- cycles are extremal

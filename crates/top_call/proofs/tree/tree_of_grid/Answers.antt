@@ -1,11 +1,12 @@
-use Rattle.top_call.proofs.GoodForms.{grid_error}
-use Rattle.top_call.proofs.MadeExtremal.{grid_extremal}
+use Rattle.top_call.specs.Trees.{ComesOfGrid}
+use Rattle.top_call.proofs.Carrying.{refused_result}
+use Rattle.job_subjects.proofs.MadeExtremal.{grid_extremal}
 use Rattle.top_call.proofs.tree.tree_of_grid.Goals as goal
 
 -- nothing is made of the grid
 pub returns-in_err-made : goal.returns-in_err-made
 returns-in_err-made g c =
-    grid_error c.args.origin c.args.asked _ c.args.side c.from_residual.result c.in_err-made.field-0.0
+    refused_result (ComesOfGrid c.args.origin c.args.asked _ c.args.side) c.from_residual.result c.in_err-made.field-0.0
     c.from_residual.ensures.1 c.in_err-made.ensures.refused
 
 -- cycles are extremal

@@ -1,8 +1,8 @@
 use Rattle.std.proofs.Common.{◌≡◌, ◌≤◌, ◌+◌, ℕ, List, length, vec_len, Err, sym, ap, subst, ◌∙◌, arith, rules}
 use Rattle.std.specs.Io.KnownBytes.{Consumes}
 use Rattle.std.proofs.KnownBytes.{Consumes-nil}
-use Rattle.top_call.specs.declared.stop.Stop.TheVariants.{ReadFault}
-use Rattle.top_call.proofs.Carrying.{passed_on}
+use Rattle.job_subjects.specs.declared.stop.Stop.TheVariants.{ReadFault}
+use Rattle.job_subjects.proofs.Carrying.{passed_on}
 use Rattle.top_call.proofs.WholeReads.{taken_more, length_more, read_to_end, read_past, taken_short, same_err}
 use Rattle.top_call.proofs.whole.read_whole.Goals as goal
 

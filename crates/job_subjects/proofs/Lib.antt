@@ -1,0 +1,12 @@
+-- Carrying: an error that is passed on, and refusals of a part that are refusals of the whole.
+pub mod Carrying
+-- RefusedTexts: how a text is refused that its grammar refuses.
+pub mod RefusedTexts
+-- RefusedStacks: how stacks are refused. RefusedForms: and a formula, a graph or a grid.
+pub mod RefusedStacks
+pub mod RefusedForms
+-- MadeInstances: what is made is that of the definitions, and can be told. MadeExtremal: it is extremal.
+pub mod MadeInstances
+pub mod MadeExtremal
+-- TextRefusals: what refuses a text is told.
+pub mod TextRefusals

@@ -1,0 +1,120 @@
+-- What is sampled, whatever the stacks: the events of a formula, the sinks of a graph's
+-- orientations, or the cycles of its arrows.
+use Rattle.std.specs.Prelude.{◌≡◌, ℕ, List, [], ◌∷◌, length, replicate, Option, Ok}
+use Rattle.pop_model.specs.Stacks.{Origin}
+use Rattle.pop_model.specs.Popping.{Cube}
+use Rattle.pop_model.specs.Families.{Family}
+use Rattle.pop_model.specs.Families.Family.{Listed, Cycles}
+use Rattle.pop_model.specs.Instances.{Instance}
+use Rattle.pop_model.specs.Extremal.{IsExtremal}
+use Rattle.dimacs_read.specs.Cnf.{Cnf}
+use Rattle.dimacs_read.specs.CnfText.{AnswersCnf}
+use Rattle.dimacs_read.specs.Falsifying.{AreEventsOf}
+use Rattle.graph_read.specs.Graphs.{GraphOf, IsVertex}
+use Rattle.graph_read.specs.GraphText.{AnswersGraph}
+use Rattle.graph_read.specs.Grids.{IsSide, grid_of}
+use Rattle.graph_read.specs.Paths.{IsConnected}
+use Rattle.sink_popping.specs.Sinks.{AreSinksOf, IsIsolated}
+use Rattle.cycle_popping.specs.Trees.{heads_of_tree, weights_of_tree}
+use Rattle.pop_words.specs.declared.command.Command.{Command}
+use Rattle.pop_words.specs.declared.command.Command.TheVariants.{Formula, Orient, Tree, Resample, Check, Make, Rounds, Replay, Resume}
+use Rattle.pop_words.specs.declared.job.Job.{Job}
+use Rattle.pop_print.specs.declared.facts.Facts.{Facts}
+use Rattle.pop_print.specs.declared.facts.Facts.TheVariants.{Formula as FormulaFacts, Orient as OrientFacts, Tree as TreeFacts, Made as MadeFacts}
+
+-- the facts by which its samples are told, the weights of each variable's values, and its events
+pub record Subject : Type 0 where
+  pub facts : Facts
+  pub weights : List (List ℕ)
+  pub family : Family
+
+-- its instance over stacks of this origin
+abbrev pub instance_over : Origin → Subject → Instance
+instance_over origin s =
+    record { stacks = record { origin = origin; weights = s.weights }; family = s.family }
+
+-- two values of weight 1 for each of n variables
+abbrev pub pair_weights : ℕ → List (List ℕ)
+pair_weights n = replicate n (1 ∷ 1 ∷ [])
+
+-- the instance of listed events over n variables of two values
+abbrev pub instance_of : Origin → ℕ → List (ℕ × Cube) → Instance
+instance_of origin n events =
+    record { stacks = record { origin = origin; weights = pair_weights n }; family = Listed events }
+
+-- the instance of the cycles of arrows with these weights and heads
+abbrev pub cycles_instance : Origin → List (List ℕ) → List (List (Option ℕ)) → Instance
+cycles_instance origin weights heads =
+    record { stacks = record { origin = origin; weights = weights }; family = Cycles heads }
+
+-- the instance of the cycles of a graph with this root
+abbrev pub tree_instance : Origin → GraphOf → ℕ → Instance
+tree_instance origin g root =
+    cycles_instance origin (weights_of_tree g root) (heads_of_tree g root)
+
+-- assignments to the variables of a formula, which has these events
+abbrev pub assignments : Cnf → List (ℕ × Cube) → Subject
+assignments f events = record {
+  facts = FormulaFacts f.variables;
+  weights = pair_weights f.variables;
+  family = Listed events;
+}
+
+-- orientations of a graph, which has these events
+abbrev pub orientations : GraphOf → List (ℕ × Cube) → Subject
+orientations g events = record {
+  facts = OrientFacts g;
+  weights = pair_weights (length g.edges);
+  family = Listed events;
+}
+
+-- arrows to a root of a graph, told by these facts
+abbrev pub arrows_to : Facts → GraphOf → ℕ → Subject
+arrows_to facts g root = record {
+  facts = facts;
+  weights = weights_of_tree g root;
+  family = Cycles (heads_of_tree g root);
+}
+
+-- assignments to the formula of the text, which is extremal
+pub record AreAssignmentsOf (text : List ℕ) (s : Subject) : Type 0 where
+  pub formula : Cnf
+  pub spelled : AnswersCnf text (Ok formula)
+  pub events : List (ℕ × Cube)
+  pub of_formula : AreEventsOf formula.clauses events
+  pub extremal : IsExtremal (Listed events)
+  pub is : s ≡ assignments formula events
+
+-- orientations of the graph of the text, each of whose vertices an edge touches
+pub record AreOrientationsOf (text : List ℕ) (s : Subject) : Type 0 where
+  pub graph : GraphOf
+  pub spelled : AnswersGraph text (Ok graph)
+  pub touched : (w : ℕ) → IsIsolated graph w → ⊥
+  pub events : List (ℕ × Cube)
+  pub of_graph : AreSinksOf graph events
+  pub is : s ≡ orientations graph events
+
+-- arrows to this root of the graph of the text, to which each vertex is joined
+pub record AreArrowsOf (text : List ℕ) (root : ℕ) (s : Subject) : Type 0 where
+  pub graph : GraphOf
+  pub spelled : AnswersGraph text (Ok graph)
+  pub root_is : IsVertex graph.vertices root
+  pub joined : IsConnected graph root
+  pub is : s ≡ arrows_to (TreeFacts graph root) graph root
+
+-- arrows to the first vertex of the grid of this side
+pub record AreArrowsOfGrid (side : ℕ) (s : Subject) : Type 0 where
+  pub side_is : IsSide side
+  pub is : s ≡ arrows_to (MadeFacts side) (grid_of side) 1
+
+-- what a command that has one end samples, for a job and a text
+abbrev pub IsSubjectOf : Command → Job → List ℕ → Subject → Type 0
+IsSubjectOf Formula job text s = AreAssignmentsOf text s
+IsSubjectOf Orient job text s = AreOrientationsOf text s
+IsSubjectOf Tree job text s = AreArrowsOf text job.root s
+IsSubjectOf Make job text s = AreArrowsOfGrid job.size s
+IsSubjectOf Resample job text s = ⊥
+IsSubjectOf Check job text s = ⊥
+IsSubjectOf Rounds job text s = ⊥
+IsSubjectOf Replay job text s = ⊥
+IsSubjectOf Resume job text s = ⊥

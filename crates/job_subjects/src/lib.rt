@@ -1,0 +1,21 @@
+//! What a job runs: a formula, a graph or a grid is read and made into an instance, or refused, by
+//! its text, its form or its stacks; and how each refusal is told.
+#![tactic(auto)]
+
+mod answer;
+mod instances;
+mod making;
+mod origin;
+mod reading;
+mod refusal;
+mod stop;
+
+pub use answer::Answer;
+pub use instances::of_events;
+pub use making::{
+    Made, made_of, make_formula, make_grid, make_orientation, make_tree, refuse_clash, stacks_for,
+};
+pub use origin::{StackOrigin, copy_spec};
+pub use reading::{formula_of, graph_of};
+pub use refusal::{Refusal, told_in_line, unlogged};
+pub use stop::Stop;

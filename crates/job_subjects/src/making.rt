@@ -1,0 +1,261 @@
+//! What a command runs: it is made of a formula, a graph or a grid, or refused.
+ghost use Rattle.std.specs.Prelude.{◌≡◌, false, None, ◌<◌, ◌≤◌, ◌^◌, ◌≢◌, length, OnOk, IfOk, IfErr, Contains};
+ghost use Rattle.pop_model.specs.Families.Family.{Listed, Cycles};
+ghost use Rattle.pop_model.specs.Instances.{FamilyFits};
+ghost use Rattle.pop_model.specs.Extremal.{IsExtremal};
+ghost use Rattle.pop_stacks.specs.Faults.{IsSound};
+ghost use Rattle.pop_instance.specs.Events.{FitVariables};
+ghost use Rattle.dimacs_read.specs.Cnf.{first_empty};
+ghost use Rattle.graph_read.specs.Graphs.{IsVertex};
+ghost use Rattle.graph_read.specs.Paths.{IsConnected};
+ghost use Rattle.cycle_popping.specs.Trees.{heads_of_tree, weights_of_tree};
+ghost use Rattle.pop_words.specs.declared.command.Command.TheVariants.{Resample};
+ghost use Rattle.pop_words.specs.Options.{paused};
+ghost use Rattle.pop_print.specs.Ends.{AreFactsOf};
+ghost use Rattle.pop_print.specs.declared.facts.Facts.TheVariants.{Formula as FormulaFacts};
+ghost use Rattle.run_makers.specs.Growing.{MayIndex};
+ghost use Rattle.job_subjects.specs.Refusals.{IsRefusal};
+ghost use Rattle.job_subjects.specs.StackFaults.{AreFaulty, AreFew, AreTooMany, RefusesStacks};
+ghost use Rattle.job_subjects.specs.Subjects.{pair_weights, cycles_instance};
+ghost use Rattle.job_subjects.specs.Made.{IsMade, IsMadeFormula, IsMadeOrientation, IsMadeTree, IsMadeGrid};
+ghost use Rattle.job_subjects.specs.Refused.{AreClashed, HasCutOff, RefusesFormula, RefusesOrienting, RefusesTree, RefusesGrid, RefusesText};
+
+use crate::instances::{of_arrows, of_events};
+use crate::origin::StackOrigin;
+use crate::reading::{formula_of, graph_of};
+use crate::refusal::Refusal;
+use cycle_popping::{arrows_of, grid_arrows, grid_weights, weights_of};
+use dimacs_read::Formula;
+use extremal_check::{Verdict, check};
+use graph_read::{Graph, OtherEnds};
+use pop_edge::SliceSource;
+use pop_instance::{Arrows, Events, Index};
+use pop_print::Facts;
+use pop_stacks::Weights;
+use pop_words::Command;
+use run_makers::{GrowingInstance, GrowingStacks};
+use sink_popping::indexed_sinks;
+use std::alloc::Global;
+
+// How many variables all samples of a batch may have together: the text of a batch is whole before
+// its first byte is written.
+const MAX_VARIABLES: u64 = 1 << 25;
+
+/// Refuses so many samples of so many variables where they are more than a batch may have.
+pub fn refuse_too_many(asked: Option<u32>, variables: u32) -> Result<(), Refusal>
+    ensures few { OnOk result (AreFew asked variables) }
+    ensures many { IfErr result (AreTooMany asked variables) }
+{
+    match asked {
+        Some(count) if u64::from(count) * u64::from(variables) > MAX_VARIABLES => {
+            Err(Refusal::TooMany(count))
+        }
+        _ => Ok(()),
+    }
+}
+
+/// What a command runs, and the facts by which it is told.
+#[derive(Drop)]
+pub struct Made {
+    pub facts: Facts,
+    pub instance: GrowingInstance,
+}
+
+/// Refuses events over so many variables of which two clash, where they may not. They are searched
+/// by their index, which is handed out; where they may clash, none is built.
+pub fn refuse_clash(
+    alloc: Global,
+    may_clash: bool,
+    variables: u32,
+    events: &Events,
+) -> Result<Option<Index>, Refusal>
+    requires { FitVariables variables events.now }
+    ensures index { IfOk result (MayIndex (Listed events.now)) }
+    ensures extremal { may_clash ≡ false → OnOk result (IsExtremal (Listed events.now)) }
+    ensures clash { IfErr result
+        (IsRefusal (λ r. (may_clash ≡ false) × AreClashed events.now r)) }
+{
+    if may_clash {
+        return Ok(None);
+    }
+    let index = Index::build(alloc, events, variables)?;
+    match check(alloc, events, &index)? {
+        Verdict::Clash(number, other) => Err(Refusal::Clashes(number, other)),
+        Verdict::Extremal => Ok(Some(index)),
+    }
+}
+
+/// The stacks of a formula's variables, or their first fault. Each of their two values weighs 1.
+pub fn stacks_for(origin: StackOrigin, formula: &Formula) -> Result<GrowingStacks, Refusal>
+    ensures made { IfOk result (λ stacks. stacks
+        ≡ record { origin = origin; weights = pair_weights formula.now.variables }) }
+    ensures sound { OnOk result (IsSound origin (pair_weights formula.now.variables)) }
+    ensures fault { IfErr result (IsRefusal (AreFaulty (FormulaFacts formula.now.variables)
+        origin (pair_weights formula.now.variables))) }
+{
+    let variables = formula.variables();
+    origin.stacks(&Facts::Formula(variables), Weights::pairs(variables))
+}
+
+/// Makes the events of a formula, of which so many samples are asked for. They may not clash, but
+/// where they are resampled.
+pub fn make_formula(
+    alloc: Global,
+    origin: StackOrigin,
+    count: Option<u32>,
+    may_clash: bool,
+    formula: &Formula,
+) -> Result<Made, Refusal>
+    requires filled { first_empty formula.now ≡ None }
+    ensures made { IfOk result (λ made.
+        IsMadeFormula may_clash origin count formula.now made.facts made.instance) }
+    ensures told { IfOk result (λ made. AreFactsOf made.facts made.instance) }
+    ensures refused { IfErr result
+        (IsRefusal (RefusesFormula may_clash origin count formula.now)) }
+{
+    let variables = formula.variables();
+    refuse_too_many(count, variables)?;
+    let stacks = stacks_for(origin, formula)?;
+    let events = formula.events(alloc)?;
+    let index = refuse_clash(alloc, may_clash, variables, &events)?;
+    let instance = of_events(variables, stacks, events, index);
+    let facts = Facts::Formula(variables);
+    Ok(Made { facts, instance })
+}
+
+/// Makes the sinks of a graph's orientations, of which so many samples are asked for.
+pub fn make_orientation(
+    alloc: Global,
+    origin: StackOrigin,
+    count: Option<u32>,
+    graph: Graph,
+) -> Result<Made, Refusal>
+    ensures made { IfOk result (λ made.
+        IsMadeOrientation origin count graph made.facts made.instance) }
+    ensures told { IfOk result (λ made. AreFactsOf made.facts made.instance) }
+    ensures refused { IfErr result (IsRefusal (RefusesOrienting origin count graph)) }
+{
+    let (events, index) = indexed_sinks(alloc, &graph)?;
+    let edges = graph.edges();
+    refuse_too_many(count, edges)?;
+    let facts = Facts::Orient(graph);
+    let stacks = origin.stacks(&facts, Weights::pairs(edges))?;
+    let instance = of_events(edges, stacks, events, Some(index));
+    Ok(Made { facts, instance })
+}
+
+// Makes the cycles of arrows with these weights, of which the facts tell.
+fn make_cycles(
+    origin: StackOrigin,
+    count: Option<u32>,
+    facts: Facts,
+    weights: Weights,
+    arrows: Arrows,
+) -> Result<Made, Refusal>
+    requires few { length weights < 2 ^ 31 }
+    requires fits { FamilyFits (record { origin = origin; weights = weights }) (Cycles arrows) }
+    ensures facts { IfOk result (λ made. made.facts ≡ facts) }
+    ensures instance { IfOk result (λ made.
+        made.instance ≡ cycles_instance origin weights arrows) }
+    ensures sound { OnOk result (IsSound origin weights) }
+    ensures few { OnOk result (AreFew count (length weights)) }
+    ensures refused { IfErr result (IsRefusal (RefusesStacks facts origin weights count)) }
+{
+    refuse_too_many(count, arrows.count())?;
+    let stacks = origin.stacks(&facts, weights)?;
+    let instance = of_arrows(stacks, arrows);
+    Ok(Made { facts, instance })
+}
+
+// The arrows of a graph's trees to a root, and their weights; a vertex that is cut off from it is
+// refused. All are found by the other ends of its edges, which are let go behind them.
+fn arrows_and_weights(alloc: Global, graph: &Graph, root: u32) -> Result<(Arrows, Weights), Refusal>
+    requires root { IsVertex graph.now.vertices root }
+    ensures connected { OnOk result (IsConnected graph.now root) }
+    ensures arrows { IfOk result (λ parts. parts.0 ≡ heads_of_tree graph.now root) }
+    ensures weights { IfOk result (λ parts. parts.1 ≡ weights_of_tree graph.now root) }
+    ensures refused { IfErr result (IsRefusal (HasCutOff graph.now root)) }
+{
+    let ends = OtherEnds::of(alloc, graph)?;
+    if let Some(vertex) = ends.first_cut_off(alloc, root)? {
+        return Err(Refusal::CutOff(vertex));
+    }
+    // What weights are made of is gone before there are arrows: both would want more memory.
+    let weights = weights_of(alloc, &ends, root)?;
+    let arrows = arrows_of(alloc, &ends, root)?;
+    Ok((arrows, weights))
+}
+
+/// Makes the cycles of the arrows of a graph's trees with this root, from 1, of which so many
+/// samples are asked for.
+pub fn make_tree(
+    alloc: Global,
+    origin: StackOrigin,
+    count: Option<u32>,
+    root: u32,
+    graph: Graph,
+) -> Result<Made, Refusal>
+    requires root { 1 ≤ root }
+    ensures made { IfOk result (λ made.
+        IsMadeTree origin count root graph made.facts made.instance) }
+    ensures told { IfOk result (λ made. AreFactsOf made.facts made.instance) }
+    ensures refused { IfErr result (IsRefusal (RefusesTree origin count root graph)) }
+{
+    // It also says that there are few vertices, so that each has a name.
+    if root > graph.vertices() {
+        return Err(Refusal::NoRoot(root));
+    }
+    let (arrows, weights) = arrows_and_weights(alloc, &graph, root)?;
+    make_cycles(origin, count, Facts::Tree(graph, root), weights, arrows)
+}
+
+/// Makes the cycles of the arrows of the grid of so many rows and columns, from 1 to 2048, with its
+/// arrows to vertex 1. The graph isn't made; arrows and weights come of the side.
+pub fn make_grid(
+    alloc: Global,
+    origin: StackOrigin,
+    count: Option<u32>,
+    side: u32,
+) -> Result<Made, Refusal>
+    requires side { (1 ≤ side) × (side ≤ 2048) }
+    ensures made { IfOk result (λ made. IsMadeGrid origin count side made.facts made.instance) }
+    ensures told { IfOk result (λ made. AreFactsOf made.facts made.instance) }
+    ensures refused { IfErr result (IsRefusal (RefusesGrid origin count side)) }
+{
+    let arrows = grid_arrows(alloc, side)?;
+    let weights = grid_weights(alloc, side)?;
+    make_cycles(origin, count, Facts::Made(side), weights, arrows)
+}
+
+/// Makes what a command that may stop runs, of its input, or refuses it: by its text, its form or
+/// its stacks, in this order.
+pub fn made_of(
+    alloc: Global,
+    command: Command,
+    origin: StackOrigin,
+    root: u32,
+    input: &[u8],
+) -> Result<Made, Refusal>
+    requires command { Contains paused command }
+    requires root { 1 ≤ root }
+    ensures made { IfOk result (λ made.
+        IsMade command origin root input.now made.facts made.instance) }
+    ensures told { IfOk result (λ made. AreFactsOf made.facts made.instance) }
+    ensures extremal { command ≢ Resample
+        → IfOk result (λ made. IsExtremal made.instance.family) }
+    ensures refused { IfErr result
+        (IsRefusal (RefusesText command origin root input.now)) }
+{
+    let mut source = SliceSource::new(input);
+    match command {
+        Command::Formula => {
+            make_formula(alloc, origin, None, false, &formula_of(alloc, &mut source)?)
+        }
+        Command::Resample => {
+            make_formula(alloc, origin, None, true, &formula_of(alloc, &mut source)?)
+        }
+        Command::Orient => make_orientation(alloc, origin, None, graph_of(alloc, &mut source)?),
+        Command::Tree => make_tree(alloc, origin, None, root, graph_of(alloc, &mut source)?),
+        _ => unreachable!(),
+    }
+}

@@ -1,0 +1,90 @@
+//! Where the entries of stacks come from.
+ghost use Rattle.std.specs.Prelude.{◌≡◌, ◌<◌, ◌≤◌, ◌^◌, length, unwrap_or, IfOk, IfErr, OnOk, IfSome, MatchOption};
+ghost use Rattle.pop_model.specs.Stacks.{IsKeyed};
+ghost use Rattle.pop_stacks.specs.Tables.{origin_of};
+ghost use Rattle.pop_stacks.specs.Faults.{IsSound};
+ghost use Rattle.job_subjects.specs.Refusals.{IsRefusal};
+ghost use Rattle.job_subjects.specs.StackFaults.{AreFaulty};
+
+use crate::refusal::{Refusal, unsound};
+use pop_print::Facts;
+use pop_stacks::{StackSpec, Stacks, Weights};
+use run_makers::GrowingStacks;
+use std::alloc::{AllocError, Global};
+use std::marker::Model;
+
+/// Where the entries of stacks come from: given rows, or a key, a first height and a last one, from
+/// 1 to 2^31 - 1. Contracts see the origin at the last height.
+#[derive(Drop)]
+pub struct StackOrigin {
+    spec: StackSpec,
+    // The height with which the stacks are made, and that to which they grow.
+    first: u32,
+    last: u32,
+}
+
+impl Model for StackOrigin {
+    ghost use Rattle.std.specs.Prelude.{◌<◌, ◌≤◌, ◌^◌};
+    ghost use Rattle.pop_model.specs.Stacks.{Origin};
+    ghost use Rattle.pop_stacks.specs.Tables.{origin_of};
+
+    ghost Value = { Origin };
+
+    ghost view = { λ a. origin_of a.spec a.last };
+
+    ghost invariant = { λ a. (0 < a.first) × (a.first ≤ a.last) × (a.last < 2 ^ 31) };
+}
+
+// The last height, where stacks that are made with the first one have to grow to it: with a key,
+// where it is greater.
+fn growth(spec: &StackSpec, first: u32, last: u32) -> Option<u32>
+    requires { first ≤ last }
+    ensures { MatchOption result (origin_of spec.now first ≡ origin_of spec.now last)
+        (λ height. (height ≡ last) × IsKeyed (origin_of spec.now first)) }
+{
+    match spec {
+        StackSpec::Key(_) => { if first < last { Some(last) } else { None } }
+        StackSpec::Given(_) => None,
+    }
+}
+
+/// Equal rows, or the same key.
+pub fn copy_spec(alloc: Global, spec: &StackSpec) -> Result<StackSpec, AllocError>
+    ensures { IfOk result (λ copy. copy ≡ spec.now) }
+{
+    match spec {
+        StackSpec::Key(key) => Ok(StackSpec::Key(*key)),
+        StackSpec::Given(rows) => Ok(StackSpec::Given(rows.copy(alloc)?)),
+    }
+}
+
+impl StackOrigin {
+    /// These rows, or this key with this height; or, where there is a height to grow to, up to that
+    /// one from the lesser of the two.
+    pub fn new(spec: StackSpec, height: u32, grow: Option<u32>) -> StackOrigin
+        requires some { 0 < height }
+        requires short { height < 2 ^ 31 }
+        requires grow { IfSome grow (λ last. (0 < last) × (last < 2 ^ 31)) }
+        ensures { result ≡ origin_of spec (unwrap_or grow height) }
+    {
+        let last = grow.unwrap_or(height);
+        let first = height.min(last);
+        StackOrigin { spec, first, last }
+    }
+
+    /// The stacks with these weights, at the first height, or their first fault, whose variable the
+    /// facts name. A fault doesn't hang on the height.
+    pub fn stacks(self, facts: &Facts, weights: Weights) -> Result<GrowingStacks, Refusal>
+        requires few { length weights < 2 ^ 31 }
+        ensures made { IfOk result (λ stacks.
+            stacks ≡ record { origin = self; weights = weights }) }
+        ensures sound { OnOk result (IsSound self weights) }
+        ensures fault { IfErr result (IsRefusal (AreFaulty facts.now self weights)) }
+    {
+        let last = growth(&self.spec, self.first, self.last);
+        match Stacks::new(self.spec, weights, self.first) {
+            Ok(stacks) => Ok(GrowingStacks::new(stacks, last)),
+            Err(fault) => Err(unsound(facts, fault)),
+        }
+    }
+}

@@ -1,0 +1,19 @@
+use Rattle.std.proofs.Common.{◌≡◌, ◌∙◌, sym, ap, subst}
+use Rattle.pop_model.specs.Instances.{Instance, instance_raised}
+use Rattle.pop_model.specs.Runs.{start_of}
+use Rattle.confluence_core.specs.Kept.{keeps_log}
+use Rattle.confluence_core.specs.Runs.{IsRunOf}
+use Rattle.pop_workers.specs.Stages.{height}
+use Rattle.pop_workers.proofs.RaisedInstances.{raised_twice}
+use Rattle.run_makers.proofs.on_threads.OnThreads.run_in_stages.Goals as goal
+
+-- the instance has the last height, whatever that of the last stage was
+pub returns-clause-run : goal.returns-clause-run
+returns-clause-run g c =
+    let i : Instance = c.args.instance.now in
+    let staged : Instance = c.sample_grown.new.instance in
+    let at : c.raise.new.self ≡ instance_raised c.args.last i =
+    c.raise.ensures ∙ ap (instance_raised c.args.last) c.in_ok-run.ensures.raised
+    ∙ raised_twice i c.args.last (height staged) in
+    subst (λ (x : Instance). IsRunOf x (start_of x) (keeps_log c.args.keep) c.in_ok-run.run') (sym at)
+    c.in_ok-run.ensures.run

@@ -1,0 +1,24 @@
+-- What those who make runs are handed, and what they make.
+use Rattle.std.specs.Prelude.{◌≡◌, ℕ, Bool, List, Option}
+use Rattle.pop_model.specs.Instances.{Instance}
+use Rattle.pop_model.specs.Runs.{start_of}
+use Rattle.confluence_core.specs.declared.reached.Reached.{Reached}
+use Rattle.confluence_core.specs.declared.run.Run.{Run}
+use Rattle.confluence_core.specs.Runs.{IsRunOf, ended}
+use Rattle.confluence_core.specs.Stretches.{GoesOn, HasCome, IsReached}
+use Rattle.run_makers.specs.Growing.{MayIndex}
+
+-- a run of the instance from zeros to an end, and the instance that it was
+pub record IsRunTo (i : Instance) (keeps : Bool) (ran : Run × Instance) : Type 0 where
+  pub instance : ran.1 ≡ i
+  pub run : IsRunOf ran.1 (start_of ran.1) keeps ran.0
+
+-- some run has come so far, and what is at hand is the index of the family, or nothing
+pub record MayGoOn (i : Instance) (at_hand : Option (List (List ℕ))) (so_far : Reached) : Type 0 where
+  pub index : MayIndex i.family at_hand
+  pub reached : HasCome i so_far
+
+-- the run went on from there, and is one from wherever it began
+pub record IsBroughtOn (i : Instance) (so_far : Reached) (left : Run) : Type 0 where
+  pub on : GoesOn i so_far (ended left)
+  pub run : (start : List ℕ) → (keeps : Bool) → IsReached i start keeps so_far → IsRunOf i start keeps left

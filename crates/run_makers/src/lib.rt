@@ -1,0 +1,23 @@
+//! Who makes runs: several threads, by closures, or the calling thread alone; of instances whose
+//! stacks may grow.
+#![tactic(auto)]
+
+mod alone;
+mod by;
+mod crew;
+mod growing_instance;
+mod growing_stacks;
+mod maker;
+mod on_threads;
+mod opening;
+mod stretch;
+
+pub use alone::Alone;
+pub use by::By;
+pub use crew::Crew;
+pub use growing_instance::GrowingInstance;
+pub use growing_stacks::GrowingStacks;
+pub use maker::Maker;
+pub use on_threads::OnThreads;
+pub use opening::Opening;
+pub use stretch::Stretch;

@@ -1,0 +1,58 @@
+//! Who makes runs.
+ghost use Rattle.std.specs.Prelude.{◌≡◌, length, IfOk};
+ghost use Rattle.pop_model.specs.Stacks.{IsKeyed, variables_of};
+ghost use Rattle.pop_model.specs.Extremal.{IsExtremal};
+ghost use Rattle.confluence_core.specs.Kept.{keeps_log};
+ghost use Rattle.pop_batch.specs.Batches.{AreEnds};
+ghost use Rattle.prs_rounds.specs.Rounds.{IsRoundsEnd};
+ghost use Rattle.prs_rounds.specs.Units.{IsIndexOf};
+ghost use Rattle.pop_print.specs.Rounds.{IsShownAt};
+ghost use Rattle.run_makers.specs.Makers.{IsRunTo, MayGoOn, IsBroughtOn};
+
+use crate::opening::Opening;
+use crate::stretch::Stretch;
+use pop_batch::Ends;
+use pop_instance::{Index, Instance};
+use pop_workers::Outcome;
+use prs_rounds::RoundEnd;
+use std::alloc::{AllocError, Global};
+
+/// Makes runs, on whichever threads.
+pub trait Maker {
+    // What has to be known of one, so that it does.
+    ghost fits: { Self → Type 0 };
+
+    /// A run from zeros to an end at the last height, and the instance at that height.
+    fn run(&self, opening: Opening) -> Result<(Outcome, Instance), AllocError>
+        requires fits { fits self.now }
+        ensures { IfOk result (IsRunTo opening.growing (keeps_log opening.keep)) };
+
+    /// Goes on with a run to an end, and tells it.
+    fn finish(&self, stretch: Stretch) -> Result<Outcome, AllocError>
+        requires fits { fits self.now }
+        requires may { MayGoOn stretch.instance.now stretch.at_hand stretch.reached }
+        ensures { IfOk result
+            (IsBroughtOn stretch.entry.instance.now stretch.entry.reached) };
+
+    /// The ends of so many samples of the instance under a key. Each is run on one thread.
+    fn batch(&self, alloc: Global, instance: &Instance, count: u32) -> Result<Ends, AllocError>
+        requires fits { fits self.now }
+        requires keyed { IsKeyed instance.now.stacks.origin }
+        requires extremal { IsExtremal instance.now.family }
+        ensures { IfOk result (AreEnds instance.now count) };
+
+    /// The run of the instance by rounds, by the index of its listed events.
+    fn rounds(
+        &self,
+        alloc: Global,
+        instance: &Instance,
+        index: &Index,
+    ) -> Result<RoundEnd, AllocError>
+        requires fits { fits self.now }
+        requires index { IsIndexOf instance.now.family index.now }
+        requires variables { length index.now ≡ variables_of instance.now.stacks }
+        ensures end { IfOk result
+            (λ end. IsRoundsEnd instance.now end.cursors end.rounds end.stuck end.short) }
+        ensures shown { IfOk result (λ end. IsShownAt instance.now end.cursors end.stuck
+            end.values.items) };
+}

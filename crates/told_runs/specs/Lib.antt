@@ -1,0 +1,10 @@
+pub mod Asking
+pub mod Names
+pub mod Witnesses
+pub mod Reports
+pub mod Tellings
+pub mod Batches
+pub mod ReplayTexts
+pub mod Outcomes
+pub mod Ends
+pub mod Results

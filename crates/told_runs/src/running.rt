@@ -1,0 +1,276 @@
+//! A run of an instance, and how it is told.
+ghost use Rattle.std.specs.Prelude.{◌≡◌, ◌++◌, List, true, false, ◌&&◌, Some, None, map, length, IfOk, if◌then◌else◌};
+ghost use Rattle.pop_model.specs.Stacks.{variables_of};
+ghost use Rattle.pop_model.specs.Extremal.{IsExtremal};
+ghost use Rattle.pop_model.specs.Logs.{LogRecord, IsLegal, replay};
+ghost use Rattle.pop_model.specs.Runs.{start_of};
+ghost use Rattle.confluence_core.specs.Runs.{IsRunOf};
+ghost use Rattle.pop_print.specs.Ends.{AreFactsOf};
+ghost use Rattle.told_runs.specs.Outcomes.{AnswersBy, end_status};
+ghost use Rattle.pop_watch.specs.Telling.{log_told};
+ghost use Rattle.told_runs.specs.Reports.{reports_text};
+ghost use Rattle.told_runs.specs.Witnesses.{TellsWitness};
+ghost use Rattle.told_runs.specs.Ends.{EndsWithin, IsEndOf, IsHistoryOf, IsHistoryWith};
+ghost use Rattle.told_runs.specs.Tellings.{GoesOn, TellsRecords, TellsLog, TellsRun, asks_for_log, layered_text, records_of};
+
+use crate::asked::Asked;
+use crate::call::Call;
+use crate::names::{Named, names_of};
+use crate::reporting::report_log;
+use crate::witness::{LogText, witness_of};
+use confluence_core::{End, Log, Stuck};
+use job_subjects::Answer;
+use pop_instance::{Cursors, Instance};
+use pop_log::{LayeredLog, Names};
+use pop_print::{Facts, text};
+use pop_workers::Outcome;
+use run_makers::{GrowingInstance, Maker, Opening};
+use std::alloc::{AllocError, Global};
+
+/// The status of a run by the events that occur at its end: 1 where there are any.
+pub fn status_by(stuck: &Stuck) -> u8
+    ensures { result ≡ end_status stuck.now }
+{
+    if stuck.len() == 0 { 0 } else { 1 }
+}
+
+// The status of an end: where the order of pops is free, a missing witness is told first.
+fn status_with(end: &End, free: bool, missing: bool) -> u8
+    ensures { result ≡ (if free && missing then 6 else end_status end.now.stuck) }
+{
+    if free && missing {
+        6
+    } else {
+        status_by(&end.stuck)
+    }
+}
+
+// What is told of a witness where it is asked for; else nothing.
+fn tell_witness(
+    alloc: Global,
+    instance: &Instance,
+    names: &Names,
+    cursors: &Cursors,
+    log: &Log,
+    asked: Option<(u32, u32)>,
+) -> Result<LogText, AllocError>
+    requires count { variables_of instance.now.stacks ≡ length cursors.now }
+    requires legal { IsLegal instance.now (start_of instance.now) log.now }
+    requires leads { cursors.now ≡ replay (start_of instance.now) log.now }
+    ensures { IfOk result (λ w. TellsWitness names.now instance.now.family asked cursors.now log.now
+        w.missing w.bytes.items) }
+{
+    match asked {
+        Some(asked) => witness_of(alloc, instance, names, cursors, log, asked),
+        None => LogText::nothing(alloc),
+    }
+}
+
+// The reports that are asked for of a layered log. Where the watchers are told it, each is told
+// each record, in order and once.
+fn tell_watchers<M>(call: &mut Call<M>, log: &Log, asked: Asked) -> Result<Vec<u8>, AllocError>
+    ensures { IfOk result (λ bytes. bytes.items ≡ reports_text asked.reports
+        (log_told log.now (map (λ b. (kind b, state b)) call.old.watchers.items))) }
+{
+    if !asked.tells() {
+        return Ok(Vec::new(call.alloc));
+    }
+    report_log(call.alloc, &mut call.watchers, log, asked.reports)
+}
+
+// What is told of a layered log behind its text: the witness and the reports that are asked for.
+fn tell_records<M>(
+    call: &mut Call<M>,
+    instance: &Instance,
+    names: &Names,
+    cursors: &Cursors,
+    log: &Log,
+    asked: Asked,
+) -> Result<LogText, AllocError>
+    requires count { variables_of instance.now.stacks ≡ length cursors.now }
+    requires legal { IsLegal instance.now (start_of instance.now) log.now }
+    requires leads { cursors.now ≡ replay (start_of instance.now) log.now }
+    ensures { IfOk result (λ t. TellsRecords asked
+        (map (λ b. (kind b, state b)) call.old.watchers.items) names.now instance.now log.now
+        t.missing t.bytes.items) }
+{
+    let witness = tell_witness(call.alloc, instance, names, cursors, log, asked.witness)?;
+    let mut bytes = witness.bytes;
+    let reports = tell_watchers(call, log, asked)?;
+    bytes.extend_from_slice(&reports)?;
+    Ok(LogText {
+        missing: witness.missing,
+        bytes,
+    })
+}
+
+// What is told of a layered log behind its text. It is copied where its records are looked at.
+fn tell_in_layers<M>(
+    call: &mut Call<M>,
+    instance: &Instance,
+    names: &Names,
+    cursors: &Cursors,
+    placed: &LayeredLog,
+    asked: Asked,
+) -> Result<LogText, AllocError>
+    requires count { variables_of instance.now.stacks ≡ length cursors.now }
+    requires legal { IsLegal instance.now (start_of instance.now) (records_of placed.now) }
+    requires leads { cursors.now ≡ replay (start_of instance.now) (records_of placed.now) }
+    ensures { IfOk result (λ t. TellsRecords asked
+        (map (λ b. (kind b, state b)) call.old.watchers.items) names.now instance.now
+        (records_of placed.now) t.missing t.bytes.items) }
+{
+    if !asked.looks() {
+        return LogText::nothing(call.alloc);
+    }
+    let layered = placed.copy(call.alloc)?;
+    tell_records(call, instance, names, cursors, &layered, asked)
+}
+
+// A text, and behind it that of a layered log, where it is printed.
+fn text_if(
+    text: Vec<u8>,
+    instance: &Instance,
+    names: &Names,
+    placed: &LayeredLog,
+    printed: bool,
+) -> Result<Vec<u8>, AllocError>
+    requires { IsLegal instance.now (start_of instance.now) (records_of placed.now) }
+    ensures { IfOk result (λ bytes. bytes.items ≡ text.items ++ layered_text names.now instance.now
+        (if printed then Some placed.now else None)) }
+{
+    if !printed {
+        return Ok(text);
+    }
+    placed.print_behind(text, instance, names)
+}
+
+// A text, and behind it what is told of a log: its text in its layered order, the witness and the
+// reports, each where it is asked for.
+fn text_of_log<M>(
+    call: &mut Call<M>,
+    named: &Named,
+    cursors: &Cursors,
+    log: &Log,
+    asked: Asked,
+    text: Vec<u8>,
+) -> Result<LogText, AllocError>
+    requires count { variables_of named.now.instance.now.stacks ≡ length cursors.now }
+    requires legal { IsLegal named.now.instance.now (start_of named.now.instance.now) log.now }
+    requires leads { cursors.now ≡ replay (start_of named.now.instance.now) log.now }
+    ensures { IfOk result (λ t. GoesOn text.items (TellsLog asked
+        (map (λ b. (kind b, state b)) call.old.watchers.items) named.now.names.now
+        named.now.instance.now log.now t.missing) t.bytes.items) }
+{
+    let instance = named.instance;
+    // Read for its contract, which says what holds of every instance.
+    let _units = instance.units();
+    let placed = LayeredLog::of(call.alloc, instance.stacks().count(), log)?;
+    let mut bytes = text_if(text, instance, named.names, &placed, asked.log)?;
+    let told = tell_in_layers(call, instance, named.names, cursors, &placed, asked)?;
+    bytes.extend_from_slice(&told.bytes)?;
+    Ok(LogText {
+        missing: told.missing,
+        bytes,
+    })
+}
+
+// A text, and behind it what is told of a run behind its end. It kept its log where something of it
+// is asked for. The log is let go of.
+fn tell_run<M>(
+    call: &mut Call<M>,
+    named: &Named,
+    end: &End,
+    log: Option<Log>,
+    asked: Asked,
+    text: Vec<u8>,
+) -> Result<LogText, AllocError>
+    requires { IsRunOf named.now.instance.now (start_of named.now.instance.now)
+        (asks_for_log asked) (record { end = end.now; log = log }) }
+    ensures run { IfOk result (λ t. GoesOn text.items (TellsRun asked
+        (map (λ b. (kind b, state b)) call.old.watchers.items) named.now.names.now
+        named.now.instance.now end.now.cursors end.now.pops end.now.stuck t.missing)
+        t.bytes.items) }
+    ensures kept { (kept : List LogRecord) → log ≡ Some kept
+        → IfOk result (λ t. GoesOn text.items (TellsLog asked
+        (map (λ b. (kind b, state b)) call.old.watchers.items) named.now.names.now
+        named.now.instance.now kept t.missing) t.bytes.items) }
+{
+    // Read for its contract, which says what holds of every instance.
+    let _units = named.instance.units();
+    match log {
+        Some(log) => text_of_log(call, named, &end.cursors, &log, asked, text),
+        None => Ok(LogText {
+            missing: false,
+            bytes: text,
+        }),
+    }
+}
+
+/// Tells the end of a run of the instance, and behind it what is asked for.
+pub fn tell_end<M>(
+    call: &mut Call<M>,
+    facts: &Facts,
+    instance: &Instance,
+    run: Outcome,
+    asked: Asked,
+) -> Result<Answer, AllocError>
+    requires facts { AreFactsOf facts.now instance.now }
+    requires run { IsRunOf instance.now (start_of instance.now) (asks_for_log asked) run }
+    requires within { EndsWithin asked.pops run.end.pops }
+    ensures ended { asked.free ≡ false → asked.count ≡ None → IsExtremal instance.now.family
+        → IfOk result (λ a. AnswersBy (IsEndOf asked
+        (map (λ b. (kind b, state b)) call.old.watchers.items) facts.now instance.now)
+        a.status a.text.items) }
+    ensures history { asked.free ≡ true → IfOk result (λ a. AnswersBy (IsHistoryOf asked
+        (map (λ b. (kind b, state b)) call.old.watchers.items) facts.now instance.now)
+        a.status a.text.items) }
+    ensures kept { asked.free ≡ true → (log : List LogRecord) → run.log ≡ Some log
+        → IfOk result (λ a. AnswersBy (IsHistoryWith log asked
+        (map (λ b. (kind b, state b)) call.old.watchers.items) facts.now instance.now)
+        a.status a.text.items) }
+{
+    // Read for its contract, which says what holds of every instance.
+    let _units = instance.units();
+    let Outcome { end, log } = run;
+    let text = text(call.alloc, facts, instance, &end)?;
+    let names = names_of(facts);
+    let named = Named {
+        instance,
+        names: &names,
+    };
+    let told = tell_run(call, &named, &end, log, asked, text)?;
+    Ok(Answer {
+        status: status_with(&end, asked.free, told.missing),
+        text: told.bytes,
+    })
+}
+
+/// Runs the instance, and tells its end at its last height, and behind it what is asked for. Of an
+/// extremal instance the pops are made in an order of their own, since all orders end alike, and
+/// have one layered log.
+pub fn run_and_tell<M: Maker>(
+    call: &mut Call<M>,
+    facts: &Facts,
+    growing: GrowingInstance,
+    asked: Asked,
+) -> Result<Answer, AllocError>
+    requires maker { M.fits call.old.maker.now }
+    requires facts { AreFactsOf facts.now growing }
+    requires run_out { asked.pops ≡ None }
+    ensures ended { asked.free ≡ false → asked.count ≡ None → IsExtremal growing.family
+        → IfOk result (λ a. AnswersBy (IsEndOf asked
+        (map (λ b. (kind b, state b)) call.old.watchers.items) facts.now growing)
+        a.status a.text.items) }
+    ensures history { asked.free ≡ true → IfOk result (λ a. AnswersBy (IsHistoryOf asked
+        (map (λ b. (kind b, state b)) call.old.watchers.items) facts.now growing)
+        a.status a.text.items) }
+{
+    let (run, instance) = call.maker.run(Opening {
+        alloc: call.alloc,
+        crew: call.crew,
+        growing,
+        keep: asked.keep(),
+    })?;
+    tell_end(call, facts, &instance, run, asked)
+}

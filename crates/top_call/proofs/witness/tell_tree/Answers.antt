@@ -1,9 +1,0 @@
-use Rattle.pop_model.specs.Runs.{start_of}
-use Rattle.witness_trees.proofs.Labels.{tree_labels}
-use Rattle.top_call.proofs.witness.tell_tree.Goals as goal
-
--- the labels of the tree are events
-pub print_tree-requires : goal.print_tree-requires
-print_tree-requires c =
-    tree_labels c.args.instance.now (start_of c.args.instance.now) c.args.log.now c.args.t c.in_ok-tree.tree
-    c.requires.legal c.in_ok-tree.ensures
