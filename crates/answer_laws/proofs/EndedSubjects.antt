@@ -1,6 +1,5 @@
 -- A run's end that is told is the end of the one-thread run of what is sampled; and each such end is told.
-use Rattle.std.proofs.Common.{◌≡◌, ◌≤◌, ◌<◌, ℕ, List, Ok, None, refl, sym, subst, ◌∙◌, arith}
-use Rattle.std.proofs.lemmas.Option.{none-some}
+use Rattle.std.proofs.Common.{◌≡◌, ◌≤◌, ◌<◌, ℕ, List, Ok, None, refl, sym, subst, arith}
 use Rattle.pop_model.specs.Families.{Event}
 use Rattle.pop_model.specs.Instances.{Instance}
 use Rattle.pop_model.specs.Runs.{IsFirstEnd}
@@ -21,10 +20,12 @@ use Rattle.pop_print.specs.declared.facts.Facts.TheVariants.{Tree as TreeFacts, 
 use Rattle.told_runs.specs.Names.{names_for}
 use Rattle.told_runs.specs.Tellings.{Telling}
 use Rattle.told_runs.specs.Outcomes.Outcome.{Ended, Batched}
-use Rattle.told_runs.specs.Batches.{AreFew, IsBatchOf}
-use Rattle.top_call.specs.Sampling.{IsToldOfFirst, EndsWithin}
-use Rattle.top_call.specs.Answers.{ComesOfCommand, origin_for, asked_by}
+use Rattle.told_runs.specs.Batches.{IsBatchOf}
+use Rattle.told_runs.specs.Ends.{IsToldOfFirst, EndsWithin}
+use Rattle.top_call.specs.Answers.{ComesOfCommand, origin_for}
+use Rattle.told_runs.specs.Asking.{asked_by}
 use Rattle.job_subjects.specs.Subjects.{Subject, instance_over, assignments, orientations, arrows_to, AreArrowsOf, AreArrowsOfGrid, IsSubjectOf}
+use Rattle.answer_laws.proofs.RefusedStacks.{no_count_few}
 
 -- what was sampled, with the end of its one-thread run
 pub record IsEndOfSubject (command : Command) (job : Job) (ws : List Watcher) (text : List ℕ) (facts : Facts)
@@ -234,10 +235,6 @@ EndsSubject job ws c pops stuck a s =
     IsFirstEnd (instance_over (origin_for job) s) c pops stuck
     × IsToldOfFirst (asked_by job) ws (names_for s.facts) (instance_over (origin_for job) s) a
 
--- where no number of samples is asked for, it isn't too great
-few_samples : (job : Job) (n : ℕ) → job.count ≡ None → AreFew job.count n
-few_samples job n once count is = absurd (none-some count (sym once ∙ is))
-
 -- such an end of what a job samples comes of it, where no number of samples is asked for
 pub subject_ended : (command : Command) (job : Job) (ws : List Watcher) (text : List ℕ) (s : Subject)
     → job.count ≡ None → IsSubjectOf command job text s → IsSound (origin_for job) s.weights
@@ -259,7 +256,7 @@ subject_ended Formula job ws text s once is sound c pops stuck a within end =
           extremal = is.extremal;
           end = (refl, refl, own.0, own.1, once, within);
         },
-        few_samples job _ once,
+        no_count_few job.count _ once,
       );
     })
 subject_ended Orient job ws text s once is sound c pops stuck a within end =
@@ -274,7 +271,7 @@ subject_ended Orient job ws text s once is sound c pops stuck a within end =
         (
           subst (λ (t : Subject). IsSound (origin_for job) t.weights) is.is sound,
           record { events = is.events; of_graph = is.of_graph; end = (refl, refl, own.0, own.1, once, within) },
-          few_samples job _ once,
+          no_count_few job.count _ once,
         ),
       );
     })
@@ -291,7 +288,7 @@ subject_ended Tree job ws text s once is sound c pops stuck a within end =
         (
           subst (λ (t : Subject). IsSound (origin_for job) t.weights) is.is sound,
           (refl, refl, own.0, own.1, once, within),
-          few_samples job _ once,
+          no_count_few job.count _ once,
         ),
       );
     })
@@ -302,7 +299,7 @@ subject_ended Make job ws text s once is sound c pops stuck a within end =
     subst Comes (sym is.is) (
       subst (λ (t : Subject). IsSound (origin_for job) t.weights) is.is sound,
       (refl, refl, own.0, own.1, once, within),
-      few_samples job _ once,
+      no_count_few job.count _ once,
     )
 subject_ended Resample job ws text s once is sound c pops stuck a within end = absurd is
 subject_ended Rounds job ws text s once is sound c pops stuck a within end = absurd is

@@ -24,7 +24,7 @@ use Rattle.cycle_popping.specs.Trees.{heads_of_tree, weights_of_tree}
 use Rattle.pop_samples.specs.Finishing.{IsSample}
 use Rattle.pop_samples.specs.Frames.{Rows}
 use Rattle.pop_samples.proofs.MovedLogs.{known_variable}
-use Rattle.top_call.specs.Sampling.{pair_weights}
+use Rattle.job_subjects.specs.Subjects.{pair_weights}
 use Rattle.answer_laws.specs.EverySample.{IsTrueUnder, Satisfies, LeavesEach, LeadsToRoot, EveryAssignment, EveryOrientation, EveryTree}
 use Rattle.job_subjects.proofs.MadeInstances.{count_of_weights, slots_of_weights, tree_fits}
 

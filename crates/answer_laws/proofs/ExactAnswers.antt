@@ -35,8 +35,9 @@ use Rattle.told_runs.specs.declared.asked.Asked.{Asked}
 use Rattle.told_runs.specs.Names.{names_for}
 use Rattle.told_runs.specs.Tellings.{Telling}
 use Rattle.told_runs.specs.Outcomes.Outcome.{Ended}
-use Rattle.top_call.specs.Sampling.{IsToldOfFirst, EndsWithin}
-use Rattle.top_call.specs.Answers.{ComesOfCommand, asked_by, IsOfLine, ComesBy}
+use Rattle.told_runs.specs.Ends.{IsToldOfFirst, EndsWithin}
+use Rattle.top_call.specs.Answers.{ComesOfCommand, IsOfLine, ComesBy}
+use Rattle.told_runs.specs.Asking.{asked_by}
 use Rattle.job_subjects.specs.Subjects.{Subject, instance_over, IsSubjectOf}
 use Rattle.answer_laws.specs.ExactAnswers.{over_rows, frame_of, frame_over, IsSampledBy, ExchangedAnswers, ReachedAnswers}
 use Rattle.top_call.proofs.ByCommand.{by_line, of_line}

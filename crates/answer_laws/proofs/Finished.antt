@@ -14,17 +14,18 @@ use Rattle.told_runs.specs.Witnesses.{Witness}
 use Rattle.told_runs.specs.Witnesses.Witness.{Unasked, Missing, Shown}
 use Rattle.told_runs.specs.Tellings.{Telling, records_of}
 use Rattle.told_runs.specs.Outcomes.{Outcome, status_of, end_status, resampled_status}
-use Rattle.told_runs.specs.Outcomes.Outcome.{Usage, Unread, Isolated, NoRoot, CutOff, TooMany, Unsound, Clashes, Extremal, Ended, Resampled, Rounded, Batched, Paused, Replayed, NotLegal}
+use Rattle.told_runs.specs.Outcomes.Outcome.{Ended, Resampled, Rounded, Batched, Replayed}
 use Rattle.run_cert.specs.declared.look_kind.Look.{Look}
 use Rattle.run_cert.specs.declared.look_kind.Look.TheVariants.{Finished, Exhausted, Open}
 use Rattle.told_runs.specs.ReplayTexts.{look_status}
-use Rattle.top_call.specs.Replays.{job_of, IsNoRun, IsReplay}
+use Rattle.top_call.specs.Replays.{job_of, IsReplay}
 use Rattle.top_call.specs.Answers.{ComesOfCommand, ComesOf, IsOutcome}
 use Rattle.answer_laws.specs.Laws.{EndsFinished}
 use Rattle.top_call.proofs.BatchEnds.{batch_of, unstuck}
-use Rattle.top_call.proofs.ByCommand.{by_kind, refused_no_run}
+use Rattle.top_call.proofs.ByCommand.{by_kind}
 use Rattle.top_call.proofs.Lifting.{no_replay}
 use Rattle.answer_laws.proofs.OneOutcome.{word_cases}
+use Rattle.answer_laws.proofs.RefusedOr.{replaying_cases, resuming_cases}
 
 -- an end with an empty stuck list
 pub finished : (i : Instance) (c : List ℕ) (stuck : List Event) → IsStuckList i c stuck → end_status stuck ≡ 0 → IsFinished i c
@@ -103,36 +104,7 @@ line_finished job ws text (Batched facts i ends) h is =
     finished (instance_for j i) end.cursors end.stuck (batch.are.each j end at).first.stuck_list
     (unstuck ends j end is at)
 line_finished job ws text (Replayed i c n k) h is = absurd (no_replay job.command job ws text i c n k h)
-line_finished job ws text (Usage p) h is = tt
-line_finished job ws text (Unread r) h is = tt
-line_finished job ws text (Isolated w) h is = tt
-line_finished job ws text (NoRoot r) h is = tt
-line_finished job ws text (CutOff w) h is = tt
-line_finished job ws text (TooMany n) h is = tt
-line_finished job ws text (Unsound t f) h is = tt
-line_finished job ws text (Clashes i j) h is = tt
-line_finished job ws text (Extremal n) h is = tt
-line_finished job ws text (Paused j w t i l) h is = tt
-line_finished job ws text (NotLegal p) h is = tt
-
--- where there is no run there is no end
-no_run_finished : (o : Outcome) → IsNoRun o → EndsFinished o
-no_run_finished (Ended facts i c pops stuck a) none = absurd none
-no_run_finished (Resampled facts i placed stuck a) none = absurd none
-no_run_finished (Rounded facts i c rounds stuck short) none = absurd none
-no_run_finished (Batched facts i ends) none = absurd none
-no_run_finished (Replayed i c n k) none = absurd none
-no_run_finished (Usage p) none = tt
-no_run_finished (Unread r) none = tt
-no_run_finished (Isolated w) none = tt
-no_run_finished (NoRoot r) none = tt
-no_run_finished (CutOff w) none = tt
-no_run_finished (TooMany n) none = tt
-no_run_finished (Unsound t f) none = tt
-no_run_finished (Clashes i j) none = tt
-no_run_finished (Extremal n) none = tt
-no_run_finished (Paused j w t i l) none = tt
-no_run_finished (NotLegal p) none = tt
+line_finished job ws text o h is = tt
 
 -- a run that stands finished is
 look_finished : (k : Look) → look_status k ≡ 0 → k ≡ Finished
@@ -155,9 +127,13 @@ sample_finished words ws text o h is = elim (word_cases words ws text o h) [
   | inl (place, o_is, bad) ↦ subst EndsFinished (sym o_is) tt
   | inr came ↦ elim (by_kind came.job.command came.job ws text o came.comes) [
     | inl (line, comes) ↦ line_finished came.job ws text o comes is
-    | inr (inl (command, inl refused)) ↦ no_run_finished o (refused_no_run ComesOf text o refused)
-    | inr (inl (command, inr b)) ↦ replay_finished b.comes.has.instance b.comes.has.log o b.comes.is is
-    | inr (inr (command, inl refused)) ↦ no_run_finished o (refused_no_run ComesOf text o refused)
-    | inr (inr (command, inr b)) ↦ line_finished (job_of b.cert.head) ws b.cert.input o b.comes.comes is
+    | inr (inl (command, comes)) ↦ elim (replaying_cases ComesOf text o comes) [
+      | inl (r, o_is, refused) ↦ subst EndsFinished (sym o_is) tt
+      | inr b ↦ replay_finished b.comes.has.instance b.comes.has.log o b.comes.is is
+    ]
+    | inr (inr (command, comes)) ↦ elim (resuming_cases ComesOf ws text o comes) [
+      | inl (r, o_is, refused) ↦ subst EndsFinished (sym o_is) tt
+      | inr b ↦ line_finished (job_of b.cert.head) ws b.cert.input o b.comes.comes is
+    ]
   ]
 ]

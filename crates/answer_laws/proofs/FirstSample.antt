@@ -30,12 +30,11 @@ use Rattle.told_runs.specs.Witnesses.{IsWitness}
 use Rattle.told_runs.specs.Witnesses.Witness.{Unasked}
 use Rattle.told_runs.specs.Tellings.{Telling, records_of, layered_text, telling_text}
 use Rattle.told_runs.specs.Outcomes.{Outcome, status_of, text_of, run_text, end_status}
-use Rattle.told_runs.specs.Outcomes.Outcome.{Usage, Unread, Isolated, NoRoot, CutOff, TooMany, Unsound, Clashes, Extremal, Ended, Resampled, Rounded, Batched, Paused, Replayed, NotLegal}
-use Rattle.top_call.specs.Sampling.{IsToldOfFirst, EndsWithin}
+use Rattle.told_runs.specs.Outcomes.Outcome.{Refused, Extremal, Ended, Resampled, Rounded, Batched, Paused, Replayed}
+use Rattle.told_runs.specs.Ends.{IsToldOfFirst, EndsWithin}
 use Rattle.job_subjects.specs.Subjects.{Subject, instance_over, IsSubjectOf}
-use Rattle.pop_words.specs.declared.command.Command.{Command}
-use Rattle.pop_words.specs.declared.command.Command.TheVariants.{Formula, Orient, Tree}
-use Rattle.top_call.specs.Answers.{last_height, ComesOfCommand, ComesOf, IsOfLine, ComesBy, origin_for, asked_by}
+use Rattle.top_call.specs.Answers.{last_height, ComesOfCommand, ComesOf, IsOfLine, ComesBy, origin_for}
+use Rattle.told_runs.specs.Asking.{asked_by}
 use Rattle.answer_laws.specs.FirstSample.{of_one, BeginsWithOne, FirstSample}
 use Rattle.top_call.proofs.BatchWords.{is_batched, IsQuiet, counted_command, counted_quiet, uncounted}
 use Rattle.top_call.proofs.PauseWords.{counted_runs_out}
@@ -45,7 +44,8 @@ use Rattle.top_call.proofs.ByCommand.{of_line}
 use Rattle.top_call.proofs.Lifting.{no_replay}
 use Rattle.answer_laws.proofs.OneOutcome.{word_cases}
 use Rattle.answer_laws.proofs.ShownBatches.{in_full}
-use Rattle.answer_laws.proofs.ShownSamples.{refused, faulty, ended_once, resampled_once, rounds_once, verdict_once}
+use Rattle.answer_laws.proofs.ShownSamples.{ended_once, resampled_once, rounds_once, verdict_once}
+use Rattle.answer_laws.proofs.RefusalStatuses.{refusal_not_low}
 
 -- sample 0 has the entries of the job without a number
 of_first : (job : Job) → origin_of_sample 0 (origin_for job) ≡ origin_for job
@@ -165,7 +165,7 @@ begins words job asks count is ws text facts i (end ∷ ends) h =
       );
     }
 
--- no refusal has a status of a run
+-- a status from 2 on is none of a sample or an exhausted end
 not_low : (n : ℕ) → 2 ≤ n → (n ≡ 0) ⊎ (n ≡ 1) → ⊥
 not_low n high (inl is) = absurd (omega (arith, high, is))
 not_low n high (inr is) = absurd (omega (arith, high, is))
@@ -174,18 +174,10 @@ not_low n high (inr is) = absurd (omega (arith, high, is))
 batch_begins : (words : List (List ℕ)) (job : Job) (asks : Asks words job) (count : ℕ) → job.count ≡ Some count
     → (ws : List Watcher) (text : List ℕ) (o : Outcome) → ComesOf job ws text o
     → (status_of o ≡ 0) ⊎ (status_of o ≡ 1) → BeginsWithOne job ws text count (text_of o)
-batch_begins words job asks count is ws text (Usage p) h low = absurd h
-batch_begins words job asks count is ws text (Unread r) h low = absurd (not_low _ (refused r) low)
-batch_begins words job asks count is ws text (Isolated w) h low = absurd (not_low 6 (omega arith) low)
-batch_begins words job asks count is ws text (NoRoot r) h low = absurd (not_low 6 (omega arith) low)
-batch_begins words job asks count is ws text (CutOff w) h low = absurd (not_low 6 (omega arith) low)
-batch_begins words job asks count is ws text (TooMany n) h low = absurd (not_low 4 (omega arith) low)
-batch_begins words job asks count is ws text (Unsound t f) h low = absurd (not_low _ (faulty f) low)
-batch_begins words job asks count is ws text (Clashes i j) h low = absurd (not_low 5 (omega arith) low)
+batch_begins words job asks count is ws text (Refused r) h low = absurd (refusal_not_low r low)
 batch_begins words job asks count is ws text (Paused j w t i l) h low = absurd (not_low 10 (omega arith) low)
 batch_begins words job asks count is ws text (Replayed i c n k) h low =
     absurd (no_replay job.command job ws text i c n k h)
-batch_begins words job asks count is ws text (NotLegal p) h low = absurd (not_low 11 (omega arith) low)
 batch_begins words job asks count is ws text (Extremal n) h low =
     absurd (none-some count (sym (uncounted words job asks (verdict_once job.command job ws text n h)) ∙ is))
 batch_begins words job asks count is ws text (Ended t i c n s a) h low =

@@ -50,11 +50,10 @@ use Rattle.pop_watch.specs.Telling.{Watcher}
 use Rattle.pop_log.specs.Layers.{Placed}
 use Rattle.pop_print.specs.declared.facts.Facts.{Facts}
 use Rattle.told_runs.specs.Outcomes.{Outcome, end_status, status_of}
-use Rattle.told_runs.specs.Outcomes.Outcome.{Usage, Unread, Isolated, NoRoot, CutOff, TooMany, Unsound, Clashes, Extremal, Ended, Resampled, Rounded, Batched, Paused, Replayed, NotLegal}
+use Rattle.told_runs.specs.Outcomes.Outcome.{Refused, Extremal, Ended, Resampled, Rounded, Batched, Paused, Replayed}
 use Rattle.told_runs.specs.Tellings.{Telling}
-use Rattle.top_call.specs.Sampling.{pair_weights}
+use Rattle.job_subjects.specs.Subjects.{pair_weights, Subject, assignments, instance_over, IsSubjectOf}
 use Rattle.top_call.specs.Answers.{ComesBy, ComesOf, ComesOfCommand, IsOfLine, last_height, origin_for}
-use Rattle.job_subjects.specs.Subjects.{Subject, assignments, instance_over, IsSubjectOf}
 use Rattle.answer_laws.specs.KeyAnswers.{IsDrawn, IsKeyedAnswer, IsKeyedRounds, KeyedAnswers, KeyedRoundAnswers, keyed_frame}
 use Rattle.top_call.proofs.ByCommand.{of_line}
 use Rattle.answer_laws.proofs.EndedSubjects.{IsBatchOfSubject, IsEndOfSubject, batched_subject, ended_subject}
@@ -62,8 +61,8 @@ use Rattle.top_call.proofs.Lifting.{no_replay}
 use Rattle.answer_laws.proofs.OneOutcome.{word_cases}
 use Rattle.answer_laws.proofs.RoundAnswers.{IsEndOfFormula, IsRounded, formula_frame, rounded_of, rounds_line_of}
 use Rattle.answer_laws.proofs.RoundOutputs.{finished_rounds}
-use Rattle.answer_laws.proofs.ShownSamples.{faulty, refused}
 use Rattle.answer_laws.proofs.SubjectFrames.{IsSampled, graph_known, subject_frame, subject_sampled}
+use Rattle.answer_laws.proofs.RefusalStatuses.{refusal_high}
 
 -- ---- stacks of one height under a key
 
@@ -314,16 +313,8 @@ low_cases job is ws text (Rounded facts i c rounds stuck short) h low =
     absurd (false≢true (sym (ap is_quiet by) ∙ is))
 low_cases job is ws text (Extremal n) h low = absurd (no_verdict job.command job ws text n is h)
 low_cases job is ws text (Replayed i c n k) h low = absurd (no_replay job.command job ws text i c n k h)
-low_cases job is ws text (Usage p) h low = absurd h
-low_cases job is ws text (Unread r) h low = absurd (omega (arith, low, refused r))
-low_cases job is ws text (Isolated w) h low = absurd (omega (arith, low))
-low_cases job is ws text (NoRoot r) h low = absurd (omega (arith, low))
-low_cases job is ws text (CutOff w) h low = absurd (omega (arith, low))
-low_cases job is ws text (TooMany n) h low = absurd (omega (arith, low))
-low_cases job is ws text (Unsound t fault) h low = absurd (omega (arith, low, faulty fault))
-low_cases job is ws text (Clashes j k) h low = absurd (omega (arith, low))
+low_cases job is ws text (Refused r) h low = absurd (omega (arith, low, refusal_high r))
 low_cases job is ws text (Paused j w t i l) h low = absurd (omega (arith, low))
-low_cases job is ws text (NotLegal p) h low = absurd (omega (arith, low))
 
 module _ (words : List (List ℕ)) (job : Job) (asks : Asks words job) (key : List ℕ) (given : job.stacks ≡ Key key)
     (ws : List Watcher) (text : List ℕ) where
@@ -428,16 +419,8 @@ drawn_rounds words job asks key given by ws text (Extremal n) h low =
     absurd (subst (λ k. ComesOfCommand k job ws text (Extremal n)) by h).comes.1.end
 drawn_rounds words job asks key given by ws text (Replayed i c n k) h low =
     absurd (no_replay job.command job ws text i c n k h)
-drawn_rounds words job asks key given by ws text (Usage p) h low = absurd h
-drawn_rounds words job asks key given by ws text (Unread r) h low = absurd (omega (arith, low, refused r))
-drawn_rounds words job asks key given by ws text (Isolated w) h low = absurd (omega (arith, low))
-drawn_rounds words job asks key given by ws text (NoRoot r) h low = absurd (omega (arith, low))
-drawn_rounds words job asks key given by ws text (CutOff w) h low = absurd (omega (arith, low))
-drawn_rounds words job asks key given by ws text (TooMany n) h low = absurd (omega (arith, low))
-drawn_rounds words job asks key given by ws text (Unsound t fault) h low = absurd (omega (arith, low, faulty fault))
-drawn_rounds words job asks key given by ws text (Clashes j k) h low = absurd (omega (arith, low))
+drawn_rounds words job asks key given by ws text (Refused r) h low = absurd (omega (arith, low, refusal_high r))
 drawn_rounds words job asks key given by ws text (Paused j w t i l) h low = absurd (omega (arith, low))
-drawn_rounds words job asks key given by ws text (NotLegal p) h low = absurd (omega (arith, low))
 
 -- the law of rounds
 pub keyed_round_answers : KeyedRoundAnswers

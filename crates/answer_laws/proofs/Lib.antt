@@ -1,13 +1,22 @@
--- One answer. OneReading: one refusal, formula or graph of a text. OneWitness, OneTelling: one thing is told of a layered
--- log, and of all runs to an end. OneFault, OneSampling: one fault of stacks, or one end. OneClash, OneFormula,
+-- One answer. OneFault: one fault of stacks. OneEvents, OneClash: one list of events, which don't clash where they are
+-- extremal. RefusedStacks, RefusedFormulas, RefusedGraphs: so one refusal of what a text spells, and none where it can be
+-- sampled. OneReading: one refusal, formula or graph of the text. RefusedOr: what is refused, or comes otherwise.
+-- RefusalStatuses: the statuses of refusals are none of runs.
+-- OneWitness, OneTelling: one thing is told of a layered log, and of all runs to an end. OneEnd: one end. OneFormula,
 -- OneOrientation, OneTree: one outcome of each command, and OneRounds of rounds. OneResampling, OneLog: two runs, and one
 -- answer for each log. OnePause: a pause beside these. OneOutcome: all of these. OneReplay: of certificates (HeadBounds:
 -- what a head says is within bounds; MadeBounds, CertBounds: so what it runs is an instance). OneWords: of words.
+mod OneEvents
+mod RefusedStacks
+mod RefusedFormulas
+mod RefusedGraphs
+mod RefusedOr
+mod RefusalStatuses
 mod OneReading
 mod OneWitness
 mod OneTelling
 mod OneFault
-mod OneSampling
+mod OneEnd
 mod OneClash
 mod OneFormula
 mod OneOrientation

@@ -18,7 +18,7 @@ use Rattle.dimacs_read.specs.Falsifying.{AreEventsOf}
 use Rattle.graph_read.specs.Graphs.{GraphOf}
 use Rattle.sink_popping.specs.Sinks.{AreSinksOf}
 use Rattle.sink_popping.proofs.SinkCubesLemmas.{pointing_small}
-use Rattle.top_call.specs.Sampling.{pair_weights}
+use Rattle.job_subjects.specs.Subjects.{pair_weights}
 
 -- a cube excludes nothing of itself, since it has one value of each variable
 alike : (e : Cube) → IsCube e → Exclude e e → ⊥

@@ -16,8 +16,7 @@ use Rattle.sink_popping.proofs.SinkCubesLemmas.{touching_is_no_loop}
 use Rattle.pop_samples.specs.Frames.{IsSampleOf}
 use Rattle.pop_samples.specs.Weights.{sample_weight}
 use Rattle.pop_print.specs.Output.{arrow_line, edge_line, orientation_lines, oriented_line}
-use Rattle.top_call.specs.Sampling.{pair_weights}
-use Rattle.job_subjects.specs.Subjects.{orientations}
+use Rattle.job_subjects.specs.Subjects.{pair_weights, orientations}
 use Rattle.answer_laws.specs.ExactAnswers.{frame_over}
 use Rattle.answer_laws.specs.PrintedOnce.{AreBits}
 use Rattle.answer_laws.proofs.EverySample.{row_there}

@@ -34,8 +34,7 @@ use Rattle.pop_words.specs.declared.command.Command.{Command}
 use Rattle.pop_words.specs.declared.command.Command.TheVariants.{Formula, Orient, Tree, Resample}
 use Rattle.pop_print.specs.declared.facts.Facts.{Facts}
 use Rattle.pop_print.specs.declared.facts.Facts.TheVariants.{Tree as TreeFacts}
-use Rattle.top_call.specs.Sampling.{pair_weights}
-use Rattle.job_subjects.specs.Subjects.{instance_over, assignments, orientations, arrows_to}
+use Rattle.job_subjects.specs.Subjects.{pair_weights, instance_over, assignments, orientations, arrows_to}
 use Rattle.job_subjects.specs.Made.{IsMade}
 use Rattle.job_subjects.proofs.MadeInstances.{count_of_weights, tree_fits}
 use Rattle.answer_laws.proofs.ListedEvents.{sinks_family, sinks_fit, pairs_fit}

@@ -18,19 +18,21 @@ use Rattle.pop_print.specs.declared.facts.Facts.{Facts}
 use Rattle.told_runs.specs.Names.{names_for}
 use Rattle.told_runs.specs.Tellings.{Telling, records_of, IsToldOf, LeadsToEnd}
 use Rattle.told_runs.specs.Outcomes.{Outcome}
-use Rattle.told_runs.specs.Outcomes.Outcome.{Usage, Resampled, Paused}
-use Rattle.top_call.specs.Resamplings.{IsHistoryOf}
+use Rattle.told_runs.specs.Outcomes.Outcome.{Refused, Resampled, Paused}
+use Rattle.told_runs.specs.Ends.{IsHistoryOf}
 use Rattle.run_cert.specs.Certificates.{Certificate}
 use Rattle.run_cert.proofs.OneText.{one_cert}
-use Rattle.top_call.specs.Replays.{job_of, IsNoRun}
+use Rattle.top_call.specs.Replays.{job_of}
 use Rattle.top_call.specs.Resumes.{ComesOfResuming}
-use Rattle.top_call.specs.Answers.{asked_by, ComesOfCommand, ComesOf, ComesBy, IsOutcome}
+use Rattle.told_runs.specs.Asking.{asked_by}
+use Rattle.top_call.specs.Answers.{ComesOfCommand, ComesOf, ComesBy, IsOutcome}
 use Rattle.top_call.specs.Pauses.{IsPause}
 use Rattle.answer_laws.specs.Laws.{Agree, shown_log}
 use Rattle.answer_laws.proofs.OneTelling.{one_telling}
-use Rattle.top_call.proofs.ByCommand.{refused_no_run}
 use Rattle.answer_laws.proofs.OneOutcome.{word_cases}
 use Rattle.answer_laws.proofs.OneReplay.{one_replaying}
+use Rattle.job_subjects.specs.declared.refusal.Refusal.TheVariants.{Usage}
+use Rattle.answer_laws.proofs.RefusedOr.{refused_alike, alike_refused, resuming_cases}
 
 -- what an outcome with a log says of it
 record IsLogged (job : Job) (ws : List Watcher) (facts : Facts) (i : Instance) (placed : List Placed)
@@ -108,35 +110,20 @@ line_logged job ws text (Paused k x t i l) (Paused n y u j m) h h' shown (inr (j
     cc
 line_logged job ws text o p h h' shown (inr runs) = absurd runs
 
--- where there is no run, there aren't two of one instance
-no_run_alike : (o p : Outcome) → IsNoRun o → Agree o p → o ≡ p
-no_run_alike o p none (inl is) = is
-no_run_alike (Resampled t i l s a) p none (inr runs) = absurd none
-no_run_alike (Paused j w t i l) p none (inr runs) = absurd none
-no_run_alike o p none (inr runs) = absurd runs
-
--- nor are there where one is the other's
-swapped : (o p : Outcome) → IsNoRun p → Agree o p → o ≡ p
-swapped o p none (inl is) = is
-swapped (Resampled t i l s a) (Resampled u j m r b) none (inr runs) = absurd none
-swapped (Resampled t i l s a) (Paused j w u k m) none (inr runs) = absurd none
-swapped (Resampled t i l s a) p none (inr runs) = absurd runs
-swapped (Paused j w t i l) (Resampled u k m r b) none (inr runs) = absurd none
-swapped (Paused j w t i l) (Paused k x u n m) none (inr runs) = absurd none
-swapped (Paused j w t i l) p none (inr runs) = absurd runs
-swapped o p none (inr runs) = absurd runs
-
--- so it is with bytes that are resumed
+-- so it is with bytes that are resumed, which are refused, or come of the line of their certificate
 resumed_logged : (ws : List Watcher) (text : List ℕ) (o p : Outcome) → ComesOfResuming ComesOf ws text o
     → ComesOfResuming ComesOf ws text p → shown_log o ≡ shown_log p → Agree o p → o ≡ p
-resumed_logged ws text o p (inl refused) h' shown agree = no_run_alike o p (refused_no_run ComesOf text o refused) agree
-resumed_logged ws text o p (inr a) (inl refused) shown agree =
-    swapped o p (refused_no_run ComesOf text p refused) agree
-resumed_logged ws text o p (inr a) (inr b) shown agree =
-    let here : ComesOf (job_of b.cert.head) ws b.cert.input o =
-    subst (λ (c : Certificate). ComesOf (job_of c.head) ws c.input o) (one_cert text a.cert b.cert a.is b.is)
-    a.comes.comes in
-    line_logged (job_of b.cert.head) ws b.cert.input o p here b.comes.comes shown agree
+resumed_logged ws text o p h h' shown agree = elim (resuming_cases ComesOf ws text o h) [
+  | inl (r, o_is, refused) ↦ o_is ∙ refused_alike r p (subst (λ q. Agree q p) o_is agree)
+  | inr a ↦ elim (resuming_cases ComesOf ws text p h') [
+    | inl (s, p_is, refused) ↦ alike_refused o s (subst (Agree o) p_is agree) ∙ sym p_is
+    | inr b ↦
+        let here : ComesOf (job_of b.cert.head) ws b.cert.input o =
+        subst (λ (c : Certificate). ComesOf (job_of c.head) ws c.input o) (one_cert text a.cert b.cert a.is b.is)
+        a.comes.comes in
+        line_logged (job_of b.cert.head) ws b.cert.input o p here b.comes.comes shown agree
+  ]
+]
 
 -- and by each command
 logged_by : (k : Command) (job : Job) (ws : List Watcher) (text : List ℕ) (o p : Outcome) → ComesBy k job ws text o
@@ -156,7 +143,7 @@ pub one_logged : (words : List (List ℕ)) (ws : List Watcher) (text : List ℕ)
     → IsOutcome words ws text p → shown_log o ≡ shown_log p → Agree o p → o ≡ p
 one_logged words ws text o p h h' shown agree = elim (word_cases words ws text o h) [
   | inl (place, o_is, bad) ↦ elim (word_cases words ws text p h') [
-    | inl (place', p_is, bad') ↦ o_is ∙ ap Usage (same_first_bad AreWords words place place' bad bad') ∙ sym p_is
+    | inl (place', p_is, bad') ↦ o_is ∙ ap (λ n. Refused (Usage n)) (same_first_bad AreWords words place place' bad bad') ∙ sym p_is
     | inr came' ↦ absurd (bad.outside (came'.job, came'.asks))
   ]
   | inr came ↦ elim (word_cases words ws text p h') [

@@ -1,10 +1,9 @@
 -- A job and a text have one outcome by the line of its command, or two runs where clashing events are resampled or a run
 -- may stop. The text is refused in one way or spells one formula or graph; and of that one thing comes.
-use Rattle.std.proofs.Common.{inl, inr, ◌≡◌, ◌≢◌, ◌⊎◌, ℕ, List, None, refl, sym, ap, subst, ◌∙◌}
+use Rattle.std.proofs.Common.{inl, inr, ◌≡◌, ◌≢◌, ◌⊎◌, ℕ, List, None, refl, sym, ap, subst, ◌∙◌, true, false}
 use Rattle.std.proofs.lemmas.Option.{none-some, same_Some}
 use Rattle.pop_model.specs.Stacks.{Origin}
 use Rattle.pop_model.specs.Instances.{Instance}
-use Rattle.pop_edge.specs.declared.refusal.ReadRefusal.{ReadRefusal}
 use Rattle.dimacs_read.specs.Cnf.{Cnf}
 use Rattle.graph_read.specs.Graphs.{GraphOf}
 use Rattle.pop_words.specs.declared.command.Command.{Command}
@@ -14,26 +13,29 @@ use Rattle.pop_words.specs.CommandLines.{IsBadPlace}
 use Rattle.pop_watch.specs.Telling.{Watcher}
 use Rattle.pop_print.specs.declared.facts.Facts.{Facts}
 use Rattle.told_runs.specs.Outcomes.{Outcome}
-use Rattle.told_runs.specs.Outcomes.Outcome.{Usage, Unread, Isolated, NoRoot, CutOff, TooMany, Unsound, Clashes, Extremal, Ended, Resampled, Rounded, Batched, Paused, Replayed, NotLegal}
+use Rattle.told_runs.specs.Outcomes.Outcome.{Refused, Paused}
 use Rattle.top_call.specs.Formulas.{ComesOfFormula, ComesOfChecking}
-use Rattle.top_call.specs.Resamplings.{ComesOfResampling}
 use Rattle.top_call.specs.Rounds.{ComesOfRounds}
 use Rattle.top_call.specs.Orientations.{ComesOfOrienting}
 use Rattle.top_call.specs.Trees.{ComesOfTree}
-use Rattle.top_call.specs.Answers.{ComesOfCnf, ComesOfGraph, origin_for, asked_by, ComesOfCommand, IsOfText, Refuses, ComesOf, ComesOfJob, IsOutcome}
+use Rattle.top_call.specs.Answers.{ComesOfCnf, ComesOfGraph, origin_for, ComesOfCommand, Refuses, ComesOf, ComesOfJob, IsOutcome}
+use Rattle.told_runs.specs.Asking.{asked_by}
 use Rattle.job_subjects.specs.Made.{IsMade}
 use Rattle.top_call.specs.Pauses.{IsPause}
 use Rattle.answer_laws.specs.Orders.{HasOneEnd}
 use Rattle.answer_laws.specs.Laws.{ReportAlike, AreHistories, Agree}
 use Rattle.top_call.proofs.ReadCases.{Done, TellsPaused, read_cases}
-use Rattle.answer_laws.proofs.OneSampling.{AreOne}
+use Rattle.answer_laws.proofs.OneEnd.{AreOne}
 use Rattle.answer_laws.proofs.OneFormula.{one_formula, one_checking}
 use Rattle.answer_laws.proofs.OneResampling.{one_resampling, one_extremal_resampling}
 use Rattle.answer_laws.proofs.OneRounds.{one_rounds}
 use Rattle.answer_laws.proofs.OneOrientation.{one_orienting}
 use Rattle.answer_laws.proofs.OneTree.{one_tree, one_grid}
 use Rattle.answer_laws.proofs.OnePause.{beside_histories, paused_or_done, one_made}
-use Rattle.answer_laws.proofs.OneReading.{one_refusal, no_cnf_refusal, no_graph_refusal}
+use Rattle.answer_laws.proofs.OneReading.{no_cnf_refusal, no_graph_refusal, one_unread}
+use Rattle.job_subjects.specs.declared.refusal.Refusal.{Refusal}
+use Rattle.job_subjects.specs.declared.refusal.Refusal.TheVariants.{Usage}
+use Rattle.job_subjects.specs.Refused.{IsUnread}
 
 -- outcomes of a text that spells a formula are alike where those of the formula are
 alike_cnf : (Alike : Outcome → Outcome → Type 0) (Comes Others : Cnf → Outcome → Type 0) (text : List ℕ)
@@ -60,8 +62,8 @@ one_command : (command : Command) (job : Job) (ws vs : List Watcher) (text : Lis
     → HasOneEnd command text → ReportAlike job.reports ws vs
     → ComesOfCommand command job ws text o → ComesOfCommand command job vs text p → o ≡ p
 one_command Formula job ws vs text o p ordered like h h' =
-    one_cnf (ComesOfFormula (origin_for job) (asked_by job) ws) (ComesOfFormula (origin_for job) (asked_by job) vs)
-    text (λ f. one_formula (origin_for job) (asked_by job) ws vs f like) o p h h'
+    one_cnf (ComesOfFormula false (origin_for job) (asked_by job) ws)
+    (ComesOfFormula false (origin_for job) (asked_by job) vs) text (λ f. one_formula (origin_for job) (asked_by job) ws vs f like) o p h h'
 one_command Orient job ws vs text o p ordered like h h' =
     one_graph (ComesOfOrienting (origin_for job) (asked_by job) ws)
     (ComesOfOrienting (origin_for job) (asked_by job) vs) text
@@ -74,7 +76,7 @@ one_command Resample job ws vs text o p ordered like h h' =
     let f : Cnf = h'.formula in
     let same : h.formula ≡ f = h.spelled.1 ∙ sym h'.spelled.1 in
     one_extremal_resampling (origin_for job) (asked_by job) ws vs f like (ordered f h'.spelled) o p
-    (subst (λ g. ComesOfResampling (origin_for job) (asked_by job) ws g o) same h.comes) h'.comes
+    (subst (λ g. ComesOfFormula true (origin_for job) (asked_by job) ws g o) same h.comes) h'.comes
 one_command Check job ws vs text o p ordered like h h' =
     one_cnf ComesOfChecking ComesOfChecking text one_checking o p h h'
 one_command Make job ws vs text o p ordered like h h' =
@@ -95,8 +97,8 @@ alike_command Orient job ws vs text o p like h h' =
 alike_command Tree job ws vs text o p like h h' =
     inl (one_command Tree job ws vs text o p tt (like (λ is. absurd (cc))) h h')
 alike_command Resample job ws vs text o p like h h' =
-    alike_cnf Agree (ComesOfResampling (origin_for job) (asked_by job) ws)
-    (ComesOfResampling (origin_for job) (asked_by job) vs) text (one_resampling (origin_for job) (asked_by job) ws vs)
+    alike_cnf Agree (ComesOfFormula true (origin_for job) (asked_by job) ws)
+    (ComesOfFormula true (origin_for job) (asked_by job) vs) text (one_resampling (origin_for job) (asked_by job) ws vs)
     o p h h'
 alike_command Check job ws vs text o p like h h' =
     inl (one_command Check job ws vs text o p tt (like (λ is. absurd (cc))) h h')
@@ -107,27 +109,31 @@ alike_command Rounds job ws vs text o p like h h' =
 alike_command Replay job ws vs text o p like h h' = absurd h
 alike_command Resume job ws vs text o p like h h' = absurd h
 
--- what a command makes of a text isn't a refusal of the text
-unrefused : (command : Command) (job : Job) (ws : List Watcher) (text : List ℕ) (o : Outcome) (r : ReadRefusal)
-    → ComesOfCommand command job ws text o → IsOfText r → Refuses command text r → ⊥
-unrefused Formula job ws text o r h of refuses = no_cnf_refusal text h.formula r h.spelled of refuses
-unrefused Orient job ws text o r h of refuses = no_graph_refusal text h.graph r h.spelled of refuses
-unrefused Tree job ws text o r h of refuses = no_graph_refusal text h.graph r h.spelled of refuses
-unrefused Resample job ws text o r h of refuses = no_cnf_refusal text h.formula r h.spelled of refuses
-unrefused Check job ws text o r h of refuses = no_cnf_refusal text h.formula r h.spelled of refuses
-unrefused Make job ws text o r h of refuses = refuses
-unrefused Rounds job ws text o r h of refuses = no_cnf_refusal text h.formula r h.spelled of refuses
-unrefused Replay job ws text o r h of refuses = h
-unrefused Resume job ws text o r h of refuses = h
+-- a text of which something comes isn't refused
+unrefused : (command : Command) (job : Job) (ws : List Watcher) (text : List ℕ) (o : Outcome) (r : Refusal)
+    → ComesOfCommand command job ws text o → IsUnread (Refuses command text) r → ⊥
+unrefused Formula job ws text o r h u = no_cnf_refusal text h.formula u.cause h.spelled u.of_text u.refused
+unrefused Orient job ws text o r h u = no_graph_refusal text h.graph u.cause h.spelled u.of_text u.refused
+unrefused Tree job ws text o r h u = no_graph_refusal text h.graph u.cause h.spelled u.of_text u.refused
+unrefused Resample job ws text o r h u = no_cnf_refusal text h.formula u.cause h.spelled u.of_text u.refused
+unrefused Check job ws text o r h u = no_cnf_refusal text h.formula u.cause h.spelled u.of_text u.refused
+unrefused Make job ws text o r h u = u.refused
+unrefused Rounds job ws text o r h u = no_cnf_refusal text h.formula u.cause h.spelled u.of_text u.refused
+unrefused Replay job ws text o r h u = h
+unrefused Resume job ws text o r h u = h
 
--- what is made of a text isn't refused
+-- nor is one of which something is made
 pub made_unrefused : (command : Command) (origin : Origin) (root : ℕ) (text : List ℕ) (facts : Facts) (i : Instance)
-    (r : ReadRefusal) → IsMade command origin root text facts i → IsOfText r → Refuses command text r → ⊥
-made_unrefused Formula origin root text facts i r made of refuses = no_cnf_refusal text made.formula r made.spelled of refuses
-made_unrefused Orient origin root text facts i r made of refuses = no_graph_refusal text made.graph r made.spelled of refuses
-made_unrefused Tree origin root text facts i r made of refuses = no_graph_refusal text made.graph r made.spelled of refuses
-made_unrefused Resample origin root text facts i r made of refuses = no_cnf_refusal text made.formula r made.spelled of refuses
-made_unrefused command origin root text facts i r made of refuses = absurd made
+    (r : Refusal) → IsMade command origin root text facts i → IsUnread (Refuses command text) r → ⊥
+made_unrefused Formula origin root text facts i r made u =
+    no_cnf_refusal text made.formula u.cause made.spelled u.of_text u.refused
+made_unrefused Orient origin root text facts i r made u =
+    no_graph_refusal text made.graph u.cause made.spelled u.of_text u.refused
+made_unrefused Tree origin root text facts i r made u =
+    no_graph_refusal text made.graph u.cause made.spelled u.of_text u.refused
+made_unrefused Resample origin root text facts i r made u =
+    no_cnf_refusal text made.formula u.cause made.spelled u.of_text u.refused
+made_unrefused command origin root text facts i r made u = absurd made
 
 -- two pauses of a job are of one instance
 two_pauses : (job : Job) (text : List ℕ) (o p : Outcome) → TellsPaused job text o → TellsPaused job text p
@@ -158,21 +164,19 @@ pub alike_read : (job : Job) (ws vs : List Watcher) (text : List ℕ) (o p : Out
     → Agree o p
 alike_read job ws vs text o p like h h' =
     elim (read_cases job ws text o h) [
-      | inl (r, o_is, of, refused) ↦ elim (read_cases job vs text p h') [
-        | inl (r', p_is, of', refused') ↦
-            inl (o_is ∙ ap Unread (one_refusal job.command text r r' of of' refused refused') ∙ sym p_is)
-        | inr (inl done') ↦ absurd (unrefused job.command job vs text p r done' of refused)
-        | inr (inr b) ↦
-            absurd (made_unrefused job.command (origin_for job) job.root text b.facts b.i r b.made of refused)
+      | inl (r, o_is, u) ↦ elim (read_cases job vs text p h') [
+        | inl (s, p_is, u') ↦ inl (o_is ∙ ap Refused (one_unread job.command text r s u u') ∙ sym p_is)
+        | inr (inl done') ↦ absurd (unrefused job.command job vs text p r done' u)
+        | inr (inr b) ↦ absurd (made_unrefused job.command (origin_for job) job.root text b.facts b.i r b.made u)
       ]
       | inr (inl done) ↦ elim (read_cases job vs text p h') [
-        | inl (r', p_is, of', refused') ↦ absurd (unrefused job.command job ws text o r' done of' refused')
+        | inl (s, p_is, u') ↦ absurd (unrefused job.command job ws text o s done u')
         | inr (inl done') ↦ alike_command job.command job ws vs text o p like done done'
         | inr (inr b) ↦ inr (pause_and_done job ws text p o b done).1
       ]
       | inr (inr a) ↦ elim (read_cases job vs text p h') [
-        | inl (r', p_is, of', refused') ↦
-            absurd (made_unrefused job.command (origin_for job) job.root text a.facts a.i r' a.made of' refused')
+        | inl (s, p_is, u') ↦
+            absurd (made_unrefused job.command (origin_for job) job.root text a.facts a.i s a.made u')
         | inr (inl done') ↦ inr (pause_and_done job vs text o p a done').0
         | inr (inr b) ↦ inr (two_pauses job text o p a b)
       ]
@@ -183,14 +187,13 @@ pub one_read : (job : Job) (ws vs : List Watcher) (text : List ℕ) (o p : Outco
     → job.pops ≡ None → ReportAlike job.reports ws vs → ComesOf job ws text o → ComesOf job vs text p → o ≡ p
 one_read job ws vs text o p ordered out like h h' =
     elim (read_cases job ws text o h) [
-      | inl (r, o_is, of, refused) ↦ elim (read_cases job vs text p h') [
-        | inl (r', p_is, of', refused') ↦
-            o_is ∙ ap Unread (one_refusal job.command text r r' of of' refused refused') ∙ sym p_is
-        | inr (inl done') ↦ absurd (unrefused job.command job vs text p r done' of refused)
+      | inl (r, o_is, u) ↦ elim (read_cases job vs text p h') [
+        | inl (s, p_is, u') ↦ o_is ∙ ap Refused (one_unread job.command text r s u u') ∙ sym p_is
+        | inr (inl done') ↦ absurd (unrefused job.command job vs text p r done' u)
         | inr (inr b) ↦ absurd (none-some b.pops (sym out ∙ b.stop))
       ]
       | inr (inl done) ↦ elim (read_cases job vs text p h') [
-        | inl (r', p_is, of', refused') ↦ absurd (unrefused job.command job ws text o r' done of' refused')
+        | inl (s, p_is, u') ↦ absurd (unrefused job.command job ws text o s done u')
         | inr (inl done') ↦ one_command job.command job ws vs text o p ordered like done done'
         | inr (inr b) ↦ absurd (none-some b.pops (sym out ∙ b.stop))
       ]
@@ -199,20 +202,7 @@ one_read job ws vs text o p ordered out like h h' =
 
 -- what comes of words and a text is their first bad word, or comes of their job
 pub word_cases : (words : List (List ℕ)) (ws : List Watcher) (text : List ℕ) (o : Outcome) → IsOutcome words ws text o
-    → ((place : ℕ) × (o ≡ Usage place) × IsBadPlace words place) ⊎ ComesOfJob words ws text o
-word_cases words ws text (Usage place) h = inl (place, refl, h)
-word_cases words ws text (Unread r) h = inr h
-word_cases words ws text (Isolated w) h = inr h
-word_cases words ws text (NoRoot r) h = inr h
-word_cases words ws text (CutOff w) h = inr h
-word_cases words ws text (TooMany n) h = inr h
-word_cases words ws text (Unsound t f) h = inr h
-word_cases words ws text (Clashes i j) h = inr h
-word_cases words ws text (Extremal n) h = inr h
-word_cases words ws text (Ended t i c n s a) h = inr h
-word_cases words ws text (Resampled t i l s a) h = inr h
-word_cases words ws text (Rounded t i c n s v) h = inr h
-word_cases words ws text (Batched t i es) h = inr h
-word_cases words ws text (Paused j w t i l) h = inr h
-word_cases words ws text (Replayed i c n k) h = inr h
-word_cases words ws text (NotLegal p) h = inr h
+    → ((place : ℕ) × (o ≡ Refused (Usage place)) × IsBadPlace words place) ⊎ ComesOfJob words ws text o
+word_cases words ws text (Refused r) (inl bad) = inl (bad.place, ap Refused bad.is, bad.bad)
+word_cases words ws text (Refused r) (inr h) = inr h
+word_cases words ws text o h = inr h

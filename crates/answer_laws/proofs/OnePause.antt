@@ -1,6 +1,6 @@
 -- A pause beside what else comes of a job and a text. A run of an extremal instance that stopped with an event that is
 -- poppable still has no end within as many pops. Where the order of pops is free, it stands beside runs of its instance.
-use Rattle.std.proofs.Common.{inl, inr, ◌≡◌, ◌<◌, ◌≤◌, ℕ, Bool, true, false, List, length, None, Some, refl, sym, ap, subst, ◌∙◌, arith}
+use Rattle.std.proofs.Common.{inl, inr, ◌≡◌, ◌<◌, ◌≤◌, ℕ, Bool, true, false, List, length, None, Some, sym, ap, subst, ◌∙◌, arith}
 use Rattle.std.proofs.lemmas.Option.{none-some}
 use Rattle.std.proofs.lemmas.List.{length-map}
 use Rattle.pop_model.specs.Stacks.{Origin}
@@ -13,7 +13,7 @@ use Rattle.confluence_core.specs.Laws.{RunsToEnd}
 use Rattle.dimacs_read.specs.Cnf.{Cnf}
 use Rattle.graph_read.specs.Graphs.{GraphOf}
 use Rattle.sink_popping.proofs.OneDirection.{sinks_extremal}
-use Rattle.cycle_popping.specs.Trees.{heads_of_tree, weights_of_tree}
+use Rattle.cycle_popping.specs.Trees.{heads_of_tree}
 use Rattle.pop_words.specs.declared.command.Command.{Command}
 use Rattle.pop_words.specs.declared.command.Command.TheVariants.{Formula, Orient, Tree, Resample}
 use Rattle.pop_words.specs.declared.job.Job.{Job}
@@ -26,20 +26,25 @@ use Rattle.told_runs.specs.declared.asked.Asked.{Asked}
 use Rattle.told_runs.specs.Tellings.{records_of, LeadsToEnd}
 use Rattle.told_runs.specs.Outcomes.{Outcome}
 use Rattle.told_runs.specs.Outcomes.Outcome.{Resampled, Paused}
-use Rattle.top_call.specs.Sampling.{pair_weights, instance_of, EndsWithin, IsEndOf}
-use Rattle.top_call.specs.Formulas.{ComesOfRunning, ComesOfFormula}
-use Rattle.top_call.specs.Resamplings.{IsHistoryOf, EndsResampling, ComesOfResampling}
-use Rattle.top_call.specs.Orientations.{EndsOrientation, ComesOfOrienting}
-use Rattle.top_call.specs.Trees.{tree_instance, ComesOfTree}
+use Rattle.job_subjects.specs.Subjects.{instance_of, tree_instance}
+use Rattle.told_runs.specs.Ends.{EndsWithin, IsEndOf, IsHistoryOf}
+use Rattle.top_call.specs.Formulas.{ComesOfFormula}
+use Rattle.top_call.specs.Orientations.{ComesOfOrienting}
+use Rattle.top_call.specs.Trees.{ComesOfTree}
 use Rattle.job_subjects.specs.Made.{IsMadeFormula, IsMadeOrientation, IsMadeTree, IsMade}
 use Rattle.top_call.specs.Pauses.{IsPause}
-use Rattle.top_call.specs.Answers.{origin_for, asked_by, ComesOfCommand}
+use Rattle.top_call.specs.Answers.{origin_for, ComesOfCommand}
+use Rattle.told_runs.specs.Asking.{asked_by}
 use Rattle.answer_laws.specs.Laws.{EndsAndPauses, AreHistories}
 use Rattle.told_runs.proofs.ToldOfFirst.{first_runs}
-use Rattle.answer_laws.proofs.OneSampling.{ended, of_run}
-use Rattle.answer_laws.proofs.OneFormula.{one_events, of_extremal}
-use Rattle.answer_laws.proofs.OneOrientation.{one_sinks, of_unisolated}
-use Rattle.answer_laws.proofs.OneTree.{of_joined}
+use Rattle.answer_laws.proofs.OneEnd.{ended}
+use Rattle.answer_laws.proofs.OneEvents.{one_events, one_sinks}
+use Rattle.job_subjects.specs.Refused.{RefusesFormula, RefusesOrienting, RefusesTree}
+use Rattle.answer_laws.proofs.RefusedFormulas.{made_formula_unrefused}
+use Rattle.answer_laws.proofs.RefusedGraphs.{orienting_unrefused, tree_unrefused}
+use Rattle.answer_laws.proofs.OneFormula.{formula_cases}
+use Rattle.answer_laws.proofs.OneOrientation.{orienting_cases}
+use Rattle.answer_laws.proofs.OneTree.{tree_cases}
 
 -- a pause has fewer pops than each run to an end
 pub pause_shorter : (i : Instance) → IsExtremal i.family → (pops : ℕ) (placed : List Placed) → IsPause i pops placed
@@ -68,43 +73,51 @@ no_end asked ws facts i extremal pops placed pause once stop o h = elim (ended a
 -- nothing else comes of a formula
 no_formula : (origin : Origin) (asked : Asked) (ws : List Watcher) (f : Cnf) (facts : Facts) (i : Instance)
     → IsMadeFormula false origin None f facts i → (pops : ℕ) (placed : List Placed) → IsPause i pops placed
-    → asked.count ≡ None → asked.pops ≡ Some pops → (o : Outcome) → ComesOfFormula origin asked ws f o → ⊥
+    → asked.count ≡ None → asked.pops ≡ Some pops → (o : Outcome) → ComesOfFormula false origin asked ws f o → ⊥
 no_formula origin asked ws f facts i made pops placed pause once stop o h =
-    let runs = of_run (FormulaFacts f.variables) origin (pair_weights f.variables) asked.count
-    (ComesOfRunning origin asked ws f) once made.is.sound o h in
-    let end = of_extremal origin asked ws f made.events made.of_formula (made.extremal refl) o runs in
-    let same : i ≡ instance_of origin f.variables end.events =
-    made.is.instance_is ∙ ap (instance_of origin f.variables)
-    (one_events f.clauses made.events end.events made.of_formula end.of_formula) in
-    no_end asked ws (FormulaFacts f.variables) (instance_of origin f.variables end.events) end.extremal pops placed
-    (subst (λ j. IsPause j pops placed) same pause) once stop o end.end
+    elim (formula_cases false origin asked ws f o h) [
+      | inl (r, is, refuses) ↦
+          made_formula_unrefused false origin None f facts i made r
+          (subst (λ n. RefusesFormula false origin n f r) once refuses)
+      | inr (sound, end, few) ↦
+          let same : i ≡ instance_of origin f.variables end.events =
+          made.is.instance_is ∙ ap (instance_of origin f.variables)
+          (one_events f.clauses made.events end.events made.of_formula end.of_formula) in
+          no_end asked ws (FormulaFacts f.variables) (instance_of origin f.variables end.events) end.extremal pops placed
+          (subst (λ j. IsPause j pops placed) same pause) once stop o end.end
+    ]
 
 -- of a graph that is oriented
 no_orienting : (origin : Origin) (asked : Asked) (ws : List Watcher) (g : GraphOf) (facts : Facts) (i : Instance)
     → IsMadeOrientation origin None g facts i → (pops : ℕ) (placed : List Placed) → IsPause i pops placed
     → asked.count ≡ None → asked.pops ≡ Some pops → (o : Outcome) → ComesOfOrienting origin asked ws g o → ⊥
 no_orienting origin asked ws g facts i made pops placed pause once stop o h =
-    let end = of_run (OrientFacts g) origin (pair_weights (length g.edges)) asked.count
-    (EndsOrientation origin asked ws g) once made.is.sound o
-    (of_unisolated origin asked ws g made.touched o h) in
-    let same : i ≡ instance_of origin (length g.edges) end.events =
-    made.is.instance_is ∙ ap (instance_of origin (length g.edges))
-    (one_sinks g made.events end.events made.of_graph end.of_graph) in
-    no_end asked ws (OrientFacts g) (instance_of origin (length g.edges) end.events)
-    (sinks_extremal g end.events end.of_graph) pops placed
-    (subst (λ j. IsPause j pops placed) same pause) once stop o end.end
+    elim (orienting_cases origin asked ws g o h) [
+      | inl (r, is, refuses) ↦
+          orienting_unrefused origin None g r made.touched made.is.sound made.is.few
+          (subst (λ n. RefusesOrienting origin n g r) once refuses)
+      | inr (touched, (sound, end, few)) ↦
+          let same : i ≡ instance_of origin (length g.edges) end.events =
+          made.is.instance_is ∙ ap (instance_of origin (length g.edges))
+          (one_sinks g made.events end.events made.of_graph end.of_graph) in
+          no_end asked ws (OrientFacts g) (instance_of origin (length g.edges) end.events)
+          (sinks_extremal g end.events end.of_graph) pops placed
+          (subst (λ j. IsPause j pops placed) same pause) once stop o end.end
+    ]
 
 -- or of one of which a tree is asked
 no_tree : (origin : Origin) (asked : Asked) (ws : List Watcher) (root : ℕ) (g : GraphOf) (facts : Facts) (i : Instance)
     → IsMadeTree origin None root g facts i → (pops : ℕ) (placed : List Placed) → IsPause i pops placed
     → asked.count ≡ None → asked.pops ≡ Some pops → (o : Outcome) → ComesOfTree origin asked ws root g o → ⊥
 no_tree origin asked ws root g facts i made pops placed pause once stop o h =
-    let j : Instance = tree_instance origin g root in
-    let end = of_run (TreeFacts g root) origin (weights_of_tree g root) asked.count
-    (IsEndOf asked ws (TreeFacts g root) j) once made.is.sound o
-    (of_joined origin asked ws root g made.last made.joined o h) in
-    no_end asked ws (TreeFacts g root) j (cycles_extremal (heads_of_tree g root)) pops placed
-    (subst (λ k. IsPause k pops placed) made.is.instance_is pause) once stop o end
+    elim (tree_cases origin asked ws root g o h) [
+      | inl (r, is, refuses) ↦
+          tree_unrefused origin None root g r made.last made.joined made.is.sound made.is.few
+          (subst (λ n. RefusesTree origin n root g r) once refuses)
+      | inr (last, joined, (sound, end, few)) ↦
+          no_end asked ws (TreeFacts g root) (tree_instance origin g root) (cycles_extremal (heads_of_tree g root)) pops
+          placed (subst (λ k. IsPause k pops placed) made.is.instance_is pause) once stop o end
+    ]
 
 -- an outcome is a run of the instance to an end, with no more pops than this pause
 abbrev pub EndsBeside : Facts → Instance → List Placed → Outcome → Type 0
@@ -122,15 +135,19 @@ beside_histories job input told j stopped o h = absurd h
 -- what comes of a formula that is resampled
 beside_resampled : (origin : Origin) (asked : Asked) (ws : List Watcher) (f : Cnf) (facts : Facts) (i : Instance)
     → IsMadeFormula true origin None f facts i → (pops : ℕ) (placed : List Placed) → IsPause i pops placed
-    → asked.count ≡ None → asked.pops ≡ Some pops → (o : Outcome) → ComesOfResampling origin asked ws f o
+    → asked.count ≡ None → asked.pops ≡ Some pops → (o : Outcome) → ComesOfFormula true origin asked ws f o
     → EndsBeside facts i placed o
 beside_resampled origin asked ws f facts i made pops placed pause once stop o h =
-    let runs = of_run (FormulaFacts f.variables) origin (pair_weights f.variables) asked.count
-    (EndsResampling origin asked ws f) once made.is.sound o h in
-    let same : instance_of origin f.variables runs.events ≡ i =
-    ap (instance_of origin f.variables) (one_events f.clauses runs.events made.events runs.of_formula made.of_formula)
-    ∙ sym made.is.instance_is in
-    by_history o (subst (λ k. IsHistoryOf asked ws (FormulaFacts f.variables) k o) same runs.history)
+    elim (formula_cases true origin asked ws f o h) [
+      | inl (r, is, refuses) ↦
+          absurd (made_formula_unrefused true origin None f facts i made r
+          (subst (λ n. RefusesFormula true origin n f r) once refuses))
+      | inr (sound, runs, few) ↦
+          let same : instance_of origin f.variables runs.events ≡ i =
+          ap (instance_of origin f.variables) (one_events f.clauses runs.events made.events runs.of_formula made.of_formula)
+          ∙ sym made.is.instance_is in
+          by_history o (subst (λ k. IsHistoryOf asked ws (FormulaFacts f.variables) k o) same runs.history)
+    ]
   where
     by_history : (o : Outcome) → IsHistoryOf asked ws (FormulaFacts f.variables) i o → EndsBeside facts i placed o
     by_history (Resampled t j l s a) (told_is, j_is, leads, layered, told, within) =
@@ -154,7 +171,7 @@ pub paused_or_done : (command : Command) (job : Job) (ws : List Watcher) (text :
     → EndsBeside facts i placed o
 paused_or_done Formula job ws text facts i made pops placed pause once stop o h =
     absurd (no_formula (origin_for job) (asked_by job) ws made.formula facts i made.made pops placed pause once stop o
-    (subst (λ f. ComesOfFormula (origin_for job) (asked_by job) ws f o) (h.spelled.1 ∙ sym made.spelled.1) h.comes))
+    (subst (λ f. ComesOfFormula false (origin_for job) (asked_by job) ws f o) (h.spelled.1 ∙ sym made.spelled.1) h.comes))
 paused_or_done Orient job ws text facts i made pops placed pause once stop o h =
     absurd (no_orienting (origin_for job) (asked_by job) ws made.graph facts i made.made pops placed pause once stop o
     (subst (λ g. ComesOfOrienting (origin_for job) (asked_by job) ws g o) (h.spelled.1 ∙ sym made.spelled.1) h.comes))
@@ -164,7 +181,7 @@ paused_or_done Tree job ws text facts i made pops placed pause once stop o h =
     h.comes))
 paused_or_done Resample job ws text facts i made pops placed pause once stop o h =
     beside_resampled (origin_for job) (asked_by job) ws made.formula facts i made.made pops placed pause once stop o
-    (subst (λ f. ComesOfResampling (origin_for job) (asked_by job) ws f o) (h.spelled.1 ∙ sym made.spelled.1) h.comes)
+    (subst (λ f. ComesOfFormula true (origin_for job) (asked_by job) ws f o) (h.spelled.1 ∙ sym made.spelled.1) h.comes)
 paused_or_done command job ws text facts i made pops placed pause once stop o h = absurd made
 
 -- the facts and the instance

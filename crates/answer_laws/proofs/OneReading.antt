@@ -8,7 +8,10 @@ use Rattle.graph_read.specs.Graphs.{GraphOf}
 use Rattle.graph_read.specs.GraphText.{AnswersGraph, graph_refusal}
 use Rattle.pop_words.specs.declared.command.Command.{Command}
 use Rattle.pop_words.specs.declared.command.Command.TheVariants.{Formula, Orient, Tree, Resample, Check, Make, Rounds, Replay, Resume}
-use Rattle.top_call.specs.Answers.{IsOfText, Refuses}
+use Rattle.job_subjects.specs.Refused.{IsOfText, IsUnread}
+use Rattle.top_call.specs.Answers.{Refuses}
+use Rattle.job_subjects.specs.Refusals.{unread}
+use Rattle.answer_laws.proofs.RefusedStacks.{IsOneRefusal}
 
 -- a formula text is refused in its lines or as a whole, or for an empty clause
 cnf_cases : (text : List ℕ) (r : ReadRefusal) → IsOfText r → AnswersCnf text (Err r) → (cnf_refusal text ≡ Some r)
@@ -79,3 +82,8 @@ one_refusal Make text a b of of' h h' = absurd h
 one_refusal Rounds text a b of of' h h' = one_cnf_refusal text a b of of' h h'
 one_refusal Replay text a b of of' h h' = absurd h
 one_refusal Resume text a b of of' h h' = absurd h
+
+-- so it refuses it as one
+pub one_unread : (command : Command) (text : List ℕ) → IsOneRefusal (IsUnread (Refuses command text))
+one_unread command text r s h h' =
+    h.is ∙ ap unread (one_refusal command text h.cause h'.cause h.of_text h'.of_text h.refused h'.refused) ∙ sym h'.is

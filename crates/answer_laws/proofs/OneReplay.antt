@@ -1,16 +1,14 @@
 -- Bytes that are replayed or resumed have one outcome, but for the order of pops of a resampling. They are too many, or no
 -- certificate in one way, or one certificate; what its command runs is refused in one way, or made as one thing; and its
 -- log text is refused in one way, or is that of one log.
-use Rattle.std.proofs.Common.{inl, inr, ◌≡◌, ◌≤◌, ℕ, List, [], length, None, refl, sym, ap, ap₂, subst, ◌∙◌, arith}
+use Rattle.std.proofs.Common.{inl, inr, ◌≡◌, ◌≤◌, ℕ, List, [], length, None, refl, sym, ap, ap₂, subst, ◌∙◌, arith, true, false}
 use Rattle.pop_model.specs.Instances.{Instance}
 use Rattle.pop_model.specs.Logs.{LogRecord}
-use Rattle.pop_edge.specs.declared.refusal.ReadRefusal.TheVariants.{Malformed as MalformedLine, Limit as PassedLimit}
 use Rattle.pop_words.specs.declared.command.Command.{Command}
 use Rattle.pop_words.specs.declared.command.Command.TheVariants.{Formula, Orient, Tree, Resample}
 use Rattle.pop_words.specs.declared.job.Job.{Job}
 use Rattle.pop_watch.specs.Telling.{Watcher}
 use Rattle.pop_print.specs.declared.facts.Facts.{Facts}
-use Rattle.pop_print.specs.declared.facts.Facts.TheVariants.{Formula as FormulaFacts, Orient as OrientFacts, Tree as TreeFacts}
 use Rattle.pop_log.specs.LogVersions.{IsReadAs}
 use Rattle.pop_log.specs.Refusals.{IsLogRefusal}
 use Rattle.pop_log.proofs.ExactReading.{exact_reading, read_once}
@@ -22,118 +20,74 @@ use Rattle.run_cert.specs.Certificates.{Certificate, IsCertOf}
 use Rattle.run_cert.specs.Looks.{IsLook}
 use Rattle.run_cert.proofs.OneText.{one_cert}
 use Rattle.run_cert.proofs.Unrefused.{unrefused, one_refusal as cert_refused_once}
-use Rattle.told_runs.specs.declared.asked.Asked.{Asked}
 use Rattle.told_runs.specs.Names.{names_for}
 use Rattle.told_runs.specs.Outcomes.{Outcome}
-use Rattle.told_runs.specs.Outcomes.Outcome.{Usage, Unread, Ended, Resampled, Paused, Replayed, Batched}
-use Rattle.top_call.specs.Sampling.{pair_weights, instance_of, IsEndOf}
-use Rattle.top_call.specs.Formulas.{ComesOfRunning, ComesOfFormula}
-use Rattle.top_call.specs.Resamplings.{IsHistoryOf, EndsResampling, ComesOfResampling}
-use Rattle.top_call.specs.Orientations.{EndsOrientation, ComesOfOrienting}
-use Rattle.top_call.specs.Trees.{tree_instance, ComesOfTree}
-use Rattle.cycle_popping.specs.Trees.{weights_of_tree}
+use Rattle.told_runs.specs.Outcomes.Outcome.{Refused, Replayed}
 use Rattle.job_subjects.specs.Made.{IsMade}
-use Rattle.top_call.specs.Answers.{origin_for, asked_by, ComesOfCommand, ComesOf}
+use Rattle.top_call.specs.Answers.{origin_for, ComesOfCommand, ComesOf}
 use Rattle.answer_laws.specs.Orders.{HasOneEnd}
 use Rattle.answer_laws.specs.Laws.{Agree}
-use Rattle.top_call.specs.Replays.{cert_limit, job_of, IsNoCert, IsNoRun, IsCertified, log_outcome, IsLogRefused, IsRefusedCert, IsRefused, HasLog, IsReplay, IsReplayed, ComesOfReplaying}
-use Rattle.top_call.specs.Resumes.{ComesOfResuming}
-use Rattle.answer_laws.proofs.OneSampling.{of_run}
-use Rattle.answer_laws.proofs.OneFormula.{of_extremal}
-use Rattle.answer_laws.proofs.OneOrientation.{of_unisolated}
-use Rattle.answer_laws.proofs.OneTree.{of_joined}
+use Rattle.top_call.specs.Replays.{cert_limit, job_of, IsNoCert, IsCertified, IsLogRefused, IsRefusedCert, IsRefused, HasLog, IsReplay, IsReplayed, ComesOfReplaying, ComesOfCert}
+use Rattle.top_call.specs.Resumes.{ComesOfResuming, IsResumed}
 use Rattle.answer_laws.proofs.OnePause.{one_made}
 use Rattle.answer_laws.proofs.OneOutcome.{alike_read, one_read, made_unrefused}
+use Rattle.job_subjects.specs.declared.refusal.Refusal.{Refusal}
+use Rattle.job_subjects.specs.declared.refusal.Refusal.TheVariants.{Malformed}
+use Rattle.job_subjects.specs.Refusals.{unlogged}
+use Rattle.job_subjects.specs.Refused.{RefusesFormula, RefusesOrienting, RefusesTree}
+use Rattle.answer_laws.proofs.RefusedStacks.{IsOneRefusal}
+use Rattle.answer_laws.proofs.RefusedFormulas.{made_formula_unrefused}
+use Rattle.answer_laws.proofs.RefusedGraphs.{orienting_unrefused, tree_unrefused}
+use Rattle.answer_laws.proofs.RefusedOr.{IsApart, alike_or, refused_alike, replaying_cases, resuming_cases}
 
 -- bytes that are no certificate are refused in one way
-one_no_cert : (bytes : List ℕ) (o p : Outcome) → IsNoCert bytes o → IsNoCert bytes p → o ≡ p
-one_no_cert bytes (Unread (PassedLimit k l)) (Unread (PassedLimit m n)) h h' =
-    ap₂ (λ a b. Unread (PassedLimit a b)) (h.0 ∙ sym h'.0) (h.1 ∙ sym h'.1)
-one_no_cert bytes (Unread (PassedLimit k l)) (Unread (MalformedLine m c)) h h' =
-    let long = h.2 in let short = h'.0 in absurd (omega (arith, long, short))
-one_no_cert bytes (Unread (MalformedLine l c)) (Unread (PassedLimit m n)) h h' =
-    let short = h.0 in let long = h'.2 in absurd (omega (arith, long, short))
-one_no_cert bytes (Unread (MalformedLine l c)) (Unread (MalformedLine m d)) h h' =
-    let same : MalformedCert l c ≡ MalformedCert m d =
-    cert_refused_once bytes (MalformedCert l c) (MalformedCert m d) (λ is. absurd (cc)) (λ is. absurd (cc)) h.1 h'.1 in
+one_no_cert : (bytes : List ℕ) → IsOneRefusal (IsNoCert bytes)
+one_no_cert bytes r s (inl (long, is)) (inl (long', is')) = is ∙ sym is'
+one_no_cert bytes r s (inl (long, is)) (inr (short', bad')) = absurd (omega (arith, long, short'))
+one_no_cert bytes r s (inr (short, bad)) (inl (long', is')) = absurd (omega (arith, long', short))
+one_no_cert bytes r s (inr (short, (l, code, bad, is))) (inr (short', (m, other, bad', is'))) =
+    let same : MalformedCert l code ≡ MalformedCert m other =
+    cert_refused_once bytes (MalformedCert l code) (MalformedCert m other) (λ is. absurd (cc)) (λ is. absurd (cc)) bad bad' in
     let line : l ≡ m = cc in
-    let code : c ≡ d = cc in
-    ap₂ (λ a b. Unread (MalformedLine a b)) line code
-one_no_cert bytes (Unread (PassedLimit k l)) p h h' = absurd h'
-one_no_cert bytes (Unread (MalformedLine l c)) p h h' = absurd h'
-one_no_cert bytes o p h h' = absurd h
+    let codes : code ≡ other = cc in
+    is ∙ ap₂ Malformed line codes ∙ sym is'
 
 -- those that are one aren't
-no_cert_or_cert : (bytes : List ℕ) (cert : Certificate) (o : Outcome) → length bytes ≤ cert_limit → IsCertOf bytes cert
-    → IsNoCert bytes o → ⊥
-no_cert_or_cert bytes cert (Unread (PassedLimit k l)) short is h = let long = h.2 in omega (arith, long, short)
-no_cert_or_cert bytes cert (Unread (MalformedLine l c)) short is h =
-    let memory : MalformedCert l c ≡ CertMemory = unrefused bytes cert is (MalformedCert l c) h.1 in absurd (cc)
-no_cert_or_cert bytes cert o short is h = h
-
--- no end is a refusal
-no_end : (asked : Asked) (ws : List Watcher) (facts : Facts) (i : Instance) (o : Outcome) → IsNoRun o
-    → IsEndOf asked ws facts i o → ⊥
-no_end asked ws facts i (Ended t j c n s a) none h = none
-no_end asked ws facts i (Batched t j es) none h = none
-no_end asked ws facts i o none h = h
-
--- nor is a history
-no_history : (asked : Asked) (ws : List Watcher) (facts : Facts) (i : Instance) (o : Outcome) → IsNoRun o
-    → IsHistoryOf asked ws facts i o → ⊥
-no_history asked ws facts i (Resampled t j l s a) none h = none
-no_history asked ws facts i o none h = h
+no_cert_or_cert : (bytes : List ℕ) (cert : Certificate) (r : Refusal) → length bytes ≤ cert_limit → IsCertOf bytes cert
+    → IsNoCert bytes r → ⊥
+no_cert_or_cert bytes cert r short is (inl (long, told)) = omega (arith, long, short)
+no_cert_or_cert bytes cert r short is (inr (short', (l, code, bad, told))) =
+    let memory : MalformedCert l code ≡ CertMemory = unrefused bytes cert is (MalformedCert l code) bad in absurd (cc)
 
 -- where what a command runs is made, nothing else refuses it
 made_or_refused : (command : Command) (job : Job) (ws : List Watcher) (text : List ℕ) (facts : Facts) (i : Instance)
-    → IsMade command (origin_for job) job.root text facts i → job.count ≡ None → (o : Outcome) → IsNoRun o
-    → ComesOfCommand command job ws text o → ⊥
-made_or_refused Formula job ws text facts i made once o none h =
-    let f = made.formula in
-    let comes : ComesOfFormula (origin_for job) (asked_by job) ws f o =
-    subst (λ g. ComesOfFormula (origin_for job) (asked_by job) ws g o) (h.spelled.1 ∙ sym made.spelled.1) h.comes in
-    let runs = of_run (FormulaFacts f.variables) (origin_for job) (pair_weights f.variables) job.count
-    (ComesOfRunning (origin_for job) (asked_by job) ws f) once made.made.is.sound o comes in
-    let end = of_extremal (origin_for job) (asked_by job) ws f made.made.events made.made.of_formula
-    (made.made.extremal refl) o runs in
-    no_end (asked_by job) ws (FormulaFacts f.variables) (instance_of (origin_for job) f.variables end.events) o none end.end
-made_or_refused Orient job ws text facts i made once o none h =
-    let g = made.graph in
-    let comes : ComesOfOrienting (origin_for job) (asked_by job) ws g o =
-    subst (λ k. ComesOfOrienting (origin_for job) (asked_by job) ws k o) (h.spelled.1 ∙ sym made.spelled.1) h.comes in
-    let end = of_run (OrientFacts g) (origin_for job) (pair_weights (length g.edges)) job.count
-    (EndsOrientation (origin_for job) (asked_by job) ws g) once made.made.is.sound o
-    (of_unisolated (origin_for job) (asked_by job) ws g made.made.touched o comes) in
-    no_end (asked_by job) ws (OrientFacts g) (instance_of (origin_for job) (length g.edges) end.events) o none end.end
-made_or_refused Tree job ws text facts i made once o none h =
-    let g = made.graph in
-    let root = job.root in
-    let comes : ComesOfTree (origin_for job) (asked_by job) ws root g o =
-    subst (λ k. ComesOfTree (origin_for job) (asked_by job) ws root k o) (h.spelled.1 ∙ sym made.spelled.1) h.comes in
-    let end = of_run (TreeFacts g root) (origin_for job) (weights_of_tree g root) job.count
-    (IsEndOf (asked_by job) ws (TreeFacts g root) (tree_instance (origin_for job) g root)) once made.made.is.sound o
-    (of_joined (origin_for job) (asked_by job) ws root g made.made.last made.made.joined o comes) in
-    no_end (asked_by job) ws (TreeFacts g root) (tree_instance (origin_for job) g root) o none end
-made_or_refused Resample job ws text facts i made once o none h =
-    let f = made.formula in
-    let comes : ComesOfResampling (origin_for job) (asked_by job) ws f o =
-    subst (λ g. ComesOfResampling (origin_for job) (asked_by job) ws g o) (h.spelled.1 ∙ sym made.spelled.1) h.comes in
-    let runs = of_run (FormulaFacts f.variables) (origin_for job) (pair_weights f.variables) job.count
-    (EndsResampling (origin_for job) (asked_by job) ws f) once made.made.is.sound o comes in
-    no_history (asked_by job) ws (FormulaFacts f.variables) (instance_of (origin_for job) f.variables runs.events) o none
-    runs.history
-made_or_refused command job ws text facts i made once o none h = absurd made
+    → IsMade command (origin_for job) job.root text facts i → job.count ≡ None → (r : Refusal)
+    → ComesOfCommand command job ws text (Refused r) → ⊥
+made_or_refused Formula job ws text facts i made once r h =
+    made_formula_unrefused false (origin_for job) None made.formula facts i made.made r
+    (subst (λ f. RefusesFormula false (origin_for job) None f r) (h.spelled.1 ∙ sym made.spelled.1)
+    (subst (λ n. RefusesFormula false (origin_for job) n h.formula r) once h.comes))
+made_or_refused Orient job ws text facts i made once r h =
+    orienting_unrefused (origin_for job) None made.graph r made.made.touched made.made.is.sound made.made.is.few
+    (subst (λ g. RefusesOrienting (origin_for job) None g r) (h.spelled.1 ∙ sym made.spelled.1)
+    (subst (λ n. RefusesOrienting (origin_for job) n h.graph r) once h.comes))
+made_or_refused Tree job ws text facts i made once r h =
+    tree_unrefused (origin_for job) None job.root made.graph r made.made.last made.made.joined made.made.is.sound
+    made.made.is.few (subst (λ g. RefusesTree (origin_for job) None job.root g r) (h.spelled.1 ∙ sym made.spelled.1)
+    (subst (λ n. RefusesTree (origin_for job) n job.root h.graph r) once h.comes))
+made_or_refused Resample job ws text facts i made once r h =
+    made_formula_unrefused true (origin_for job) None made.formula facts i made.made r
+    (subst (λ f. RefusesFormula true (origin_for job) None f r) (h.spelled.1 ∙ sym made.spelled.1)
+    (subst (λ n. RefusesFormula true (origin_for job) n h.formula r) once h.comes))
+made_or_refused command job ws text facts i made once r h = absurd made
 
 -- nor does its line
-line_or_made : (cert : Certificate) (facts : Facts) (i : Instance) (o : Outcome) → IsCertified cert facts i → IsNoRun o
-    → ComesOf (job_of cert.head) [] cert.input o → ⊥
-line_or_made cert facts i (Unread r) certified none h =
-    made_unrefused cert.head.command (origin_for (job_of cert.head)) cert.head.root cert.input facts i r certified.made h.0
-    h.1
-line_or_made cert facts i (Usage p) certified none h = h
-line_or_made cert facts i (Paused j w t k l) certified none h = none
-line_or_made cert facts i o certified none h =
-    made_or_refused cert.head.command (job_of cert.head) [] cert.input facts i certified.made refl o none h
+line_or_made : (cert : Certificate) (facts : Facts) (i : Instance) (r : Refusal) → IsCertified cert facts i
+    → ComesOf (job_of cert.head) [] cert.input (Refused r) → ⊥
+line_or_made cert facts i r certified (inl u) =
+    made_unrefused cert.head.command (origin_for (job_of cert.head)) cert.head.root cert.input facts i r certified.made u
+line_or_made cert facts i r certified (inr h) =
+    made_or_refused cert.head.command (job_of cert.head) [] cert.input facts i certified.made refl r h
 
 -- what a certificate runs is one thing
 one_certified : (cert : Certificate) (facts told : Facts) (i j : Instance) → IsCertified cert facts i
@@ -142,65 +96,60 @@ one_certified cert facts told i j a b =
     one_made cert.head.command (origin_for (job_of cert.head)) cert.head.root cert.input facts told i j a.made b.made
 
 -- a log text is refused in one way
-one_log_refused : (cert : Certificate) (o p : Outcome) → IsLogRefused cert o → IsLogRefused cert p → o ≡ p
-one_log_refused cert o p a b =
+one_log_refused : (cert : Certificate) → IsOneRefusal (IsLogRefused cert)
+one_log_refused cert r s a b =
     let same = one_certified cert a.facts b.facts a.instance b.instance a.certified b.certified in
-    let here : IsLogRefusal (names_for b.facts) b.instance cert.log_text a.refusal =
-    subst (λ n. IsLogRefusal (names_for n) b.instance cert.log_text a.refusal) same.0
-    (subst (λ i. IsLogRefusal (names_for a.facts) i cert.log_text a.refusal) same.1 a.is) in
-    a.told ∙ ap log_outcome (log_refused_once (names_for b.facts) b.instance b.certified.is b.certified.numbers
-    cert.log_text a.refusal b.refusal a.of_text b.of_text here b.is) ∙ sym b.told
+    let here : IsLogRefusal (names_for b.facts) b.instance cert.log_text a.cause =
+    subst (λ n. IsLogRefusal (names_for n) b.instance cert.log_text a.cause) same.0
+    (subst (λ i. IsLogRefusal (names_for a.facts) i cert.log_text a.cause) same.1 a.refused) in
+    a.is ∙ ap unlogged (log_refused_once (names_for b.facts) b.instance b.certified.is b.certified.numbers
+    cert.log_text a.cause b.cause a.of_text b.of_text here b.refused) ∙ sym b.is
 
 -- one that is that of a log isn't
-log_or_refused : (cert : Certificate) (o : Outcome) → IsLogRefused cert o → HasLog cert → ⊥
-log_or_refused cert o a b =
+log_or_refused : (cert : Certificate) (r : Refusal) → IsLogRefused cert r → HasLog cert → ⊥
+log_or_refused cert r a b =
     let same = one_certified cert a.facts b.facts a.instance b.instance a.certified b.certified in
-    let here : IsLogRefusal (names_for b.facts) b.instance cert.log_text a.refusal =
-    subst (λ n. IsLogRefusal (names_for n) b.instance cert.log_text a.refusal) same.0
-    (subst (λ i. IsLogRefusal (names_for a.facts) i cert.log_text a.refusal) same.1 a.is) in
+    let here : IsLogRefusal (names_for b.facts) b.instance cert.log_text a.cause =
+    subst (λ n. IsLogRefusal (names_for n) b.instance cert.log_text a.cause) same.0
+    (subst (λ i. IsLogRefusal (names_for a.facts) i cert.log_text a.cause) same.1 a.refused) in
     a.of_text (exact_reading (names_for b.facts) b.instance b.certified.is b.certified.numbers cert.log_text b.log b.read
-    a.refusal here)
+    a.cause here)
 
 -- the line of a command refuses an input in one way
-one_line : (cert : Certificate) (o p : Outcome) → IsNoRun o → ComesOf (job_of cert.head) [] cert.input o
-    → ComesOf (job_of cert.head) [] cert.input p → o ≡ p
-one_line cert o p none h h' =
-    only o p none (alike_read (job_of cert.head) [] [] cert.input o p (λ ordered log. refl) h h')
-  where
-    only : (o p : Outcome) → IsNoRun o → Agree o p → o ≡ p
-    only o p none (inl is) = is
-    only (Resampled t i l s a) p none (inr runs) = absurd none
-    only (Paused j w t i l) p none (inr runs) = absurd none
-    only o p none (inr runs) = absurd runs
+one_line : (cert : Certificate) → IsOneRefusal (λ r. ComesOf (job_of cert.head) [] cert.input (Refused r))
+one_line cert r s h h' =
+    let same : Refused r ≡ Refused s =
+    refused_alike r (Refused s)
+    (alike_read (job_of cert.head) [] [] cert.input (Refused r) (Refused s) (λ ordered log. refl) h h') in
+    cc
 
 -- a certificate is refused in one way
-one_refused_cert : (cert : Certificate) (o p : Outcome) → IsRefusedCert ComesOf cert o → IsRefusedCert ComesOf cert p
-    → o ≡ p
-one_refused_cert cert o p (inl (none, h)) (inl (none', h')) = one_line cert o p none h h'
-one_refused_cert cert o p (inl (none, h)) (inr b) = absurd (line_or_made cert b.facts b.instance o b.certified none h)
-one_refused_cert cert o p (inr a) (inl (none', h')) = absurd (line_or_made cert a.facts a.instance p a.certified none' h')
-one_refused_cert cert o p (inr a) (inr b) = one_log_refused cert o p a b
+one_refused_cert : (cert : Certificate) → IsOneRefusal (IsRefusedCert ComesOf cert)
+one_refused_cert cert r s (inl h) (inl h') = one_line cert r s h h'
+one_refused_cert cert r s (inl h) (inr b) = absurd (line_or_made cert b.facts b.instance r b.certified h)
+one_refused_cert cert r s (inr a) (inl h') = absurd (line_or_made cert a.facts a.instance s a.certified h')
+one_refused_cert cert r s (inr a) (inr b) = one_log_refused cert r s a b
 
 -- and not where it has a log
-log_or_refused_cert : (cert : Certificate) (o : Outcome) → IsRefusedCert ComesOf cert o → HasLog cert → ⊥
-log_or_refused_cert cert o (inl (none, h)) b = line_or_made cert b.facts b.instance o b.certified none h
-log_or_refused_cert cert o (inr a) b = log_or_refused cert o a b
+log_or_refused_cert : (cert : Certificate) (r : Refusal) → IsRefusedCert ComesOf cert r → HasLog cert → ⊥
+log_or_refused_cert cert r (inl h) b = line_or_made cert b.facts b.instance r b.certified h
+log_or_refused_cert cert r (inr a) b = log_or_refused cert r a b
 
 -- bytes are refused in one way
-one_refused : (bytes : List ℕ) (o p : Outcome) → IsRefused ComesOf bytes o → IsRefused ComesOf bytes p → o ≡ p
-one_refused bytes o p (inl h) (inl h') = one_no_cert bytes o p h h'
-one_refused bytes o p (inl h) (inr b) = absurd (no_cert_or_cert bytes b.cert o b.short b.is h)
-one_refused bytes o p (inr a) (inl h') = absurd (no_cert_or_cert bytes a.cert p a.short a.is h')
-one_refused bytes o p (inr a) (inr b) =
-    one_refused_cert b.cert o p
-    (subst (λ c. IsRefusedCert ComesOf c o) (one_cert bytes a.cert b.cert a.is b.is) a.comes) b.comes
+one_refused : (bytes : List ℕ) → IsOneRefusal (IsRefused ComesOf bytes)
+one_refused bytes r s (inl h) (inl h') = one_no_cert bytes r s h h'
+one_refused bytes r s (inl h) (inr b) = absurd (no_cert_or_cert bytes b.cert r b.short b.is h)
+one_refused bytes r s (inr a) (inl h') = absurd (no_cert_or_cert bytes a.cert s a.short a.is h')
+one_refused bytes r s (inr a) (inr b) =
+    one_refused_cert b.cert r s
+    (subst (λ c. IsRefusedCert ComesOf c r) (one_cert bytes a.cert b.cert a.is b.is) a.comes) b.comes
 
 -- and not where they are a certificate that has a log
-pub accepted_or_refused : (bytes : List ℕ) (cert : Certificate) (o : Outcome) → length bytes ≤ cert_limit
-    → IsCertOf bytes cert → HasLog cert → IsRefused ComesOf bytes o → ⊥
-accepted_or_refused bytes cert o short is has (inl h) = no_cert_or_cert bytes cert o short is h
-accepted_or_refused bytes cert o short is has (inr a) =
-    log_or_refused_cert cert o (subst (λ c. IsRefusedCert ComesOf c o) (one_cert bytes a.cert cert a.is is) a.comes) has
+pub accepted_or_refused : (bytes : List ℕ) (cert : Certificate) (r : Refusal) → length bytes ≤ cert_limit
+    → IsCertOf bytes cert → HasLog cert → IsRefused ComesOf bytes r → ⊥
+accepted_or_refused bytes cert r short is has (inl h) = no_cert_or_cert bytes cert r short is h
+accepted_or_refused bytes cert r short is has (inr a) =
+    log_or_refused_cert cert r (subst (λ c. IsRefusedCert ComesOf c r) (one_cert bytes a.cert cert a.is is) a.comes) has
 
 -- a run stands in one way
 one_look : (i : Instance) (c : List ℕ) (a b : Look) → IsLook i c a → IsLook i c b → a ≡ b
@@ -231,38 +180,48 @@ one_replayed cert o p a b =
     one_replay y.instance y.log o p
     (subst (λ l. IsReplay y.instance l o) log (subst (λ i. IsReplay i x.log o) same.1 a.is)) b.is
 
--- bytes that are replayed have one outcome
+-- bytes that are replayed aren't refused
+replayed_apart : (bytes : List ℕ) → IsApart (IsRefused ComesOf bytes) (ComesOfCert IsReplayed bytes)
+replayed_apart bytes r refused o b = accepted_or_refused bytes b.cert r b.short b.is b.comes.has refused
+
+-- so they have one outcome
 pub one_replaying : (bytes : List ℕ) (o p : Outcome) → ComesOfReplaying ComesOf bytes o
     → ComesOfReplaying ComesOf bytes p → o ≡ p
-one_replaying bytes o p (inl h) (inl h') = one_refused bytes o p h h'
-one_replaying bytes o p (inl h) (inr b) = absurd (accepted_or_refused bytes b.cert o b.short b.is b.comes.has h)
-one_replaying bytes o p (inr a) (inl h') = absurd (accepted_or_refused bytes a.cert p a.short a.is a.comes.has h')
-one_replaying bytes o p (inr a) (inr b) =
-    one_replayed b.cert o p (subst (λ c. IsReplayed c o) (one_cert bytes a.cert b.cert a.is b.is) a.comes) b.comes
+one_replaying bytes o p h h' =
+    alike_or (λ o p. o ≡ p) (λ o p is. is) (IsRefused ComesOf bytes) (one_refused bytes) (ComesOfCert IsReplayed bytes)
+    (ComesOfCert IsReplayed bytes) (replayed_apart bytes) (replayed_apart bytes)
+    (λ o p a b. one_replayed b.cert o p (subst (λ c. IsReplayed c o) (one_cert bytes a.cert b.cert a.is b.is) a.comes)
+    b.comes) o p (replaying_cases ComesOf bytes o h) (replaying_cases ComesOf bytes p h')
 
--- those that are resumed have one, or two runs of one instance
+-- those that are resumed aren't refused
+resumed_apart : (ws : List Watcher) (bytes : List ℕ)
+    → IsApart (IsRefused ComesOf bytes) (ComesOfCert (IsResumed ComesOf ws) bytes)
+resumed_apart ws bytes r refused o b = accepted_or_refused bytes b.cert r b.short b.is b.comes.has refused
+
+-- their outcomes are alike where those of the line of the certificate's command are
+alike_resumed : (Alike : Outcome → Outcome → Type 0) → ((o p : Outcome) → o ≡ p → Alike o p) → (ws vs : List Watcher)
+    (bytes : List ℕ) → ((cert : Certificate) → IsCertOf bytes cert → (o p : Outcome)
+    → ComesOf (job_of cert.head) ws cert.input o → ComesOf (job_of cert.head) vs cert.input p → Alike o p)
+    → (o p : Outcome) → ComesOfResuming ComesOf ws bytes o → ComesOfResuming ComesOf vs bytes p → Alike o p
+alike_resumed Alike same ws vs bytes alike o p h h' =
+    alike_or Alike same (IsRefused ComesOf bytes) (one_refused bytes) (ComesOfCert (IsResumed ComesOf ws) bytes)
+    (ComesOfCert (IsResumed ComesOf vs) bytes) (resumed_apart ws bytes) (resumed_apart vs bytes)
+    (λ o p a b. alike b.cert b.is o p
+    (subst (λ (c : Certificate). ComesOf (job_of c.head) ws c.input o) (one_cert bytes a.cert b.cert a.is b.is)
+    a.comes.comes) b.comes.comes) o p (resuming_cases ComesOf ws bytes o h) (resuming_cases ComesOf vs bytes p h')
+
+-- so there is one, or two runs of one instance
 pub alike_resuming : (ws vs : List Watcher) (bytes : List ℕ) (o p : Outcome) → ComesOfResuming ComesOf ws bytes o
     → ComesOfResuming ComesOf vs bytes p → Agree o p
-alike_resuming ws vs bytes o p (inl h) (inl h') = inl (one_refused bytes o p h h')
-alike_resuming ws vs bytes o p (inl h) (inr b) = absurd (accepted_or_refused bytes b.cert o b.short b.is b.comes.has h)
-alike_resuming ws vs bytes o p (inr a) (inl h') = absurd (accepted_or_refused bytes a.cert p a.short a.is a.comes.has h')
-alike_resuming ws vs bytes o p (inr a) (inr b) =
-    let here : ComesOf (job_of b.cert.head) ws b.cert.input o =
-    subst (λ (c : Certificate). ComesOf (job_of c.head) ws c.input o) (one_cert bytes a.cert b.cert a.is b.is)
-    a.comes.comes in
-    alike_read (job_of b.cert.head) ws vs b.cert.input o p (λ ordered log. refl) here b.comes.comes
+alike_resuming ws vs bytes =
+    alike_resumed Agree (λ o p is. inl is) ws vs bytes
+    (λ cert is o p h h'. alike_read (job_of cert.head) ws vs cert.input o p (λ ordered log. refl) h h')
 
 -- and one where all orders of the certificate's pops lead to one end
 pub one_resuming : (ws vs : List Watcher) (bytes : List ℕ) (o p : Outcome)
     → ((cert : Certificate) → IsCertOf bytes cert → HasOneEnd cert.head.command cert.input)
     → ComesOfResuming ComesOf ws bytes o → ComesOfResuming ComesOf vs bytes p → o ≡ p
-one_resuming ws vs bytes o p ordered (inl h) (inl h') = one_refused bytes o p h h'
-one_resuming ws vs bytes o p ordered (inl h) (inr b) =
-    absurd (accepted_or_refused bytes b.cert o b.short b.is b.comes.has h)
-one_resuming ws vs bytes o p ordered (inr a) (inl h') =
-    absurd (accepted_or_refused bytes a.cert p a.short a.is a.comes.has h')
-one_resuming ws vs bytes o p ordered (inr a) (inr b) =
-    let here : ComesOf (job_of b.cert.head) ws b.cert.input o =
-    subst (λ (c : Certificate). ComesOf (job_of c.head) ws c.input o) (one_cert bytes a.cert b.cert a.is b.is)
-    a.comes.comes in
-    one_read (job_of b.cert.head) ws vs b.cert.input o p (ordered b.cert b.is) refl (λ log. refl) here b.comes.comes
+one_resuming ws vs bytes o p ordered h h' =
+    alike_resumed (λ o p. o ≡ p) (λ o p is. is) ws vs bytes
+    (λ cert is o p h h'. one_read (job_of cert.head) ws vs cert.input o p (ordered cert is) refl (λ log. refl) h h') o p
+    h h'

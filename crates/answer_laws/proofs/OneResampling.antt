@@ -1,6 +1,6 @@
--- Two outcomes of a formula that is resampled are the same fault of stacks, or two runs of the formula's events. Where
+-- Two outcomes of a formula that is resampled are the same refusal, or two runs of the formula's events. Where
 -- these are extremal, all runs to an end have one layered log, so that there is one outcome.
-use Rattle.std.proofs.Common.{inl, inr, ◌≡◌, List, sym, subst, ◌∙◌}
+use Rattle.std.proofs.Common.{inl, inr, ◌≡◌, List, sym, subst, ◌∙◌, true}
 use Rattle.pop_model.specs.Stacks.{Origin}
 use Rattle.pop_model.specs.Instances.{Instance}
 use Rattle.pop_model.specs.Extremal.{IsExtremal}
@@ -17,16 +17,18 @@ use Rattle.pop_print.specs.declared.facts.Facts.TheVariants.{Formula as FormulaF
 use Rattle.told_runs.specs.declared.asked.Asked.{Asked}
 use Rattle.told_runs.specs.Outcomes.{Outcome}
 use Rattle.told_runs.specs.Outcomes.Outcome.{Resampled}
-use Rattle.top_call.specs.Sampling.{pair_weights, instance_of}
+use Rattle.job_subjects.specs.Subjects.{instance_of}
 use Rattle.told_runs.specs.Names.{names_for}
 use Rattle.told_runs.specs.Tellings.{records_of, IsToldOf, LeadsToEnd}
-use Rattle.top_call.specs.Resamplings.{IsHistoryOf, EndsResampling, ComesOfResampling}
+use Rattle.told_runs.specs.Ends.{IsHistoryOf}
+use Rattle.top_call.specs.Formulas.{EndsResampling, ComesOfFormula}
 use Rattle.answer_laws.specs.Orders.{HasExtremalEvents}
 use Rattle.answer_laws.specs.Laws.{ReportAlike, AreHistories, Agree}
 use Rattle.answer_laws.proofs.ListedEvents.{formula_cubes}
-use Rattle.answer_laws.proofs.OneFormula.{one_events}
-use Rattle.answer_laws.proofs.OneSampling.{AreOne, alike_sampling, same_sampling}
+use Rattle.answer_laws.proofs.OneEvents.{one_events}
+use Rattle.answer_laws.proofs.OneEnd.{AreOne}
 use Rattle.answer_laws.proofs.OneTelling.{one_telling}
+use Rattle.answer_laws.proofs.OneFormula.{alike_formula}
 
 -- two runs of one instance
 two_runs : (asked : Asked) (ws vs : List Watcher) (facts : Facts) (i : Instance) (o p : Outcome)
@@ -52,10 +54,9 @@ two_endings origin asked ws vs f o p h h' =
 
 -- a formula that is resampled has one outcome, but for the order of pops
 pub one_resampling : (origin : Origin) (asked : Asked) (ws vs : List Watcher) (f : Cnf) (o p : Outcome)
-    → ComesOfResampling origin asked ws f o → ComesOfResampling origin asked vs f p → Agree o p
+    → ComesOfFormula true origin asked ws f o → ComesOfFormula true origin asked vs f p → Agree o p
 one_resampling origin asked ws vs f =
-    alike_sampling Agree (λ o p is. inl is) (FormulaFacts f.variables) origin (pair_weights f.variables) asked.count
-    (EndsResampling origin asked ws f) (EndsResampling origin asked vs f) (two_endings origin asked ws vs f)
+    alike_formula Agree (λ o p is. inl is) true origin asked ws vs f (two_endings origin asked ws vs f)
 
 -- on an extremal instance the log in layers is one, and so is what is told of it
 same_run : (asked : Asked) (ws vs : List Watcher) (facts : Facts) (i : Instance) → ReportAlike asked.reports ws vs
@@ -89,7 +90,7 @@ same_ending origin asked ws vs f alike extremal o p h h' =
 -- and one outcome
 pub one_extremal_resampling : (origin : Origin) (asked : Asked) (ws vs : List Watcher) (f : Cnf)
     → ReportAlike asked.reports ws vs → HasExtremalEvents f
-    → AreOne (ComesOfResampling origin asked ws f) (ComesOfResampling origin asked vs f)
+    → AreOne (ComesOfFormula true origin asked ws f) (ComesOfFormula true origin asked vs f)
 one_extremal_resampling origin asked ws vs f alike extremal =
-    same_sampling (FormulaFacts f.variables) origin (pair_weights f.variables) asked.count
-    (EndsResampling origin asked ws f) (EndsResampling origin asked vs f) (same_ending origin asked ws vs f alike extremal)
+    alike_formula (λ o p. o ≡ p) (λ o p is. is) true origin asked ws vs f
+    (same_ending origin asked ws vs f alike extremal)

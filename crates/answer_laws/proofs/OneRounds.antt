@@ -1,5 +1,5 @@
 -- A formula that is sampled by rounds has one outcome, since the run by rounds has one result.
-use Rattle.std.proofs.Common.{◌≡◌, ℕ, List, Option, None, ap, subst, ◌∙◌}
+use Rattle.std.proofs.Common.{◌≡◌, ℕ, List, Option, None, ap, subst, ◌∙◌, inl, inr, true, refl}
 use Rattle.pop_model.specs.Stacks.{Origin}
 use Rattle.pop_model.specs.Families.{Event}
 use Rattle.pop_model.specs.Instances.{Instance}
@@ -10,11 +10,16 @@ use Rattle.dimacs_read.specs.Cnf.{Cnf}
 use Rattle.pop_print.specs.declared.facts.Facts.{Facts}
 use Rattle.pop_print.specs.declared.facts.Facts.TheVariants.{Formula as FormulaFacts}
 use Rattle.told_runs.specs.Outcomes.{Outcome}
-use Rattle.told_runs.specs.Outcomes.Outcome.{Usage, Unread, Isolated, NoRoot, CutOff, TooMany, Unsound, Clashes, Extremal, Ended, Resampled, Rounded, Batched, Paused, Replayed, NotLegal}
-use Rattle.top_call.specs.Sampling.{pair_weights, instance_of}
-use Rattle.top_call.specs.Rounds.{IsRoundsEndOf, EndsRounds, ComesOfRounds}
-use Rattle.answer_laws.proofs.OneFormula.{one_events}
-use Rattle.answer_laws.proofs.OneSampling.{IsOne, same_sampling}
+use Rattle.told_runs.specs.Outcomes.Outcome.{Refused, Rounded}
+use Rattle.job_subjects.specs.Subjects.{pair_weights, instance_of}
+use Rattle.told_runs.specs.Ends.{IsRoundsEndOf}
+use Rattle.top_call.specs.Rounds.{EndsRounds, ComesOfRounds}
+use Rattle.answer_laws.proofs.OneEvents.{one_events}
+use Rattle.answer_laws.proofs.OneEnd.{IsOne}
+use Rattle.top_call.specs.Sampling.{ComesOfSampling}
+use Rattle.job_subjects.specs.Refused.{RefusesFormula}
+use Rattle.answer_laws.proofs.RefusedFormulas.{one_formula_refusal, formula_unrefused}
+use Rattle.answer_laws.proofs.RefusedOr.{RefusedOr, IsApart, alike_or}
 
 -- the result that an outcome tells
 pub record IsRounded (facts : Facts) (i : Instance) (o : Outcome) : Type 0 where
@@ -27,21 +32,6 @@ pub record IsRounded (facts : Facts) (i : Instance) (o : Outcome) : Type 0 where
 
 -- what comes of rounds is a result
 pub rounded : (facts : Facts) (i : Instance) (o : Outcome) → IsRoundsEndOf facts i o → IsRounded facts i o
-rounded facts i (Usage p) h = absurd h
-rounded facts i (Unread r) h = absurd h
-rounded facts i (Isolated w) h = absurd h
-rounded facts i (NoRoot r) h = absurd h
-rounded facts i (CutOff w) h = absurd h
-rounded facts i (TooMany n) h = absurd h
-rounded facts i (Unsound f r) h = absurd h
-rounded facts i (Clashes j k) h = absurd h
-rounded facts i (Extremal n) h = absurd h
-rounded facts i (Ended told j c n s a) h = absurd h
-rounded facts i (Resampled told j l s a) h = absurd h
-rounded facts i (Batched told j es) h = absurd h
-rounded facts i (Paused w r told j l) h = absurd h
-rounded facts i (Replayed k c n l) h = absurd h
-rounded facts i (NotLegal p) h = absurd h
 rounded facts i (Rounded told j c n s v) h =
     record {
       cursors = c;
@@ -51,6 +41,7 @@ rounded facts i (Rounded told j c n s v) h =
       is = ap (λ f. Rounded f j c n s v) h.0 ∙ ap (λ k. Rounded facts k c n s v) h.1;
       end = h.2;
     }
+rounded facts i o h = absurd h
 
 -- rounds of one instance have one result
 one_rounded : (facts : Facts) (i : Instance) → IsOne (IsRoundsEndOf facts i)
@@ -76,8 +67,23 @@ one_ending origin f o p h h' =
     subst (λ rows. IsRoundsEndOf facts (instance_of origin f.variables rows) o) events h.end in
     one_rounded facts (instance_of origin f.variables h'.events) o p end h'.end
 
--- a formula that is sampled by rounds has one outcome
+-- what comes of it where it isn't refused
+abbrev pub RoundsSampled : Origin → Cnf → Outcome → Type 0
+RoundsSampled origin f o = ComesOfSampling origin (pair_weights f.variables) None (EndsRounds origin f) o
+
+-- a formula that is sampled by rounds is refused, or sampled so
+pub rounds_cases : (origin : Origin) (f : Cnf) (o : Outcome) → ComesOfRounds origin f o
+    → RefusedOr (RefusesFormula true origin None f) (RoundsSampled origin f) o
+rounds_cases origin f (Refused r) h = inl (r, refl, h)
+rounds_cases origin f o h = inr h
+
+-- one that is isn't refused
+rounds_apart : (origin : Origin) (f : Cnf) → IsApart (RefusesFormula true origin None f) (RoundsSampled origin f)
+rounds_apart origin f r refuses o h = formula_unrefused true origin None f r h.0 h.2 (λ clash. clash) refuses
+
+-- so it has one outcome
 pub one_rounds : (origin : Origin) (f : Cnf) → IsOne (ComesOfRounds origin f)
-one_rounds origin f =
-    same_sampling (FormulaFacts f.variables) origin (pair_weights f.variables) None (EndsRounds origin f)
-    (EndsRounds origin f) (one_ending origin f)
+one_rounds origin f o p h h' =
+    alike_or (λ o p. o ≡ p) (λ o p is. is) (RefusesFormula true origin None f) (one_formula_refusal true origin None f)
+    (RoundsSampled origin f) (RoundsSampled origin f) (rounds_apart origin f) (rounds_apart origin f)
+    (λ o p s s'. one_ending origin f o p s.1 s'.1) o p (rounds_cases origin f o h) (rounds_cases origin f p h')

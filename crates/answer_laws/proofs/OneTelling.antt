@@ -13,7 +13,7 @@ use Rattle.pop_watch.specs.Telling.{Watcher}
 use Rattle.told_runs.specs.declared.asked.Asked.{Asked}
 use Rattle.told_runs.specs.Witnesses.{Witness}
 use Rattle.told_runs.specs.Tellings.{Telling, records_of, IsToldOf}
-use Rattle.top_call.specs.Sampling.{IsToldOfFirst}
+use Rattle.told_runs.specs.Ends.{IsToldOfFirst}
 use Rattle.answer_laws.specs.Laws.{ReportAlike}
 use Rattle.told_runs.proofs.ToldOfFirst.{first_runs}
 use Rattle.answer_laws.proofs.OneWitness.{one_witness}

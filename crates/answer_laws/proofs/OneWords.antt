@@ -8,12 +8,13 @@ use Rattle.pop_words.specs.CommandLines.{AreWords}
 use Rattle.pop_words.proofs.OneJob.{same_job, same_first_bad}
 use Rattle.pop_watch.specs.Telling.{Watcher}
 use Rattle.told_runs.specs.Outcomes.{Outcome}
-use Rattle.told_runs.specs.Outcomes.Outcome.{Usage}
+use Rattle.told_runs.specs.Outcomes.Outcome.{Refused}
 use Rattle.top_call.specs.Answers.{ComesBy, IsOutcome}
 use Rattle.answer_laws.specs.Orders.{HasOneEnd, LeadsToOneEnd}
 use Rattle.answer_laws.specs.Laws.{AskForOneEnd, AskForLikeReports, ReportAlike, AskForLike, Agree}
 use Rattle.answer_laws.proofs.OneOutcome.{alike_read, one_read, word_cases}
 use Rattle.answer_laws.proofs.OneReplay.{one_replaying, alike_resuming, one_resuming}
+use Rattle.job_subjects.specs.declared.refusal.Refusal.TheVariants.{Usage}
 
 -- two outcomes of a command, with watchers that report alike where one end is asked for
 alike_by : (k : Command) (job : Job) (ws vs : List Watcher) (text : List ℕ) (o p : Outcome)
@@ -35,7 +36,7 @@ pub one_outcome : (words : List (List ℕ)) (ws vs : List Watcher) (text : List 
 one_outcome words ws vs text o p like h h' = elim (word_cases words ws text o h) [
   | inl (place, o_is, bad) ↦ elim (word_cases words vs text p h') [
     | inl (place', p_is, bad') ↦
-        inl (o_is ∙ ap Usage (same_first_bad AreWords words place place' bad bad') ∙ sym p_is)
+        inl (o_is ∙ ap (λ n. Refused (Usage n)) (same_first_bad AreWords words place place' bad bad') ∙ sym p_is)
     | inr comes' ↦ absurd (bad.outside (comes'.job, comes'.asks))
   ]
   | inr comes ↦ elim (word_cases words vs text p h') [
@@ -74,7 +75,7 @@ pub one_end : (words : List (List ℕ)) (ws vs : List Watcher) (text : List ℕ)
 one_end words ws vs text o p once like h h' = elim (word_cases words ws text o h) [
   | inl (place, o_is, bad) ↦ elim (word_cases words vs text p h') [
     | inl (place', p_is, bad') ↦
-        o_is ∙ ap Usage (same_first_bad AreWords words place place' bad bad') ∙ sym p_is
+        o_is ∙ ap (λ n. Refused (Usage n)) (same_first_bad AreWords words place place' bad bad') ∙ sym p_is
     | inr comes' ↦ absurd (bad.outside (comes'.job, comes'.asks))
   ]
   | inr comes ↦ elim (word_cases words vs text p h') [

@@ -17,8 +17,8 @@ use Rattle.pop_words.specs.CommandLines.{Asks}
 use Rattle.pop_words.proofs.OneJob.{same_job}
 use Rattle.pop_watch.specs.Telling.{Watcher}
 use Rattle.told_runs.specs.Outcomes.{Outcome}
-use Rattle.told_runs.specs.Outcomes.Outcome.{Usage, Unread, Isolated, NoRoot, CutOff, TooMany, Unsound, Clashes, Extremal, Ended, Resampled, Rounded, Batched, Paused, Replayed, NotLegal}
-use Rattle.top_call.specs.Sampling.{EndsWithin}
+use Rattle.told_runs.specs.Outcomes.Outcome.{Ended, Resampled, Paused}
+use Rattle.told_runs.specs.Ends.{EndsWithin}
 use Rattle.top_call.specs.Answers.{ComesOfCommand, ComesOf, IsOfLine, ComesBy}
 use Rattle.answer_laws.specs.Orders.{HasOneEnd}
 use Rattle.answer_laws.specs.Laws.{TellsPause, PausedExactly}
@@ -73,22 +73,10 @@ tells_pause words ws text job most (Ended facts i c pops stuck a) asks ordered s
       subst (λ j. IsFirstEnd j c pops stuck) (sym of.instance_is) of.end,
       subst (λ m. EndsWithin m pops) stop of.within,
     )
-tells_pause words ws text job most (Usage p) asks ordered stop h = tt
-tells_pause words ws text job most (Unread r) asks ordered stop h = tt
-tells_pause words ws text job most (Isolated w) asks ordered stop h = tt
-tells_pause words ws text job most (NoRoot r) asks ordered stop h = tt
-tells_pause words ws text job most (CutOff w) asks ordered stop h = tt
-tells_pause words ws text job most (TooMany n) asks ordered stop h = tt
-tells_pause words ws text job most (Unsound t f) asks ordered stop h = tt
-tells_pause words ws text job most (Clashes i j) asks ordered stop h = tt
-tells_pause words ws text job most (Extremal n) asks ordered stop h = tt
 tells_pause words ws text job most (Resampled facts i placed stuck a) asks ordered stop h =
     let leads = resampled_leads job.command job ws text facts i placed stuck a h in
     (leads.0, subst (λ m. EndsWithin m (length placed)) stop leads.1)
-tells_pause words ws text job most (Rounded t i c n s v) asks ordered stop h = tt
-tells_pause words ws text job most (Batched t i es) asks ordered stop h = tt
-tells_pause words ws text job most (Replayed i c n k) asks ordered stop h = tt
-tells_pause words ws text job most (NotLegal p) asks ordered stop h = tt
+tells_pause words ws text job most o asks ordered stop h = tt
 
 -- words that ask for a run that may stop have none read
 stopped_line : (words : List (List ℕ)) (job : Job) → Asks words job → (pops : ℕ) → job.pops ≡ Some pops

@@ -53,9 +53,8 @@ use Rattle.told_runs.specs.Names.{names_for}
 use Rattle.told_runs.specs.Outcomes.{Outcome, end_status, run_text, status_of, text_of}
 use Rattle.told_runs.specs.Outcomes.Outcome.{Ended}
 use Rattle.told_runs.specs.Tellings.{Telling, telling_text}
-use Rattle.top_call.specs.Sampling.{pair_weights, instance_of}
+use Rattle.job_subjects.specs.Subjects.{pair_weights, instance_of, Subject, assignments, arrows_to, instance_over, orientations, IsSubjectOf}
 use Rattle.top_call.specs.Answers.{ComesBy, ComesOf, ComesOfCommand, ComesOfJob, IsOutcome}
-use Rattle.job_subjects.specs.Subjects.{Subject, assignments, arrows_to, instance_over, orientations, IsSubjectOf}
 use Rattle.answer_laws.specs.ExactAnswers.{IsSampledBy, frame_of, frame_over, over_rows}
 use Rattle.answer_laws.specs.EverySample.{Satisfies}
 use Rattle.answer_laws.specs.PrintedOnce.{AreBits, AreSlots}
@@ -68,8 +67,7 @@ use Rattle.answer_laws.proofs.ExactAnswers.{exchanged_answers, of_rows, sound_ro
 use Rattle.answer_laws.proofs.KeyAnswers.{is_quiet, low_cases}
 use Rattle.job_subjects.proofs.MadeInstances.{count_of_weights, slots_of_weights}
 use Rattle.answer_laws.proofs.LoopedEdges.{DifferAtLoops, bits_weigh, carried, carried_alike, carried_back, carried_sample, same_lines}
-use Rattle.answer_laws.proofs.OneFormula.{one_events}
-use Rattle.answer_laws.proofs.OneOrientation.{one_sinks}
+use Rattle.answer_laws.proofs.OneEvents.{one_events, one_sinks}
 use Rattle.answer_laws.proofs.OneOutcome.{word_cases}
 use Rattle.answer_laws.proofs.PrintedApart.{assignments_apart, orientations_apart, trees_apart}
 use Rattle.answer_laws.proofs.RoundAnswers.{IsRounded, answered_by, comes_of_job, formula_frame, pairs_light}

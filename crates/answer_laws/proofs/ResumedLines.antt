@@ -1,11 +1,7 @@
 -- A certificate that is replayed isn't refused, so that what comes of it where it is resumed comes of the line of its
 -- command.
-use Rattle.std.proofs.Common.{inl, inr, ◌≡◌, ◌≤◌, ℕ, List, sym, ap, subst, arith, Contains}
+use Rattle.std.proofs.Common.{inl, inr, ◌≡◌, ℕ, List, sym, ap, subst, Contains, ◌∙◌}
 use Rattle.std.proofs.lemmas.Option.{none-some}
-use Rattle.pop_edge.specs.declared.refusal.ReadRefusal.{ReadRefusal}
-use Rattle.pop_edge.specs.declared.refusal.ReadRefusal.TheVariants.{Malformed, Count, EmptyClause, Limit, ReadFault, OutOfMemory}
-use Rattle.pop_stacks.specs.declared.stack_fault.StackFault.{StackFault}
-use Rattle.pop_stacks.specs.declared.stack_fault.StackFault.TheVariants.{RowCount, EmptyRow, ValueTooLarge, WeightSum, OutOfMemory as NoMemory}
 use Rattle.pop_words.specs.declared.command.Command.{Command}
 use Rattle.pop_words.specs.declared.command.Command.TheVariants.{Replay, Resume}
 use Rattle.pop_words.specs.declared.job.Job.{Job}
@@ -14,64 +10,18 @@ use Rattle.pop_words.proofs.OneJob.{same_job}
 use Rattle.pop_watch.specs.Telling.{Watcher}
 use Rattle.run_cert.specs.Certificates.{Certificate}
 use Rattle.run_cert.proofs.OneText.{one_cert}
-use Rattle.job_subjects.specs.Refusals.{reading_status, stacks_status}
 use Rattle.told_runs.specs.Outcomes.{Outcome, HasRun, status_of}
-use Rattle.told_runs.specs.Outcomes.Outcome.{Usage, Unread, Isolated, NoRoot, CutOff, TooMany, Unsound, Clashes, NotLegal}
-use Rattle.top_call.specs.Replays.{job_of, IsNoRun, ComesOfCert, IsReplayed}
+use Rattle.top_call.specs.Replays.{job_of, ComesOfCert, IsReplayed}
 use Rattle.top_call.specs.Answers.{ComesOf, ComesBy, IsOutcome}
 use Rattle.answer_laws.specs.Resumed.{AskFor, AcceptsReplay, ResumedAlike}
 use Rattle.answer_laws.proofs.AlikeJobs.{AreAlike, StopAsOne, said_by, same_comes}
-use Rattle.top_call.proofs.ByCommand.{by_line, refused_no_run}
+use Rattle.top_call.proofs.ByCommand.{by_line}
 use Rattle.top_call.proofs.Lifting.{of_words}
 use Rattle.answer_laws.proofs.OneOutcome.{word_cases}
 use Rattle.answer_laws.proofs.OneReplay.{accepted_or_refused}
 use Rattle.top_call.proofs.PauseWords.{paused_line}
-
--- no text that is refused has a status of a run
-pub read_no_run : (r : ReadRefusal) → HasRun (reading_status r) → ⊥
-read_no_run (Malformed l c) (inl low) = omega (arith, low)
-read_no_run (Malformed l c) (inr ten) = omega (arith, ten)
-read_no_run (Count d f) (inl low) = omega (arith, low)
-read_no_run (Count d f) (inr ten) = omega (arith, ten)
-read_no_run (EmptyClause n) (inl low) = omega (arith, low)
-read_no_run (EmptyClause n) (inr ten) = omega (arith, ten)
-read_no_run (Limit k l) (inl low) = omega (arith, low)
-read_no_run (Limit k l) (inr ten) = omega (arith, ten)
-read_no_run ReadFault (inl low) = omega (arith, low)
-read_no_run ReadFault (inr ten) = omega (arith, ten)
-read_no_run OutOfMemory (inl low) = omega (arith, low)
-read_no_run OutOfMemory (inr ten) = omega (arith, ten)
-
--- nor has a fault of stacks
-pub fault_no_run : (f : StackFault) → HasRun (stacks_status f) → ⊥
-fault_no_run (RowCount g w) (inl low) = omega (arith, low)
-fault_no_run (RowCount g w) (inr ten) = omega (arith, ten)
-fault_no_run (EmptyRow v) (inl low) = omega (arith, low)
-fault_no_run (EmptyRow v) (inr ten) = omega (arith, ten)
-fault_no_run (ValueTooLarge v k) (inl low) = omega (arith, low)
-fault_no_run (ValueTooLarge v k) (inr ten) = omega (arith, ten)
-fault_no_run (WeightSum v) (inl low) = omega (arith, low)
-fault_no_run (WeightSum v) (inr ten) = omega (arith, ten)
-fault_no_run NoMemory (inl low) = omega (arith, low)
-fault_no_run NoMemory (inr ten) = omega (arith, ten)
-
--- a number that is none of a run's
-other : (n : ℕ) → 2 ≤ n → (n ≡ 10 → ⊥) → HasRun n → ⊥
-other n high not (inl low) = omega (arith, high, low)
-other n high not (inr ten) = not ten
-
--- so where there is no run, the status is none of a run
-no_run_status : (o : Outcome) → IsNoRun o → HasRun (status_of o) → ⊥
-no_run_status (Usage p) none has = other 2 (omega arith) (λ is. omega (arith, is)) has
-no_run_status (Unread r) none has = read_no_run r has
-no_run_status (Isolated w) none has = other 6 (omega arith) (λ is. omega (arith, is)) has
-no_run_status (NoRoot r) none has = other 6 (omega arith) (λ is. omega (arith, is)) has
-no_run_status (CutOff w) none has = other 6 (omega arith) (λ is. omega (arith, is)) has
-no_run_status (TooMany n) none has = other 4 (omega arith) (λ is. omega (arith, is)) has
-no_run_status (Unsound t f) none has = fault_no_run f has
-no_run_status (Clashes i j) none has = other 5 (omega arith) (λ is. omega (arith, is)) has
-no_run_status (NotLegal p) none has = other 11 (omega arith) (λ is. omega (arith, is)) has
-no_run_status o none has = absurd none
+use Rattle.answer_laws.proofs.RefusalStatuses.{refusal_no_run}
+use Rattle.answer_laws.proofs.RefusedOr.{replaying_cases, resuming_cases}
 
 -- what comes of words that ask for a command comes by it
 pub by_words : (words : List (List ℕ)) (ws : List Watcher) (text : List ℕ) (o : Outcome) (k : Command) → AskFor words k
@@ -91,9 +41,9 @@ replayed : (bytes : List ℕ) → AcceptsReplay bytes → (o : Outcome) × Comes
 replayed bytes accepts =
     let (o, comes, tells) = accepts.answer in
     let came = by_words accepts.words accepts.watchers bytes o Replay accepts.asks comes in
-    elim came.1 [
-      | inl refused ↦ absurd (no_run_status o (refused_no_run ComesOf bytes o refused)
-          (subst HasRun tells.status_is accepts.has_run))
+    elim (replaying_cases ComesOf bytes o came.1) [
+      | inl (r, o_is, refused) ↦
+          absurd (refusal_no_run r (subst HasRun (tells.status_is ∙ ap status_of o_is) accepts.has_run))
       | inr b ↦ (o, b)
     ]
 
@@ -102,8 +52,8 @@ pub resumed_alike : ResumedAlike
 resumed_alike words others ws bytes cert status out accepts is asks (job, asks', line) (o, comes, tells) =
     let (p, b) = replayed bytes accepts in
     let came = by_words words ws bytes o Resume asks comes in
-    elim came.1 [
-      | inl refused ↦ absurd (accepted_or_refused bytes b.cert o b.short b.is b.comes.has refused)
+    elim (resuming_cases ComesOf ws bytes o came.1) [
+      | inl (s, o_is, refused) ↦ absurd (accepted_or_refused bytes b.cert s b.short b.is b.comes.has refused)
       | inr r ↦
           let mine : Job = job_of cert.head in
           let own : ComesOf mine ws cert.input o =

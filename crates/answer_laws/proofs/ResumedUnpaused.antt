@@ -33,7 +33,7 @@ use Rattle.told_runs.specs.Witnesses.{Witness as ToldWitness}
 use Rattle.told_runs.specs.Witnesses.Witness.{Unasked, Missing, Shown}
 use Rattle.told_runs.specs.Tellings.{records_of}
 use Rattle.told_runs.specs.Outcomes.{Outcome, status_of, text_of, end_status, resampled_status}
-use Rattle.told_runs.specs.Outcomes.Outcome.{Usage, Unread, Isolated, NoRoot, CutOff, TooMany, Unsound, Clashes, Extremal, Ended, Resampled, Rounded, Batched, Paused, Replayed, NotLegal}
+use Rattle.told_runs.specs.Outcomes.Outcome.{Refused, Extremal, Ended, Resampled, Rounded, Batched, Paused, Replayed}
 use Rattle.job_subjects.specs.Made.{IsMade}
 use Rattle.top_call.specs.Replays.{job_of, HasLog}
 use Rattle.top_call.specs.Answers.{origin_for, ComesOfCommand, ComesOf, IsOfLine, ComesBy}
@@ -48,7 +48,9 @@ use Rattle.answer_laws.proofs.CertBounds.{legal_log}
 use Rattle.answer_laws.proofs.FilteredOptions.{AreDropped, unsets, goes_on, parts}
 use Rattle.answer_laws.proofs.OneOutcome.{word_cases}
 use Rattle.answer_laws.proofs.OneReplay.{accepted_or_refused}
-use Rattle.answer_laws.proofs.ResumedLines.{read_no_run, fault_no_run, by_words}
+use Rattle.answer_laws.proofs.ResumedLines.{by_words}
+use Rattle.answer_laws.proofs.RefusalStatuses.{refusal_not_ten}
+use Rattle.answer_laws.proofs.RefusedOr.{resuming_cases}
 
 -- ---- the job without `--pops`
 
@@ -135,14 +137,7 @@ no_pause Resume job other ws text input facts i placed h = h
 -- nor has it the status of one
 no_ten : (job : Job) (ws : List Watcher) (text : List ℕ) (o : Outcome) → ComesOfCommand job.command job ws text o
     → status_of o ≡ 10 → ⊥
-no_ten job ws text (Usage p) h is = omega (arith, is)
-no_ten job ws text (Unread r) h is = read_no_run r (inr is)
-no_ten job ws text (Isolated w) h is = omega (arith, is)
-no_ten job ws text (NoRoot r) h is = omega (arith, is)
-no_ten job ws text (CutOff w) h is = omega (arith, is)
-no_ten job ws text (TooMany n) h is = omega (arith, is)
-no_ten job ws text (Unsound t f) h is = fault_no_run f (inr is)
-no_ten job ws text (Clashes i j) h is = omega (arith, is)
+no_ten job ws text (Refused r) h is = refusal_not_ten r is
 no_ten job ws text (Extremal n) h is = omega (arith, is)
 no_ten job ws text (Ended t i c n s a) h is = no_end_status s is
 no_ten job ws text (Resampled t i l s a) h is = no_resampled_status s a.witness is
@@ -154,13 +149,12 @@ no_ten job ws text (Batched t i es) h is = by_stuck _ is
     by_stuck false is = omega (arith, is)
 no_ten job ws text (Paused j w t i l) h is = no_pause job.command job j ws text w t i l h
 no_ten job ws text (Replayed i c n k) h is = no_replay job.command job ws text i c n k h
-no_ten job ws text (NotLegal p) h is = omega (arith, is)
 
 -- so what comes of a line with status 10 is a pause
 ten_pauses : (job : Job) (ws : List Watcher) (text : List ℕ) (o : Outcome) → ComesOf job ws text o → status_of o ≡ 10
     → TellsPaused job text o
 ten_pauses job ws text o h is = elim (read_cases job ws text o h) [
-  | inl (r, o_is, of, refused) ↦ absurd (read_no_run r (inr (sym (ap status_of o_is) ∙ is)))
+  | inl (r, o_is, unread) ↦ absurd (refusal_not_ten r (sym (ap status_of o_is) ∙ is))
   | inr (inl done) ↦ absurd (no_ten job ws text o done is)
   | inr (inr pause) ↦ pause
 ]
@@ -198,8 +192,8 @@ any_root Resume job root ws text o h = h
 of_root : (job : Job) (root : ℕ) (ws : List Watcher) (text : List ℕ) (o : Outcome) → job.pops ≡ None
     → ComesOf (record job { root = root_said (has_root job.command) root }) ws text o
     → ComesOf (record job { root = root }) ws text o
-of_root job root ws text (Usage p) out h = h
-of_root job root ws text (Unread r) out h = h
+of_root job root ws text (Refused r) out (inl unread) = inl unread
+of_root job root ws text (Refused r) out (inr h) = inr (any_root job.command job root ws text (Refused r) h)
 of_root job root ws text (Paused told input facts i placed) out h = absurd (none-some h.3.0 (sym out ∙ h.3.1))
 of_root job root ws text o out h = any_root job.command job root ws text o h
 
@@ -271,8 +265,8 @@ resumed_unpaused words resumes others ws vs text bytes status out d (o, comes, t
     let there : IsCertOf bytes cert = subst (λ b. IsCertOf b cert) text_is is in
     let has = cert_log words d.job d.asks text o p may.level is (short.log_short cert there) in
     let came = by_words resumes vs bytes o' Resume asks comes' in
-    elim came.1 [
-      | inl refused ↦ absurd (accepted_or_refused bytes cert o' short.short there has refused)
+    elim (resuming_cases ComesOf vs bytes o' came.1) [
+      | inl (r, is', refused) ↦ absurd (accepted_or_refused bytes cert r short.short there has refused)
       | inr r ↦
           let resumed : ComesOf (job_of cert.head) vs cert.input o' =
           subst (λ (c : Certificate). ComesOf (job_of c.head) vs c.input o') (one_cert bytes r.cert cert r.is there)

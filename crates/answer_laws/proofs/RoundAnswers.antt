@@ -34,9 +34,8 @@ use Rattle.pop_print.specs.declared.facts.Facts.TheVariants.{Formula as FormulaF
 use Rattle.printed_samples.proofs.ShownEnds.{literals_of_text}
 use Rattle.told_runs.specs.Outcomes.{Outcome}
 use Rattle.told_runs.specs.Outcomes.Outcome.{Rounded}
-use Rattle.top_call.specs.Sampling.{pair_weights, instance_of}
+use Rattle.job_subjects.specs.Subjects.{pair_weights, instance_of, Subject, assignments}
 use Rattle.top_call.specs.Answers.{ComesBy, ComesOfCommand, IsOfLine, IsOutcome, origin_for}
-use Rattle.job_subjects.specs.Subjects.{Subject, assignments}
 use Rattle.answer_laws.specs.ExactAnswers.{frame_over, over_rows}
 use Rattle.answer_laws.specs.RoundAnswers.{ExchangedRoundAnswers, IsRoundedBy, ReachedRoundAnswers}
 use Rattle.top_call.proofs.ByCommand.{by_line, of_line}

@@ -30,8 +30,8 @@ use Rattle.pop_print.specs.declared.facts.Facts.TheVariants.{Formula as FormulaF
 use Rattle.pop_print.specs.Rounds.{rounds_text}
 use Rattle.printed_samples.proofs.ShownEnds.{literals_of_text, pair_bits}
 use Rattle.told_runs.specs.Outcomes.{Outcome, Tells, end_status, status_of, text_of}
-use Rattle.told_runs.specs.Outcomes.Outcome.{Usage, Unread, Isolated, NoRoot, CutOff, TooMany, Unsound, Clashes, Extremal, Ended, Resampled, Rounded, Batched, Paused, Replayed, NotLegal}
-use Rattle.top_call.specs.Sampling.{pair_weights, instance_of}
+use Rattle.told_runs.specs.Outcomes.Outcome.{Refused, Extremal, Ended, Resampled, Rounded, Batched, Paused, Replayed}
+use Rattle.job_subjects.specs.Subjects.{pair_weights, instance_of}
 use Rattle.top_call.specs.Answers.{ComesBy, ComesOf, ComesOfCommand, IsOutcome, origin_for}
 use Rattle.answer_laws.specs.EverySample.{Satisfies}
 use Rattle.answer_laws.specs.RoundAnswers.{IsRoundedOutput, RoundOutputs, rounded_text}
@@ -39,9 +39,9 @@ use Rattle.top_call.proofs.ByCommand.{of_line}
 use Rattle.top_call.proofs.Lifting.{no_replay}
 use Rattle.answer_laws.proofs.ListedEvents.{pairs_fit}
 use Rattle.answer_laws.proofs.OneOutcome.{word_cases}
-use Rattle.answer_laws.proofs.ShownSamples.{faulty, refused}
 use Rattle.answer_laws.proofs.RoundAnswers.{IsEndOfFormula, IsRounded, rounded_of, rounds_line_of}
 use Rattle.answer_laws.proofs.SatisfiedFormulas.{samples_satisfy}
+use Rattle.answer_laws.proofs.RefusalStatuses.{refusal_high}
 
 -- where the stuck list of rounds is empty, no event occurs and no variable is short
 pub finished_rounds : (i : Instance) (c : List ℕ) (rounds : ℕ) (stuck : List Event) (short : Option ℕ)
@@ -82,14 +82,7 @@ finished_end job ws text (Rounded facts i c n stuck short) by h zero =
       is = subst (λ (v : Option ℕ). IsRounded job.command (origin_for job) text facts i c n [] v) none.1
           (subst (λ (s : List Event). IsRounded job.command (origin_for job) text facts i c n s short) none.0 is);
     }
-finished_end job ws text (Usage p) by h zero = absurd h
-finished_end job ws text (Unread r) by h zero = absurd (omega (arith, zero, refused r))
-finished_end job ws text (Isolated w) by h zero = absurd (omega (arith, zero))
-finished_end job ws text (NoRoot r) by h zero = absurd (omega (arith, zero))
-finished_end job ws text (CutOff w) by h zero = absurd (omega (arith, zero))
-finished_end job ws text (TooMany n) by h zero = absurd (omega (arith, zero))
-finished_end job ws text (Unsound t fault) by h zero = absurd (omega (arith, zero, faulty fault))
-finished_end job ws text (Clashes j k) by h zero = absurd (omega (arith, zero))
+finished_end job ws text (Refused r) by h zero = absurd (omega (arith, zero, refusal_high r))
 finished_end job ws text (Extremal n) by h zero =
     absurd (subst (λ k. ComesOfCommand k job ws text (Extremal n)) by h).comes.1.end
 finished_end job ws text (Ended t i c n s a) by h zero =
@@ -100,7 +93,6 @@ finished_end job ws text (Batched t i es) by h zero =
     absurd (subst (λ k. ComesOfCommand k job ws text (Batched t i es)) by h).comes.1.end
 finished_end job ws text (Paused j w t i l) by h zero = absurd (omega (arith, zero))
 finished_end job ws text (Replayed i c n k) by h zero = absurd (no_replay job.command job ws text i c n k h)
-finished_end job ws text (NotLegal p) by h zero = absurd (omega (arith, zero))
 
 -- the values at an end of rounds satisfy the formula
 values_satisfy : (origin : Origin) (text : List ℕ) (i : Instance) (c : List ℕ) (n : ℕ) → cnf_refusal text ≡ None

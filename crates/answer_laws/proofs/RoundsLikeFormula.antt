@@ -1,7 +1,7 @@
 -- Rounds of an extremal formula end as its run on one thread does. Both spell one formula, which has one list of events,
 -- over stacks of one origin: so both are of one instance. There rounds are exhausted exactly where the run is, and where
 -- both finish, their cursors are equal; and an event occurs at the end of rounds exactly where they are exhausted.
-use Rattle.std.proofs.Common.{inl, inr, ◌≡◌, ◌≢◌, ◌⊎◌, ◌≤◌, ℕ, List, [], ◌∷◌, Option, None, Some, Ok, refl, sym, ap, subst, ◌∙◌, arith, append-nil}
+use Rattle.std.proofs.Common.{inl, inr, ◌≡◌, ◌≢◌, ◌⊎◌, ◌≤◌, ℕ, List, [], ◌∷◌, Option, None, Some, Ok, refl, sym, ap, subst, ◌∙◌, arith, append-nil, false, true, length}
 use Rattle.std.proofs.lemmas.Option.{none-some}
 use Rattle.pop_model.specs.Stacks.{Origin, StackTable}
 use Rattle.pop_model.specs.Popping.{Cube}
@@ -20,29 +20,33 @@ use Rattle.pop_words.specs.declared.command.Command.TheVariants.{Formula, Rounds
 use Rattle.pop_words.specs.declared.job.Job.{Job}
 use Rattle.pop_words.proofs.OneJob.{same_job}
 use Rattle.pop_watch.specs.Telling.{Watcher}
-use Rattle.pop_print.specs.declared.facts.Facts.{Facts}
 use Rattle.pop_print.specs.declared.facts.Facts.TheVariants.{Formula as FormulaFacts}
 use Rattle.pop_print.specs.Output.{findings}
 use Rattle.told_runs.specs.Names.{names_for}
 use Rattle.told_runs.specs.Tellings.{Telling, telling_text}
 use Rattle.told_runs.specs.Outcomes.{Outcome, status_of, text_of, end_status}
 use Rattle.told_runs.specs.Outcomes.Outcome.{Ended, Rounded}
-use Rattle.top_call.specs.Formulas.{EndsFormula, ComesOfRunning, ComesOfFormula}
-use Rattle.top_call.specs.Rounds.{IsRoundsEndOf, EndsRounds, ComesOfRounds}
-use Rattle.top_call.specs.Sampling.{pair_weights, instance_of}
+use Rattle.top_call.specs.Formulas.{EndsFormula, ComesOfFormula}
+use Rattle.told_runs.specs.Ends.{IsRoundsEndOf}
+use Rattle.top_call.specs.Rounds.{EndsRounds, ComesOfRounds}
+use Rattle.job_subjects.specs.Subjects.{pair_weights, instance_of}
 use Rattle.job_subjects.specs.Made.{IsMade}
-use Rattle.top_call.specs.Answers.{ComesOfCnf, Refuses, ComesOf, ComesOfCommand, IsOfLine, ComesBy, origin_for, asked_by}
+use Rattle.top_call.specs.Answers.{ComesOfCnf, Refuses, ComesOf, ComesOfCommand, IsOfLine, ComesBy, origin_for}
+use Rattle.told_runs.specs.Asking.{asked_by}
 use Rattle.top_call.proofs.ByCommand.{of_line}
 use Rattle.top_call.proofs.ReadCases.{read_cases}
 use Rattle.answer_laws.specs.RoundsLikeFormula.{AgreeUpToUsed, RoundsLikeFormula}
 use Rattle.answer_laws.proofs.Finished.{finished}
-use Rattle.answer_laws.proofs.OneFormula.{one_events, running_cases}
+use Rattle.answer_laws.proofs.OneEvents.{one_events}
 use Rattle.answer_laws.proofs.OneOutcome.{word_cases}
 use Rattle.answer_laws.proofs.OneReading.{no_cnf_refusal}
-use Rattle.answer_laws.proofs.OneRounds.{rounded}
-use Rattle.answer_laws.proofs.OneSampling.{Ways, ways, of_run, ended}
-use Rattle.answer_laws.proofs.OneSampling.Ways.{many, fault, run}
-use Rattle.answer_laws.proofs.ShownSamples.{refused, faulty}
+use Rattle.answer_laws.proofs.OneRounds.{rounded, rounds_cases}
+use Rattle.answer_laws.proofs.OneEnd.{ended}
+use Rattle.pop_stacks.specs.Faults.{IsSound}
+use Rattle.answer_laws.proofs.OneFormula.{formula_cases}
+use Rattle.answer_laws.proofs.RefusedStacks.{no_count_few}
+use Rattle.answer_laws.proofs.RefusedFormulas.{formula_unrefused}
+use Rattle.answer_laws.proofs.RefusalStatuses.{refusal_not_low}
 
 -- how the end of a run stands beside that of rounds
 record EndAlike (c : List ℕ) (stuck : List Event) (d : List ℕ) (rest : List Event) (short : Option ℕ) : Type 0 where
@@ -141,45 +145,43 @@ formula_alike job ws origin f o p once h h' =
       | inr a ↦ absurd (none-some _ (sym once ∙ a.batch.asked_is))
     ]
 
--- no refusal has a status of a run
+-- a status from 2 on is none of a sample or an exhausted end
 not_low : (n : ℕ) → 2 ≤ n → (n ≡ 0) ⊎ (n ≡ 1) → ⊥
 not_low n high (inl is) = absurd (omega (arith, high, is))
 not_low n high (inr is) = absurd (omega (arith, high, is))
 
+-- rounds of a formula whose stacks are sound aren't refused
+rounds_run : (origin : Origin) (f : Cnf) (p : Outcome) → IsSound origin (pair_weights f.variables)
+    → ComesOfRounds origin f p → EndsRounds origin f p
+rounds_run origin f p sound h = elim (rounds_cases origin f p h) [
+  | inl (r, is, refuses) ↦
+      absurd (formula_unrefused true origin None f r sound (no_count_few None (length (pair_weights f.variables)) refl)
+      (λ clash. clash) refuses)
+  | inr (sound', run, few) ↦ run
+]
+
 -- of what comes of a formula with a status of a run, and by rounds over stacks of the same origin
 sampled_alike : (job other : Job) (ws : List Watcher) (f : Cnf) (o p : Outcome) → job.count ≡ None
-    → origin_for job ≡ origin_for other → ComesOfFormula (origin_for job) (asked_by job) ws f o
+    → origin_for job ≡ origin_for other → ComesOfFormula false (origin_for job) (asked_by job) ws f o
     → ComesOfRounds (origin_for other) f p → (status_of o ≡ 0) ⊎ (status_of o ≡ 1) → AnswerAlike o p
 sampled_alike job other ws f o p once origin h h' low =
-    by_way (ways facts (origin_for job) weights job.count (ComesOfRunning (origin_for job) (asked_by job) ws f) o h)
-  where
-    facts : Facts
-    facts = FormulaFacts f.variables
-
-    weights : List (List ℕ)
-    weights = pair_weights f.variables
-
-    by_way : Ways facts (origin_for job) weights job.count (ComesOfRunning (origin_for job) (asked_by job) ws f) o
-        → AnswerAlike o p
-    by_way (many n is asks more) = absurd (none-some n (sym once ∙ asks))
-    by_way (fault r is cause few) =
-        absurd (not_low (status_of o) (subst (λ q. 2 ≤ status_of q) (sym is) (faulty r)) low)
-    by_way (run sound runs few) = elim (running_cases (origin_for job) (asked_by job) ws f o runs) [
-      | inl (i, j, is, at) ↦ absurd (not_low (status_of o) (subst (λ q. 2 ≤ status_of q) (sym is) (omega arith)) low)
-      | inr end ↦
+    elim (formula_cases false (origin_for job) (asked_by job) ws f o h) [
+      | inl (r, is, refuses) ↦
+          absurd (refusal_not_low r (subst (λ q. (status_of q ≡ 0) ⊎ (status_of q ≡ 1)) is low))
+      | inr (sound, end, few) ↦
           formula_alike job ws (origin_for job) f o p once end
-          (of_run facts (origin_for job) weights None (EndsRounds (origin_for job) f) refl sound p
-          (subst (λ from. ComesOfRounds from f p) (sym origin) h'))
+          (rounds_run (origin_for job) f p sound (subst (λ from. ComesOfRounds from f p) (sym origin) h'))
     ]
 
 -- what comes of a formula with a status of a run
 by_formula : (job : Job) (ws : List Watcher) (text : List ℕ) (o : Outcome) → job.command ≡ Formula
     → (status_of o ≡ 0) ⊎ (status_of o ≡ 1) → ComesOf job ws text o
-    → (f : Cnf) × AnswersCnf text (Ok f) × ComesOfFormula (origin_for job) (asked_by job) ws f o
+    → (f : Cnf) × AnswersCnf text (Ok f) × ComesOfFormula false (origin_for job) (asked_by job) ws f o
 by_formula job ws text o is low h = elim (read_cases job ws text o h) [
-  | inl (r, o_is, of, refusal) ↦ absurd (not_low (status_of o) (subst (λ q. 2 ≤ status_of q) (sym o_is) (refused r)) low)
+  | inl (r, o_is, unread) ↦
+      absurd (refusal_not_low r (subst (λ q. (status_of q ≡ 0) ⊎ (status_of q ≡ 1)) o_is low))
   | inr (inl done) ↦
-      let c : ComesOfCnf (ComesOfFormula (origin_for job) (asked_by job) ws) text o =
+      let c : ComesOfCnf (ComesOfFormula false (origin_for job) (asked_by job) ws) text o =
       subst (λ k. ComesOfCommand k job ws text o) is done in
       (c.formula, c.spelled, c.comes)
   | inr (inr b) ↦ absurd (not_low (status_of o) (subst (λ q. 2 ≤ status_of q) (sym b.is) (omega arith)) low)
@@ -189,7 +191,8 @@ by_formula job ws text o is low h = elim (read_cases job ws text o h) [
 by_rounds : (job : Job) (ws : List Watcher) (text : List ℕ) (f : Cnf) (p : Outcome) → AnswersCnf text (Ok f)
     → job.command ≡ Rounds → ComesOf job ws text p → ComesOfRounds (origin_for job) f p
 by_rounds job ws text f p spelled is h = elim (read_cases job ws text p h) [
-  | inl (r, p_is, of, refusal) ↦ absurd (no_cnf_refusal text f r spelled of (subst (λ k. Refuses k text r) is refusal))
+  | inl (r, p_is, u) ↦
+      absurd (no_cnf_refusal text f u.cause spelled u.of_text (subst (λ k. Refuses k text u.cause) is u.refused))
   | inr (inl done) ↦
       let c : ComesOfCnf (ComesOfRounds (origin_for job)) text p = subst (λ k. ComesOfCommand k job ws text p) is done in
       subst (λ g. ComesOfRounds (origin_for job) g p) (c.spelled.1 ∙ sym spelled.1) c.comes

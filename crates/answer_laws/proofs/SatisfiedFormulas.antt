@@ -18,8 +18,7 @@ use Rattle.pop_samples.specs.Frames.{IsSampleOf}
 use Rattle.printed_samples.specs.Laws.{instance_over}
 use Rattle.printed_samples.proofs.Literals.{falsifier_below}
 use Rattle.printed_samples.proofs.Satisfied.{IsFalse, current_cube, false_occurs, none_occurs, not_empty}
-use Rattle.top_call.specs.Sampling.{pair_weights}
-use Rattle.job_subjects.specs.Subjects.{assignments}
+use Rattle.job_subjects.specs.Subjects.{pair_weights, assignments}
 use Rattle.answer_laws.specs.ExactAnswers.{frame_over}
 use Rattle.answer_laws.specs.EverySample.{IsTrueUnder, Satisfies}
 use Rattle.answer_laws.specs.RoundAnswers.{SamplesSatisfy}

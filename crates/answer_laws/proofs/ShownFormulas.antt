@@ -18,7 +18,7 @@ use Rattle.pop_print.specs.declared.facts.Facts.TheVariants.{Formula as FormulaF
 use Rattle.pop_print.specs.Output.{findings, used_line}
 use Rattle.printed_samples.specs.Laws.{ShowsFormula}
 use Rattle.printed_samples.proofs.ShownEnds.{literals_of_text, pair_bits, formula_shown}
-use Rattle.top_call.specs.Sampling.{pair_weights, instance_of}
+use Rattle.job_subjects.specs.Subjects.{pair_weights, instance_of}
 use Rattle.answer_laws.specs.Shown.{stacks_by, ShowsEnd}
 
 -- as many cursors as variables, behind a log

@@ -36,11 +36,11 @@ use Rattle.told_runs.specs.Witnesses.{witness_text}
 use Rattle.told_runs.specs.Tellings.{Telling, records_of, layered_text, telling_text}
 use Rattle.told_runs.specs.Outcomes.{Outcome, text_of}
 use Rattle.told_runs.specs.Outcomes.Outcome.{Resampled, Paused}
-use Rattle.top_call.specs.Sampling.{instance_of}
+use Rattle.job_subjects.specs.Subjects.{instance_of}
 use Rattle.job_subjects.specs.Made.{IsMade}
 use Rattle.top_call.specs.Replays.{job_of}
 use Rattle.top_call.specs.Answers.{origin_for, ComesOfCommand, ComesOf, IsOutcome}
-use Rattle.top_call.proofs.ByCommand.{by_kind, refused_no_run}
+use Rattle.top_call.proofs.ByCommand.{by_kind}
 use Rattle.job_subjects.proofs.MadeExtremal.{made_short}
 use Rattle.top_call.proofs.PauseWords.{stopped_may}
 use Rattle.answer_laws.specs.Laws.{Agree, shown_log}
@@ -146,10 +146,8 @@ told_run words ws text facts i placed stuck a came =
     elim (by_kind job.command job ws text (Resampled facts i placed stuck a) came.comes) [
       | inl (line, h) ↦ told_by_line job.command job refl (resampling_tells words job came.asks)
           (job_short words job came.asks) ws text facts i placed stuck a h
-      | inr (inl (is, inl refused)) ↦ absurd (refused_no_run ComesOf text (Resampled facts i placed stuck a) refused)
-      | inr (inl (is, inr b)) ↦ let other = b.comes.is.told in absurd (cc)
-      | inr (inr (is, inl refused)) ↦ absurd (refused_no_run ComesOf text (Resampled facts i placed stuck a) refused)
-      | inr (inr (is, inr r)) ↦
+      | inr (inl (is, b)) ↦ let other = b.comes.is.told in absurd (cc)
+      | inr (inr (is, r)) ↦
           let head = r.cert.head in
           told_by_line head.command (job_of head) refl (λ (by : head.command ≡ Resample). ap (λ k. (command_row k).log) by)
           (spec_short head.stacks head.height r.is.is.head.stacks r.is.is.head.height) ws r.cert.input facts i placed
@@ -244,10 +242,8 @@ stopped_run words ws text told input facts i placed came =
     let job = came.job in
     elim (by_kind job.command job ws text (Paused told input facts i placed) came.comes) [
       | inl (line, h) ↦ paused_run words job told came.asks ws text input facts i placed h
-      | inr (inl (is, inl refused)) ↦ absurd (refused_no_run ComesOf text (Paused told input facts i placed) refused)
-      | inr (inl (is, inr b)) ↦ let other = b.comes.is.told in absurd (cc)
-      | inr (inr (is, inl refused)) ↦ absurd (refused_no_run ComesOf text (Paused told input facts i placed) refused)
-      | inr (inr (is, inr r)) ↦ absurd r.comes.goes_on
+      | inr (inl (is, b)) ↦ let other = b.comes.is.told in absurd (cc)
+      | inr (inr (is, r)) ↦ absurd r.comes.goes_on
     ]
 
 -- a certificate has one run

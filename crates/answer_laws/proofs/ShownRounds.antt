@@ -19,7 +19,7 @@ use Rattle.pop_print.specs.Output.{findings, used_line}
 use Rattle.pop_print.specs.Rounds.{rounds_line, short_line, rounds_text}
 use Rattle.printed_samples.specs.Laws.{ShowsFormula}
 use Rattle.told_runs.specs.Outcomes.Outcome.{Rounded}
-use Rattle.top_call.specs.Sampling.{pair_weights, instance_of}
+use Rattle.job_subjects.specs.Subjects.{pair_weights, instance_of}
 use Rattle.top_call.specs.Answers.{ComesOfCommand, origin_for}
 use Rattle.answer_laws.specs.Shown.{stacks_by, ShowsEnd}
 use Rattle.answer_laws.proofs.ShownFormulas.{formula_end, formula_shows}

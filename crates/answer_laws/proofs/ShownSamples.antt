@@ -1,13 +1,9 @@
 -- An output with status 0 or 1 is that of an end, and shows the sample, or the events that still occur.
-use Rattle.std.proofs.Common.{inl, inr, ◌≡◌, ℕ, zero, suc, ◌≤◌, false, List, length, Option, None, refl, sym, ap, subst, ◌∙◌, arith, Contains}
+use Rattle.std.proofs.Common.{inl, inr, ◌≡◌, ℕ, zero, suc, false, List, length, Option, None, refl, sym, ap, subst, ◌∙◌, arith, Contains}
 use Rattle.pop_model.specs.Families.{Event}
 use Rattle.pop_model.specs.Instances.{Instance}
 use Rattle.pop_model.specs.Logs.{LogRecord, replay}
 use Rattle.pop_model.specs.Runs.{start_of}
-use Rattle.pop_edge.specs.declared.refusal.ReadRefusal.{ReadRefusal}
-use Rattle.pop_edge.specs.declared.refusal.ReadRefusal.TheVariants.{Malformed, Count, EmptyClause, Limit, ReadFault, OutOfMemory}
-use Rattle.pop_stacks.specs.declared.stack_fault.StackFault.{StackFault}
-use Rattle.pop_stacks.specs.declared.stack_fault.StackFault.TheVariants.{RowCount, EmptyRow, ValueTooLarge, WeightSum, OutOfMemory as NoMemory}
 use Rattle.pop_log.specs.Layers.{Placed}
 use Rattle.pop_words.specs.declared.command.Command.{Command}
 use Rattle.pop_words.specs.declared.command.Command.TheVariants.{Formula, Orient, Tree, Resample, Check, Make, Rounds, Replay, Resume}
@@ -22,23 +18,20 @@ use Rattle.pop_print.specs.declared.facts.Facts.TheVariants.{Formula as FormulaF
 use Rattle.pop_print.specs.Output.{pops_line, end_text}
 use Rattle.pop_print.specs.Rounds.{rounds_text}
 use Rattle.printed_samples.specs.Laws.{ShowsFormula}
-use Rattle.job_subjects.specs.Refusals.{reading_status, stacks_status}
 use Rattle.told_runs.specs.Names.{names_for}
 use Rattle.told_runs.specs.Witnesses.{Witness}
 use Rattle.told_runs.specs.Witnesses.Witness.{Unasked, Missing, Shown}
 use Rattle.told_runs.specs.Tellings.{Telling, records_of, telling_text}
 use Rattle.told_runs.specs.Outcomes.{Outcome, status_of, text_of, end_status, run_text, resampled_text, resampled_status}
-use Rattle.told_runs.specs.Outcomes.Outcome.{Usage, Unread, Isolated, NoRoot, CutOff, TooMany, Unsound, Clashes, Extremal, Ended, Resampled, Rounded, Batched, Paused, Replayed, NotLegal}
-use Rattle.top_call.specs.Sampling.{pair_weights, instance_of}
-use Rattle.job_subjects.specs.Subjects.{instance_over}
+use Rattle.told_runs.specs.Outcomes.Outcome.{Refused, Extremal, Ended, Resampled, Rounded, Batched, Paused, Replayed}
+use Rattle.job_subjects.specs.Subjects.{pair_weights, instance_of, instance_over}
 use Rattle.run_cert.specs.Heads.{has_root}
 use Rattle.run_cert.specs.Certificates.{Certificate, IsCertOf}
-use Rattle.top_call.specs.Replays.{job_of, IsNoRun, IsRefused}
+use Rattle.top_call.specs.Replays.{job_of}
 use Rattle.top_call.specs.Resumes.{GoesOnFrom}
 use Rattle.top_call.specs.Answers.{ComesOfCommand, ComesOf, ComesBy, origin_for}
 use Rattle.answer_laws.specs.Shown.{stacks_by, ShowsSample, ShowsExhausted, ShowsEnd, ShowsSamples, ShowsStuckSamples, ShowsEndOf, ShowsStuckOf, SampleShown, ExhaustedShown}
 use Rattle.top_call.proofs.BatchWords.{is_batched, uncounted}
-use Rattle.top_call.proofs.ByCommand.{refused_no_run}
 use Rattle.answer_laws.proofs.EndedSubjects.{IsAskable, askable, ended_of, ended_subject}
 use Rattle.answer_laws.proofs.HeadBounds.{root_fits}
 use Rattle.top_call.proofs.Lifting.{no_replay}
@@ -49,23 +42,8 @@ use Rattle.answer_laws.proofs.ShownRounds.{rounds_show}
 use Rattle.answer_laws.proofs.ShownBehind.{end_more, as_sample, as_exhausted}
 use Rattle.answer_laws.proofs.ShownBatches.{batch_samples, batch_exhausted}
 use Rattle.answer_laws.proofs.Finished.{none_stuck}
-
--- no refusal has a status below 2
-pub refused : (refusal : ReadRefusal) → 2 ≤ reading_status refusal
-refused (Malformed l c) = omega arith
-refused (Count d f) = omega arith
-refused (EmptyClause n) = omega arith
-refused (Limit k l) = omega arith
-refused ReadFault = omega arith
-refused OutOfMemory = omega arith
-
--- nor has a fault of stacks
-pub faulty : (fault : StackFault) → 2 ≤ stacks_status fault
-faulty (RowCount g w) = omega arith
-faulty (EmptyRow v) = omega arith
-faulty (ValueTooLarge v k) = omega arith
-faulty (WeightSum v) = omega arith
-faulty NoMemory = omega arith
+use Rattle.answer_laws.proofs.RefusalStatuses.{refusal_high}
+use Rattle.answer_laws.proofs.RefusedOr.{resuming_cases}
 
 -- what the whole text of an end shows, whatever is told behind it
 ended_shows : (command : Command) (job : Job) (ws : List Watcher) (text : List ℕ)
@@ -198,8 +176,7 @@ verdict_once Resume job ws text n h = refl
 -- what comes of a job's line and has status 0
 line_sample : (words : List (List ℕ)) (job : Job) → Asks words job → (ws : List Watcher) (text : List ℕ) (o : Outcome)
     → ComesOf job ws text o → status_of o ≡ 0 → ShowsSamples job.count job text (text_of o)
-line_sample words job asks ws text (Usage p) h is = absurd (omega (arith, is))
-line_sample words job asks ws text (Unread r) h is = absurd (omega (arith, is, refused r))
+line_sample words job asks ws text (Refused r) h is = absurd (omega (arith, is, refusal_high r))
 line_sample words job asks ws text (Ended facts i c pops stuck a) h is =
     one_sample job text (run_text facts i c pops stuck a)
     (ended_once words job asks ws text facts i c pops stuck a h)
@@ -221,20 +198,12 @@ line_sample words job asks ws text (Extremal n) h is =
     one_sample job text (text_of (Extremal n)) (uncounted words job asks (verdict_once job.command job ws text n h))
     (verdict_shows job.command job ws text n h)
 line_sample words job asks ws text (Replayed i c n k) h is = absurd (no_replay job.command job ws text i c n k h)
-line_sample words job asks ws text (Isolated w) h is = absurd (omega (arith, is))
-line_sample words job asks ws text (NoRoot r) h is = absurd (omega (arith, is))
-line_sample words job asks ws text (CutOff w) h is = absurd (omega (arith, is))
-line_sample words job asks ws text (TooMany n) h is = absurd (omega (arith, is))
-line_sample words job asks ws text (Unsound t fault) h is = absurd (omega (arith, is, faulty fault))
-line_sample words job asks ws text (Clashes i j) h is = absurd (omega (arith, is))
 line_sample words job asks ws text (Paused j w t i l) h is = absurd (omega (arith, is))
-line_sample words job asks ws text (NotLegal p) h is = absurd (omega (arith, is))
 
 -- and 1
 line_exhausted : (words : List (List ℕ)) (job : Job) → Asks words job → (ws : List Watcher) (text : List ℕ)
     (o : Outcome) → ComesOf job ws text o → status_of o ≡ 1 → ShowsStuckSamples job.count job text (text_of o)
-line_exhausted words job asks ws text (Usage p) h is = absurd (omega (arith, is))
-line_exhausted words job asks ws text (Unread r) h is = absurd (omega (arith, is, refused r))
+line_exhausted words job asks ws text (Refused r) h is = absurd (omega (arith, is, refusal_high r))
 line_exhausted words job asks ws text (Ended facts i c pops stuck a) h is =
     one_end job text (run_text facts i c pops stuck a)
     (ended_once words job asks ws text facts i c pops stuck a h)
@@ -255,14 +224,7 @@ line_exhausted words job asks ws text (Batched facts i ends) h is =
     batch_exhausted words job asks ws text facts i ends h is
 line_exhausted words job asks ws text (Replayed i c n k) h is = absurd (no_replay job.command job ws text i c n k h)
 line_exhausted words job asks ws text (Extremal n) h is = absurd (omega (arith, is))
-line_exhausted words job asks ws text (Isolated w) h is = absurd (omega (arith, is))
-line_exhausted words job asks ws text (NoRoot r) h is = absurd (omega (arith, is))
-line_exhausted words job asks ws text (CutOff w) h is = absurd (omega (arith, is))
-line_exhausted words job asks ws text (TooMany n) h is = absurd (omega (arith, is))
-line_exhausted words job asks ws text (Unsound t fault) h is = absurd (omega (arith, is, faulty fault))
-line_exhausted words job asks ws text (Clashes i j) h is = absurd (omega (arith, is))
 line_exhausted words job asks ws text (Paused j w t i l) h is = absurd (omega (arith, is))
-line_exhausted words job asks ws text (NotLegal p) h is = absurd (omega (arith, is))
 
 -- the line of a certificate may be asked for
 cert_askable : (bytes : List ℕ) (cert : Certificate) → IsCertOf bytes cert → IsAskable (job_of cert.head)
@@ -302,24 +264,6 @@ resumed_exhausted job can ws text log (Resampled facts i placed stuck a) goes h 
     (some_stuck stuck a.witness is) (resampled_shows job.command job ws text facts i placed stuck a h)
 resumed_exhausted job can ws text log o goes h is = absurd goes
 
--- no refusal has a status below 2
-no_run_high : (o : Outcome) → IsNoRun o → 2 ≤ status_of o
-no_run_high (Usage p) none = omega arith
-no_run_high (Unread r) none = refused r
-no_run_high (Isolated w) none = omega arith
-no_run_high (NoRoot r) none = omega arith
-no_run_high (CutOff w) none = omega arith
-no_run_high (TooMany n) none = omega arith
-no_run_high (Unsound t fault) none = faulty fault
-no_run_high (Clashes i j) none = omega arith
-no_run_high (NotLegal p) none = omega arith
-no_run_high o none = absurd none
-
--- so with a status below 2 bytes weren't refused
-not_refused : (bytes : List ℕ) (o : Outcome) (n : ℕ) → status_of o ≡ n → n ≤ 1 → IsRefused ComesOf bytes o → ⊥
-not_refused bytes o n is low h =
-    let high = no_run_high o (refused_no_run ComesOf bytes o h) in omega (arith, high, is, low)
-
 -- what comes of a command and has status 0
 sample_by : (k : Command) (words : List (List ℕ)) (job : Job) → Asks words job → (ws : List Watcher) (text : List ℕ)
     (o : Outcome) → ComesBy k job ws text o → status_of o ≡ 0 → ShowsEndOf k job text (text_of o)
@@ -331,13 +275,15 @@ sample_by Check words job asks ws text o h is = line_sample words job asks ws te
 sample_by Make words job asks ws text o h is = line_sample words job asks ws text o h is
 sample_by Rounds words job asks ws text o h is = line_sample words job asks ws text o h is
 sample_by Replay words job asks ws text o h is = tt
-sample_by Resume words job asks ws text o (inl none) is = absurd (not_refused text o 0 is (omega arith) none)
-sample_by Resume words job asks ws text o (inr b) is = (
-  b.cert,
-  b.is,
-  resumed_sample (job_of b.cert.head) (cert_askable text b.cert b.is) ws b.cert.input b.comes.has.log o
-      b.comes.goes_on b.comes.comes is,
-)
+sample_by Resume words job asks ws text o h is = elim (resuming_cases ComesOf ws text o h) [
+  | inl (r, o_is, refused) ↦ let zero = sym (ap status_of o_is) ∙ is in absurd (omega (arith, zero, refusal_high r))
+  | inr b ↦ (
+    b.cert,
+    b.is,
+    resumed_sample (job_of b.cert.head) (cert_askable text b.cert b.is) ws b.cert.input b.comes.has.log o
+        b.comes.goes_on b.comes.comes is,
+  )
+]
 
 -- and 1
 exhausted_by : (k : Command) (words : List (List ℕ)) (job : Job) → Asks words job → (ws : List Watcher)
@@ -350,13 +296,15 @@ exhausted_by Check words job asks ws text o h is = line_exhausted words job asks
 exhausted_by Make words job asks ws text o h is = line_exhausted words job asks ws text o h is
 exhausted_by Rounds words job asks ws text o h is = line_exhausted words job asks ws text o h is
 exhausted_by Replay words job asks ws text o h is = tt
-exhausted_by Resume words job asks ws text o (inl none) is = absurd (not_refused text o 1 is (omega arith) none)
-exhausted_by Resume words job asks ws text o (inr b) is = (
-  b.cert,
-  b.is,
-  resumed_exhausted (job_of b.cert.head) (cert_askable text b.cert b.is) ws b.cert.input b.comes.has.log
-      o b.comes.goes_on b.comes.comes is,
-)
+exhausted_by Resume words job asks ws text o h is = elim (resuming_cases ComesOf ws text o h) [
+  | inl (r, o_is, refused) ↦ let one = sym (ap status_of o_is) ∙ is in absurd (omega (arith, one, refusal_high r))
+  | inr b ↦ (
+    b.cert,
+    b.is,
+    resumed_exhausted (job_of b.cert.head) (cert_askable text b.cert b.is) ws b.cert.input b.comes.has.log
+        o b.comes.goes_on b.comes.comes is,
+  )
+]
 
 -- the law of samples
 pub sample_shown : SampleShown

@@ -29,9 +29,7 @@ use Rattle.printed_samples.proofs.ShownEnds.{pair_bits, orientation_shown}
 use Rattle.printed_samples.specs.TreeLaws.{IsTreeState, ShowsTreeEnd, ShowsMadeEnd}
 use Rattle.printed_samples.proofs.SoundSlots.{sound_slots}
 use Rattle.printed_samples.proofs.ShownTrees.{tree_shown, made_shown}
-use Rattle.top_call.specs.Sampling.{pair_weights, instance_of}
-use Rattle.top_call.specs.Trees.{tree_instance}
-use Rattle.job_subjects.specs.Subjects.{Subject, instance_over, IsSubjectOf}
+use Rattle.job_subjects.specs.Subjects.{pair_weights, instance_of, tree_instance, Subject, instance_over, IsSubjectOf}
 use Rattle.answer_laws.specs.Shown.{stacks_by, ShowsEnd}
 use Rattle.answer_laws.proofs.ShownFormulas.{log_size, formula_end, formula_shows}
 

@@ -14,7 +14,7 @@ use Rattle.told_runs.specs.Witnesses.{Witness, IsCursorNamed, IsWitness}
 use Rattle.told_runs.specs.Witnesses.Witness.{Unasked, Missing}
 use Rattle.told_runs.specs.Reports.{reports_text}
 use Rattle.told_runs.specs.Tellings.{Telling}
-use Rattle.top_call.specs.Sampling.{IsToldOfFirst}
+use Rattle.told_runs.specs.Ends.{IsToldOfFirst}
 use Rattle.told_runs.proofs.LayeredOrders.{nothing_sorted}
 
 -- some variable below a number has the name, or none has

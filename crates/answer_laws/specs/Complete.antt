@@ -20,10 +20,10 @@ use Rattle.pop_words.specs.CommandLines.{Asks}
 use Rattle.pop_watch.specs.Telling.{Watcher}
 use Rattle.pop_print.specs.declared.facts.Facts.{Facts}
 use Rattle.told_runs.specs.Witnesses.{is_missing}
-use Rattle.told_runs.specs.Batches.{AreFew}
+use Rattle.job_subjects.specs.StackFaults.{AreFew}
 use Rattle.told_runs.specs.Outcomes.{Outcome, AnswersBy}
 use Rattle.told_runs.specs.Outcomes.Outcome.{Resampled}
-use Rattle.top_call.specs.Sampling.{pair_weights}
+use Rattle.job_subjects.specs.Subjects.{pair_weights}
 use Rattle.run_cert.specs.Certificates.{Certificate, IsCertOf}
 use Rattle.told_runs.specs.Names.{names_for}
 use Rattle.job_subjects.specs.Made.{IsMade}

@@ -20,7 +20,7 @@ use Rattle.printed_samples.specs.Stuck.{ShowsFalse, ShowsSinks}
 use Rattle.printed_samples.specs.Trees.{ShowsTree}
 use Rattle.printed_samples.specs.ArrowCycles.{ShowsCycles}
 use Rattle.printed_samples.specs.Made.{ShowsMade, CountsCycles}
-use Rattle.top_call.specs.Sampling.{pair_weights}
+use Rattle.job_subjects.specs.Subjects.{pair_weights}
 use Rattle.run_cert.specs.Certificates.{Certificate, IsCertOf}
 use Rattle.top_call.specs.Replays.{job_of}
 use Rattle.top_call.specs.Answers.{IsAnswer, origin_for}
