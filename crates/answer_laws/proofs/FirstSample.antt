@@ -45,7 +45,7 @@ use Rattle.top_call.proofs.Lifting.{no_replay}
 use Rattle.answer_laws.proofs.OneOutcome.{word_cases}
 use Rattle.answer_laws.proofs.ShownBatches.{in_full}
 use Rattle.answer_laws.proofs.ShownSamples.{ended_once, resampled_once, rounds_once, verdict_once}
-use Rattle.answer_laws.proofs.RefusalStatuses.{refusal_not_low}
+use Rattle.answer_laws.proofs.RefusalStatuses.{refusal_not_low, not_low}
 
 -- sample 0 has the entries of the job without a number
 of_first : (job : Job) → origin_of_sample 0 (origin_for job) ≡ origin_for job
@@ -164,11 +164,6 @@ begins words job asks count is ws text facts i (end ∷ ends) h =
         record { status_is = refl; out_is = refl },
       );
     }
-
--- a status from 2 on is none of a sample or an exhausted end
-not_low : (n : ℕ) → 2 ≤ n → (n ≡ 0) ⊎ (n ≡ 1) → ⊥
-not_low n high (inl is) = absurd (omega (arith, high, is))
-not_low n high (inr is) = absurd (omega (arith, high, is))
 
 -- where a number is asked for, what isn't refused is a batch
 batch_begins : (words : List (List ℕ)) (job : Job) (asks : Asks words job) (count : ℕ) → job.count ≡ Some count

@@ -46,7 +46,11 @@ pub refusal_no_run : (r : Refusal) → HasRun (refusal_status r) → ⊥
 refusal_no_run r (inl low) = let high = refusal_high r in omega (arith, high, low)
 refusal_no_run r (inr ten) = refusal_not_ten r ten
 
--- nor that of a sample or an exhausted end
+-- a status from 2 on is none of a sample or an exhausted end
+pub not_low : (n : ℕ) → 2 ≤ n → (n ≡ 0) ⊎ (n ≡ 1) → ⊥
+not_low n high (inl is) = absurd (omega (arith, high, is))
+not_low n high (inr is) = absurd (omega (arith, high, is))
+
+-- so a refusal has none of these
 pub refusal_not_low : (r : Refusal) → (refusal_status r ≡ 0) ⊎ (refusal_status r ≡ 1) → ⊥
-refusal_not_low r (inl is) = let high = refusal_high r in omega (arith, high, is)
-refusal_not_low r (inr is) = let high = refusal_high r in omega (arith, high, is)
+refusal_not_low r low = not_low (refusal_status r) (refusal_high r) low

@@ -46,7 +46,7 @@ use Rattle.pop_stacks.specs.Faults.{IsSound}
 use Rattle.answer_laws.proofs.OneFormula.{formula_cases}
 use Rattle.answer_laws.proofs.RefusedStacks.{no_count_few}
 use Rattle.answer_laws.proofs.RefusedFormulas.{formula_unrefused}
-use Rattle.answer_laws.proofs.RefusalStatuses.{refusal_not_low}
+use Rattle.answer_laws.proofs.RefusalStatuses.{refusal_not_low, not_low}
 
 -- how the end of a run stands beside that of rounds
 record EndAlike (c : List ℕ) (stuck : List Event) (d : List ℕ) (rest : List Event) (short : Option ℕ) : Type 0 where
@@ -144,11 +144,6 @@ formula_alike job ws origin f o p once h h' =
           (end_alike i.stacks h.events h.extremal a.cursors a.pops a.stuck a.end b.cursors b.rounds b.stuck b.short b.end)))
       | inr a ↦ absurd (none-some _ (sym once ∙ a.batch.asked_is))
     ]
-
--- a status from 2 on is none of a sample or an exhausted end
-not_low : (n : ℕ) → 2 ≤ n → (n ≡ 0) ⊎ (n ≡ 1) → ⊥
-not_low n high (inl is) = absurd (omega (arith, high, is))
-not_low n high (inr is) = absurd (omega (arith, high, is))
 
 -- rounds of a formula whose stacks are sound aren't refused
 rounds_run : (origin : Origin) (f : Cnf) (p : Outcome) → IsSound origin (pair_weights f.variables)
