@@ -102,7 +102,7 @@ struct Want {
 fn are_stuck(rt: &impl Abort, stuck: &Stuck, units: &[u32]) {
     assert!(rt; stuck.len() == units.len() as u64);
     for (i, unit) in units.iter().enumerate() {
-        same_at(rt, stuck.at(i as u64).0, *unit, "stuck cycle", i as u32);
+        assert!(rt; stuck.at(i as u64).0 == *unit, "stuck cycle {i}");
     }
 }
 
