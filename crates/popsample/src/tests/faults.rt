@@ -1,12 +1,13 @@
 //! Reads and writes that fail, each in turn, and those that move few bytes.
-use super::{answer_between, owned, same_status, same_text, sink, source};
-use pop_edge::{MemSource, Source};
+use super::owned;
+use pop_edge::{MemSink, MemSource, Source};
 use pop_workers::NoGate;
 use std::alloc::Global;
 use std::process::Abort;
 use std::sync::Wait;
 use std::test::Fail;
 use std::thread::Threads;
+use top_call::run;
 
 const WORDS: [&str; 3] = ["formula", "--stacks", "0,0,1"];
 
@@ -38,32 +39,21 @@ fn failing(read: u64, write: u64) -> Devices {
 fn answer_on<R: Threads + Wait + Sync>(
     rt: &R,
     alloc: Global,
-    words: &[String],
+    words: &[&str],
     input: &str,
     devices: Devices,
 ) -> Result<(u8, Vec<u8>), Fail> {
-    let mut source = source(alloc, input, devices.piece, devices.read)?;
-    let mut sink = sink(alloc, devices.piece, devices.write)?;
+    let piece = devices.piece.max(1);
+    let words = owned(alloc, words)?;
+    let bytes = Vec::from_slice(alloc, input.as_bytes())?;
+    let mut source = MemSource::new(bytes, piece, vec![in alloc; devices.read]?);
+    let mut sink = MemSink::new(alloc, 64, piece, vec![in alloc; devices.write]?)?;
     let none = Vec::new(alloc);
-    answer_between(rt, alloc, &NoGate, words, none, &mut source, &mut sink)
+    let status = run(rt, alloc, &words, none, &NoGate, &mut source, &mut sink);
+    Ok((status, Vec::from_slice(alloc, sink.bytes())?))
 }
 
 // Words and an input are answered so on these devices.
-fn are_answered<R: Threads + Wait + Sync + Abort>(
-    rt: &R,
-    alloc: Global,
-    words: &[String],
-    input: &str,
-    devices: Devices,
-    wanted: (u8, &str),
-) -> Result<(), Fail> {
-    let (status, text) = answer_on(rt, alloc, words, input, devices)?;
-    same_status(rt, status, wanted.0, input);
-    same_text(rt, &text, wanted.1.as_bytes(), input);
-    Ok(())
-}
-
-// The same of words that aren't owned.
 fn is_answered<R: Threads + Wait + Sync + Abort>(
     rt: &R,
     alloc: Global,
@@ -72,8 +62,16 @@ fn is_answered<R: Threads + Wait + Sync + Abort>(
     devices: Devices,
     wanted: (u8, &str),
 ) -> Result<(), Fail> {
-    let words = owned(alloc, words)?;
-    are_answered(rt, alloc, &words, input, devices, wanted)
+    let Devices { piece, read, write } = devices;
+    let (status, output) = wanted;
+    let (got, text) = answer_on(rt, alloc, words, input, devices)?;
+    assert_eq!(rt; got, status, "{input:?}, {piece} {read} {write}");
+    assert_eq!(rt;
+        text.as_slice(),
+        output.as_bytes(),
+        "{input:?}, {piece} {read} {write}"
+    );
+    Ok(())
 }
 
 // Read 15 is the end of the input.
@@ -150,31 +148,21 @@ fn a_fault_of_the_sink_is_told_by_the_status_alone(rt: HostRuntime) -> Result<()
     is_answered(&rt, rt.alloc(), &WORDS, INPUT, failing(1, 1), (8, ""))
 }
 
-// Runs words that are bad, where the first write fails.
-fn run_bad_words<R: Threads + Wait + Sync>(
-    rt: &R,
-    alloc: Global,
-    source: &mut MemSource,
-) -> Result<(), Fail> {
-    let words = owned(alloc, &["formula", "--height", "0"])?;
-    let mut sink = sink(alloc, 64, 1)?;
-    let none = Vec::new(alloc);
-    let _answer = answer_between(rt, alloc, &NoGate, &words, none, source, &mut sink)?;
-    Ok(())
-}
-
-// How many bytes are left to read behind such words.
+// How many bytes are left to read behind words that are bad, where the first write fails.
 fn left_behind_bad_words<R: Threads + Wait + Sync>(rt: &R, alloc: Global) -> Result<usize, Fail> {
-    let mut source = source(alloc, INPUT, 64, 0)?;
-    run_bad_words(rt, alloc, &mut source)?;
+    let words = owned(alloc, &["formula", "--height", "0"])?;
+    let bytes = Vec::from_slice(alloc, INPUT.as_bytes())?;
+    let mut source = MemSource::new(bytes, 64, Vec::new(alloc));
+    let mut sink = MemSink::new(alloc, 64, 64, vec![in alloc; 1]?)?;
+    let none = Vec::new(alloc);
+    let _status = run(rt, alloc, &words, none, &NoGate, &mut source, &mut sink);
     Ok(source.read(&mut [0; 64]).unwrap_or(0))
 }
 
 #[test]
 fn bad_words_leave_the_source_as_it_was(rt: HostRuntime) -> Result<(), Fail> {
     let alloc = rt.alloc();
-    let left = left_behind_bad_words(&rt, alloc)?;
-    assert!(&rt; left == 14);
+    assert_eq!(&rt; left_behind_bad_words(&rt, alloc)?, 14);
     let words = ["formula", "--height", "0"];
     is_answered(&rt, alloc, &words, INPUT, failing(1, 1), (8, ""))
 }
@@ -190,16 +178,14 @@ fn a_sink_that_takes_pieces_holds_the_first(rt: HostRuntime) -> Result<(), Fail>
     is_answered(&rt, rt.alloc(), &WORDS, INPUT, devices, (8, "s SA"))
 }
 
-static PIECES: [usize; 5] = [1, 2, 3, 7, 50];
-
 #[test]
 fn the_size_of_the_pieces_changes_no_byte(rt: HostRuntime) -> Result<(), Fail> {
     let words = ["formula", "--stacks", "0;0;1"];
     let input = "c by hand\np cnf 3 2\n1 -2\nc in the middle\n0\n2 3\n%\n0\n";
     let wanted = (0, "s SAMPLE\nv -1 -2 3 0\nused 0 0 0\npops 0\n");
-    for piece in PIECES.iter() {
+    for piece in [1, 2, 3, 7, 50] {
         let devices = Devices {
-            piece: *piece,
+            piece,
             read: 0,
             write: 0,
         };

@@ -1,7 +1,7 @@
 //! Watchers of the caller's own, and what they report of a log.
 ghost use Rattle.std.specs.Prelude.{[], ◌∷◌};
 
-use super::{add, answer, owned, same_status, same_text};
+use super::{answer, owned};
 use confluence_core::Record;
 use pop_instance::Cube;
 use pop_watch::{Heights, Totals, Watch};
@@ -29,33 +29,8 @@ fn behind_stacks(alloc: Global, more: &[&str]) -> Result<Vec<String>, Fail> {
     Ok(words)
 }
 
-// This is the history of the two pops, with this behind the log.
-fn is_history(
-    rt: &impl Abort,
-    alloc: Global,
-    status: u8,
-    text: &[u8],
-    behind: &str,
-) -> Result<(), Fail> {
-    let whole = format!(in alloc; "{HISTORY}{behind}")?;
-    same_status(rt, status, 0, behind);
-    same_text(rt, text, whole.as_bytes(), behind);
-    Ok(())
-}
-
-// Of the two pops by these words, and these watchers, this is printed behind the log.
-fn are_reported<R: Threads + Wait + Sync + Abort>(
-    rt: &R,
-    alloc: Global,
-    words: &[String],
-    watchers: Vec<Box<dyn Watch>>,
-    behind: &str,
-) -> Result<(), Fail> {
-    let (status, text) = answer(rt, alloc, &NoGate, words, INPUT, watchers)?;
-    is_history(rt, alloc, status, &text, behind)
-}
-
-// The same, with these words behind the stacks.
+// Of the two pops with these words behind the stacks, and these watchers, this is printed behind
+// the log.
 fn is_reported<R: Threads + Wait + Sync + Abort>(
     rt: &R,
     alloc: Global,
@@ -64,7 +39,11 @@ fn is_reported<R: Threads + Wait + Sync + Abort>(
     behind: &str,
 ) -> Result<(), Fail> {
     let words = behind_stacks(alloc, more)?;
-    are_reported(rt, alloc, &words, watchers, behind)
+    let (status, text) = answer(rt, alloc, &NoGate, &words, INPUT, watchers)?;
+    let whole = format!(in alloc; "{HISTORY}{behind}")?;
+    assert_eq!(rt; status, 0, "{more:?}");
+    assert_eq!(rt; text.as_slice(), whole.as_bytes(), "{more:?}");
+    Ok(())
 }
 
 // The words that ask for totals and heights.
@@ -73,19 +52,14 @@ static BOTH: [&str; 2] = ["--report", "totals,heights"];
 // A watcher of heights alone.
 fn heights(alloc: Global) -> Result<Vec<Box<dyn Watch>>, Fail> {
     let mut watchers: Vec<Box<dyn Watch>> = Vec::new(alloc);
-    add(alloc, &mut watchers, Heights::new())?;
+    watchers.push(Box::new(alloc, Heights::new())?)?;
     Ok(watchers)
-}
-
-#[test]
-fn without_a_watcher_there_is_no_report(rt: HostRuntime) -> Result<(), Fail> {
-    let alloc = rt.alloc();
-    is_reported(&rt, alloc, &BOTH, Vec::new(alloc), "")
 }
 
 #[test]
 fn a_kind_that_no_watcher_has_has_no_line(rt: HostRuntime) -> Result<(), Fail> {
     let alloc = rt.alloc();
+    is_reported(&rt, alloc, &BOTH, Vec::new(alloc), "")?;
     let watchers = heights(alloc)?;
     is_reported(&rt, alloc, &BOTH, watchers, "report heights 1 1\n")
 }
@@ -156,48 +130,6 @@ impl Drop for Noted {
     }
 }
 
-// Adds totals that note in these notes.
-fn add_noted(
-    alloc: Global,
-    watchers: &mut Vec<Box<dyn Watch>>,
-    notes: &Arc<Notes>,
-) -> Result<(), Fail> {
-    let notes = notes.clone()?;
-    let noted = Noted {
-        totals: Totals::new(),
-        notes,
-    };
-    add(alloc, watchers, noted)
-}
-
-// Totals that note in these notes.
-fn noting(alloc: Global, notes: &Arc<Notes>) -> Result<Vec<Box<dyn Watch>>, Fail> {
-    let mut watchers: Vec<Box<dyn Watch>> = Vec::new(alloc);
-    add_noted(alloc, &mut watchers, notes)?;
-    Ok(watchers)
-}
-
-// Runs these words on this text, with totals that note in these notes.
-fn run_noting<R: Threads + Wait + Sync + Abort>(
-    rt: &R,
-    alloc: Global,
-    words: &[String],
-    input: &str,
-    notes: &Arc<Notes>,
-) -> Result<(), Fail> {
-    let watchers = noting(alloc, notes)?;
-    let (status, _text) = answer(rt, alloc, &NoGate, words, input, watchers)?;
-    same_status(rt, status, 0, input);
-    Ok(())
-}
-
-// The totals of these notes were dropped after their reports.
-fn were_dropped(rt: &impl Abort, notes: &Notes) {
-    let reported = notes.reported.load(Ordering::SeqCst);
-    let dropped = notes.dropped.load(Ordering::SeqCst);
-    assert!(rt; dropped == reported.wrapping_add(1));
-}
-
 // The notes of totals that were handed in with these words and this text. They were dropped after
 // their reports.
 fn notes_of<R: Threads + Wait + Sync + Abort>(
@@ -207,8 +139,19 @@ fn notes_of<R: Threads + Wait + Sync + Abort>(
     input: &str,
 ) -> Result<Arc<Notes>, Fail> {
     let notes = Arc::new(alloc, Notes::none())?;
-    run_noting(rt, alloc, words, input, &notes)?;
-    were_dropped(rt, &notes);
+    let mut watchers: Vec<Box<dyn Watch>> = Vec::new(alloc);
+    let noted = Noted {
+        totals: Totals::new(),
+        notes: notes.clone()?,
+    };
+    watchers.push(Box::new(alloc, noted)?)?;
+    let (status, _text) = answer(rt, alloc, &NoGate, words, input, watchers)?;
+    assert_eq!(rt; status, 0);
+    let reported = notes.reported.load(Ordering::SeqCst);
+    assert_eq!(rt;
+        notes.dropped.load(Ordering::SeqCst),
+        reported.wrapping_add(1)
+    );
     Ok(notes)
 }
 
@@ -261,19 +204,13 @@ fn watchers_are_told_the_layered_log(rt: HostRuntime) -> Result<(), Fail> {
 
 // The log has two records. A watcher is told them also where its report isn't asked for, and is
 // dropped by the call, after its report.
-static DONE: [(&[&str], (u64, u64)); 4] = [
-    (&[], (2, 0)),
-    (&["--report", "heights"], (2, 0)),
-    (&["--report", "totals"], (2, 1)),
-    (&["--report", "heights,totals"], (2, 1)),
-];
-
 #[test]
 fn each_watcher_is_told_each_record_once_and_dropped(rt: HostRuntime) -> Result<(), Fail> {
-    for (more, want) in DONE.iter() {
-        let found = done(&rt, rt.alloc(), more)?;
-        assert!(&rt; found == *want, "{more:?}");
-    }
+    let alloc = rt.alloc();
+    assert_eq!(&rt; done(&rt, alloc, &[])?, (2, 0));
+    assert_eq!(&rt; done(&rt, alloc, &["--report", "heights"])?, (2, 0));
+    assert_eq!(&rt; done(&rt, alloc, &["--report", "totals"])?, (2, 1));
+    assert_eq!(&rt; done(&rt, alloc, &["--report", "heights,totals"])?, (2, 1));
     Ok(())
 }
 
@@ -300,19 +237,17 @@ impl Watch for Silent {
     }
 }
 
-// Adds a watcher of another kind, one of heights and one of totals, and another one of totals.
-fn add_four(alloc: Global, watchers: &mut Vec<Box<dyn Watch>>) -> Result<(), Fail> {
-    add(alloc, watchers, Silent)?;
-    add(alloc, watchers, Heights::new())?;
-    add(alloc, watchers, Totals::new())?;
-    let notes = Arc::new(alloc, Notes::none())?;
-    add_noted(alloc, watchers, &notes)
-}
-
-// These watchers.
+// A watcher of another kind, one of heights and one of totals, and another one of totals.
 fn silent_and_others(alloc: Global) -> Result<Vec<Box<dyn Watch>>, Fail> {
     let mut watchers: Vec<Box<dyn Watch>> = Vec::new(alloc);
-    add_four(alloc, &mut watchers)?;
+    watchers.push(Box::new(alloc, Silent)?)?;
+    watchers.push(Box::new(alloc, Heights::new())?)?;
+    watchers.push(Box::new(alloc, Totals::new())?)?;
+    let noted = Noted {
+        totals: Totals::new(),
+        notes: Arc::new(alloc, Notes::none())?,
+    };
+    watchers.push(Box::new(alloc, noted)?)?;
     Ok(watchers)
 }
 
@@ -325,38 +260,21 @@ fn the_first_watcher_of_a_kind_reports(rt: HostRuntime) -> Result<(), Fail> {
     is_reported(&rt, alloc, &BOTH, watchers, behind)
 }
 
-// The cube of two variables.
-fn two_variables(rt: &impl Abort, alloc: Global) -> Result<Cube, Fail> {
-    let pairs = Vec::from_slice(alloc, &[(0, 0), (1, 0)])?;
-    Ok(Cube::new(pairs).expect(rt, "rising variables"))
-}
-
-// A pop of two entries.
-fn two_entries(rt: &impl Abort, alloc: Global) -> Result<Record, Fail> {
-    let cube = two_variables(rt, alloc)?;
-    assert!(rt; cube.len() == 2);
-    let entries = Vec::from_slice(alloc, &[4, 0])?;
-    Ok(Record::new(0, cube, entries))
-}
-
 // Totals that were told a pop of two entries.
 fn begun_totals(rt: &impl Abort, alloc: Global) -> Result<Totals, Fail> {
-    let record = two_entries(rt, alloc)?;
+    let cube = Cube::new(vec![in alloc; (0, 0), (1, 0)]?).expect(rt, "rising variables");
+    assert_eq!(rt; cube.len(), 2);
+    let record = Record::new(0, cube, vec![in alloc; 4, 0]?);
     let mut totals = Totals::new();
     totals.tell(&record)?;
     Ok(totals)
 }
 
-// Adds these totals, and others behind them.
-fn add_both(alloc: Global, watchers: &mut Vec<Box<dyn Watch>>, totals: Totals) -> Result<(), Fail> {
-    add(alloc, watchers, totals)?;
-    add(alloc, watchers, Totals::new())
-}
-
 // These totals, and others behind them.
 fn before_others(alloc: Global, totals: Totals) -> Result<Vec<Box<dyn Watch>>, Fail> {
     let mut watchers: Vec<Box<dyn Watch>> = Vec::new(alloc);
-    add_both(alloc, &mut watchers, totals)?;
+    watchers.push(Box::new(alloc, totals)?)?;
+    watchers.push(Box::new(alloc, Totals::new())?)?;
     Ok(watchers)
 }
 

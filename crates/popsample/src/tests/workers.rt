@@ -1,5 +1,5 @@
 //! Runs of several workers, of which one is held.
-use super::{answer, owned, same_status, same_text};
+use super::{answer, owned};
 use pop_workers::Gate;
 use std::alloc::Global;
 use std::process::Abort;
@@ -50,20 +50,6 @@ impl Gate for Held {
     }
 }
 
-// What words print of an input, with a gate.
-fn printed<R: Threads + Wait + Sync + Abort>(
-    rt: &R,
-    alloc: Global,
-    gate: &Held,
-    words: &[&str],
-    input: &str,
-) -> Result<Vec<u8>, Fail> {
-    let words = owned(alloc, words)?;
-    let (status, text) = answer(rt, alloc, gate, &words, input, Vec::new(alloc))?;
-    same_status(rt, status, 0, input);
-    Ok(text)
-}
-
 // What two workers on this board print of two clauses that clash, where this one is held.
 fn with_held<R: Threads + Wait + Sync + Abort>(
     rt: &R,
@@ -83,30 +69,27 @@ fn with_held<R: Threads + Wait + Sync + Abort>(
         board,
     ];
     let input = "p cnf 3 2\n1 2 0\n1 3 0\n";
-    let text = printed(rt, alloc, &gate, &words, input)?;
-    let ran_out = gate.ran_out.load(Ordering::SeqCst);
-    assert!(rt; !ran_out, "the other worker never came");
+    let words = owned(alloc, &words)?;
+    let (status, text) = answer(rt, alloc, &gate, &words, input, Vec::new(alloc))?;
+    assert_eq!(rt; status, 0);
+    assert!(rt;
+        !gate.ran_out.load(Ordering::SeqCst),
+        "the other worker never came"
+    );
     Ok(text)
 }
 
 // Two workers on two threads: the one that isn't held pops its event, so no body on one thread can
 // print both texts.
-static HELD: [(&str, u32, &str); 4] = [
-    ("words", 0, SECOND),
-    ("words", 1, FIRST),
-    ("lock", 0, SECOND),
-    ("lock", 1, FIRST),
-];
-
-const FIRST: &str = "s SAMPLE\nv 1 -2 -3 0\nused 1 1 0\npops 1\nlog 2 1\npop 1 1 1:0 2:0\n";
-
-const SECOND: &str = "s SAMPLE\nv 1 -2 -3 0\nused 1 0 1\npops 1\nlog 2 1\npop 1 2 1:0 3:0\n";
-
 #[test]
 fn each_of_two_workers_pops_where_the_other_is_held(rt: HostRuntime) -> Result<(), Fail> {
-    for (board, worker, want) in HELD.iter() {
-        let text = with_held(&rt, rt.alloc(), board, *worker)?;
-        same_text(&rt, &text, want.as_bytes(), board);
+    let first = "s SAMPLE\nv 1 -2 -3 0\nused 1 1 0\npops 1\nlog 2 1\npop 1 1 1:0 2:0\n";
+    let second = "s SAMPLE\nv 1 -2 -3 0\nused 1 0 1\npops 1\nlog 2 1\npop 1 2 1:0 3:0\n";
+    for board in ["words", "lock"] {
+        let behind = with_held(&rt, rt.alloc(), board, 0)?;
+        assert_eq!(&rt; behind.as_slice(), second.as_bytes(), "{board}");
+        let before = with_held(&rt, rt.alloc(), board, 1)?;
+        assert_eq!(&rt; before.as_slice(), first.as_bytes(), "{board}");
     }
     Ok(())
 }
@@ -130,9 +113,13 @@ fn turns_on<R: Threads + Wait + Sync + Abort>(
         board,
     ];
     let input = "p edge 3 3\ne 1 2\ne 2 3\ne 1 3\n";
-    let text = printed(rt, alloc, &gate, &words, input)?;
-    let want = b"s SAMPLE\na 2 1 1\na 3 2 2\nused 10 10\npops 10\n";
-    same_text(rt, &text, want, board);
+    let words = owned(alloc, &words)?;
+    let (status, text) = answer(rt, alloc, &gate, &words, input, Vec::new(alloc))?;
+    assert_eq!(rt; status, 0);
+    assert_eq!(rt;
+        text.as_slice(),
+        b"s SAMPLE\na 2 1 1\na 3 2 2\nused 10 10\npops 10\n".as_slice()
+    );
     Ok(gate.turns.load(Ordering::SeqCst))
 }
 
@@ -140,9 +127,7 @@ fn turns_on<R: Threads + Wait + Sync + Abort>(
 // one of the workers has the other start, and each ends at a turn without one.
 #[test]
 fn workers_meet_on_the_board_that_is_asked_for(rt: HostRuntime) -> Result<(), Fail> {
-    let by_turns = turns_on(&rt, rt.alloc(), "lock")?;
-    assert!(&rt; by_turns > 10);
-    let at_once = turns_on(&rt, rt.alloc(), "words")?;
-    assert!(&rt; at_once == 4);
+    assert!(&rt; turns_on(&rt, rt.alloc(), "lock")? > 10);
+    assert_eq!(&rt; turns_on(&rt, rt.alloc(), "words")?, 4);
     Ok(())
 }
