@@ -40,21 +40,14 @@ fn run_to(alloc: Global, instance: &Instance, limit: u64) -> Result<Run, AllocEr
     alone.tell(alloc, instance, reached)
 }
 
-// The unit of the first event that is poppable at cursors.
-fn next_unit(
-    alloc: Global,
-    instance: &Instance,
-    cursors: &Cursors,
-) -> Result<Option<u32>, AllocError>
+// Whether an event is poppable at cursors.
+fn goes_on(alloc: Global, instance: &Instance, cursors: &Cursors) -> Result<bool, AllocError>
     requires count { variables_of instance.now.stacks ≡ length cursors.now }
     requires within { AreWithin instance.now.stacks cursors.now }
 {
     let mut reader = Reader::new(instance.stacks());
     let next = first_poppable(alloc, instance, &mut reader, cursors)?;
-    match next {
-        Some((unit, _cube)) => Ok(Some(unit)),
-        None => Ok(None),
-    }
+    Ok(next.is_some())
 }
 
 // How many events occur at cursors.
@@ -77,39 +70,32 @@ fn leaves(rt: &impl Abort, run: &Run, pops: u64, stuck: u64) {
     same(rt, log.len(), pops, "records");
 }
 
-// Compares a run to a limit: its pops, and the unit that would be popped next.
+// Compares a run to a limit, of which the whole has 3 pops.
 fn stops_at(
     rt: &impl Abort,
     alloc: Global,
     instance: &Instance,
     limit: u64,
     pops: u64,
-    next: Option<u32>,
 ) -> Result<(), Fail> {
     let run = run_to(alloc, instance, limit)?;
-    let unit = next_unit(alloc, instance, &run.end.cursors)?;
-    assert!(rt; unit == next, "limit {limit}");
+    let goes_on = goes_on(alloc, instance, &run.end.cursors)?;
+    assert!(rt; goes_on == (pops < 3), "limit {limit}");
     let stuck = stuck_at(alloc, instance, &run.end.cursors)?;
     leaves(rt, &run, pops, stuck);
     Ok(())
 }
 
-// Limits, the pops of the runs to them, and the unit that would be popped next.
-static LIMITS: [(u64, u64, Option<u32>); 5] = [
-    (0, 0, Some(0)),
-    (1, 1, Some(0)),
-    (2, 2, Some(1)),
-    (3, 3, None),
-    (9, 3, None),
-];
+// Limits, and the pops of the runs to them.
+static LIMITS: [(u64, u64); 5] = [(0, 0), (1, 1), (2, 2), (3, 3), (9, 3)];
 
 // Worked by hand: the whole run pops event 0 twice and event 1 once.
 #[test]
 fn a_run_stops_at_its_limit(rt: HostRuntime) -> Result<(), Fail> {
     let alloc = rt.alloc();
     let instance = two_events(alloc)?;
-    for (limit, pops, next) in LIMITS.iter() {
-        stops_at(&rt, alloc, &instance, *limit, *pops, *next)?;
+    for (limit, pops) in LIMITS.iter() {
+        stops_at(&rt, alloc, &instance, *limit, *pops)?;
     }
     Ok(())
 }
