@@ -44,8 +44,10 @@ pub(crate) fn pop_cycles(
         cursors,
         pops,
         log,
-        ..
+        suspects,
     } = reached;
+    // Walks meet all variables, and have the memory of the list.
+    drop(suspects);
     let walked = Walked {
         cursors,
         pops,

@@ -65,9 +65,11 @@ impl<'a> Walk<'a> {
         ensures extends { Extends self.old self.new }
         ensures reader { reader.new ≡ reader.old }
     {
-        self.path[self.depth] = self.at;
-        self.marks[self.at as usize] = self.depth as u32 + 1;
-        let Some(w) = self.current.head(reader, &self.walked.cursors, self.at) else {
+        // Read once: the writes may go anywhere, for all that the compiler knows.
+        let (at, depth) = (self.at, self.depth);
+        self.path[depth] = at;
+        self.marks[at as usize] = depth as u32 + 1;
+        let Some(w) = self.current.head(reader, &self.walked.cursors, at) else {
             return Step::Rests;
         };
         let mark = self.marks[w as usize];

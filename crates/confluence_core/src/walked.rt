@@ -78,7 +78,8 @@ impl Walked {
         Ok(())
     }
 
-    /// Notes the cycle of these variables as stuck.
+    /// Notes the cycle of these variables as stuck. It is rare, and has no part in the loop of walks.
+    #[inline(never)]
     pub fn note(
         &mut self,
         alloc: Global,

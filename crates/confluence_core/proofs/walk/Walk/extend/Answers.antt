@@ -15,15 +15,15 @@ index_mut-requires c =
     let h : c.args.self.now.depth < length c.args.self.now.path.items = omega (arith, room, c.requires.walks.sized.places_are) in
     search rules
 
-pub overflow_cast-self : goal.overflow_cast-self
-overflow_cast-self c =
+pub overflow_cast-depth : goal.overflow_cast-depth
+overflow_cast-depth c =
     let room = room_for_more c.args.self.now.current c.args.self.now.walked.cursors c.args.self.now.marks.items c.args.self.now.path.items
     c.args.self.now.depth c.args.self.now.at c.requires.walks.goes_on in
     let units = c.requires.walks.sized.instance.units in
     omega (arith, room, units)
 
-pub overflow_add-self : goal.overflow_add-self
-overflow_add-self c =
+pub overflow_add-depth : goal.overflow_add-depth
+overflow_add-depth c =
     let room = room_for_more c.args.self.now.current c.args.self.now.walked.cursors c.args.self.now.marks.items c.args.self.now.path.items
     c.args.self.now.depth c.args.self.now.at c.requires.walks.goes_on in
     let units = c.requires.walks.sized.instance.units in
