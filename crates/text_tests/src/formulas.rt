@@ -2,26 +2,26 @@
 ghost use Rattle.std.specs.Prelude.{◌≡◌, IfOk, None};
 ghost use Rattle.dimacs_read.specs.Cnf.{first_empty};
 
-use crate::comparing::{Event, are_events, same, same_refusal};
+use crate::comparing::{Event, are_events, is_so, is_so_in_pieces};
 use crate::sources::{PIECES, source};
 use dimacs_read::{Formula, read_formula};
 use pop_edge::ReadRefusal;
 use pop_instance::Events;
-use std::alloc::{AllocError, Global};
+use std::alloc::Global;
 use std::process::Abort;
-use std::test::Fail;
 
 // What is read of a text in pieces of so many bytes, where the read of this number fails.
 fn read(
+    rt: &impl Abort,
     alloc: Global,
     text: &[u8],
     piece: usize,
     failing: u64,
-) -> Result<Result<Formula, ReadRefusal>, AllocError>
-    ensures { IfOk result (λ answer. IfOk answer (λ formula. first_empty formula ≡ None)) }
+) -> Result<Formula, ReadRefusal>
+    ensures { IfOk result (λ formula. first_empty formula ≡ None) }
 {
-    let mut source = source(alloc, text, piece, failing)?;
-    Ok(read_formula(alloc, &mut source))
+    let mut source = source(rt, alloc, text, piece, failing);
+    read_formula(alloc, &mut source)
 }
 
 // A text with a comment within a clause, and a last clause that `%` closes.
@@ -29,33 +29,22 @@ static BY_HAND: &[u8] = b"c by hand\np cnf 3 2\n1 -2\nc in the middle\n0\n2 3\n%
 
 static CLAUSES: [&[i32]; 2] = [&[1, -2], &[2, 3]];
 
-// Compares the literals of a clause.
-fn is_clause(rt: &impl Abort, found: &[i32], want: &[i32], i: u32) {
-    assert!(rt; found == want, "clause {i}");
-}
-
-// Compares a formula with that of the text by hand.
-fn is_by_hand(rt: &impl Abort, formula: &Formula) {
-    same(rt, u64::from(formula.variables()), 3, "variables");
+// Compares what is read of that text in pieces of so many bytes.
+fn is_read_by_hand(rt: &impl Abort, alloc: Global, piece: usize) {
+    let formula = read(rt, alloc, BY_HAND, piece, 0).expect(rt, "a formula");
+    assert!(rt; formula.variables() == 3);
     assert!(rt; formula.clauses() == 2);
     for i in 0..2 {
-        is_clause(rt, formula.clause(i), CLAUSES[i as usize], i);
+        let is_clause = formula.clause(i) == CLAUSES[i as usize];
+        is_so(rt, is_clause, "clause", i as u64);
     }
-}
-
-// Compares what is read of that text in pieces of so many bytes.
-fn is_read_by_hand(rt: &impl Abort, alloc: Global, piece: usize) -> Result<(), Fail> {
-    let formula = read(alloc, BY_HAND, piece, 0)??;
-    is_by_hand(rt, &formula);
-    Ok(())
 }
 
 #[test]
-fn a_formula_is_the_same_whatever_the_pieces(rt: HostRuntime) -> Result<(), Fail> {
+fn a_formula_is_the_same_whatever_the_pieces(rt: HostRuntime) {
     for piece in PIECES.iter() {
-        is_read_by_hand(&rt, rt.alloc(), *piece)?;
+        is_read_by_hand(&rt, rt.alloc(), *piece);
     }
-    Ok(())
 }
 
 // Compares why a text in pieces of so many bytes is refused, where the read of this number fails.
@@ -66,10 +55,9 @@ fn is_refused(
     piece: usize,
     failing: u64,
     want: ReadRefusal,
-) -> Result<(), Fail> {
-    let found = read(alloc, text, piece, failing)?.err();
-    same_refusal(rt, found, want, piece, failing);
-    Ok(())
+) {
+    let found = read(rt, alloc, text, piece, failing).err();
+    is_so_in_pieces(rt, found == Some(want), piece, failing);
 }
 
 // Worked by hand from the grammar.
@@ -86,24 +74,17 @@ static REFUSED: [(&[u8], ReadRefusal); 9] = [
 ];
 
 // Compares why a text is refused in pieces of each size.
-fn is_refused_in_pieces(
-    rt: &impl Abort,
-    alloc: Global,
-    text: &[u8],
-    want: ReadRefusal,
-) -> Result<(), Fail> {
+fn is_refused_in_pieces(rt: &impl Abort, alloc: Global, text: &[u8], want: ReadRefusal) {
     for piece in PIECES.iter() {
-        is_refused(rt, alloc, text, *piece, 0, want)?;
+        is_refused(rt, alloc, text, *piece, 0, want);
     }
-    Ok(())
 }
 
 #[test]
-fn a_bad_text_is_refused_whatever_the_pieces(rt: HostRuntime) -> Result<(), Fail> {
+fn a_bad_text_is_refused_whatever_the_pieces(rt: HostRuntime) {
     for (text, want) in REFUSED.iter() {
-        is_refused_in_pieces(&rt, rt.alloc(), text, *want)?;
+        is_refused_in_pieces(&rt, rt.alloc(), text, *want);
     }
-    Ok(())
 }
 
 // Texts of which the second line is read by the second read, in pieces of 10.
@@ -113,11 +94,10 @@ static FAULTS: [(&[u8], ReadRefusal); 2] = [
 ];
 
 #[test]
-fn a_fault_comes_behind_the_lines_before_it(rt: HostRuntime) -> Result<(), Fail> {
+fn a_fault_comes_behind_the_lines_before_it(rt: HostRuntime) {
     for (text, want) in FAULTS.iter() {
-        is_refused(&rt, rt.alloc(), text, 10, 2, *want)?;
+        is_refused(&rt, rt.alloc(), text, 10, 2, *want);
     }
-    Ok(())
 }
 
 // Worked by hand: clause 2 has the cube of clause 1, clause 3 is always true, and clause 4 repeats
@@ -127,14 +107,13 @@ static FOUR_CLAUSES: &[u8] = b"p cnf 3 4\n2 -1 0\n-1 2 0\n1 -1 0\n3 3 -2 3 0\n";
 static EVENTS: [Event; 2] = [(1, &[(0, 1), (1, 0)]), (4, &[(1, 1), (2, 0)])];
 
 // The events of a text.
-fn events_of(alloc: Global, text: &[u8]) -> Result<Events, Fail> {
-    let formula = read(alloc, text, 4096, 0)??;
-    Ok(formula.events(alloc)?)
+fn events_of(rt: &impl Abort, alloc: Global, text: &[u8]) -> Events {
+    let formula = read(rt, alloc, text, 4096, 0).expect(rt, "a formula");
+    formula.events(alloc).expect(rt, "events")
 }
 
 #[test]
-fn events_falsify_their_clauses(rt: HostRuntime) -> Result<(), Fail> {
-    let events = events_of(rt.alloc(), FOUR_CLAUSES)?;
+fn events_falsify_their_clauses(rt: HostRuntime) {
+    let events = events_of(&rt, rt.alloc(), FOUR_CLAUSES);
     are_events(&rt, &events, &EVENTS);
-    Ok(())
 }

@@ -1,14 +1,14 @@
 //! Sources, sinks, and the lines, words and numbers of a text.
+use crate::comparing::{is_so, is_so_in_pieces};
 use crate::sources::{PIECES, source};
 use pop_edge::{
     Failed, Lines, MemSink, MemSource, Next, ReadRefusal, Sink, Source, StdSink, StdSource,
     next_word, number, put_all,
 };
-use std::alloc::{AllocError, Global};
+use std::alloc::Global;
 use std::io;
 use std::io::{Error, ErrorKind, Read, Write};
 use std::process::Abort;
-use std::test::Fail;
 
 // A text that comes in pieces of so many bytes, where the read of this number fails; its lines,
 // each with a `/` behind it, and what each call behind them answers.
@@ -21,76 +21,34 @@ struct Case<'a> {
     after: Result<Next, ReadRefusal>,
 }
 
-// Adds the lines of a source, each with a `/` behind it.
-fn push_lines(
-    all: &mut Vec<u8>,
-    lines: &mut Lines,
-    source: &mut MemSource,
-) -> Result<(), AllocError> {
+// Adds a line, and a `/` behind it.
+fn push_line(rt: &impl Abort, all: &mut Vec<u8>, line: &[u8]) {
+    all.extend_from_slice(line).expect(rt, "memory");
+    all.push(b'/').expect(rt, "memory");
+}
+
+// The lines of a source up to the first call that gives none, which is made, each with a `/` behind
+// it.
+fn joined(rt: &impl Abort, alloc: Global, lines: &mut Lines, source: &mut MemSource) -> Vec<u8> {
+    let mut all = Vec::new(alloc);
     for _ in 0..100 {
         if lines.next(source) != Ok(Next::Line) {
             break;
         }
-        all.extend_from_slice(lines.line())?;
-        all.push(b'/')?;
+        push_line(rt, &mut all, lines.line());
     }
-    Ok(())
+    all
 }
 
-// The lines of a source up to the first call that gives none, which is made.
-fn joined(alloc: Global, lines: &mut Lines, source: &mut MemSource) -> Result<Vec<u8>, AllocError> {
-    let mut all = Vec::new(alloc);
-    push_lines(&mut all, lines, source)?;
-    Ok(all)
-}
-
-// Compares bytes.
-fn same_bytes(rt: &impl Abort, found: &[u8], want: &[u8]) {
-    assert_eq!(rt; found, want);
-}
-
-// Compares the lines of a case.
-fn are_lines(rt: &impl Abort, found: &[u8], case: &Case) {
-    let Case { piece, failing, .. } = case;
-    assert_eq!(rt;
-        found,
-        case.lines,
-        "pieces of {piece}, read {failing} fails"
-    );
-}
-
-// Compares what one more call answers.
-fn comes_after(rt: &impl Abort, lines: &mut Lines, source: &mut MemSource, case: &Case) {
-    let Case { piece, failing, .. } = case;
-    let after = lines.next(source);
-    assert_eq!(rt;
-        after,
-        case.after,
-        "pieces of {piece}, read {failing} fails"
-    );
-}
-
-// Compares the lines of a source with those of a case, and two calls behind the first that gave
-// none.
-fn gives(
-    rt: &impl Abort,
-    alloc: Global,
-    lines: &mut Lines,
-    source: &mut MemSource,
-    case: &Case,
-) -> Result<(), Fail> {
-    let all = joined(alloc, lines, source)?;
-    are_lines(rt, &all, case);
-    comes_after(rt, lines, source, case);
-    comes_after(rt, lines, source, case);
-    Ok(())
-}
-
-// Compares the lines of a case's text.
-fn is_cut(rt: &impl Abort, alloc: Global, case: &Case) -> Result<(), Fail> {
-    let mut source = source(alloc, case.text, case.piece, case.failing)?;
-    let mut lines = Lines::new(alloc)?;
-    gives(rt, alloc, &mut lines, &mut source, case)
+// Compares the lines of a case's text, and what two calls behind the first that gave none answer.
+fn is_cut(rt: &impl Abort, alloc: Global, case: &Case) {
+    let mut source = source(rt, alloc, case.text, case.piece, case.failing);
+    let mut lines = Lines::new(alloc).expect(rt, "memory");
+    let all = joined(rt, alloc, &mut lines, &mut source);
+    is_so_in_pieces(rt, all.as_slice() == case.lines, case.piece, case.failing);
+    let (first, second) = (lines.next(&mut source), lines.next(&mut source));
+    let is_after = first == case.after && second == case.after;
+    is_so_in_pieces(rt, is_after, case.piece, case.failing);
 }
 
 // Texts and their lines. Worked by hand: the last line may have no end, and an end makes no line.
@@ -103,7 +61,7 @@ static TEXTS: [(&[u8], &[u8]); 5] = [
 ];
 
 // Compares the lines of a text in pieces of each size.
-fn is_cut_in_pieces(rt: &impl Abort, alloc: Global, text: &[u8], lines: &[u8]) -> Result<(), Fail> {
+fn is_cut_in_pieces(rt: &impl Abort, alloc: Global, text: &[u8], lines: &[u8]) {
     for piece in PIECES.iter() {
         let case = Case {
             text,
@@ -112,17 +70,15 @@ fn is_cut_in_pieces(rt: &impl Abort, alloc: Global, text: &[u8], lines: &[u8]) -
             lines,
             after: Ok(Next::End),
         };
-        is_cut(rt, alloc, &case)?;
+        is_cut(rt, alloc, &case);
     }
-    Ok(())
 }
 
 #[test]
-fn lines_are_the_same_whatever_the_pieces(rt: HostRuntime) -> Result<(), Fail> {
+fn lines_are_the_same_whatever_the_pieces(rt: HostRuntime) {
     for (text, lines) in TEXTS.iter() {
-        is_cut_in_pieces(&rt, rt.alloc(), text, lines)?;
+        is_cut_in_pieces(&rt, rt.alloc(), text, lines);
     }
-    Ok(())
 }
 
 // Each read of the text in pieces of 2 fails once: only the lines before it were given.
@@ -135,7 +91,7 @@ static FAULTS: [(u64, &[u8]); 5] = [
 ];
 
 #[test]
-fn a_refusal_is_answered_again(rt: HostRuntime) -> Result<(), Fail> {
+fn a_refusal_is_answered_again(rt: HostRuntime) {
     for (failing, lines) in FAULTS.iter() {
         let case = Case {
             text: b"ab\ncd\nef",
@@ -144,13 +100,12 @@ fn a_refusal_is_answered_again(rt: HostRuntime) -> Result<(), Fail> {
             lines,
             after: Err(ReadRefusal::ReadFault),
         };
-        is_cut(&rt, rt.alloc(), &case)?;
+        is_cut(&rt, rt.alloc(), &case);
     }
-    Ok(())
 }
 
 // Makes so many calls, each of which is answered so.
-fn comes(
+fn come(
     rt: &impl Abort,
     lines: &mut Lines,
     source: &mut MemSource,
@@ -163,38 +118,33 @@ fn comes(
     }
 }
 
-// The next read fails.
-fn fails_next(rt: &impl Abort, source: &mut MemSource) {
-    let mut room = [0; 4];
-    let read = source.read(&mut room);
+// Reads the only whole line of a text in pieces of 3, and asks so often for the next, of which there
+// is none. The read of this number, which fails, is still to come.
+fn fails_behind(rt: &impl Abort, alloc: Global, text: &[u8], failing: u64, ends: u32) {
+    let mut source = source(rt, alloc, text, 3, failing);
+    let mut lines = Lines::new(alloc).expect(rt, "memory");
+    come(rt, &mut lines, &mut source, 1, Ok(Next::Line));
+    come(rt, &mut lines, &mut source, ends, Ok(Next::End));
+    let read = source.read(&mut [0; 4]);
     assert!(rt; read == Err(Failed));
 }
 
 // Read 2 gives the second line.
 #[test]
-fn no_read_is_made_behind_a_whole_line(rt: HostRuntime) -> Result<(), Fail> {
-    let mut source = source(rt.alloc(), b"ab\ncd", 3, 2)?;
-    let mut lines = Lines::new(rt.alloc())?;
-    comes(&rt, &mut lines, &mut source, 1, Ok(Next::Line));
-    fails_next(&rt, &mut source);
-    Ok(())
+fn no_read_is_made_behind_a_whole_line(rt: HostRuntime) {
+    fails_behind(&rt, rt.alloc(), b"ab\ncd", 2, 0);
 }
 
 // Read 2 gives nothing.
 #[test]
-fn no_read_is_made_behind_the_end(rt: HostRuntime) -> Result<(), Fail> {
-    let mut source = source(rt.alloc(), b"ab\n", 3, 3)?;
-    let mut lines = Lines::new(rt.alloc())?;
-    comes(&rt, &mut lines, &mut source, 1, Ok(Next::Line));
-    comes(&rt, &mut lines, &mut source, 2, Ok(Next::End));
-    fails_next(&rt, &mut source);
-    Ok(())
+fn no_read_is_made_behind_the_end(rt: HostRuntime) {
+    fails_behind(&rt, rt.alloc(), b"ab\n", 3, 2);
 }
 
 // Compares the first word of a line, and gives what is behind it.
 fn behind_word<'a>(rt: &impl Abort, line: &'a [u8], want: &[u8]) -> &'a [u8] {
     let (word, rest) = next_word(line).expect(rt, "a word");
-    same_bytes(rt, word, want);
+    assert!(rt; word == want);
     rest
 }
 
@@ -216,38 +166,36 @@ static NUMBERS: [(&[u8], Option<u32>); 5] = [
 
 #[test]
 fn a_number_has_at_most_ten_digits_and_32_bits(rt: HostRuntime) {
-    for (word, want) in NUMBERS.iter() {
-        assert_eq!(&rt; number(word), *want, "{word:?}");
+    for (i, (word, want)) in NUMBERS.iter().enumerate() {
+        is_so(&rt, number(word) == *want, "word", i as u64);
     }
-}
-
-// Compares what is answered to bytes that are put.
-fn puts(rt: &impl Abort, sink: &mut MemSink, bytes: &[u8], want: Result<(), Failed>) {
-    assert_eq!(rt; put_all(sink, bytes), want);
 }
 
 // A sink with room for nine bytes, which takes four at a time, where the write of this number
 // fails; 0 is none.
-fn sink(alloc: Global, failing: u64) -> Result<MemSink, AllocError> {
-    let failing = vec![in alloc; failing]?;
-    MemSink::new(alloc, 9, 4, failing)
+fn sink(rt: &impl Abort, alloc: Global, failing: u64) -> MemSink {
+    let failing = vec![in alloc; failing].expect(rt, "memory");
+    MemSink::new(alloc, 9, 4, failing).expect(rt, "memory")
+}
+
+// Compares what is answered to bytes that are put, and what the sink holds then.
+fn puts(rt: &impl Abort, sink: &mut MemSink, bytes: &[u8], want: Result<(), Failed>, holds: &[u8]) {
+    let found = put_all(sink, bytes);
+    assert!(rt; found == want);
+    assert!(rt; sink.bytes() == holds);
 }
 
 #[test]
-fn a_sink_holds_what_there_is_room_for(rt: HostRuntime) -> Result<(), Fail> {
-    let mut whole = sink(rt.alloc(), 0)?;
-    puts(&rt, &mut whole, b"s SAMPLE\n", Ok(()));
-    same_bytes(&rt, whole.bytes(), b"s SAMPLE\n");
-    puts(&rt, &mut whole, b"x", Err(Failed));
-    Ok(())
+fn a_sink_holds_what_there_is_room_for(rt: HostRuntime) {
+    let mut whole = sink(&rt, rt.alloc(), 0);
+    puts(&rt, &mut whole, b"s SAMPLE\n", Ok(()), b"s SAMPLE\n");
+    puts(&rt, &mut whole, b"x", Err(Failed), b"s SAMPLE\n");
 }
 
 #[test]
-fn a_sink_that_fails_holds_a_front_of_the_bytes(rt: HostRuntime) -> Result<(), Fail> {
-    let mut failing = sink(rt.alloc(), 2)?;
-    puts(&rt, &mut failing, b"s SAMPLE\n", Err(Failed));
-    same_bytes(&rt, failing.bytes(), b"s SA");
-    Ok(())
+fn a_sink_that_fails_holds_a_front_of_the_bytes(rt: HostRuntime) {
+    let mut failing = sink(&rt, rt.alloc(), 2);
+    puts(&rt, &mut failing, b"s SAMPLE\n", Err(Failed), b"s SA");
 }
 
 /// Fails once and then gives a byte at a time.
@@ -271,7 +219,7 @@ impl Read for Stutter {
 fn reads(rt: &impl Abort, source: &mut StdSource<Stutter>, want: Result<usize, Failed>) -> u8 {
     let mut room = [0; 4];
     let found = source.read(&mut room);
-    assert_eq!(rt; found, want);
+    assert!(rt; found == want);
     room[0]
 }
 
@@ -280,7 +228,7 @@ fn an_error_of_a_reader_is_a_fault(rt: HostRuntime) {
     let mut source = StdSource::new(Stutter { failed: false });
     reads(&rt, &mut source, Err(Failed));
     let byte = reads(&rt, &mut source, Ok(1));
-    assert_eq!(&rt; byte, b'x');
+    assert!(&rt; byte == b'x');
 }
 
 /// Takes a byte, then none, and then fails.
@@ -307,7 +255,7 @@ impl Write for Clog {
 // Compares what a write of two bytes answers.
 fn writes(rt: &impl Abort, sink: &mut StdSink<Clog>, want: Result<usize, Failed>) {
     let found = sink.write(b"ab");
-    assert_eq!(rt; found, want);
+    assert!(rt; found == want);
 }
 
 // The second takes 0 bytes.

@@ -1,26 +1,24 @@
 //! The events of sink-free orientations, and their index.
-ghost use Rattle.std.specs.Prelude.{◌≡◌, length, IfOk};
+ghost use Rattle.std.specs.Prelude.{◌≡◌, length};
 
-use crate::comparing::{Event, are_events, same_list};
+use crate::comparing::{Event, are_events, is_so};
 use crate::sources::graph;
 use graph_read::Graph;
 use pop_instance::{Events, Index};
 use sink_popping::{SinkFault, indexed_sinks, sinks};
 use std::alloc::Global;
 use std::process::Abort;
-use std::test::Fail;
 
 // The events of the graph of a text.
-fn sinks_of(alloc: Global, text: &[u8]) -> Result<Result<Events, SinkFault>, Fail> {
-    let graph = graph(alloc, text)?;
-    Ok(sinks(alloc, &graph))
+fn sinks_of(rt: &impl Abort, alloc: Global, text: &[u8]) -> Result<Events, SinkFault> {
+    let graph = graph(rt, alloc, text);
+    sinks(alloc, &graph)
 }
 
 // Compares the events of the graph of a text.
-fn has_sinks(rt: &impl Abort, alloc: Global, text: &[u8], want: &[Event]) -> Result<(), Fail> {
-    let events = sinks_of(alloc, text)??;
+fn has_sinks(rt: &impl Abort, alloc: Global, text: &[u8], want: &[Event]) {
+    let events = sinks_of(rt, alloc, text).expect(rt, "events");
     are_events(rt, &events, want);
-    Ok(())
 }
 
 // Worked by hand: value 0 points from the first vertex of an edge to the second.
@@ -47,19 +45,20 @@ static SINKS: [(&[u8], &[Event]); 6] = [
 ];
 
 #[test]
-fn each_vertex_without_a_loop_is_an_event(rt: HostRuntime) -> Result<(), Fail> {
+fn each_vertex_without_a_loop_is_an_event(rt: HostRuntime) {
     for (text, want) in SINKS.iter() {
-        has_sinks(&rt, rt.alloc(), text, want)?;
+        has_sinks(&rt, rt.alloc(), text, want);
     }
-    Ok(())
 }
 
 // The index of a graph's events.
-fn index_of(alloc: Global, graph: &Graph) -> Result<Index, Fail>
-    ensures { IfOk result (λ index. length index ≡ length graph.now.edges) }
+fn index_of(rt: &impl Abort, alloc: Global, graph: &Graph) -> Index
+    ensures { length result ≡ length graph.now.edges }
 {
-    let (_events, index) = indexed_sinks(alloc, graph)?;
-    Ok(index)
+    match indexed_sinks(alloc, graph) {
+        Ok((_, index)) => index,
+        Err(_) => panic!(rt; "no events"),
+    }
 }
 
 // Compares an index over so many edges: of each edge the places.
@@ -68,26 +67,20 @@ fn is_index(rt: &impl Abort, index: &Index, edges: u32, want: &[&[u32]])
 {
     assert!(rt; want.len() == edges as usize);
     for i in 0..edges {
-        same_list(rt, index.at(i), want[i as usize], "places at edge", i);
+        is_so(
+            rt,
+            index.at(i) == want[i as usize],
+            "places at edge",
+            i as u64,
+        );
     }
 }
 
-// Compares the index of a graph's events.
-fn has_index(rt: &impl Abort, alloc: Global, graph: &Graph, want: &[&[u32]]) -> Result<(), Fail> {
-    let index = index_of(alloc, graph)?;
-    is_index(rt, &index, graph.edges(), want);
-    Ok(())
-}
-
 // Compares the index of the events of the graph of a text.
-fn text_has_index(
-    rt: &impl Abort,
-    alloc: Global,
-    text: &[u8],
-    want: &[&[u32]],
-) -> Result<(), Fail> {
-    let graph = graph(alloc, text)?;
-    has_index(rt, alloc, &graph, want)
+fn has_index(rt: &impl Abort, alloc: Global, text: &[u8], want: &[&[u32]]) {
+    let graph = graph(rt, alloc, text);
+    let index = index_of(rt, alloc, &graph);
+    is_index(rt, &index, graph.edges(), want);
 }
 
 // Worked by hand: places count the vertices without a loop, from 0.
@@ -105,18 +98,17 @@ static PLACES: [(&[u8], &[&[u32]]); 4] = [
 ];
 
 #[test]
-fn each_edge_has_the_places_of_the_events_of_its_ends(rt: HostRuntime) -> Result<(), Fail> {
+fn each_edge_has_the_places_of_the_events_of_its_ends(rt: HostRuntime) {
     for (text, want) in PLACES.iter() {
-        text_has_index(&rt, rt.alloc(), text, want)?;
+        has_index(&rt, rt.alloc(), text, want);
     }
-    Ok(())
 }
 
 // Compares the isolated vertex that is named.
-fn is_isolated(rt: &impl Abort, alloc: Global, text: &[u8], vertex: u32) -> Result<(), Fail> {
-    let found = sinks_of(alloc, text)?.err();
-    assert_eq!(rt; found, Some(SinkFault::Isolated(vertex)));
-    Ok(())
+fn is_isolated(rt: &impl Abort, alloc: Global, text: &[u8], vertex: u32) {
+    let found = sinks_of(rt, alloc, text).err();
+    let is_named = found == Some(SinkFault::Isolated(vertex));
+    is_so(rt, is_named, "isolated vertex", vertex as u64);
 }
 
 // Worked by hand: a loop touches its vertex.
@@ -127,9 +119,8 @@ static ISOLATED: [(&[u8], u32); 3] = [
 ];
 
 #[test]
-fn the_least_isolated_vertex_is_named(rt: HostRuntime) -> Result<(), Fail> {
+fn the_least_isolated_vertex_is_named(rt: HostRuntime) {
     for (text, vertex) in ISOLATED.iter() {
-        is_isolated(&rt, rt.alloc(), text, *vertex)?;
+        is_isolated(&rt, rt.alloc(), text, *vertex);
     }
-    Ok(())
 }

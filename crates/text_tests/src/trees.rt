@@ -1,11 +1,11 @@
 //! Trees of graphs: their arrows and weights, and the ends of their runs.
-ghost use Rattle.std.specs.Prelude.{◌≡◌, ◌<◌, ◌^◌, length, IfOk, OnOk};
+ghost use Rattle.std.specs.Prelude.{◌≡◌, ◌<◌, ◌^◌, length};
 ghost use Rattle.pop_model.specs.Stacks.{variables_of};
 ghost use Rattle.graph_read.specs.Graphs.{IsVertex};
 ghost use Rattle.graph_read.specs.Paths.{IsConnected};
 ghost use Rattle.cycle_popping.specs.Walks.{AreCycles};
 
-use crate::comparing::{same, same_at};
+use crate::comparing::{is_so, same};
 use crate::sources::graph;
 use confluence_core::{End, Stuck, run_first};
 use cycle_popping::{arrow_weights, arrows, run_walks};
@@ -14,39 +14,38 @@ use pop_instance::{Arrows, Cursors, Family, Instance};
 use pop_stacks::{Reader, Rows, StackSpec, Stacks};
 use std::alloc::Global;
 use std::process::Abort;
-use std::test::Fail;
 
 mod draws;
 mod grids;
 mod multigraphs;
 
 // Stops the test where a vertex is cut off from the root, or the root is no vertex.
-fn expect_joined(rt: &impl Abort, alloc: Global, graph: &Graph, root: u32) -> Result<(), Fail>
-    ensures root { OnOk result (IsVertex graph.now.vertices root) }
-    ensures joined { OnOk result (IsConnected graph.now root) }
+fn expect_joined(rt: &impl Abort, alloc: Global, graph: &Graph, root: u32)
+    ensures root { IsVertex graph.now.vertices root }
+    ensures joined { IsConnected graph.now root }
 {
     assert!(rt; 1 <= root);
     assert!(rt; root <= graph.vertices());
-    let cut_off = first_cut_off(alloc, graph, root)?;
+    let cut_off = first_cut_off(alloc, graph, root).expect(rt, "memory");
     assert!(rt; cut_off.is_none());
-    Ok(())
 }
 
 // The stacks of the arrows to a root, by this spec, of this height where they come from a key.
 fn stacks_of(
+    rt: &impl Abort,
     alloc: Global,
     graph: &Graph,
     root: u32,
     spec: StackSpec,
     height: u32,
-) -> Result<Stacks, Fail>
+) -> Stacks
     requires root { IsVertex graph.now.vertices root }
     requires joined { IsConnected graph.now root }
     requires some { 0 < height }
     requires short { height < 2 ^ 31 }
 {
-    let weights = arrow_weights(alloc, graph, root)?;
-    Ok(Stacks::new(spec, weights, height)?)
+    let weights = arrow_weights(alloc, graph, root).expect(rt, "memory");
+    Stacks::new(spec, weights, height).expect(rt, "stacks")
 }
 
 // The instance of these stacks and the cycles of these arrows.
@@ -57,19 +56,13 @@ fn cycles_of(rt: &impl Abort, stacks: Stacks, arrows: Arrows) -> Instance
 }
 
 // The trees of a graph to a root, over these stacks.
-fn trees_of(
-    rt: &impl Abort,
-    alloc: Global,
-    graph: &Graph,
-    root: u32,
-    stacks: Stacks,
-) -> Result<Instance, Fail>
+fn trees_of(rt: &impl Abort, alloc: Global, graph: &Graph, root: u32, stacks: Stacks) -> Instance
     requires root { IsVertex graph.now.vertices root }
     requires joined { IsConnected graph.now root }
-    ensures { IfOk result (λ instance. AreCycles instance.family) }
+    ensures { AreCycles result.family }
 {
-    let arrows = arrows(alloc, graph, root)?;
-    Ok(cycles_of(rt, stacks, arrows))
+    let arrows = arrows(alloc, graph, root).expect(rt, "memory");
+    cycles_of(rt, stacks, arrows)
 }
 
 // The trees of a graph to a root, over these stacks, of this height where they come from a key.
@@ -80,14 +73,14 @@ fn trees(
     root: u32,
     spec: StackSpec,
     height: u32,
-) -> Result<Instance, Fail>
+) -> Instance
     requires some { 0 < height }
     requires short { height < 2 ^ 31 }
-    ensures { IfOk result (λ instance. AreCycles instance.family) }
+    ensures { AreCycles result.family }
 {
-    let graph = graph(alloc, text)?;
-    expect_joined(rt, alloc, &graph, root)?;
-    let stacks = stacks_of(alloc, &graph, root, spec, height)?;
+    let graph = graph(rt, alloc, text);
+    expect_joined(rt, alloc, &graph, root);
+    let stacks = stacks_of(rt, alloc, &graph, root, spec, height);
     trees_of(rt, alloc, &graph, root, stacks)
 }
 
@@ -102,7 +95,7 @@ struct Want {
 fn are_stuck(rt: &impl Abort, stuck: &Stuck, units: &[u32]) {
     assert!(rt; stuck.len() == units.len() as u64);
     for (i, unit) in units.iter().enumerate() {
-        assert!(rt; stuck.at(i as u64).0 == *unit, "stuck cycle {i}");
+        is_so(rt, stuck.at(i as u64).0 == *unit, "stuck cycle", i as u64);
     }
 }
 
@@ -112,7 +105,7 @@ fn are_cursors(rt: &impl Abort, cursors: &Cursors, count: u32, want: &[u32])
 {
     assert!(rt; want.len() == count as usize);
     for v in 0..count {
-        same_at(rt, cursors.get(v), want[v as usize], "variable", v);
+        is_so(rt, cursors.get(v) == want[v as usize], "variable", v as u64);
     }
 }
 
@@ -126,43 +119,37 @@ fn is_end(rt: &impl Abort, end: &End, count: u32, want: &Want)
 }
 
 // Compares the end of the walks.
-fn walks_end(rt: &impl Abort, alloc: Global, instance: &Instance, want: &Want) -> Result<(), Fail>
+fn walks_end(rt: &impl Abort, alloc: Global, instance: &Instance, want: &Want)
     requires { AreCycles instance.now.family }
 {
-    let end = run_walks(alloc, instance)?;
+    let end = run_walks(alloc, instance).expect(rt, "memory");
     is_end(rt, &end, instance.stacks().count(), want);
-    Ok(())
 }
 
 // Compares the end of the one-thread run.
-fn first_ends(
-    rt: &impl Abort,
-    alloc: Global,
-    instance: &Instance,
-    want: &Want,
-) -> Result<(), Fail> {
-    let end = run_first(alloc, instance)?;
+fn first_ends(rt: &impl Abort, alloc: Global, instance: &Instance, want: &Want) {
+    let end = run_first(alloc, instance).expect(rt, "memory");
     is_end(rt, &end, instance.stacks().count(), want);
-    Ok(())
 }
 
 // Compares the ends of the walks and of the one-thread run.
-fn ends_with(rt: &impl Abort, alloc: Global, instance: &Instance, want: &Want) -> Result<(), Fail>
+fn ends_with(rt: &impl Abort, alloc: Global, instance: &Instance, want: &Want)
     requires { AreCycles instance.now.family }
 {
-    walks_end(rt, alloc, instance, want)?;
-    first_ends(rt, alloc, instance, want)
+    walks_end(rt, alloc, instance, want);
+    first_ends(rt, alloc, instance, want);
 }
 
 // These rows of entries.
-fn given(rt: &impl Abort, alloc: Global, table: &[&[u32]]) -> Result<StackSpec, Fail> {
+fn given(rt: &impl Abort, alloc: Global, table: &[&[u32]]) -> StackSpec {
     let mut rows = Vec::new(alloc);
     for row in table {
         assert!(rt; row.len() < 9);
-        rows.push(Vec::from_slice(alloc, row)?)?;
+        let row = Vec::from_slice(alloc, row).expect(rt, "memory");
+        rows.push(row).expect(rt, "memory");
     }
     assert!(rt; rows.len() < 9);
-    Ok(StackSpec::Given(Rows::of(rows)))
+    StackSpec::Given(Rows::of(rows))
 }
 
 // A graph, the rows of entries over its arrows to vertex 1, and what the end is to be.
@@ -173,17 +160,17 @@ struct Case {
 }
 
 // The instance of a case.
-fn case_trees(rt: &impl Abort, alloc: Global, case: &Case) -> Result<Instance, Fail>
-    ensures { IfOk result (λ instance. AreCycles instance.family) }
+fn case_trees(rt: &impl Abort, alloc: Global, case: &Case) -> Instance
+    ensures { AreCycles result.family }
 {
-    let spec = given(rt, alloc, case.rows)?;
+    let spec = given(rt, alloc, case.rows);
     trees(rt, alloc, case.text, 1, spec, 1)
 }
 
 // Compares the ends of the runs of a case.
-fn case_ends(rt: &impl Abort, alloc: Global, case: &Case) -> Result<(), Fail> {
-    let instance = case_trees(rt, alloc, case)?;
-    ends_with(rt, alloc, &instance, &case.want)
+fn case_ends(rt: &impl Abort, alloc: Global, case: &Case) {
+    let instance = case_trees(rt, alloc, case);
+    ends_with(rt, alloc, &instance, &case.want);
 }
 
 const TRIANGLE: &[u8] = b"p edge 3 3\ne 1 2\ne 2 3\ne 1 3\n";
@@ -200,8 +187,8 @@ static TWO_VERTICES: Case = Case {
 };
 
 #[test]
-fn the_cycle_of_two_vertices_is_popped(rt: HostRuntime) -> Result<(), Fail> {
-    case_ends(&rt, rt.alloc(), &TWO_VERTICES)
+fn the_cycle_of_two_vertices_is_popped(rt: HostRuntime) {
+    case_ends(&rt, rt.alloc(), &TWO_VERTICES);
 }
 
 // Worked by hand: the cycle of vertices 2 and 3 occurs at their last entries.
@@ -216,8 +203,8 @@ static LAST_ENTRY: Case = Case {
 };
 
 #[test]
-fn a_cycle_is_stuck_at_the_last_entry(rt: HostRuntime) -> Result<(), Fail> {
-    case_ends(&rt, rt.alloc(), &LAST_ENTRY)
+fn a_cycle_is_stuck_at_the_last_entry(rt: HostRuntime) {
+    case_ends(&rt, rt.alloc(), &LAST_ENTRY);
 }
 
 // Worked by hand: the path 2, 3, 4, 1, whose vertices 3 and 4 lead to each other first.
@@ -232,8 +219,8 @@ static PATH: Case = Case {
 };
 
 #[test]
-fn a_vertex_in_front_of_a_cycle_keeps_its_arrow(rt: HostRuntime) -> Result<(), Fail> {
-    case_ends(&rt, rt.alloc(), &PATH)
+fn a_vertex_in_front_of_a_cycle_keeps_its_arrow(rt: HostRuntime) {
+    case_ends(&rt, rt.alloc(), &PATH);
 }
 
 // The first value of a variable.
@@ -263,19 +250,18 @@ static ROOT_AT_ONCE: Want = Want {
 };
 
 // Compares the ends of its runs, and its stacks.
-fn root_at_once(rt: &impl Abort, alloc: Global, instance: &Instance) -> Result<(), Fail>
+fn root_at_once(rt: &impl Abort, alloc: Global, instance: &Instance)
     requires { AreCycles instance.now.family }
 {
-    ends_with(rt, alloc, instance, &ROOT_AT_ONCE)?;
+    ends_with(rt, alloc, instance, &ROOT_AT_ONCE);
     has_two_values(rt, instance.stacks());
-    Ok(())
 }
 
 // Worked by hand from the key stream: vertex 2 has a loop, which is no slot, and two parallel edges
 // to the root of weights 5 and 1, of which the first entry takes the first.
 #[test]
-fn parallel_edges_are_slots_and_loops_are_none(rt: HostRuntime) -> Result<(), Fail> {
+fn parallel_edges_are_slots_and_loops_are_none(rt: HostRuntime) {
     let alloc = rt.alloc();
-    let instance = trees(&rt, alloc, PARALLEL_EDGES, 1, StackSpec::Key([0; 32]), 9)?;
-    root_at_once(&rt, alloc, &instance)
+    let instance = trees(&rt, alloc, PARALLEL_EDGES, 1, StackSpec::Key([0; 32]), 9);
+    root_at_once(&rt, alloc, &instance);
 }

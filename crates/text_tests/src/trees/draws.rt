@@ -1,7 +1,8 @@
 //! Random multigraphs, and what is drawn with each.
 ghost use Rattle.std.specs.Prelude.{◌<◌, ◌^◌};
 
-use std::alloc::{AllocError, Global};
+use std::alloc::Global;
+use std::process::Abort;
 
 // The next pseudo-random number below a bound: the high bits of a linear congruential step with
 // Knuth's numbers for MMIX.
@@ -28,26 +29,27 @@ fn ends(state: &mut u64, vertices: u32, i: u32) -> (u32, u32)
 }
 
 // Adds edge i, with a weight from 1 to 5.
-fn push_edge(text: &mut String, state: &mut u64, vertices: u32, i: u32) -> Result<(), AllocError>
+fn push_edge(rt: &impl Abort, text: &mut String, state: &mut u64, vertices: u32, i: u32)
     requires some { 0 < vertices }
     requires few { vertices < 1000 }
 {
     let (u, v) = ends(state, vertices, i);
     let weight = 1 + below(state, 5);
-    write!(text, "e {u} {v} {weight}\n")
+    write!(text, "e {u} {v} {weight}\n").expect(rt, "memory");
 }
 
 /// The text of a connected graph of so many vertices, with edges of the weights 1 to 5.
-pub fn connected(alloc: Global, state: &mut u64, vertices: u32) -> Result<String, AllocError>
+pub fn connected(rt: &impl Abort, alloc: Global, state: &mut u64, vertices: u32) -> String
     requires some { 0 < vertices }
     requires few { vertices < 1000 }
 {
     let edges = vertices - 1 + below(state, 2 * vertices);
-    let mut text = format!(in alloc; "p edge {vertices} {edges}\n")?;
+    let head = format!(in alloc; "p edge {vertices} {edges}\n");
+    let mut text = head.expect(rt, "memory");
     for i in 0..edges {
-        push_edge(&mut text, state, vertices, i)?;
+        push_edge(rt, &mut text, state, vertices, i);
     }
-    Ok(text)
+    text
 }
 
 /// What a case draws: the root, the byte of its key, and the height.

@@ -6,27 +6,22 @@ ghost use Rattle.graph_read.specs.Grids.{IsSide};
 ghost use Rattle.graph_read.specs.Paths.{IsConnected};
 
 use super::{expect_joined, first_value};
-use crate::comparing::same_at;
+use crate::comparing::is_so;
 use cycle_popping::{arrow_weights, arrows, grid_arrows, grid_weights};
 use graph_read::Graph;
 use pop_instance::Arrows;
-use pop_stacks::{StackFault, StackSpec, Stacks, Weights};
+use pop_stacks::{StackSpec, Stacks, Weights};
 use std::alloc::Global;
 use std::process::Abort;
-use std::test::Fail;
-
-// Compares where a slot of a variable leads.
-fn same_head(rt: &impl Abort, found: Option<u32>, want: Option<u32>, slot: u32, v: u32) {
-    assert_eq!(rt; found, want, "slot {slot} of variable {v}");
-}
 
 // Compares where the slots of a variable lead.
 fn leads(rt: &impl Abort, arrows: &Arrows, v: u32, want: &[Option<u32>]) {
     assert!(rt; v < arrows.count());
     let slots = arrows.slots(v);
-    assert!(rt; slots as usize == want.len(), "variable {v}");
+    assert!(rt; slots as usize == want.len());
     for slot in 0..slots {
-        same_head(rt, arrows.head(v, slot), want[slot as usize], slot, v);
+        let is_head = arrows.head(v, slot) == want[slot as usize];
+        is_so(rt, is_head, "heads of variable", v as u64);
     }
 }
 
@@ -43,10 +38,9 @@ fn lead(rt: &impl Abort, arrows: &Arrows, want: &[&[Option<u32>]]) {
 static HEADS: [&[Option<u32>]; 3] = [&[None, Some(2)], &[None, Some(2)], &[Some(0), Some(1)]];
 
 #[test]
-fn the_arrows_of_a_grid_lead_to_neighbours(rt: HostRuntime) -> Result<(), Fail> {
-    let arrows = grid_arrows(rt.alloc(), 2)?;
+fn the_arrows_of_a_grid_lead_to_neighbours(rt: HostRuntime) {
+    let arrows = grid_arrows(rt.alloc(), 2).expect(&rt, "memory");
     lead(&rt, &arrows, &HEADS);
-    Ok(())
 }
 
 // Compares the slots of a variable with those of the same variable of others.
@@ -57,7 +51,8 @@ fn same_slots(rt: &impl Abort, made: &Arrows, want: &Arrows, v: u32)
     let slots = made.slots(v);
     assert!(rt; slots == want.slots(v));
     for slot in 0..slots {
-        same_head(rt, made.head(v, slot), want.head(v, slot), slot, v);
+        let is_same = made.head(v, slot) == want.head(v, slot);
+        is_so(rt, is_same, "heads of variable", v as u64);
     }
 }
 
@@ -71,15 +66,14 @@ fn same_arrows(rt: &impl Abort, made: &Arrows, want: &Arrows) {
 }
 
 // Compares the arrows that are made from a side with those of the grid's graph.
-fn has_arrows_of(rt: &impl Abort, alloc: Global, graph: &Graph, side: u32) -> Result<(), Fail>
+fn has_arrows_of(rt: &impl Abort, alloc: Global, graph: &Graph, side: u32)
     requires side { IsSide side }
     requires root { IsVertex graph.now.vertices 1 }
     requires joined { IsConnected graph.now 1 }
 {
-    let made = grid_arrows(alloc, side)?;
-    let want = arrows(alloc, graph, 1)?;
+    let made = grid_arrows(alloc, side).expect(rt, "memory");
+    let want = arrows(alloc, graph, 1).expect(rt, "memory");
     same_arrows(rt, &made, &want);
-    Ok(())
 }
 
 // Compares how many values a variable has over two stacks, and its first value.
@@ -87,15 +81,10 @@ fn same_value(rt: &impl Abort, made: &Stacks, want: &Stacks, v: u32)
     requires made { v < variables_of made.now }
     requires want { v < variables_of want.now }
 {
-    same_at(rt, made.domain(v), want.domain(v), "values of variable", v);
-    let value = first_value(rt, made, v);
-    same_at(
-        rt,
-        value,
-        first_value(rt, want, v),
-        "first value of variable",
-        v,
-    );
+    let as_many = made.domain(v) == want.domain(v);
+    is_so(rt, as_many, "values of variable", v as u64);
+    let is_same = first_value(rt, made, v) == first_value(rt, want, v);
+    is_so(rt, is_same, "first value of variable", v as u64);
 }
 
 // Compares the first values of all variables.
@@ -108,61 +97,52 @@ fn same_values(rt: &impl Abort, made: &Stacks, want: &Stacks) {
 }
 
 // The stacks with these weights, under one key.
-fn keyed(weights: Weights) -> Result<Stacks, StackFault> {
-    Stacks::new(StackSpec::Key([7; 32]), weights, 1)
+fn keyed(rt: &impl Abort, weights: Weights) -> Stacks {
+    Stacks::new(StackSpec::Key([7; 32]), weights, 1).expect(rt, "stacks")
 }
 
 // The stacks with the weights that are made from a side.
-fn stacks_of_side(alloc: Global, side: u32) -> Result<Stacks, Fail>
+fn stacks_of_side(rt: &impl Abort, alloc: Global, side: u32) -> Stacks
     requires { IsSide side }
 {
-    let weights = grid_weights(alloc, side)?;
-    Ok(keyed(weights)?)
+    let weights = grid_weights(alloc, side).expect(rt, "memory");
+    keyed(rt, weights)
 }
 
 // The stacks with the weights of a graph.
-fn stacks_of_graph(alloc: Global, graph: &Graph) -> Result<Stacks, Fail>
+fn stacks_of_graph(rt: &impl Abort, alloc: Global, graph: &Graph) -> Stacks
     requires root { IsVertex graph.now.vertices 1 }
     requires joined { IsConnected graph.now 1 }
 {
-    let weights = arrow_weights(alloc, graph, 1)?;
-    Ok(keyed(weights)?)
-}
-
-// Compares stacks with those that have the weights of a graph.
-fn has_values_of(rt: &impl Abort, alloc: Global, graph: &Graph, made: &Stacks) -> Result<(), Fail>
-    requires root { IsVertex graph.now.vertices 1 }
-    requires joined { IsConnected graph.now 1 }
-{
-    let want = stacks_of_graph(alloc, graph)?;
-    same_values(rt, made, &want);
-    Ok(())
+    let weights = arrow_weights(alloc, graph, 1).expect(rt, "memory");
+    keyed(rt, weights)
 }
 
 // Compares the weights that are made from a side with those of the grid's graph.
-fn has_weights_of(rt: &impl Abort, alloc: Global, graph: &Graph, side: u32) -> Result<(), Fail>
+fn has_weights_of(rt: &impl Abort, alloc: Global, graph: &Graph, side: u32)
     requires side { IsSide side }
     requires root { IsVertex graph.now.vertices 1 }
     requires joined { IsConnected graph.now 1 }
 {
-    let made = stacks_of_side(alloc, side)?;
-    has_values_of(rt, alloc, graph, &made)
+    let made = stacks_of_side(rt, alloc, side);
+    let want = stacks_of_graph(rt, alloc, graph);
+    same_values(rt, &made, &want);
 }
 
 // Compares what is made from a side with what comes of the grid's graph.
-fn is_as_of_graph(rt: &impl Abort, alloc: Global, side: u32) -> Result<(), Fail>
+fn is_as_of_graph(rt: &impl Abort, alloc: Global, side: u32)
     requires { IsSide side }
 {
-    let graph = Graph::grid(alloc, side)?;
-    expect_joined(rt, alloc, &graph, 1)?;
-    has_arrows_of(rt, alloc, &graph, side)?;
-    has_weights_of(rt, alloc, &graph, side)
+    let graph = Graph::grid(alloc, side).expect(rt, "memory");
+    expect_joined(rt, alloc, &graph, 1);
+    has_arrows_of(rt, alloc, &graph, side);
+    has_weights_of(rt, alloc, &graph, side);
 }
 
 #[test]
-fn a_grid_without_its_graph_has_the_same_trees(rt: HostRuntime) -> Result<(), Fail> {
-    is_as_of_graph(&rt, rt.alloc(), 1)?;
-    is_as_of_graph(&rt, rt.alloc(), 2)?;
-    is_as_of_graph(&rt, rt.alloc(), 3)?;
-    is_as_of_graph(&rt, rt.alloc(), 5)
+fn a_grid_without_its_graph_has_the_same_trees(rt: HostRuntime) {
+    is_as_of_graph(&rt, rt.alloc(), 1);
+    is_as_of_graph(&rt, rt.alloc(), 2);
+    is_as_of_graph(&rt, rt.alloc(), 3);
+    is_as_of_graph(&rt, rt.alloc(), 5);
 }
