@@ -1,118 +1,152 @@
 //! Arrows, in one array, in lists, and packed.
-ghost use Rattle.std.specs.Prelude.{◌<◌, ◌^◌, length, All, IfOk};
+ghost use Rattle.std.specs.Prelude.{◌<◌, ◌^◌, length, All, IfOk, OnOk};
 ghost use Rattle.pop_instance.specs.Arrows.{heads_of};
 
+use crate::compare::holds;
 use pop_instance::Arrows;
 use pop_rows::RowList;
 use std::alloc::Global;
-use std::process::Abort;
 use std::test::Fail;
 
+// Adds a row of fewer than nine numbers.
+fn push(rows: &mut RowList, row: &[u32]) -> Result<(), Fail>
+    requires { All (λ row. length row < 2 ^ 31) rows.old }
+    ensures { OnOk result (All (λ row. length row < 2 ^ 31) rows.new) }
+{
+    if row.len() >= 9 {
+        return Err(Fail::new("a row is too long"));
+    }
+    rows.push_row(row)?;
+    Ok(())
+}
+
 // Rows of numbers in one array.
-fn numbers(rt: &impl Abort, alloc: Global, table: &[&[u32]]) -> Result<RowList, Fail>
+fn numbers(alloc: Global, table: &[&[u32]]) -> Result<RowList, Fail>
     ensures short { IfOk result (λ rows. length rows < 2 ^ 31) }
     ensures short_rows { IfOk result (All (λ row. length row < 2 ^ 31)) }
 {
     let mut rows = RowList::with_room(alloc, 3, 8)?;
     for row in table {
-        assert!(rt; row.len() < 9);
-        rows.push_row(row)?;
+        push(&mut rows, row)?;
     }
-    assert!(rt; rows.count() < 9);
+    if rows.count() >= 9 {
+        return Err(Fail::new("too many rows"));
+    }
     Ok(rows)
 }
 
 // Rows of heads in an array each.
-fn heads(
-    rt: &impl Abort,
-    alloc: Global,
-    table: &[&[Option<u32>]],
-) -> Result<Vec<Vec<Option<u32>>>, Fail>
+fn heads(alloc: Global, table: &[&[Option<u32>]]) -> Result<Vec<Vec<Option<u32>>>, Fail>
     ensures short { IfOk result (λ rows. length rows.items < 2 ^ 31) }
     ensures short_rows { IfOk result (λ rows.
         All (λ row. length row < 2 ^ 31) (heads_of rows.items)) }
 {
     let mut rows = Vec::new(alloc);
     for row in table {
-        assert!(rt; row.len() < 9);
+        if row.len() >= 9 {
+            return Err(Fail::new("a row is too long"));
+        }
         rows.push(Vec::from_slice(alloc, row)?)?;
     }
-    assert!(rt; rows.len() < 9);
+    if rows.len() >= 9 {
+        return Err(Fail::new("too many rows"));
+    }
     Ok(rows)
 }
 
 // Compares where the slots of a variable lead.
-fn leads(rt: &impl Abort, arrows: &Arrows, v: u32, want: &[Option<u32>])
+fn leads(arrows: &Arrows, v: u32, want: &[Option<u32>]) -> Result<(), Fail>
     requires { v < length arrows.now }
 {
-    assert_eq!(rt; arrows.slots(v) as usize, want.len());
-    for slot in 0..arrows.slots(v) {
-        assert_eq!(rt;
-            arrows.head(v, slot),
-            want[slot as usize],
-            "slot {slot} of variable {v}"
-        );
+    if arrows.slots(v) as usize != want.len() {
+        return Err(Fail::new("another count of slots"));
     }
+    for slot in 0..arrows.slots(v) {
+        let leads = arrows.head(v, slot) == want[slot as usize];
+        holds(leads, "head of a slot of variable", v)?;
+    }
+    Ok(())
 }
 
 // The case of the test below: variable 0 leads to the root and to variable 1.
 static HEADS: [&[Option<u32>]; 3] = [&[None, Some(1)], &[Some(2)], &[Some(0), Some(0), None]];
 
 // Compares arrows with those of the case.
-fn is_worked_case(rt: &impl Abort, arrows: &Arrows) {
-    assert!(rt; arrows.count() == 3);
-    for v in 0..3 {
-        leads(rt, arrows, v, HEADS[v as usize]);
+fn is_worked_case(arrows: &Arrows) -> Result<(), Fail> {
+    if arrows.count() != 3 {
+        return Err(Fail::new("another count of variables"));
     }
-}
-
-// Compares arrows that were made, and the same arrows packed, with those of the case.
-fn are_worked_case(rt: &impl Abort, alloc: Global, made: Option<Arrows>) -> Result<(), Fail> {
-    let arrows = made.expect(rt, "heads that are there");
-    is_worked_case(rt, &arrows);
-    is_worked_case(rt, &arrows.packed(alloc)?);
+    for v in 0..3 {
+        leads(arrows, v, HEADS[v as usize])?;
+    }
     Ok(())
 }
+
+// Compares the same arrows packed with those of the case.
+fn is_packed_case(alloc: Global, arrows: Arrows) -> Result<(), Fail> {
+    let packed = arrows.packed(alloc)?;
+    is_worked_case(&packed)
+}
+
+// Compares arrows that were made, and the same packed, with those of the case.
+fn are_worked_case(alloc: Global, made: Option<Arrows>) -> Result<(), Fail> {
+    let Some(arrows) = made else {
+        return Err(Fail::new("no arrows"));
+    };
+    is_worked_case(&arrows)?;
+    is_packed_case(alloc, arrows)
+}
+
+static NUMBERS: [&[u32]; 3] = [&[3, 1], &[2], &[0, 0, 3]];
 
 // Worked by hand: of three variables, number 3 is the root.
 #[test]
 fn arrows_in_one_array_answer_like_lists(rt: HostRuntime) -> Result<(), Fail> {
     let alloc = rt.alloc();
-    let flat = Arrows::flat(numbers(&rt, alloc, &[&[3, 1], &[2], &[0, 0, 3]])?);
-    are_worked_case(&rt, alloc, flat)?;
-    let lists = Arrows::new(heads(&rt, alloc, &HEADS)?);
-    are_worked_case(&rt, alloc, lists)
+    are_worked_case(alloc, Arrows::flat(numbers(alloc, &NUMBERS)?))?;
+    are_worked_case(alloc, Arrows::new(heads(alloc, &HEADS)?))
 }
 
 // For each of so many variables one number, falling to 0, so that no two lead as far.
-fn falling(rt: &impl Abort, alloc: Global, count: u32) -> Result<RowList, Fail>
+fn falling(alloc: Global, count: u32) -> Result<RowList, Fail>
     ensures short { IfOk result (λ rows. length rows < 2 ^ 31) }
     ensures short_rows { IfOk result (All (λ row. length row < 2 ^ 31)) }
 {
     let mut rows = RowList::with_room(alloc, 0, 0)?;
     for v in 0..count {
-        rows.push_row(&[count - 1 - v])?;
+        push(&mut rows, &[count - 1 - v])?;
     }
-    assert!(rt; rows.count() < 999);
+    if rows.count() >= 999 {
+        return Err(Fail::new("too many rows"));
+    }
     Ok(rows)
 }
 
-// Packs the arrows of falling numbers, and looks where they lead.
-fn packed_fall(rt: &impl Abort, alloc: Global, count: u32) -> Result<(), Fail> {
-    let arrows = Arrows::flat(falling(rt, alloc, count)?);
-    let packed = arrows.expect(rt, "heads below the count").packed(alloc)?;
-    assert!(rt; packed.count() == count);
+// Compares where falling numbers lead.
+fn fall(arrows: &Arrows, count: u32) -> Result<(), Fail> {
+    if arrows.count() != count {
+        return Err(Fail::new("another count of variables"));
+    }
     for v in 0..count {
-        leads(rt, &packed, v, &[Some(count - 1 - v)]);
+        leads(arrows, v, &[Some(count - 1 - v)])?;
     }
     Ok(())
+}
+
+// Packs the arrows of falling numbers, and looks where they lead.
+fn packed_fall(alloc: Global, count: u32) -> Result<(), Fail> {
+    let Some(arrows) = Arrows::flat(falling(alloc, count)?) else {
+        return Err(Fail::new("no arrows"));
+    };
+    let packed = arrows.packed(alloc)?;
+    fall(&packed, count)
 }
 
 // A byte tells 256 variables apart that lead as far as no other.
 #[test]
 fn arrows_that_no_byte_tells_apart_are_packed_as_they_are(rt: HostRuntime) -> Result<(), Fail> {
-    packed_fall(&rt, rt.alloc(), 256)?;
-    packed_fall(&rt, rt.alloc(), 257)
+    packed_fall(rt.alloc(), 256)?;
+    packed_fall(rt.alloc(), 257)
 }
 
 // Rows without a slot of a variable, and with a number past the root.
@@ -121,20 +155,30 @@ static BAD_NUMBERS: [&[&[u32]]; 2] = [&[&[3, 1], &[], &[0, 0, 3]], &[&[3, 1], &[
 // Rows without a slot of a variable, and with a head past the last variable.
 static BAD_HEADS: [&[&[Option<u32>]]; 2] = [&[&[Some(0)], &[]], &[&[Some(1), None]]];
 
+// Whether numbers make no arrows.
+fn are_no_arrows(alloc: Global, table: &[&[u32]]) -> Result<bool, Fail> {
+    Ok(Arrows::flat(numbers(alloc, table)?).is_none())
+}
+
 #[test]
 fn no_slot_and_a_number_past_the_root_are_refused(rt: HostRuntime) -> Result<(), Fail> {
     for table in BAD_NUMBERS.iter() {
-        let arrows = Arrows::flat(numbers(&rt, rt.alloc(), table)?);
-        assert!(&rt; arrows.is_none());
+        let refused = are_no_arrows(rt.alloc(), table)?;
+        holds(refused, "refusal of numbers", 0)?;
     }
     Ok(())
+}
+
+// Whether heads make no arrows.
+fn make_no_arrows(alloc: Global, table: &[&[Option<u32>]]) -> Result<bool, Fail> {
+    Ok(Arrows::new(heads(alloc, table)?).is_none())
 }
 
 #[test]
 fn no_slot_and_a_head_past_the_last_variable_are_refused(rt: HostRuntime) -> Result<(), Fail> {
     for table in BAD_HEADS.iter() {
-        let arrows = Arrows::new(heads(&rt, rt.alloc(), table)?);
-        assert!(&rt; arrows.is_none());
+        let refused = make_no_arrows(rt.alloc(), table)?;
+        holds(refused, "refusal of heads", 0)?;
     }
     Ok(())
 }

@@ -2,42 +2,50 @@
 use crate::tables::{rows, weights};
 use pop_stacks::{StackFault, StackSpec, Stacks, Weights};
 use std::alloc::Global;
-use std::process::Abort;
 use std::test::Fail;
 
-// Compares the fault of rows under weights with the wanted one.
-fn is_refused(
-    rt: &impl Abort,
+// Compares the fault of stacks with the wanted one.
+fn is_refused(spec: StackSpec, weights: Weights, wanted: StackFault) -> Result<(), Fail> {
+    if Stacks::new(spec, weights, 1).err() != Some(wanted) {
+        return Err(Fail::new(format_args!("not refused: {wanted}")));
+    }
+    Ok(())
+}
+
+// Compares the fault of rows, each variable of which has two values, with the wanted one.
+fn are_refused(
     alloc: Global,
     table: &[&[u32]],
-    weights: Weights,
+    count: u32,
     wanted: StackFault,
 ) -> Result<(), Fail> {
-    let spec = StackSpec::Given(rows(rt, alloc, table)?);
-    assert_eq!(rt; Stacks::new(spec, weights, 1).err(), Some(wanted));
-    Ok(())
+    let rows = rows(alloc, table)?;
+    if count >= 9 {
+        return Err(Fail::new("too many variables"));
+    }
+    is_refused(StackSpec::Given(rows), Weights::pairs(count), wanted)
+}
+
+// Compares the fault of rows with too great a sum of weights.
+fn too_heavy(alloc: Global, table: &[&[u32]]) -> Result<(), Fail> {
+    let heavy = weights(alloc, &[&[u32::MAX], &[u32::MAX, 1], &[2, u32::MAX]])?;
+    let rows = rows(alloc, table)?;
+    is_refused(StackSpec::Given(rows), heavy, StackFault::WeightSum(1))
 }
 
 // Each list of rows has later faults too, and a fault at a later place.
 #[test]
 fn the_first_fault_is_named_at_its_least_place(rt: HostRuntime) -> Result<(), Fail> {
     let alloc = rt.alloc();
-    let count = StackFault::RowCount(1, 2);
-    is_refused(&rt, alloc, &[&[9]], Weights::pairs(2), count)?;
-    let empty = StackFault::EmptyRow(1);
-    is_refused(&rt, alloc, &[&[9], &[], &[]], Weights::pairs(3), empty)?;
+    are_refused(alloc, &[&[9]], 2, StackFault::RowCount(1, 2))?;
+    are_refused(alloc, &[&[9], &[], &[]], 3, StackFault::EmptyRow(1))?;
     let value = StackFault::ValueTooLarge(1, 1);
-    let table: [&[u32]; 3] = [&[0, 1], &[1, 2, 2], &[9]];
-    is_refused(&rt, alloc, &table, Weights::pairs(3), value)?;
-    let heavy = weights(&rt, alloc, &[&[u32::MAX], &[u32::MAX, 1], &[2, u32::MAX]])?;
-    let sum = StackFault::WeightSum(1);
-    is_refused(&rt, alloc, &[&[0], &[1], &[1]], heavy, sum)
+    are_refused(alloc, &[&[0, 1], &[1, 2, 2], &[9]], 3, value)?;
+    too_heavy(alloc, &[&[0], &[1], &[1]])
 }
 
 #[test]
 fn keyed_stacks_are_refused_for_their_weights_alone(rt: HostRuntime) -> Result<(), Fail> {
-    let heavy = weights(&rt, rt.alloc(), &[&[1, u32::MAX - 1], &[u32::MAX, 1]])?;
-    let wrong = Stacks::new(StackSpec::Key([7; 32]), heavy, 1).err();
-    assert_eq!(&rt; wrong, Some(StackFault::WeightSum(1)));
-    Ok(())
+    let heavy = weights(rt.alloc(), &[&[1, u32::MAX - 1], &[u32::MAX, 1]])?;
+    is_refused(StackSpec::Key([7; 32]), heavy, StackFault::WeightSum(1))
 }

@@ -1,14 +1,17 @@
 //! Rows with room for so many numbers each.
+use crate::compare::same_row;
 use pop_rows::FlatRows;
-use std::process::Abort;
 use std::test::Fail;
 
 // Compares the numbers of each row.
-fn are_rows(rt: &impl Abort, rows: &FlatRows, want: &[&[u32]]) {
-    assert_eq!(rt; rows.count() as usize, want.len());
-    for v in 0..rows.count() {
-        assert_eq!(rt; rows.row(v), want[v as usize], "row {v}");
+fn are_rows(rows: &FlatRows, want: &[&[u32]]) -> Result<(), Fail> {
+    if rows.count() as usize != want.len() {
+        return Err(Fail::new("another count of rows"));
     }
+    for v in 0..rows.count() {
+        same_row(rows.row(v), want[v as usize], v)?;
+    }
+    Ok(())
 }
 
 // Room is left in the last row.
@@ -21,14 +24,15 @@ fn rows_have_what_was_pushed_to_them_in_order(rt: HostRuntime) -> Result<(), Fai
     rows.push(0, 5);
     rows.push(3, 9);
     rows.push(0, 6);
-    are_rows(&rt, &rows, &[&[5, 6], &[], &[7], &[9]]);
-    Ok(())
+    are_rows(&rows, &[&[5, 6], &[], &[7], &[9]])
 }
 
 #[test]
 fn rooms_past_32_bits_find_no_memory(rt: HostRuntime) -> Result<(), Fail> {
     let alloc = rt.alloc();
     let rooms = Vec::from_slice(alloc, &[1 << 31, 1 << 31])?;
-    assert!(&rt; FlatRows::with_rooms(alloc, rooms).is_err());
-    Ok(())
+    match FlatRows::with_rooms(alloc, rooms) {
+        Ok(_) => Err(Fail::new("rooms past 32 bits")),
+        Err(_) => Ok(()),
+    }
 }

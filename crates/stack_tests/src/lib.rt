@@ -6,6 +6,8 @@
 #[cfg(test)]
 mod arrows;
 #[cfg(test)]
+mod compare;
+#[cfg(test)]
 mod cubes;
 #[cfg(test)]
 mod cursors;

@@ -1,4 +1,4 @@
-//! Rows, weights and events by tables.
+//! Rows, weights and events by tables. A table that isn't one of them fails the test.
 ghost use Rattle.std.specs.Prelude.{◌≡◌, ◌<◌, length, All};
 ghost use Rattle.std.specs.Bool.{OnTrue};
 ghost use Rattle.pop_model.specs.Stacks.{variables_of};
@@ -7,18 +7,21 @@ ghost use Rattle.pop_model.specs.Popping.{AreWithin};
 use pop_instance::{Cursors, Family};
 use pop_stacks::{Rows, Stacks, Weights};
 use std::alloc::Global;
-use std::process::Abort;
 use std::test::Fail;
 use test_instances::{EventRow, event_rows, family};
 
-/// These rows.
-pub fn rows(rt: &impl Abort, alloc: Global, table: &[&[u32]]) -> Result<Rows, Fail> {
+/// These rows, fewer than nine, of fewer than nine numbers.
+pub fn rows(alloc: Global, table: &[&[u32]]) -> Result<Rows, Fail> {
     let mut rows = Vec::new(alloc);
     for row in table {
-        assert!(rt; row.len() < 9);
+        if row.len() >= 9 {
+            return Err(Fail::new("a row is too long"));
+        }
         rows.push(Vec::from_slice(alloc, row)?)?;
     }
-    assert!(rt; rows.len() < 9);
+    if rows.len() >= 9 {
+        return Err(Fail::new("too many rows"));
+    }
     Ok(Rows::of(rows))
 }
 
@@ -29,16 +32,18 @@ pub fn are_weights(row: &[u32]) -> bool
     !row.is_empty() && row.iter().all(|weight| *weight > 0)
 }
 
-/// The weights of these rows, none of which is 0.
-pub fn weights(rt: &impl Abort, alloc: Global, table: &[&[u32]]) -> Result<Weights, Fail> {
+/// The weights of these rows, fewer than nine, of fewer than nine numbers, none of which is 0.
+pub fn weights(alloc: Global, table: &[&[u32]]) -> Result<Weights, Fail> {
     let mut rows = Vec::new(alloc);
     for row in table {
-        let is_good = are_weights(row);
-        assert!(rt; is_good);
-        assert!(rt; row.len() < 9);
+        if !are_weights(row) || row.len() >= 9 {
+            return Err(Fail::new("no weights"));
+        }
         rows.push(Vec::from_slice(alloc, row)?)?;
     }
-    assert!(rt; rows.len() < 9);
+    if rows.len() >= 9 {
+        return Err(Fail::new("too many rows"));
+    }
     Ok(Weights::of(Rows::of(rows)))
 }
 

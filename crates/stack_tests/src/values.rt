@@ -4,11 +4,11 @@ ghost use Rattle.pop_model.specs.Stacks.{variables_of};
 ghost use Rattle.pop_model.specs.Popping.{AreWithin};
 ghost use Rattle.pop_stacks.specs.Readers.{Belongs};
 
+use crate::compare::same;
 use crate::tables::are_within;
 use pop_instance::{Cursors, Values};
 use pop_stacks::{Reader, Stacks};
 use std::alloc::{AllocError, Global};
-use std::process::Abort;
 use std::test::Fail;
 use test_instances::stacks;
 
@@ -42,27 +42,22 @@ fn value_by(
     Ok(values.get(v))
 }
 
-// The value of a variable at its first entry, by so many readers.
-fn first_value(
-    rt: &impl Abort,
-    alloc: Global,
-    stacks: &Stacks,
-    count: u32,
-    v: u32,
-) -> Result<u32, Fail> {
+// Compares the value of a variable at its first entry, by so many readers.
+fn has_value(alloc: Global, stacks: &Stacks, count: u32, v: u32, want: u32) -> Result<(), Fail> {
     let zeros = Cursors::zeros(alloc, stacks.count())?;
-    let within = are_within(stacks, &zeros);
-    assert!(rt; within);
-    assert!(rt; v < stacks.count());
-    Ok(value_by(alloc, stacks, &zeros, count, v)?)
+    if v >= stacks.count() || !are_within(stacks, &zeros) {
+        return Err(Fail::new("a variable has no entry"));
+    }
+    let found = value_by(alloc, stacks, &zeros, count, v)?;
+    same(found, want, "value by so many readers", count)
 }
 
-// Compares the first entries of two variables with 0 and 1, by so many readers.
-fn see_values(rt: &impl Abort, alloc: Global, stacks: &Stacks, count: u32) -> Result<(), Fail> {
-    let first = first_value(rt, alloc, stacks, count, 0)?;
-    assert_eq!(rt; first, 0, "{count} readers");
-    let last = first_value(rt, alloc, stacks, count, 1)?;
-    assert_eq!(rt; last, 1, "{count} readers");
+// Compares the first entries of two variables with 0 and 1, by one reader and by more.
+fn has_values(alloc: Global, stacks: &Stacks) -> Result<(), Fail> {
+    for count in 1..4 {
+        has_value(alloc, stacks, count, 0, 0)?;
+        has_value(alloc, stacks, count, 1, 1)?;
+    }
     Ok(())
 }
 
@@ -71,8 +66,5 @@ fn see_values(rt: &impl Abort, alloc: Global, stacks: &Stacks, count: u32) -> Re
 fn as_many_readers_as_there_are_see_one_value(rt: HostRuntime) -> Result<(), Fail> {
     let alloc = rt.alloc();
     let stacks = stacks(alloc, &[&[0, 1], &[1, 0]])?;
-    for count in 1..4 {
-        see_values(&rt, alloc, &stacks, count)?;
-    }
-    Ok(())
+    has_values(alloc, &stacks)
 }

@@ -1,9 +1,8 @@
 //! The words of the key stream, as entries show them.
-use crate::readers::look;
+use crate::readers::look_afresh;
 use crate::tables::weights;
-use pop_stacks::{Reader, StackSpec, Stacks};
+use pop_stacks::{StackSpec, Stacks};
 use std::alloc::Global;
-use std::process::Abort;
 use std::test::Fail;
 
 // RFC 8439, A.1, vectors 1 and 2: the key of zeros, stream 0, blocks 0 and 1. Of each entry the low
@@ -27,14 +26,17 @@ static WORDS: [(u32, u32); 16] = [
     (0x1f0ae1ac, 0x6f4d794b),
 ];
 
-// Compares entry k of variable 0 under the key of zeros and two weights, whose sum is the greatest
-// that there is, 2^32 - 1.
-fn is_value(rt: &impl Abort, alloc: Global, k: u32, first: u32, value: u32) -> Result<(), Fail> {
-    let weights = weights(rt, alloc, &[&[first, u32::MAX - first]])?;
-    let stacks = Stacks::new(StackSpec::Key([0; 32]), weights, 64)?;
-    let mut reader = Reader::new(&stacks);
-    look(rt, &stacks, &mut reader, 0, k, value);
-    Ok(())
+// The stacks of variable 0 under the key of zeros and two weights, whose sum is the greatest that
+// there is, 2^32 - 1.
+fn stacks(alloc: Global, first: u32) -> Result<Stacks, Fail> {
+    let weights = weights(alloc, &[&[first, u32::MAX - first]])?;
+    Ok(Stacks::new(StackSpec::Key([0; 32]), weights, 64)?)
+}
+
+// Compares entry k of these stacks.
+fn is_value(alloc: Global, k: u32, first: u32, value: u32) -> Result<(), Fail> {
+    let stacks = stacks(alloc, first)?;
+    look_afresh(&stacks, 0, k, value)
 }
 
 // What comes of the two words of an entry, scaled by that sum, by hand: the high word, or one less
@@ -45,9 +47,11 @@ fn the_words_are_those_of_the_standard(rt: HostRuntime) -> Result<(), Fail> {
     let alloc = rt.alloc();
     for (k, (low, high)) in WORDS.iter().enumerate() {
         let scaled = high.saturating_sub((low <= high) as u32);
-        assert!(&rt; scaled < u32::MAX);
-        is_value(&rt, alloc, k as u32, scaled, 1)?;
-        is_value(&rt, alloc, k as u32, scaled + 1, 0)?;
+        let Some(next) = scaled.checked_add(1) else {
+            return Err(Fail::new("a scaled number is too great"));
+        };
+        is_value(alloc, k as u32, scaled, 1)?;
+        is_value(alloc, k as u32, next, 0)?;
     }
     Ok(())
 }
