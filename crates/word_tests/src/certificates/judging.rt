@@ -1,9 +1,8 @@
 //! How texts are judged.
 use super::paused::{TEXT, is_it};
 use run_cert::{Cert, CertRefusal, read_cert};
-use std::alloc::{AllocError, Global};
+use std::alloc::Global;
 use std::process::Abort;
-use std::test::Fail;
 
 // How a text is judged.
 #[derive(Clone, Copy, PartialEq, Eq)]
@@ -53,13 +52,12 @@ fn cut_verdict(length: usize) -> Verdict {
 }
 
 #[test]
-fn each_cut_is_judged_at_its_line(rt: HostRuntime) -> Result<(), Fail> {
+fn each_cut_is_judged_at_its_line(rt: HostRuntime) {
     let alloc = rt.alloc();
     for length in 0..72 {
         let wanted = cut_verdict(length);
         is_judged(&rt, alloc, &TEXT[..length], wanted, "bytes", length as u64);
     }
-    Ok(())
 }
 
 // How the text is to be judged with another byte at a place, worked by hand. The numbers of the row
@@ -86,18 +84,16 @@ fn judge_changes(rt: &impl Abort, alloc: Global, at: usize) {
     let byte = text[at];
     for change in 1..=255u8 {
         text[at] = byte ^ change;
-        let verdict = judge(alloc, text.as_slice());
         let wanted = changed_verdict(at, byte ^ change);
-        assert!(rt; verdict == wanted, "{change} at {at}");
+        is_judged(rt, alloc, text.as_slice(), wanted, "byte", at as u64);
     }
 }
 
 #[test]
-fn each_changed_byte_is_judged(rt: HostRuntime) -> Result<(), Fail> {
+fn each_changed_byte_is_judged(rt: HostRuntime) {
     for at in 0..71 {
         judge_changes(&rt, rt.alloc(), at);
     }
-    Ok(())
 }
 
 // Heads, and how they are judged, worked by hand.
@@ -129,13 +125,12 @@ static HEADS: [(&str, u64, u32); 24] = [
 ];
 
 #[test]
-fn heads_are_refused_at_their_first_bad_line(rt: HostRuntime) -> Result<(), Fail> {
+fn heads_are_refused_at_their_first_bad_line(rt: HostRuntime) {
     let alloc = rt.alloc();
     for (head, line, code) in HEADS.iter() {
         let wanted = Verdict::Refused(*line, *code);
         is_judged(&rt, alloc, head.as_bytes(), wanted, head, *line);
     }
-    Ok(())
 }
 
 // 64 digits of a key, and the same with a digit of upper case.
@@ -167,19 +162,18 @@ static KEYED: [(&str, &str, Verdict); 10] = [
 ];
 
 // The head of an orientation with these digits of a key and these bytes behind them.
-fn keyed(alloc: Global, digits: &str, rest: &str) -> Result<String, AllocError> {
-    let mut text = String::from_str(alloc, "cert 1 orient\nkey ")?;
-    text.push_str(digits)?;
-    text.push_str(rest)?;
-    Ok(text)
+fn keyed(rt: &impl Abort, alloc: Global, digits: &str, rest: &str) -> String {
+    let mut text = String::from_str(alloc, "cert 1 orient\nkey ").expect(rt, "memory");
+    text.push_str(digits).expect(rt, "memory");
+    text.push_str(rest).expect(rt, "memory");
+    text
 }
 
 #[test]
-fn a_key_is_read_as_it_is_printed(rt: HostRuntime) -> Result<(), Fail> {
+fn a_key_is_read_as_it_is_printed(rt: HostRuntime) {
     let alloc = rt.alloc();
     for (digits, rest, wanted) in KEYED.iter() {
-        let text = keyed(alloc, digits, rest)?;
+        let text = keyed(&rt, alloc, digits, rest);
         is_judged(&rt, alloc, text.as_bytes(), *wanted, text.as_str(), 0);
     }
-    Ok(())
 }

@@ -1,24 +1,14 @@
 //! What is printed of a job, and what is read of it.
 use super::{same_at, same_bytes};
-use pop_words::{Job, WordFault, read_words};
+use crate::words::read_line;
+use pop_words::Job;
 use run_cert::{Cert, print_cert, read_cert};
-use std::alloc::{AllocError, Global};
+use std::alloc::Global;
 use std::process::Abort;
-use std::test::Fail;
-
-// The words of a line, which have one space between them.
-fn words_of(alloc: Global, line: &str) -> Result<Vec<String>, AllocError> {
-    let mut words = Vec::new(alloc);
-    for word in line.split(' ') {
-        words.push(String::from_str(alloc, word)?)?;
-    }
-    Ok(words)
-}
 
 /// The job of a line, whose words have one space between them.
-pub fn job_of(alloc: Global, line: &str) -> Result<Job, WordFault> {
-    let words = words_of(alloc, line)?;
-    read_words(alloc, &words)
+pub fn job_of(rt: &impl Abort, alloc: Global, line: &str) -> Job {
+    read_line(rt, alloc, line).expect(rt, "a job")
 }
 
 // Command lines, and the heads of their certificates with three bytes of input, worked by hand.
@@ -55,17 +45,16 @@ static HEADS: [(&str, &str); 7] = [
 ];
 
 // The same head with that input and a log text behind it.
-fn whole(alloc: Global, head: &str) -> Result<String, AllocError> {
-    let mut text = String::from_str(alloc, head)?;
-    text.push_str("a\nblog 2 0\n")?;
-    Ok(text)
+fn whole(rt: &impl Abort, alloc: Global, head: &str) -> String {
+    let mut text = String::from_str(alloc, head).expect(rt, "memory");
+    text.push_str("a\nblog 2 0\n").expect(rt, "memory");
+    text
 }
 
 // Prints the certificate of a job with that input and that log text, and compares it.
-fn prints(rt: &impl Abort, alloc: Global, job: &Job, text: &str) -> Result<(), Fail> {
-    let printed = print_cert(alloc, job, b"a\nb", b"log 2 0\n")?;
+fn prints(rt: &impl Abort, alloc: Global, job: &Job, text: &str) {
+    let printed = print_cert(alloc, job, b"a\nb", b"log 2 0\n").expect(rt, "memory");
     same_bytes(rt, &printed, text.as_bytes(), text);
-    Ok(())
 }
 
 // Compares what a certificate says with the job.
@@ -78,25 +67,23 @@ fn says(rt: &impl Abort, cert: &Cert, job: &Job, text: &str) {
 }
 
 // Reads the text, and compares what it says with the job.
-fn reads(rt: &impl Abort, alloc: Global, job: &Job, text: &str) -> Result<(), Fail> {
-    let cert = read_cert(alloc, text.as_bytes())?;
+fn reads(rt: &impl Abort, alloc: Global, job: &Job, text: &str) {
+    let cert = read_cert(alloc, text.as_bytes()).expect(rt, "a certificate");
     says(rt, &cert, job, text);
-    Ok(())
 }
 
 // Prints the certificate of a job that has this head, and reads it.
-fn is_told(rt: &impl Abort, alloc: Global, job: &Job, head: &str) -> Result<(), Fail> {
-    let text = whole(alloc, head)?;
-    prints(rt, alloc, job, text.as_str())?;
-    reads(rt, alloc, job, text.as_str())
+fn is_told(rt: &impl Abort, alloc: Global, job: &Job, head: &str) {
+    let text = whole(rt, alloc, head);
+    prints(rt, alloc, job, text.as_str());
+    reads(rt, alloc, job, text.as_str());
 }
 
 #[test]
-fn what_is_printed_is_read_back(rt: HostRuntime) -> Result<(), Fail> {
+fn what_is_printed_is_read_back(rt: HostRuntime) {
     let alloc = rt.alloc();
     for (line, head) in HEADS.iter() {
-        let job = job_of(alloc, line)?;
-        is_told(&rt, alloc, &job, head)?;
+        let job = job_of(&rt, alloc, line);
+        is_told(&rt, alloc, &job, head);
     }
-    Ok(())
 }

@@ -8,32 +8,39 @@ use super::{looks_at, same_at};
 use confluence_core::{End, run_first};
 use pop_instance::{Family, Instance};
 use run_cert::{Look, Part, look, run_part};
-use std::alloc::{AllocError, Global};
+use std::alloc::Global;
 use std::process::Abort;
 use std::test::Fail;
 use test_instances::{arrows, keyed, over};
 
 // The two heads of each of so many variables in a ring: the next one, and the one before it;
 // variable 0 leads to the root.
-fn heads(alloc: Global, count: u32) -> Result<Vec<[Option<u32>; 2]>, AllocError> {
+fn heads(rt: &impl Abort, alloc: Global, count: u32) -> Vec<[Option<u32>; 2]> {
     let mut heads = Vec::new(alloc);
     for v in 0..count {
         let next = if v + 1 == count { 0 } else { v + 1 };
-        heads.push([Some(next), v.checked_sub(1)])?;
+        heads
+            .push([Some(next), v.checked_sub(1)])
+            .expect(rt, "memory");
     }
-    Ok(heads)
+    heads
 }
 
 // The cycles of a ring of so many variables.
-fn cycles(alloc: Global, count: u32) -> Result<Family, Fail> {
-    let heads = heads(alloc, count)?;
-    let arrows = arrows(alloc, &heads)?;
-    Ok(Family::Cycles(arrows))
+fn cycles(rt: &impl Abort, alloc: Global, count: u32) -> Result<Family, Fail> {
+    let heads = heads(rt, alloc, count);
+    Ok(Family::Cycles(arrows(alloc, &heads)?))
 }
 
 // A ring of so many variables, over stacks of this height under a key of 32 such bytes.
-fn ring(alloc: Global, count: u32, key: u8, height: u32) -> Result<Instance, Fail> {
-    let family = cycles(alloc, count)?;
+fn ring(
+    rt: &impl Abort,
+    alloc: Global,
+    count: u32,
+    key: u8,
+    height: u32,
+) -> Result<Instance, Fail> {
+    let family = cycles(rt, alloc, count)?;
     let stacks = keyed(key, count, height)?;
     over(stacks, family)
 }
@@ -43,10 +50,10 @@ fn ring(alloc: Global, count: u32, key: u8, height: u32) -> Result<Instance, Fai
 fn is_stopped(rt: &impl Abort, part: &Part, limit: u64, end: &End) {
     same_at(rt, part.log.len(), limit.min(end.pops), "limit", limit);
     let is_open = part.seen.look == Look::Open;
-    assert!(rt; is_open == (limit < end.pops), "limit {limit}");
+    assert!(rt; is_open == (limit < end.pops));
     let is_finished = part.seen.look == Look::Finished;
     let is_free = part.seen.stuck.len() == 0;
-    assert!(rt; is_finished == is_free, "limit {limit}");
+    assert!(rt; is_finished == is_free);
 }
 
 // Compares what a run that wasn't stopped leaves with the end of the run of first events.
@@ -63,49 +70,36 @@ fn is_end(rt: &impl Abort, count: u32, part: &Part, end: &End)
 }
 
 // Looks once more at what a run to a limit leaves.
-fn looks_again(
-    rt: &impl Abort,
-    alloc: Global,
-    instance: &Instance,
-    part: &Part,
-    limit: u64,
-) -> Result<(), Fail>
+fn looks_again(rt: &impl Abort, alloc: Global, instance: &Instance, part: &Part, limit: u64)
     requires count { variables_of instance.now.stacks ≡ length part.now.cursors }
     requires within { AreWithin instance.now.stacks part.now.cursors }
 {
-    let seen = look(alloc, instance, &part.cursors)?;
+    let seen = look(alloc, instance, &part.cursors).expect(rt, "memory");
     looks_at(rt, seen.look, part.seen.look, limit);
     let stuck = part.seen.stuck.len();
     same_at(rt, seen.stuck.len(), stuck, "limit", limit);
-    Ok(())
 }
 
 // Stops the run of an instance at a limit, and looks at what it leaves.
-fn stop(
-    rt: &impl Abort,
-    alloc: Global,
-    instance: &Instance,
-    limit: u64,
-    end: &End,
-) -> Result<(), Fail>
+fn stop(rt: &impl Abort, alloc: Global, instance: &Instance, limit: u64, end: &End)
     requires count { variables_of instance.now.stacks ≡ length end.now.cursors }
 {
-    let part = run_part(alloc, instance, limit)?;
+    let part = run_part(alloc, instance, limit).expect(rt, "memory");
     is_stopped(rt, &part, limit, end);
     if limit >= end.pops {
         is_end(rt, instance.stacks().count(), &part, end);
     }
-    looks_again(rt, alloc, instance, &part, limit)
+    looks_again(rt, alloc, instance, &part, limit);
 }
 
 // Stops the run of an instance at each limit, up to two more than its pops. Returns the pops.
-fn stop_at_each(rt: &impl Abort, alloc: Global, instance: &Instance) -> Result<u64, Fail> {
-    let end = run_first(alloc, instance)?;
+fn stop_at_each(rt: &impl Abort, alloc: Global, instance: &Instance) -> u64 {
+    let end = run_first(alloc, instance).expect(rt, "memory");
     assert!(rt; end.pops < 100000);
     for limit in 0..end.pops + 3 {
-        stop(rt, alloc, instance, limit, &end)?;
+        stop(rt, alloc, instance, limit, &end);
     }
-    Ok(end.pops)
+    end.pops
 }
 
 // How many variables there are, the byte of the key, and the height.
@@ -128,16 +122,15 @@ fn stop_ring(
     key: u8,
     height: u32,
 ) -> Result<u64, Fail> {
-    let ring = ring(alloc, count, key, height)?;
-    stop_at_each(rt, alloc, &ring)
+    let ring = ring(rt, alloc, count, key, height)?;
+    Ok(stop_at_each(rt, alloc, &ring))
 }
 
 #[test]
 fn rings_stop_at_every_limit(rt: HostRuntime) -> Result<(), Fail> {
-    let alloc = rt.alloc();
     let mut most = 0;
     for (count, key, height) in RINGS.iter() {
-        let pops = stop_ring(&rt, alloc, *count, *key, *height)?;
+        let pops = stop_ring(&rt, rt.alloc(), *count, *key, *height)?;
         most = most.max(pops);
     }
     assert!(&rt; most > 5);

@@ -55,65 +55,62 @@ fn leaves(
     instance: &Instance,
     limit: u64,
     wanted: (u64, Look, u64),
-) -> Result<(), Fail> {
+) {
     let (pops, look, stuck) = wanted;
-    let part = run_part(alloc, instance, limit)?;
+    let part = run_part(alloc, instance, limit).expect(rt, "memory");
     let found = (part.log.len(), part.seen.look);
     let count = instance.stacks().count();
     stands(rt, &part.cursors, count, found, (pops, look), limit);
     same_at(rt, part.seen.stuck.len(), stuck, "stuck events", limit);
-    Ok(())
 }
 
 // Stops the run of that instance at each limit.
-fn leaves_each(rt: &impl Abort, alloc: Global, instance: &Instance) -> Result<(), Fail> {
+fn leaves_each(rt: &impl Abort, alloc: Global, instance: &Instance) {
     for (limit, pops, look, stuck) in LIMITS.iter() {
-        leaves(rt, alloc, instance, *limit, (*pops, *look, *stuck))?;
+        leaves(rt, alloc, instance, *limit, (*pops, *look, *stuck));
     }
-    Ok(())
 }
 
 #[test]
 fn a_run_stops_at_its_limit(rt: HostRuntime) -> Result<(), Fail> {
-    let alloc = rt.alloc();
-    let instance = one_clause(alloc)?;
-    leaves_each(&rt, alloc, &instance)
-}
-
-// The log text of a run to one pop.
-fn pause_log(rt: &impl Abort, alloc: Global, instance: &Instance) -> Result<Vec<u8>, Fail> {
-    let part = run_part(alloc, instance, 1)?;
-    looks_at(rt, part.seen.look, Look::Open, 1);
-    Ok(print_layered(alloc, instance, &Names::Plain, &part.log)?)
-}
-
-// The text of the certificate of that run.
-fn pause(rt: &impl Abort, alloc: Global, instance: &Instance) -> Result<Vec<u8>, Fail> {
-    let log_text = pause_log(rt, alloc, instance)?;
-    let job = job_of(alloc, "formula --stacks 0,0,1")?;
-    Ok(print_cert(alloc, &job, INPUT.as_slice(), &log_text)?)
-}
-
-// Reads the text of that certificate.
-fn reads(rt: &impl Abort, alloc: Global, text: &[u8]) -> Result<(), Fail> {
-    let cert = read_cert(alloc, text)?;
-    let is_it = is_it(&cert);
-    assert!(rt; is_it);
+    let instance = one_clause(rt.alloc())?;
+    leaves_each(&rt, rt.alloc(), &instance);
     Ok(())
 }
 
+// The log text of a run to one pop.
+fn pause_log(rt: &impl Abort, alloc: Global, instance: &Instance) -> Vec<u8> {
+    let part = run_part(alloc, instance, 1).expect(rt, "memory");
+    looks_at(rt, part.seen.look, Look::Open, 1);
+    print_layered(alloc, instance, &Names::Plain, &part.log).expect(rt, "memory")
+}
+
+// The text of the certificate of that run.
+fn pause(rt: &impl Abort, alloc: Global, instance: &Instance) -> Vec<u8> {
+    let log_text = pause_log(rt, alloc, instance);
+    let job = job_of(rt, alloc, "formula --stacks 0,0,1");
+    print_cert(alloc, &job, INPUT.as_slice(), &log_text).expect(rt, "memory")
+}
+
+// Reads the text of that certificate.
+fn reads(rt: &impl Abort, alloc: Global, text: &[u8]) {
+    let cert = read_cert(alloc, text).expect(rt, "a certificate");
+    let is_it = is_it(&cert);
+    assert!(rt; is_it);
+}
+
 // Tells the run of that instance to one pop, and reads what is told.
-fn is_told(rt: &impl Abort, alloc: Global, instance: &Instance) -> Result<(), Fail> {
-    let text = pause(rt, alloc, instance)?;
+fn is_told(rt: &impl Abort, alloc: Global, instance: &Instance) {
+    let text = pause(rt, alloc, instance);
     same_bytes(rt, &text, TEXT.as_slice(), "text");
-    reads(rt, alloc, &text)
+    reads(rt, alloc, &text);
 }
 
 #[test]
 fn a_paused_run_is_told(rt: HostRuntime) -> Result<(), Fail> {
-    let alloc = rt.alloc();
-    let instance = one_clause(alloc)?;
-    is_told(&rt, alloc, &instance)
+    let instance = one_clause(rt.alloc())?;
+    is_told(&rt, rt.alloc(), &instance);
+    Ok(())
 }
 
 // Log texts, and what they leave: the popped entries of the one variable, which are as many as the
@@ -125,33 +122,26 @@ static TOLD: [(&str, u64, Look); 3] = [
 ];
 
 // Reads a log text, and compares what it leaves.
-fn tells(
-    rt: &impl Abort,
-    alloc: Global,
-    instance: &Instance,
-    text: &[u8],
-    wanted: (u64, Look),
-) -> Result<(), Fail> {
-    let run = read_run(alloc, instance, &Names::Plain, text)?;
-    let found = (run.pops, look(alloc, instance, &run.cursors)?.look);
+fn tells(rt: &impl Abort, alloc: Global, instance: &Instance, text: &[u8], wanted: (u64, Look)) {
+    let run = read_run(alloc, instance, &Names::Plain, text).expect(rt, "a run");
+    let seen = look(alloc, instance, &run.cursors).expect(rt, "memory");
     let count = instance.stacks().count();
+    let found = (run.pops, seen.look);
     stands(rt, &run.cursors, count, found, wanted, wanted.0);
-    Ok(())
 }
 
 // Reads each of these log texts.
-fn tells_each(rt: &impl Abort, alloc: Global, instance: &Instance) -> Result<(), Fail> {
+fn tells_each(rt: &impl Abort, alloc: Global, instance: &Instance) {
     for (text, pops, look) in TOLD.iter() {
-        tells(rt, alloc, instance, text.as_bytes(), (*pops, *look))?;
+        tells(rt, alloc, instance, text.as_bytes(), (*pops, *look));
     }
-    Ok(())
 }
 
 #[test]
 fn a_log_text_tells_how_a_run_stands(rt: HostRuntime) -> Result<(), Fail> {
-    let alloc = rt.alloc();
-    let instance = one_clause(alloc)?;
-    tells_each(&rt, alloc, &instance)
+    let instance = one_clause(rt.alloc())?;
+    tells_each(&rt, rt.alloc(), &instance);
+    Ok(())
 }
 
 // Reads a log text whose first record isn't legal.
@@ -163,23 +153,17 @@ fn is_refused(rt: &impl Abort, alloc: Global, instance: &Instance, text: &[u8]) 
 }
 
 // Reads the log text of a certificate of that instance.
-fn reads_refused(
-    rt: &impl Abort,
-    alloc: Global,
-    instance: &Instance,
-    text: &[u8],
-) -> Result<(), Fail> {
-    let cert = read_cert(alloc, text)?;
+fn reads_refused(rt: &impl Abort, alloc: Global, instance: &Instance, text: &[u8]) {
+    let cert = read_cert(alloc, text).expect(rt, "a certificate");
     is_refused(rt, alloc, instance, cert.log_text());
-    Ok(())
 }
 
 // The entry 1 isn't that of the first pop.
 #[test]
 fn a_changed_entry_is_no_legal_log(rt: HostRuntime) -> Result<(), Fail> {
-    let alloc = rt.alloc();
     let mut text = TEXT;
     text[69] = b'1';
-    let instance = one_clause(alloc)?;
-    reads_refused(&rt, alloc, &instance, text.as_slice())
+    let instance = one_clause(rt.alloc())?;
+    reads_refused(&rt, rt.alloc(), &instance, text.as_slice());
+    Ok(())
 }

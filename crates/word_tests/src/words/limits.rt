@@ -1,8 +1,10 @@
 // Rows that are as many as they may be, and one more. Worked by hand.
 
-/// Rows at their limits, 2^22 rows and 2^20 numbers in one row and in as many: how the line begins,
-/// what stands how often behind it, how it ends, and whether it is refused.
-pub static LIMITS: [(&str, &str, u32, &str, bool); 6] = [
+/// How a line begins, what stands how often behind it, how it ends, and whether it is refused.
+pub type Limit = (&'static str, &'static str, u32, &'static str, bool);
+
+/// Rows at their limits, 2^22 rows and 2^20 numbers in one row and in as many.
+pub static LIMITS: [Limit; 6] = [
     ("formula --stacks ", ";", 4194303, "", false),
     ("formula --stacks ", ";", 4194304, "", true),
     ("formula --stacks 0", ",0", 1048575, "", false),
