@@ -4,8 +4,8 @@ use confluence_core::Stuck;
 use pop_instance::Cursors;
 use std::process::Abort;
 
-/// Compares two counts. Tests compare by this call and the next, so that what tells of numbers that
-/// differ is proved once.
+/// Compares two counts. Tests compare by this call and the next two, so that what tells of numbers
+/// that differ is proved once.
 pub fn same(rt: &impl Abort, found: u64, want: u64, what: &str) {
     assert_eq!(rt; found, want, "{what}");
 }
@@ -13,6 +13,12 @@ pub fn same(rt: &impl Abort, found: u64, want: u64, what: &str) {
 /// Compares two numbers at a place.
 pub fn same_at(rt: &impl Abort, found: u32, want: u32, what: &str, place: u64) {
     assert_eq!(rt; found, want, "{what} {place}");
+}
+
+/// Compares two counts of what two numbers name.
+pub fn same_of(rt: &impl Abort, found: u64, want: u64, what: &str, of: (u32, u32)) {
+    let (one, other) = of;
+    assert_eq!(rt; found, want, "{what} {one}, {other}");
 }
 
 /// Compares the cursors of so many variables.

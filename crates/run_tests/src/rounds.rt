@@ -2,7 +2,7 @@ ghost use Rattle.std.specs.Prelude.{◌≡◌, length};
 ghost use Rattle.pop_model.specs.Stacks.{variables_of};
 ghost use Rattle.prs_rounds.specs.Units.{IsListed, IsIndexOf};
 
-use crate::compare::{are_cursors, are_stuck};
+use crate::compare::{are_cursors, are_stuck, same, same_at};
 use confluence_core::Units;
 use instances::{index_of, many};
 use pop_instance::{Cursors, Index, Instance};
@@ -93,9 +93,10 @@ static WANTS: [Want; 5] = [
 ];
 
 fn are_units(rt: &impl Abort, units: &Units, want: &[u32]) {
-    assert_eq!(rt; units.len(), want.len() as u64);
+    assert!(rt; units.len() == want.len() as u64);
     for (i, unit) in want.iter().enumerate() {
-        assert_eq!(rt; units.at(i as u64), *unit, "unit {i}");
+        let place = i as u64;
+        same_at(rt, units.at(place), *unit, "unit", place);
     }
 }
 
@@ -105,7 +106,8 @@ fn is_end(rt: &impl Abort, count: u32, end: &RoundEnd, want: &Want)
 {
     are_cursors(rt, &end.cursors, count, want.cursors);
     are_stuck(rt, &end.stuck, want.stuck);
-    assert_eq!(rt; (end.rounds, end.short), (want.rounds, want.short));
+    same(rt, end.rounds, want.rounds, "rounds");
+    assert!(rt; end.short == want.short);
 }
 
 // Compares the end of the rounds of an instance that are run on this thread.
@@ -124,39 +126,104 @@ fn ends_alone(
     Ok(())
 }
 
-// Compares what comes of an instance.
-fn comes_of<R: Threads + Abort + Sync>(
+// Compares the end of the rounds of an instance.
+fn ends_in_parallel<R: Threads + Abort + Sync>(
     rt: &R,
     alloc: Global,
     instance: &Instance,
     index: &Index,
     want: &Want,
 ) -> Result<(), Fail>
+    requires index { IsIndexOf instance.now.family index.now }
+    requires variables { length index.now ≡ variables_of instance.now.stacks }
+{
+    let end = run_rounds(rt, alloc, instance, index)?;
+    is_end(rt, instance.stacks().count(), &end, want);
+    Ok(())
+}
+
+// Compares the places of the events that occur at zeros.
+fn are_violated<R: Threads + Abort + Sync>(
+    rt: &R,
+    alloc: Global,
+    instance: &Instance,
+    want: &[u32],
+) -> Result<(), Fail>
+    requires listed { IsListed instance.now.family }
+{
+    let zeros = Cursors::zeros(alloc, instance.stacks().count())?;
+    let units = violated(rt, alloc, instance, &zeros)?;
+    are_units(rt, &units, want);
+    Ok(())
+}
+
+// Compares the places of the events of the resampling set at zeros.
+fn are_resampled<R: Threads + Abort + Sync>(
+    rt: &R,
+    alloc: Global,
+    instance: &Instance,
+    index: &Index,
+    want: &[u32],
+) -> Result<(), Fail>
     requires listed { IsListed instance.now.family }
     requires index { IsIndexOf instance.now.family index.now }
     requires variables { length index.now ≡ variables_of instance.now.stacks }
 {
-    let count = instance.stacks().count();
-    let zeros = Cursors::zeros(alloc, count)?;
-    are_units(rt, &violated(rt, alloc, instance, &zeros)?, want.violated);
-    are_units(
-        rt,
-        &resampling_set(rt, alloc, instance, index, &zeros)?,
-        want.set,
-    );
-    let end = run_rounds(rt, alloc, instance, index)?;
-    is_end(rt, count, &end, want);
-    ends_alone(rt, alloc, instance, index, want)
+    let zeros = Cursors::zeros(alloc, instance.stacks().count())?;
+    let units = resampling_set(rt, alloc, instance, index, &zeros)?;
+    are_units(rt, &units, want);
+    Ok(())
+}
+
+// Compares what comes of an instance.
+fn comes_of<R: Threads + Abort + Sync>(
+    rt: &R,
+    alloc: Global,
+    instance: &Instance,
+    want: &Want,
+) -> Result<(), Fail> {
+    let index = index_of(rt, alloc, instance)?;
+    are_violated(rt, alloc, instance, want.violated)?;
+    are_resampled(rt, alloc, instance, &index, want.set)?;
+    ends_in_parallel(rt, alloc, instance, &index, want)?;
+    ends_alone(rt, alloc, instance, &index, want)
+}
+
+// Makes the instance, and compares what comes of it.
+fn comes<R: Threads + Abort + Sync>(rt: &R, alloc: Global, want: &Want) -> Result<(), Fail> {
+    let instance = listed(alloc, want.stacks, want.events)?;
+    comes_of(rt, alloc, &instance, want)
 }
 
 #[test]
 fn rounds_move_each_variable_of_the_resampling_set_once(rt: HostRuntime) -> Result<(), Fail> {
-    let alloc = rt.alloc();
     for want in WANTS.iter() {
-        let instance = listed(alloc, want.stacks, want.events)?;
-        let index = index_of(&rt, alloc, &instance)?;
-        comes_of(&rt, alloc, &instance, &index, want)?;
+        comes(&rt, rt.alloc(), want)?;
     }
+    Ok(())
+}
+
+// Compares the end of rounds over so many variables, of which just those of even number moved, once.
+fn even_ones_moved(rt: &impl Abort, count: u32, end: &RoundEnd)
+    requires { count ≡ length end.now.cursors }
+{
+    for v in 0..count {
+        same_at(rt, end.cursors.get(v), 1 - v % 2, "variable", v as u64);
+    }
+    same(rt, end.rounds, 1, "rounds");
+    assert!(rt; end.stuck.len() == 0);
+    assert!(rt; end.short.is_none());
+}
+
+// Runs an instance, of which just the variables of even number move.
+fn even_ones_move<R: Threads + Abort + Sync>(
+    rt: &R,
+    alloc: Global,
+    instance: &Instance,
+) -> Result<(), Fail> {
+    let index = index_of(rt, alloc, instance)?;
+    let end = run_rounds(rt, alloc, instance, &index)?;
+    even_ones_moved(rt, instance.stacks().count(), &end);
     Ok(())
 }
 
@@ -164,19 +231,6 @@ fn rounds_move_each_variable_of_the_resampling_set_once(rt: HostRuntime) -> Resu
 #[test]
 fn many_events_are_looked_at_in_several_threads(rt: HostRuntime) -> Result<(), Fail> {
     let alloc = rt.alloc();
-    let instance = many(&rt, alloc, 5000)?;
-    let index = index_of(&rt, alloc, &instance)?;
-    let count = instance.stacks().count();
-    let RoundEnd {
-        cursors,
-        rounds,
-        stuck,
-        short,
-        ..
-    } = run_rounds(&rt, alloc, &instance, &index)?;
-    for v in 0..count {
-        assert_eq!(&rt; cursors.get(v), 1 - v % 2, "variable {v}");
-    }
-    assert_eq!(&rt; (rounds, stuck.len(), short), (1, 0, None));
-    Ok(())
+    let instance = many(alloc, 5000)?;
+    even_ones_move(&rt, alloc, &instance)
 }

@@ -5,12 +5,12 @@ ghost use Rattle.pop_model.specs.Stacks.{IsKeyed};
 ghost use Rattle.pop_model.specs.Extremal.{IsExtremal};
 
 use extremal_check::{Verdict, check};
-use pop_instance::{Cube, Family, Index, Instance};
+use pop_instance::{Family, Index, Instance};
 use pop_stacks::{StackSpec, Stacks, Weights};
 use std::alloc::Global;
 use std::process::Abort;
 use std::test::Fail;
-use test_instances::{EventRow, arrows, cube, family};
+use test_instances::{EventRow, arrows, event_rows, family};
 
 // The stacks of so many variables with two values each, under the key of zeros.
 fn stacks(rt: &impl Abort, count: u32, height: u32) -> Result<Stacks, Fail>
@@ -20,15 +20,6 @@ fn stacks(rt: &impl Abort, count: u32, height: u32) -> Result<Stacks, Fail>
     assert!(rt; 0 < height);
     assert!(rt; height < 1000);
     Ok(Stacks::new(StackSpec::Key([0; 32]), Weights::pairs(count), height)?)
-}
-
-// The events of these numbers and pairs.
-fn events(alloc: Global, table: &[EventRow]) -> Result<Vec<(u32, Cube)>, Fail> {
-    let mut rows = Vec::new(alloc);
-    for (number, pairs) in table {
-        rows.push((*number, cube(alloc, pairs)?))?;
-    }
-    Ok(rows)
 }
 
 // Stops the test where two listed events of the instance clash.
@@ -56,8 +47,7 @@ fn of_events(
 ) -> Result<Instance, Fail>
     ensures { IfOk result (λ i. IsKeyed i.stacks.origin) }
 {
-    let events = events(alloc, table)?;
-    let family = family(alloc, events)?;
+    let family = family(alloc, event_rows(alloc, table)?)?;
     let stacks = stacks(rt, count, height)?;
     Ok(Instance::new(stacks, family).expect(rt, "an instance"))
 }

@@ -1,4 +1,5 @@
 //! A log behind another.
+use crate::compare::same_at;
 use confluence_core::{Log, Record};
 use std::alloc::Global;
 use std::process::Abort;
@@ -25,9 +26,10 @@ fn log_of(rt: &impl Abort, alloc: Global, units: &[u32]) -> Result<Log, Fail> {
 
 // Compares the units of a log.
 fn has_units(rt: &impl Abort, log: &Log, units: &[u32]) {
-    assert_eq!(rt; log.len(), units.len() as u64);
+    assert!(rt; log.len() == units.len() as u64);
     for (i, unit) in units.iter().enumerate() {
-        assert_eq!(rt; log.at(i as u64).unit(), *unit, "record {i}");
+        let place = i as u64;
+        same_at(rt, log.at(place).unit(), *unit, "record", place);
     }
 }
 

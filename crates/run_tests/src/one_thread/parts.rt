@@ -70,7 +70,25 @@ fn leaves(rt: &impl Abort, run: &Run, pops: u64, stuck: u64) {
     same(rt, log.len(), pops, "records");
 }
 
-// Compares a run to a limit, of which the whole has 3 pops.
+// Compares what a run to a limit leaves, of which the whole has 3 pops.
+fn is_left(
+    rt: &impl Abort,
+    alloc: Global,
+    instance: &Instance,
+    run: &Run,
+    limit: u64,
+    pops: u64,
+) -> Result<(), Fail>
+    requires over { IsEndOver instance.now.stacks run.now.end }
+{
+    let goes_on = goes_on(alloc, instance, &run.end.cursors)?;
+    assert!(rt; goes_on == (pops < 3), "limit {limit}");
+    let stuck = stuck_at(alloc, instance, &run.end.cursors)?;
+    leaves(rt, run, pops, stuck);
+    Ok(())
+}
+
+// Compares a run to a limit.
 fn stops_at(
     rt: &impl Abort,
     alloc: Global,
@@ -79,11 +97,7 @@ fn stops_at(
     pops: u64,
 ) -> Result<(), Fail> {
     let run = run_to(alloc, instance, limit)?;
-    let goes_on = goes_on(alloc, instance, &run.end.cursors)?;
-    assert!(rt; goes_on == (pops < 3), "limit {limit}");
-    let stuck = stuck_at(alloc, instance, &run.end.cursors)?;
-    leaves(rt, &run, pops, stuck);
-    Ok(())
+    is_left(rt, alloc, instance, &run, limit, pops)
 }
 
 // Limits, and the pops of the runs to them.
@@ -131,13 +145,20 @@ fn an_end_has_the_values_at_its_cursors(rt: HostRuntime) -> Result<(), Fail> {
     Ok(())
 }
 
-// Compares the end of a run by an index that is made apart.
-fn ends_by_index(rt: &impl Abort, alloc: Global, instance: &Instance) -> Result<(), Fail> {
+// A run by an index that is made apart.
+fn run_by_index(alloc: Global, instance: &Instance) -> Result<Run, AllocError>
+    ensures over { IfOk result (λ run. IsEndOver instance.now.stacks run.end) }
+{
     let index = instance.index(alloc)?;
     let mut alone = Alone::with(alloc, instance, index)?;
     let opening = Reached::opening(alloc, instance, Keep::Nothing)?;
     let reached = alone.finish(alloc, instance, opening)?;
-    let run = alone.tell(alloc, instance, reached)?;
+    alone.tell(alloc, instance, reached)
+}
+
+// Compares its end.
+fn ends_by_index(rt: &impl Abort, alloc: Global, instance: &Instance) -> Result<(), Fail> {
+    let run = run_by_index(alloc, instance)?;
     is_end(rt, &run.end, instance.stacks().count(), &TWO_EVENTS.want);
     Ok(())
 }

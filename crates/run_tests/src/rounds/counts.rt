@@ -86,6 +86,28 @@ fn is_among(rt: &impl Abort, all: &[u32], sample: u32, want: u64) {
     same(rt, count, want, "rows of an assignment");
 }
 
+// The assignments at the ends of all rows, but for those where rounds are exhausted.
+fn samples_of<R: Threads + Abort + Sync>(
+    rt: &R,
+    alloc: Global,
+    clauses: &[EventRow],
+) -> Result<Vec<u32>, Fail> {
+    let mut all = Vec::new(alloc);
+    for rows in 0..512 {
+        if let Some(sample) = sample_of(rt, alloc, rows, clauses)? {
+            all.push(sample)?;
+        }
+    }
+    Ok(all)
+}
+
+// Compares how often each assignment is among these.
+fn are_among(rt: &impl Abort, all: &[u32], counts: &[u64; 8]) {
+    for sample in 0..8 {
+        is_among(rt, all, sample, counts[sample as usize]);
+    }
+}
+
 // Compares how many of all rows end with each assignment.
 fn are_counted<R: Threads + Abort + Sync>(
     rt: &R,
@@ -93,15 +115,8 @@ fn are_counted<R: Threads + Abort + Sync>(
     clauses: &[EventRow],
     counts: &[u64; 8],
 ) -> Result<(), Fail> {
-    let mut all = Vec::new(alloc);
-    for rows in 0..512 {
-        if let Some(sample) = sample_of(rt, alloc, rows, clauses)? {
-            all.push(sample)?;
-        }
-    }
-    for sample in 0..8 {
-        is_among(rt, &all, sample, counts[sample as usize]);
-    }
+    let all = samples_of(rt, alloc, clauses)?;
+    are_among(rt, &all, counts);
     Ok(())
 }
 

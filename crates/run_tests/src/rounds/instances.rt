@@ -3,24 +3,35 @@ ghost use Rattle.std.specs.Prelude.{◌≡◌, length, IfOk};
 ghost use Rattle.pop_model.specs.Stacks.{variables_of};
 ghost use Rattle.prs_rounds.specs.Units.{IsListed, IsIndexOf};
 
-use pop_instance::{Family, Index, Instance};
-use std::alloc::Global;
+use pop_instance::{Cube, Family, Index, Instance};
+use std::alloc::{AllocError, Global};
 use std::process::Abort;
 use std::test::Fail;
 use test_instances::{cube, family, over, stacks};
 
-/// The instance of so many variables: those of even number have the entries 0 and 1, those of odd
-/// number the entry 1; and for each variable the event that it has the value 0.
-pub fn many(rt: &impl Abort, alloc: Global, count: u32) -> Result<Instance, Fail> {
-    assert!(rt; count < 9999);
+// The entries of so many variables: 0 and 1 of those of even number, 1 of those of odd number.
+fn entries(alloc: Global, count: u32) -> Result<Vec<&'static [u32]>, AllocError> {
     let mut rows = Vec::new(alloc);
-    let mut events = Vec::new(alloc);
     for v in 0..count {
         let row: &[u32] = if v % 2 == 0 { &[0, 1] } else { &[1] };
         rows.push(row)?;
+    }
+    Ok(rows)
+}
+
+// For each of so many variables the event that it has the value 0.
+fn zeros(alloc: Global, count: u32) -> Result<Vec<(u32, Cube)>, Fail> {
+    let mut events = Vec::new(alloc);
+    for v in 0..count {
         events.push((v + 1, cube(alloc, &[(v, 0)])?))?;
     }
-    let family = family(alloc, events)?;
+    Ok(events)
+}
+
+/// The instance of these variables and events.
+pub fn many(alloc: Global, count: u32) -> Result<Instance, Fail> {
+    let family = family(alloc, zeros(alloc, count)?)?;
+    let rows = entries(alloc, count)?;
     over(stacks(alloc, &rows)?, family)
 }
 

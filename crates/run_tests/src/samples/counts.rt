@@ -1,5 +1,6 @@
 //! How many rows finish with each sample, and how much they weigh.
 use super::instances::*;
+use crate::compare::same_of;
 use std::process::Abort;
 use std::test::Fail;
 
@@ -23,39 +24,34 @@ fn total(rt: &impl Abort, all: &[Finish], sample: u32, place: u32) -> (u64, u64)
 // Compares how many rows finish with a sample at these cursors.
 fn finish_with(rt: &impl Abort, all: &[Finish], sample: u32, place: u32, want: u64) {
     let (count, _) = total(rt, all, sample, place);
-    same_of(rt, count, want, "rows of sample", sample);
+    same_of(rt, count, want, "rows of sample, at place", (sample, place));
 }
 
-// Compares numbers of two samples at these cursors.
-fn same_at(rt: &impl Abort, found: u64, want: u64, samples: (u32, u32), place: u32) {
-    let (w, x) = samples;
-    assert_eq!(rt; found, want, "{w} and {x} at {place}");
-}
-
-// Compares the counts and the weights of two samples, unless one of them is none.
-fn are_proportional(
-    rt: &impl Abort,
-    which: usize,
-    all: &[Finish],
-    place: u32,
-    samples: (u32, u32),
-) {
-    let (w, x) = samples;
+// Compares the counts and the weights of two samples, unless one of them is none: of pair 8x + w, w
+// and x.
+fn are_proportional(rt: &impl Abort, which: usize, all: &[Finish], place: u32, pair: u32) {
+    let (w, x) = (pair % 8, pair / 8);
     if !is_sample(rt, which, w) || !is_sample(rt, which, x) {
         return;
     }
     let (count, weight) = total(rt, all, w, place);
     let (other_count, other_weight) = total(rt, all, x, place);
-    same_at(rt, count, other_count, samples, place);
+    same_of(
+        rt,
+        count,
+        other_count,
+        "counts of pair, at place",
+        (pair, place),
+    );
     let one = times(rt, weight, sample_weight(rt, x));
     let other = times(rt, other_weight, sample_weight(rt, w));
-    same_at(rt, one, other, samples, place);
+    same_of(rt, one, other, "weights of pair, at place", (pair, place));
 }
 
 // Compares any two samples at these cursors.
 fn all_proportional(rt: &impl Abort, which: usize, all: &[Finish], place: u32) {
     for pair in 0..64 {
-        are_proportional(rt, which, all, place, (pair % 8, pair / 8));
+        are_proportional(rt, which, all, place, pair);
     }
 }
 

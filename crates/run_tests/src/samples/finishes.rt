@@ -1,5 +1,6 @@
 //! Where logs finish, and what the entries there have to do with it.
 use super::instances::*;
+use crate::compare::same_of;
 use std::process::Abort;
 use std::test::Fail;
 
@@ -74,12 +75,14 @@ fn finish_at_end(rt: &impl Abort, which: usize, all: &[Finish], rows: u32) {
     let end = finish_of(rt, all, rows);
     let places = finished_places(rt, which, rows);
     assert!(rt; end.place < 28);
-    let place = if end.place == STUCK {
+    assert!(rt; which < 4);
+    let place: u32 = if end.place == STUCK {
         0
     } else {
         1 << end.place
     };
-    assert_eq!(rt; places, place, "rows {rows} of instance {which}");
+    let of = (rows, which as u32);
+    same_of(rt, places as u64, place as u64, "rows, of instance", of);
 }
 
 // Compares them for all rows.
@@ -110,19 +113,32 @@ fn logs_finish_at_several_cursors_where_clauses_clash(rt: HostRuntime) {
     assert!(&rt; several > 0);
 }
 
-// Compares numbers of rows with this sample in place of the entries at their end.
-fn same_with(rt: &impl Abort, found: u64, want: u64, rows: u32, sample: u32) {
-    assert_eq!(rt; found, want, "rows {rows} with {sample}");
-}
-
 // Compares the ends of rows and of others with this sample in place of the entries there.
 fn is_exchanged(rt: &impl Abort, end: &Finish, other: &Finish, rows: u32, sample: u32) {
-    same_with(rt, other.place as u64, end.place as u64, rows, sample);
-    same_with(rt, other.pops, end.pops, rows, sample);
-    same_with(rt, other.sample as u64, sample as u64, rows, sample);
+    same_of(
+        rt,
+        other.place as u64,
+        end.place as u64,
+        "rows, with sample",
+        (rows, sample),
+    );
+    same_of(
+        rt,
+        other.pops,
+        end.pops,
+        "rows, with sample",
+        (rows, sample),
+    );
+    same_of(
+        rt,
+        other.sample as u64,
+        sample as u64,
+        "rows, with sample",
+        (rows, sample),
+    );
     let one = times(rt, other.weight, sample_weight(rt, end.sample));
     let two = times(rt, end.weight, sample_weight(rt, sample));
-    same_with(rt, one, two, rows, sample);
+    same_of(rt, one, two, "rows, with sample", (rows, sample));
 }
 
 // Tries a sample in place of the entries at the end of these rows.
@@ -136,7 +152,13 @@ fn try_sample(rt: &impl Abort, which: usize, all: &[Finish], rows: u32, sample: 
     }
     is_exchanged(rt, &end, &other, rows, sample);
     let back = exchange(others, end.place, end.sample);
-    same_with(rt, back as u64, rows as u64, rows, sample);
+    same_of(
+        rt,
+        back as u64,
+        rows as u64,
+        "rows, with sample",
+        (rows, sample),
+    );
 }
 
 // Tries each sample in place of the entries at the end of these rows, unless an event is stuck.
@@ -168,11 +190,6 @@ fn every_sample_may_be_exchanged_for_the_one_at_an_end_and_nothing_else(
     Ok(())
 }
 
-// Compares numbers of two rows.
-fn same_for(rt: &impl Abort, found: u64, want: u64, rows: u32, others: u32) {
-    assert_eq!(rt; found, want, "rows {rows} and {others}");
-}
-
 // Compares the ends of two rows that agree below the end of the first, and have a sample there.
 fn compare(rt: &impl Abort, which: usize, all: &[Finish], rows: u32, others: u32) {
     let end = finish_of(rt, all, rows);
@@ -181,8 +198,14 @@ fn compare(rt: &impl Abort, which: usize, all: &[Finish], rows: u32, others: u32
     }
     if is_sample(rt, which, sample_at(others, end.place)) {
         let other = finish_of(rt, all, others);
-        same_for(rt, other.place as u64, end.place as u64, rows, others);
-        same_for(rt, other.pops, end.pops, rows, others);
+        same_of(
+            rt,
+            other.place as u64,
+            end.place as u64,
+            "rows, and others",
+            (rows, others),
+        );
+        same_of(rt, other.pops, end.pops, "rows, and others", (rows, others));
     }
 }
 

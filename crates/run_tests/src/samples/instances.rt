@@ -90,11 +90,6 @@ pub fn is_sample(rt: &impl Abort, which: usize, sample: u32) -> bool {
     true
 }
 
-/// Compares numbers of a sample.
-pub fn same_of(rt: &impl Abort, found: u64, want: u64, what: &str, sample: u32) {
-    assert_eq!(rt; found, want, "{what} {sample}");
-}
-
 pub fn plus(rt: &impl Abort, a: u64, b: u64) -> u64 {
     a.checked_add(b).expect(rt, "a sum of 64 bits")
 }
