@@ -9,7 +9,7 @@ use crate::passes::{marks_in, started};
 use claim_words::{Board, Claim, Closed, Pass};
 use confluence_core::{Keep, Tickets};
 use pop_instance::Instance;
-use std::alloc::{AllocError, Global};
+use std::alloc::Global;
 use std::process::Abort;
 use std::test::Fail;
 use test_instances::{EventRow, listed};
@@ -35,20 +35,16 @@ fn are_two(rt: &impl Abort, instance: &Instance)
 }
 
 // What a pass finds where it claims variable 0.
-fn claim_first(board: &Board, pass: &mut Pass) -> Result<Claim, AllocError>
+fn claim_first(rt: &impl Abort, board: &Board, pass: &mut Pass) -> Claim
     requires pass { IsOf board.now pass.old }
     requires known { 0 < count_of board.now }
 {
-    board.reserve(pass, 1)?;
-    Ok(board.try_claim(pass, 0))
+    board.reserve(pass, 1).expect(rt, "memory");
+    board.try_claim(pass, 0)
 }
 
 // What a pass with all shares and one that is split off it find, where they claim variable 0.
-fn claims_of_two(
-    rt: &impl Abort,
-    board: &Board,
-    pass: &mut Pass,
-) -> Result<(Claim, Claim), AllocError>
+fn claims_of_two(rt: &impl Abort, board: &Board, pass: &mut Pass) -> (Claim, Claim)
     requires pass { IsOf board.now pass.old }
     requires share { (view pass.old).share ≡ 64 }
     requires known { 0 < count_of board.now }
@@ -56,31 +52,26 @@ fn claims_of_two(
     let mut other = board.split(pass, 1);
     same(rt, pass.share() as u64, 63, "shares");
     same(rt, other.share() as u64, 1, "shares of the other");
-    let first = claim_first(board, pass)?;
-    let second = claim_first(board, &mut other)?;
-    Ok((first, second))
-}
-
-// Compares what a claim found.
-fn same_claim(rt: &impl Abort, found: Claim, want: Claim) {
-    assert_eq!(rt; found, want);
+    let first = claim_first(rt, board, pass);
+    let second = claim_first(rt, board, &mut other);
+    (first, second)
 }
 
 // Worked by hand: bit 63 is 9223372036854775808.
-fn second_is_busy(rt: &impl Abort, alloc: Global, instance: &Instance) -> Result<(), Fail> {
+fn second_is_busy(rt: &impl Abort, alloc: Global, instance: &Instance) {
     are_two(rt, instance);
-    let (board, mut pass) = started(alloc, instance, Keep::Log)?;
-    let (first, second) = claims_of_two(rt, &board, &mut pass)?;
-    same_claim(rt, first, Claim::Mine(0));
-    same_claim(rt, second, Claim::Busy(9223372036854775808));
-    Ok(())
+    let (board, mut pass) = started(rt, alloc, instance, Keep::Log);
+    let (first, second) = claims_of_two(rt, &board, &mut pass);
+    assert!(rt; first == Claim::Mine(0));
+    assert!(rt; second == Claim::Busy(9223372036854775808));
 }
 
 #[test]
 fn a_claimed_variable_is_busy_for_another_pass(rt: HostRuntime) -> Result<(), Fail> {
     let alloc = rt.alloc();
     let instance = listed(alloc, &ROWS, &EVENTS)?;
-    second_is_busy(&rt, alloc, &instance)
+    second_is_busy(&rt, alloc, &instance);
+    Ok(())
 }
 
 // Whether the mark of unit 1 was there, where a pass takes it.
@@ -114,19 +105,19 @@ fn are_two_events(rt: &impl Abort, instance: &Instance)
 }
 
 // Takes and sets a mark on a board from zeros.
-fn mark_is_taken(rt: &impl Abort, alloc: Global, instance: &Instance) -> Result<(), Fail> {
+fn mark_is_taken(rt: &impl Abort, alloc: Global, instance: &Instance) {
     are_two(rt, instance);
     are_two_events(rt, instance);
-    let (board, mut pass) = started(alloc, instance, Keep::Nothing)?;
+    let (board, mut pass) = started(rt, alloc, instance, Keep::Nothing);
     takes_in_turn(rt, &board, &mut pass);
-    Ok(())
 }
 
 #[test]
 fn a_mark_that_was_taken_is_gone_until_it_is_set(rt: HostRuntime) -> Result<(), Fail> {
     let alloc = rt.alloc();
     let instance = listed(alloc, &ROWS, &EVENTS)?;
-    mark_is_taken(&rt, alloc, &instance)
+    mark_is_taken(&rt, alloc, &instance);
+    Ok(())
 }
 
 // Compares what the board of two events leaves after one pop of the first.
@@ -152,20 +143,20 @@ fn is_first_ticket(rt: &impl Abort, log: &Tickets) {
 
 // Worked by hand: the first event is popped under ticket 0, and then neither is poppable, but both
 // share a variable with it and so are marked.
-fn leaves_one_ticket(rt: &impl Abort, alloc: Global, instance: &Instance) -> Result<(), Fail> {
+fn leaves_one_ticket(rt: &impl Abort, alloc: Global, instance: &Instance) {
     are_two(rt, instance);
-    let closed = close_after_turns(rt, alloc, instance)?;
+    let closed = close_after_turns(rt, alloc, instance);
     is_after_one_pop(rt, &closed);
     let Some(log) = &closed.log else {
         panic!(rt; "no log");
     };
     is_first_ticket(rt, log);
-    Ok(())
 }
 
 #[test]
 fn one_pop_leaves_its_ticket_and_the_marks_it_owed(rt: HostRuntime) -> Result<(), Fail> {
     let alloc = rt.alloc();
     let instance = listed(alloc, &ROWS, &EVENTS)?;
-    leaves_one_ticket(&rt, alloc, &instance)
+    leaves_one_ticket(&rt, alloc, &instance);
+    Ok(())
 }

@@ -9,12 +9,17 @@ use std::process::Abort;
 pub(crate) fn same(rt: &impl Abort, found: u64, want: u64, what: &str)
     ensures { found ≡ want }
 {
-    assert_eq!(rt; found, want, "{what}");
+    assert!(rt; found == want, "{what}");
+}
+
+/// Stops the test where this isn't so at a place.
+pub(crate) fn is_so(rt: &impl Abort, holds: bool, what: &str, place: u32) {
+    assert!(rt; holds, "{what} {place}");
 }
 
 /// Compares two numbers at a place.
 pub(crate) fn same_at(rt: &impl Abort, found: u32, want: u32, what: &str, place: u64) {
-    assert_eq!(rt; found, want, "{what} {place}");
+    assert!(rt; found == want, "{what} {place}");
 }
 
 /// Compares the cursors of so many variables.

@@ -1,11 +1,10 @@
 //! Pseudo-random numbers, and random arrows towards a root.
-ghost use Rattle.std.specs.Prelude.{◌<◌, ◌≤◌, ◌^◌, length, All, IfOk};
+ghost use Rattle.std.specs.Prelude.{◌<◌, ◌≤◌, ◌^◌, length, All};
 ghost use Rattle.pop_instance.specs.Arrows.{heads_of};
 
 use pop_instance::{Arrows, Family};
-use std::alloc::{AllocError, Global};
+use std::alloc::Global;
 use std::process::Abort;
-use std::test::Fail;
 
 /// The next pseudo-random number below a bound: the high bits of a linear congruential step with
 /// Knuth's numbers for MMIX.
@@ -21,31 +20,26 @@ pub(crate) fn below(state: &mut u64, bound: u32) -> u32
 
 // The heads of so many variables. Each has an arrow to a variable before it or to the root, and one
 // to itself or a variable behind it.
-fn heads(alloc: Global, state: &mut u64, count: u32) -> Result<Vec<Vec<Option<u32>>>, AllocError>
+fn heads(rt: &impl Abort, alloc: Global, state: &mut u64, count: u32) -> Vec<Vec<Option<u32>>>
     requires some { 0 < count }
     requires few { count < 1000 }
-    ensures short { IfOk result (λ heads. length heads.items ≤ count) }
-    ensures short_rows { IfOk result (λ heads.
-        All (λ row. length row < 2 ^ 31) (heads_of heads.items)) }
+    ensures short { length result.items ≤ count }
+    ensures short_rows { All (λ row. length row < 2 ^ 31) (heads_of result.items) }
 {
     let mut heads = Vec::new(alloc);
     for v in 0..count {
         let before = below(state, v + 1).checked_sub(1);
         let behind = v + below(state, count - v);
-        heads.push(vec![in alloc; before, Some(behind)]?)?;
+        let row = vec![in alloc; before, Some(behind)].expect(rt, "memory");
+        heads.push(row).expect(rt, "memory");
     }
-    Ok(heads)
+    heads
 }
 
 /// The cycles of such arrows.
-pub(crate) fn arrows(
-    rt: &impl Abort,
-    alloc: Global,
-    state: &mut u64,
-    count: u32,
-) -> Result<Family, Fail> {
+pub(crate) fn arrows(rt: &impl Abort, alloc: Global, state: &mut u64, count: u32) -> Family {
     assert!(rt; 0 < count);
     assert!(rt; count < 1000);
-    let heads = heads(alloc, state, count)?;
-    Ok(Family::Cycles(Arrows::new(heads).expect(rt, "arrows")))
+    let heads = heads(rt, alloc, state, count);
+    Family::Cycles(Arrows::new(heads).expect(rt, "arrows"))
 }

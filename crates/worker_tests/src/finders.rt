@@ -1,6 +1,7 @@
 //! Tries at units and walks, by one pass or two, worked by hand.
 ghost use Rattle.std.specs.Prelude.{◌≡◌, length};
 
+use crate::comparing::same_at;
 use claim_words::Closed;
 use pop_instance::Cursors;
 use std::process::Abort;
@@ -20,7 +21,7 @@ fn are_cursors(rt: &impl Abort, cursors: &Cursors, count: u32, want: &[u32])
 {
     assert!(rt; want.len() == count as usize);
     for v in 0..count {
-        assert_eq!(rt; cursors.get(v), want[v as usize], "variable {v}");
+        same_at(rt, cursors.get(v), want[v as usize], "variable", v as u64);
     }
 }
 
@@ -29,6 +30,6 @@ fn is_left(rt: &impl Abort, closed: &Closed, count: u32, want: &Want)
     requires { count ≡ length closed.now.cursors }
 {
     are_cursors(rt, &closed.cursors, count, want.cursors);
-    assert_eq!(rt; closed.pops, want.pops);
-    assert_eq!(rt; closed.suspects.len(), 0);
+    assert!(rt; closed.pops == want.pops);
+    assert!(rt; closed.suspects.len() == 0);
 }

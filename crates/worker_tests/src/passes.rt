@@ -1,5 +1,5 @@
 //! What tests do with boards and their passes: they begin and end boards, set marks, and let go.
-ghost use Rattle.std.specs.Prelude.{◌≡◌, ◌<◌, [], length, IfOk, IfSome};
+ghost use Rattle.std.specs.Prelude.{◌≡◌, ◌<◌, [], length, IfSome};
 ghost use Rattle.std.specs.List.{range_with_len};
 ghost use Rattle.pop_model.specs.Popping.{variables};
 ghost use Rattle.pop_model.specs.Tickets.{AreNumbered};
@@ -11,7 +11,7 @@ ghost use Rattle.claim_words.specs.Steps.{fresh};
 use claim_words::{Board, Closed, Pass};
 use confluence_core::Keep;
 use pop_instance::{Cursors, Family, Instance};
-use std::alloc::{AllocError, Global};
+use std::alloc::Global;
 use std::process::Abort;
 
 /// How many units have a mark: those of a listed family, and none of cycles.
@@ -26,17 +26,18 @@ pub(crate) fn marks_in(instance: &Instance) -> u32
 
 /// A board from zeros, and its first pass.
 pub(crate) fn started<'i>(
+    rt: &impl Abort,
     alloc: Global,
     instance: &'i Instance,
     keep: Keep,
-) -> Result<(Board<'i>, Pass), AllocError>
-    ensures instance { IfOk result (λ r. instance_of r.0 ≡ instance.now) }
-    ensures pass { IfOk result (λ r. IsOf r.0 r.1) }
-    ensures fresh { IfOk result (λ r. view r.1 ≡ fresh (opening_of r.0)) }
+) -> (Board<'i>, Pass)
+    ensures instance { instance_of result.0 ≡ instance.now }
+    ensures pass { IsOf result.0 result.1 }
+    ensures fresh { view result.1 ≡ fresh (opening_of result.0) }
 {
     let _units = instance.units();
-    let from = Cursors::zeros(alloc, instance.stacks().count())?;
-    Board::start(alloc, instance, &from, keep)
+    let from = Cursors::zeros(alloc, instance.stacks().count()).expect(rt, "memory");
+    Board::start(alloc, instance, &from, keep).expect(rt, "memory")
 }
 
 /// Sets so many marks, which are all of the board.

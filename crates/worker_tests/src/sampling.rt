@@ -1,5 +1,5 @@
 //! Runs by workers, which end as the run on one thread does.
-ghost use Rattle.std.specs.Prelude.{◌≡◌, ◌<◌, ◌≤◌, ℕ, length, IfOk};
+ghost use Rattle.std.specs.Prelude.{◌≡◌, ◌<◌, ◌≤◌, ℕ, length};
 ghost use Rattle.pop_model.specs.Stacks.{variables_of, height_of, IsKeyed};
 
 use crate::comparing::{cursors_alike, same};
@@ -7,10 +7,9 @@ use confluence_core::{End, Keep, run_first};
 use pop_instance::{Family, Instance};
 use pop_stacks::{StackSpec, Stacks, Weights};
 use pop_workers::{Gate, NoGate, Outcome, sample_claimed, sample_locked, zeros_of};
-use std::alloc::{AllocError, Global};
+use std::alloc::Global;
 use std::process::Abort;
 use std::sync::Wait;
-use std::test::Fail;
 use std::thread::Threads;
 
 mod chains;
@@ -20,41 +19,37 @@ mod trees;
 
 // Events over so many variables of two values, with stacks of this height under a key of 32 such
 // bytes.
-fn under_key(
-    rt: &impl Abort,
-    count: u32,
-    key: u8,
-    height: u32,
-    family: Family,
-) -> Result<Instance, Fail>
-    ensures keyed { IfOk result (λ i. IsKeyed i.stacks.origin) }
-    ensures height { IfOk result (λ i. (v : ℕ) → height_of i.stacks v ≡ height) }
+fn under_key(rt: &impl Abort, count: u32, key: u8, height: u32, family: Family) -> Instance
+    ensures keyed { IsKeyed result.stacks.origin }
+    ensures height { (v : ℕ) → height_of result.stacks v ≡ height }
 {
     assert!(rt; count < 3000);
     assert!(rt; 0 < height);
     assert!(rt; height < 1000);
     let weights = Weights::pairs(count);
-    let stacks = Stacks::new(StackSpec::Key([key; 32]), weights, height)?;
-    Ok(Instance::new(stacks, family).expect(rt, "an instance"))
+    let stacks = Stacks::new(StackSpec::Key([key; 32]), weights, height).expect(rt, "stacks");
+    Instance::new(stacks, family).expect(rt, "an instance")
 }
 
 // The run of so many workers, on claim words or else under a lock.
-fn sample<R: Threads + Wait + Sync, G: Gate + Sync>(
+fn sample<R: Threads + Wait + Abort + Sync, G: Gate + Sync>(
     rt: &R,
     alloc: Global,
     instance: &Instance,
     claimed: bool,
     workers: u32,
     gate: &G,
-) -> Result<Outcome, AllocError>
+) -> Outcome
     requires { (0 < workers) × (workers ≤ 64) }
-    ensures { IfOk result (λ run. variables_of instance.now.stacks ≡ length run.end.cursors) }
+    ensures { variables_of instance.now.stacks ≡ length result.end.cursors }
 {
-    let from = zeros_of(alloc, instance)?;
+    let from = zeros_of(alloc, instance).expect(rt, "memory");
     if claimed {
-        return sample_claimed(rt, alloc, instance, &from, workers, Keep::Log, gate);
+        let run = sample_claimed(rt, alloc, instance, &from, workers, Keep::Log, gate);
+        return run.expect(rt, "memory");
     }
-    sample_locked(rt, alloc, instance, &from, workers, Keep::Log, gate)
+    let run = sample_locked(rt, alloc, instance, &from, workers, Keep::Log, gate);
+    run.expect(rt, "memory")
 }
 
 // Compares how long the log of a run is with its pops.
@@ -84,13 +79,12 @@ fn run_alike<R: Threads + Wait + Abort + Sync>(
     claimed: bool,
     workers: u32,
     first: &End,
-) -> Result<(), Fail>
+)
     requires workers { (0 < workers) × (workers ≤ 64) }
     requires first { variables_of instance.now.stacks ≡ length first.now.cursors }
 {
-    let outcome = sample(rt, alloc, instance, claimed, workers, &NoGate)?;
+    let outcome = sample(rt, alloc, instance, claimed, workers, &NoGate);
     is_alike(rt, &outcome, first, instance.stacks().count());
-    Ok(())
 }
 
 // Compares the ends of so many workers on both boards.
@@ -100,13 +94,13 @@ fn runs_alike<R: Threads + Wait + Abort + Sync>(
     instance: &Instance,
     workers: u32,
     first: &End,
-) -> Result<(), Fail>
+)
     requires first { variables_of instance.now.stacks ≡ length first.now.cursors }
 {
     assert!(rt; 0 < workers);
     assert!(rt; workers <= 64);
-    run_alike(rt, alloc, instance, false, workers, first)?;
-    run_alike(rt, alloc, instance, true, workers, first)
+    run_alike(rt, alloc, instance, false, workers, first);
+    run_alike(rt, alloc, instance, true, workers, first);
 }
 
 static WORKERS: [u32; 4] = [1, 2, 8, 64];
@@ -117,13 +111,12 @@ fn all_alike<R: Threads + Wait + Abort + Sync>(
     alloc: Global,
     instance: &Instance,
     first: &End,
-) -> Result<(), Fail>
+)
     requires first { variables_of instance.now.stacks ≡ length first.now.cursors }
 {
     for workers in WORKERS.iter() {
-        runs_alike(rt, alloc, instance, *workers, first)?;
+        runs_alike(rt, alloc, instance, *workers, first);
     }
-    Ok(())
 }
 
 // Runs the instance on one thread and by several numbers of workers on both boards, and compares
@@ -132,10 +125,10 @@ fn ends_alike<R: Threads + Wait + Abort + Sync>(
     rt: &R,
     alloc: Global,
     instance: &Instance,
-) -> Result<(u64, u64), Fail> {
-    let first = run_first(alloc, instance)?;
-    all_alike(rt, alloc, instance, &first)?;
-    Ok((first.pops, first.stuck.len()))
+) -> (u64, u64) {
+    let first = run_first(alloc, instance).expect(rt, "memory");
+    all_alike(rt, alloc, instance, &first);
+    (first.pops, first.stuck.len())
 }
 
 // The greater of both numbers of two pairs.

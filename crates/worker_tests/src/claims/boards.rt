@@ -1,5 +1,5 @@
 //! Boards that threads work on together, to the end of the one-thread run.
-ghost use Rattle.std.specs.Prelude.{◌≡◌, ◌+◌, ◌<◌, length, All, IfOk, IfSome, OnOk};
+ghost use Rattle.std.specs.Prelude.{◌≡◌, ◌+◌, ◌<◌, length, All, IfSome};
 ghost use Rattle.pop_model.specs.Stacks.{variables_of};
 ghost use Rattle.claim_words.specs.Passes.{IsOf, IsIdle, IsHelper, IsSole, view, instance_of};
 
@@ -10,7 +10,7 @@ use crate::passes::{close, started};
 use claim_words::{Board, Closed, Pass};
 use confluence_core::{End, Keep, run_first};
 use pop_instance::Instance;
-use std::alloc::{AllocError, Global};
+use std::alloc::Global;
 use std::process::Abort;
 use std::test::Fail;
 use std::thread;
@@ -26,23 +26,23 @@ const TURNS: u32 = 10000;
 
 // So many passes of share 1.
 fn hand_out(
+    rt: &impl Abort,
     alloc: Global,
     board: &Board,
     pass: &mut Pass,
     others: u32,
-) -> Result<Vec<Pass>, AllocError>
+) -> Vec<Pass>
     requires pass { IsOf board.now pass.old × IsIdle pass.old }
     requires share { others < (view pass.old).share }
     ensures pass { IsOf board.now pass.new × IsIdle pass.new }
-    ensures passes { IfOk result (λ r. All (IsHelper board.now) r.items) }
-    ensures share { IfOk result
-        (λ r. (view pass.new).share + length r.items ≡ (view pass.old).share) }
+    ensures passes { All (IsHelper board.now) result.items }
+    ensures share { (view pass.new).share + length result.items ≡ (view pass.old).share }
 {
-    let mut passes = Vec::with_capacity(alloc, others as usize)?;
+    let mut passes = Vec::with_capacity(alloc, others as usize).expect(rt, "memory");
     for _ in 0..others {
         passes.push_reserved(board.split(pass, 1));
     }
-    Ok(passes)
+    passes
 }
 
 // The work of one thread: its pass again, or none where memory was wanting.
@@ -78,54 +78,42 @@ fn work_together<R: Threads + Abort + Sync>(
     board: &Board,
     pass: &mut Pass,
     instance: &Instance,
-) -> Result<(), Fail>
+)
     requires pass { IsOf board.now pass.old × IsIdle pass.old }
     requires share { (view pass.old).share ≡ 64 }
     requires instance { instance_of board.now ≡ instance.now }
     ensures { IsOf board.now pass.new × IsIdle pass.new }
 {
-    let passes = hand_out(alloc, board, pass, THREADS)?;
+    let passes = hand_out(rt, alloc, board, pass, THREADS);
     let back = thread::map_vec(
         rt,
         passes,
         &|pass: Pass| worked(alloc, board, pass, instance),
-    )?;
-    take_back(rt, board, pass, back);
-    Ok(())
+    );
+    take_back(rt, board, pass, back.expect(rt, "threads"));
 }
 
 // Works alone to the end of a board, where the pass has all shares again.
-fn work_to_end(
-    rt: &impl Abort,
-    alloc: Global,
-    board: &Board,
-    pass: &mut Pass,
-    instance: &Instance,
-) -> Result<(), Fail>
+fn work_to_end(rt: &impl Abort, alloc: Global, board: &Board, pass: &mut Pass, instance: &Instance)
     requires pass { IsOf board.now pass.old × IsIdle pass.old }
     requires instance { instance_of board.now ≡ instance.now }
     ensures pass { IsOf board.now pass.new }
-    ensures idle { OnOk result (IsIdle pass.new) }
-    ensures sole { OnOk result (IsSole pass.new) }
+    ensures idle { IsIdle pass.new }
+    ensures sole { IsSole pass.new }
 {
-    let at_end = work(alloc, board, pass, instance, TURNS)?;
+    let at_end = work(alloc, board, pass, instance, TURNS).expect(rt, "memory");
     assert!(rt; at_end);
     same(rt, pass.share() as u64, 64, "shares");
-    Ok(())
 }
 
 // Lets the threads work on a board, and then ends it alone.
-fn close_together<R: Threads + Abort + Sync>(
-    rt: &R,
-    alloc: Global,
-    instance: &Instance,
-) -> Result<Closed, Fail>
-    ensures { IfOk result (λ closed. length closed.cursors ≡ variables_of instance.now.stacks) }
+fn close_together<R: Threads + Abort + Sync>(rt: &R, alloc: Global, instance: &Instance) -> Closed
+    ensures { length result.cursors ≡ variables_of instance.now.stacks }
 {
-    let (board, mut pass) = started(alloc, instance, Keep::Log)?;
-    work_together(rt, alloc, &board, &mut pass, instance)?;
-    work_to_end(rt, alloc, &board, &mut pass, instance)?;
-    Ok(close(rt, board, pass))
+    let (board, mut pass) = started(rt, alloc, instance, Keep::Log);
+    work_together(rt, alloc, &board, &mut pass, instance);
+    work_to_end(rt, alloc, &board, &mut pass, instance);
+    close(rt, board, pass)
 }
 
 // Compares what a board left with an end: its pops, which its log has too.
@@ -138,29 +126,19 @@ fn pops_alike(rt: &impl Abort, closed: &Closed, pops: u64) {
 }
 
 // Compares what a board leaves with the end of the one-thread run.
-fn ends_as<R: Threads + Abort + Sync>(
-    rt: &R,
-    alloc: Global,
-    instance: &Instance,
-    end: &End,
-) -> Result<(), Fail>
+fn ends_as<R: Threads + Abort + Sync>(rt: &R, alloc: Global, instance: &Instance, end: &End)
     requires { variables_of instance.now.stacks ≡ length end.now.cursors }
 {
-    let closed = close_together(rt, alloc, instance)?;
+    let closed = close_together(rt, alloc, instance);
     pops_alike(rt, &closed, end.pops);
     cursors_alike(rt, &closed.cursors, &end.cursors, instance.stacks().count());
-    Ok(())
 }
 
 // Compares what a board left with the one-thread run: the pops that the threads made.
-fn ends_alike<R: Threads + Abort + Sync>(
-    rt: &R,
-    alloc: Global,
-    instance: &Instance,
-) -> Result<u64, Fail> {
-    let end: End = run_first(alloc, instance)?;
-    ends_as(rt, alloc, instance, &end)?;
-    Ok(end.pops)
+fn ends_alike<R: Threads + Abort + Sync>(rt: &R, alloc: Global, instance: &Instance) -> u64 {
+    let end = run_first(alloc, instance).expect(rt, "memory");
+    ends_as(rt, alloc, instance, &end);
+    end.pops
 }
 
 // The next random instance: a chain for each even board, else a tree.
@@ -184,7 +162,7 @@ fn board_ends_alike<R: Threads + Abort + Sync>(
     state: &mut u64,
 ) -> Result<u64, Fail> {
     let instance = instance_for(rt, alloc, board, state)?;
-    ends_alike(rt, alloc, &instance)
+    Ok(ends_alike(rt, alloc, &instance))
 }
 
 #[test]

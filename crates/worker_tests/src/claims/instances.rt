@@ -57,6 +57,6 @@ pub(super) fn chain(rt: &impl Abort, alloc: Global, state: &mut u64) -> Result<I
 // Random arrows of up to 6 variables.
 pub(super) fn tree(rt: &impl Abort, alloc: Global, state: &mut u64) -> Result<Instance, Fail> {
     let count = 1 + below(state, 6);
-    let arrows = arrows(rt, alloc, state, count)?;
+    let arrows = arrows(rt, alloc, state, count);
     over_drawn(state, count, arrows)
 }

@@ -219,7 +219,7 @@ fn close_after_pop(rt: &impl Abort, alloc: Global, instance: &Instance) -> Resul
     ensures count { IfOk result (λ closed. length closed.cursors ≡ 2) }
     ensures numbered { IfOk result (λ closed. IfSome closed.log AreNumbered) }
 {
-    let (board, mut pass) = started(alloc, instance, Keep::Log)?;
+    let (board, mut pass) = started(rt, alloc, instance, Keep::Log);
     pop_on(rt, alloc, &board, &mut pass, instance)?;
     Ok(close(rt, board, pass))
 }

@@ -14,7 +14,6 @@ use pop_instance::{Cursors, Instance};
 use pop_stacks::Reader;
 use std::alloc::{AllocError, Global};
 use std::process::Abort;
-use std::test::Fail;
 
 // Claims a variable: its cursor; none where it is refused.
 fn claim_next(board: &Board, pass: &mut Pass, v: u32) -> Option<u32>
@@ -143,54 +142,42 @@ fn other_finds_none(
     pass: &mut Pass,
     other: Pass,
     instance: &Instance,
-) -> Result<(), Fail>
+)
     requires pass { IsOf board.now pass.old × IsIdle pass.old }
     requires other { IsOf board.now other × IsIdle other }
     requires instance { instance_of board.now ≡ instance.now }
     ensures pass { IsOf board.now pass.new × IsIdle pass.new }
 {
     let mut other = other;
-    let at_end = work(alloc, board, &mut other, instance, 1)?;
+    let at_end = work(alloc, board, &mut other, instance, 1).expect(rt, "memory");
     assert!(rt; at_end);
     if board.rejoin(pass, other).is_err() {
         panic!(rt; "out of memory");
     }
-    Ok(())
 }
 
 // One turn of each of two passes: the first pops, and the second claims all variables, of which the
 // first has let go, and finds nothing to pop.
-fn take_turns(
-    rt: &impl Abort,
-    alloc: Global,
-    board: &Board,
-    pass: &mut Pass,
-    instance: &Instance,
-) -> Result<(), Fail>
+fn take_turns(rt: &impl Abort, alloc: Global, board: &Board, pass: &mut Pass, instance: &Instance)
     requires pass { IsOf board.now pass.old × IsIdle pass.old }
     requires share { (view pass.old).share ≡ 64 }
     requires instance { instance_of board.now ≡ instance.now }
     ensures pass { IsOf board.now pass.new }
-    ensures idle { OnOk result (IsIdle pass.new) }
-    ensures sole { OnOk result (IsSole pass.new) }
+    ensures idle { IsIdle pass.new }
+    ensures sole { IsSole pass.new }
 {
     let other = board.split(pass, 1);
-    let at_end = work(alloc, board, pass, instance, 1)?;
+    let at_end = work(alloc, board, pass, instance, 1).expect(rt, "memory");
     assert!(rt; !at_end);
-    other_finds_none(rt, alloc, board, pass, other, instance)?;
+    other_finds_none(rt, alloc, board, pass, other, instance);
     same(rt, pass.share() as u64, 64, "shares");
-    Ok(())
 }
 
 // What a board leaves after such turns.
-pub(super) fn close_after_turns(
-    rt: &impl Abort,
-    alloc: Global,
-    instance: &Instance,
-) -> Result<Closed, Fail>
-    ensures { IfOk result (λ closed. length closed.cursors ≡ variables_of instance.now.stacks) }
+pub(super) fn close_after_turns(rt: &impl Abort, alloc: Global, instance: &Instance) -> Closed
+    ensures { length result.cursors ≡ variables_of instance.now.stacks }
 {
-    let (board, mut pass) = started(alloc, instance, Keep::Log)?;
-    take_turns(rt, alloc, &board, &mut pass, instance)?;
-    Ok(close(rt, board, pass))
+    let (board, mut pass) = started(rt, alloc, instance, Keep::Log);
+    take_turns(rt, alloc, &board, &mut pass, instance);
+    close(rt, board, pass)
 }

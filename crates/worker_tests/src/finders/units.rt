@@ -1,10 +1,11 @@
 //! Tries at units of boards of one variable or two.
-ghost use Rattle.std.specs.Prelude.{◌≡◌, ◌≤◌, length, IfOk};
+ghost use Rattle.std.specs.Prelude.{◌≡◌, ◌≤◌, length};
 ghost use Rattle.pop_model.specs.Stacks.{variables_of};
 ghost use Rattle.claim_words.specs.Passes.{IsOf, IsIdle, view, spare, instance_of};
 ghost use Rattle.event_finders.specs.UnitConditions.{Indexes};
 
 use super::{Want, is_left};
+use crate::comparing::is_so;
 use crate::passes::{close, started};
 use claim_words::{Board, Claim, Closed, Pass};
 use confluence_core::Keep;
@@ -27,14 +28,14 @@ const ONE_ROW: [&[u32]; 1] = [&[0, 0]];
 const ONE_EVENT: [EventRow; 1] = [(1, &[(0, 0)])];
 
 // The index of the events of an instance.
-fn index_of(rt: &impl Abort, alloc: Global, instance: &Instance) -> Result<Index, Fail>
-    ensures { IfOk result (Indexes instance.now) }
+fn index_of(rt: &impl Abort, alloc: Global, instance: &Instance) -> Index
+    ensures { Indexes instance.now result }
 {
     let _units = instance.units();
     let Family::Listed(events) = instance.family() else {
         panic!(rt; "a listed family");
     };
-    Ok(Index::build(alloc, events, instance.stacks().count())?)
+    Index::build(alloc, events, instance.stacks().count()).expect(rt, "memory")
 }
 
 // Tries units one after another, and compares the answers.
@@ -45,20 +46,19 @@ fn try_each(
     pass: &mut Pass,
     instance: &Instance,
     table: &[(u32, Tried)],
-) -> Result<(), Fail>
+)
     requires pass { IsOf board.now pass.old × IsIdle pass.old }
     requires instance { instance_of board.now ≡ instance.now }
     ensures pass { IsOf board.now pass.new × IsIdle pass.new }
     ensures share { (view pass.new).share ≡ (view pass.old).share }
 {
-    let index = index_of(rt, alloc, instance)?;
+    let index = index_of(rt, alloc, instance);
     let mut reader = Reader::new(instance.stacks());
     for (unit, wanted) in table {
         assert!(rt; *unit < instance.units());
         let tried = try_unit(board, pass, instance, &index, &mut reader, *unit);
-        assert_eq!(rt; tried, *wanted, "unit {unit}");
+        is_so(rt, tried == *wanted, "unit", *unit);
     }
-    Ok(())
 }
 
 // What a board leaves after one pass tried these units.
@@ -67,12 +67,12 @@ fn close_after(
     alloc: Global,
     instance: &Instance,
     table: &[(u32, Tried)],
-) -> Result<Closed, Fail>
-    ensures { IfOk result (λ closed. length closed.cursors ≡ variables_of instance.now.stacks) }
+) -> Closed
+    ensures { length result.cursors ≡ variables_of instance.now.stacks }
 {
-    let (board, mut pass) = started(alloc, instance, Keep::Nothing)?;
-    try_each(rt, alloc, &board, &mut pass, instance, table)?;
-    Ok(close(rt, board, pass))
+    let (board, mut pass) = started(rt, alloc, instance, Keep::Nothing);
+    try_each(rt, alloc, &board, &mut pass, instance, table);
+    close(rt, board, pass)
 }
 
 // Tries units of a new board, and compares what it leaves.
@@ -82,10 +82,9 @@ fn leaves(
     instance: &Instance,
     table: &[(u32, Tried)],
     want: &Want,
-) -> Result<(), Fail> {
-    let closed = close_after(rt, alloc, instance, table)?;
+) {
+    let closed = close_after(rt, alloc, instance, table);
     is_left(rt, &closed, instance.stacks().count(), want);
-    Ok(())
 }
 
 // Worked by hand. After the pop both variables are at their last entry, whose value is 1.
@@ -104,7 +103,8 @@ static TWO_LEFT: Want = Want {
 #[test]
 fn a_cleared_unit_has_no_mark(rt: HostRuntime) -> Result<(), Fail> {
     let instance = listed(rt.alloc(), &TWO_ROWS, &TWO_EVENTS)?;
-    leaves(&rt, rt.alloc(), &instance, &TWO_TRIES, &TWO_LEFT)
+    leaves(&rt, rt.alloc(), &instance, &TWO_TRIES, &TWO_LEFT);
+    Ok(())
 }
 
 // Worked by hand: the second entry of the only variable is its last, and has the event's value.
@@ -122,7 +122,8 @@ static ONE_LEFT: Want = Want {
 #[test]
 fn a_stuck_unit_has_no_mark(rt: HostRuntime) -> Result<(), Fail> {
     let instance = listed(rt.alloc(), &ONE_ROW, &ONE_EVENT)?;
-    leaves(&rt, rt.alloc(), &instance, &ONE_TRIES, &ONE_LEFT)
+    leaves(&rt, rt.alloc(), &instance, &ONE_TRIES, &ONE_LEFT);
+    Ok(())
 }
 
 // The same and an event that demands 0 of the last variable alone.
@@ -142,11 +143,6 @@ static BUSY_TRIES: [(u32, Tried); 4] = [
 
 static FREE_TRIES: [(u32, Tried); 2] = [(0, Tried::Popped(0)), (1, Tried::Cleared(1, 1))];
 
-// Compares what a claim found.
-fn is_mine(rt: &impl Abort, claim: &Claim) {
-    assert_eq!(rt; *claim, Claim::Mine(0));
-}
-
 // Tries units while another pass holds variable 1, and then others once it has given it back.
 fn try_beside(
     rt: &impl Abort,
@@ -155,7 +151,7 @@ fn try_beside(
     pass: &mut Pass,
     other: &mut Pass,
     instance: &Instance,
-) -> Result<(), Fail>
+)
     requires pass { IsOf board.now pass.old × IsIdle pass.old }
     requires other { IsOf board.now other.old × IsIdle other.old }
     requires room { 1 ≤ spare other.old }
@@ -163,24 +159,25 @@ fn try_beside(
 {
     assert!(rt; 1 < instance.stacks().count());
     let claim = board.try_claim(other, 1);
-    is_mine(rt, &claim);
-    try_each(rt, alloc, board, pass, instance, &BUSY_TRIES)?;
+    assert!(rt; claim == Claim::Mine(0));
+    try_each(rt, alloc, board, pass, instance, &BUSY_TRIES);
     if let Claim::Mine(_) = claim {
         board.release(other, 1);
     }
-    try_each(rt, alloc, board, pass, instance, &FREE_TRIES)
+    try_each(rt, alloc, board, pass, instance, &FREE_TRIES);
 }
 
 // Tries units of a new board beside another pass of it.
-fn try_apart(rt: &impl Abort, alloc: Global, instance: &Instance) -> Result<(), Fail> {
-    let (board, mut pass) = started(alloc, instance, Keep::Nothing)?;
+fn try_apart(rt: &impl Abort, alloc: Global, instance: &Instance) {
+    let (board, mut pass) = started(rt, alloc, instance, Keep::Nothing);
     let mut other = board.split(&mut pass, 1);
-    board.reserve(&mut other, 1)?;
-    try_beside(rt, alloc, &board, &mut pass, &mut other, instance)
+    board.reserve(&mut other, 1).expect(rt, "memory");
+    try_beside(rt, alloc, &board, &mut pass, &mut other, instance);
 }
 
 #[test]
 fn a_unit_that_was_refused_is_marked_again(rt: HostRuntime) -> Result<(), Fail> {
     let instance = listed(rt.alloc(), &TWO_ROWS, &THREE_EVENTS)?;
-    try_apart(&rt, rt.alloc(), &instance)
+    try_apart(&rt, rt.alloc(), &instance);
+    Ok(())
 }

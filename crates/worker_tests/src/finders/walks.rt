@@ -1,37 +1,22 @@
 //! Walks on boards of two variables with two slots each.
-ghost use Rattle.std.specs.Prelude.{◌≡◌, ◌<◌, ◌^◌, false, length, All, IfOk};
+ghost use Rattle.std.specs.Prelude.{◌≡◌, ◌<◌, false, length, IfOk};
 ghost use Rattle.pop_model.specs.Stacks.{variables_of};
-ghost use Rattle.pop_instance.specs.Arrows.{heads_of};
 ghost use Rattle.claim_words.specs.Openings.{is_listed};
 ghost use Rattle.claim_words.specs.Passes.{IsOf, IsIdle, view, instance_of, count_of};
 ghost use Rattle.event_finders.specs.Trails.{resting};
 
 use super::{Want, is_left};
-use crate::comparing::same;
+use crate::comparing::{is_so, same};
 use crate::passes::{close, started};
 use claim_words::{Board, Closed, Pass};
 use confluence_core::Keep;
 use event_finders::{Stretch, Tried, Walker, try_walk, walk_on};
-use pop_instance::{Arrows, Family, Instance};
+use pop_instance::{Family, Instance};
 use pop_stacks::Reader;
-use std::alloc::{AllocError, Global};
+use std::alloc::Global;
 use std::process::Abort;
 use std::test::Fail;
-use test_instances::stacks;
-
-// The heads of variables with two slots each.
-fn heads(alloc: Global, table: &[[Option<u32>; 2]]) -> Result<Vec<Vec<Option<u32>>>, AllocError>
-    requires few { length table.now < 9 }
-    ensures short { IfOk result (λ heads. length heads.items < 9) }
-    ensures short_rows { IfOk result (λ heads.
-        All (λ row. length row < 2 ^ 31) (heads_of heads.items)) }
-{
-    let mut heads = Vec::new(alloc);
-    for row in table {
-        heads.push(vec![in alloc; row[0], row[1]]?)?;
-    }
-    Ok(heads)
-}
+use test_instances::{arrows, stacks};
 
 // The instance of these rows and heads, whose events are the cycles.
 fn cycles(
@@ -42,8 +27,7 @@ fn cycles(
 ) -> Result<Instance, Fail>
     ensures { IfOk result (λ instance. is_listed instance.family ≡ false) }
 {
-    assert!(rt; table.len() < 9);
-    let arrows = Arrows::new(heads(alloc, table)?).expect(rt, "arrows");
+    let arrows = arrows(alloc, table)?;
     let stacks = stacks(alloc, rows)?;
     Ok(Instance::new(stacks, Family::Cycles(arrows)).expect(rt, "an instance"))
 }
@@ -100,7 +84,7 @@ fn walk_in_turn(
 {
     for turn in turns {
         let answer = walk(rt, board, pass, instance, walker, turn);
-        assert_eq!(rt; answer, turn.2);
+        is_so(rt, answer == turn.2, "walk from", turn.0);
     }
 }
 
@@ -114,34 +98,22 @@ fn close_whole(rt: &impl Abort, board: Board, pass: Pass) -> Closed
 }
 
 // What is left of a board after these walks of one pass.
-fn closed_after(
-    rt: &impl Abort,
-    alloc: Global,
-    instance: &Instance,
-    turns: &[Turn],
-) -> Result<Closed, Fail>
+fn closed_after(rt: &impl Abort, alloc: Global, instance: &Instance, turns: &[Turn]) -> Closed
     requires cycles { is_listed instance.now.family ≡ false }
-    ensures { IfOk result (λ closed. length closed.cursors ≡ variables_of instance.now.stacks) }
+    ensures { length result.cursors ≡ variables_of instance.now.stacks }
 {
-    let mut walker = Walker::new(alloc, instance.stacks().count())?;
-    let (board, mut pass) = started(alloc, instance, Keep::Log)?;
+    let mut walker = Walker::new(alloc, instance.stacks().count()).expect(rt, "memory");
+    let (board, mut pass) = started(rt, alloc, instance, Keep::Log);
     walk_in_turn(rt, &board, &mut pass, instance, &mut walker, turns);
-    Ok(close_whole(rt, board, pass))
+    close_whole(rt, board, pass)
 }
 
 // Makes walks on a new board, and compares what it leaves.
-fn leaves(
-    rt: &impl Abort,
-    alloc: Global,
-    instance: &Instance,
-    turns: &[Turn],
-    want: &Want,
-) -> Result<(), Fail>
+fn leaves(rt: &impl Abort, alloc: Global, instance: &Instance, turns: &[Turn], want: &Want)
     requires cycles { is_listed instance.now.family ≡ false }
 {
-    let closed = closed_after(rt, alloc, instance, turns)?;
+    let closed = closed_after(rt, alloc, instance, turns);
     is_left(rt, &closed, instance.stacks().count(), want);
-    Ok(())
 }
 
 // The edges 1-2, 2-3 and 1-3 with the root 1: variable 0 is vertex 2, and variable 1 vertex 3. They
@@ -165,7 +137,8 @@ static TRIANGLE_LEFT: Want = Want {
 #[test]
 fn a_cycle_is_popped_and_then_its_path_is_settled(rt: HostRuntime) -> Result<(), Fail> {
     let instance = cycles(&rt, rt.alloc(), &TRIANGLE_ROWS, &TRIANGLE_HEADS)?;
-    leaves(&rt, rt.alloc(), &instance, &TRIANGLE_TURNS, &TRIANGLE_LEFT)
+    leaves(&rt, rt.alloc(), &instance, &TRIANGLE_TURNS, &TRIANGLE_LEFT);
+    Ok(())
 }
 
 // Worked by hand: variable 0 leads to 1, which leads to itself three times and then to the root. So
@@ -188,21 +161,22 @@ static LOOP_LEFT: Want = Want {
 #[test]
 fn a_walk_goes_on_where_a_cycle_closed(rt: HostRuntime) -> Result<(), Fail> {
     let instance = cycles(&rt, rt.alloc(), &LOOP_ROWS, &LOOP_HEADS)?;
-    leaves(&rt, rt.alloc(), &instance, &LOOP_TURNS, &LOOP_LEFT)
+    leaves(&rt, rt.alloc(), &instance, &LOOP_TURNS, &LOOP_LEFT);
+    Ok(())
 }
 
 // A pass that holds a variable.
-fn holder<'i>(board: &Board<'i>, pass: &mut Pass, v: u32) -> Result<Pass, AllocError>
+fn holder<'i>(rt: &impl Abort, board: &Board<'i>, pass: &mut Pass, v: u32) -> Pass
     requires pass { IsOf board.now pass.old × IsIdle pass.old }
     requires share { 1 < (view pass.old).share }
     requires known { v < count_of board.now }
     ensures pass { IsOf board.now pass.new × IsIdle pass.new }
-    ensures holder { IfOk result (IsOf board.now) }
+    ensures holder { IsOf board.now result }
 {
     let mut other = board.split(pass, 1);
-    board.reserve(&mut other, 1)?;
+    board.reserve(&mut other, 1).expect(rt, "memory");
     board.try_claim(&mut other, v);
-    Ok(other)
+    other
 }
 
 // Worked by hand: bit 63 is 9223372036854775808. Where the first walk released variable 0, the
@@ -213,27 +187,23 @@ static BUSY_TURNS: [Turn; 3] = [
     (1, None, Tried::Busy(1, 9223372036854775808)),
 ];
 
-// Compares the shares of a pass of which one was split off.
-fn are_shares(rt: &impl Abort, pass: &Pass, other: &Pass) {
-    assert_eq!(rt; (pass.share(), other.share()), (63, 1));
-}
-
 // Makes walks that meet a claim of variable 1, on a new board.
-fn meet_claim(rt: &impl Abort, alloc: Global, instance: &Instance) -> Result<(), Fail>
+fn meet_claim(rt: &impl Abort, alloc: Global, instance: &Instance)
     requires cycles { is_listed instance.now.family ≡ false }
 {
     let count = instance.stacks().count();
     assert!(rt; 1 < count);
-    let mut walker = Walker::new(alloc, count)?;
-    let (board, mut pass) = started(alloc, instance, Keep::Nothing)?;
-    let other = holder(&board, &mut pass, 1)?;
+    let mut walker = Walker::new(alloc, count).expect(rt, "memory");
+    let (board, mut pass) = started(rt, alloc, instance, Keep::Nothing);
+    let other = holder(rt, &board, &mut pass, 1);
     walk_in_turn(rt, &board, &mut pass, instance, &mut walker, &BUSY_TURNS);
-    are_shares(rt, &pass, &other);
-    Ok(())
+    same(rt, pass.share() as u64, 63, "shares");
+    same(rt, other.share() as u64, 1, "shares of the other");
 }
 
 #[test]
 fn a_walk_that_meets_a_claim_holds_nothing(rt: HostRuntime) -> Result<(), Fail> {
     let instance = cycles(&rt, rt.alloc(), &TRIANGLE_ROWS, &TRIANGLE_HEADS)?;
-    meet_claim(&rt, rt.alloc(), &instance)
+    meet_claim(&rt, rt.alloc(), &instance);
+    Ok(())
 }

@@ -47,7 +47,7 @@ pub(super) fn chain_under_key(
 {
     assert!(rt; links < 1000);
     let chain = chain(rt, alloc, links)?;
-    under_key(rt, 2 * links + 1, key, height, chain)
+    Ok(under_key(rt, 2 * links + 1, key, height, chain))
 }
 
 // Compares the ends of the runs of one chain.
@@ -59,7 +59,7 @@ fn chain_ends_alike<R: Threads + Wait + Abort + Sync>(
     height: u32,
 ) -> Result<(u64, u64), Fail> {
     let instance = chain_under_key(rt, alloc, links, key, height)?;
-    ends_alike(rt, alloc, &instance)
+    Ok(ends_alike(rt, alloc, &instance))
 }
 
 // Keys and heights.

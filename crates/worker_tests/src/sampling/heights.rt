@@ -27,17 +27,18 @@ fn grown<R: Threads + Wait + Abort + Sync>(
     instance: &mut Instance,
     last: u32,
     board: (bool, u32),
-) -> Result<Outcome, Fail>
+) -> Outcome
     requires keyed { IsKeyed instance.old.stacks.origin }
     requires higher { (v : ℕ) → height_of instance.old.stacks v ≤ last }
     requires short { last < 1000 }
-    ensures { IfOk result (λ run. variables_of instance.new.stacks ≡ length run.end.cursors) }
+    ensures { variables_of instance.new.stacks ≡ length result.end.cursors }
 {
     let (claimed, workers) = board;
     assert!(rt; 0 < workers);
     assert!(rt; workers <= 64);
     let keep = Keep::Log;
-    Ok(sample_grown(rt, alloc, instance, last, claimed, workers, keep, &NoGate)?)
+    let run = sample_grown(rt, alloc, instance, last, claimed, workers, keep, &NoGate);
+    run.expect(rt, "memory")
 }
 
 // The values of variable 0 under the key of zeros (RFC 8439, A.1, vector 1: the high bits of every
@@ -60,7 +61,7 @@ fn of_values(rt: &impl Abort, alloc: Global, values: &[u32], height: u32) -> Res
     ensures height { IfOk result (λ i. (v : ℕ) → height_of i.stacks v ≡ height) }
 {
     let family = each_value(alloc, values)?;
-    under_key(rt, 1, 0, height, family)
+    Ok(under_key(rt, 1, 0, height, family))
 }
 
 // The heights at first and at last; the pops, the stuck events, and the height that is left.
@@ -132,7 +133,7 @@ static BOTH_VALUES: [Row; 3] = [
 // Compares two counts of a row.
 fn same_in(rt: &impl Abort, found: u64, want: u64, what: &str, row: &Row) {
     let Row { first, last, .. } = row;
-    assert_eq!(rt; found, want, "{what} from {first} to {last}");
+    assert!(rt; found == want, "{what} from {first} to {last}");
 }
 
 // Compares what stages leave of one variable with a row.
@@ -168,15 +169,15 @@ fn leaves<R: Threads + Wait + Abort + Sync>(
     instance: &mut Instance,
     row: &Row,
     board: (bool, u32),
-) -> Result<Outcome, Fail>
+) -> Outcome
     requires keyed { IsKeyed instance.old.stacks.origin }
     requires height { (v : ℕ) → height_of instance.old.stacks v ≡ row.now.first }
 {
     assert!(rt; row.first <= row.last);
     assert!(rt; row.last < 1000);
-    let run = grown(rt, alloc, instance, row.last, board)?;
+    let run = grown(rt, alloc, instance, row.last, board);
     is_left(rt, instance, &run, row);
-    Ok(run)
+    run
 }
 
 // Runs the events of these values by the heights of a row, on one board.
@@ -188,7 +189,7 @@ fn grows_as<R: Threads + Wait + Abort + Sync>(
     board: (bool, u32),
 ) -> Result<Outcome, Fail> {
     let mut instance = of_values(rt, alloc, values, row.first)?;
-    leaves(rt, alloc, &mut instance, row, board)
+    Ok(leaves(rt, alloc, &mut instance, row, board))
 }
 
 // The same on each board, for the event of value 1.
@@ -235,38 +236,24 @@ fn stages_use_the_entries_in_their_order_up_to_the_last(rt: HostRuntime) -> Resu
 }
 
 // Tests that the log of a run is legal for the instance.
-fn is_legal(
-    rt: &impl Abort,
-    alloc: Global,
-    instance: &Instance,
-    run: &Outcome,
-) -> Result<(), Fail> {
+fn is_legal(rt: &impl Abort, alloc: Global, instance: &Instance, run: &Outcome) {
     let Some(log) = &run.log else {
         panic!(rt; "no log");
     };
-    let replay = replay(alloc, instance, log)?;
-    let legal = match replay {
-        Replay::Legal(_) => true,
-        Replay::NotLegal(_) => false,
-    };
-    assert!(rt; legal);
-    Ok(())
+    match replay(alloc, instance, log).expect(rt, "memory") {
+        Replay::Legal(_) => {}
+        Replay::NotLegal(_) => panic!(rt; "a log that isn't legal"),
+    }
 }
 
 // Compares a run over so many variables with the one-thread run. Returns how many events are stuck.
-fn ends_as_first(
-    rt: &impl Abort,
-    alloc: Global,
-    tall: &Instance,
-    run: &Outcome,
-    count: u32,
-) -> Result<u64, Fail>
+fn ends_as_first(rt: &impl Abort, alloc: Global, tall: &Instance, run: &Outcome, count: u32) -> u64
     requires tall { variables_of tall.now.stacks ≡ count }
     requires run { length run.now.end.cursors ≡ count }
 {
-    let first = run_first(alloc, tall)?;
+    let first = run_first(alloc, tall).expect(rt, "memory");
     is_alike(rt, run, &first, count);
-    Ok(first.stuck.len())
+    first.stuck.len()
 }
 
 // Compares what stages left with the one-thread run at the last height, where their log is to be
@@ -277,12 +264,12 @@ fn ends_as(
     tall: &Instance,
     instance: &Instance,
     run: &Outcome,
-) -> Result<u64, Fail>
+) -> u64
     requires { variables_of instance.now.stacks ≡ length run.now.end.cursors }
 {
     let count = tall.stacks().count();
     assert!(rt; instance.stacks().count() == count);
-    is_legal(rt, alloc, tall, run)?;
+    is_legal(rt, alloc, tall, run);
     ends_as_first(rt, alloc, tall, run, count)
 }
 
@@ -315,7 +302,7 @@ fn of_kind(
 {
     match kind {
         Kind::Chain => chain_under_key(rt, alloc, 20, key, height),
-        Kind::Tree => tree_under_key(rt, alloc, &mut 2026, 70, key, height),
+        Kind::Tree => Ok(tree_under_key(rt, alloc, &mut 2026, 70, key, height)),
     }
 }
 
@@ -327,13 +314,13 @@ fn grows_to<R: Threads + Wait + Abort + Sync>(
     instance: &mut Instance,
     growth: &Growth,
     board: (bool, u32),
-) -> Result<u64, Fail>
+) -> u64
     requires keyed { IsKeyed instance.old.stacks.origin }
     requires height { (v : ℕ) → height_of instance.old.stacks v ≡ growth.now.first }
 {
     assert!(rt; growth.first <= growth.last);
     assert!(rt; growth.last < 1000);
-    let run = grown(rt, alloc, instance, growth.last, board)?;
+    let run = grown(rt, alloc, instance, growth.last, board);
     ends_as(rt, alloc, tall, instance, &run)
 }
 
@@ -346,7 +333,7 @@ fn grows_beside<R: Threads + Wait + Abort + Sync>(
     board: (bool, u32),
 ) -> Result<u64, Fail> {
     let mut instance = of_kind(rt, alloc, growth.kind, growth.key, growth.first)?;
-    grows_to(rt, alloc, tall, &mut instance, growth, board)
+    Ok(grows_to(rt, alloc, tall, &mut instance, growth, board))
 }
 
 // Grows an instance, and compares what is left.

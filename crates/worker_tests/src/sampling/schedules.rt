@@ -69,12 +69,12 @@ fn held_run<R: Threads + Wait + Abort + Sync>(
     claimed: bool,
     held: u32,
     other: u32,
-) -> Result<Outcome, Fail> {
+) -> Outcome {
     let gate = Holds::new(held, other);
-    let outcome = sample(rt, alloc, instance, claimed, 2, &gate)?;
+    let outcome = sample(rt, alloc, instance, claimed, 2, &gate);
     let gave_up = gate.gave_up.load(SeqCst);
     assert!(rt; !gave_up, "the other worker never came");
-    Ok(outcome)
+    outcome
 }
 
 // Compares the units of a log of two pops.
@@ -114,10 +114,9 @@ fn pops_last<R: Threads + Wait + Abort + Sync>(
     instance: &Instance,
     claimed: bool,
     row: &Row,
-) -> Result<(), Fail> {
-    let run = held_run(rt, alloc, instance, claimed, row.held, row.other)?;
+) {
+    let run = held_run(rt, alloc, instance, claimed, row.held, row.other);
     are_units(rt, &run, row.units);
-    Ok(())
 }
 
 // Holds each of the two workers.
@@ -126,26 +125,17 @@ fn each_pops_last<R: Threads + Wait + Abort + Sync>(
     alloc: Global,
     instance: &Instance,
     claimed: bool,
-) -> Result<(), Fail> {
+) {
     for row in HELD.iter() {
-        pops_last(rt, alloc, instance, claimed, row)?;
+        pops_last(rt, alloc, instance, claimed, row);
     }
-    Ok(())
-}
-
-// Holds each of the two workers on both boards.
-fn all_pop_last<R: Threads + Wait + Abort + Sync>(
-    rt: &R,
-    alloc: Global,
-    instance: &Instance,
-) -> Result<(), Fail> {
-    each_pops_last(rt, alloc, instance, false)?;
-    each_pops_last(rt, alloc, instance, true)
 }
 
 #[test]
 fn the_worker_that_is_held_pops_last(rt: HostRuntime) -> Result<(), Fail> {
     let alloc = rt.alloc();
     let instance = listed(alloc, &ROWS, &EVENTS)?;
-    all_pop_last(&rt, alloc, &instance)
+    each_pops_last(&rt, alloc, &instance, false);
+    each_pops_last(&rt, alloc, &instance, true);
+    Ok(())
 }

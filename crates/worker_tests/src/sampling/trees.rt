@@ -1,5 +1,5 @@
 //! Random arrows towards a root.
-ghost use Rattle.std.specs.Prelude.{◌≡◌, ℕ, IfOk};
+ghost use Rattle.std.specs.Prelude.{◌≡◌, ℕ};
 ghost use Rattle.pop_model.specs.Stacks.{height_of, IsKeyed};
 
 use super::{ends_alike, greater, under_key};
@@ -8,7 +8,6 @@ use pop_instance::Instance;
 use std::alloc::Global;
 use std::process::Abort;
 use std::sync::Wait;
-use std::test::Fail;
 use std::thread::Threads;
 
 // Random arrows of so many variables over stacks of this height under a key of 32 such bytes.
@@ -19,11 +18,11 @@ pub(super) fn tree_under_key(
     count: u32,
     key: u8,
     height: u32,
-) -> Result<Instance, Fail>
-    ensures keyed { IfOk result (λ i. IsKeyed i.stacks.origin) }
-    ensures height { IfOk result (λ i. (v : ℕ) → height_of i.stacks v ≡ height) }
+) -> Instance
+    ensures keyed { IsKeyed result.stacks.origin }
+    ensures height { (v : ℕ) → height_of result.stacks v ≡ height }
 {
-    let arrows = arrows(rt, alloc, state, count)?;
+    let arrows = arrows(rt, alloc, state, count);
     under_key(rt, count, key, height, arrows)
 }
 
@@ -35,8 +34,8 @@ fn tree_ends_alike<R: Threads + Wait + Abort + Sync>(
     count: u32,
     key: u8,
     height: u32,
-) -> Result<(u64, u64), Fail> {
-    let instance = tree_under_key(rt, alloc, state, count, key, height)?;
+) -> (u64, u64) {
+    let instance = tree_under_key(rt, alloc, state, count, key, height);
     ends_alike(rt, alloc, &instance)
 }
 
@@ -50,28 +49,25 @@ fn trees_end_alike<R: Threads + Wait + Abort + Sync>(
     alloc: Global,
     state: &mut u64,
     count: u32,
-) -> Result<(u64, u64), Fail> {
+) -> (u64, u64) {
     let mut most = (0, 0);
     for (key, height) in STACKS.iter() {
-        most = greater(
-            most,
-            tree_ends_alike(rt, alloc, state, count, *key, *height)?,
-        );
+        let ended = tree_ends_alike(rt, alloc, state, count, *key, *height);
+        most = greater(most, ended);
     }
-    Ok(most)
+    most
 }
 
 static COUNTS: [u32; 4] = [1, 2, 9, 70];
 
 #[test]
-fn random_trees_end_alike_for_each_number_of_workers(rt: HostRuntime) -> Result<(), Fail> {
+fn random_trees_end_alike_for_each_number_of_workers(rt: HostRuntime) {
     let alloc = rt.alloc();
     let mut state = 2026;
     let mut most = (0, 0);
     for count in COUNTS.iter() {
-        most = greater(most, trees_end_alike(&rt, alloc, &mut state, *count)?);
+        most = greater(most, trees_end_alike(&rt, alloc, &mut state, *count));
     }
     assert!(&rt; most.0 > 5);
     assert!(&rt; most.1 > 0);
-    Ok(())
 }

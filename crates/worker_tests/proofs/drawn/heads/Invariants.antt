@@ -4,7 +4,7 @@ use Rattle.worker_tests.proofs.drawn.heads.Given as goal
 
 -- one row for each variable before here, none of them long
 abbrev pub invariant-loop-v : goal.invariant-loop-v
-invariant-loop-v l = record {
+invariant-loop-v g l = record {
   rows : length l.heads.items ≡ l.v;
   short : All (λ row. length row < 2 ^ 31) (heads_of l.heads.items);
 }

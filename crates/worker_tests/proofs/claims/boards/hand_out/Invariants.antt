@@ -5,7 +5,7 @@ use Rattle.worker_tests.proofs.claims.boards.hand_out.Given as goal
 
 -- the passes so far have what the first one gave
 abbrev pub invariant-loop : goal.invariant-loop
-invariant-loop l = record {
+invariant-loop g l = record {
   pass : IsOf l.board l.pass × IsIdle l.pass;
   share : (view l.pass).share + l.counter ≡ (view l.initial.pass).share;
   len : length l.passes.items ≡ l.counter;
