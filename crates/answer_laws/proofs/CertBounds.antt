@@ -12,7 +12,8 @@ use Rattle.run_cert.specs.Heads.{has_root, MayBeStacks, MayBeHeight}
 use Rattle.run_cert.specs.Certificates.{Certificate, IsCertOf}
 use Rattle.run_cert.proofs.AskedStacks.{asked_stacks}
 use Rattle.top_call.specs.Answers.{last_height, origin_for}
-use Rattle.top_call.specs.Replays.{HasLog}
+use Rattle.top_call.specs.Replays.{wanted_of, HasLog}
+use Rattle.top_call.proofs.PauseWords.{not_made}
 use Rattle.answer_laws.specs.Complete.{HasLegalLog}
 use Rattle.answer_laws.proofs.HeadBounds.{root_fits}
 use Rattle.answer_laws.proofs.MadeBounds.{AreShort, made_bounded}
@@ -38,9 +39,10 @@ job_short words job asks = by_spec job.stacks (asked_stacks words job asks)
 pub legal_log : (text : List ℕ) (cert : Certificate) → IsCertOf text cert → HasLegalLog cert → HasLog cert
 legal_log text cert is has =
     let head = is.is.head in
-    let bounded = made_bounded cert.head.command _ cert.head.root cert.input has.facts has.instance
+    let bounded = made_bounded cert.head.command (wanted_of cert.head) cert.input has.facts has.instance
     (spec_short cert.head.stacks cert.head.height head.stacks head.height)
-    (root_fits (has_root cert.head.command) cert.head.root head.root) has.made in
+    (root_fits (has_root cert.head.command) cert.head.root head.root) (not_made cert.head.command head.command)
+    has.made in
     record {
       facts = has.facts;
       instance = has.instance;

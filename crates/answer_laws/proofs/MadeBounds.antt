@@ -1,6 +1,6 @@
 -- What is made of a text over stacks that words or a head may give is an instance, whose events have numbers of 32 bits:
 -- both follow from the limits on texts and on stacks.
-use Rattle.std.proofs.Common.{◌≡◌, ◌<◌, ◌≤◌, ◌+◌, ◌-◌, ◌^◌, ℕ, zero, suc, true, List, [], ◌∷◌, length, map, get_or, Ok, refl, sym, subst, arith, Contains}
+use Rattle.std.proofs.Common.{◌≡◌, ◌≢◌, ◌<◌, ◌≤◌, ◌+◌, ◌-◌, ◌^◌, ℕ, zero, suc, true, List, [], ◌∷◌, length, map, get_or, Ok, refl, sym, subst, arith, Contains}
 use Rattle.std.specs.Prelude.{nat_le, slice_index, sum_by}
 use Rattle.std.specs.List.Sorted.{IsStrictlyIncreasing}
 use Rattle.std.proofs.lemmas.Bool.{and_parts, leb-true}
@@ -31,11 +31,12 @@ use Rattle.cycle_popping.specs.Trees.{heads_at, heads_of_tree, weights_of_tree}
 use Rattle.cycle_popping.proofs.TreeRows.{tree_arrows}
 use Rattle.pop_words.specs.Values.{are_within}
 use Rattle.pop_words.specs.declared.command.Command.{Command}
-use Rattle.pop_words.specs.declared.command.Command.TheVariants.{Formula, Orient, Tree, Resample}
+use Rattle.pop_words.specs.declared.command.Command.TheVariants.{Formula, Orient, Tree, Resample, Make}
 use Rattle.pop_print.specs.declared.facts.Facts.{Facts}
 use Rattle.pop_print.specs.declared.facts.Facts.TheVariants.{Tree as TreeFacts}
 use Rattle.job_subjects.specs.Subjects.{pair_weights, instance_over, assignments, orientations, arrows_to}
-use Rattle.job_subjects.specs.Made.{IsMade}
+use Rattle.job_subjects.specs.declared.wanted.Wanted.{Wanted}
+use Rattle.job_subjects.specs.Made.{IsMadeBy}
 use Rattle.job_subjects.proofs.MadeInstances.{count_of_weights, tree_fits}
 use Rattle.answer_laws.proofs.ListedEvents.{sinks_family, sinks_fit, pairs_fit}
 use Rattle.answer_laws.proofs.SubjectFrames.{literals_known, graph_known}
@@ -206,25 +207,26 @@ arrows_bounded facts origin g root is root_is joined short sound =
       tt,
     )
 
--- of each command whose run may stop
-pub made_bounded : (command : Command) (origin : Origin) (root : ℕ) (text : List ℕ) (facts : Facts) (i : Instance)
-    → AreShort origin → 1 ≤ root → IsMade command origin root text facts i → IsBounded i
-made_bounded Formula origin root text facts i short some made =
+-- of each command that reads a text
+pub made_bounded : (k : Command) (w : Wanted) (text : List ℕ) (facts : Facts) (i : Instance) → AreShort w.origin
+    → 1 ≤ w.root → k ≢ Make → IsMadeBy k w text facts i → IsBounded i
+made_bounded Formula w text facts i short some reads made =
     let m = made.made in
     subst IsBounded (sym m.is.instance_is)
-    (formula_bounded text origin made.formula m.events short m.is.sound made.spelled m.of_formula)
-made_bounded Orient origin root text facts i short some made =
+    (formula_bounded text w.origin made.formula m.events short m.is.sound made.spelled m.of_formula)
+made_bounded Orient w text facts i short some reads made =
     let m = made.made in
     subst IsBounded (sym m.is.instance_is)
-    (sinks_bounded origin made.graph m.events (graph_known text made.graph made.spelled) short m.is.sound m.of_graph)
-made_bounded Tree origin root text facts i short some made =
+    (sinks_bounded w.origin made.graph m.events (graph_known text made.graph made.spelled) short m.is.sound m.of_graph)
+made_bounded Tree w text facts i short some reads made =
     let m = made.made in
-    let root_is : IsVertex made.graph.vertices root = record { first = some; last = m.last } in
+    let root_is : IsVertex made.graph.vertices w.root = record { first = some; last = m.last } in
     subst IsBounded (sym m.is.instance_is)
-    (arrows_bounded (TreeFacts made.graph root) origin made.graph root (graph_known text made.graph made.spelled) root_is
-    m.joined short m.is.sound)
-made_bounded Resample origin root text facts i short some made =
+    (arrows_bounded (TreeFacts made.graph w.root) w.origin made.graph w.root
+    (graph_known text made.graph made.spelled) root_is m.joined short m.is.sound)
+made_bounded Resample w text facts i short some reads made =
     let m = made.made in
     subst IsBounded (sym m.is.instance_is)
-    (formula_bounded text origin made.formula m.events short m.is.sound made.spelled m.of_formula)
-made_bounded command origin root text facts i short some made = absurd made
+    (formula_bounded text w.origin made.formula m.events short m.is.sound made.spelled m.of_formula)
+made_bounded Make w text facts i short some reads made = absurd (reads refl)
+made_bounded k w text facts i short some reads made = absurd made

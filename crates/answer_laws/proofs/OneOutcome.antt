@@ -2,7 +2,6 @@
 -- may stop. The text is refused in one way or spells one formula or graph; and of that one thing comes.
 use Rattle.std.proofs.Common.{inl, inr, ◌≡◌, ◌≢◌, ◌⊎◌, ℕ, List, None, refl, sym, ap, subst, ◌∙◌, true, false}
 use Rattle.std.proofs.lemmas.Option.{none-some, same_Some}
-use Rattle.pop_model.specs.Stacks.{Origin}
 use Rattle.pop_model.specs.Instances.{Instance}
 use Rattle.dimacs_read.specs.Cnf.{Cnf}
 use Rattle.graph_read.specs.Graphs.{GraphOf}
@@ -18,9 +17,10 @@ use Rattle.top_call.specs.Formulas.{ComesOfFormula, ComesOfChecking}
 use Rattle.top_call.specs.Rounds.{ComesOfRounds}
 use Rattle.top_call.specs.Orientations.{ComesOfOrienting}
 use Rattle.top_call.specs.Trees.{ComesOfTree}
-use Rattle.top_call.specs.Answers.{ComesOfCnf, ComesOfGraph, origin_for, ComesOfCommand, Refuses, ComesOf, ComesOfJob, IsOutcome}
+use Rattle.top_call.specs.Answers.{ComesOfCnf, ComesOfGraph, origin_for, wanted_by, ComesOfCommand, Refuses, ComesOf, ComesOfJob, IsOutcome}
 use Rattle.told_runs.specs.Asking.{asked_by}
-use Rattle.job_subjects.specs.Made.{IsMade}
+use Rattle.job_subjects.specs.declared.wanted.Wanted.{Wanted}
+use Rattle.job_subjects.specs.Made.{IsMadeBy}
 use Rattle.top_call.specs.Pauses.{IsPause}
 use Rattle.answer_laws.specs.Orders.{HasOneEnd}
 use Rattle.answer_laws.specs.Laws.{ReportAlike, AreHistories, Agree}
@@ -123,23 +123,24 @@ unrefused Replay job ws text o r h u = h
 unrefused Resume job ws text o r h u = h
 
 -- nor is one of which something is made
-pub made_unrefused : (command : Command) (origin : Origin) (root : ℕ) (text : List ℕ) (facts : Facts) (i : Instance)
-    (r : Refusal) → IsMade command origin root text facts i → IsUnread (Refuses command text) r → ⊥
-made_unrefused Formula origin root text facts i r made u =
+pub made_unrefused : (k : Command) (w : Wanted) (text : List ℕ) (facts : Facts) (i : Instance) (r : Refusal)
+    → IsMadeBy k w text facts i → IsUnread (Refuses k text) r → ⊥
+made_unrefused Formula w text facts i r made u =
     no_cnf_refusal text made.formula u.cause made.spelled u.of_text u.refused
-made_unrefused Orient origin root text facts i r made u =
+made_unrefused Orient w text facts i r made u =
     no_graph_refusal text made.graph u.cause made.spelled u.of_text u.refused
-made_unrefused Tree origin root text facts i r made u =
+made_unrefused Tree w text facts i r made u =
     no_graph_refusal text made.graph u.cause made.spelled u.of_text u.refused
-made_unrefused Resample origin root text facts i r made u =
+made_unrefused Resample w text facts i r made u =
     no_cnf_refusal text made.formula u.cause made.spelled u.of_text u.refused
-made_unrefused command origin root text facts i r made u = absurd made
+made_unrefused Make w text facts i r made u = u.refused
+made_unrefused k w text facts i r made u = absurd made
 
 -- two pauses of a job are of one instance
 two_pauses : (job : Job) (text : List ℕ) (o p : Outcome) → TellsPaused job text o → TellsPaused job text p
     → AreHistories o p
 two_pauses job text o p a b =
-    let same = one_made job.command (origin_for job) job.root text a.facts b.facts a.i b.i a.made b.made in
+    let same = one_made job.command (wanted_by job) text a.facts b.facts a.i b.i a.made b.made in
     let pops : a.pops ≡ b.pops = same_Some a.pops b.pops (sym a.stop ∙ b.stop) in
     subst (λ q. AreHistories q p) (sym a.is) (subst (AreHistories (Paused job text a.facts a.i a.placed)) (sym b.is) (
       refl,
@@ -167,7 +168,7 @@ alike_read job ws vs text o p like h h' =
       | inl (r, o_is, u) ↦ elim (read_cases job vs text p h') [
         | inl (s, p_is, u') ↦ inl (o_is ∙ ap Refused (one_unread job.command text r s u u') ∙ sym p_is)
         | inr (inl done') ↦ absurd (unrefused job.command job vs text p r done' u)
-        | inr (inr b) ↦ absurd (made_unrefused job.command (origin_for job) job.root text b.facts b.i r b.made u)
+        | inr (inr b) ↦ absurd (made_unrefused job.command (wanted_by job) text b.facts b.i r b.made u)
       ]
       | inr (inl done) ↦ elim (read_cases job vs text p h') [
         | inl (s, p_is, u') ↦ absurd (unrefused job.command job ws text o s done u')
@@ -176,7 +177,7 @@ alike_read job ws vs text o p like h h' =
       ]
       | inr (inr a) ↦ elim (read_cases job vs text p h') [
         | inl (s, p_is, u') ↦
-            absurd (made_unrefused job.command (origin_for job) job.root text a.facts a.i s a.made u')
+            absurd (made_unrefused job.command (wanted_by job) text a.facts a.i s a.made u')
         | inr (inl done') ↦ inr (pause_and_done job vs text o p a done').0
         | inr (inr b) ↦ inr (two_pauses job text o p a b)
       ]

@@ -1,6 +1,6 @@
 -- A pause beside what else comes of a job and a text. A run of an extremal instance that stopped with an event that is
 -- poppable still has no end within as many pops. Where the order of pops is free, it stands beside runs of its instance.
-use Rattle.std.proofs.Common.{inl, inr, ◌≡◌, ◌<◌, ◌≤◌, ℕ, Bool, true, false, List, length, None, Some, sym, ap, subst, ◌∙◌, arith}
+use Rattle.std.proofs.Common.{inl, inr, ◌≡◌, ◌<◌, ◌≤◌, ℕ, Bool, true, false, List, length, Option, None, Some, sym, ap, subst, ◌∙◌, arith}
 use Rattle.std.proofs.lemmas.Option.{none-some}
 use Rattle.std.proofs.lemmas.List.{length-map}
 use Rattle.pop_model.specs.Stacks.{Origin}
@@ -13,14 +13,15 @@ use Rattle.confluence_core.specs.Laws.{RunsToEnd}
 use Rattle.dimacs_read.specs.Cnf.{Cnf}
 use Rattle.graph_read.specs.Graphs.{GraphOf}
 use Rattle.sink_popping.proofs.OneDirection.{sinks_extremal}
-use Rattle.cycle_popping.specs.Trees.{heads_of_tree}
+use Rattle.graph_read.specs.Grids.{grid_of}
+use Rattle.cycle_popping.specs.Trees.{heads_of_tree, weights_of_tree}
 use Rattle.pop_words.specs.declared.command.Command.{Command}
-use Rattle.pop_words.specs.declared.command.Command.TheVariants.{Formula, Orient, Tree, Resample}
+use Rattle.pop_words.specs.declared.command.Command.TheVariants.{Formula, Orient, Tree, Resample, Make}
 use Rattle.pop_words.specs.declared.job.Job.{Job}
 use Rattle.pop_log.specs.Layers.{Placed}
 use Rattle.pop_watch.specs.Telling.{Watcher}
 use Rattle.pop_print.specs.declared.facts.Facts.{Facts}
-use Rattle.pop_print.specs.declared.facts.Facts.TheVariants.{Formula as FormulaFacts, Orient as OrientFacts, Tree as TreeFacts}
+use Rattle.pop_print.specs.declared.facts.Facts.TheVariants.{Formula as FormulaFacts, Orient as OrientFacts, Tree as TreeFacts, Made as MadeFacts}
 use Rattle.run_cert.proofs.Resumed.{open_shorter}
 use Rattle.told_runs.specs.declared.asked.Asked.{Asked}
 use Rattle.told_runs.specs.Tellings.{records_of, LeadsToEnd}
@@ -30,21 +31,22 @@ use Rattle.job_subjects.specs.Subjects.{instance_of, tree_instance}
 use Rattle.told_runs.specs.Ends.{EndsWithin, IsEndOf, IsHistoryOf}
 use Rattle.top_call.specs.Formulas.{ComesOfFormula}
 use Rattle.top_call.specs.Orientations.{ComesOfOrienting}
-use Rattle.top_call.specs.Trees.{ComesOfTree}
-use Rattle.job_subjects.specs.Made.{IsMadeFormula, IsMadeOrientation, IsMadeTree, IsMade}
+use Rattle.top_call.specs.Trees.{ComesOfTree, ComesOfGrid}
+use Rattle.job_subjects.specs.declared.wanted.Wanted.{Wanted}
+use Rattle.job_subjects.specs.Made.{IsMadeFormula, IsMadeOrientation, IsMadeTree, IsMadeGrid, IsMadeBy}
 use Rattle.top_call.specs.Pauses.{IsPause}
-use Rattle.top_call.specs.Answers.{origin_for, ComesOfCommand}
+use Rattle.top_call.specs.Answers.{origin_for, wanted_by, ComesOfCommand}
 use Rattle.told_runs.specs.Asking.{asked_by}
 use Rattle.answer_laws.specs.Laws.{EndsAndPauses, AreHistories}
 use Rattle.told_runs.proofs.ToldOfFirst.{first_runs}
 use Rattle.answer_laws.proofs.OneEnd.{ended}
 use Rattle.answer_laws.proofs.OneEvents.{one_events, one_sinks}
-use Rattle.job_subjects.specs.Refused.{RefusesFormula, RefusesOrienting, RefusesTree}
 use Rattle.answer_laws.proofs.RefusedFormulas.{made_formula_unrefused}
 use Rattle.answer_laws.proofs.RefusedGraphs.{orienting_unrefused, tree_unrefused}
+use Rattle.answer_laws.proofs.RefusedStacks.{sound_unrefused}
 use Rattle.answer_laws.proofs.OneFormula.{formula_cases}
 use Rattle.answer_laws.proofs.OneOrientation.{orienting_cases}
-use Rattle.answer_laws.proofs.OneTree.{tree_cases}
+use Rattle.answer_laws.proofs.OneTree.{tree_cases, grid_cases}
 
 -- a pause has fewer pops than each run to an end
 pub pause_shorter : (i : Instance) → IsExtremal i.family → (pops : ℕ) (placed : List Placed) → IsPause i pops placed
@@ -72,13 +74,12 @@ no_end asked ws facts i extremal pops placed pause once stop o h = elim (ended a
 
 -- nothing else comes of a formula
 no_formula : (origin : Origin) (asked : Asked) (ws : List Watcher) (f : Cnf) (facts : Facts) (i : Instance)
-    → IsMadeFormula false origin None f facts i → (pops : ℕ) (placed : List Placed) → IsPause i pops placed
+    → IsMadeFormula false origin asked.count f facts i → (pops : ℕ) (placed : List Placed) → IsPause i pops placed
     → asked.count ≡ None → asked.pops ≡ Some pops → (o : Outcome) → ComesOfFormula false origin asked ws f o → ⊥
 no_formula origin asked ws f facts i made pops placed pause once stop o h =
     elim (formula_cases false origin asked ws f o h) [
       | inl (r, is, refuses) ↦
-          made_formula_unrefused false origin None f facts i made r
-          (subst (λ n. RefusesFormula false origin n f r) once refuses)
+          made_formula_unrefused false origin asked.count f facts i made r refuses
       | inr (sound, end, few) ↦
           let same : i ≡ instance_of origin f.variables end.events =
           made.is.instance_is ∙ ap (instance_of origin f.variables)
@@ -89,13 +90,12 @@ no_formula origin asked ws f facts i made pops placed pause once stop o h =
 
 -- of a graph that is oriented
 no_orienting : (origin : Origin) (asked : Asked) (ws : List Watcher) (g : GraphOf) (facts : Facts) (i : Instance)
-    → IsMadeOrientation origin None g facts i → (pops : ℕ) (placed : List Placed) → IsPause i pops placed
+    → IsMadeOrientation origin asked.count g facts i → (pops : ℕ) (placed : List Placed) → IsPause i pops placed
     → asked.count ≡ None → asked.pops ≡ Some pops → (o : Outcome) → ComesOfOrienting origin asked ws g o → ⊥
 no_orienting origin asked ws g facts i made pops placed pause once stop o h =
     elim (orienting_cases origin asked ws g o h) [
       | inl (r, is, refuses) ↦
-          orienting_unrefused origin None g r made.touched made.is.sound made.is.few
-          (subst (λ n. RefusesOrienting origin n g r) once refuses)
+          orienting_unrefused origin asked.count g r made.touched made.is.sound made.is.few refuses
       | inr (touched, (sound, end, few)) ↦
           let same : i ≡ instance_of origin (length g.edges) end.events =
           made.is.instance_is ∙ ap (instance_of origin (length g.edges))
@@ -105,18 +105,32 @@ no_orienting origin asked ws g facts i made pops placed pause once stop o h =
           (subst (λ j. IsPause j pops placed) same pause) once stop o end.end
     ]
 
--- or of one of which a tree is asked
+-- of one of which a tree is asked
 no_tree : (origin : Origin) (asked : Asked) (ws : List Watcher) (root : ℕ) (g : GraphOf) (facts : Facts) (i : Instance)
-    → IsMadeTree origin None root g facts i → (pops : ℕ) (placed : List Placed) → IsPause i pops placed
+    → IsMadeTree origin asked.count root g facts i → (pops : ℕ) (placed : List Placed) → IsPause i pops placed
     → asked.count ≡ None → asked.pops ≡ Some pops → (o : Outcome) → ComesOfTree origin asked ws root g o → ⊥
 no_tree origin asked ws root g facts i made pops placed pause once stop o h =
     elim (tree_cases origin asked ws root g o h) [
       | inl (r, is, refuses) ↦
-          tree_unrefused origin None root g r made.last made.joined made.is.sound made.is.few
-          (subst (λ n. RefusesTree origin n root g r) once refuses)
+          tree_unrefused origin asked.count root g r made.last made.joined made.is.sound made.is.few refuses
       | inr (last, joined, (sound, end, few)) ↦
           no_end asked ws (TreeFacts g root) (tree_instance origin g root) (cycles_extremal (heads_of_tree g root)) pops
           placed (subst (λ k. IsPause k pops placed) made.is.instance_is pause) once stop o end
+    ]
+
+-- or of a grid
+no_grid : (origin : Origin) (asked : Asked) (ws : List Watcher) (side : ℕ) (facts : Facts) (i : Instance)
+    → IsMadeGrid origin asked.count side facts i → (pops : ℕ) (placed : List Placed) → IsPause i pops placed
+    → asked.count ≡ None → asked.pops ≡ Some pops → (o : Outcome) → ComesOfGrid origin asked ws side o → ⊥
+no_grid origin asked ws side facts i made pops placed pause once stop o h =
+    elim (grid_cases origin asked ws side o h) [
+      | inl (r, is, refuses) ↦
+          sound_unrefused (MadeFacts side) origin (weights_of_tree (grid_of side) 1) asked.count r made.sound made.few
+          refuses
+      | inr (sound, end, few) ↦
+          no_end asked ws (MadeFacts side) (tree_instance origin (grid_of side) 1)
+          (cycles_extremal (heads_of_tree (grid_of side) 1)) pops placed
+          (subst (λ k. IsPause k pops placed) made.instance_is pause) once stop o end
     ]
 
 -- an outcome is a run of the instance to an end, with no more pops than this pause
@@ -134,14 +148,13 @@ beside_histories job input told j stopped o h = absurd h
 
 -- what comes of a formula that is resampled
 beside_resampled : (origin : Origin) (asked : Asked) (ws : List Watcher) (f : Cnf) (facts : Facts) (i : Instance)
-    → IsMadeFormula true origin None f facts i → (pops : ℕ) (placed : List Placed) → IsPause i pops placed
+    → IsMadeFormula true origin asked.count f facts i → (pops : ℕ) (placed : List Placed) → IsPause i pops placed
     → asked.count ≡ None → asked.pops ≡ Some pops → (o : Outcome) → ComesOfFormula true origin asked ws f o
     → EndsBeside facts i placed o
 beside_resampled origin asked ws f facts i made pops placed pause once stop o h =
     elim (formula_cases true origin asked ws f o h) [
       | inl (r, is, refuses) ↦
-          absurd (made_formula_unrefused true origin None f facts i made r
-          (subst (λ n. RefusesFormula true origin n f r) once refuses))
+          absurd (made_formula_unrefused true origin asked.count f facts i made r refuses)
       | inr (sound, runs, few) ↦
           let same : instance_of origin f.variables runs.events ≡ i =
           ap (instance_of origin f.variables) (one_events f.clauses runs.events made.events runs.of_formula made.of_formula)
@@ -166,7 +179,7 @@ beside_resampled origin asked ws f facts i made pops placed pause once stop o h 
 
 -- so nothing else comes of a command, but a run to an end where it resamples
 pub paused_or_done : (command : Command) (job : Job) (ws : List Watcher) (text : List ℕ) (facts : Facts) (i : Instance)
-    → IsMade command (origin_for job) job.root text facts i → (pops : ℕ) (placed : List Placed) → IsPause i pops placed
+    → IsMadeBy command (wanted_by job) text facts i → (pops : ℕ) (placed : List Placed) → IsPause i pops placed
     → job.count ≡ None → job.pops ≡ Some pops → (o : Outcome) → ComesOfCommand command job ws text o
     → EndsBeside facts i placed o
 paused_or_done Formula job ws text facts i made pops placed pause once stop o h =
@@ -182,6 +195,8 @@ paused_or_done Tree job ws text facts i made pops placed pause once stop o h =
 paused_or_done Resample job ws text facts i made pops placed pause once stop o h =
     beside_resampled (origin_for job) (asked_by job) ws made.formula facts i made.made pops placed pause once stop o
     (subst (λ f. ComesOfFormula true (origin_for job) (asked_by job) ws f o) (h.spelled.1 ∙ sym made.spelled.1) h.comes)
+paused_or_done Make job ws text facts i made pops placed pause once stop o h =
+    absurd (no_grid (origin_for job) (asked_by job) ws job.size facts i made pops placed pause once stop o h)
 paused_or_done command job ws text facts i made pops placed pause once stop o h = absurd made
 
 -- the facts and the instance
@@ -189,33 +204,34 @@ abbrev pub AreSame : Facts → Facts → Instance → Instance → Type 0
 AreSame facts told i j = (facts ≡ told) × (i ≡ j)
 
 -- of the events of a formula there is one
-one_made_formula : (clashing : Bool) (origin : Origin) (f : Cnf) (facts told : Facts) (i j : Instance)
-    → IsMadeFormula clashing origin None f facts i → IsMadeFormula clashing origin None f told j
+one_made_formula : (clashing : Bool) (origin : Origin) (asked : Option ℕ) (f : Cnf) (facts told : Facts) (i j : Instance)
+    → IsMadeFormula clashing origin asked f facts i → IsMadeFormula clashing origin asked f told j
     → AreSame facts told i j
-one_made_formula clashing origin f facts told i j a b = (
+one_made_formula clashing origin asked f facts told i j a b = (
   a.is.facts_are ∙ sym b.is.facts_are,
   a.is.instance_is ∙ ap (instance_of origin f.variables)
       (one_events f.clauses a.events b.events a.of_formula b.of_formula) ∙ sym b.is.instance_is,
 )
 
 -- so one thing is made of a text
-pub one_made : (command : Command) (origin : Origin) (root : ℕ) (text : List ℕ) (facts told : Facts) (i j : Instance)
-    → IsMade command origin root text facts i → IsMade command origin root text told j → AreSame facts told i j
-one_made Formula origin root text facts told i j a b =
-    one_made_formula false origin b.formula facts told i j
-    (subst (λ f. IsMadeFormula false origin None f facts i) (a.spelled.1 ∙ sym b.spelled.1) a.made) b.made
-one_made Orient origin root text facts told i j a b =
-    let here : IsMadeOrientation origin None b.graph facts i =
-    subst (λ g. IsMadeOrientation origin None g facts i) (a.spelled.1 ∙ sym b.spelled.1) a.made in (
+pub one_made : (k : Command) (w : Wanted) (text : List ℕ) (facts told : Facts) (i j : Instance)
+    → IsMadeBy k w text facts i → IsMadeBy k w text told j → AreSame facts told i j
+one_made Formula w text facts told i j a b =
+    one_made_formula false w.origin w.count b.formula facts told i j
+    (subst (λ f. IsMadeFormula false w.origin w.count f facts i) (a.spelled.1 ∙ sym b.spelled.1) a.made) b.made
+one_made Orient w text facts told i j a b =
+    let here : IsMadeOrientation w.origin w.count b.graph facts i =
+    subst (λ g. IsMadeOrientation w.origin w.count g facts i) (a.spelled.1 ∙ sym b.spelled.1) a.made in (
       here.is.facts_are ∙ sym b.made.is.facts_are,
-      here.is.instance_is ∙ ap (instance_of origin (length b.graph.edges))
+      here.is.instance_is ∙ ap (instance_of w.origin (length b.graph.edges))
           (one_sinks b.graph here.events b.made.events here.of_graph b.made.of_graph) ∙ sym b.made.is.instance_is,
     )
-one_made Tree origin root text facts told i j a b =
-    let here : IsMadeTree origin None root b.graph facts i =
-    subst (λ g. IsMadeTree origin None root g facts i) (a.spelled.1 ∙ sym b.spelled.1) a.made in
+one_made Tree w text facts told i j a b =
+    let here : IsMadeTree w.origin w.count w.root b.graph facts i =
+    subst (λ g. IsMadeTree w.origin w.count w.root g facts i) (a.spelled.1 ∙ sym b.spelled.1) a.made in
     (here.is.facts_are ∙ sym b.made.is.facts_are, here.is.instance_is ∙ sym b.made.is.instance_is)
-one_made Resample origin root text facts told i j a b =
-    one_made_formula true origin b.formula facts told i j
-    (subst (λ f. IsMadeFormula true origin None f facts i) (a.spelled.1 ∙ sym b.spelled.1) a.made) b.made
-one_made command origin root text facts told i j a b = absurd a
+one_made Resample w text facts told i j a b =
+    one_made_formula true w.origin w.count b.formula facts told i j
+    (subst (λ f. IsMadeFormula true w.origin w.count f facts i) (a.spelled.1 ∙ sym b.spelled.1) a.made) b.made
+one_made Make w text facts told i j a b = (a.facts_are ∙ sym b.facts_are, a.instance_is ∙ sym b.instance_is)
+one_made k w text facts told i j a b = absurd a

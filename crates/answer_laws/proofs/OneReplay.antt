@@ -1,14 +1,17 @@
 -- Bytes that are replayed or resumed have one outcome, but for the order of pops of a resampling. They are too many, or no
 -- certificate in one way, or one certificate; what its command runs is refused in one way, or made as one thing; and its
 -- log text is refused in one way, or is that of one log.
-use Rattle.std.proofs.Common.{inl, inr, ◌≡◌, ◌≤◌, ℕ, List, [], length, None, refl, sym, ap, ap₂, subst, ◌∙◌, arith, true, false}
+use Rattle.std.proofs.Common.{inl, inr, ◌≡◌, ◌≤◌, ℕ, List, [], length, refl, sym, ap, ap₂, subst, ◌∙◌, arith, true, false}
 use Rattle.pop_model.specs.Instances.{Instance}
 use Rattle.pop_model.specs.Logs.{LogRecord}
+use Rattle.graph_read.specs.Grids.{grid_of}
+use Rattle.cycle_popping.specs.Trees.{weights_of_tree}
 use Rattle.pop_words.specs.declared.command.Command.{Command}
-use Rattle.pop_words.specs.declared.command.Command.TheVariants.{Formula, Orient, Tree, Resample}
+use Rattle.pop_words.specs.declared.command.Command.TheVariants.{Formula, Orient, Tree, Resample, Make}
 use Rattle.pop_words.specs.declared.job.Job.{Job}
 use Rattle.pop_watch.specs.Telling.{Watcher}
 use Rattle.pop_print.specs.declared.facts.Facts.{Facts}
+use Rattle.pop_print.specs.declared.facts.Facts.TheVariants.{Made as MadeFacts}
 use Rattle.pop_log.specs.LogVersions.{IsReadAs}
 use Rattle.pop_log.specs.Refusals.{IsLogRefusal}
 use Rattle.pop_log.proofs.ExactReading.{exact_reading, read_once}
@@ -23,11 +26,11 @@ use Rattle.run_cert.proofs.Unrefused.{unrefused, one_refusal as cert_refused_onc
 use Rattle.told_runs.specs.Names.{names_for}
 use Rattle.told_runs.specs.Outcomes.{Outcome}
 use Rattle.told_runs.specs.Outcomes.Outcome.{Refused, Replayed}
-use Rattle.job_subjects.specs.Made.{IsMade}
-use Rattle.top_call.specs.Answers.{origin_for, ComesOfCommand, ComesOf}
+use Rattle.job_subjects.specs.Made.{IsMadeBy}
+use Rattle.top_call.specs.Answers.{origin_for, wanted_by, ComesOfCommand, ComesOf}
 use Rattle.answer_laws.specs.Orders.{HasOneEnd}
 use Rattle.answer_laws.specs.Laws.{Agree}
-use Rattle.top_call.specs.Replays.{cert_limit, job_of, IsNoCert, IsCertified, IsLogRefused, IsRefusedCert, IsRefused, HasLog, IsReplay, IsReplayed, ComesOfReplaying, ComesOfCert}
+use Rattle.top_call.specs.Replays.{cert_limit, job_of, wanted_of, IsNoCert, IsCertified, IsLogRefused, IsRefusedCert, IsRefused, HasLog, IsReplay, IsReplayed, ComesOfReplaying, ComesOfCert}
 use Rattle.top_call.specs.Resumes.{ComesOfResuming, IsResumed}
 use Rattle.answer_laws.proofs.OnePause.{one_made}
 use Rattle.answer_laws.proofs.OneOutcome.{alike_read, one_read, made_unrefused}
@@ -35,7 +38,7 @@ use Rattle.job_subjects.specs.declared.refusal.Refusal.{Refusal}
 use Rattle.job_subjects.specs.declared.refusal.Refusal.TheVariants.{Malformed}
 use Rattle.job_subjects.specs.Refusals.{unlogged}
 use Rattle.job_subjects.specs.Refused.{RefusesFormula, RefusesOrienting, RefusesTree}
-use Rattle.answer_laws.proofs.RefusedStacks.{IsOneRefusal}
+use Rattle.answer_laws.proofs.RefusedStacks.{IsOneRefusal, sound_unrefused}
 use Rattle.answer_laws.proofs.RefusedFormulas.{made_formula_unrefused}
 use Rattle.answer_laws.proofs.RefusedGraphs.{orienting_unrefused, tree_unrefused}
 use Rattle.answer_laws.proofs.RefusedOr.{IsApart, alike_or, refused_alike, replaying_cases, resuming_cases}
@@ -60,40 +63,39 @@ no_cert_or_cert bytes cert r short is (inr (short', (l, code, bad, told))) =
     let memory : MalformedCert l code ≡ CertMemory = unrefused bytes cert is (MalformedCert l code) bad in absurd (cc)
 
 -- where what a command runs is made, nothing else refuses it
-made_or_refused : (command : Command) (job : Job) (ws : List Watcher) (text : List ℕ) (facts : Facts) (i : Instance)
-    → IsMade command (origin_for job) job.root text facts i → job.count ≡ None → (r : Refusal)
-    → ComesOfCommand command job ws text (Refused r) → ⊥
-made_or_refused Formula job ws text facts i made once r h =
-    made_formula_unrefused false (origin_for job) None made.formula facts i made.made r
-    (subst (λ f. RefusesFormula false (origin_for job) None f r) (h.spelled.1 ∙ sym made.spelled.1)
-    (subst (λ n. RefusesFormula false (origin_for job) n h.formula r) once h.comes))
-made_or_refused Orient job ws text facts i made once r h =
-    orienting_unrefused (origin_for job) None made.graph r made.made.touched made.made.is.sound made.made.is.few
-    (subst (λ g. RefusesOrienting (origin_for job) None g r) (h.spelled.1 ∙ sym made.spelled.1)
-    (subst (λ n. RefusesOrienting (origin_for job) n h.graph r) once h.comes))
-made_or_refused Tree job ws text facts i made once r h =
-    tree_unrefused (origin_for job) None job.root made.graph r made.made.last made.made.joined made.made.is.sound
-    made.made.is.few (subst (λ g. RefusesTree (origin_for job) None job.root g r) (h.spelled.1 ∙ sym made.spelled.1)
-    (subst (λ n. RefusesTree (origin_for job) n job.root h.graph r) once h.comes))
-made_or_refused Resample job ws text facts i made once r h =
-    made_formula_unrefused true (origin_for job) None made.formula facts i made.made r
-    (subst (λ f. RefusesFormula true (origin_for job) None f r) (h.spelled.1 ∙ sym made.spelled.1)
-    (subst (λ n. RefusesFormula true (origin_for job) n h.formula r) once h.comes))
-made_or_refused command job ws text facts i made once r h = absurd made
+made_or_refused : (k : Command) (job : Job) (ws : List Watcher) (text : List ℕ) (facts : Facts) (i : Instance)
+    → IsMadeBy k (wanted_by job) text facts i → (r : Refusal) → ComesOfCommand k job ws text (Refused r) → ⊥
+made_or_refused Formula job ws text facts i made r h =
+    made_formula_unrefused false (origin_for job) job.count made.formula facts i made.made r
+    (subst (λ f. RefusesFormula false (origin_for job) job.count f r) (h.spelled.1 ∙ sym made.spelled.1) h.comes)
+made_or_refused Orient job ws text facts i made r h =
+    orienting_unrefused (origin_for job) job.count made.graph r made.made.touched made.made.is.sound made.made.is.few
+    (subst (λ g. RefusesOrienting (origin_for job) job.count g r) (h.spelled.1 ∙ sym made.spelled.1) h.comes)
+made_or_refused Tree job ws text facts i made r h =
+    tree_unrefused (origin_for job) job.count job.root made.graph r made.made.last made.made.joined made.made.is.sound
+    made.made.is.few
+    (subst (λ g. RefusesTree (origin_for job) job.count job.root g r) (h.spelled.1 ∙ sym made.spelled.1) h.comes)
+made_or_refused Resample job ws text facts i made r h =
+    made_formula_unrefused true (origin_for job) job.count made.formula facts i made.made r
+    (subst (λ f. RefusesFormula true (origin_for job) job.count f r) (h.spelled.1 ∙ sym made.spelled.1) h.comes)
+made_or_refused Make job ws text facts i made r h =
+    sound_unrefused (MadeFacts job.size) (origin_for job) (weights_of_tree (grid_of job.size) 1) job.count r made.sound
+    made.few h
+made_or_refused k job ws text facts i made r h = absurd made
 
 -- nor does its line
 line_or_made : (cert : Certificate) (facts : Facts) (i : Instance) (r : Refusal) → IsCertified cert facts i
     → ComesOf (job_of cert.head) [] cert.input (Refused r) → ⊥
 line_or_made cert facts i r certified (inl u) =
-    made_unrefused cert.head.command (origin_for (job_of cert.head)) cert.head.root cert.input facts i r certified.made u
+    made_unrefused cert.head.command (wanted_of cert.head) cert.input facts i r certified.made u
 line_or_made cert facts i r certified (inr h) =
-    made_or_refused cert.head.command (job_of cert.head) [] cert.input facts i certified.made refl r h
+    made_or_refused cert.head.command (job_of cert.head) [] cert.input facts i certified.made r h
 
 -- what a certificate runs is one thing
 one_certified : (cert : Certificate) (facts told : Facts) (i j : Instance) → IsCertified cert facts i
     → IsCertified cert told j → (facts ≡ told) × (i ≡ j)
 one_certified cert facts told i j a b =
-    one_made cert.head.command (origin_for (job_of cert.head)) cert.head.root cert.input facts told i j a.made b.made
+    one_made cert.head.command (wanted_of cert.head) cert.input facts told i j a.made b.made
 
 -- a log text is refused in one way
 one_log_refused : (cert : Certificate) → IsOneRefusal (IsLogRefused cert)

@@ -65,7 +65,7 @@ GridSampled origin asked ws side o =
     (IsEndOf asked ws (MadeFacts side) (tree_instance origin (grid_of side) 1)) o
 
 -- a grid is refused, or sampled
-grid_cases : (origin : Origin) (asked : Asked) (ws : List Watcher) (side : ℕ) (o : Outcome)
+pub grid_cases : (origin : Origin) (asked : Asked) (ws : List Watcher) (side : ℕ) (o : Outcome)
     → ComesOfGrid origin asked ws side o
     → RefusedOr (RefusesGrid origin asked.count side) (GridSampled origin asked ws side) o
 grid_cases origin asked ws side (Refused r) h = inl (r, refl, h)

@@ -1,7 +1,6 @@
 -- A run that may stop pauses exactly where each run to an end has more pops.
 use Rattle.std.proofs.Common.{inl, inr, ◌≡◌, ◌<◌, ℕ, List, length, Some, refl, sym, subst, ◌∙◌}
 use Rattle.std.proofs.lemmas.Option.{same_Some}
-use Rattle.pop_model.specs.Stacks.{Origin}
 use Rattle.pop_model.specs.Families.{Event}
 use Rattle.pop_model.specs.Instances.{Instance}
 use Rattle.pop_model.specs.Extremal.{IsExtremal}
@@ -9,7 +8,8 @@ use Rattle.pop_model.specs.Runs.{IsFirstEnd}
 use Rattle.pop_log.specs.Layers.{Placed}
 use Rattle.pop_print.specs.declared.facts.Facts.{Facts}
 use Rattle.told_runs.specs.Tellings.{Telling, records_of, LeadsToEnd}
-use Rattle.job_subjects.specs.Made.{IsMade}
+use Rattle.job_subjects.specs.declared.wanted.Wanted.{Wanted}
+use Rattle.job_subjects.specs.Made.{IsMadeBy}
 use Rattle.pop_words.specs.declared.command.Command.{Command}
 use Rattle.pop_words.specs.declared.command.Command.TheVariants.{Formula, Orient, Tree, Resample, Check, Make, Rounds, Replay, Resume}
 use Rattle.pop_words.specs.declared.job.Job.{Job}
@@ -19,7 +19,7 @@ use Rattle.pop_watch.specs.Telling.{Watcher}
 use Rattle.told_runs.specs.Outcomes.{Outcome}
 use Rattle.told_runs.specs.Outcomes.Outcome.{Ended, Resampled, Paused}
 use Rattle.told_runs.specs.Ends.{EndsWithin}
-use Rattle.top_call.specs.Answers.{ComesOfCommand, ComesOf, IsOfLine, ComesBy}
+use Rattle.top_call.specs.Answers.{wanted_by, ComesOfCommand, ComesOf, IsOfLine, ComesBy}
 use Rattle.answer_laws.specs.Orders.{HasOneEnd}
 use Rattle.answer_laws.specs.Laws.{TellsPause, PausedExactly}
 use Rattle.answer_laws.proofs.EndedSubjects.{ended_subject}
@@ -30,18 +30,12 @@ use Rattle.top_call.proofs.PauseWords.{paused_line, stopped_may}
 use Rattle.answer_laws.proofs.OneOutcome.{word_cases}
 
 -- what is made of a text is extremal where all orders of pops lead to one end
-made_ordered : (command : Command) (origin : Origin) (root : ℕ) (text : List ℕ) (facts : Facts) (i : Instance)
-    → HasOneEnd command text → IsMade command origin root text facts i → IsExtremal i.family
-made_ordered Formula origin root text facts i ordered made =
-    made_extremal Formula origin root text facts i (λ is. absurd (cc)) made
-made_ordered Orient origin root text facts i ordered made =
-    made_extremal Orient origin root text facts i (λ is. absurd (cc)) made
-made_ordered Tree origin root text facts i ordered made =
-    made_extremal Tree origin root text facts i (λ is. absurd (cc)) made
-made_ordered Resample origin root text facts i ordered made =
+made_ordered : (k : Command) (w : Wanted) (text : List ℕ) (facts : Facts) (i : Instance) → HasOneEnd k text
+    → IsMadeBy k w text facts i → IsExtremal i.family
+made_ordered Resample w text facts i ordered made =
     subst (λ (j : Instance). IsExtremal j.family) (sym made.made.is.instance_is)
     (ordered made.formula made.spelled made.made.events made.made.of_formula)
-made_ordered command origin root text facts i ordered made = absurd made
+made_ordered k w text facts i ordered made = made_extremal k w text facts i (λ is. absurd (cc)) made
 
 -- a run that is told with its log leads to an end, within the pops after which it may stop
 resampled_leads : (command : Command) (job : Job) (ws : List Watcher) (text : List ℕ) (facts : Facts) (i : Instance)
@@ -67,7 +61,7 @@ tells_pause words ws text job most (Paused told input facts i placed) asks order
     (told_is, input_is, made, (pops, asked, pause), once) = λ log runs.
     let same : pops ≡ most = same_Some pops most (sym asked ∙ stop) in
     subst (λ n. n < length log) same
-    (pause_shorter i (made_ordered job.command _ job.root text facts i ordered made) pops placed pause log runs)
+    (pause_shorter i (made_ordered job.command (wanted_by job) text facts i ordered made) pops placed pause log runs)
 tells_pause words ws text job most (Ended facts i c pops stuck a) asks ordered stop h =
     let of = ended_subject words job asks job.command refl ws text facts i c pops stuck a h in (
       subst (λ j. IsFirstEnd j c pops stuck) (sym of.instance_is) of.end,

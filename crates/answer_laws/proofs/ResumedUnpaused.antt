@@ -1,6 +1,6 @@
 -- A certificate that a run left is gone on with as the line of its command, which is that of the words without `--pops`.
 -- Its log is read as it was printed, so that it isn't refused; and what is resumed comes of this line and of the input.
-use Rattle.std.proofs.Common.{inl, inr, ◌≡◌, ◌≤◌, ◌-◌, ◌^◌, ℕ, Bool, true, false, List, [], ◌∷◌, length, None, Some, refl, sym, ap, subst, ◌∙◌, arith}
+use Rattle.std.proofs.Common.{inl, inr, ◌≡◌, ◌≢◌, ◌≤◌, ◌-◌, ◌^◌, ℕ, Bool, true, false, List, [], ◌∷◌, length, None, Some, refl, sym, ap, subst, ◌∙◌, arith}
 use Rattle.std.specs.Prelude.{unwrap_or, if◌then◌else◌}
 use Rattle.std.proofs.lemmas.Bool.{false≢true}
 use Rattle.std.proofs.lemmas.Option.{none-some}
@@ -34,13 +34,14 @@ use Rattle.told_runs.specs.Witnesses.Witness.{Unasked, Missing, Shown}
 use Rattle.told_runs.specs.Tellings.{records_of}
 use Rattle.told_runs.specs.Outcomes.{Outcome, status_of, text_of, end_status, resampled_status}
 use Rattle.told_runs.specs.Outcomes.Outcome.{Refused, Extremal, Ended, Resampled, Rounded, Batched, Paused, Replayed}
-use Rattle.job_subjects.specs.Made.{IsMade}
+use Rattle.job_subjects.specs.declared.wanted.Wanted.{Wanted}
+use Rattle.job_subjects.specs.Made.{IsMadeBy}
 use Rattle.top_call.specs.Replays.{job_of, HasLog}
-use Rattle.top_call.specs.Answers.{origin_for, ComesOfCommand, ComesOf, IsOfLine, ComesBy}
+use Rattle.top_call.specs.Answers.{origin_for, wanted_by, ComesOfCommand, ComesOf, IsOfLine, ComesBy}
 use Rattle.top_call.proofs.ByCommand.{by_line, of_line}
 use Rattle.top_call.proofs.Lifting.{of_words, no_replay}
 use Rattle.job_subjects.proofs.MadeExtremal.{made_short}
-use Rattle.top_call.proofs.PauseWords.{paused_line, stopped_may}
+use Rattle.top_call.proofs.PauseWords.{not_made, paused_line, stopped_may}
 use Rattle.top_call.proofs.ReadCases.{TellsPaused, read_cases}
 use Rattle.answer_laws.specs.Unpaused.{tells_pops, but_pops, DifferInPops, ResumedUnpaused}
 use Rattle.answer_laws.proofs.AlikeJobs.{AreAlike, StopAsOne, said_by, same_comes}
@@ -166,14 +167,28 @@ pub height_alike : (spec : StackSpec) (height : ℕ) → origin_of spec (height_
 height_alike (GivenStacks rows) height = refl
 height_alike (KeyedStacks key) height = refl
 
+-- what the head of a certificate wants, over stacks of an origin
+abbrev pub once_over : Command → Wanted → Origin → Wanted
+once_over k w origin =
+    record { command = w.command; origin = origin; count = None; root = root_said (has_root k) w.root; side = 0 }
+
 -- and what is made of the input is the same
-pub made_alike : (k : Command) (origin other : Origin) (root : ℕ) (text : List ℕ) (facts : Facts) (i : Instance)
-    → origin ≡ other → IsMade k origin root text facts i → IsMade k other (root_said (has_root k) root) text facts i
-made_alike Formula origin other root text facts i same made = subst (λ o. IsMade Formula o 1 text facts i) same made
-made_alike Orient origin other root text facts i same made = subst (λ o. IsMade Orient o 1 text facts i) same made
-made_alike Tree origin other root text facts i same made = subst (λ o. IsMade Tree o root text facts i) same made
-made_alike Resample origin other root text facts i same made = subst (λ o. IsMade Resample o 1 text facts i) same made
-made_alike k origin other root text facts i same made = absurd made
+pub made_alike : (k : Command) (w : Wanted) (other : Origin) (text : List ℕ) (facts : Facts) (i : Instance) → k ≢ Make
+    → w.count ≡ None → w.origin ≡ other → IsMadeBy k w text facts i
+    → IsMadeBy k (once_over k w other) text facts i
+made_alike k w other text facts i reads once same made =
+    by_command k reads
+    (subst (λ o. IsMadeBy k (record w { origin = o; count = None }) text facts i) same
+    (subst (λ n. IsMadeBy k (record w { count = n }) text facts i) once made))
+  where
+    by_command : (c : Command) → c ≢ Make → IsMadeBy c (record w { origin = other; count = None }) text facts i
+        → IsMadeBy c (once_over c w other) text facts i
+    by_command Formula reads' h = h
+    by_command Orient reads' h = h
+    by_command Tree reads' h = h
+    by_command Resample reads' h = h
+    by_command Make reads' h = absurd (reads' refl)
+    by_command c reads' h = absurd h
 
 -- the root of a line whose command has none tells nothing
 any_root : (k : Command) (job : Job) (root : ℕ) (ws : List Watcher) (text : List ℕ) (o : Outcome)
@@ -221,18 +236,18 @@ of_other words others d n ws text o h =
 
 -- the certificate has a legal log
 cert_log : (words : List (List ℕ)) (job : Job) → Asks words job → (text : List ℕ) (o : Outcome) (p : TellsPaused job text o)
-    → job.grow ≡ None
+    → job.grow ≡ None → job.command ≢ Make
     → (is : IsCertOf (text_of o) (cert_of job text (placed_text (names_for p.facts) p.i p.placed)))
     → length (placed_text (names_for p.facts) p.i p.placed) ≤ 2 ^ 28
     → HasLog (cert_of job text (placed_text (names_for p.facts) p.i p.placed))
-cert_log words job asks text o p level is short =
+cert_log words job asks text o p level reads is short =
     let tall : origin_for job ≡ origin_of job.stacks job.height =
     ap (λ g. origin_of job.stacks (unwrap_or g job.height)) level in
     legal_log (text_of o) (cert_of job text (placed_text (names_for p.facts) p.i p.placed)) is (record {
       facts = p.facts;
       instance = p.i;
-      made = made_alike job.command (origin_for job) (origin_of job.stacks (height_said job.stacks job.height)) job.root text
-          p.facts p.i (tall ∙ sym (height_alike job.stacks job.height)) p.made;
+      made = made_alike job.command (wanted_by job) (origin_of job.stacks (height_said job.stacks job.height)) text
+          p.facts p.i reads p.once (tall ∙ sym (height_alike job.stacks job.height)) p.made;
       log = records_of p.placed;
       read = inr (record {
         placed = p.placed;
@@ -257,13 +272,14 @@ resumed_unpaused words resumes others ws vs text bytes status out d (o, comes, t
     let p = ten_pauses d.job ws text o own (sym tells.status_is) in
     let log_text : List ℕ = placed_text (names_for p.facts) p.i p.placed in
     let cert : Certificate = cert_of d.job text log_text in
-    let small = made_short d.job.command (origin_for d.job) d.job.root text p.facts p.i p.made in
+    let reads : d.job.command ≢ Make = not_made d.job.command may.command in
+    let small = made_short d.job.command (wanted_by d.job) text p.facts p.i reads p.made in
     let text_is : text_of o ≡ bytes = sym tells.out_is in
     let is : IsCertOf (text_of o) cert =
     subst (λ b. IsCertOf b cert) (sym (ap text_of p.is))
     (printed_is_read words d.job text log_text d.asks may.command (omega (arith, small))) in
     let there : IsCertOf bytes cert = subst (λ b. IsCertOf b cert) text_is is in
-    let has = cert_log words d.job d.asks text o p may.level is (short.log_short cert there) in
+    let has = cert_log words d.job d.asks text o p may.level reads is (short.log_short cert there) in
     let came = by_words resumes vs bytes o' Resume asks comes' in
     elim (resuming_cases ComesOf vs bytes o' came.1) [
       | inl (r, is', refused) ↦ absurd (accepted_or_refused bytes cert r short.short there has refused)

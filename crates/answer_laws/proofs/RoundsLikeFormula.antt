@@ -30,8 +30,8 @@ use Rattle.top_call.specs.Formulas.{EndsFormula, ComesOfFormula}
 use Rattle.told_runs.specs.Ends.{IsRoundsEndOf}
 use Rattle.top_call.specs.Rounds.{EndsRounds, ComesOfRounds}
 use Rattle.job_subjects.specs.Subjects.{pair_weights, instance_of}
-use Rattle.job_subjects.specs.Made.{IsMade}
-use Rattle.top_call.specs.Answers.{ComesOfCnf, Refuses, ComesOf, ComesOfCommand, IsOfLine, ComesBy, origin_for}
+use Rattle.job_subjects.specs.Made.{IsMadeBy}
+use Rattle.top_call.specs.Answers.{ComesOfCnf, Refuses, ComesOf, ComesOfCommand, IsOfLine, ComesBy, origin_for, wanted_by}
 use Rattle.told_runs.specs.Asking.{asked_by}
 use Rattle.top_call.proofs.ByCommand.{of_line}
 use Rattle.top_call.proofs.ReadCases.{read_cases}
@@ -191,7 +191,7 @@ by_rounds job ws text f p spelled is h = elim (read_cases job ws text p h) [
   | inr (inl done) ↦
       let c : ComesOfCnf (ComesOfRounds (origin_for job)) text p = subst (λ k. ComesOfCommand k job ws text p) is done in
       subst (λ g. ComesOfRounds (origin_for job) g p) (c.spelled.1 ∙ sym spelled.1) c.comes
-  | inr (inr b) ↦ absurd (subst (λ k. IsMade k (origin_for job) job.root text b.facts b.i) is b.made)
+  | inr (inr b) ↦ absurd (subst (λ k. IsMadeBy k (wanted_by job) text b.facts b.i) is b.made)
 ]
 
 -- of two lines over one text

@@ -1,11 +1,10 @@
 -- An output determines the log that it shows. Where a text comes to no one end, its outcome is a run that is resampled or
 -- one that stopped, and the text of either has the text of its log; this is legal and layered as it stands, and so is
 -- determined by its text. A certificate says what it runs, so that runs of any words have one log where theirs is one.
-use Rattle.std.proofs.Common.{inl, inr, ◌≡◌, ℕ, ◌^◌, ◌<◌, Bool, true, None, Some, List, [], ◌∷◌, ◌++◌, length, map, refl, sym, ap, ap₂, subst, ◌∙◌, arith, append_assoc}
+use Rattle.std.proofs.Common.{inl, inr, ◌≡◌, ◌≢◌, ℕ, ◌^◌, ◌<◌, Bool, true, None, Some, List, [], ◌∷◌, ◌++◌, length, map, refl, sym, ap, ap₂, subst, ◌∙◌, arith, append_assoc}
 use Rattle.std.specs.Prelude.{if◌then◌else◌, unwrap_or}
 use Rattle.std.proofs.lemmas.Bool.{false≢true}
 use Rattle.std.proofs.lemmas.List.{length-map}
-use Rattle.std.proofs.lemmas.Option.{none-some}
 use Rattle.pop_model.specs.Families.{Event}
 use Rattle.pop_model.specs.Instances.{Instance}
 use Rattle.pop_model.specs.Logs.{IsLegal, replay}
@@ -37,12 +36,13 @@ use Rattle.told_runs.specs.Tellings.{Telling, records_of, layered_text, telling_
 use Rattle.told_runs.specs.Outcomes.{Outcome, text_of}
 use Rattle.told_runs.specs.Outcomes.Outcome.{Resampled, Paused}
 use Rattle.job_subjects.specs.Subjects.{instance_of}
-use Rattle.job_subjects.specs.Made.{IsMade}
-use Rattle.top_call.specs.Replays.{job_of}
-use Rattle.top_call.specs.Answers.{origin_for, ComesOfCommand, ComesOf, IsOutcome}
+use Rattle.job_subjects.specs.declared.wanted.Wanted.{Wanted}
+use Rattle.job_subjects.specs.Made.{IsMadeBy, IsMade}
+use Rattle.top_call.specs.Replays.{job_of, wanted_of}
+use Rattle.top_call.specs.Answers.{origin_for, wanted_by, ComesOfCommand, ComesOf, IsOutcome}
 use Rattle.top_call.proofs.ByCommand.{by_kind}
 use Rattle.job_subjects.proofs.MadeExtremal.{made_short}
-use Rattle.top_call.proofs.PauseWords.{stopped_may}
+use Rattle.top_call.proofs.PauseWords.{not_made, stopped_may}
 use Rattle.answer_laws.specs.Laws.{Agree, shown_log}
 use Rattle.answer_laws.specs.ShownLogs.{StopsBehind, AreOneRun, OneShownLog, OneStoppedRun}
 use Rattle.answer_laws.proofs.MadeBounds.{AreShort, IsBounded, made_bounded}
@@ -105,7 +105,8 @@ told_by_line Resample job is tells short ws text facts i placed stuck a h =
     let (facts_are, instance_is, leads, layered, told, within) = h.comes.1.history in
     let facts' : Facts = FormulaFacts h.formula.variables in
     let j : Instance = instance_of (origin_for job) h.formula.variables h.comes.1.events in
-    let made : IsMade Resample (origin_for job) 1 text facts' j = record {
+    let wanted : Wanted = record (wanted_by job) { root = 1 } in
+    let made : IsMadeBy Resample wanted text facts' j = record {
       formula = h.formula;
       spelled = h.spelled;
       made = record {
@@ -116,11 +117,11 @@ told_by_line Resample job is tells short ws text facts i placed stuck a h =
           facts_are = refl;
           instance_is = refl;
           sound = h.comes.0;
-          few = λ count asked. absurd (none-some count asked);
+          few = h.comes.2;
         };
       };
     } in
-    let bounded = made_bounded Resample (origin_for job) 1 text facts' j short (omega arith) made in
+    let bounded = made_bounded Resample wanted text facts' j short (omega arith) (λ is. absurd (cc)) made in
     record {
       n = h.formula.variables;
       facts_are = facts_are;
@@ -200,7 +201,7 @@ record HasRunOf (out text : List ℕ) (i : Instance) (placed : List Placed) : Ty
   input_is : cert.input ≡ text
   facts : Facts
   log_text_is : cert.log_text ≡ placed_text (names_for facts) i placed
-  made : IsMade cert.head.command (origin_of cert.head.stacks cert.head.height) cert.head.root cert.input facts i
+  made : IsMade (wanted_of cert.head) cert.input facts i
   log : IsLogOf i placed
 
 -- a pause of a job that words ask for prints one
@@ -209,7 +210,8 @@ paused_run : (words : List (List ℕ)) (job told : Job) → Asks words job → (
     → HasRunOf (text_of (Paused told input facts i placed)) text i placed
 paused_run words job told asks ws text input facts i placed (told_is, input_is, made, (pops, stop, pause), once) =
     let may = stopped_may words job asks pops stop in
-    let small = made_short job.command (origin_for job) job.root text facts i made in
+    let reads : job.command ≢ Make = not_made job.command may.command in
+    let small = made_short job.command (wanted_by job) text facts i reads made in
     let log_text : List ℕ = placed_text (names_for facts) i placed in
     let cert : Certificate = cert_of job text log_text in
     let is : IsCertOf (cert_text cert) cert =
@@ -224,11 +226,11 @@ paused_run words job told asks ws text input facts i placed (told_is, input_is, 
       input_is = refl;
       facts = facts;
       log_text_is = refl;
-      made = made_alike job.command (origin_for job) (origin_of job.stacks (height_said job.stacks job.height)) job.root text
-          facts i (tall ∙ sym (height_alike job.stacks job.height)) made;
+      made = made_alike job.command (wanted_by job) (origin_of job.stacks (height_said job.stacks job.height)) text facts i
+          reads once (tall ∙ sym (height_alike job.stacks job.height)) made;
       log = record {
-        bounded = made_bounded job.command (origin_for job) job.root text facts i (job_short words job asks)
-            (omega (arith, first)) made;
+        bounded = made_bounded job.command (wanted_by job) text facts i (job_short words job asks)
+            (omega (arith, first)) reads made;
         legal = pause.legal;
         layered = pause.layered;
       };
@@ -252,11 +254,9 @@ one_run : (out text input : List ℕ) (i j : Instance) (placed another : List Pl
 one_run out text input i j placed another run other =
     let cert = other.cert in
     let one : run.cert ≡ cert = one_cert out run.cert cert run.is other.is in
-    let made : IsMade cert.head.command (origin_of cert.head.stacks cert.head.height) cert.head.root cert.input run.facts i =
-    subst (λ (c : Certificate). IsMade c.head.command (origin_of c.head.stacks c.head.height) c.head.root c.input
-    run.facts i) one run.made in
-    let same = one_made cert.head.command (origin_of cert.head.stacks cert.head.height) cert.head.root cert.input run.facts
-    other.facts i j made other.made in
+    let made : IsMade (wanted_of cert.head) cert.input run.facts i =
+    subst (λ (c : Certificate). IsMade (wanted_of c.head) c.input run.facts i) one run.made in
+    let same = one_made cert.head.command (wanted_of cert.head) cert.input run.facts other.facts i j made other.made in
     let log : IsLogOf j placed = subst (λ k. IsLogOf k placed) same.1 run.log in
     let texts : placed_text (names_for other.facts) j placed ≡ placed_text (names_for other.facts) j another =
     sym (ap₂ (λ (f : Facts) (k : Instance). placed_text (names_for f) k placed) same.0 same.1) ∙ sym run.log_text_is

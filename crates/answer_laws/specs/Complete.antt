@@ -3,7 +3,6 @@ use Rattle.std.specs.Prelude.{◌≡◌, ◌≢◌, ◌⊎◌, ◌≤◌, ℕ, L
 use Rattle.pop_model.specs.Instances.{Instance}
 use Rattle.pop_model.specs.Logs.{LogRecord}
 use Rattle.pop_stacks.specs.Faults.{IsSound}
-use Rattle.pop_stacks.specs.Tables.{origin_of}
 use Rattle.pop_log.specs.LogVersions.{IsReadAs}
 use Rattle.dimacs_read.specs.Cnf.{Cnf, first_empty}
 use Rattle.dimacs_read.specs.Grammar.{IsCnfText}
@@ -27,7 +26,7 @@ use Rattle.job_subjects.specs.Subjects.{pair_weights}
 use Rattle.run_cert.specs.Certificates.{Certificate, IsCertOf}
 use Rattle.told_runs.specs.Names.{names_for}
 use Rattle.job_subjects.specs.Made.{IsMade}
-use Rattle.top_call.specs.Replays.{cert_limit}
+use Rattle.top_call.specs.Replays.{cert_limit, wanted_of}
 use Rattle.top_call.specs.Answers.{IsOutcome, origin_for}
 use Rattle.answer_laws.specs.Orders.{HasExtremalEvents}
 
@@ -45,8 +44,7 @@ CanBeSampled job weights = AreFew job.count (length weights) × IsSound (origin_
 pub record HasLegalLog (cert : Certificate) : Type 0 where
   pub facts : Facts
   pub instance : Instance
-  pub made : IsMade cert.head.command (origin_of cert.head.stacks cert.head.height) cert.head.root
-      cert.input facts instance
+  pub made : IsMade (wanted_of cert.head) cert.input facts instance
   pub log : List LogRecord
   pub read : IsReadAs (names_for facts) instance cert.log_text log
 

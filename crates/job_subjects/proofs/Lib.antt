@@ -5,7 +5,9 @@ pub mod RefusedTexts
 -- RefusedStacks: how stacks are refused. RefusedForms: and a formula, a graph or a grid.
 pub mod RefusedStacks
 pub mod RefusedForms
--- MadeInstances: what is made is that of the definitions, and can be told. MadeExtremal: it is extremal.
+-- MadeTexts: what is made by the command of a text. MadeInstances: what is made is that of the definitions, and can be
+-- told. MadeExtremal: it is extremal.
+mod MadeTexts
 pub mod MadeInstances
 pub mod MadeExtremal
 -- TextRefusals: what refuses a text is told.

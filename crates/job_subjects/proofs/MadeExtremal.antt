@@ -1,5 +1,6 @@
--- What is made of a text is extremal, but where it is resampled; and the text is within the limit on its length.
-use Rattle.std.proofs.Common.{◌≡◌, ◌≢◌, ◌≤◌, ℕ, false, List, length, Option, None, refl, sym, subst}
+-- What is made of a text is extremal, but where it is resampled; and a text that is read is within the limit on its
+-- length.
+use Rattle.std.proofs.Common.{◌≡◌, ◌≢◌, ◌≤◌, ℕ, false, List, length, Option, refl, sym, subst}
 use Rattle.pop_model.specs.Stacks.{Origin}
 use Rattle.pop_model.specs.Instances.{Instance}
 use Rattle.pop_model.specs.Extremal.{IsExtremal}
@@ -14,9 +15,10 @@ use Rattle.graph_read.specs.GraphText.{graph}
 use Rattle.sink_popping.proofs.OneDirection.{sinks_extremal}
 use Rattle.cycle_popping.specs.Trees.{heads_of_tree}
 use Rattle.pop_words.specs.declared.command.Command.{Command}
-use Rattle.pop_words.specs.declared.command.Command.TheVariants.{Formula, Orient, Tree, Resample}
+use Rattle.pop_words.specs.declared.command.Command.TheVariants.{Formula, Orient, Tree, Resample, Make}
 use Rattle.pop_print.specs.declared.facts.Facts.{Facts}
-use Rattle.job_subjects.specs.Made.{IsMadeFormula, IsMadeOrientation, IsMadeTree, IsMadeGrid, IsMade}
+use Rattle.job_subjects.specs.declared.wanted.Wanted.{Wanted}
+use Rattle.job_subjects.specs.Made.{IsMadeFormula, IsMadeOrientation, IsMadeTree, IsMadeGrid, IsMadeBy}
 
 -- the family is that of another instance which is the same
 same_family : (i j : Instance) → i ≡ j → IsExtremal j.family → IsExtremal i.family
@@ -46,21 +48,23 @@ grid_extremal origin asked side facts i made =
     same_family i _ made.instance_is (cycles_extremal (heads_of_tree (grid_of side) 1))
 
 -- so is what is made of a text, but where it is resampled
-pub made_extremal : (command : Command) (origin : Origin) (root : ℕ) (text : List ℕ) (facts : Facts) (i : Instance)
-    → command ≢ Resample → IsMade command origin root text facts i → IsExtremal i.family
-made_extremal Formula origin root text facts i ordered made =
-    formula_extremal origin None made.formula facts i made.made
-made_extremal Orient origin root text facts i ordered made =
-    orientation_extremal origin None made.graph facts i made.made
-made_extremal Tree origin root text facts i ordered made = tree_extremal origin None root made.graph facts i made.made
-made_extremal Resample origin root text facts i ordered made = absurd (ordered refl)
-made_extremal command origin root text facts i ordered made = absurd made
+pub made_extremal : (k : Command) (w : Wanted) (text : List ℕ) (facts : Facts) (i : Instance) → k ≢ Resample
+    → IsMadeBy k w text facts i → IsExtremal i.family
+made_extremal Formula w text facts i ordered made =
+    formula_extremal w.origin w.count made.formula facts i made.made
+made_extremal Orient w text facts i ordered made =
+    orientation_extremal w.origin w.count made.graph facts i made.made
+made_extremal Tree w text facts i ordered made = tree_extremal w.origin w.count w.root made.graph facts i made.made
+made_extremal Resample w text facts i ordered made = absurd (ordered refl)
+made_extremal Make w text facts i ordered made = grid_extremal w.origin w.count w.side facts i made
+made_extremal k w text facts i ordered made = absurd made
 
--- the text is within the limit
-pub made_short : (command : Command) (origin : Origin) (root : ℕ) (text : List ℕ) (facts : Facts) (i : Instance)
-    → IsMade command origin root text facts i → length text ≤ text_limit
-made_short Formula origin root text facts i made = (accepted cnf text made.spelled.0).short
-made_short Orient origin root text facts i made = (accepted graph text made.spelled.0).short
-made_short Tree origin root text facts i made = (accepted graph text made.spelled.0).short
-made_short Resample origin root text facts i made = (accepted cnf text made.spelled.0).short
-made_short command origin root text facts i made = absurd made
+-- a text that is read is within the limit
+pub made_short : (k : Command) (w : Wanted) (text : List ℕ) (facts : Facts) (i : Instance) → k ≢ Make
+    → IsMadeBy k w text facts i → length text ≤ text_limit
+made_short Formula w text facts i reads made = (accepted cnf text made.spelled.0).short
+made_short Orient w text facts i reads made = (accepted graph text made.spelled.0).short
+made_short Tree w text facts i reads made = (accepted graph text made.spelled.0).short
+made_short Resample w text facts i reads made = (accepted cnf text made.spelled.0).short
+made_short Make w text facts i reads made = absurd (reads refl)
+made_short k w text facts i reads made = absurd made

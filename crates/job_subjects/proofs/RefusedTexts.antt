@@ -1,18 +1,15 @@
--- How a text is refused that its grammar refuses.
-use Rattle.std.proofs.Common.{inl, inr, ◌≡◌, ℕ, List, Result, IfErr, refl, sym, subst, arith}
-use Rattle.std.specs.Result.{IsErrAnd}
-use Rattle.pop_model.specs.Stacks.{Origin}
+-- How a text is refused that its grammar refuses, and one that is lent.
+use Rattle.std.proofs.Common.{inl, inr, ◌≡◌, Result, Ok, Err, IfErr, refl, ap, arith}
+use Rattle.std.specs.Result.{IsErrOf}
 use Rattle.pop_model.specs.Faults.{Rose}
 use Rattle.pop_edge.specs.declared.refusal.ReadRefusal.{ReadRefusal}
 use Rattle.pop_edge.specs.declared.refusal.ReadRefusal.TheVariants.{Malformed, Count, EmptyClause, Limit, ReadFault, OutOfMemory}
-use Rattle.pop_words.specs.declared.command.Command.{Command}
 use Rattle.job_subjects.specs.declared.stop.Stop.{Stop}
 use Rattle.job_subjects.specs.declared.stop.Stop.TheVariants.{ReadFault as Failed, OutOfMemory as Memory}
 use Rattle.job_subjects.specs.declared.refusal.Refusal.{Refusal}
 use Rattle.job_subjects.specs.declared.refusal.Refusal.TheVariants.{Stopped}
 use Rattle.job_subjects.specs.Refusals.{IsRefusal, unread}
-use Rattle.job_subjects.specs.Refused.{IsUnread, IsRefusalOf, RefusesText}
-use Rattle.job_subjects.proofs.Carrying.{passed_refusal}
+use Rattle.job_subjects.specs.Refused.{IsStopOr, IsRefusalOf}
 
 -- a text that is refused with this cause
 pub refusal_of : (Refused : ReadRefusal → Type 0) (cause : ReadRefusal) → Refused cause
@@ -29,7 +26,7 @@ refusal_of Refused ReadFault h = inl (Failed, refl)
 refusal_of Refused OutOfMemory h = inl (Memory, refl)
 
 -- a source that never fails doesn't rise
-no_rise : Rose 0 0 → ⊥
+pub no_rise : Rose 0 0 → ⊥
 no_rise (inl rose) = absurd (omega (arith, rose))
 no_rise (inr last) = absurd (omega (arith, last))
 
@@ -38,20 +35,25 @@ stopped_by : (stop : Stop) (r : Refusal) → r ≡ Stopped stop → (r ≡ Stopp
 stopped_by Failed r is fault = absurd (no_rise (fault is))
 stopped_by Memory r is fault = is
 
--- a text that is lent is refused by its grammar, or memory runs out
-lent_refused : (Refused : ReadRefusal → Type 0) (r : Refusal) → (r ≡ Stopped Failed → Rose 0 0)
-    → IsRefusalOf Refused r → IsRefusal (IsUnread Refused) r
-lent_refused Refused r fault (inl (stop, is)) = inl (stopped_by stop r is fault)
-lent_refused Refused r fault (inr h) = inr h
+-- so what is asked of a text that is lent is refused, or memory runs out
+pub lent_refused : (Refuses : Refusal → Type 0) (r : Refusal) → (r ≡ Stopped Failed → Rose 0 0)
+    → IsStopOr Refuses r → IsRefusal Refuses r
+lent_refused Refuses r fault (inl (stop, is)) = inl (stopped_by stop r is fault)
+lent_refused Refuses r fault (inr h) = inr h
 
--- so a refusal of it that is passed on is one by its grammar
-pub text_refused : {X : Type 0} (Refused : ReadRefusal → Type 0) (Q : Refusal → Type 0) (r : Result X Refusal)
-    (e : Refusal) → IsErrAnd r (λ x. x ≡ e) → ((x : Refusal) → IsUnread Refused x → Q x) → IsRefusalOf Refused e
-    → (e ≡ Stopped Failed → Rose 0 0) → IfErr r (IsRefusal Q)
-text_refused Refused Q r e is lifts h fault =
-    passed_refusal (IsUnread Refused) Q r e is lifts (lent_refused Refused e fault h)
+-- the same of a result
+pub lent_result : {X : Type 0} (Refuses : Refusal → Type 0) (r : Result X Refusal)
+    → (IsErrOf r (Stopped Failed) → Rose 0 0) → IfErr r (IsStopOr Refuses) → IfErr r (IsRefusal Refuses)
+lent_result Refuses (Ok a) fault h = tt
+lent_result Refuses (Err e) fault h = lent_refused Refuses e (λ is. fault (ap (λ q. Err q) is)) h
 
--- what refuses the text of one command refuses that of the same
-pub refuses_as : (command other : Command) (origin : Origin) (root : ℕ) (text : List ℕ) → command ≡ other
-    → (r : Refusal) → RefusesText other origin root text r → RefusesText command origin root text r
-refuses_as command other origin root text is r h = subst (λ k. RefusesText k origin root text r) (sym is) h
+-- where memory runs out the call is stopped
+stop_or : (Refuses : Refusal → Type 0) (r : Refusal) → IsRefusal Refuses r → IsStopOr Refuses r
+stop_or Refuses r (inl memory) = inl (Memory, memory)
+stop_or Refuses r (inr h) = inr h
+
+-- so a refusal, or want of memory, is a stop or a refusal
+pub stop_or_refused : {X : Type 0} (Refuses : Refusal → Type 0) (r : Result X Refusal) → IfErr r (IsRefusal Refuses)
+    → IfErr r (IsStopOr Refuses)
+stop_or_refused Refuses (Ok a) h = tt
+stop_or_refused Refuses (Err e) h = stop_or Refuses e h

@@ -1,5 +1,5 @@
 -- What a command runs, made of its text: the instance of what is sampled, over sound stacks.
-use Rattle.std.specs.Prelude.{◌≡◌, ℕ, ◌≤◌, Bool, true, false, List, length, Option, None, Ok}
+use Rattle.std.specs.Prelude.{◌≡◌, ℕ, ◌≤◌, Bool, true, false, List, length, Option, Ok}
 use Rattle.pop_model.specs.Stacks.{Origin}
 use Rattle.pop_model.specs.Popping.{Cube}
 use Rattle.pop_model.specs.Families.Family.{Listed}
@@ -15,9 +15,10 @@ use Rattle.graph_read.specs.GraphText.{AnswersGraph}
 use Rattle.graph_read.specs.Paths.{IsConnected}
 use Rattle.sink_popping.specs.Sinks.{AreSinksOf, IsIsolated}
 use Rattle.pop_words.specs.declared.command.Command.{Command}
-use Rattle.pop_words.specs.declared.command.Command.TheVariants.{Formula, Orient, Tree, Resample}
+use Rattle.pop_words.specs.declared.command.Command.TheVariants.{Formula, Orient, Tree, Resample, Make}
 use Rattle.pop_print.specs.declared.facts.Facts.{Facts}
 use Rattle.pop_print.specs.declared.facts.Facts.TheVariants.{Tree as TreeFacts, Made as MadeFacts}
+use Rattle.job_subjects.specs.declared.wanted.Wanted.{Wanted}
 use Rattle.job_subjects.specs.StackFaults.{AreFew}
 use Rattle.job_subjects.specs.Subjects.{Subject, instance_over, assignments, orientations, arrows_to}
 
@@ -72,14 +73,19 @@ pub record IsMadeOfGraph (Makes : GraphOf → Facts → Instance → Type 0) (te
   pub spelled : AnswersGraph text (Ok graph)
   pub made : Makes graph facts i
 
--- what a command that may stop runs, with this origin of its stacks, this root, and a text
-abbrev pub IsMade : Command → Origin → ℕ → List ℕ → Facts → Instance → Type 0
-IsMade Formula origin root text facts i =
-    IsMadeOfCnf (IsMadeFormula false origin None) text facts i
-IsMade Orient origin root text facts i =
-    IsMadeOfGraph (IsMadeOrientation origin None) text facts i
-IsMade Tree origin root text facts i =
-    IsMadeOfGraph (IsMadeTree origin None root) text facts i
-IsMade Resample origin root text facts i =
-    IsMadeOfCnf (IsMadeFormula true origin None) text facts i
-IsMade command origin root text facts i = ⊥
+-- what a command makes of a text, as it is wanted; a grid is made without one
+abbrev pub IsMadeBy : Command → Wanted → List ℕ → Facts → Instance → Type 0
+IsMadeBy Formula w text facts i =
+    IsMadeOfCnf (IsMadeFormula false w.origin w.count) text facts i
+IsMadeBy Orient w text facts i =
+    IsMadeOfGraph (IsMadeOrientation w.origin w.count) text facts i
+IsMadeBy Tree w text facts i =
+    IsMadeOfGraph (IsMadeTree w.origin w.count w.root) text facts i
+IsMadeBy Resample w text facts i =
+    IsMadeOfCnf (IsMadeFormula true w.origin w.count) text facts i
+IsMadeBy Make w text facts i = IsMadeGrid w.origin w.count w.side facts i
+IsMadeBy command w text facts i = ⊥
+
+-- what is made of a text, as it is wanted
+abbrev pub IsMade : Wanted → List ℕ → Facts → Instance → Type 0
+IsMade w text facts i = IsMadeBy w.command w text facts i

@@ -1,5 +1,5 @@
 -- What of a text, a formula, a graph or its stacks is refused, before anything is run.
-use Rattle.std.specs.Prelude.{◌≡◌, ◌⊎◌, ℕ, ◌<◌, ◌≤◌, Bool, true, false, List, length, Option, None, Ok, Err, ⊤}
+use Rattle.std.specs.Prelude.{◌≡◌, ◌⊎◌, ℕ, ◌<◌, ◌≤◌, Bool, true, false, List, length, Option, Ok, Err, ⊤}
 use Rattle.pop_model.specs.Stacks.{Origin}
 use Rattle.pop_model.specs.Places.{IsLeast, IsLeastPair}
 use Rattle.pop_model.specs.Popping.{Cube}
@@ -8,20 +8,21 @@ use Rattle.pop_edge.specs.declared.refusal.ReadRefusal.TheVariants.{ReadFault, O
 use Rattle.pop_stacks.specs.Faults.{IsSound}
 use Rattle.extremal_check.specs.Clashes.{AreClashing}
 use Rattle.dimacs_read.specs.Cnf.{Cnf}
-use Rattle.dimacs_read.specs.CnfText.{AnswersCnf}
+use Rattle.dimacs_read.specs.CnfText.{AnswersCnf, HasNoBadLine as HasNoBadCnfLine}
 use Rattle.dimacs_read.specs.Falsifying.{AreEventsOf}
 use Rattle.graph_read.specs.Graphs.{GraphOf}
-use Rattle.graph_read.specs.GraphText.{AnswersGraph}
+use Rattle.graph_read.specs.GraphText.{AnswersGraph, HasNoBadLine as HasNoBadGraphLine}
 use Rattle.graph_read.specs.Grids.{grid_of}
 use Rattle.graph_read.specs.Paths.{IsConnected, IsCutOff}
 use Rattle.sink_popping.specs.Sinks.{IsIsolated}
 use Rattle.cycle_popping.specs.Trees.{weights_of_tree}
 use Rattle.pop_words.specs.declared.command.Command.{Command}
-use Rattle.pop_words.specs.declared.command.Command.TheVariants.{Formula, Orient, Tree, Resample}
+use Rattle.pop_words.specs.declared.command.Command.TheVariants.{Formula, Orient, Tree, Resample, Check, Make, Rounds}
 use Rattle.pop_print.specs.declared.facts.Facts.TheVariants.{Formula as FormulaFacts, Orient as OrientFacts, Tree as TreeFacts, Made as MadeFacts}
 use Rattle.job_subjects.specs.declared.stop.Stop.{Stop}
 use Rattle.job_subjects.specs.declared.refusal.Refusal.{Refusal}
 use Rattle.job_subjects.specs.declared.refusal.Refusal.TheVariants.{Isolated, NoRoot, CutOff, Clashes, Stopped}
+use Rattle.job_subjects.specs.declared.wanted.Wanted.{Wanted}
 use Rattle.job_subjects.specs.Refusals.{unread}
 use Rattle.job_subjects.specs.StackFaults.{AreFew, RefusesStacks}
 use Rattle.job_subjects.specs.Subjects.{pair_weights}
@@ -39,10 +40,13 @@ pub record IsUnread (Refused : ReadRefusal → Type 0) (refusal : Refusal) : Typ
   pub refused : Refused cause
   pub is : refusal ≡ unread cause
 
--- it is, or the call was stopped
+-- the call was stopped, or the refusal is one of these
+abbrev pub IsStopOr : (Refusal → Type 0) → Refusal → Type 0
+IsStopOr Refuses refusal = ((stop : Stop) × (refusal ≡ Stopped stop)) ⊎ Refuses refusal
+
+-- the call was stopped, or the text is refused so by its grammar
 abbrev pub IsRefusalOf : (ReadRefusal → Type 0) → Refusal → Type 0
-IsRefusalOf Refused refusal =
-    ((stop : Stop) × (refusal ≡ Stopped stop)) ⊎ IsUnread Refused refusal
+IsRefusalOf Refused refusal = IsStopOr (IsUnread Refused) refusal
 
 -- two of these events clash, which is refused with the numbers of the least such pair
 pub record AreClashed (events : List (ℕ × Cube)) (refusal : Refusal) : Type 0 where
@@ -114,14 +118,26 @@ RefusesGraph Refuses text refusal =
     IsUnread (λ cause. AnswersGraph text (Err cause)) refusal
     ⊎ ((g : GraphOf) × AnswersGraph text (Ok g) × Refuses g refusal)
 
--- the text of a command that may stop, with this origin of its stacks and this root
-abbrev pub RefusesText : Command → Origin → ℕ → List ℕ → Refusal → Type 0
-RefusesText Formula origin root text refusal =
-    RefusesCnf (RefusesFormula false origin None) text refusal
-RefusesText Orient origin root text refusal =
-    RefusesGraph (RefusesOrienting origin None) text refusal
-RefusesText Tree origin root text refusal =
-    RefusesGraph (RefusesTree origin None root) text refusal
-RefusesText Resample origin root text refusal =
-    RefusesCnf (RefusesFormula true origin None) text refusal
-RefusesText command origin root text refusal = ⊥
+-- the text of a command, as what is made of it is wanted; a grid is made without one
+abbrev pub RefusesBy : Command → Wanted → List ℕ → Refusal → Type 0
+RefusesBy Formula w text refusal = RefusesCnf (RefusesFormula false w.origin w.count) text refusal
+RefusesBy Orient w text refusal = RefusesGraph (RefusesOrienting w.origin w.count) text refusal
+RefusesBy Tree w text refusal = RefusesGraph (RefusesTree w.origin w.count w.root) text refusal
+RefusesBy Resample w text refusal = RefusesCnf (RefusesFormula true w.origin w.count) text refusal
+RefusesBy Make w text refusal = RefusesGrid w.origin w.count w.side refusal
+RefusesBy command w text refusal = ⊥
+
+-- a text of which this is wanted
+abbrev pub RefusesText : Wanted → List ℕ → Refusal → Type 0
+RefusesText w text refusal = RefusesBy w.command w text refusal
+
+-- The command reads a formula or a graph, what was taken is within the limit, and no line of it
+-- whose end was taken is refused by its grammar.
+abbrev pub HasNoBadLine : Command → List ℕ → Type 0
+HasNoBadLine Formula taken = HasNoBadCnfLine taken
+HasNoBadLine Orient taken = HasNoBadGraphLine taken
+HasNoBadLine Tree taken = HasNoBadGraphLine taken
+HasNoBadLine Resample taken = HasNoBadCnfLine taken
+HasNoBadLine Check taken = HasNoBadCnfLine taken
+HasNoBadLine Rounds taken = HasNoBadCnfLine taken
+HasNoBadLine command taken = ⊥

@@ -3,19 +3,21 @@
 #![tactic(auto)]
 
 mod answer;
+mod by_command;
 mod instances;
 mod making;
 mod origin;
 mod reading;
 mod refusal;
 mod stop;
+mod wanted;
 
 pub use answer::Answer;
+pub use by_command::made_of;
 pub use instances::of_events;
-pub use making::{
-    Made, made_of, make_formula, make_grid, make_orientation, make_tree, refuse_clash, stacks_for,
-};
+pub use making::{Made, refuse_clash, stacks_for};
 pub use origin::{StackOrigin, copy_spec};
 pub use reading::{formula_of, graph_of};
 pub use refusal::{Refusal, told_in_line, unlogged};
 pub use stop::Stop;
+pub use wanted::Wanted;

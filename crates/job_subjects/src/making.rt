@@ -1,5 +1,5 @@
-//! What a command runs: it is made of a formula, a graph or a grid, or refused.
-ghost use Rattle.std.specs.Prelude.{◌≡◌, false, None, ◌<◌, ◌≤◌, ◌^◌, ◌≢◌, length, OnOk, IfOk, IfErr, Contains};
+//! What is run: it is made of a formula, a graph or a grid, or refused.
+ghost use Rattle.std.specs.Prelude.{◌≡◌, false, None, ◌<◌, ◌≤◌, ◌^◌, length, OnOk, IfOk, IfErr};
 ghost use Rattle.pop_model.specs.Families.Family.{Listed, Cycles};
 ghost use Rattle.pop_model.specs.Instances.{FamilyFits};
 ghost use Rattle.pop_model.specs.Extremal.{IsExtremal};
@@ -9,30 +9,25 @@ ghost use Rattle.dimacs_read.specs.Cnf.{first_empty};
 ghost use Rattle.graph_read.specs.Graphs.{IsVertex};
 ghost use Rattle.graph_read.specs.Paths.{IsConnected};
 ghost use Rattle.cycle_popping.specs.Trees.{heads_of_tree, weights_of_tree};
-ghost use Rattle.pop_words.specs.declared.command.Command.TheVariants.{Resample};
-ghost use Rattle.pop_words.specs.Options.{paused};
 ghost use Rattle.pop_print.specs.Ends.{AreFactsOf};
 ghost use Rattle.pop_print.specs.declared.facts.Facts.TheVariants.{Formula as FormulaFacts};
 ghost use Rattle.run_makers.specs.Growing.{MayIndex};
 ghost use Rattle.job_subjects.specs.Refusals.{IsRefusal};
 ghost use Rattle.job_subjects.specs.StackFaults.{AreFaulty, AreFew, AreTooMany, RefusesStacks};
 ghost use Rattle.job_subjects.specs.Subjects.{pair_weights, cycles_instance};
-ghost use Rattle.job_subjects.specs.Made.{IsMade, IsMadeFormula, IsMadeOrientation, IsMadeTree, IsMadeGrid};
-ghost use Rattle.job_subjects.specs.Refused.{AreClashed, HasCutOff, RefusesFormula, RefusesOrienting, RefusesTree, RefusesGrid, RefusesText};
+ghost use Rattle.job_subjects.specs.Made.{IsMadeFormula, IsMadeOrientation, IsMadeTree, IsMadeGrid};
+ghost use Rattle.job_subjects.specs.Refused.{AreClashed, HasCutOff, RefusesFormula, RefusesOrienting, RefusesTree, RefusesGrid};
 
 use crate::instances::{of_arrows, of_events};
 use crate::origin::StackOrigin;
-use crate::reading::{formula_of, graph_of};
 use crate::refusal::Refusal;
 use cycle_popping::{arrows_of, grid_arrows, grid_weights, weights_of};
 use dimacs_read::Formula;
 use extremal_check::{Verdict, check};
 use graph_read::{Graph, OtherEnds};
-use pop_edge::SliceSource;
 use pop_instance::{Arrows, Events, Index};
 use pop_print::Facts;
 use pop_stacks::Weights;
-use pop_words::Command;
 use run_makers::{GrowingInstance, GrowingStacks};
 use sink_popping::indexed_sinks;
 use std::alloc::Global;
@@ -225,37 +220,4 @@ pub fn make_grid(
     let arrows = grid_arrows(alloc, side)?;
     let weights = grid_weights(alloc, side)?;
     make_cycles(origin, count, Facts::Made(side), weights, arrows)
-}
-
-/// Makes what a command that may stop runs, of its input, or refuses it: by its text, its form or
-/// its stacks, in this order.
-pub fn made_of(
-    alloc: Global,
-    command: Command,
-    origin: StackOrigin,
-    root: u32,
-    input: &[u8],
-) -> Result<Made, Refusal>
-    requires command { Contains paused command }
-    requires root { 1 ≤ root }
-    ensures made { IfOk result (λ made.
-        IsMade command origin root input.now made.facts made.instance) }
-    ensures told { IfOk result (λ made. AreFactsOf made.facts made.instance) }
-    ensures extremal { command ≢ Resample
-        → IfOk result (λ made. IsExtremal made.instance.family) }
-    ensures refused { IfErr result
-        (IsRefusal (RefusesText command origin root input.now)) }
-{
-    let mut source = SliceSource::new(input);
-    match command {
-        Command::Formula => {
-            make_formula(alloc, origin, None, false, &formula_of(alloc, &mut source)?)
-        }
-        Command::Resample => {
-            make_formula(alloc, origin, None, true, &formula_of(alloc, &mut source)?)
-        }
-        Command::Orient => make_orientation(alloc, origin, None, graph_of(alloc, &mut source)?),
-        Command::Tree => make_tree(alloc, origin, None, root, graph_of(alloc, &mut source)?),
-        _ => unreachable!(),
-    }
 }

@@ -1,5 +1,5 @@
 -- The run of what is made of a formula, and its rounds, are what comes of it.
-use Rattle.std.proofs.Common.{◌≡◌, ℕ, Bool, true, false, List, length, None, refl, subst}
+use Rattle.std.proofs.Common.{◌≡◌, ℕ, true, false, List, length, None, refl, subst}
 use Rattle.pop_model.specs.Stacks.{Origin}
 use Rattle.pop_model.specs.Popping.{Cube}
 use Rattle.pop_model.specs.Instances.{Instance}
@@ -57,17 +57,6 @@ pub formula_histories : (origin : Origin) (asked : Asked) (ws : List Watcher) (f
 formula_histories origin asked ws f facts i made (Resampled t j l s a) history =
     (made.is.sound, events_history origin asked ws f facts i made (Resampled t j l s a) history, made.is.few)
 formula_histories origin asked ws f facts i made o history = absurd history
-
--- so its answer
-pub formula_answers : (clashing : Bool) (origin : Origin) (asked : Asked) (ws : List Watcher) (f : Cnf) (facts : Facts)
-    (i : Instance) (status : ℕ) (out : List ℕ) → IsMadeFormula clashing origin asked.count f facts i
-    → asked.free ≡ clashing → (asked.free ≡ false → AnswersBy (IsEndOf asked ws facts i) status out)
-    → (asked.free ≡ true → AnswersBy (IsHistoryOf asked ws facts i) status out)
-    → AnswersBy (ComesOfFormula clashing origin asked ws f) status out
-formula_answers false origin asked ws f facts i status out made told ended history =
-    answered (IsEndOf asked ws facts i) _ status out (formula_ends origin asked ws f facts i made) (ended told)
-formula_answers true origin asked ws f facts i status out made told ended history =
-    answered (IsHistoryOf asked ws facts i) _ status out (formula_histories origin asked ws f facts i made) (history told)
 
 -- the answer of the rounds of an instance of a formula's events
 pub end_of_rounds : (origin : Origin) (n : ℕ) (f : Cnf) (events : List (ℕ × Cube)) (i : Instance) (status : ℕ)

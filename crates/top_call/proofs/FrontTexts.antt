@@ -1,6 +1,6 @@
 -- A text that is longer than the limit is refused as its front up to the first byte too many is. So what comes of the
 -- bytes that were read of a source comes of all that it has.
-use Rattle.std.proofs.Common.{inl, inr, ◌≡◌, ◌≤◌, ◌<◌, ℕ, ◌+◌, true, List, ◌++◌, length, take, nat_lt, Option, None, Some, Result, Err, IfOk, refl, sym, ap, ap₂, subst, ◌∙◌, arith, append-nil, Contains}
+use Rattle.std.proofs.Common.{inl, inr, ◌≡◌, ◌≢◌, ◌≤◌, ◌<◌, ℕ, ◌+◌, true, List, ◌++◌, length, take, nat_lt, Option, None, Some, Result, Err, IfOk, refl, sym, ap, ap₂, subst, ◌∙◌, arith, append-nil, Contains}
 use Rattle.std.specs.Io.KnownBytes.{Consumes, IsAtEnd}
 use Rattle.std.proofs.lemmas.Bool.{cases_lt, lt-ltb, false≢true}
 use Rattle.std.proofs.lemmas.List.{take-append-le, length-append}
@@ -14,7 +14,7 @@ use Rattle.pop_edge.proofs.AcceptedTexts.{accepted}
 use Rattle.dimacs_read.specs.CnfText.{cnf, AnswersCnf}
 use Rattle.graph_read.specs.GraphText.{graph, AnswersGraph}
 use Rattle.pop_words.specs.declared.command.Command.{Command}
-use Rattle.pop_words.specs.declared.command.Command.TheVariants.{Formula, Orient, Tree, Resample}
+use Rattle.pop_words.specs.declared.command.Command.TheVariants.{Formula, Orient, Tree, Resample, Make}
 use Rattle.pop_words.specs.declared.job.Job.{Job}
 use Rattle.pop_words.specs.Options.{paused}
 use Rattle.pop_watch.specs.Telling.{Watcher}
@@ -24,7 +24,7 @@ use Rattle.top_call.specs.Whole.{IsReadTo}
 use Rattle.told_runs.specs.Outcomes.{Outcome, HasRun}
 use Rattle.told_runs.specs.Results.{IsResultOf}
 use Rattle.job_subjects.specs.Refused.{IsOfText}
-use Rattle.top_call.specs.Answers.{origin_for, Refuses, ComesOfCommand, ComesOf}
+use Rattle.top_call.specs.Answers.{wanted_by, Refuses, ComesOfCommand, ComesOf}
 use Rattle.top_call.proofs.Carrying.{carried}
 use Rattle.job_subjects.proofs.MadeExtremal.{made_short}
 use Rattle.top_call.proofs.ReadCases.{read_cases}
@@ -109,7 +109,8 @@ front_comes job ws front rest is long o h = elim (read_cases job ws front o h) [
       }))
   | inr (inl done) ↦ absurd (nothing_done job.command is job ws front o done long)
   | inr (inr p) ↦
-      let short = made_short job.command (origin_for job) job.root front p.facts p.i p.made in
+      let reads : job.command ≢ Make = λ make. false≢true (sym (ap is_paused make) ∙ is) in
+      let short = made_short job.command (wanted_by job) front p.facts p.i reads p.made in
       absurd (omega (arith, short, long))
 ]
 

@@ -1,15 +1,16 @@
 -- From what comes of a part to what comes of the whole: of a run, of what is made of a graph or a formula (FormulaRuns,
 -- GoodForms), of a text and of words (Carrying, Lifting, WordResults), of a job by its command and by cases (ByCommand,
--- ReadCases), of what is made, or not, for a run that may stop (PausedComes, MadeRefusals), of a source that is read whole
--- (WholeReads), and of a sink that holds the answer (HeldAnswers)
+-- ReadCases), of what is made of its text (MadeComes), or not (MadeRefusals), of a run that may stop (PausedComes), of a
+-- source that is read whole (WholeReads), and of a sink that holds the answer (HeldAnswers)
 mod FormulaRuns
 mod GoodForms
 pub mod Carrying
 pub mod ByCommand
 pub mod ReadCases
 pub mod Lifting
-mod PausedComes
+mod MadeComes
 mod MadeRefusals
+mod PausedComes
 mod WholeReads
 mod WordResults
 mod HeldAnswers

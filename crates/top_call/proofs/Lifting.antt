@@ -1,12 +1,10 @@
--- From what comes of a formula or a graph to what comes of its text, and from there to what comes of the words.
-use Rattle.std.proofs.Common.{inl, inr, ◌≡◌, ◌⊎◌, ℕ, true, false, List, Option, Some, Result, Ok, Err, sym, ap, subst, ◌∙◌}
+-- From what comes of a formula to what comes of its text, and from there to what comes of the words.
+use Rattle.std.proofs.Common.{inl, inr, ◌≡◌, ◌⊎◌, ℕ, List, Option, Some, Result, Ok, sym, ap, subst, ◌∙◌}
 use Rattle.pop_model.specs.Stacks.{Origin}
 use Rattle.pop_model.specs.Instances.{Instance}
 use Rattle.pop_edge.specs.declared.refusal.ReadRefusal.{ReadRefusal}
 use Rattle.dimacs_read.specs.Cnf.{Cnf}
 use Rattle.dimacs_read.specs.CnfText.{AnswersCnf}
-use Rattle.graph_read.specs.Graphs.{GraphOf}
-use Rattle.graph_read.specs.GraphText.{AnswersGraph}
 use Rattle.pop_words.specs.declared.command.Command.{Command}
 use Rattle.pop_words.specs.declared.command.Command.TheVariants.{Formula, Orient, Tree, Resample, Check, Make, Rounds, Replay, Resume}
 use Rattle.pop_words.specs.declared.job.Job.{Job}
@@ -26,11 +24,9 @@ use Rattle.told_runs.specs.Asking.{has_free_order, asked_by}
 use Rattle.told_runs.specs.Outcomes.{Outcome}
 use Rattle.told_runs.specs.Outcomes.Outcome.{Refused, Extremal, Ended, Resampled, Rounded, Batched, Paused, Replayed}
 use Rattle.told_runs.specs.Results.{ComesRefused, IsResultOf}
-use Rattle.top_call.specs.Formulas.{ComesOfFormula, ComesOfChecking}
+use Rattle.top_call.specs.Formulas.{ComesOfChecking}
 use Rattle.top_call.specs.Rounds.{ComesOfRounds}
-use Rattle.top_call.specs.Orientations.{ComesOfOrienting}
-use Rattle.top_call.specs.Trees.{ComesOfTree, ComesOfGrid}
-use Rattle.top_call.specs.Answers.{ComesOfCnf, ComesOfGraph, origin_for, ComesOfCommand, Refuses, ComesOf, ComesBy, IsOutcome, AskForGrid, IsInput}
+use Rattle.top_call.specs.Answers.{ComesOfCnf, origin_for, ComesOfCommand, Refuses, ComesOf, ComesBy, IsOutcome, AskForGrid, IsInput}
 use Rattle.top_call.proofs.Carrying.{carried}
 
 -- no command's line stops a run
@@ -99,36 +95,7 @@ of_cnf job ws text command f Comes r is lifts spelled =
     carried (Comes f) (ComesOf job ws text) r
     (λ o h. by_command job ws text command is o (lifts o (record { formula = f; spelled = spelled; comes = h })))
 
--- and that of the graph that it spells
-of_graph : (job : Job) (ws : List Watcher) (text : List ℕ) (command : Command) (g : GraphOf)
-    (Comes : GraphOf → Outcome → Type 0) (r : Result Answer Refusal) → job.command ≡ command
-    → ((o : Outcome) → ComesOfGraph Comes text o → ComesOfCommand command job ws text o) → AnswersGraph text (Ok g)
-    → IsResultOf (Comes g) r → IsResultOf (ComesOf job ws text) r
-of_graph job ws text command g Comes r is lifts spelled =
-    carried (Comes g) (ComesOf job ws text) r
-    (λ o h. by_command job ws text command is o (lifts o (record { graph = g; spelled = spelled; comes = h })))
-
--- The results of the commands, with the origin and what is asked for as the job has them.
-pub lifted_formula : (job : Job) (ws : List Watcher) (text : List ℕ) (f : Cnf) (origin : Origin) (asked : Asked)
-    (r : Result Answer Refusal) → job.command ≡ Formula → origin ≡ origin_for job → asked ≡ asked_by job
-    → AnswersCnf text (Ok f)
-    → IsResultOf (ComesOfFormula false origin asked ws f) r → IsResultOf (ComesOf job ws text) r
-lifted_formula job ws text f origin asked r is from asked_is spelled comes =
-    of_cnf job ws text Formula f (ComesOfFormula false (origin_for job) (asked_by job) ws) r is (λ o h. h) spelled
-    (subst (λ s. IsResultOf (ComesOfFormula false s (asked_by job) ws f) r) from
-    (subst (λ a. IsResultOf (ComesOfFormula false origin a ws f) r) asked_is comes))
-
--- of a formula that is resampled
-pub lifted_resample : (job : Job) (ws : List Watcher) (text : List ℕ) (f : Cnf) (origin : Origin) (asked : Asked)
-    (r : Result Answer Refusal) → job.command ≡ Resample → origin ≡ origin_for job → asked ≡ asked_by job
-    → AnswersCnf text (Ok f)
-    → IsResultOf (ComesOfFormula true origin asked ws f) r → IsResultOf (ComesOf job ws text) r
-lifted_resample job ws text f origin asked r is from asked_is spelled comes =
-    of_cnf job ws text Resample f (ComesOfFormula true (origin_for job) (asked_by job) ws) r is (λ o h. h) spelled
-    (subst (λ s. IsResultOf (ComesOfFormula true s (asked_by job) ws f) r) from
-    (subst (λ a. IsResultOf (ComesOfFormula true origin a ws f) r) asked_is comes))
-
--- of one that is sampled by rounds
+-- So it is with rounds, over the stacks that the job asks for.
 pub lifted_rounds : (job : Job) (ws : List Watcher) (text : List ℕ) (f : Cnf) (origin : Origin)
     (r : Result Answer Refusal) → job.command ≡ Rounds → origin ≡ origin_for job → AnswersCnf text (Ok f)
     → IsResultOf (ComesOfRounds origin f) r → IsResultOf (ComesOf job ws text) r
@@ -136,41 +103,12 @@ lifted_rounds job ws text f origin r is from spelled comes =
     of_cnf job ws text Rounds f (ComesOfRounds (origin_for job)) r is (λ o h. h) spelled
     (subst (λ s. IsResultOf (ComesOfRounds s f) r) from comes)
 
--- of one that is checked
+-- and with a check
 pub lifted_check : (job : Job) (ws : List Watcher) (text : List ℕ) (f : Cnf) (r : Result Answer Refusal)
     → job.command ≡ Check → AnswersCnf text (Ok f) → IsResultOf (ComesOfChecking f) r
     → IsResultOf (ComesOf job ws text) r
 lifted_check job ws text f r is spelled comes =
     of_cnf job ws text Check f ComesOfChecking r is (λ o h. h) spelled comes
-
--- of a graph that is oriented
-pub lifted_orient : (job : Job) (ws : List Watcher) (text : List ℕ) (g : GraphOf) (origin : Origin) (asked : Asked)
-    (r : Result Answer Refusal) → job.command ≡ Orient → origin ≡ origin_for job → asked ≡ asked_by job
-    → AnswersGraph text (Ok g) → IsResultOf (ComesOfOrienting origin asked ws g) r → IsResultOf (ComesOf job ws text) r
-lifted_orient job ws text g origin asked r is from asked_is spelled comes =
-    of_graph job ws text Orient g (ComesOfOrienting (origin_for job) (asked_by job) ws) r is (λ o h. h) spelled
-    (subst (λ s. IsResultOf (ComesOfOrienting s (asked_by job) ws g) r) from
-    (subst (λ a. IsResultOf (ComesOfOrienting origin a ws g) r) asked_is comes))
-
--- of one of which a tree is asked
-pub lifted_tree : (job : Job) (ws : List Watcher) (text : List ℕ) (g : GraphOf) (origin : Origin) (asked : Asked)
-    (r : Result Answer Refusal) → job.command ≡ Tree → origin ≡ origin_for job → asked ≡ asked_by job
-    → AnswersGraph text (Ok g) → IsResultOf (ComesOfTree origin asked ws job.root g) r
-    → IsResultOf (ComesOf job ws text) r
-lifted_tree job ws text g origin asked r is from asked_is spelled comes =
-    of_graph job ws text Tree g (ComesOfTree (origin_for job) (asked_by job) ws job.root) r is (λ o h. h) spelled
-    (subst (λ s. IsResultOf (ComesOfTree s (asked_by job) ws job.root g) r) from
-    (subst (λ a. IsResultOf (ComesOfTree origin a ws job.root g) r) asked_is comes))
-
--- and of a grid, whatever the text
-pub lifted_grid : (job : Job) (ws : List Watcher) (text : List ℕ) (origin : Origin) (asked : Asked)
-    (r : Result Answer Refusal) → job.command ≡ Make → origin ≡ origin_for job → asked ≡ asked_by job
-    → IsResultOf (ComesOfGrid origin asked ws job.size) r → IsResultOf (ComesOf job ws text) r
-lifted_grid job ws text origin asked r is from asked_is comes =
-    carried (ComesOfGrid (origin_for job) (asked_by job) ws job.size) (ComesOf job ws text) r
-    (by_command job ws text Make is)
-    (subst (λ s. IsResultOf (ComesOfGrid s (asked_by job) ws job.size) r) from
-    (subst (λ a. IsResultOf (ComesOfGrid origin a ws job.size) r) asked_is comes))
 
 -- a refusal of a text, which the grammar of a job's command refuses so, comes of the job and the text
 pub read_refused : (job : Job) (ws : List Watcher) (text : List ℕ) (Causes : ReadRefusal → Type 0) (r : Refusal)
@@ -190,33 +128,6 @@ read_refused job ws text Causes r refuses (inr unread) read =
 pub refuses_as : (job : Job) (command : Command) (text : List ℕ) → job.command ≡ command → (cause : ReadRefusal)
     → Refuses command text cause → Refuses job.command text cause
 refuses_as job command text is cause h = subst (λ k. Refuses k text cause) (sym is) h
-
--- of one that reads a formula, of one that reads a graph
-pub cnf_refuses : (job : Job) (text : List ℕ)
-    → (job.command ≡ Formula) ⊎ ((job.command ≡ Resample) ⊎ ((job.command ≡ Check) ⊎ (job.command ≡ Rounds)))
-    → (cause : ReadRefusal) → AnswersCnf text (Err cause) → Refuses job.command text cause
-cnf_refuses job text (inl is) cause h = refuses_as job Formula text is cause h
-cnf_refuses job text (inr (inl is)) cause h = refuses_as job Resample text is cause h
-cnf_refuses job text (inr (inr (inl is))) cause h = refuses_as job Check text is cause h
-cnf_refuses job text (inr (inr (inr is))) cause h = refuses_as job Rounds text is cause h
-
-pub graph_refuses : (job : Job) (text : List ℕ) → (job.command ≡ Orient) ⊎ (job.command ≡ Tree) → (cause : ReadRefusal)
-    → AnswersGraph text (Err cause) → Refuses job.command text cause
-graph_refuses job text (inl is) cause h = refuses_as job Orient text is cause h
-graph_refuses job text (inr is) cause h = refuses_as job Tree text is cause h
-
--- neither makes a grid
-pub cnf_no_grid : (job : Job)
-    → (job.command ≡ Formula) ⊎ ((job.command ≡ Resample) ⊎ ((job.command ≡ Check) ⊎ (job.command ≡ Rounds)))
-    → job.command ≡ Make → ⊥
-cnf_no_grid job (inl is) make = absurd (cc)
-cnf_no_grid job (inr (inl is)) make = absurd (cc)
-cnf_no_grid job (inr (inr (inl is))) make = absurd (cc)
-cnf_no_grid job (inr (inr (inr is))) make = absurd (cc)
-
-pub graph_no_grid : (job : Job) → (job.command ≡ Orient) ⊎ (job.command ≡ Tree) → job.command ≡ Make → ⊥
-graph_no_grid job (inl is) make = absurd (cc)
-graph_no_grid job (inr is) make = absurd (cc)
 
 -- whether the order of pops is free goes by the command
 pub free_by : (job : Job) (asked : Asked) (command : Command) → asked ≡ asked_by job → job.command ≡ command

@@ -11,10 +11,11 @@ use Rattle.pop_words.specs.declared.field.Field.{Field}
 use Rattle.pop_words.specs.declared.field.Field.TheVariants.{Stacks, Key, Height, Grow, Count, Pops, Workers, Board, Log, Root, Witness, Reports, Size}
 use Rattle.pop_words.specs.declared.job.Job.{Job}
 use Rattle.pop_words.specs.Values.{number_between, rows_in, key_in, board_in, switch_in, pair_in, reports_in}
-use Rattle.pop_words.specs.Options.{paused, value_of}
+use Rattle.pop_words.specs.Options.{paused, popping, value_of}
 use Rattle.pop_words.specs.CommandLines.{Asks}
 use Rattle.pop_words.proofs.ListTests.{all_at}
-use Rattle.top_call.specs.Answers.{IsOfLine, MayStop, HasNoBadLine, MayFailBehind, WasReadWhole}
+use Rattle.job_subjects.specs.Refused.{HasNoBadLine}
+use Rattle.top_call.specs.Answers.{IsOfLine, MayStop, MayFailBehind, WasReadWhole}
 use Rattle.top_call.proofs.ApartWords.{kept, AreKinds, settled}
 
 -- the commands whose runs may stop
@@ -177,9 +178,12 @@ cert_runs_out job stops certified = by_pops job.pops refl
 
 -- so it is read within its limit
 pub cert_behind : (job : Job) (taken : List ℕ) → ((pops : ℕ) → job.pops ≡ Some pops → MayStop job)
-    → (IsOfLine job.command → ⊥) → HasNoBadLine job.command taken → MayFailBehind job.pops job.command taken
-cert_behind job taken stops certified few =
-    subst (λ p. MayFailBehind p job.command taken) (sym (cert_runs_out job stops certified)) few
+    → (k : Command) → job.command ≡ k → (IsOfLine k → ⊥) → MayFailBehind None k taken
+    → MayFailBehind job.pops job.command taken
+cert_behind job taken stops k is certified few =
+    let none = cert_runs_out job stops (λ line. certified (subst IsOfLine is line)) in
+    subst (λ p. MayFailBehind p job.command taken) (sym none)
+    (subst (λ c. MayFailBehind None c taken) (sym is) few)
 
 -- and whole
 pub cert_whole : (job : Job) (left left' : Option (List ℕ)) → ((pops : ℕ) → job.pops ≡ Some pops → MayStop job)
@@ -201,3 +205,42 @@ line_whole Make left left' line = tt
 line_whole Rounds left left' line = tt
 line_whole Replay left left' line = absurd line
 line_whole Resume left left' line = absurd line
+
+-- and it is judged line by line
+pub line_behind : (k : Command) (taken : List ℕ) → IsOfLine k → HasNoBadLine k taken → MayFailBehind None k taken
+line_behind Formula taken line h = h
+line_behind Orient taken line h = h
+line_behind Tree taken line h = h
+line_behind Resample taken line h = h
+line_behind Check taken line h = h
+line_behind Make taken line h = h
+line_behind Rounds taken line h = h
+line_behind Replay taken line h = absurd line
+line_behind Resume taken line h = absurd line
+
+-- a command whose run may stop pops
+pub paused_pops : (k : Command) → Contains paused k → Contains popping k
+paused_pops Formula has = (0, omega arith, refl)
+paused_pops Orient has = (1, omega arith, refl)
+paused_pops Tree has = (2, omega arith, refl)
+paused_pops Resample has = (3, omega arith, refl)
+paused_pops k has = absurd (false≢true (paused_is k has))
+
+-- so does each command that samples but rounds
+pub line_pops : (k : Command) → (k ≡ Check → ⊥) → (k ≡ Rounds → ⊥) → IsOfLine k → Contains popping k
+line_pops Formula check rounds line = (0, omega arith, refl)
+line_pops Orient check rounds line = (1, omega arith, refl)
+line_pops Tree check rounds line = (2, omega arith, refl)
+line_pops Resample check rounds line = (3, omega arith, refl)
+line_pops Make check rounds line = (4, omega arith, refl)
+line_pops Check check rounds line = absurd (check refl)
+line_pops Rounds check rounds line = absurd (rounds refl)
+line_pops Replay check rounds line = absurd line
+line_pops Resume check rounds line = absurd line
+
+-- neither a check nor rounds make a grid
+pub check_makes_none : (k : Command) → k ≡ Check → k ≡ Make → ⊥
+check_makes_none k is make = absurd (cc)
+
+pub rounds_make_none : (k : Command) → k ≡ Rounds → k ≡ Make → ⊥
+rounds_make_none k is make = absurd (cc)

@@ -1,6 +1,7 @@
 -- From the run of what is made to what comes of the job: its end, or its pause.
 use Rattle.std.proofs.Common.{inl, inr, ◌≡◌, ◌≢◌, ◌≤◌, ◌<◌, ℕ, Bool, true, false, if◌then◌else◌, List, [], length, Option, None, Some, Result, Ok, Err, IfOk, refl, sym, ap, subst, ◌∙◌, arith}
 use Rattle.std.proofs.Math.Nat.{eq-or-lt_of_le}
+use Rattle.std.proofs.lemmas.Bool.{false≢true}
 use Rattle.pop_model.specs.Instances.{Instance, IsInstance}
 use Rattle.pop_model.specs.Logs.{LogRecord, IsLegal, replay}
 use Rattle.pop_model.specs.Runs.{start_of}
@@ -16,8 +17,7 @@ use Rattle.run_cert.specs.declared.part.Part.{Part}
 use Rattle.run_cert.specs.declared.look_kind.Look.TheVariants.{Open}
 use Rattle.run_cert.specs.Looks.{HasPoppable, IsSoFar, IsStopped}
 use Rattle.pop_model.specs.Extremal.{IsExtremal}
-use Rattle.pop_words.specs.declared.command.Command.{Command}
-use Rattle.pop_words.specs.declared.command.Command.TheVariants.{Formula, Orient, Tree, Resample}
+use Rattle.pop_words.specs.declared.command.Command.TheVariants.{Resample}
 use Rattle.pop_words.specs.declared.job.Job.{Job}
 use Rattle.pop_watch.specs.Telling.{Watcher}
 use Rattle.pop_print.specs.declared.facts.Facts.{Facts}
@@ -26,90 +26,15 @@ use Rattle.told_runs.specs.Outcomes.{Outcome, AnswersBy}
 use Rattle.told_runs.specs.Outcomes.Outcome.{Paused}
 use Rattle.told_runs.specs.Tellings.{records_of}
 use Rattle.told_runs.specs.Ends.{IsEndOf, IsHistoryOf}
-use Rattle.job_subjects.specs.Made.{IsMadeFormula, IsMadeOrientation, IsMadeTree, IsMade}
+use Rattle.job_subjects.specs.Made.{IsMade}
 use Rattle.top_call.specs.Pauses.{IsPause, IsPausedAt}
-use Rattle.told_runs.specs.Asking.{has_free_order, asked_by}
-use Rattle.top_call.specs.Answers.{origin_for, ComesOf}
+use Rattle.told_runs.specs.Asking.{asked_by}
+use Rattle.top_call.specs.Answers.{wanted_by, ComesOf}
 use Rattle.job_subjects.specs.declared.answer.Answer.{Answer}
 use Rattle.top_call.proofs.Carrying.{answered}
-use Rattle.top_call.proofs.Lifting.{by_command, free_by}
-use Rattle.top_call.proofs.FormulaRuns.{formula_ends, formula_histories}
-use Rattle.top_call.proofs.GoodForms.{orientation_ends, tree_ends}
+use Rattle.top_call.proofs.Lifting.{free_by}
+use Rattle.top_call.proofs.MadeComes.{told_comes}
 use Rattle.told_runs.proofs.ToldRuns.{placed_size}
-use Rattle.job_subjects.proofs.MadeExtremal.{made_extremal}
-
--- the end of the run of what is made comes of the job, where the order of pops isn't free
-pub end_comes : (command : Command) (job : Job) (ws : List Watcher) (text : List ℕ) (facts : Facts) (i : Instance)
-    → job.command ≡ command → command ≢ Resample → job.count ≡ None
-    → IsMade command (origin_for job) job.root text facts i → (o : Outcome) → IsEndOf (asked_by job) ws facts i o
-    → ComesOf job ws text o
-end_comes Formula job ws text facts i is ordered once made o end =
-    by_command job ws text Formula is o (record {
-      formula = made.formula;
-      spelled = made.spelled;
-      comes = formula_ends (origin_for job) (asked_by job) ws made.formula facts i
-          (subst (λ n. IsMadeFormula false (origin_for job) n made.formula facts i) (sym once) made.made) o end;
-    })
-end_comes Orient job ws text facts i is ordered once made o end =
-    by_command job ws text Orient is o (record {
-      graph = made.graph;
-      spelled = made.spelled;
-      comes = orientation_ends (origin_for job) (asked_by job) ws made.graph facts i
-          (subst (λ n. IsMadeOrientation (origin_for job) n made.graph facts i) (sym once) made.made) o end;
-    })
-end_comes Tree job ws text facts i is ordered once made o end =
-    by_command job ws text Tree is o (record {
-      graph = made.graph;
-      spelled = made.spelled;
-      comes = tree_ends (origin_for job) (asked_by job) ws job.root made.graph facts i
-          (subst (λ n. IsMadeTree (origin_for job) n job.root made.graph facts i) (sym once) made.made) o end;
-    })
-end_comes Resample job ws text facts i is ordered once made o end = absurd (ordered refl)
-end_comes command job ws text facts i is ordered once made o end = absurd made
-
--- and its history, where it is
-pub history_comes : (job : Job) (ws : List Watcher) (text : List ℕ) (facts : Facts) (i : Instance)
-    → job.command ≡ Resample → job.count ≡ None → IsMade Resample (origin_for job) job.root text facts i
-    → (o : Outcome) → IsHistoryOf (asked_by job) ws facts i o → ComesOf job ws text o
-history_comes job ws text facts i is once made o history =
-    by_command job ws text Resample is o (record {
-      formula = made.formula;
-      spelled = made.spelled;
-      comes = formula_histories (origin_for job) (asked_by job) ws made.formula facts i
-          (subst (λ n. IsMadeFormula true (origin_for job) n made.formula facts i) (sym once) made.made) o history;
-    })
-
--- so the answer that tells the end
-ordered_comes : (command : Command) → command ≢ Resample → has_free_order command ≡ false → (job : Job)
-    (ws : List Watcher) (text : List ℕ) (facts : Facts) (i : Instance) (asked : Asked) (status : ℕ) (out : List ℕ)
-    → job.command ≡ command → asked ≡ asked_by job → job.count ≡ None
-    → IsMade command (origin_for job) job.root text facts i
-    → (asked.free ≡ false → asked.count ≡ None → IsExtremal i.family → AnswersBy (IsEndOf asked ws facts i) status out)
-    → AnswersBy (ComesOf job ws text) status out
-ordered_comes command ordered free job ws text facts i asked status out is asks once made ended =
-    answered (IsEndOf (asked_by job) ws facts i) (ComesOf job ws text) status out
-    (end_comes command job ws text facts i is ordered once made)
-    (subst (λ a. AnswersBy (IsEndOf a ws facts i) status out) asks
-    (ended (free_by job asked command asks is ∙ free) (ap (λ (a : Asked). a.count) asks ∙ once)
-    (made_extremal command (origin_for job) job.root text facts i ordered made)))
-
-pub ended_comes : (command : Command) (job : Job) (ws : List Watcher) (text : List ℕ) (facts : Facts) (i : Instance)
-    (asked : Asked) (status : ℕ) (out : List ℕ) → job.command ≡ command → asked ≡ asked_by job → job.count ≡ None
-    → IsMade command (origin_for job) job.root text facts i
-    → (asked.free ≡ false → asked.count ≡ None → IsExtremal i.family → AnswersBy (IsEndOf asked ws facts i) status out)
-    → (asked.free ≡ true → AnswersBy (IsHistoryOf asked ws facts i) status out)
-    → AnswersBy (ComesOf job ws text) status out
-ended_comes Formula job ws text facts i asked status out is asks once made ended history =
-    ordered_comes Formula (λ same. absurd (cc)) refl job ws text facts i asked status out is asks once made ended
-ended_comes Orient job ws text facts i asked status out is asks once made ended history =
-    ordered_comes Orient (λ same. absurd (cc)) refl job ws text facts i asked status out is asks once made ended
-ended_comes Tree job ws text facts i asked status out is asks once made ended history =
-    ordered_comes Tree (λ same. absurd (cc)) refl job ws text facts i asked status out is asks once made ended
-ended_comes Resample job ws text facts i asked status out is asks once made ended history =
-    answered (IsHistoryOf (asked_by job) ws facts i) (ComesOf job ws text) status out
-    (history_comes job ws text facts i is once made)
-    (subst (λ a. AnswersBy (IsHistoryOf a ws facts i) status out) asks (history (free_by job asked Resample asks is)))
-ended_comes command job ws text facts i asked status out is asks once made ended history = absurd made
 
 -- a run that has no fewer pops than it may have has so many
 pub full : (n pops : ℕ) → n ≤ pops → (n < pops → ⊥) → n ≡ pops
@@ -174,21 +99,21 @@ ended_part i part keeps pops kept so_far end count within pops_are kept_is = rec
 
 -- a pause of what is made comes of the job
 paused_comes : (job : Job) (ws : List Watcher) (text : List ℕ) (facts : Facts) (i : Instance) (pops : ℕ)
-    → IsMade job.command (origin_for job) job.root text facts i → job.pops ≡ Some pops → job.count ≡ None
+    → IsMade (wanted_by job) text facts i → job.pops ≡ Some pops → job.count ≡ None
     → (o : Outcome) → IsPausedAt job text facts i pops o → ComesOf job ws text o
 paused_comes job ws text facts i pops made stop once (Paused told input also j placed)
     (told_is, input_is, also_is, j_is, pause) = (
       told_is,
       input_is,
-      subst (λ t. IsMade job.command (origin_for job) job.root text t j) (sym also_is)
-          (subst (IsMade job.command (origin_for job) job.root text facts) (sym j_is) made),
+      subst (λ t. IsMade (wanted_by job) text t j) (sym also_is)
+          (subst (IsMade (wanted_by job) text facts) (sym j_is) made),
       (pops, stop, subst (λ k. IsPause k pops placed) (sym j_is) pause),
       once,
     )
 paused_comes job ws text facts i pops made stop once o h = absurd h
 
 pub paused_answers : (job : Job) (ws : List Watcher) (text : List ℕ) (facts : Facts) (i : Instance) (n pops : ℕ)
-    (status : ℕ) (out : List ℕ) → IsMade job.command (origin_for job) job.root text facts i → job.pops ≡ Some pops
+    (status : ℕ) (out : List ℕ) → IsMade (wanted_by job) text facts i → job.pops ≡ Some pops
     → job.count ≡ None → n ≡ pops → AnswersBy (IsPausedAt job text facts i n) status out
     → AnswersBy (ComesOf job ws text) status out
 paused_answers job ws text facts i n pops status out made stop once same told =
@@ -197,24 +122,24 @@ paused_answers job ws text facts i n pops status out made stop once same told =
     (subst (λ k. AnswersBy (IsPausedAt job text facts i k) status out) same told)
 
 -- the same of results
-pub paused_result : {E : Type 0} (job : Job) (ws : List Watcher) (text : List ℕ) (facts : Facts) (i made_i : Instance)
-    (n pops : ℕ) (r : Result Answer E) → i ≡ made_i → IsMade job.command (origin_for job) job.root text facts made_i
-    → job.pops ≡ Some pops → job.count ≡ None → n ≡ pops
-    → IfOk r (λ a. AnswersBy (IsPausedAt job text facts i n) a.status a.text.items)
+pub paused_result : {E : Type 0} (job : Job) (ws : List Watcher) (text : List ℕ) (facts : Facts) (i : Instance)
+    (n pops : ℕ) (r : Result Answer E) → IsMade (wanted_by job) text facts i → job.pops ≡ Some pops
+    → job.count ≡ None → n ≡ pops → IfOk r (λ a. AnswersBy (IsPausedAt job text facts i n) a.status a.text.items)
     → IfOk r (λ a. AnswersBy (ComesOf job ws text) a.status a.text.items)
-paused_result job ws text facts i made_i n pops (Ok a) is made stop once same told =
-    paused_answers job ws text facts i n pops a.status a.text.items
-    (subst (IsMade job.command (origin_for job) job.root text facts) (sym is) made) stop once same told
-paused_result job ws text facts i made_i n pops (Err e) is made stop once same told = tt
+paused_result job ws text facts i n pops (Ok a) made stop once same told =
+    paused_answers job ws text facts i n pops a.status a.text.items made stop once same told
+paused_result job ws text facts i n pops (Err e) made stop once same told = tt
 
-pub ended_result : {E : Type 0} (job : Job) (ws : List Watcher) (text : List ℕ) (facts : Facts) (i made_i : Instance)
-    (asked : Asked) (r : Result Answer E) → i ≡ made_i
-    → IsMade job.command (origin_for job) job.root text facts made_i → asked ≡ asked_by job → job.count ≡ None
+-- what is told of an end of one run, which is that of an extremal instance where the order of pops isn't free
+pub ended_result : {E : Type 0} (job : Job) (ws : List Watcher) (text : List ℕ) (facts : Facts) (i : Instance)
+    (asked : Asked) (r : Result Answer E) → IsMade (wanted_by job) text facts i → asked ≡ asked_by job
+    → job.count ≡ None → (job.command ≢ Resample → IsExtremal i.family)
     → (asked.free ≡ false → asked.count ≡ None → IsExtremal i.family
     → IfOk r (λ a. AnswersBy (IsEndOf asked ws facts i) a.status a.text.items))
     → (asked.free ≡ true → IfOk r (λ a. AnswersBy (IsHistoryOf asked ws facts i) a.status a.text.items))
     → IfOk r (λ a. AnswersBy (ComesOf job ws text) a.status a.text.items)
-ended_result job ws text facts i made_i asked (Ok a) is made asks once ended history =
-    ended_comes job.command job ws text facts i asked a.status a.text.items refl asks once
-    (subst (IsMade job.command (origin_for job) job.root text facts) (sym is) made) ended history
-ended_result job ws text facts i made_i asked (Err e) is made asks once ended history = tt
+ended_result job ws text facts i asked (Ok a) made asks once extremal ended history =
+    told_comes job.command job ws text facts i asked a.status a.text.items refl asks made
+    (λ free. ended free (ap (λ (q : Asked). q.count) asks ∙ once)
+    (extremal (λ is. false≢true (sym free ∙ free_by job asked Resample asks is)))) history
+ended_result job ws text facts i asked (Err e) made asks once extremal ended history = tt

@@ -10,7 +10,7 @@ use Rattle.pop_watch.specs.Telling.{Watcher}
 use Rattle.pop_print.specs.declared.facts.Facts.{Facts}
 use Rattle.told_runs.specs.Outcomes.{Outcome}
 use Rattle.told_runs.specs.Outcomes.Outcome.{Refused, Extremal, Ended, Resampled, Rounded, Batched, Paused, Replayed}
-use Rattle.top_call.specs.Answers.{origin_for, ComesOfCommand, Refuses, ComesOf}
+use Rattle.top_call.specs.Answers.{wanted_by, ComesOfCommand, Refuses, ComesOf}
 use Rattle.job_subjects.specs.Made.{IsMade}
 use Rattle.top_call.specs.Pauses.{IsPause}
 
@@ -24,7 +24,7 @@ pub record TellsPaused (job : Job) (text : List ℕ) (o : Outcome) : Type 0 wher
   pub i : Instance
   pub placed : List Placed
   pub is : o ≡ Paused job text facts i placed
-  pub made : IsMade job.command (origin_for job) job.root text facts i
+  pub made : IsMade (wanted_by job) text facts i
   pub pops : ℕ
   pub stop : job.pops ≡ Some pops
   pub pause : IsPause i pops placed

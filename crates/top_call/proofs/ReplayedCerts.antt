@@ -1,7 +1,8 @@
 -- What comes of a certificate that is accepted, or refused, comes of the bytes that are it.
-use Rattle.std.proofs.Common.{inl, inr, ◌≡◌, ◌<◌, ℕ, List, [], length, Option, Some, Result, Ok, Err, IfOk, IfErr, IfSome, refl, sym, ap, subst, ◌∙◌, arith}
+use Rattle.std.proofs.Common.{inl, inr, ◌≡◌, ◌<◌, ℕ, List, [], length, Option, None, Some, Result, Ok, Err, IfOk, IfErr, IfSome, refl, sym, ap, subst, ◌∙◌, arith}
 use Rattle.std.specs.Result.{IsErrAnd, IsErrOf}
 use Rattle.std.proofs.lemmas.Result.{IfErr-weaker}
+use Rattle.pop_model.specs.Stacks.{Origin}
 use Rattle.pop_model.specs.Instances.{Instance}
 use Rattle.pop_stacks.specs.Tables.{origin_of}
 use Rattle.pop_log.specs.declared.log_refusal.LogRefusal.{LogRefusal}
@@ -12,9 +13,12 @@ use Rattle.pop_log.specs.Refusals.{IsLogRefusal}
 use Rattle.confluence_core.specs.declared.reached.Reached.{Reached}
 use Rattle.run_cert.specs.declared.look_kind.Look.{Look}
 use Rattle.run_cert.specs.Looks.{IsLook}
+use Rattle.run_cert.specs.Heads.{Head}
 use Rattle.run_cert.specs.Certificates.{Certificate}
+use Rattle.pop_words.specs.declared.command.Command.{Command}
 use Rattle.pop_watch.specs.Telling.{Watcher}
 use Rattle.top_call.specs.declared.accepted.Accepted.{Accepted}
+use Rattle.job_subjects.specs.declared.wanted.Wanted.{Wanted}
 use Rattle.job_subjects.specs.declared.refusal.Refusal.{Refusal}
 use Rattle.job_subjects.specs.declared.refusal.Refusal.TheVariants.{Stopped}
 use Rattle.job_subjects.specs.declared.stop.Stop.TheVariants.{ReadFault}
@@ -25,7 +29,7 @@ use Rattle.told_runs.specs.Outcomes.Outcome.{Replayed}
 use Rattle.job_subjects.specs.declared.answer.Answer.{Answer}
 use Rattle.job_subjects.specs.Refusals.{IsRefusal, IsPastWords, unlogged}
 use Rattle.job_subjects.specs.Refused.{RefusesText}
-use Rattle.top_call.specs.Replays.{cert_limit, job_of, ByLine, IsNoCert, IsCertified, IsRefusedCert, IsRefused, HasLog, ComesOfReplaying}
+use Rattle.top_call.specs.Replays.{cert_limit, job_of, wanted_of, ByLine, IsNoCert, IsCertified, IsRefusedCert, IsRefused, HasLog, ComesOfReplaying}
 use Rattle.top_call.specs.Accepted.{IsHeldBy, IsAccepted, TellsReplay}
 use Rattle.top_call.specs.Answers.{ComesOf}
 use Rattle.job_subjects.proofs.Carrying.{refused_by, passed_on}
@@ -36,14 +40,23 @@ use Rattle.top_call.proofs.Statuses.{past_words}
 use Rattle.top_call.proofs.ReadToEnd.{read_to}
 use Rattle.top_call.specs.Whole.{IsReadTo}
 
+-- what one run of a command wants
+abbrev pub one_run_of : Command → Origin → ℕ → Wanted
+one_run_of k origin root = record { command = k; origin = origin; count = None; root = root; side = 0 }
+
+-- that of a head
+pub head_wants : (head : Head) (k : Command) (origin : Origin) (root : ℕ) → k ≡ head.command
+    → origin ≡ origin_of head.stacks head.height → root ≡ head.root → one_run_of k origin root ≡ wanted_of head
+head_wants head k origin root command_is origin_is root_is =
+    ap (λ (c : Command). one_run_of c origin root) command_is ∙ ap (λ (o : Origin). one_run_of head.command o root) origin_is
+    ∙ ap (λ (r : ℕ). one_run_of head.command (origin_of head.stacks head.height) r) root_is
+
 -- what refuses the line of the certificate's command refuses the certificate
-pub line_refused : (cert : Certificate) (r : Refusal)
-    → IsRefusal (RefusesText cert.head.command (origin_of cert.head.stacks cert.head.height) cert.head.root cert.input) r
+pub line_refused : (cert : Certificate) (r : Refusal) → IsRefusal (RefusesText (wanted_of cert.head) cert.input) r
     → IsRefusal (IsRefusedCert ComesOf cert) r
 line_refused cert r h =
-    refused_by (RefusesText cert.head.command (origin_of cert.head.stacks cert.head.height) cert.head.root cert.input)
-    (IsRefusedCert ComesOf cert) r
-    (λ q bad. inl (made_refused cert.head.command (job_of cert.head) [] cert.input q refl refl bad)) h
+    refused_by (RefusesText (wanted_of cert.head) cert.input) (IsRefusedCert ComesOf cert) r
+    (λ q bad. inl (made_refused cert.head.command (job_of cert.head) [] cert.input q refl bad)) h
 
 -- so does what refuses its log text
 pub text_refused : (cert : Certificate) (facts : Facts) (i : Instance) (r : Refusal) → IsCertified cert facts i

@@ -1,6 +1,8 @@
 -- Which statuses a text is answered by: each up to 6 but that of bad words. And no refusal is one of words.
-use Rattle.std.proofs.Common.{inl, inr, ◌≡◌, ◌⊎◌, ◌≤◌, ◌<◌, ℕ, List, [], ◌∷◌, Result, Ok, Err, refl, sym, subst, arith}
+use Rattle.std.proofs.Common.{inl, inr, ◌≡◌, ◌⊎◌, ◌≤◌, ◌<◌, ℕ, true, false, List, [], ◌∷◌, Result, Ok, Err, refl, sym, subst, arith}
+use Rattle.std.proofs.lemmas.Bool.{cases_Bool}
 use Rattle.pop_model.specs.Families.{Event}
+use Rattle.pop_model.specs.Instances.{Instance}
 use Rattle.confluence_core.specs.declared.end.End.{End}
 use Rattle.pop_words.specs.declared.job.Job.{Job}
 use Rattle.pop_watch.specs.Telling.{Watcher}
@@ -12,6 +14,9 @@ use Rattle.job_subjects.specs.declared.refusal.Refusal.{Refusal}
 use Rattle.job_subjects.specs.declared.refusal.Refusal.TheVariants.{Usage as BadWord, Malformed, Count, EmptyClause, Limit, Isolated, NoRoot, CutOff, TooMany, RowCount, EmptyRow, ValueTooLarge, WeightSum, Clashes, NotLegal, Stopped}
 use Rattle.job_subjects.specs.Refusals.{refusal_status, IsPastWords}
 use Rattle.job_subjects.proofs.TextRefusals.{IsOfInput}
+use Rattle.pop_print.specs.declared.facts.Facts.{Facts}
+use Rattle.told_runs.specs.declared.asked.Asked.{Asked}
+use Rattle.told_runs.specs.Ends.{IsEndOf, IsHistoryOf}
 use Rattle.told_runs.specs.Batches.{batch_status}
 use Rattle.told_runs.specs.ReplayTexts.{look_status}
 use Rattle.told_runs.specs.Witnesses.{Witness}
@@ -95,6 +100,19 @@ job_result job ws text (Ok a) (o, comes, tells) =
     subst IsTextStatus (sym tells.status_is) (told_status (ComesOf job ws text) (line_input job ws text) o comes)
 job_result job ws text (Err r) (inl memory) = subst IsPastWords (sym memory) tt
 job_result job ws text (Err r) (inr comes) = past_words r (line_input job ws text r comes)
+
+-- and what is told of a run of what is made
+pub run_status : (asked : Asked) (ws : List Watcher) (facts : Facts) (i : Instance) (status : ℕ) (out : List ℕ)
+    → (asked.free ≡ false → AnswersBy (IsEndOf asked ws facts i) status out)
+    → (asked.free ≡ true → AnswersBy (IsHistoryOf asked ws facts i) status out) → IsTextStatus status
+run_status asked ws facts i status out ended history = elim (cases_Bool asked.free) [
+  | inl free ↦
+      let (o, history_is, tells) = history free in
+      subst IsTextStatus (sym tells.status_is) (told_status (IsHistoryOf asked ws facts i) (λ r h. absurd h) o history_is)
+  | inr ordered ↦
+      let (o, end, tells) = ended ordered in
+      subst IsTextStatus (sym tells.status_is) (told_status (IsEndOf asked ws facts i) (λ r h. absurd h) o end)
+]
 
 -- the status of a run that goes on
 pub resumed_status_is : (Line : ByLine) (ws : List Watcher) (cert : Certificate) (status : ℕ) (out : List ℕ)

@@ -5,9 +5,9 @@ use Rattle.pop_edge.specs.Lines.{text_limit}
 use Rattle.pop_edge.specs.declared.refusal.ReadRefusal.{ReadRefusal}
 use Rattle.pop_stacks.specs.Tables.{origin_of}
 use Rattle.dimacs_read.specs.Cnf.{Cnf}
-use Rattle.dimacs_read.specs.CnfText.{AnswersCnf, HasNoBadLine as HasNoBadCnfLine}
+use Rattle.dimacs_read.specs.CnfText.{AnswersCnf}
 use Rattle.graph_read.specs.Graphs.{GraphOf}
-use Rattle.graph_read.specs.GraphText.{AnswersGraph, HasNoBadLine as HasNoBadGraphLine}
+use Rattle.graph_read.specs.GraphText.{AnswersGraph}
 use Rattle.pop_words.specs.declared.command.Command.{Command}
 use Rattle.pop_words.specs.declared.command.Command.TheVariants.{Formula, Orient, Tree, Resample, Check, Make, Rounds, Replay, Resume}
 use Rattle.pop_words.specs.declared.job.Job.{Job}
@@ -16,7 +16,8 @@ use Rattle.pop_words.specs.CommandLines.{Asks, IsBadPlace}
 use Rattle.pop_watch.specs.Telling.{Watcher}
 use Rattle.job_subjects.specs.declared.refusal.Refusal.{Refusal}
 use Rattle.job_subjects.specs.declared.refusal.Refusal.TheVariants.{Usage}
-use Rattle.job_subjects.specs.Refused.{IsUnread}
+use Rattle.job_subjects.specs.declared.wanted.Wanted.{Wanted}
+use Rattle.job_subjects.specs.Refused.{IsUnread, HasNoBadLine}
 use Rattle.told_runs.specs.Asking.{asked_by}
 use Rattle.told_runs.specs.Outcomes.{Outcome, AnswersBy}
 use Rattle.told_runs.specs.Outcomes.Outcome.{Refused, Paused}
@@ -51,6 +52,16 @@ last_height job = unwrap_or job.grow job.height
 -- the origin of the stacks that a job asks for, at their last height
 abbrev pub origin_for : Job → Origin
 origin_for job = origin_of job.stacks (last_height job)
+
+-- what a job wants made of the text that it reads
+abbrev pub wanted_by : Job → Wanted
+wanted_by job = record {
+  command = job.command;
+  origin = origin_for job;
+  count = job.count;
+  root = job.root;
+  side = job.size;
+}
 
 -- What comes of a command, with what the job says beside it, the watchers, and the text that it
 -- reads; a grid is made without one. Of a command that reads a certificate nothing comes here
@@ -89,7 +100,7 @@ ComesOf job watchers text (Refused refusal) =
     IsUnread (Refuses job.command text) refusal
     ⊎ ComesOfCommand job.command job watchers text (Refused refusal)
 ComesOf job watchers text (Paused told input facts i placed) =
-    (told ≡ job) × (input ≡ text) × IsMade job.command (origin_for job) job.root text facts i
+    (told ≡ job) × (input ≡ text) × IsMade (wanted_by job) text facts i
     × PausesAt job.pops i placed × (job.count ≡ None)
 ComesOf job watchers text o = ComesOfCommand job.command job watchers text o
 
@@ -138,24 +149,13 @@ AskForGrid words = (job : Job) × Asks words job × (job.command ≡ Make)
 abbrev pub IsInput : List (List ℕ) → Option (List ℕ) → List ℕ → Type 0
 IsInput words left text = (left ≡ Some text) ⊎ AskForGrid words
 
--- The command reads, what was taken is within the limit, and no line of it whose end was taken is
--- refused by its grammar. A certificate is read whole before it is judged.
-abbrev pub HasNoBadLine : Command → List ℕ → Type 0
-HasNoBadLine Formula taken = HasNoBadCnfLine taken
-HasNoBadLine Orient taken = HasNoBadGraphLine taken
-HasNoBadLine Tree taken = HasNoBadGraphLine taken
-HasNoBadLine Resample taken = HasNoBadCnfLine taken
-HasNoBadLine Check taken = HasNoBadCnfLine taken
-HasNoBadLine Make taken = ⊥
-HasNoBadLine Rounds taken = HasNoBadCnfLine taken
-HasNoBadLine Replay taken = length taken ≤ cert_limit
-HasNoBadLine Resume taken = length taken ≤ cert_limit
-
--- What may have been taken before a fault of the source. A text that is read whole before it is
--- judged is within the limit so far.
+-- What may have been taken before a fault of the source. A certificate, and a text of which a run
+-- may stop, is read whole before it is judged, and within its limit so far.
 abbrev pub MayFailBehind : Option ℕ → Command → List ℕ → Type 0
-MayFailBehind None command taken = HasNoBadLine command taken
 MayFailBehind (Some pops) command taken = length taken ≤ text_limit
+MayFailBehind None Replay taken = length taken ≤ cert_limit
+MayFailBehind None Resume taken = length taken ≤ cert_limit
+MayFailBehind None command taken = HasNoBadLine command taken
 
 -- The source was read whole, where the command reads a certificate, or a text of which a run may
 -- stop: to its end, or to the first byte past the limit.

@@ -9,5 +9,4 @@ pub mod Replays
 pub mod Resumes
 pub mod Accepted
 pub mod Answers
-pub mod Commands
 pub mod TopCall

@@ -1,6 +1,6 @@
 -- What comes of a certificate that is replayed: it is refused, or its log is legal and leads to
 -- cursors.
-use Rattle.std.specs.Prelude.{◌≡◌, ◌≢◌, ◌⊎◌, ℕ, ◌<◌, ◌≤◌, ◌^◌, List, [], length}
+use Rattle.std.specs.Prelude.{◌≡◌, ◌≢◌, ◌⊎◌, ℕ, ◌<◌, ◌≤◌, ◌^◌, List, [], length, None}
 use Rattle.pop_model.specs.Instances.{Instance, IsInstance}
 use Rattle.pop_model.specs.Logs.{LogRecord, replay}
 use Rattle.pop_model.specs.Runs.{start_of}
@@ -20,6 +20,7 @@ use Rattle.run_cert.specs.Heads.{Head}
 use Rattle.run_cert.specs.Certificates.{Certificate, IsCertOf}
 use Rattle.run_cert.specs.Refusals.{IsCertRefusal}
 use Rattle.run_cert.specs.Looks.{IsLook}
+use Rattle.job_subjects.specs.declared.wanted.Wanted.{Wanted}
 use Rattle.job_subjects.specs.declared.refusal.Refusal.{Refusal}
 use Rattle.job_subjects.specs.declared.refusal.Refusal.TheVariants.{Limit, Malformed}
 use Rattle.job_subjects.specs.Refusals.{unlogged}
@@ -45,6 +46,16 @@ job_of head =
       root = head.root;
     }
 
+-- what is wanted of the input of a head: one run of its command
+abbrev pub wanted_of : Head → Wanted
+wanted_of head = record {
+  command = head.command;
+  origin = origin_of head.stacks head.height;
+  count = None;
+  root = head.root;
+  side = 0;
+}
+
 -- the bytes are too many, or no certificate
 abbrev pub IsNoCert : List ℕ → Refusal → Type 0
 IsNoCert bytes refusal =
@@ -63,8 +74,7 @@ pub record ComesOfCert {T : Type 0} (Comes : Certificate → T → Type 0) (byte
 -- what the certificate's command runs, of the input and over the stacks of the certificate; its
 -- events have numbers of 32 bits
 pub record IsCertified (cert : Certificate) (facts : Facts) (i : Instance) : Type 0 where
-  pub made : IsMade cert.head.command (origin_of cert.head.stacks cert.head.height) cert.head.root
-      cert.input facts i
+  pub made : IsMade (wanted_of cert.head) cert.input facts i
   pub is : IsInstance i
   pub numbers : NumbersFit i.family
 

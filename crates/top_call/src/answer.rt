@@ -7,18 +7,21 @@ ghost use Rattle.pop_words.specs.CommandLines.{AreWords, Asks, IsBadPlace};
 ghost use Rattle.pop_words.specs.declared.job.Job.{Job};
 ghost use Rattle.pop_words.specs.declared.command.Command.TheVariants.{Make};
 ghost use Rattle.top_call.specs.TopCall.{HasReadFault};
-ghost use Rattle.top_call.specs.Answers.{IsAnswer, ComesOf, origin_for, AskForGrid, IsInput, HasNoBadLine, MayFailBehind, WasReadWhole, MayStop, ComesBy, IsOfLine};
+ghost use Rattle.top_call.specs.Answers.{IsAnswer, ComesOf, origin_for, AskForGrid, IsInput, MayFailBehind, WasReadWhole, MayStop, ComesBy, IsOfLine};
 ghost use Rattle.told_runs.specs.Outcomes.{IsAnswerStatus, HasRun};
 ghost use Rattle.told_runs.specs.Results.{IsResultOf, IsTextResult};
 ghost use Rattle.job_subjects.specs.Refusals.{IsJudged, refusal_line};
+ghost use Rattle.job_subjects.specs.Refused.{HasNoBadLine};
 ghost use Rattle.job_subjects.specs.declared.refusal.Refusal.TheVariants.{Usage, Stopped};
 ghost use Rattle.job_subjects.specs.declared.stop.Stop.TheVariants.{ReadFault, OutOfMemory};
 
-use crate::commands::{answer_formula, answer_graph, answer_grid};
+use crate::formula::check_formula;
 use crate::pausing::pause_or_tell;
 use crate::replaying::replay;
 use crate::resuming::resume;
-use job_subjects::{Answer, Refusal, Stop, formula_of, graph_of};
+use crate::rounds::sample_rounds;
+use crate::sampling::sample;
+use job_subjects::{Answer, Refusal, StackOrigin, Stop, formula_of};
 use pop_edge::Source;
 use pop_watch::Watch;
 use pop_words::{Command, Job, read_words};
@@ -26,8 +29,8 @@ use run_makers::{Crew, Maker};
 use std::alloc::Global;
 use told_runs::Call;
 
-// The answer to a job whose run doesn't stop before its end. A grid is made without the source, and
-// each other command reads it.
+// The answer to a job whose run doesn't stop before its end: of `check` and `rounds`, on the
+// formula that the source spells, and of each other command that of what it samples.
 fn run_job<S: Source, M: Maker>(
     call: &mut Call<M>,
     job: Job,
@@ -60,14 +63,14 @@ fn run_job<S: Source, M: Maker>(
         × HasNoBadLine job.command taken }
 {
     match job.command {
-        Command::Formula | Command::Resample | Command::Check | Command::Rounds => {
-            answer_formula(call, job, &formula_of(call.alloc, source)?)
+        Command::Check => check_formula(call.alloc, &formula_of(call.alloc, source)?),
+        Command::Rounds => {
+            let formula = formula_of(call.alloc, source)?;
+            let origin = StackOrigin::new(job.stacks, job.height, job.grow);
+            sample_rounds(call, origin, &formula)
         }
-        Command::Orient | Command::Tree => {
-            answer_graph(call, job, graph_of(call.alloc, source)?)
-        }
-        Command::Make => answer_grid(call, job),
         Command::Replay | Command::Resume => unreachable!(),
+        _ => sample(call, job, source),
     }
 }
 

@@ -5,15 +5,13 @@
 
 mod accepted;
 mod answer;
-mod commands;
 mod formula;
-mod orientation;
 mod pausing;
 mod replaying;
 mod resuming;
 mod rounds;
+mod sampling;
 mod top;
-mod tree;
 mod whole;
 
 pub use job_subjects::Answer;

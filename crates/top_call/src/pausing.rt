@@ -15,7 +15,7 @@ ghost use Rattle.pop_words.specs.declared.command.Command.TheVariants.{Resample}
 ghost use Rattle.pop_words.specs.Options.{paused};
 ghost use Rattle.pop_print.specs.Ends.{AreFactsOf};
 ghost use Rattle.run_cert.specs.Looks.{HasPoppable, IsSoFar};
-ghost use Rattle.top_call.specs.Answers.{ComesOf, origin_for};
+ghost use Rattle.top_call.specs.Answers.{ComesOf, wanted_by};
 ghost use Rattle.job_subjects.specs.Made.{IsMade};
 ghost use Rattle.told_runs.specs.Outcomes.{AnswersBy, HasRun};
 ghost use Rattle.top_call.specs.Pauses.{IsPausedAt};
@@ -27,8 +27,8 @@ ghost use Rattle.job_subjects.specs.declared.stop.Stop.TheVariants.{ReadFault};
 
 use crate::whole::read_whole;
 use confluence_core::{End, Keep, Log};
-use job_subjects::{Answer, Made, Refusal, StackOrigin, copy_spec, made_of};
-use pop_edge::Source;
+use job_subjects::{Answer, Made, Refusal, StackOrigin, Wanted, copy_spec, made_of};
+use pop_edge::{SliceSource, Source};
 use pop_instance::{Instance, Values};
 use pop_log::LayeredLog;
 use pop_print::Facts;
@@ -106,8 +106,7 @@ fn run_up_to<M>(
     requires command { Contains paused job.now.command }
     requires once { job.now.count ≡ None }
     requires short { length input.now ≤ text_limit }
-    requires made { IsMade job.now.command (origin_for job.now) job.now.root input.now facts.now
-        instance.now }
+    requires made { IsMade (wanted_by job.now) input.now facts.now instance.now }
     requires told { AreFactsOf facts.now instance.now }
     requires extremal { job.now.command ≢ Resample → IsExtremal instance.now.family }
     ensures { IfOk result (λ a. AnswersBy (ComesOf job.now
@@ -139,8 +138,7 @@ fn stop_and_tell<M>(
     requires command { Contains paused job.now.command }
     requires once { job.now.count ≡ None }
     requires short { length input.now ≤ text_limit }
-    requires made { IsMade job.now.command (origin_for job.now) job.now.root input.now made.facts
-        made.instance }
+    requires made { IsMade (wanted_by job.now) input.now made.facts made.instance }
     requires told { AreFactsOf made.facts made.instance }
     requires extremal { job.now.command ≢ Resample → IsExtremal made.instance.family }
     ensures { IfOk result (λ a. AnswersBy (ComesOf job.now
@@ -178,7 +176,15 @@ fn judge_and_stop<M>(
 {
     let spec = copy_spec(call.alloc, &job.stacks)?;
     let origin = StackOrigin::new(spec, job.height, job.grow);
-    let made = made_of(call.alloc, job.command, origin, job.root, input)?;
+    let wanted = Wanted {
+        command: job.command,
+        origin,
+        count: job.count,
+        root: job.root,
+        side: job.size,
+    };
+    let mut source = SliceSource::new(input);
+    let made = made_of(call.alloc, wanted, &mut source)?;
     Ok(stop_and_tell(call, job, pops, input, made)?)
 }
 

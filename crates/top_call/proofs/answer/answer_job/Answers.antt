@@ -2,9 +2,9 @@ use Rattle.std.proofs.Common.{inl, inr, ◌≡◌, sym, subst, ◌∙◌}
 use Rattle.std.proofs.lemmas.Result.{IfOk-weaker}
 use Rattle.pop_words.specs.declared.command.Command.{Command}
 use Rattle.pop_words.specs.declared.command.Command.TheVariants.{Make, Replay, Resume}
-use Rattle.top_call.specs.Answers.{HasNoBadLine, MayFailBehind, WasReadWhole, IsOfLine}
+use Rattle.top_call.specs.Answers.{MayFailBehind, WasReadWhole, IsOfLine}
 use Rattle.top_call.proofs.ByCommand.{line_result, reads_no_cert}
-use Rattle.top_call.proofs.PauseWords.{not_made, paused_line, cert_behind, cert_whole, line_whole}
+use Rattle.top_call.proofs.PauseWords.{not_made, paused_line, cert_behind, cert_whole, line_behind, line_whole}
 use Rattle.top_call.proofs.answer.answer_job.Goals as goal
 
 -- the command of a certificate makes no grid
@@ -59,12 +59,10 @@ returns-in-Replay-clause-whole g c =
 
 pub returns-in-Replay-clause-no_bad_line : goal.returns-in-Replay-clause-no_bad_line
 returns-in-Replay-clause-no_bad_line g c failed =
-    let short = c.replay.ensures.short failed in
-    let certified : IsOfLine c.args.job.command → ⊥ = λ line. subst IsOfLine c.in-Replay.is line in (
+    let short = c.replay.ensures.short failed in (
       short.0,
       short.1,
-      cert_behind c.args.job short.0 c.requires.stops certified
-          (subst (λ k. HasNoBadLine k short.0) (sym c.in-Replay.is) short.2),
+      cert_behind c.args.job short.0 c.requires.stops Replay c.in-Replay.is (λ line. line) short.2,
     )
 
 pub returns-in-Replay-clause-read : goal.returns-in-Replay-clause-read
@@ -87,12 +85,10 @@ returns-in-Resume-clause-whole g c =
 
 pub returns-in-Resume-clause-no_bad_line : goal.returns-in-Resume-clause-no_bad_line
 returns-in-Resume-clause-no_bad_line g c failed =
-    let short = c.resume.ensures.short failed in
-    let certified : IsOfLine c.args.job.command → ⊥ = λ line. subst IsOfLine c.in-Resume.is line in (
+    let short = c.resume.ensures.short failed in (
       short.0,
       short.1,
-      cert_behind c.args.job short.0 c.requires.stops certified
-          (subst (λ k. HasNoBadLine k short.0) (sym c.in-Resume.is) short.2),
+      cert_behind c.args.job short.0 c.requires.stops Resume c.in-Resume.is (λ line. line) short.2,
     )
 
 pub returns-in-Resume-clause-read : goal.returns-in-Resume-clause-read
@@ -108,7 +104,12 @@ returns-in_default-command-clause-answer g c text input read =
 pub returns-in_default-command-clause-no_bad_line : goal.returns-in_default-command-clause-no_bad_line
 returns-in_default-command-clause-no_bad_line g c failed =
     let front = c.run_job.ensures.no_bad_line failed in
-    (front.0, front.1, subst (λ p. MayFailBehind p c.args.job.command front.0) (sym c.in_default.is) front.2)
+    let line = reads_no_cert c.args.job.command c.in_default-command.not-Replay c.in_default-command.not-Resume in (
+      front.0,
+      front.1,
+      subst (λ p. MayFailBehind p c.args.job.command front.0) (sym c.in_default.is)
+          (line_behind c.args.job.command front.0 line front.2),
+    )
 
 pub returns-in_default-command-clause-read : goal.returns-in_default-command-clause-read
 returns-in_default-command-clause-read g c judged =

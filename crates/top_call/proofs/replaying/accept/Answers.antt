@@ -1,7 +1,6 @@
 use Rattle.std.proofs.Common.{◌≡◌, IfSome, sym, subst}
 use Rattle.pop_model.specs.Instances.{Instance}
 use Rattle.pop_model.specs.Extremal.{IsExtremal}
-use Rattle.pop_stacks.specs.Tables.{origin_of}
 use Rattle.pop_log.specs.LogVersions.{IsReadAs}
 use Rattle.pop_log.specs.Refusals.{IsLogRefusal}
 use Rattle.pop_print.specs.Ends.{AreFactsOf}
@@ -9,7 +8,7 @@ use Rattle.told_runs.specs.Names.{names_for}
 use Rattle.job_subjects.specs.Made.{IsMade}
 use Rattle.pop_log.specs.declared.log_refusal.LogRefusal.{LogRefusal}
 use Rattle.job_subjects.specs.Refusals.{IsRefusal, unlogged}
-use Rattle.top_call.specs.Replays.{IsCertified, IsRefusedCert}
+use Rattle.top_call.specs.Replays.{wanted_of, IsCertified, IsRefusedCert}
 use Rattle.top_call.specs.Answers.{ComesOf}
 use Rattle.job_subjects.proofs.Carrying.{refused_error}
 use Rattle.top_call.proofs.ReplayedCerts.{line_refused, text_refused}
@@ -28,8 +27,8 @@ returns-in_err-reached-clause-refused c =
     let facts = c.in_ok-made.made.facts in
     let i = c.raised-instance.result in
     let certified : IsCertified cert facts i = record {
-      made = subst (λ (i : Instance). IsMade cert.head.command (origin_of cert.head.stacks cert.head.height)
-          cert.head.root cert.input facts i) (sym c.raised-instance.ensures) c.in_ok-made.ensures.made;
+      made = subst (IsMade (wanted_of cert.head) cert.input facts) (sym c.raised-instance.ensures)
+          c.in_ok-made.ensures.made;
       is = c.run_of.ensures.instance;
       numbers = c.run_of.ensures.numbers;
     } in
@@ -44,9 +43,8 @@ pub returns-clause-held : goal.returns-clause-held
 returns-clause-held c = record {
   command_is = c.command.ensures;
   certified = record {
-    made = subst (λ (i : Instance). IsMade c.args.cert.now.head.command
-        (origin_of c.args.cert.now.head.stacks c.args.cert.now.head.height) c.args.cert.now.head.root c.args.cert.now.input
-        c.in_ok-made.made.facts i) (sym c.raised-instance.ensures) c.in_ok-made.ensures.made;
+    made = subst (IsMade (wanted_of c.args.cert.now.head) c.args.cert.now.input c.in_ok-made.made.facts)
+        (sym c.raised-instance.ensures) c.in_ok-made.ensures.made;
     is = c.run_of.ensures.instance;
     numbers = c.run_of.ensures.numbers;
   };
