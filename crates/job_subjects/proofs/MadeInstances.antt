@@ -1,18 +1,26 @@
 -- The instances that the program makes are those of the definitions, and can be told.
-use Rattle.std.proofs.Common.{◌≡◌, ℕ, zero, suc, ◌-◌, ◌*◌, ◌<◌, ◌≤◌, List, [], Option, Result, Ok, Err, IfOk, length, get_or, refl, sym, ap, subst, ◌∙◌, arith, zero-add}
+use Rattle.std.proofs.Common.{◌≡◌, ℕ, zero, suc, ◌-◌, ◌*◌, ◌<◌, ◌≤◌, Bool, List, [], Option, Result, IfOk, length, get_or, refl, sym, ap, subst, ◌∙◌, arith, zero-add}
 use Rattle.std.proofs.lemmas.List.{length-map}
+use Rattle.std.proofs.lemmas.Result.{IfOk-weaker}
 use Rattle.std.proofs.lemmas.List.FromFn.{length-map-range_with_len, get_or-map-range_with_len}
 use Rattle.pop_model.specs.Stacks.{StackTable, Origin}
 use Rattle.pop_model.specs.Families.Family.{Cycles}
-use Rattle.pop_model.specs.Instances.{Instance, FamilyFits}
+use Rattle.pop_model.specs.Instances.{FamilyFits}
 use Rattle.pop_model.specs.Names.{vertex_of}
+use Rattle.dimacs_read.specs.Cnf.{Cnf}
 use Rattle.graph_read.specs.Graphs.{GraphOf, IsVertex, edge_at}
 use Rattle.graph_read.specs.Incidence.{edges_at, other_end}
 use Rattle.cycle_popping.specs.Trees.{variable_of, heads_at, weights_at, heads_of_tree, weights_of_tree}
 use Rattle.pop_print.specs.declared.facts.Facts.{Facts}
+use Rattle.pop_print.specs.declared.facts.Facts.TheVariants.{Formula as FormulaFacts}
 use Rattle.pop_print.specs.Ends.{AreFactsOf, IsOfTree}
 use Rattle.job_subjects.specs.declared.making.Made.{Made}
-use Rattle.job_subjects.specs.Subjects.{cycles_instance, tree_instance}
+use Rattle.job_subjects.specs.Subjects.{Subject, instance_over, cycles_instance, tree_instance, arrows_to, AreAssignments}
+use Rattle.job_subjects.specs.Made.{IsInstanceOf, IsMadeOf}
+
+-- cycles of arrows with these weights and heads
+abbrev pub cycles_over : Facts → List (List ℕ) → List (List (Option ℕ)) → Subject
+cycles_over facts weights heads = record { facts = facts; weights = weights; family = Cycles heads }
 
 -- there are as many rows of weights as vertices but the root
 pub count_of_weights : (g : GraphOf) (root : ℕ) → length (weights_of_tree g root) ≡ g.vertices - 1
@@ -74,12 +82,34 @@ pub fits_tree : (s : StackTable) (g : GraphOf) (root : ℕ) (heads : List (List 
 fits_tree s g root heads weights_are heads_are =
     subst (λ h. FamilyFits s (Cycles h)) (sym heads_are) (tree_fits s g root weights_are)
 
--- the facts of what is made are those that tell it
-pub facts_of_made : {E : Type 0} (r : Result Made E) (facts : Facts) (i : Instance) → IfOk r (λ made. made.facts ≡ facts)
-    → IfOk r (λ made. made.instance ≡ i) → AreFactsOf facts i → IfOk r (λ made. AreFactsOf made.facts made.instance)
-facts_of_made (Ok made) facts i facts_are instance_is told =
-    subst (λ t. AreFactsOf t made.instance) (sym facts_are) (subst (AreFactsOf facts) (sym instance_is) told)
-facts_of_made (Err e) facts i facts_are instance_is told = tt
+-- what is made of cycles is told by their facts
+pub told_of_cycles : {E : Type 0} (r : Result Made E) (origin : Origin) (asked : Option ℕ) (s : Subject)
+    → AreFactsOf s.facts (instance_over origin s) → IfOk r (λ m. IsInstanceOf origin asked s m.facts m.instance)
+    → IfOk r (λ m. AreFactsOf m.facts m.instance)
+told_of_cycles r origin asked s told =
+    IfOk-weaker r _ _ (λ m over. subst (λ t. AreFactsOf t m.instance) (sym over.facts_are)
+    (subst (AreFactsOf s.facts) (sym over.instance_is) told))
+
+-- and is that of the arrows of a graph's trees, where it has their heads and weights
+pub arrows_made : {E : Type 0} (r : Result Made E) (origin : Origin) (asked : Option ℕ) (Are : Subject → Type 0)
+    (facts : Facts) (g : GraphOf) (root : ℕ) (weights : List (List ℕ)) (heads : List (List (Option ℕ)))
+    → weights ≡ weights_of_tree g root → heads ≡ heads_of_tree g root → Are (arrows_to facts g root)
+    → IfOk r (λ m. IsInstanceOf origin asked (cycles_over facts weights heads) m.facts m.instance)
+    → IfOk r (λ m. IsMadeOf Are origin asked m.facts m.instance)
+arrows_made r origin asked Are facts g root weights heads weights_are heads_are are =
+    IfOk-weaker r _ _ (λ m over. record {
+      subject = arrows_to facts g root;
+      are = are;
+      over = subst (λ h. IsInstanceOf origin asked (cycles_over facts (weights_of_tree g root) h) m.facts m.instance) heads_are
+          (subst (λ w. IsInstanceOf origin asked (cycles_over facts w heads) m.facts m.instance) weights_are over);
+    })
+
+-- what is made of a formula is told by its facts
+pub facts_of_formula : {E : Type 0} (may_clash : Bool) (f : Cnf) (origin : Origin) (asked : Option ℕ) (r : Result Made E)
+    → IfOk r (λ m. IsMadeOf (AreAssignments may_clash f) origin asked m.facts m.instance)
+    → IfOk r (λ m. (n : ℕ) × (m.facts ≡ FormulaFacts n))
+facts_of_formula may_clash f origin asked r =
+    IfOk-weaker r _ _ (λ m made. (f.variables, made.over.facts_are ∙ ap (λ (s : Subject). s.facts) made.are.is))
 
 -- a grid has a first vertex
 pub first_of_grid : (side : ℕ) → 1 ≤ side → IsVertex (side * side) 1

@@ -1,5 +1,5 @@
 -- Why a formula, a graph or a grid is refused, by the part that refuses it.
-use Rattle.std.proofs.Common.{inl, inr, ◌≡◌, ℕ, ◌≤◌, ◌<◌, Bool, true, false, List, length, Option, refl, sym, subst, ◌∙◌}
+use Rattle.std.proofs.Common.{inl, inr, ◌≡◌, ℕ, ◌≤◌, Bool, true, false, List, Option, refl, subst}
 use Rattle.pop_model.specs.Stacks.{Origin}
 use Rattle.pop_model.specs.Popping.{Cube}
 use Rattle.pop_stacks.specs.Faults.{IsSound}
@@ -11,12 +11,11 @@ use Rattle.sink_popping.specs.declared.sink_fault.SinkFault.{SinkFault}
 use Rattle.sink_popping.specs.declared.sink_fault.SinkFault.TheVariants.{Isolated, OutOfMemory}
 use Rattle.sink_popping.specs.Sinks.{IsSinkFault}
 use Rattle.cycle_popping.specs.Trees.{weights_of_tree}
-use Rattle.pop_print.specs.declared.facts.Facts.{Facts}
-use Rattle.pop_print.specs.declared.facts.Facts.TheVariants.{Formula as FormulaFacts, Tree as TreeFacts}
+use Rattle.pop_print.specs.declared.facts.Facts.TheVariants.{Tree as TreeFacts}
 use Rattle.job_subjects.specs.declared.refusal.Refusal.{Refusal}
 use Rattle.job_subjects.specs.Refusals.{IsRefusal, unoriented}
 use Rattle.job_subjects.specs.StackFaults.{AreFew, RefusesStacks}
-use Rattle.job_subjects.specs.Refused.{AreClashed, RefusesEvents, RefusesFormula, HasIsolated, RefusesOrienting, HasCutOff, RefusesTree}
+use Rattle.job_subjects.specs.Refused.{AreClashed, RefusesEvents, RefusesFormula, RefusesOrienting, HasCutOff, RefusesTree}
 use Rattle.job_subjects.specs.Subjects.{pair_weights}
 use Rattle.job_subjects.proofs.RefusedStacks.{few_pairs}
 

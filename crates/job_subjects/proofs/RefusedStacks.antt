@@ -1,12 +1,10 @@
 -- Why stacks are refused: by the fault that stands in them, or since too many samples are asked for.
-use Rattle.std.proofs.Common.{inl, inr, ◌≡◌, ℕ, List, [], ◌∷◌, length, Option, refl, sym, subst, ◌∙◌}
+use Rattle.std.proofs.Common.{inl, inr, ◌≡◌, ℕ, List, [], ◌∷◌, length, Option, sym, subst, ◌∙◌}
 use Rattle.std.proofs.lemmas.List.{length-replicate}
 use Rattle.pop_model.specs.Stacks.{Origin}
-use Rattle.pop_stacks.specs.declared.stack_fault.StackFault.{StackFault}
-use Rattle.pop_stacks.specs.Faults.{IsCause}
 use Rattle.pop_print.specs.declared.facts.Facts.{Facts}
 use Rattle.job_subjects.specs.declared.refusal.Refusal.{Refusal}
-use Rattle.job_subjects.specs.StackFaults.{unsound, AreFew, AreFaulty, AreTooMany, RefusesStacks}
+use Rattle.job_subjects.specs.StackFaults.{AreFew, AreFaulty, AreTooMany, RefusesStacks}
 use Rattle.job_subjects.specs.Subjects.{pair_weights}
 
 -- so many variables are the rows of their weights

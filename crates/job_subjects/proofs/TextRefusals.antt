@@ -1,6 +1,6 @@
 -- What a text, a formula, a graph or its stacks are refused by is told: it is no refusal of words, and no stop.
 use Rattle.std.specs.Prelude.{⊤}
-use Rattle.std.proofs.Common.{inl, inr, ◌≡◌, ℕ, Bool, true, false, List, length, Option, sym, subst}
+use Rattle.std.proofs.Common.{inl, inr, ◌≡◌, ℕ, Bool, true, false, List, Option, Err, sym, subst}
 use Rattle.pop_model.specs.Stacks.{Origin}
 use Rattle.pop_model.specs.Stacks.Origin.{Given, Keyed}
 use Rattle.pop_edge.specs.declared.refusal.ReadRefusal.{ReadRefusal}
@@ -9,13 +9,18 @@ use Rattle.pop_stacks.specs.Faults.{IsCause}
 use Rattle.pop_stacks.specs.declared.stack_fault.StackFault.{StackFault}
 use Rattle.pop_stacks.specs.declared.stack_fault.StackFault.TheVariants.{RowCount as WrongRowCount, EmptyRow as NoEntry, ValueTooLarge as LargeValue, WeightSum as HeavyWeights, OutOfMemory as StackMemory}
 use Rattle.dimacs_read.specs.Cnf.{Cnf}
+use Rattle.dimacs_read.specs.CnfText.{AnswersCnf}
 use Rattle.graph_read.specs.Graphs.{GraphOf}
+use Rattle.graph_read.specs.GraphText.{AnswersGraph}
+use Rattle.pop_words.specs.declared.command.Command.{Command}
+use Rattle.pop_words.specs.declared.command.Command.TheVariants.{Formula, Orient, Tree, Resample, Check, Make, Rounds}
 use Rattle.pop_print.specs.declared.facts.Facts.{Facts}
 use Rattle.job_subjects.specs.declared.refusal.Refusal.{Refusal}
 use Rattle.job_subjects.specs.declared.refusal.Refusal.TheVariants.{Usage, Stopped}
+use Rattle.job_subjects.specs.declared.wanted.Wanted.{Wanted}
 use Rattle.job_subjects.specs.Refusals.{unread}
-use Rattle.job_subjects.specs.StackFaults.{unsound, AreFaulty, RefusesStacks}
-use Rattle.job_subjects.specs.Refused.{IsOfText, IsUnread, IsClashing, RefusesEvents, RefusesFormula, RefusesOrienting, RefusesTree, RefusesGrid}
+use Rattle.job_subjects.specs.StackFaults.{unsound, RefusesStacks}
+use Rattle.job_subjects.specs.Refused.{IsOfText, IsUnread, IsClashing, RefusesEvents, RefusesFormula, RefusesOrienting, RefusesTree, RefusesGrid, RefusesCnf, RefusesGraph, RefusesBy, RefusesText}
 
 -- it is no refusal of words, and no stop
 abbrev pub IsOfInput : Refusal → Type 0
@@ -83,3 +88,32 @@ of_tree origin asked root g r (inr (last, inr (joined, stacks))) = of_stacks _ o
 pub of_grid : (origin : Origin) (asked : Option ℕ) (side : ℕ) (r : Refusal) → RefusesGrid origin asked side r
     → IsOfInput r
 of_grid origin asked side r stacks = of_stacks _ origin _ asked r stacks
+
+-- of the text that a command reads
+pub of_cnf_text : (Refuses : Cnf → Refusal → Type 0) (text : List ℕ) (r : Refusal)
+    → ((f : Cnf) → Refuses f r → IsOfInput r) → RefusesCnf Refuses text r → IsOfInput r
+of_cnf_text Refuses text r of (inl unread) = of_unread (λ cause. AnswersCnf text (Err cause)) r unread
+of_cnf_text Refuses text r of (inr (f, spelled, h)) = of f h
+
+pub of_graph_text : (Refuses : GraphOf → Refusal → Type 0) (text : List ℕ) (r : Refusal)
+    → ((g : GraphOf) → Refuses g r → IsOfInput r) → RefusesGraph Refuses text r → IsOfInput r
+of_graph_text Refuses text r of (inl unread) = of_unread (λ cause. AnswersGraph text (Err cause)) r unread
+of_graph_text Refuses text r of (inr (g, spelled, h)) = of g h
+
+of_text_by : (k : Command) (w : Wanted) (text : List ℕ) (r : Refusal) → RefusesBy k w text r → IsOfInput r
+of_text_by Formula w text r h =
+    of_cnf_text (RefusesFormula false w.origin w.count) text r (λ f. of_formula false w.origin w.count f r) h
+of_text_by Orient w text r h =
+    of_graph_text (RefusesOrienting w.origin w.count) text r (λ g. of_orienting w.origin w.count g r) h
+of_text_by Tree w text r h =
+    of_graph_text (RefusesTree w.origin w.count w.root) text r (λ g. of_tree w.origin w.count w.root g r) h
+of_text_by Resample w text r h =
+    of_cnf_text (RefusesFormula true w.origin w.count) text r (λ f. of_formula true w.origin w.count f r) h
+of_text_by Check w text r h = of_cnf_text IsClashing text r (λ f. of_clash f r) h
+of_text_by Rounds w text r h =
+    of_cnf_text (RefusesFormula true w.origin w.count) text r (λ f. of_formula true w.origin w.count f r) h
+of_text_by Make w text r h = of_grid w.origin w.count w.side r h
+of_text_by k w text r h = absurd h
+
+pub of_text : (w : Wanted) (text : List ℕ) (r : Refusal) → RefusesText w text r → IsOfInput r
+of_text w text r h = of_text_by w.command w text r h

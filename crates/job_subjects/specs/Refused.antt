@@ -118,12 +118,15 @@ RefusesGraph Refuses text refusal =
     IsUnread (λ cause. AnswersGraph text (Err cause)) refusal
     ⊎ ((g : GraphOf) × AnswersGraph text (Ok g) × Refuses g refusal)
 
--- the text of a command, as what is made of it is wanted; a grid is made without one
+-- the text of a command, as what is made of it is wanted: of a check nothing is; a grid is made
+-- without one
 abbrev pub RefusesBy : Command → Wanted → List ℕ → Refusal → Type 0
 RefusesBy Formula w text refusal = RefusesCnf (RefusesFormula false w.origin w.count) text refusal
 RefusesBy Orient w text refusal = RefusesGraph (RefusesOrienting w.origin w.count) text refusal
 RefusesBy Tree w text refusal = RefusesGraph (RefusesTree w.origin w.count w.root) text refusal
 RefusesBy Resample w text refusal = RefusesCnf (RefusesFormula true w.origin w.count) text refusal
+RefusesBy Check w text refusal = RefusesCnf IsClashing text refusal
+RefusesBy Rounds w text refusal = RefusesCnf (RefusesFormula true w.origin w.count) text refusal
 RefusesBy Make w text refusal = RefusesGrid w.origin w.count w.side refusal
 RefusesBy command w text refusal = ⊥
 

@@ -1,6 +1,6 @@
 -- What is sampled, whatever the stacks: the events of a formula, the sinks of a graph's
 -- orientations, or the cycles of its arrows.
-use Rattle.std.specs.Prelude.{◌≡◌, ℕ, List, [], ◌∷◌, length, replicate, Option, Ok}
+use Rattle.std.specs.Prelude.{◌≡◌, ℕ, Bool, true, false, List, [], ◌∷◌, length, replicate, Option, Ok}
 use Rattle.pop_model.specs.Stacks.{Origin}
 use Rattle.pop_model.specs.Popping.{Cube}
 use Rattle.pop_model.specs.Families.{Family}
@@ -17,10 +17,10 @@ use Rattle.graph_read.specs.Paths.{IsConnected}
 use Rattle.sink_popping.specs.Sinks.{AreSinksOf, IsIsolated}
 use Rattle.cycle_popping.specs.Trees.{heads_of_tree, weights_of_tree}
 use Rattle.pop_words.specs.declared.command.Command.{Command}
-use Rattle.pop_words.specs.declared.command.Command.TheVariants.{Formula, Orient, Tree, Resample, Check, Make, Rounds, Replay, Resume}
-use Rattle.pop_words.specs.declared.job.Job.{Job}
+use Rattle.pop_words.specs.declared.command.Command.TheVariants.{Formula, Orient, Tree, Resample, Make, Rounds}
 use Rattle.pop_print.specs.declared.facts.Facts.{Facts}
 use Rattle.pop_print.specs.declared.facts.Facts.TheVariants.{Formula as FormulaFacts, Orient as OrientFacts, Tree as TreeFacts, Made as MadeFacts}
+use Rattle.job_subjects.specs.declared.wanted.Wanted.{Wanted}
 
 -- the facts by which its samples are told, the weights of each variable's values, and its events
 pub record Subject : Type 0 where
@@ -76,45 +76,52 @@ arrows_to facts g root = record {
   family = Cycles (heads_of_tree g root);
 }
 
--- assignments to the formula of the text, which is extremal
-pub record AreAssignmentsOf (text : List ℕ) (s : Subject) : Type 0 where
-  pub formula : Cnf
-  pub spelled : AnswersCnf text (Ok formula)
+-- assignments to this formula, whose events don't clash where they may not
+pub record AreAssignments (may_clash : Bool) (f : Cnf) (s : Subject) : Type 0 where
   pub events : List (ℕ × Cube)
-  pub of_formula : AreEventsOf formula.clauses events
-  pub extremal : IsExtremal (Listed events)
-  pub is : s ≡ assignments formula events
+  pub of_formula : AreEventsOf f.clauses events
+  pub extremal : may_clash ≡ false → IsExtremal (Listed events)
+  pub is : s ≡ assignments f events
 
--- orientations of the graph of the text, each of whose vertices an edge touches
-pub record AreOrientationsOf (text : List ℕ) (s : Subject) : Type 0 where
-  pub graph : GraphOf
-  pub spelled : AnswersGraph text (Ok graph)
-  pub touched : (w : ℕ) → IsIsolated graph w → ⊥
+-- orientations of this graph, each of whose vertices an edge touches
+pub record AreOrientations (g : GraphOf) (s : Subject) : Type 0 where
+  pub touched : (w : ℕ) → IsIsolated g w → ⊥
   pub events : List (ℕ × Cube)
-  pub of_graph : AreSinksOf graph events
-  pub is : s ≡ orientations graph events
+  pub of_graph : AreSinksOf g events
+  pub is : s ≡ orientations g events
 
--- arrows to this root of the graph of the text, to which each vertex is joined
-pub record AreArrowsOf (text : List ℕ) (root : ℕ) (s : Subject) : Type 0 where
-  pub graph : GraphOf
-  pub spelled : AnswersGraph text (Ok graph)
-  pub root_is : IsVertex graph.vertices root
-  pub joined : IsConnected graph root
-  pub is : s ≡ arrows_to (TreeFacts graph root) graph root
+-- arrows to this root of this graph, to which each vertex is joined
+pub record AreArrows (root : ℕ) (g : GraphOf) (s : Subject) : Type 0 where
+  pub root_is : IsVertex g.vertices root
+  pub joined : IsConnected g root
+  pub is : s ≡ arrows_to (TreeFacts g root) g root
 
--- arrows to the first vertex of the grid of this side
-pub record AreArrowsOfGrid (side : ℕ) (s : Subject) : Type 0 where
+-- Arrows to the first vertex of the grid of this side, to which each vertex is joined
+-- (`graph_read::laws::grid_connected`).
+pub record AreGridArrows (side : ℕ) (s : Subject) : Type 0 where
   pub side_is : IsSide side
   pub is : s ≡ arrows_to (MadeFacts side) (grid_of side) 1
 
--- what a command that has one end samples, for a job and a text
-abbrev pub IsSubjectOf : Command → Job → List ℕ → Subject → Type 0
-IsSubjectOf Formula job text s = AreAssignmentsOf text s
-IsSubjectOf Orient job text s = AreOrientationsOf text s
-IsSubjectOf Tree job text s = AreArrowsOf text job.root s
-IsSubjectOf Make job text s = AreArrowsOfGrid job.size s
-IsSubjectOf Resample job text s = ⊥
-IsSubjectOf Check job text s = ⊥
-IsSubjectOf Rounds job text s = ⊥
-IsSubjectOf Replay job text s = ⊥
-IsSubjectOf Resume job text s = ⊥
+-- such of the formula that the text spells
+pub record IsOfCnf (Are : Cnf → Subject → Type 0) (text : List ℕ) (s : Subject) : Type 0 where
+  pub formula : Cnf
+  pub spelled : AnswersCnf text (Ok formula)
+  pub are : Are formula s
+
+-- such of the graph that it spells
+pub record IsOfGraph (Are : GraphOf → Subject → Type 0) (text : List ℕ) (s : Subject) : Type 0
+  where
+    pub graph : GraphOf
+    pub spelled : AnswersGraph text (Ok graph)
+    pub are : Are graph s
+
+-- What a command samples of a text, as it is wanted. The events of a formula may clash where they
+-- are resampled, or rounds are made; a grid is made without a text.
+abbrev pub IsSubjectOf : Command → Wanted → List ℕ → Subject → Type 0
+IsSubjectOf Formula w text s = IsOfCnf (AreAssignments false) text s
+IsSubjectOf Orient w text s = IsOfGraph AreOrientations text s
+IsSubjectOf Tree w text s = IsOfGraph (AreArrows w.root) text s
+IsSubjectOf Resample w text s = IsOfCnf (AreAssignments true) text s
+IsSubjectOf Make w text s = AreGridArrows w.side s
+IsSubjectOf Rounds w text s = IsOfCnf (AreAssignments true) text s
+IsSubjectOf command w text s = ⊥

@@ -6,8 +6,9 @@ ghost use Rattle.pop_model.specs.Extremal.{IsExtremal};
 ghost use Rattle.dimacs_read.specs.Cnf.{first_empty};
 ghost use Rattle.dimacs_read.specs.CnfText.{AnswersCnf};
 ghost use Rattle.graph_read.specs.GraphText.{AnswersGraph};
-ghost use Rattle.pop_words.specs.declared.command.Command.TheVariants.{Formula as OfFormula, Resample, Orient, Tree, Make};
-ghost use Rattle.pop_words.specs.Options.{popping};
+ghost use Rattle.pop_words.specs.declared.command.Command.TheVariants.{Formula as OfFormula, Resample, Orient, Tree, Make, Rounds};
+ghost use Rattle.pop_words.specs.Options.{sampling};
+ghost use Rattle.pop_print.specs.declared.facts.Facts.TheVariants.{Formula as FormulaFacts};
 ghost use Rattle.pop_print.specs.Ends.{AreFactsOf};
 ghost use Rattle.job_subjects.specs.declared.refusal.Refusal.TheVariants.{Stopped};
 ghost use Rattle.job_subjects.specs.declared.stop.Stop.TheVariants.{ReadFault};
@@ -25,16 +26,19 @@ use pop_edge::Source;
 use pop_words::Command;
 use std::alloc::Global;
 
-// Makes what is wanted of a formula. Its events may not clash, but where they are resampled.
+// Makes what is wanted of a formula. Its events may not clash, but where they are resampled, or
+// rounds are made.
 fn made_of_formula(alloc: Global, wanted: Wanted, formula: &Formula) -> Result<Made, Refusal>
-    requires command { (wanted.command ≡ OfFormula) ⊎ (wanted.command ≡ Resample) }
+    requires command { (wanted.command ≡ OfFormula)
+        ⊎ ((wanted.command ≡ Resample) ⊎ (wanted.command ≡ Rounds)) }
     requires filled { first_empty formula.now ≡ None }
     ensures made { (text : List ℕ) → AnswersCnf text (Ok formula.now)
         → IfOk result (λ made. IsMade wanted text made.facts made.instance) }
     ensures told { IfOk result (λ made. AreFactsOf made.facts made.instance) }
     ensures origin { IfOk result (λ made. made.instance.stacks.origin ≡ wanted.origin) }
-    ensures extremal { wanted.command ≢ Resample
+    ensures extremal { wanted.command ≢ Resample → wanted.command ≢ Rounds
         → IfOk result (λ made. IsExtremal made.instance.family) }
+    ensures formula { IfOk result (λ made. (n : ℕ) × (made.facts ≡ FormulaFacts n)) }
     ensures refused { (text : List ℕ) → AnswersCnf text (Ok formula.now)
         → IfErr result (IsRefusal (RefusesText wanted text)) }
     ensures past_words { IfErr result IsPastWords }
@@ -48,7 +52,7 @@ fn made_of_formula(alloc: Global, wanted: Wanted, formula: &Formula) -> Result<M
     } = wanted;
     match command {
         Command::Formula => make_formula(alloc, origin, count, false, formula),
-        Command::Resample => make_formula(alloc, origin, count, true, formula),
+        Command::Resample | Command::Rounds => make_formula(alloc, origin, count, true, formula),
         _ => unreachable!(),
     }
 }
@@ -84,15 +88,17 @@ fn made_of_graph(alloc: Global, wanted: Wanted, graph: Graph) -> Result<Made, Re
 /// Makes what is wanted of the text that the source has, or refuses it: by its text, its form or
 /// its stacks, in this order. A grid is made without the source.
 pub fn made_of<S: Source>(alloc: Global, wanted: Wanted, source: &mut S) -> Result<Made, Refusal>
-    requires command { Contains popping wanted.command }
+    requires command { Contains sampling wanted.command }
     requires root { 1 ≤ wanted.root }
     requires side { wanted.command ≡ Make → (1 ≤ wanted.side) × (wanted.side ≤ 2048) }
     ensures made { (text : List ℕ) → (S.left source.old ≡ Some text) ⊎ (wanted.command ≡ Make)
         → IfOk result (λ made. IsMade wanted text made.facts made.instance) }
     ensures told { IfOk result (λ made. AreFactsOf made.facts made.instance) }
     ensures origin { IfOk result (λ made. made.instance.stacks.origin ≡ wanted.origin) }
-    ensures extremal { wanted.command ≢ Resample
+    ensures extremal { wanted.command ≢ Resample → wanted.command ≢ Rounds
         → IfOk result (λ made. IsExtremal made.instance.family) }
+    ensures formula { wanted.command ≡ Rounds
+        → IfOk result (λ made. (n : ℕ) × (made.facts ≡ FormulaFacts n)) }
 
     ensures refused { (text : List ℕ) → (S.left source.old ≡ Some text) ⊎ (wanted.command ≡ Make)
         → IfErr result (IsStopOr (RefusesText wanted text)) }
@@ -107,7 +113,7 @@ pub fn made_of<S: Source>(alloc: Global, wanted: Wanted, source: &mut S) -> Resu
     ensures whole { wanted.command ≢ Make → OnOk result (IsAtEnd (S.left source.new)) }
 {
     match wanted.command {
-        Command::Formula | Command::Resample => {
+        Command::Formula | Command::Resample | Command::Rounds => {
             made_of_formula(alloc, wanted, &formula_of(alloc, source)?)
         }
         Command::Orient | Command::Tree => made_of_graph(alloc, wanted, graph_of(alloc, source)?),

@@ -14,8 +14,8 @@ ghost use Rattle.pop_print.specs.declared.facts.Facts.TheVariants.{Formula as Fo
 ghost use Rattle.run_makers.specs.Growing.{MayIndex};
 ghost use Rattle.job_subjects.specs.Refusals.{IsRefusal};
 ghost use Rattle.job_subjects.specs.StackFaults.{AreFaulty, AreFew, AreTooMany, RefusesStacks};
-ghost use Rattle.job_subjects.specs.Subjects.{pair_weights, cycles_instance};
-ghost use Rattle.job_subjects.specs.Made.{IsMadeFormula, IsMadeOrientation, IsMadeTree, IsMadeGrid};
+ghost use Rattle.job_subjects.specs.Subjects.{pair_weights, AreAssignments, AreOrientations, AreArrows, AreGridArrows};
+ghost use Rattle.job_subjects.specs.Made.{IsInstanceOf, IsMadeOf};
 ghost use Rattle.job_subjects.specs.Refused.{AreClashed, HasCutOff, RefusesFormula, RefusesOrienting, RefusesTree, RefusesGrid};
 
 use crate::instances::{of_arrows, of_events};
@@ -92,8 +92,8 @@ pub fn stacks_for(origin: StackOrigin, formula: &Formula) -> Result<GrowingStack
     origin.stacks(&Facts::Formula(variables), Weights::pairs(variables))
 }
 
-/// Makes the events of a formula, of which so many samples are asked for. They may not clash, but
-/// where they are resampled.
+/// Makes the events of a formula, of which so many samples are asked for. They may clash, where
+/// that is said.
 pub fn make_formula(
     alloc: Global,
     origin: StackOrigin,
@@ -103,7 +103,7 @@ pub fn make_formula(
 ) -> Result<Made, Refusal>
     requires filled { first_empty formula.now ≡ None }
     ensures made { IfOk result (λ made.
-        IsMadeFormula may_clash origin count formula.now made.facts made.instance) }
+        IsMadeOf (AreAssignments may_clash formula.now) origin count made.facts made.instance) }
     ensures told { IfOk result (λ made. AreFactsOf made.facts made.instance) }
     ensures refused { IfErr result
         (IsRefusal (RefusesFormula may_clash origin count formula.now)) }
@@ -126,7 +126,7 @@ pub fn make_orientation(
     graph: Graph,
 ) -> Result<Made, Refusal>
     ensures made { IfOk result (λ made.
-        IsMadeOrientation origin count graph made.facts made.instance) }
+        IsMadeOf (AreOrientations graph) origin count made.facts made.instance) }
     ensures told { IfOk result (λ made. AreFactsOf made.facts made.instance) }
     ensures refused { IfErr result (IsRefusal (RefusesOrienting origin count graph)) }
 {
@@ -149,11 +149,9 @@ fn make_cycles(
 ) -> Result<Made, Refusal>
     requires few { length weights < 2 ^ 31 }
     requires fits { FamilyFits (record { origin = origin; weights = weights }) (Cycles arrows) }
-    ensures facts { IfOk result (λ made. made.facts ≡ facts) }
-    ensures instance { IfOk result (λ made.
-        made.instance ≡ cycles_instance origin weights arrows) }
-    ensures sound { OnOk result (IsSound origin weights) }
-    ensures few { OnOk result (AreFew count (length weights)) }
+    ensures made { IfOk result (λ made. IsInstanceOf origin count
+        (record { facts = facts; weights = weights; family = Cycles arrows })
+        made.facts made.instance) }
     ensures refused { IfErr result (IsRefusal (RefusesStacks facts origin weights count)) }
 {
     refuse_too_many(count, arrows.count())?;
@@ -192,7 +190,7 @@ pub fn make_tree(
 ) -> Result<Made, Refusal>
     requires root { 1 ≤ root }
     ensures made { IfOk result (λ made.
-        IsMadeTree origin count root graph made.facts made.instance) }
+        IsMadeOf (AreArrows root graph) origin count made.facts made.instance) }
     ensures told { IfOk result (λ made. AreFactsOf made.facts made.instance) }
     ensures refused { IfErr result (IsRefusal (RefusesTree origin count root graph)) }
 {
@@ -213,7 +211,8 @@ pub fn make_grid(
     side: u32,
 ) -> Result<Made, Refusal>
     requires side { (1 ≤ side) × (side ≤ 2048) }
-    ensures made { IfOk result (λ made. IsMadeGrid origin count side made.facts made.instance) }
+    ensures made { IfOk result (λ made.
+        IsMadeOf (AreGridArrows side) origin count made.facts made.instance) }
     ensures told { IfOk result (λ made. AreFactsOf made.facts made.instance) }
     ensures refused { IfErr result (IsRefusal (RefusesGrid origin count side)) }
 {

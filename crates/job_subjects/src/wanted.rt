@@ -6,7 +6,7 @@ use pop_words::Command;
 /// counts where a tree of a graph is asked for, and the side where a grid is made.
 #[derive(Drop)]
 pub struct Wanted {
-    /// The command: one that pops one event after another.
+    /// The command: one that samples.
     pub command: Command,
     /// Where the entries of the stacks come from.
     pub origin: StackOrigin,

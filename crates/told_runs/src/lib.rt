@@ -13,8 +13,8 @@ mod telling;
 mod witness;
 
 pub use asked::Asked;
-pub use batching::sample_and_tell;
+pub use batching::batch_and_tell;
 pub use call::Call;
 pub use names::names_of;
 pub use rounding::round_and_tell;
-pub use running::tell_end;
+pub use running::{run_and_tell, tell_end};

@@ -3,35 +3,50 @@ ghost use Rattle.std.specs.Prelude.{◌≡◌, length, IfOk};
 ghost use Rattle.pop_model.specs.Stacks.{variables_of};
 ghost use Rattle.pop_print.specs.declared.facts.Facts.TheVariants.{Formula as FormulaFacts};
 ghost use Rattle.pop_print.specs.Ends.{IsOfPairs};
-ghost use Rattle.prs_rounds.specs.Units.{IsIndexOf};
+ghost use Rattle.prs_rounds.specs.Units.{IsListed, IsIndexOf};
 ghost use Rattle.told_runs.specs.Outcomes.{AnswersBy};
 ghost use Rattle.told_runs.specs.Ends.{IsRoundsEndOf};
 
 use crate::call::Call;
 use crate::running::status_by;
 use job_subjects::Answer;
-use pop_instance::{Index, Instance};
+use pop_instance::{Family, Index, Instance};
 use pop_print::text_of_rounds;
-use run_makers::Maker;
-use std::alloc::AllocError;
+use run_makers::{GrowingInstance, Maker};
+use std::alloc::{AllocError, Global};
 
-/// Makes the rounds of an instance over so many variables, by the index of its events, and tells
-/// their end.
+// The index of the instance's listed events.
+fn index_of(alloc: Global, instance: &Instance) -> Result<Index, AllocError>
+    requires listed { IsListed instance.now.family }
+    ensures index { IfOk result (λ index. IsIndexOf instance.now.family index) }
+    ensures count { IfOk result
+        (λ index. length index ≡ variables_of instance.now.stacks) }
+{
+    // Read for its contract, which says what holds of every instance.
+    let _units = instance.units();
+    match instance.family() {
+        Family::Listed(events) => Ok(Index::build(alloc, events, instance.stacks().count())?),
+        Family::Cycles(_) => unreachable!(),
+    }
+}
+
+/// Makes the rounds of an instance of a formula's events, and tells their end. They are made at the
+/// last height: they have one result there, which stages would only come to later.
 pub fn round_and_tell<M: Maker>(
     call: &Call<M>,
-    variables: u32,
-    instance: &Instance,
-    index: &Index,
+    growing: GrowingInstance,
 ) -> Result<Answer, AllocError>
     requires maker { M.fits call.now.maker.now }
-    requires pairs { IsOfPairs variables instance.now }
-    requires index { IsIndexOf instance.now.family index.now }
-    requires variables { length index.now ≡ variables_of instance.now.stacks }
-    ensures { IfOk result (λ a. AnswersBy (IsRoundsEndOf (FormulaFacts variables) instance.now)
+    requires pairs { IsOfPairs (variables_of growing.stacks) growing }
+    ensures { IfOk result (λ a.
+        AnswersBy (IsRoundsEndOf (FormulaFacts (variables_of growing.stacks)) growing)
         a.status a.text.items) }
 {
-    let end = call.maker.rounds(call.alloc, instance, index)?;
-    let text = text_of_rounds(call.alloc, variables, instance, &end)?;
+    let instance = growing.raised();
+    let index = index_of(call.alloc, &instance)?;
+    let end = call.maker.rounds(call.alloc, &instance, &index)?;
+    let variables = instance.stacks().count();
+    let text = text_of_rounds(call.alloc, variables, &instance, &end)?;
     Ok(Answer {
         status: status_by(&end.stuck),
         text,

@@ -1,5 +1,5 @@
 -- The ends of a batch that comes of a job: each is that of its sample, and the status says whether one is stuck.
-use Rattle.std.proofs.Common.{inl, inr, ◌≡◌, ◌⊎◌, ℕ, ◌<◌, Bool, true, false, List, [], ◌∷◌, length, Option, Some, slice_get, refl, sym, ap, subst, ◌∙◌, arith, true≢false}
+use Rattle.std.proofs.Common.{inl, inr, ◌≡◌, ◌⊎◌, ℕ, ◌<◌, Bool, true, false, List, [], ◌∷◌, length, Some, slice_get, refl, sym, ap, subst, ◌∙◌, arith, true≢false}
 use Rattle.std.specs.Prelude.{nat_lt, if◌then◌else◌}
 use Rattle.std.proofs.lemmas.Bool.{lt-ltb, ltb-true}
 use Rattle.std.proofs.lemmas.Map.Keys.{any_passes_from_place}
@@ -8,33 +8,24 @@ use Rattle.pop_model.specs.Families.{Event}
 use Rattle.pop_model.specs.Instances.{Instance}
 use Rattle.confluence_core.specs.declared.end.End.{End}
 use Rattle.pop_batch.specs.Batches.{some_stuck}
-use Rattle.pop_words.specs.declared.command.Command.{Command}
-use Rattle.pop_words.specs.declared.command.Command.TheVariants.{Formula, Orient, Tree, Resample, Check, Make, Rounds, Replay, Resume}
 use Rattle.pop_words.specs.declared.job.Job.{Job}
 use Rattle.pop_words.proofs.ListTests.{some_from}
 use Rattle.pop_watch.specs.Telling.{Watcher}
 use Rattle.pop_print.specs.declared.facts.Facts.{Facts}
+use Rattle.told_runs.specs.Asking.{asked_by}
 use Rattle.told_runs.specs.Batches.{IsBatchOf, batch_status}
 use Rattle.told_runs.specs.Outcomes.{end_status}
 use Rattle.told_runs.specs.Outcomes.Outcome.{Batched}
-use Rattle.top_call.specs.Answers.{ComesOfCommand}
+use Rattle.top_call.specs.Answers.{ComesOf}
+use Rattle.top_call.proofs.ReadCases.{batched_as, run_ends}
 
--- a batch of the same instance
-of_same : (asked : Option ℕ) (i j : Instance) (ends : List End) → i ≡ j → IsBatchOf asked j ends → IsBatchOf asked i ends
-of_same asked i j ends same = subst (λ k. IsBatchOf asked k ends) (sym same)
-
--- a batch that comes of a command is one of the instance that it tells
-pub batch_of : (command : Command) (job : Job) (ws : List Watcher) (text : List ℕ) (facts : Facts) (i : Instance)
-    (ends : List End) → ComesOfCommand command job ws text (Batched facts i ends) → IsBatchOf job.count i ends
-batch_of Formula job ws text facts i ends h = of_same job.count i _ ends h.comes.1.end.1 h.comes.1.end.2
-batch_of Orient job ws text facts i ends h = of_same job.count i _ ends h.comes.1.1.end.1 h.comes.1.1.end.2
-batch_of Tree job ws text facts i ends h = of_same job.count i _ ends h.comes.2.1.1 h.comes.2.1.2
-batch_of Resample job ws text facts i ends h = absurd h.comes.1.history
-batch_of Check job ws text facts i ends h = absurd h.comes
-batch_of Make job ws text facts i ends h = of_same job.count i _ ends h.1.1 h.1.2
-batch_of Rounds job ws text facts i ends h = absurd h.comes.1.end
-batch_of Replay job ws text facts i ends h = absurd h
-batch_of Resume job ws text facts i ends h = absurd h
+-- a batch that comes of a job is one of the instance that it tells
+pub batch_of : (job : Job) (ws : List Watcher) (text : List ℕ) (facts : Facts) (i : Instance) (ends : List End)
+    → ComesOf job ws text (Batched facts i ends) → IsBatchOf job.count i ends
+batch_of job ws text facts i ends h =
+    let end = batched_as job.command (asked_by job) ws h.facts h.instance facts i ends
+    (run_ends job ws text (Batched facts i ends) h (λ pops at. at)) in
+    subst (λ k. IsBatchOf job.count k ends) (sym end.1) end.2
 
 -- the status of a batch by whether some end is stuck
 abbrev status_by : Bool → ℕ

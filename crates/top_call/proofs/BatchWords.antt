@@ -1,6 +1,6 @@
 -- Words that ask for a number of samples. Their command is one that has batches, their entries come from a key, and
 -- nothing of a log is told: what tells of one run and what asks for many exclude each other, so one of them is never set.
-use Rattle.std.proofs.Common.{inl, inr, ◌≡◌, ℕ, ◌-◌, ◌^◌, Bool, true, false, List, Option, None, Some, refl, sym, ap, subst, ◌∙◌}
+use Rattle.std.proofs.Common.{inl, inr, ◌≡◌, ◌≢◌, ℕ, ◌-◌, ◌^◌, Bool, true, false, List, Option, None, Some, refl, sym, ap, subst, ◌∙◌}
 use Rattle.std.specs.Prelude.{unwrap_or}
 use Rattle.std.proofs.lemmas.Bool.{false≢true, both_ways}
 use Rattle.std.proofs.lemmas.Option.{none-some}
@@ -9,7 +9,7 @@ use Rattle.pop_stacks.specs.declared.stack_spec.StackSpec.{StackSpec}
 use Rattle.pop_stacks.specs.declared.stack_spec.StackSpec.TheVariants.{Key as KeyedStacks, Given as GivenStacks}
 use Rattle.pop_stacks.specs.Tables.{origin_of}
 use Rattle.pop_words.specs.declared.command.Command.{Command}
-use Rattle.pop_words.specs.declared.command.Command.TheVariants.{Formula, Orient, Tree}
+use Rattle.pop_words.specs.declared.command.Command.TheVariants.{Formula, Orient, Tree, Resample, Rounds}
 use Rattle.pop_words.specs.declared.field.Field.{Field}
 use Rattle.pop_words.specs.declared.field.Field.TheVariants.{Stacks, Key, Height, Grow, Count, Pops, Workers, Board, Log, Root, Witness, Reports, Size}
 use Rattle.pop_words.specs.declared.job.Job.{Job}
@@ -134,6 +134,13 @@ of_batch words job asks count is =
 pub counted_command : (words : List (List ℕ)) (job : Job) → Asks words job → (count : ℕ) → job.count ≡ Some count
     → is_batched job.command ≡ true
 counted_command words job asks count is = (of_batch words job asks count is).batched
+
+-- so it is neither resampled nor sampled by rounds
+pub batched_ordered : (k : Command) → is_batched k ≡ true → k ≢ Resample
+batched_ordered k batched is = false≢true (sym (ap is_batched is) ∙ batched)
+
+pub batched_no_rounds : (k : Command) → is_batched k ≡ true → k ≢ Rounds
+batched_no_rounds k batched is = false≢true (sym (ap is_batched is) ∙ batched)
 
 -- so of another command there is one sample
 pub uncounted : (words : List (List ℕ)) (job : Job) → Asks words job → is_batched job.command ≡ false

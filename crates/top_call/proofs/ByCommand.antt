@@ -1,5 +1,5 @@
 -- What comes of a job by its command: by the command's line, or of a certificate that is replayed or resumed.
-use Rattle.std.proofs.Common.{inl, inr, ◌≡◌, ◌≢◌, ◌⊎◌, ℕ, true, false, List, [], None, Result, refl}
+use Rattle.std.proofs.Common.{inl, inr, ◌≡◌, ◌≢◌, ◌⊎◌, ℕ, List, Result, refl}
 use Rattle.pop_words.specs.declared.command.Command.{Command}
 use Rattle.pop_words.specs.declared.command.Command.TheVariants.{Formula, Orient, Tree, Resample, Check, Make, Rounds, Replay, Resume}
 use Rattle.pop_words.specs.declared.job.Job.{Job}
@@ -10,13 +10,13 @@ use Rattle.run_cert.specs.Certificates.{Certificate}
 use Rattle.job_subjects.specs.declared.answer.Answer.{Answer}
 use Rattle.job_subjects.specs.declared.refusal.Refusal.{Refusal}
 use Rattle.job_subjects.specs.Refusals.{unlogged}
-use Rattle.job_subjects.proofs.TextRefusals.{IsOfInput, of_same, of_unread, of_clash, of_formula, of_orienting, of_tree, of_grid}
+use Rattle.job_subjects.proofs.TextRefusals.{IsOfInput, of_same, of_text}
 use Rattle.told_runs.specs.Outcomes.{Outcome}
 use Rattle.told_runs.specs.Outcomes.Outcome.{Refused}
 use Rattle.told_runs.specs.Results.{IsResultOf}
-use Rattle.top_call.specs.Replays.{job_of, IsNoCert, IsRefusedCert, IsRefused, ComesOfReplaying}
+use Rattle.top_call.specs.Replays.{wanted_of, IsNoCert, IsRefusedCert, IsRefused, ComesOfReplaying}
 use Rattle.top_call.specs.Resumes.{ComesOfResuming}
-use Rattle.top_call.specs.Answers.{origin_for, Refuses, ComesOfCommand, ComesOf, IsOfLine, ComesBy}
+use Rattle.top_call.specs.Answers.{wanted_by, ComesOf, IsOfLine, ComesBy}
 use Rattle.top_call.proofs.Carrying.{carried}
 
 -- what comes of a command's line comes by the command, where it reads no certificate
@@ -67,7 +67,7 @@ of_line Resume job ws text o line h = absurd line
 abbrev pub Kinds : Command → Job → List Watcher → List ℕ → Outcome → Type 0
 Kinds k job ws text o =
     (IsOfLine k × ComesOf job ws text o)
-    ⊎ (((k ≡ Replay) × ComesOfReplaying ComesOf text o) ⊎ ((k ≡ Resume) × ComesOfResuming ComesOf ws text o))
+    ⊎ (((k ≡ Replay) × ComesOfReplaying text o) ⊎ ((k ≡ Resume) × ComesOfResuming ComesOf ws text o))
 
 pub by_kind : (k : Command) (job : Job) (ws : List Watcher) (text : List ℕ) (o : Outcome) → ComesBy k job ws text o
     → Kinds k job ws text o
@@ -94,30 +94,16 @@ no_cert_input : (bytes : List ℕ) (r : Refusal) → IsNoCert bytes r → IsOfIn
 no_cert_input bytes r (inl (long, is)) = of_same r _ is tt
 no_cert_input bytes r (inr (short, (l, code, bad, is))) = of_same r _ is tt
 
--- what refuses a command's text, once it is read, is told
-command_input : (k : Command) (job : Job) (ws : List Watcher) (text : List ℕ) (r : Refusal)
-    → ComesOfCommand k job ws text (Refused r) → IsOfInput r
-command_input Formula job ws text r h = of_formula false (origin_for job) job.count h.formula r h.comes
-command_input Orient job ws text r h = of_orienting (origin_for job) job.count h.graph r h.comes
-command_input Tree job ws text r h = of_tree (origin_for job) job.count job.root h.graph r h.comes
-command_input Resample job ws text r h = of_formula true (origin_for job) job.count h.formula r h.comes
-command_input Check job ws text r h = of_clash h.formula r h.comes
-command_input Make job ws text r h = of_grid (origin_for job) job.count job.size r h
-command_input Rounds job ws text r h = of_formula true (origin_for job) None h.formula r h.comes
-command_input Replay job ws text r h = absurd h
-command_input Resume job ws text r h = absurd h
-
 -- and so is what refuses a job's text
 pub line_input : (job : Job) (ws : List Watcher) (text : List ℕ) (r : Refusal) → ComesOf job ws text (Refused r)
     → IsOfInput r
-line_input job ws text r (inl unread) = of_unread (Refuses job.command text) r unread
-line_input job ws text r (inr h) = command_input job.command job ws text r h
+line_input job ws text r h = of_text (wanted_by job) text r h
 
--- a certificate is refused as its line refuses its input, or for its log
-cert_input : (cert : Certificate) (r : Refusal) → IsRefusedCert ComesOf cert r → IsOfInput r
-cert_input cert r (inl h) = line_input (job_of cert.head) [] cert.input r h
+-- a certificate is refused as its input is, or for its log
+cert_input : (cert : Certificate) (r : Refusal) → IsRefusedCert cert r → IsOfInput r
+cert_input cert r (inl h) = of_text (wanted_of cert.head) cert.input r h
 cert_input cert r (inr log) = of_same r (unlogged log.cause) log.is (log_input log.cause log.of_text)
 
-pub refused_input : (bytes : List ℕ) (r : Refusal) → IsRefused ComesOf bytes r → IsOfInput r
+pub refused_input : (bytes : List ℕ) (r : Refusal) → IsRefused bytes r → IsOfInput r
 refused_input bytes r (inl bad) = no_cert_input bytes r bad
 refused_input bytes r (inr a) = cert_input a.cert r a.comes

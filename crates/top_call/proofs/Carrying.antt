@@ -2,7 +2,7 @@
 use Rattle.std.proofs.Common.{inl, inr, ◌≡◌, ℕ, List, Result, Ok, Err, subst, sym}
 use Rattle.std.specs.Result.{IsErrAnd}
 use Rattle.job_subjects.specs.declared.answer.Answer.{Answer}
-use Rattle.job_subjects.specs.declared.stop.Stop.TheVariants.{ReadFault, OutOfMemory}
+use Rattle.job_subjects.specs.declared.stop.Stop.TheVariants.{ReadFault}
 use Rattle.job_subjects.specs.declared.refusal.Refusal.{Refusal}
 use Rattle.job_subjects.specs.declared.refusal.Refusal.TheVariants.{Stopped}
 use Rattle.job_subjects.proofs.Carrying.{passed_on, refused_by}
@@ -27,10 +27,3 @@ carried Comes Goes (Err r) goes comes =
 pub refused_result : (Comes : Outcome → Type 0) (r : Result Answer Refusal) (e : Refusal) → IsErrAnd r (λ x. x ≡ e)
     → ComesRefused Comes e → IsResultOf Comes r
 refused_result Comes r e is comes = subst (IsResultOf Comes) (sym (passed_on r e is)) comes
-
--- a source that isn't read doesn't fail
-pub unfailing : (Comes : Outcome → Type 0) (r : Result Answer Refusal)
-    → ((q : Refusal) → Comes (Refused q) → IsOfInput q) → IsResultOf Comes r → r ≡ Err (Stopped ReadFault) → ⊥
-unfailing Comes (Ok a) of comes is = absurd (cc)
-unfailing Comes (Err r) of (inl memory) is = let same : r ≡ Stopped ReadFault = cc in absurd (cc)
-unfailing Comes (Err r) of (inr h) is = let same : r ≡ Stopped ReadFault = cc in subst IsOfInput same (of r h)

@@ -1,6 +1,6 @@
 -- A text that is longer than the limit is refused as its front up to the first byte too many is. So what comes of the
 -- bytes that were read of a source comes of all that it has.
-use Rattle.std.proofs.Common.{inl, inr, ◌≡◌, ◌≢◌, ◌≤◌, ◌<◌, ℕ, ◌+◌, true, List, ◌++◌, length, take, nat_lt, Option, None, Some, Result, Err, IfOk, refl, sym, ap, ap₂, subst, ◌∙◌, arith, append-nil, Contains}
+use Rattle.std.proofs.Common.{inl, inr, ◌≡◌, ◌≢◌, ◌≤◌, ◌<◌, ℕ, ◌+◌, true, false, List, ◌++◌, length, take, nat_lt, Option, None, Some, Result, Err, IfOk, refl, sym, ap, ap₂, subst, ◌∙◌, arith, append-nil, Contains}
 use Rattle.std.specs.Io.KnownBytes.{Consumes, IsAtEnd}
 use Rattle.std.proofs.lemmas.Bool.{cases_lt, lt-ltb, false≢true}
 use Rattle.std.proofs.lemmas.List.{take-append-le, length-append}
@@ -11,7 +11,9 @@ use Rattle.pop_edge.specs.Lines.{text_limit, lines_of, ended_lines, judged_lines
 use Rattle.pop_edge.specs.Refusals.{or_else, length_refusal}
 use Rattle.pop_edge.specs.Judging.{Judgement, told_lines, text_refusal}
 use Rattle.pop_edge.proofs.AcceptedTexts.{accepted}
+use Rattle.dimacs_read.specs.Cnf.{Cnf}
 use Rattle.dimacs_read.specs.CnfText.{cnf, AnswersCnf}
+use Rattle.graph_read.specs.Graphs.{GraphOf}
 use Rattle.graph_read.specs.GraphText.{graph, AnswersGraph}
 use Rattle.pop_words.specs.declared.command.Command.{Command}
 use Rattle.pop_words.specs.declared.command.Command.TheVariants.{Formula, Orient, Tree, Resample, Make}
@@ -23,8 +25,9 @@ use Rattle.job_subjects.specs.declared.refusal.Refusal.{Refusal}
 use Rattle.top_call.specs.Whole.{IsReadTo}
 use Rattle.told_runs.specs.Outcomes.{Outcome, HasRun}
 use Rattle.told_runs.specs.Results.{IsResultOf}
-use Rattle.job_subjects.specs.Refused.{IsOfText}
-use Rattle.top_call.specs.Answers.{wanted_by, Refuses, ComesOfCommand, ComesOf}
+use Rattle.job_subjects.specs.declared.wanted.Wanted.{Wanted}
+use Rattle.job_subjects.specs.Refused.{IsOfText, RefusesFormula, RefusesOrienting, RefusesTree, RefusesCnf, RefusesGraph, RefusesBy}
+use Rattle.top_call.specs.Answers.{wanted_by, ComesOf}
 use Rattle.top_call.proofs.Carrying.{carried}
 use Rattle.job_subjects.proofs.MadeExtremal.{made_short}
 use Rattle.top_call.proofs.ReadCases.{read_cases}
@@ -77,40 +80,53 @@ graph_more front rest long (Limit k l) of h = same_long graph front rest long �
 graph_more front rest long ReadFault of h = absurd of
 graph_more front rest long OutOfMemory of h = absurd of
 
--- by the grammar of each command whose run may stop
-refuses_more : (command : Command) → is_paused command ≡ true → (front rest : List ℕ) → text_limit < length front
-    → (r : ReadRefusal) → IsOfText r → Refuses command front r → Refuses command (front ++ rest) r
-refuses_more Formula is front rest long r of h = cnf_more front rest long r of h
-refuses_more Orient is front rest long r of h = graph_more front rest long r of h
-refuses_more Tree is front rest long r of h = graph_more front rest long r of h
-refuses_more Resample is front rest long r of h = cnf_more front rest long r of h
-refuses_more command is front rest long r of h = absurd (false≢true is)
+-- what refuses a formula or a graph of the front does so of nothing, since it spells none
+refuses_cnf_more : (Refuses : Cnf → Refusal → Type 0) (front rest : List ℕ) → text_limit < length front
+    → (r : Refusal) → RefusesCnf Refuses front r → RefusesCnf Refuses (front ++ rest) r
+refuses_cnf_more Refuses front rest long r (inl u) =
+    inl (record {
+      cause = u.cause;
+      of_text = u.of_text;
+      refused = cnf_more front rest long u.cause u.of_text u.refused;
+      is = u.is;
+    })
+refuses_cnf_more Refuses front rest long r (inr (f, spelled, h)) = absurd (not_long cnf front spelled.0 long)
 
--- and nothing else comes of such a text
-nothing_done : (command : Command) → is_paused command ≡ true → (job : Job) (ws : List Watcher) (text : List ℕ)
-    (o : Outcome) → ComesOfCommand command job ws text o → text_limit < length text → ⊥
-nothing_done Formula is job ws text o h long = not_long cnf text h.spelled.0 long
-nothing_done Orient is job ws text o h long = not_long graph text h.spelled.0 long
-nothing_done Tree is job ws text o h long = not_long graph text h.spelled.0 long
-nothing_done Resample is job ws text o h long = not_long cnf text h.spelled.0 long
-nothing_done command is job ws text o h long = false≢true is
+refuses_graph_more : (Refuses : GraphOf → Refusal → Type 0) (front rest : List ℕ) → text_limit < length front
+    → (r : Refusal) → RefusesGraph Refuses front r → RefusesGraph Refuses (front ++ rest) r
+refuses_graph_more Refuses front rest long r (inl u) =
+    inl (record {
+      cause = u.cause;
+      of_text = u.of_text;
+      refused = graph_more front rest long u.cause u.of_text u.refused;
+      is = u.is;
+    })
+refuses_graph_more Refuses front rest long r (inr (g, spelled, h)) = absurd (not_long graph front spelled.0 long)
+
+-- by each command whose run may stop
+refuses_more : (k : Command) → is_paused k ≡ true → (w : Wanted) (front rest : List ℕ) → text_limit < length front
+    → (r : Refusal) → RefusesBy k w front r → RefusesBy k w (front ++ rest) r
+refuses_more Formula is w front rest long r h =
+    refuses_cnf_more (RefusesFormula false w.origin w.count) front rest long r h
+refuses_more Orient is w front rest long r h =
+    refuses_graph_more (RefusesOrienting w.origin w.count) front rest long r h
+refuses_more Tree is w front rest long r h =
+    refuses_graph_more (RefusesTree w.origin w.count w.root) front rest long r h
+refuses_more Resample is w front rest long r h =
+    refuses_cnf_more (RefusesFormula true w.origin w.count) front rest long r h
+refuses_more k is w front rest long r h = absurd (false≢true is)
 
 -- so what comes of the front comes of the text
 front_comes : (job : Job) (ws : List Watcher) (front rest : List ℕ) → is_paused job.command ≡ true
     → text_limit < length front → (o : Outcome) → ComesOf job ws front o → ComesOf job ws (front ++ rest) o
 front_comes job ws front rest is long o h = elim (read_cases job ws front o h) [
-  | inl (r, o_is, unread) ↦
+  | inl (r, o_is, refused) ↦
       subst (ComesOf job ws (front ++ rest)) (sym o_is)
-      (inl (record {
-        cause = unread.cause;
-        of_text = unread.of_text;
-        refused = refuses_more job.command is front rest long unread.cause unread.of_text unread.refused;
-        is = unread.is;
-      }))
-  | inr (inl done) ↦ absurd (nothing_done job.command is job ws front o done long)
-  | inr (inr p) ↦
+      (refuses_more job.command is (wanted_by job) front rest long r refused)
+  | inr (inl (n, o_is, check, verdict)) ↦ absurd (false≢true (sym (ap is_paused check) ∙ is))
+  | inr (inr run) ↦
       let reads : job.command ≢ Make = λ make. false≢true (sym (ap is_paused make) ∙ is) in
-      let short = made_short job.command (wanted_by job) front p.facts p.i reads p.made in
+      let short = made_short (wanted_by job) front run.facts run.instance reads run.made in
       absurd (omega (arith, short, long))
 ]
 

@@ -11,11 +11,12 @@ use Rattle.pop_words.specs.declared.field.Field.{Field}
 use Rattle.pop_words.specs.declared.field.Field.TheVariants.{Stacks, Key, Height, Grow, Count, Pops, Workers, Board, Log, Root, Witness, Reports, Size}
 use Rattle.pop_words.specs.declared.job.Job.{Job}
 use Rattle.pop_words.specs.Values.{number_between, rows_in, key_in, board_in, switch_in, pair_in, reports_in}
-use Rattle.pop_words.specs.Options.{paused, popping, value_of}
+use Rattle.pop_words.specs.Options.{paused, sampling, value_of}
 use Rattle.pop_words.specs.CommandLines.{Asks}
 use Rattle.pop_words.proofs.ListTests.{all_at}
 use Rattle.job_subjects.specs.Refused.{HasNoBadLine}
-use Rattle.top_call.specs.Answers.{IsOfLine, MayStop, MayFailBehind, WasReadWhole}
+use Rattle.top_call.specs.Pauses.{MayStop}
+use Rattle.top_call.specs.Answers.{IsAsked, IsOfLine, MayFailBehind, WasReadWhole}
 use Rattle.top_call.proofs.ApartWords.{kept, AreKinds, settled}
 
 -- the commands whose runs may stop
@@ -153,6 +154,10 @@ stopped_may words job asks pops is =
       }
     ]
 
+-- so is one that some words ask for
+pub may_stop : (job : Job) → IsAsked job → (pops : ℕ) → job.pops ≡ Some pops → MayStop job
+may_stop job (words, asks) pops is = stopped_may words job asks pops is
+
 -- so its stacks don't grow
 pub stopped_level : (words : List (List ℕ)) (job : Job) → Asks words job → (pops : ℕ) → job.pops ≡ Some pops
     → job.grow ≡ None
@@ -218,29 +223,25 @@ line_behind Rounds taken line h = h
 line_behind Replay taken line h = absurd line
 line_behind Resume taken line h = absurd line
 
--- a command whose run may stop pops
-pub paused_pops : (k : Command) → Contains paused k → Contains popping k
-paused_pops Formula has = (0, omega arith, refl)
-paused_pops Orient has = (1, omega arith, refl)
-paused_pops Tree has = (2, omega arith, refl)
-paused_pops Resample has = (3, omega arith, refl)
-paused_pops k has = absurd (false≢true (paused_is k has))
+-- a command whose run may stop samples, and not by rounds
+pub paused_samples : (k : Command) → Contains paused k → Contains sampling k
+paused_samples Formula has = (0, omega arith, refl)
+paused_samples Orient has = (1, omega arith, refl)
+paused_samples Tree has = (2, omega arith, refl)
+paused_samples Resample has = (3, omega arith, refl)
+paused_samples k has = absurd (false≢true (paused_is k has))
 
--- so does each command that samples but rounds
-pub line_pops : (k : Command) → (k ≡ Check → ⊥) → (k ≡ Rounds → ⊥) → IsOfLine k → Contains popping k
-line_pops Formula check rounds line = (0, omega arith, refl)
-line_pops Orient check rounds line = (1, omega arith, refl)
-line_pops Tree check rounds line = (2, omega arith, refl)
-line_pops Resample check rounds line = (3, omega arith, refl)
-line_pops Make check rounds line = (4, omega arith, refl)
-line_pops Check check rounds line = absurd (check refl)
-line_pops Rounds check rounds line = absurd (rounds refl)
-line_pops Replay check rounds line = absurd line
-line_pops Resume check rounds line = absurd line
+pub paused_no_rounds : (k : Command) → Contains paused k → k ≡ Rounds → ⊥
+paused_no_rounds k has is = false≢true (sym (ap is_paused is) ∙ paused_is k has)
 
--- neither a check nor rounds make a grid
-pub check_makes_none : (k : Command) → k ≡ Check → k ≡ Make → ⊥
-check_makes_none k is make = absurd (cc)
-
-pub rounds_make_none : (k : Command) → k ≡ Rounds → k ≡ Make → ⊥
-rounds_make_none k is make = absurd (cc)
+-- each command that reads no certificate samples, but a check
+pub line_samples : (k : Command) → (k ≡ Check → ⊥) → IsOfLine k → Contains sampling k
+line_samples Formula check line = (0, omega arith, refl)
+line_samples Orient check line = (1, omega arith, refl)
+line_samples Tree check line = (2, omega arith, refl)
+line_samples Resample check line = (3, omega arith, refl)
+line_samples Make check line = (4, omega arith, refl)
+line_samples Rounds check line = (5, omega arith, refl)
+line_samples Check check line = absurd (check refl)
+line_samples Replay check line = absurd line
+line_samples Resume check line = absurd line

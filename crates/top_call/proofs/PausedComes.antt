@@ -1,7 +1,7 @@
 -- From the run of what is made to what comes of the job: its end, or its pause.
 use Rattle.std.proofs.Common.{inl, inr, ◌≡◌, ◌≢◌, ◌≤◌, ◌<◌, ℕ, Bool, true, false, if◌then◌else◌, List, [], length, Option, None, Some, Result, Ok, Err, IfOk, refl, sym, ap, subst, ◌∙◌, arith}
 use Rattle.std.proofs.Math.Nat.{eq-or-lt_of_le}
-use Rattle.std.proofs.lemmas.Bool.{false≢true}
+use Rattle.std.proofs.lemmas.Result.{IfOk-weaker}
 use Rattle.pop_model.specs.Instances.{Instance, IsInstance}
 use Rattle.pop_model.specs.Logs.{LogRecord, IsLegal, replay}
 use Rattle.pop_model.specs.Runs.{start_of}
@@ -23,17 +23,18 @@ use Rattle.pop_watch.specs.Telling.{Watcher}
 use Rattle.pop_print.specs.declared.facts.Facts.{Facts}
 use Rattle.told_runs.specs.declared.asked.Asked.{Asked}
 use Rattle.told_runs.specs.Outcomes.{Outcome, AnswersBy}
-use Rattle.told_runs.specs.Outcomes.Outcome.{Paused}
 use Rattle.told_runs.specs.Tellings.{records_of}
 use Rattle.told_runs.specs.Ends.{IsEndOf, IsHistoryOf}
 use Rattle.job_subjects.specs.Made.{IsMade}
-use Rattle.top_call.specs.Pauses.{IsPause, IsPausedAt}
+use Rattle.top_call.specs.Pauses.{IsPause, IsPausedAt, MayStop}
 use Rattle.told_runs.specs.Asking.{asked_by}
 use Rattle.top_call.specs.Answers.{wanted_by, ComesOf}
 use Rattle.job_subjects.specs.declared.answer.Answer.{Answer}
 use Rattle.top_call.proofs.Carrying.{answered}
-use Rattle.top_call.proofs.Lifting.{free_by}
+use Rattle.top_call.proofs.Lifting.{ordered_by}
 use Rattle.top_call.proofs.MadeComes.{told_comes}
+use Rattle.top_call.proofs.PauseWords.{paused_no_rounds}
+use Rattle.top_call.proofs.ReadCases.{run_comes}
 use Rattle.told_runs.proofs.ToldRuns.{placed_size}
 
 -- a run that has no fewer pops than it may have has so many
@@ -99,47 +100,43 @@ ended_part i part keeps pops kept so_far end count within pops_are kept_is = rec
 
 -- a pause of what is made comes of the job
 paused_comes : (job : Job) (ws : List Watcher) (text : List ℕ) (facts : Facts) (i : Instance) (pops : ℕ)
-    → IsMade (wanted_by job) text facts i → job.pops ≡ Some pops → job.count ≡ None
+    → IsMade (wanted_by job) text facts i → MayStop job → job.pops ≡ Some pops
     → (o : Outcome) → IsPausedAt job text facts i pops o → ComesOf job ws text o
-paused_comes job ws text facts i pops made stop once (Paused told input also j placed)
-    (told_is, input_is, also_is, j_is, pause) = (
-      told_is,
-      input_is,
-      subst (λ t. IsMade (wanted_by job) text t j) (sym also_is)
-          (subst (IsMade (wanted_by job) text facts) (sym j_is) made),
-      (pops, stop, subst (λ k. IsPause k pops placed) (sym j_is) pause),
-      once,
-    )
-paused_comes job ws text facts i pops made stop once o h = absurd h
+paused_comes job ws text facts i pops made may stop o at =
+    run_comes job ws text o (record {
+      facts = facts;
+      instance = i;
+      made = made;
+      run = inr (record { may = may; pops = pops; asked = stop; at = at });
+    })
 
 pub paused_answers : (job : Job) (ws : List Watcher) (text : List ℕ) (facts : Facts) (i : Instance) (n pops : ℕ)
-    (status : ℕ) (out : List ℕ) → IsMade (wanted_by job) text facts i → job.pops ≡ Some pops
-    → job.count ≡ None → n ≡ pops → AnswersBy (IsPausedAt job text facts i n) status out
-    → AnswersBy (ComesOf job ws text) status out
-paused_answers job ws text facts i n pops status out made stop once same told =
+    (status : ℕ) (out : List ℕ) → IsMade (wanted_by job) text facts i → MayStop job → job.pops ≡ Some pops
+    → n ≡ pops → AnswersBy (IsPausedAt job text facts i n) status out → AnswersBy (ComesOf job ws text) status out
+paused_answers job ws text facts i n pops status out made may stop same told =
     answered (IsPausedAt job text facts i pops) (ComesOf job ws text) status out
-    (paused_comes job ws text facts i pops made stop once)
+    (paused_comes job ws text facts i pops made may stop)
     (subst (λ k. AnswersBy (IsPausedAt job text facts i k) status out) same told)
 
 -- the same of results
 pub paused_result : {E : Type 0} (job : Job) (ws : List Watcher) (text : List ℕ) (facts : Facts) (i : Instance)
-    (n pops : ℕ) (r : Result Answer E) → IsMade (wanted_by job) text facts i → job.pops ≡ Some pops
-    → job.count ≡ None → n ≡ pops → IfOk r (λ a. AnswersBy (IsPausedAt job text facts i n) a.status a.text.items)
+    (n pops : ℕ) (r : Result Answer E) → IsMade (wanted_by job) text facts i → MayStop job → job.pops ≡ Some pops
+    → n ≡ pops → IfOk r (λ a. AnswersBy (IsPausedAt job text facts i n) a.status a.text.items)
     → IfOk r (λ a. AnswersBy (ComesOf job ws text) a.status a.text.items)
-paused_result job ws text facts i n pops (Ok a) made stop once same told =
-    paused_answers job ws text facts i n pops a.status a.text.items made stop once same told
-paused_result job ws text facts i n pops (Err e) made stop once same told = tt
+paused_result job ws text facts i n pops r made may stop same =
+    IfOk-weaker r _ _ (λ a told. paused_answers job ws text facts i n pops a.status a.text.items made may stop same told)
 
 -- what is told of an end of one run, which is that of an extremal instance where the order of pops isn't free
 pub ended_result : {E : Type 0} (job : Job) (ws : List Watcher) (text : List ℕ) (facts : Facts) (i : Instance)
     (asked : Asked) (r : Result Answer E) → IsMade (wanted_by job) text facts i → asked ≡ asked_by job
-    → job.count ≡ None → (job.command ≢ Resample → IsExtremal i.family)
+    → MayStop job → (job.command ≢ Resample → IsExtremal i.family)
     → (asked.free ≡ false → asked.count ≡ None → IsExtremal i.family
     → IfOk r (λ a. AnswersBy (IsEndOf asked ws facts i) a.status a.text.items))
     → (asked.free ≡ true → IfOk r (λ a. AnswersBy (IsHistoryOf asked ws facts i) a.status a.text.items))
     → IfOk r (λ a. AnswersBy (ComesOf job ws text) a.status a.text.items)
-ended_result job ws text facts i asked (Ok a) made asks once extremal ended history =
-    told_comes job.command job ws text facts i asked a.status a.text.items refl asks made
-    (λ free. ended free (ap (λ (q : Asked). q.count) asks ∙ once)
-    (extremal (λ is. false≢true (sym free ∙ free_by job asked Resample asks is)))) history
-ended_result job ws text facts i asked (Err e) made asks once extremal ended history = tt
+ended_result job ws text facts i asked (Ok a) made asks may extremal ended history =
+    told_comes job.command (paused_no_rounds job.command may.command) job ws text facts i asked a.status a.text.items refl
+    asks made
+    (λ free. ended free (ap (λ (q : Asked). q.count) asks ∙ may.once)
+    (extremal (ordered_by job asked asks free))) history
+ended_result job ws text facts i asked (Err e) made asks may extremal ended history = tt

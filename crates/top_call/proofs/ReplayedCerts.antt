@@ -1,5 +1,5 @@
 -- What comes of a certificate that is accepted, or refused, comes of the bytes that are it.
-use Rattle.std.proofs.Common.{inl, inr, ◌≡◌, ◌<◌, ℕ, List, [], length, Option, None, Some, Result, Ok, Err, IfOk, IfErr, IfSome, refl, sym, ap, subst, ◌∙◌, arith}
+use Rattle.std.proofs.Common.{inl, inr, ◌≡◌, ◌<◌, ℕ, List, length, Option, None, Some, Result, Ok, Err, IfOk, IfErr, IfSome, refl, sym, ap, subst, ◌∙◌, arith}
 use Rattle.std.specs.Result.{IsErrAnd, IsErrOf}
 use Rattle.std.proofs.lemmas.Result.{IfErr-weaker}
 use Rattle.pop_model.specs.Stacks.{Origin}
@@ -16,7 +16,6 @@ use Rattle.run_cert.specs.Looks.{IsLook}
 use Rattle.run_cert.specs.Heads.{Head}
 use Rattle.run_cert.specs.Certificates.{Certificate}
 use Rattle.pop_words.specs.declared.command.Command.{Command}
-use Rattle.pop_watch.specs.Telling.{Watcher}
 use Rattle.top_call.specs.declared.accepted.Accepted.{Accepted}
 use Rattle.job_subjects.specs.declared.wanted.Wanted.{Wanted}
 use Rattle.job_subjects.specs.declared.refusal.Refusal.{Refusal}
@@ -24,18 +23,16 @@ use Rattle.job_subjects.specs.declared.refusal.Refusal.TheVariants.{Stopped}
 use Rattle.job_subjects.specs.declared.stop.Stop.TheVariants.{ReadFault}
 use Rattle.told_runs.specs.Names.{names_for}
 use Rattle.told_runs.specs.ReplayTexts.{look_status, replay_text}
-use Rattle.told_runs.specs.Outcomes.{Outcome, AnswersBy}
+use Rattle.told_runs.specs.Outcomes.{AnswersBy}
 use Rattle.told_runs.specs.Outcomes.Outcome.{Replayed}
 use Rattle.job_subjects.specs.declared.answer.Answer.{Answer}
 use Rattle.job_subjects.specs.Refusals.{IsRefusal, IsPastWords, unlogged}
 use Rattle.job_subjects.specs.Refused.{RefusesText}
-use Rattle.top_call.specs.Replays.{cert_limit, job_of, wanted_of, ByLine, IsNoCert, IsCertified, IsRefusedCert, IsRefused, HasLog, ComesOfReplaying}
+use Rattle.top_call.specs.Replays.{cert_limit, wanted_of, IsNoCert, IsCertified, IsRefusedCert, IsRefused, HasLog, ComesOfReplaying}
 use Rattle.top_call.specs.Accepted.{IsHeldBy, IsAccepted, TellsReplay}
-use Rattle.top_call.specs.Answers.{ComesOf}
 use Rattle.job_subjects.proofs.Carrying.{refused_by, passed_on}
 use Rattle.job_subjects.proofs.TextRefusals.{IsOfInput}
 use Rattle.top_call.proofs.ByCommand.{refused_input}
-use Rattle.top_call.proofs.MadeRefusals.{made_refused}
 use Rattle.top_call.proofs.Statuses.{past_words}
 use Rattle.top_call.proofs.ReadToEnd.{read_to}
 use Rattle.top_call.specs.Whole.{IsReadTo}
@@ -51,17 +48,16 @@ head_wants head k origin root command_is origin_is root_is =
     ap (λ (c : Command). one_run_of c origin root) command_is ∙ ap (λ (o : Origin). one_run_of head.command o root) origin_is
     ∙ ap (λ (r : ℕ). one_run_of head.command (origin_of head.stacks head.height) r) root_is
 
--- what refuses the line of the certificate's command refuses the certificate
+-- what refuses the input refuses the certificate
 pub line_refused : (cert : Certificate) (r : Refusal) → IsRefusal (RefusesText (wanted_of cert.head) cert.input) r
-    → IsRefusal (IsRefusedCert ComesOf cert) r
+    → IsRefusal (IsRefusedCert cert) r
 line_refused cert r h =
-    refused_by (RefusesText (wanted_of cert.head) cert.input) (IsRefusedCert ComesOf cert) r
-    (λ q bad. inl (made_refused cert.head.command (job_of cert.head) [] cert.input q refl bad)) h
+    refused_by (RefusesText (wanted_of cert.head) cert.input) (IsRefusedCert cert) r (λ q bad. inl bad) h
 
 -- so does what refuses its log text
 pub text_refused : (cert : Certificate) (facts : Facts) (i : Instance) (r : Refusal) → IsCertified cert facts i
     → ((cause : LogRefusal) × IsLogRefusal (names_for facts) i cert.log_text cause × (r ≡ unlogged cause))
-    → IsRefusal (IsRefusedCert ComesOf cert) r
+    → IsRefusal (IsRefusedCert cert) r
 text_refused cert facts i r certified (OutOfMemory, refused, is) = inl is
 text_refused cert facts i r certified (cause, refused, is) =
     inr (inr (record {
@@ -81,19 +77,18 @@ longer_no_cert bytes text long longer r (inl (past, is)) = inl (longer, is)
 longer_no_cert bytes text long longer r (inr (short, bad)) = absurd (omega (arith, long, short))
 
 -- so they are refused as it
-longer_refused : (Line : ByLine) (bytes text : List ℕ) → cert_limit < length bytes → cert_limit < length text
-    → (r : Refusal) → IsRefused Line bytes r → IsRefused Line text r
-longer_refused Line bytes text long longer r (inl bad) = inl (longer_no_cert bytes text long longer r bad)
-longer_refused Line bytes text long longer r (inr comes) = let short = comes.short in absurd (omega (arith, long, short))
+longer_refused : (bytes text : List ℕ) → cert_limit < length bytes → cert_limit < length text
+    → (r : Refusal) → IsRefused bytes r → IsRefused text r
+longer_refused bytes text long longer r (inl bad) = inl (longer_no_cert bytes text long longer r bad)
+longer_refused bytes text long longer r (inr comes) = let short = comes.short in absurd (omega (arith, long, short))
 
 -- what was read of a text is refused as the text
-pub read_refused : (Line : ByLine) (text : List ℕ) (left' : Option (List ℕ)) (bytes : List ℕ) (r : Refusal)
-    → IsReadTo cert_limit (Some text) left' bytes → IsRefusal (IsRefused Line bytes) r
-    → IsRefusal (IsRefused Line text) r
-read_refused Line text left' bytes r read h = elim (read_to cert_limit text left' bytes read) [
-  | inl (short, same) ↦ subst (λ t. IsRefusal (IsRefused Line t) r) (sym same) h
+pub read_refused : (text : List ℕ) (left' : Option (List ℕ)) (bytes : List ℕ) (r : Refusal)
+    → IsReadTo cert_limit (Some text) left' bytes → IsRefusal (IsRefused bytes) r → IsRefusal (IsRefused text) r
+read_refused text left' bytes r read h = elim (read_to cert_limit text left' bytes read) [
+  | inl (short, same) ↦ subst (λ t. IsRefusal (IsRefused t) r) (sym same) h
   | inr (long, longer) ↦
-      refused_by (IsRefused Line bytes) (IsRefused Line text) r (longer_refused Line bytes text long longer) h
+      refused_by (IsRefused bytes) (IsRefused text) r (longer_refused bytes text long longer) h
 ]
 
 -- and accepted as it
@@ -124,9 +119,9 @@ look_told i reached look (Ok a) is status_is text_is =
 look_told i reached look (Err e) is status_is text_is = tt
 
 -- what is told of its replay
-pub replay_told : (Line : ByLine) (bytes : List ℕ) (a : Accepted) (status : ℕ) (out : List ℕ) → IsAccepted bytes a
-    → TellsReplay a.instance a.reached status out → AnswersBy (ComesOfReplaying Line bytes) status out
-replay_told Line bytes a status out h told =
+pub replay_told : (bytes : List ℕ) (a : Accepted) (status : ℕ) (out : List ℕ) → IsAccepted bytes a
+    → TellsReplay a.instance a.reached status out → AnswersBy (ComesOfReplaying bytes) status out
+replay_told bytes a status out h told =
     let leads = h.held.run.leads in
     let size : a.reached.pops ≡ length leads.log = omega (arith, leads.pops_are) in (
       Replayed a.instance a.reached.cursors (length leads.log) told.look,
@@ -154,20 +149,20 @@ replay_told Line bytes a status out h told =
 -- what refuses the bytes that were read refuses the text of the source
 pub read_result : {T : Type 0} (left left' : Option (List ℕ)) (text bytes input : List ℕ) (r : Result T Refusal)
     → left ≡ Some text → IsReadTo cert_limit left left' bytes → input ≡ bytes
-    → IfErr r (IsRefusal (IsRefused ComesOf input)) → IfErr r (IsRefusal (IsRefused ComesOf text))
+    → IfErr r (IsRefusal (IsRefused input)) → IfErr r (IsRefusal (IsRefused text))
 read_result left left' text bytes input r known read same =
-    IfErr-weaker r _ _ (λ e h. read_refused ComesOf text left' bytes e
+    IfErr-weaker r _ _ (λ e h. read_refused text left' bytes e
     (subst (λ l. IsReadTo cert_limit l left' bytes) known read)
-    (subst (λ b. IsRefusal (IsRefused ComesOf b) e) same h))
+    (subst (λ b. IsRefusal (IsRefused b) e) same h))
 
 -- it is no refusal of words
-pub bytes_past_words : (bytes : List ℕ) (r : Refusal) → IsRefusal (IsRefused ComesOf bytes) r → IsPastWords r
+pub bytes_past_words : (bytes : List ℕ) (r : Refusal) → IsRefusal (IsRefused bytes) r → IsPastWords r
 bytes_past_words bytes r (inl memory) = subst IsPastWords (sym memory) tt
 bytes_past_words bytes r (inr h) = past_words r (refused_input bytes r h)
 
 -- nor a fault of the source
 pub bytes_unfailing : {T : Type 0} (bytes : List ℕ) (r : Result T Refusal)
-    → IfErr r (IsRefusal (IsRefused ComesOf bytes)) → IsErrOf r (Stopped ReadFault) → ⊥
+    → IfErr r (IsRefusal (IsRefused bytes)) → IsErrOf r (Stopped ReadFault) → ⊥
 bytes_unfailing bytes (Ok a) h is = absurd (cc)
 bytes_unfailing bytes (Err e) (inl memory) is = let same : e ≡ Stopped ReadFault = cc in absurd (cc)
 bytes_unfailing bytes (Err e) (inr h) is =
@@ -176,9 +171,9 @@ bytes_unfailing bytes (Err e) (inr h) is =
 -- and the replay of what is read of the source is told of its text
 pub replay_result : (left left' : Option (List ℕ)) (text : List ℕ) (a : Accepted) (status : ℕ) (out : List ℕ)
     → left ≡ Some text → ((bytes : List ℕ) × IsReadTo cert_limit left left' bytes × IsAccepted bytes a)
-    → TellsReplay a.instance a.reached status out → AnswersBy (ComesOfReplaying ComesOf text) status out
+    → TellsReplay a.instance a.reached status out → AnswersBy (ComesOfReplaying text) status out
 replay_result left left' text a status out known (bytes, read, accepted) told =
-    replay_told ComesOf text a status out
+    replay_told text a status out
     (read_accepted text left' bytes a (subst (λ l. IsReadTo cert_limit l left' bytes) known read) accepted) told
 
 -- a fault of the source that is passed on is one

@@ -26,14 +26,14 @@ use Rattle.told_runs.specs.Outcomes.{Outcome, IsTextStatus, AnswersBy}
 use Rattle.told_runs.specs.Outcomes.Outcome.{Ended, Resampled, Batched}
 use Rattle.told_runs.specs.Tellings.{asks_for_log}
 use Rattle.told_runs.specs.Ends.{IsEndOf, IsHistoryWith}
-use Rattle.job_subjects.specs.Made.{IsMadeBy}
-use Rattle.top_call.specs.Replays.{cert_limit, job_of, wanted_of}
+use Rattle.top_call.specs.Replays.{cert_limit, job_of}
 use Rattle.top_call.specs.Resumes.{IsJoined, IsJoinedLog, GoesOnFrom, IsResumed, ComesOfResuming}
 use Rattle.top_call.specs.Accepted.{IsHeldBy, IsAccepted}
 use Rattle.told_runs.specs.Asking.{has_free_order, asked_by}
 use Rattle.top_call.specs.Answers.{ComesOf}
 use Rattle.top_call.proofs.Carrying.{answered}
-use Rattle.top_call.proofs.MadeComes.{end_comes, history_comes}
+use Rattle.top_call.proofs.MadeComes.{end_comes, ordered_end}
+use Rattle.top_call.proofs.PauseWords.{paused_no_rounds}
 use Rattle.top_call.proofs.ReplayedCerts.{held_log, read_accepted}
 use Rattle.top_call.proofs.Statuses.{resumed_status_is}
 
@@ -128,12 +128,14 @@ resumed_end : (cert : Certificate) (a : Accepted) (ws : List Watcher) (asked : A
     → IsEndOf asked ws a.facts a.instance o → IsResumed ComesOf ws cert o
 resumed_end cert a ws asked held is ordered o end =
     let job = job_of cert.head in
+    let k = cert.head.command in
     let own : IsEndOf (asked_by job) ws a.facts a.instance o =
     subst (λ q. IsEndOf q ws a.facts a.instance o) (held_asked cert a asked held is) end in
     record {
       has = held_log cert a held;
       goes_on = end_goes_on held.run.leads.log (asked_by job) ws a.facts a.instance refl o own;
-      comes = end_comes cert.head.command job ws cert.input a.facts a.instance refl ordered held.certified.made o own;
+      comes = end_comes job k ws cert.input a.facts a.instance refl held.certified.made o
+          (ordered_end k ordered (paused_no_rounds k held.paused_is) (asked_by job) ws a.facts a.instance o own);
     }
 
 -- its history
@@ -145,12 +147,10 @@ resumed_history cert a ws asked held is free log joined o history =
     let job = job_of cert.head in
     let own : IsHistoryWith log (asked_by job) ws a.facts a.instance o =
     subst (λ q. IsHistoryWith log q ws a.facts a.instance o) (held_asked cert a asked held is) history in
-    let made : IsMadeBy Resample (wanted_of cert.head) cert.input a.facts a.instance =
-    subst (λ k. IsMadeBy k (wanted_of cert.head) cert.input a.facts a.instance) free held.certified.made in
     record {
       has = held_log cert a held;
       goes_on = history_goes_on held.run.leads.log log (asked_by job) ws a.facts a.instance joined o own;
-      comes = history_comes job ws cert.input a.facts a.instance free made o own.0;
+      comes = end_comes job Resample ws cert.input a.facts a.instance free held.certified.made o own.0;
     }
 
 -- the answer that tells it

@@ -24,8 +24,7 @@ use Rattle.told_runs.specs.Witnesses.Witness.{Unasked, Missing, Shown}
 use Rattle.told_runs.specs.Outcomes.{Outcome, AnswersBy, IsTextStatus, status_of, end_status, resampled_status}
 use Rattle.told_runs.specs.Outcomes.Outcome.{Refused, Extremal, Ended, Resampled, Rounded, Batched, Paused, Replayed}
 use Rattle.told_runs.specs.Results.{IsResultOf, IsTextResult}
-use Rattle.top_call.specs.Replays.{ByLine}
-use Rattle.top_call.specs.Resumes.{IsResumed}
+use Rattle.top_call.specs.Resumes.{ByLine, IsResumed}
 use Rattle.top_call.specs.Answers.{ComesOf}
 use Rattle.top_call.proofs.BatchEnds.{batch_low}
 use Rattle.top_call.proofs.ByCommand.{line_input}
@@ -113,6 +112,12 @@ run_status asked ws facts i status out ended history = elim (cases_Bool asked.fr
       let (o, end, tells) = ended ordered in
       subst IsTextStatus (sym tells.status_is) (told_status (IsEndOf asked ws facts i) (λ r h. absurd h) o end)
 ]
+
+-- and of a batch
+pub end_status_of : (asked : Asked) (ws : List Watcher) (facts : Facts) (i : Instance) (status : ℕ) (out : List ℕ)
+    → AnswersBy (IsEndOf asked ws facts i) status out → IsTextStatus status
+end_status_of asked ws facts i status out (o, end, tells) =
+    subst IsTextStatus (sym tells.status_is) (told_status (IsEndOf asked ws facts i) (λ r h. absurd h) o end)
 
 -- the status of a run that goes on
 pub resumed_status_is : (Line : ByLine) (ws : List Watcher) (cert : Certificate) (status : ℕ) (out : List ℕ)

@@ -1,5 +1,5 @@
 -- The results of words: of those that are no command line, and of those that ask for a job.
-use Rattle.std.proofs.Common.{inl, inr, ◌≡◌, ℕ, List, Result, Ok, Err, MatchResult, refl, sym, subst}
+use Rattle.std.proofs.Common.{inl, inr, ◌≡◌, ℕ, List, Result, Err, MatchResult, refl, sym, subst}
 use Rattle.pop_words.specs.declared.fault.WordFault.{WordFault}
 use Rattle.pop_words.specs.declared.fault.WordFault.TheVariants.{Usage as BadWord, OutOfMemory as WordMemory}
 use Rattle.pop_words.specs.CommandLines.{Asks, IsBadPlace, IsWordFault}

@@ -1,5 +1,5 @@
 -- A certificate that is accepted: its log is legal.
-use Rattle.std.specs.Prelude.{◌≡◌, ◌≢◌, ℕ, ◌≤◌, true, List, length, IfSome}
+use Rattle.std.specs.Prelude.{◌≡◌, ◌≢◌, ℕ, ◌≤◌, true, List, length, Contains, IfSome}
 use Rattle.pop_model.specs.Extremal.{IsExtremal}
 use Rattle.pop_model.specs.Runs.{start_of}
 use Rattle.pop_model.specs.Instances.{Instance}
@@ -7,6 +7,7 @@ use Rattle.confluence_core.specs.declared.reached.Reached.{Reached}
 use Rattle.confluence_core.specs.Stretches.{IsReached}
 use Rattle.pop_log.specs.LogVersions.{IsReadAs}
 use Rattle.pop_words.specs.declared.command.Command.TheVariants.{Resample}
+use Rattle.pop_words.specs.Options.{paused}
 use Rattle.pop_print.specs.Ends.{AreFactsOf}
 use Rattle.run_cert.specs.Certificates.{Certificate, IsCertOf}
 use Rattle.run_cert.specs.declared.look_kind.Look.{Look}
@@ -16,10 +17,11 @@ use Rattle.top_call.specs.declared.accepted.Accepted.{Accepted}
 use Rattle.told_runs.specs.Names.{names_for}
 use Rattle.top_call.specs.Replays.{cert_limit, IsCertified}
 
--- the certificate has this command, which runs this instance, told by these facts, and its log is
--- that by which the run has come so far from zeros
+-- the certificate has this command, whose runs may stop, and which runs this instance, told by
+-- these facts, and its log is that by which the run has come so far from zeros
 pub record IsHeldBy (cert : Certificate) (a : Accepted) : Type 0 where
   pub command_is : a.command ≡ cert.head.command
+  pub paused_is : Contains paused cert.head.command
   pub certified : IsCertified cert a.facts a.instance
   pub read : IfSome a.reached.log (IsReadAs (names_for a.facts) a.instance cert.log_text)
   pub told : AreFactsOf a.facts a.instance

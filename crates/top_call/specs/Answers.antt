@@ -1,49 +1,30 @@
 -- What the sampler answers to command words and a text.
-use Rattle.std.specs.Prelude.{◌≡◌, ◌⊎◌, ℕ, ◌≤◌, true, false, List, length, Contains, Option, unwrap_or, Ok, Err, None, Some, ⊤}
+use Rattle.std.specs.Prelude.{◌≡◌, ◌⊎◌, ℕ, ◌≤◌, List, length, Option, unwrap_or, None, Some, ⊤}
 use Rattle.pop_model.specs.Stacks.{Origin}
+use Rattle.pop_model.specs.Instances.{Instance}
 use Rattle.pop_edge.specs.Lines.{text_limit}
-use Rattle.pop_edge.specs.declared.refusal.ReadRefusal.{ReadRefusal}
 use Rattle.pop_stacks.specs.Tables.{origin_of}
-use Rattle.dimacs_read.specs.Cnf.{Cnf}
-use Rattle.dimacs_read.specs.CnfText.{AnswersCnf}
-use Rattle.graph_read.specs.Graphs.{GraphOf}
-use Rattle.graph_read.specs.GraphText.{AnswersGraph}
 use Rattle.pop_words.specs.declared.command.Command.{Command}
-use Rattle.pop_words.specs.declared.command.Command.TheVariants.{Formula, Orient, Tree, Resample, Check, Make, Rounds, Replay, Resume}
+use Rattle.pop_words.specs.declared.command.Command.TheVariants.{Resample, Check, Make, Rounds, Replay, Resume}
 use Rattle.pop_words.specs.declared.job.Job.{Job}
-use Rattle.pop_words.specs.Options.{paused}
 use Rattle.pop_words.specs.CommandLines.{Asks, IsBadPlace}
 use Rattle.pop_watch.specs.Telling.{Watcher}
+use Rattle.pop_print.specs.declared.facts.Facts.{Facts}
 use Rattle.job_subjects.specs.declared.refusal.Refusal.{Refusal}
 use Rattle.job_subjects.specs.declared.refusal.Refusal.TheVariants.{Usage}
 use Rattle.job_subjects.specs.declared.wanted.Wanted.{Wanted}
-use Rattle.job_subjects.specs.Refused.{IsUnread, HasNoBadLine}
+use Rattle.job_subjects.specs.Refused.{RefusesText, HasNoBadLine}
+use Rattle.job_subjects.specs.Made.{IsMade}
+use Rattle.told_runs.specs.declared.asked.Asked.{Asked}
 use Rattle.told_runs.specs.Asking.{asked_by}
 use Rattle.told_runs.specs.Outcomes.{Outcome, AnswersBy}
-use Rattle.told_runs.specs.Outcomes.Outcome.{Refused, Paused}
-use Rattle.top_call.specs.Formulas.{ComesOfFormula, ComesOfChecking}
-use Rattle.top_call.specs.Rounds.{ComesOfRounds}
-use Rattle.top_call.specs.Orientations.{ComesOfOrienting}
-use Rattle.top_call.specs.Trees.{ComesOfTree, ComesOfGrid}
-use Rattle.job_subjects.specs.Made.{IsMade}
-use Rattle.top_call.specs.Pauses.{PausesAt}
+use Rattle.told_runs.specs.Outcomes.Outcome.{Refused, Extremal}
+use Rattle.told_runs.specs.Ends.{IsEndOf, IsHistoryOf, IsRoundsEndOf}
+use Rattle.top_call.specs.Checks.{IsExtremalText}
+use Rattle.top_call.specs.Pauses.{Pauses}
 use Rattle.top_call.specs.Whole.{WasRead}
 use Rattle.top_call.specs.Replays.{cert_limit, ComesOfReplaying}
 use Rattle.top_call.specs.Resumes.{ComesOfResuming}
-
--- the text is that of a formula, of which this comes
-pub record ComesOfCnf (Comes : Cnf → Outcome → Type 0) (text : List ℕ) (o : Outcome)
-    : Type 0 where
-  pub formula : Cnf
-  pub spelled : AnswersCnf text (Ok formula)
-  pub comes : Comes formula o
-
--- the text is that of a graph, of which this comes
-pub record ComesOfGraph (Comes : GraphOf → Outcome → Type 0) (text : List ℕ) (o : Outcome)
-    : Type 0 where
-  pub graph : GraphOf
-  pub spelled : AnswersGraph text (Ok graph)
-  pub comes : Comes graph o
 
 -- the height to which a run's keyed stacks grow, or else their height
 abbrev pub last_height : Job → ℕ
@@ -63,46 +44,28 @@ wanted_by job = record {
   side = job.size;
 }
 
--- What comes of a command, with what the job says beside it, the watchers, and the text that it
--- reads; a grid is made without one. Of a command that reads a certificate nothing comes here
--- (`ComesBy`).
-abbrev pub ComesOfCommand : Command → Job → List Watcher → List ℕ → Outcome → Type 0
-ComesOfCommand Formula job watchers text o =
-    ComesOfCnf (ComesOfFormula false (origin_for job) (asked_by job) watchers) text o
-ComesOfCommand Orient job watchers text o =
-    ComesOfGraph (ComesOfOrienting (origin_for job) (asked_by job) watchers) text o
-ComesOfCommand Tree job watchers text o =
-    ComesOfGraph (ComesOfTree (origin_for job) (asked_by job) watchers job.root) text o
-ComesOfCommand Resample job watchers text o =
-    ComesOfCnf (ComesOfFormula true (origin_for job) (asked_by job) watchers) text o
-ComesOfCommand Check job watchers text o = ComesOfCnf ComesOfChecking text o
-ComesOfCommand Make job watchers text o =
-    ComesOfGrid (origin_for job) (asked_by job) watchers job.size o
-ComesOfCommand Rounds job watchers text o = ComesOfCnf (ComesOfRounds (origin_for job)) text o
-ComesOfCommand Replay job watchers text o = ⊥
-ComesOfCommand Resume job watchers text o = ⊥
+-- how the run of what a command makes ends: by any order of its pops where it is resampled, by
+-- rounds, or else on one thread
+abbrev pub EndsAs : Command → Asked → List Watcher → Facts → Instance → Outcome → Type 0
+EndsAs Resample asked watchers facts i o = IsHistoryOf asked watchers facts i o
+EndsAs Rounds asked watchers facts i o = IsRoundsEndOf facts i o
+EndsAs command asked watchers facts i o = IsEndOf asked watchers facts i o
 
--- a command's grammar refuses the text so
-abbrev pub Refuses : Command → List ℕ → ReadRefusal → Type 0
-Refuses Formula text refusal = AnswersCnf text (Err refusal)
-Refuses Orient text refusal = AnswersGraph text (Err refusal)
-Refuses Tree text refusal = AnswersGraph text (Err refusal)
-Refuses Resample text refusal = AnswersCnf text (Err refusal)
-Refuses Check text refusal = AnswersCnf text (Err refusal)
-Refuses Make text refusal = ⊥
-Refuses Rounds text refusal = AnswersCnf text (Err refusal)
-Refuses Replay text refusal = ⊥
-Refuses Resume text refusal = ⊥
+-- what a job makes of a text is run to its end, or to a pause
+pub record ComesOfRun (job : Job) (watchers : List Watcher) (text : List ℕ) (o : Outcome)
+    : Type 0 where
+  pub facts : Facts
+  pub instance : Instance
+  pub made : IsMade (wanted_by job) text facts instance
+  pub run : EndsAs job.command (asked_by job) watchers facts instance o
+      ⊎ Pauses job text facts instance o
 
--- what comes of a job, watchers and a text, by the line of the job's command
+-- what comes of a job, watchers and a text, by the line of the job's command: a refusal of the
+-- text, a verdict on it, or the run of what is made of it
 abbrev pub ComesOf : Job → List Watcher → List ℕ → Outcome → Type 0
-ComesOf job watchers text (Refused refusal) =
-    IsUnread (Refuses job.command text) refusal
-    ⊎ ComesOfCommand job.command job watchers text (Refused refusal)
-ComesOf job watchers text (Paused told input facts i placed) =
-    (told ≡ job) × (input ≡ text) × IsMade (wanted_by job) text facts i
-    × PausesAt job.pops i placed × (job.count ≡ None)
-ComesOf job watchers text o = ComesOfCommand job.command job watchers text o
+ComesOf job watchers text (Refused refusal) = RefusesText (wanted_by job) text refusal
+ComesOf job watchers text (Extremal count) = (job.command ≡ Check) × IsExtremalText text count
+ComesOf job watchers text o = ComesOfRun job watchers text o
 
 -- the command reads no certificate, so that what comes of it comes by its line
 abbrev pub IsOfLine : Command → Type 0
@@ -113,9 +76,13 @@ IsOfLine command = ⊤
 -- what comes of a job by its command: a certificate is replayed or resumed, and of any other text
 -- comes what comes by the command's line
 abbrev pub ComesBy : Command → Job → List Watcher → List ℕ → Outcome → Type 0
-ComesBy Replay job watchers text o = ComesOfReplaying ComesOf text o
+ComesBy Replay job watchers text o = ComesOfReplaying text o
 ComesBy Resume job watchers text o = ComesOfResuming ComesOf watchers text o
 ComesBy command job watchers text o = ComesOf job watchers text o
+
+-- some words ask for the job
+abbrev pub IsAsked : Job → Type 0
+IsAsked job = (words : List (List ℕ)) × Asks words job
 
 -- the words ask for a job, of which with the watchers and the text this comes
 pub record ComesOfJob (words : List (List ℕ)) (watchers : List Watcher) (text : List ℕ)
@@ -164,10 +131,3 @@ WasReadWhole (Some pops) command left left' = WasRead text_limit left left'
 WasReadWhole None Replay left left' = WasRead cert_limit left left'
 WasReadWhole None Resume left left' = WasRead cert_limit left left'
 WasReadWhole None command left left' = ⊤
-
--- the job's run may stop before its end: the command has such runs, and asks neither for a number
--- of samples nor for stacks that grow
-pub record MayStop (job : Job) : Type 0 where
-  pub command : Contains paused job.command
-  pub once : job.count ≡ None
-  pub level : job.grow ≡ None

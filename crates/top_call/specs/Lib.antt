@@ -1,8 +1,4 @@
-pub mod Sampling
-pub mod Formulas
-pub mod Rounds
-pub mod Orientations
-pub mod Trees
+pub mod Checks
 pub mod Whole
 pub mod Pauses
 pub mod Replays

@@ -1,11 +1,12 @@
 -- Runs that stop after so many pops.
-use Rattle.std.specs.Prelude.{◌≡◌, ℕ, List, [], length, Option, Some}
+use Rattle.std.specs.Prelude.{◌≡◌, ℕ, List, [], length, Contains, None, Some}
 use Rattle.pop_model.specs.Instances.{Instance}
 use Rattle.pop_model.specs.Logs.{IsLegal, replay}
 use Rattle.pop_model.specs.Runs.{start_of}
 use Rattle.pop_log.specs.Layers.{Placed}
 use Rattle.pop_log.specs.Layered.{AreInLayers}
 use Rattle.pop_words.specs.declared.job.Job.{Job}
+use Rattle.pop_words.specs.Options.{paused}
 use Rattle.pop_print.specs.declared.facts.Facts.{Facts}
 use Rattle.run_cert.specs.Looks.{HasPoppable}
 use Rattle.told_runs.specs.Tellings.{records_of}
@@ -25,6 +26,17 @@ IsPausedAt job input facts i pops (Paused told read also j placed) =
     (told ≡ job) × (read ≡ input) × (also ≡ facts) × (j ≡ i) × IsPause i pops placed
 IsPausedAt job input facts i pops o = ⊥
 
--- where a run may stop after so many pops, it paused there
-abbrev pub PausesAt : Option ℕ → Instance → List Placed → Type 0
-PausesAt asked i placed = (pops : ℕ) × (asked ≡ Some pops) × IsPause i pops placed
+-- the job's run may stop before its end: the command has such runs, and asks neither for a number
+-- of samples nor for stacks that grow
+pub record MayStop (job : Job) : Type 0 where
+  pub command : Contains paused job.command
+  pub once : job.count ≡ None
+  pub level : job.grow ≡ None
+
+-- it may, and the outcome tells that it stopped after as many pops as the job says
+pub record Pauses (job : Job) (input : List ℕ) (facts : Facts) (i : Instance) (o : Outcome)
+    : Type 0 where
+  pub may : MayStop job
+  pub pops : ℕ
+  pub asked : job.pops ≡ Some pops
+  pub at : IsPausedAt job input facts i pops o

@@ -1,6 +1,6 @@
 -- What comes of a certificate that is replayed: it is refused, or its log is legal and leads to
 -- cursors.
-use Rattle.std.specs.Prelude.{◌≡◌, ◌≢◌, ◌⊎◌, ℕ, ◌<◌, ◌≤◌, ◌^◌, List, [], length, None}
+use Rattle.std.specs.Prelude.{◌≡◌, ◌≢◌, ◌⊎◌, ℕ, ◌<◌, ◌≤◌, ◌^◌, List, length, None}
 use Rattle.pop_model.specs.Instances.{Instance, IsInstance}
 use Rattle.pop_model.specs.Logs.{LogRecord, replay}
 use Rattle.pop_model.specs.Runs.{start_of}
@@ -12,7 +12,6 @@ use Rattle.pop_log.specs.declared.log_refusal.LogRefusal.{LogRefusal}
 use Rattle.pop_log.specs.declared.log_refusal.LogRefusal.TheVariants.{OutOfMemory}
 use Rattle.pop_words.specs.declared.job.Job.{Job}
 use Rattle.pop_words.specs.Options.{default_job}
-use Rattle.pop_watch.specs.Telling.{Watcher}
 use Rattle.pop_print.specs.declared.facts.Facts.{Facts}
 use Rattle.run_cert.specs.declared.cert_refusal.CertRefusal.TheVariants.{Malformed as MalformedCert}
 use Rattle.run_cert.specs.declared.look_kind.Look.{Look}
@@ -26,16 +25,13 @@ use Rattle.job_subjects.specs.declared.refusal.Refusal.TheVariants.{Limit, Malfo
 use Rattle.job_subjects.specs.Refusals.{unlogged}
 use Rattle.told_runs.specs.Names.{names_for}
 use Rattle.job_subjects.specs.Made.{IsMade}
+use Rattle.job_subjects.specs.Refused.{RefusesText}
 use Rattle.told_runs.specs.Outcomes.{Outcome}
 use Rattle.told_runs.specs.Outcomes.Outcome.{Refused, Replayed}
 
 -- how many bytes a certificate may have
 abbrev pub cert_limit : ℕ
 cert_limit = 2 ^ 29
-
--- what comes of a job, watchers and an input, by the line of the job's command
-abbrev pub ByLine : Type 1
-ByLine = Job → List Watcher → List ℕ → Outcome → Type 0
 
 -- the job of the command line with the command, the stacks, the height and the root of a head
 abbrev pub job_of : Head → Job
@@ -88,16 +84,14 @@ pub record IsLogRefused (cert : Certificate) (refusal : Refusal) : Type 0 where
   pub refused : IsLogRefusal (names_for facts) instance cert.log_text cause
   pub is : refusal ≡ unlogged cause
 
--- A certificate is refused: as the line of its command refuses its input, its stacks or what it
--- would run; or its log text is.
-abbrev pub IsRefusedCert : ByLine → Certificate → Refusal → Type 0
-IsRefusedCert Line cert refusal =
-    Line (job_of cert.head) [] cert.input (Refused refusal) ⊎ IsLogRefused cert refusal
+-- A certificate is refused: its input is, as one of which this is wanted, or its log text is.
+abbrev pub IsRefusedCert : Certificate → Refusal → Type 0
+IsRefusedCert cert refusal =
+    RefusesText (wanted_of cert.head) cert.input refusal ⊎ IsLogRefused cert refusal
 
 -- the bytes are no certificate, or one that is refused
-abbrev pub IsRefused : ByLine → List ℕ → Refusal → Type 0
-IsRefused Line bytes refusal =
-    IsNoCert bytes refusal ⊎ ComesOfCert (IsRefusedCert Line) bytes refusal
+abbrev pub IsRefused : List ℕ → Refusal → Type 0
+IsRefused bytes refusal = IsNoCert bytes refusal ⊎ ComesOfCert IsRefusedCert bytes refusal
 
 -- the log text is that of a legal log
 pub record HasLog (cert : Certificate) : Type 0 where
@@ -121,6 +115,6 @@ pub record IsReplayed (cert : Certificate) (o : Outcome) : Type 0 where
   pub is : IsReplay has.instance has.log o
 
 -- what comes of bytes that are replayed
-abbrev pub ComesOfReplaying : ByLine → List ℕ → Outcome → Type 0
-ComesOfReplaying Line bytes (Refused refusal) = IsRefused Line bytes refusal
-ComesOfReplaying Line bytes o = ComesOfCert IsReplayed bytes o
+abbrev pub ComesOfReplaying : List ℕ → Outcome → Type 0
+ComesOfReplaying bytes (Refused refusal) = IsRefused bytes refusal
+ComesOfReplaying bytes o = ComesOfCert IsReplayed bytes o

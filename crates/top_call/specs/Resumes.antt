@@ -1,14 +1,15 @@
 -- What comes of a certificate that is resumed: it is refused, or its run goes on to an end.
-use Rattle.std.specs.Prelude.{◌≡◌, ◌⊎◌, ℕ, List, ◌++◌, Option, Some, ⊤}
+use Rattle.std.specs.Prelude.{◌≡◌, ℕ, List, ◌++◌, Option, Some, ⊤}
 use Rattle.pop_model.specs.Instances.{Instance}
 use Rattle.pop_model.specs.Logs.{LogRecord, IsLegal, replay}
 use Rattle.pop_model.specs.Runs.{start_of}
 use Rattle.pop_log.specs.Layered.{AreSorted}
+use Rattle.pop_words.specs.declared.job.Job.{Job}
 use Rattle.pop_watch.specs.Telling.{Watcher}
 use Rattle.run_cert.specs.Certificates.{Certificate}
 use Rattle.told_runs.specs.Outcomes.{Outcome}
 use Rattle.told_runs.specs.Outcomes.Outcome.{Refused, Ended, Resampled}
-use Rattle.top_call.specs.Replays.{ByLine, job_of, ComesOfCert, HasLog, IsRefused}
+use Rattle.top_call.specs.Replays.{job_of, ComesOfCert, HasLog, IsRefused}
 
 -- a log has these records, and those of one that is legal from their replay on
 abbrev pub IsJoined : Instance → List LogRecord → List LogRecord → Type 0
@@ -27,6 +28,10 @@ GoesOnFrom log (Resampled facts i placed stuck telling) =
     (whole : List LogRecord) × IsJoined i log whole × AreSorted whole placed
 GoesOnFrom log o = ⊥
 
+-- what comes of a job, watchers and an input, by the line of the job's command
+abbrev pub ByLine : Type 1
+ByLine = Job → List Watcher → List ℕ → Outcome → Type 0
+
 -- the certificate's run is resumed: to an end as the line of its command tells it
 pub record IsResumed (Line : ByLine) (watchers : List Watcher) (cert : Certificate) (o : Outcome)
     : Type 0 where
@@ -36,5 +41,5 @@ pub record IsResumed (Line : ByLine) (watchers : List Watcher) (cert : Certifica
 
 -- what comes of bytes that are resumed
 abbrev pub ComesOfResuming : ByLine → List Watcher → List ℕ → Outcome → Type 0
-ComesOfResuming Line watchers bytes (Refused refusal) = IsRefused Line bytes refusal
+ComesOfResuming Line watchers bytes (Refused refusal) = IsRefused bytes refusal
 ComesOfResuming Line watchers bytes o = ComesOfCert (IsResumed Line watchers) bytes o

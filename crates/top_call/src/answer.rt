@@ -1,13 +1,12 @@
 //! The answer to command words and a source.
-ghost use Rattle.std.specs.Prelude.{◌≡◌, ◌≢◌, ◌⊎◌, ◌<◌, ◌≤◌, ◌^◌, ℕ, List, None, Some, map, string_bytes, IfOk, MatchResult, IsErrOf, IfSome};
+ghost use Rattle.std.specs.Prelude.{◌≡◌, ◌≢◌, ◌⊎◌, ℕ, List, Some, map, string_bytes, IfOk, MatchResult, IsErrOf};
 ghost use Rattle.std.specs.Io.KnownBytes.{IsAtEnd, Consumes};
 ghost use Rattle.pop_model.specs.Faults.{Rose};
-ghost use Rattle.pop_model.specs.Stacks.{IsKeyed};
 ghost use Rattle.pop_words.specs.CommandLines.{AreWords, Asks, IsBadPlace};
 ghost use Rattle.pop_words.specs.declared.job.Job.{Job};
 ghost use Rattle.pop_words.specs.declared.command.Command.TheVariants.{Make};
 ghost use Rattle.top_call.specs.TopCall.{HasReadFault};
-ghost use Rattle.top_call.specs.Answers.{IsAnswer, ComesOf, origin_for, AskForGrid, IsInput, MayFailBehind, WasReadWhole, MayStop, ComesBy, IsOfLine};
+ghost use Rattle.top_call.specs.Answers.{IsAnswer, IsAsked, AskForGrid, IsInput, MayFailBehind, WasReadWhole, ComesBy};
 ghost use Rattle.told_runs.specs.Outcomes.{IsAnswerStatus, HasRun};
 ghost use Rattle.told_runs.specs.Results.{IsResultOf, IsTextResult};
 ghost use Rattle.job_subjects.specs.Refusals.{IsJudged, refusal_line};
@@ -15,64 +14,18 @@ ghost use Rattle.job_subjects.specs.Refused.{HasNoBadLine};
 ghost use Rattle.job_subjects.specs.declared.refusal.Refusal.TheVariants.{Usage, Stopped};
 ghost use Rattle.job_subjects.specs.declared.stop.Stop.TheVariants.{ReadFault, OutOfMemory};
 
-use crate::formula::check_formula;
+use crate::checking::check;
 use crate::pausing::pause_or_tell;
 use crate::replaying::replay;
 use crate::resuming::resume;
-use crate::rounds::sample_rounds;
 use crate::sampling::sample;
-use job_subjects::{Answer, Refusal, StackOrigin, Stop, formula_of};
+use job_subjects::{Answer, Refusal, Stop};
 use pop_edge::Source;
 use pop_watch::Watch;
 use pop_words::{Command, Job, read_words};
 use run_makers::{Crew, Maker};
 use std::alloc::Global;
 use told_runs::Call;
-
-// The answer to a job whose run doesn't stop before its end: of `check` and `rounds`, on the
-// formula that the source spells, and of each other command that of what it samples.
-fn run_job<S: Source, M: Maker>(
-    call: &mut Call<M>,
-    job: Job,
-    source: &mut S,
-) -> Result<Answer, Refusal>
-    requires maker { M.fits call.old.maker.now }
-    requires line { IsOfLine job.command }
-    requires run_out { job.pops ≡ None }
-    requires some { 0 < job.height }
-    requires short { job.height < 2 ^ 31 }
-    requires grow { IfSome job.grow (λ last. (0 < last) × (last < 2 ^ 31)) }
-    requires root { 1 ≤ job.root }
-    requires side { job.command ≡ Make → (1 ≤ job.size) × (job.size ≤ 2048) }
-    requires keyed { (count : ℕ) → job.count ≡ Some count → IsKeyed (origin_for job) }
-    ensures answer { (text : List ℕ) → (S.left source.old ≡ Some text) ⊎ (job.command ≡ Make)
-        → (IsErrOf result (Stopped ReadFault) → ⊥)
-        → IsResultOf (ComesOf job (map (λ b. (
-          (⟦<dyn Watch as Watch>⟧ b.vtable).kind b.value,
-          (⟦<dyn Watch as Watch>⟧ b.vtable).state b.value,
-        )) call.old.watchers.items) text)
-        result }
-    ensures status { IsTextResult result }
-    ensures unread { job.command ≡ Make → source.new ≡ source.old }
-    ensures whole { IfOk result (λ a.
-        HasRun a.status → job.command ≢ Make → IsAtEnd (S.left source.new)) }
-    ensures read_fault { IsErrOf result (Stopped ReadFault)
-        → Rose (S.faults source.old) (S.faults source.new) }
-    ensures no_bad_line { IsErrOf result (Stopped ReadFault) → (taken : List ℕ)
-        × Consumes (S.left source.old) (S.left source.new) taken
-        × HasNoBadLine job.command taken }
-{
-    match job.command {
-        Command::Check => check_formula(call.alloc, &formula_of(call.alloc, source)?),
-        Command::Rounds => {
-            let formula = formula_of(call.alloc, source)?;
-            let origin = StackOrigin::new(job.stacks, job.height, job.grow);
-            sample_rounds(call, origin, &formula)
-        }
-        Command::Replay | Command::Resume => unreachable!(),
-        _ => sample(call, job, source),
-    }
-}
 
 // The answer to a job. One that says after how many pops its run stops reads the source whole first,
 // and so does a certificate, which is replayed or resumed.
@@ -82,13 +35,7 @@ fn answer_job<S: Source, M: Maker>(
     source: &mut S,
 ) -> Result<Answer, Refusal>
     requires maker { M.fits call.old.maker.now }
-    requires some { 0 < job.height }
-    requires short { job.height < 2 ^ 31 }
-    requires grow { IfSome job.grow (λ last. (0 < last) × (last < 2 ^ 31)) }
-    requires root { 1 ≤ job.root }
-    requires side { job.command ≡ Make → (1 ≤ job.size) × (job.size ≤ 2048) }
-    requires stops { (pops : ℕ) → job.pops ≡ Some pops → MayStop job }
-    requires keyed { (count : ℕ) → job.count ≡ Some count → IsKeyed (origin_for job) }
+    requires asked { IsAsked job }
     ensures answer { (text : List ℕ) → (S.left source.old ≡ Some text) ⊎ (job.command ≡ Make)
         → (IsErrOf result (Stopped ReadFault) → ⊥)
         → IsResultOf (ComesBy job.command job (map (λ b. (
@@ -114,7 +61,8 @@ fn answer_job<S: Source, M: Maker>(
     match job.command {
         Command::Replay => replay(call.alloc, source),
         Command::Resume => resume(call, source),
-        _ => run_job(call, job, source),
+        Command::Check => check(call.alloc, source),
+        _ => sample(call, job, source),
     }
 }
 

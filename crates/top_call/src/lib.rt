@@ -5,11 +5,10 @@
 
 mod accepted;
 mod answer;
-mod formula;
+mod checking;
 mod pausing;
 mod replaying;
 mod resuming;
-mod rounds;
 mod sampling;
 mod top;
 mod whole;

@@ -12,13 +12,12 @@ ghost use Rattle.confluence_core.specs.Kept.{keeps_log};
 ghost use Rattle.confluence_core.specs.Runs.{IsRunOf};
 ghost use Rattle.pop_edge.specs.Lines.{text_limit};
 ghost use Rattle.pop_words.specs.declared.command.Command.TheVariants.{Resample};
-ghost use Rattle.pop_words.specs.Options.{paused};
 ghost use Rattle.pop_print.specs.Ends.{AreFactsOf};
 ghost use Rattle.run_cert.specs.Looks.{HasPoppable, IsSoFar};
-ghost use Rattle.top_call.specs.Answers.{ComesOf, wanted_by};
+ghost use Rattle.top_call.specs.Answers.{ComesOf, IsAsked, wanted_by};
 ghost use Rattle.job_subjects.specs.Made.{IsMade};
 ghost use Rattle.told_runs.specs.Outcomes.{AnswersBy, HasRun};
-ghost use Rattle.top_call.specs.Pauses.{IsPausedAt};
+ghost use Rattle.top_call.specs.Pauses.{IsPausedAt, MayStop};
 ghost use Rattle.told_runs.specs.Results.{IsResultOf, IsTextResult};
 ghost use Rattle.job_subjects.specs.Refusals.{IsJudged};
 ghost use Rattle.top_call.specs.Whole.{WasRead};
@@ -103,8 +102,7 @@ fn run_up_to<M>(
     instance: &Instance,
 ) -> Result<Answer, AllocError>
     requires pops { job.now.pops ≡ Some pops }
-    requires command { Contains paused job.now.command }
-    requires once { job.now.count ≡ None }
+    requires may { MayStop job.now }
     requires short { length input.now ≤ text_limit }
     requires made { IsMade (wanted_by job.now) input.now facts.now instance.now }
     requires told { AreFactsOf facts.now instance.now }
@@ -135,8 +133,7 @@ fn stop_and_tell<M>(
     made: Made,
 ) -> Result<Answer, AllocError>
     requires pops { job.now.pops ≡ Some pops }
-    requires command { Contains paused job.now.command }
-    requires once { job.now.count ≡ None }
+    requires may { MayStop job.now }
     requires short { length input.now ≤ text_limit }
     requires made { IsMade (wanted_by job.now) input.now made.facts made.instance }
     requires told { AreFactsOf made.facts made.instance }
@@ -160,12 +157,7 @@ fn judge_and_stop<M>(
     input: &[u8],
 ) -> Result<Answer, Refusal>
     requires pops { job.now.pops ≡ Some pops }
-    requires command { Contains paused job.now.command }
-    requires once { job.now.count ≡ None }
-    requires some { 0 < job.now.height }
-    requires tall { job.now.height < 2 ^ 31 }
-    requires grow { job.now.grow ≡ None }
-    requires root { 1 ≤ job.now.root }
+    requires asked { IsAsked job.now }
     ensures answer { IsResultOf (ComesOf job.now
         (map (λ b. (
           (⟦<dyn Watch as Watch>⟧ b.vtable).kind b.value,
@@ -197,12 +189,7 @@ pub fn pause_or_tell<S: Source, M>(
     source: &mut S,
 ) -> Result<Answer, Refusal>
     requires pops { job.now.pops ≡ Some pops }
-    requires command { Contains paused job.now.command }
-    requires once { job.now.count ≡ None }
-    requires some { 0 < job.now.height }
-    requires tall { job.now.height < 2 ^ 31 }
-    requires grow { job.now.grow ≡ None }
-    requires root { 1 ≤ job.now.root }
+    requires asked { IsAsked job.now }
     ensures answer { (text : List ℕ) → S.left source.old ≡ Some text
         → (IsErrOf result (Stopped ReadFault) → ⊥)
         → IsResultOf (ComesOf job.now (map (λ b. (

@@ -1,23 +1,22 @@
 //! The commands that sample: what is wanted of a text is made, sampled and told.
-ghost use Rattle.std.specs.Prelude.{◌≡◌, ◌≢◌, ◌⊎◌, ◌<◌, ◌≤◌, ◌^◌, ℕ, List, None, Some, map, IfOk, IfSome, IsErrOf, Contains};
+ghost use Rattle.std.specs.Prelude.{◌≡◌, ◌≢◌, ◌⊎◌, ℕ, List, None, Some, map, IfOk, IsErrOf, Contains};
 ghost use Rattle.std.specs.Io.KnownBytes.{IsAtEnd, Consumes};
 ghost use Rattle.pop_model.specs.Faults.{Rose};
-ghost use Rattle.pop_model.specs.Stacks.{IsKeyed};
 ghost use Rattle.pop_words.specs.declared.command.Command.TheVariants.{Make};
-ghost use Rattle.pop_words.specs.Options.{popping};
+ghost use Rattle.pop_words.specs.Options.{sampling};
 ghost use Rattle.job_subjects.specs.Refused.{HasNoBadLine};
 ghost use Rattle.job_subjects.specs.declared.refusal.Refusal.TheVariants.{Stopped};
 ghost use Rattle.job_subjects.specs.declared.stop.Stop.TheVariants.{ReadFault};
 ghost use Rattle.told_runs.specs.Outcomes.{HasRun};
 ghost use Rattle.told_runs.specs.Results.{IsResultOf, IsTextResult};
-ghost use Rattle.top_call.specs.Answers.{ComesOf, origin_for};
+ghost use Rattle.top_call.specs.Answers.{ComesOf, IsAsked};
 
 use job_subjects::{Answer, Made, Refusal, StackOrigin, Wanted, made_of};
 use pop_edge::Source;
 use pop_watch::Watch;
-use pop_words::Job;
+use pop_words::{Command, Job};
 use run_makers::Maker;
-use told_runs::{Asked, Call, sample_and_tell};
+use told_runs::{Asked, Call, batch_and_tell, round_and_tell, run_and_tell};
 
 /// Samples what a job makes of the text of the source, and tells the end.
 pub fn sample<S: Source, M: Maker>(
@@ -26,14 +25,9 @@ pub fn sample<S: Source, M: Maker>(
     source: &mut S,
 ) -> Result<Answer, Refusal>
     requires maker { M.fits call.old.maker.now }
-    requires command { Contains popping job.command }
+    requires asked { IsAsked job }
+    requires command { Contains sampling job.command }
     requires run_out { job.pops ≡ None }
-    requires some { 0 < job.height }
-    requires short { job.height < 2 ^ 31 }
-    requires grow { IfSome job.grow (λ last. (0 < last) × (last < 2 ^ 31)) }
-    requires root { 1 ≤ job.root }
-    requires side { job.command ≡ Make → (1 ≤ job.size) × (job.size ≤ 2048) }
-    requires keyed { (count : ℕ) → job.count ≡ Some count → IsKeyed (origin_for job) }
     ensures answer { (text : List ℕ) → (S.left source.old ≡ Some text) ⊎ (job.command ≡ Make)
         → (IsErrOf result (Stopped ReadFault) → ⊥)
         → IsResultOf (ComesOf job (map (λ b. (
@@ -51,10 +45,11 @@ pub fn sample<S: Source, M: Maker>(
         × Consumes (S.left source.old) (S.left source.new) taken
         × HasNoBadLine job.command taken }
 {
+    let command = job.command;
     let asked = Asked::of(&job);
     let origin = StackOrigin::new(job.stacks, job.height, job.grow);
     let wanted = Wanted {
-        command: job.command,
+        command,
         origin,
         count: job.count,
         root: job.root,
@@ -62,5 +57,11 @@ pub fn sample<S: Source, M: Maker>(
     };
     let made = made_of(call.alloc, wanted, source)?;
     let Made { facts, instance } = made;
-    Ok(sample_and_tell(call, &facts, instance, asked)?)
+    match command {
+        Command::Rounds => Ok(round_and_tell(call, instance)?),
+        _ => match asked.count {
+            Some(count) => Ok(batch_and_tell(call, &facts, instance, asked, count)?),
+            None => Ok(run_and_tell(call, &facts, instance, asked)?),
+        },
+    }
 }

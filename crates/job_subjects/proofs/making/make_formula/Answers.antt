@@ -1,10 +1,10 @@
-use Rattle.std.proofs.Common.{inl, inr, ◌≡◌, false, ◌∙◌, ap}
+use Rattle.std.proofs.Common.{inl, inr, ◌≡◌, false, ◌∙◌, refl, ap}
 use Rattle.pop_model.specs.Stacks.{StackTable}
 use Rattle.pop_print.specs.declared.facts.Facts.TheVariants.{Formula as FormulaFacts}
 use Rattle.job_subjects.specs.Refusals.{IsRefusal}
 use Rattle.job_subjects.specs.StackFaults.{AreFaulty}
 use Rattle.job_subjects.specs.Refused.{AreClashed, RefusesFormula}
-use Rattle.job_subjects.specs.Subjects.{pair_weights, instance_of}
+use Rattle.job_subjects.specs.Subjects.{pair_weights, instance_of, assignments}
 use Rattle.job_subjects.proofs.Carrying.{refused_error, passed_refusal}
 use Rattle.job_subjects.proofs.RefusedStacks.{pairs_are, few_pairs, many_refused, fault_refused}
 use Rattle.job_subjects.proofs.RefusedForms.{events_refused}
@@ -56,10 +56,14 @@ returns-clause-made c =
     c.of_events-instance.ensures
     ∙ ap (λ (s : StackTable). instance_of s.origin n events) c.in_ok-stacks.ensures.made in
     record {
-      events = events;
-      of_formula = c.in_ok-events.ensures.events;
-      extremal = c.in_ok-index.ensures.extremal;
-      is = record {
+      subject = assignments f events;
+      are = record {
+        events = events;
+        of_formula = c.in_ok-events.ensures.events;
+        extremal = c.in_ok-index.ensures.extremal;
+        is = refl;
+      };
+      over = record {
         facts_are = ap FormulaFacts count;
         instance_is = same ∙ ap (λ k. instance_of c.args.origin k events) count;
         sound = c.in_ok-stacks.ensures.sound;

@@ -5,7 +5,7 @@ use Rattle.pop_print.specs.declared.facts.Facts.TheVariants.{Orient as OrientFac
 use Rattle.job_subjects.specs.Refusals.{IsRefusal, unoriented}
 use Rattle.job_subjects.specs.StackFaults.{AreFaulty}
 use Rattle.job_subjects.specs.Refused.{RefusesOrienting}
-use Rattle.job_subjects.specs.Subjects.{pair_weights, instance_of}
+use Rattle.job_subjects.specs.Subjects.{pair_weights, instance_of, orientations}
 use Rattle.job_subjects.proofs.Carrying.{refused_error, passed_refusal}
 use Rattle.job_subjects.proofs.RefusedStacks.{pairs_are, few_pairs, many_refused, fault_refused}
 use Rattle.job_subjects.proofs.RefusedForms.{sinks_refused}
@@ -62,10 +62,14 @@ returns-clause-made c =
     c.of_events-instance.ensures
     ∙ ap (λ (s : StackTable). instance_of s.origin n events) c.in_ok-stacks.ensures.made in
     record {
-      touched = c.in_ok-events.ensures.touched;
-      events = events;
-      of_graph = c.in_ok-events.ensures.sinks;
-      is = record {
+      subject = orientations graph events;
+      are = record {
+        touched = c.in_ok-events.ensures.touched;
+        events = events;
+        of_graph = c.in_ok-events.ensures.sinks;
+        is = refl;
+      };
+      over = record {
         facts_are = refl;
         instance_is = same ∙ ap (λ k. instance_of c.args.origin k events) count;
         sound = subst (IsSound c.args.origin) (c.pairs.ensures ∙ ap pair_weights count) c.in_ok-stacks.ensures.sound;

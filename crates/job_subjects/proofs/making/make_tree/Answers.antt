@@ -1,11 +1,12 @@
-use Rattle.std.proofs.Common.{◌≤◌, arith}
+use Rattle.std.proofs.Common.{◌≡◌, ◌≤◌, ℕ, refl, arith}
+use Rattle.graph_read.specs.Graphs.{IsVertex}
 use Rattle.pop_print.specs.declared.facts.Facts.TheVariants.{Tree as TreeFacts}
 use Rattle.job_subjects.specs.StackFaults.{RefusesStacks}
 use Rattle.job_subjects.specs.Refused.{HasCutOff, RefusesTree}
-use Rattle.job_subjects.specs.Subjects.{cycles_instance}
+use Rattle.job_subjects.specs.Subjects.{AreArrows}
 use Rattle.job_subjects.proofs.Carrying.{refused_result_by, passed_refusal}
 use Rattle.job_subjects.proofs.RefusedForms.{cut_off_refused, tree_refused}
-use Rattle.job_subjects.proofs.MadeInstances.{facts_of_made, fits_tree, told_tree}
+use Rattle.job_subjects.proofs.MadeInstances.{cycles_over, arrows_made, told_of_cycles, fits_tree, told_tree}
 use Rattle.job_subjects.proofs.making.make_tree.Goals as goal
 
 pub make_cycles-requires-clause-fits : goal.make_cycles-requires-clause-fits
@@ -13,17 +14,32 @@ make_cycles-requires-clause-fits c =
     fits_tree (record { origin = c.args.origin; weights = c.in_ok-arrows.weights }) c.args.graph c.args.root
     c.in_ok-arrows.arrows c.in_ok-arrows.ensures.weights c.in_ok-arrows.ensures.arrows
 
+-- the root is a vertex
+root_of : (n root vertices : ℕ) → n ≡ vertices → 1 ≤ root → root ≤ n → IsVertex vertices root
+root_of n root vertices count first last = record { first = first; last = omega (arith, count, last) }
+
 pub returns-clause-told : goal.returns-clause-told
 returns-clause-told c =
-    facts_of_made c.make_cycles.result (TreeFacts c.args.graph c.args.root)
-    (cycles_instance c.args.origin c.in_ok-arrows.weights c.in_ok-arrows.arrows) c.make_cycles.ensures.facts
-    c.make_cycles.ensures.instance
+    told_of_cycles c.make_cycles.result c.args.origin c.args.count
+    (cycles_over (TreeFacts c.args.graph c.args.root) c.in_ok-arrows.weights c.in_ok-arrows.arrows)
     (told_tree c.args.origin c.args.graph c.args.root c.in_ok-arrows.weights c.in_ok-arrows.arrows
-    (record {
-      first = c.requires.root;
-      last = omega (arith, c.vertices.ensures.count, c.if-root-vertices.false);
-    })
+    (root_of c.vertices.result c.args.root c.args.graph.vertices c.vertices.ensures.count c.requires.root
+    c.if-root-vertices.false)
     c.in_ok-arrows.ensures.weights c.in_ok-arrows.ensures.arrows)
+    c.make_cycles.ensures.made
+
+pub returns-clause-made : goal.returns-clause-made
+returns-clause-made c =
+    arrows_made c.make_cycles.result c.args.origin c.args.count (AreArrows c.args.root c.args.graph)
+    (TreeFacts c.args.graph c.args.root) c.args.graph c.args.root c.in_ok-arrows.weights c.in_ok-arrows.arrows
+    c.in_ok-arrows.ensures.weights c.in_ok-arrows.ensures.arrows
+    (record {
+      root_is = root_of c.vertices.result c.args.root c.args.graph.vertices c.vertices.ensures.count c.requires.root
+          c.if-root-vertices.false;
+      joined = c.in_ok-arrows.ensures.connected;
+      is = refl;
+    })
+    c.make_cycles.ensures.made
 
 -- a vertex is cut off
 pub returns-in_err-arrows-clause-refused : goal.returns-in_err-arrows-clause-refused

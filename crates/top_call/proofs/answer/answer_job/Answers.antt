@@ -1,10 +1,11 @@
-use Rattle.std.proofs.Common.{inl, inr, ◌≡◌, sym, subst, ◌∙◌}
+use Rattle.std.proofs.Common.{inl, inr, ◌≡◌, None, sym, subst, ◌∙◌}
 use Rattle.std.proofs.lemmas.Result.{IfOk-weaker}
 use Rattle.pop_words.specs.declared.command.Command.{Command}
-use Rattle.pop_words.specs.declared.command.Command.TheVariants.{Make, Replay, Resume}
+use Rattle.pop_words.specs.declared.command.Command.TheVariants.{Check, Make, Replay, Resume}
 use Rattle.top_call.specs.Answers.{MayFailBehind, WasReadWhole, IsOfLine}
 use Rattle.top_call.proofs.ByCommand.{line_result, reads_no_cert}
-use Rattle.top_call.proofs.PauseWords.{not_made, paused_line, cert_behind, cert_whole, line_behind, line_whole}
+use Rattle.top_call.proofs.PauseWords.{not_made, paused_line, cert_behind, cert_whole, line_behind, line_samples, line_whole, may_stop}
+use Rattle.top_call.proofs.Verdicts.{verdict_result}
 use Rattle.top_call.proofs.answer.answer_job.Goals as goal
 
 -- the command of a certificate makes no grid
@@ -14,10 +15,17 @@ not_replay k replay make = subst IsOfLine (sym make ∙ replay) tt
 not_resume : (k : Command) → k ≡ Resume → k ≡ Make → ⊥
 not_resume k resume make = subst IsOfLine (sym make ∙ resume) tt
 
+-- nor does a check
+not_check : (k : Command) → k ≡ Check → k ≡ Make → ⊥
+not_check k check make = absurd (cc)
+
+check_line : (k : Command) → k ≡ Check → IsOfLine k
+check_line k check = subst IsOfLine (sym check) tt
+
 -- the run may stop, so the command is neither one that makes a grid nor one that reads a certificate
 pub returns-in-Some-clause-answer : goal.returns-in-Some-clause-answer
 returns-in-Some-clause-answer g c text input read =
-    let paused = (c.requires.stops c.in-Some.pops c.in-Some.is).command in
+    let paused = (may_stop c.args.job c.requires.asked c.in-Some.pops c.in-Some.is).command in
     elim input [
       | inl known ↦
           line_result c.args.job.command c.args.job _ text c.pause_or_tell.result (paused_line c.args.job.command paused)
@@ -27,7 +35,7 @@ returns-in-Some-clause-answer g c text input read =
 
 pub returns-in-Some-clause-unread : goal.returns-in-Some-clause-unread
 returns-in-Some-clause-unread g c make =
-    absurd (not_made c.args.job.command (c.requires.stops c.in-Some.pops c.in-Some.is).command make)
+    absurd (not_made c.args.job.command (may_stop c.args.job c.requires.asked c.in-Some.pops c.in-Some.is).command make)
 
 pub returns-in-Some-clause-whole : goal.returns-in-Some-clause-whole
 returns-in-Some-clause-whole g c =
@@ -62,12 +70,14 @@ returns-in-Replay-clause-no_bad_line g c failed =
     let short = c.replay.ensures.short failed in (
       short.0,
       short.1,
-      cert_behind c.args.job short.0 c.requires.stops Replay c.in-Replay.is (λ line. line) short.2,
+      cert_behind c.args.job short.0 (may_stop c.args.job c.requires.asked) Replay c.in-Replay.is (λ line. line)
+          short.2,
     )
 
 pub returns-in-Replay-clause-read : goal.returns-in-Replay-clause-read
 returns-in-Replay-clause-read g c judged =
-    cert_whole c.args.job _ _ c.requires.stops Replay c.in-Replay.is (λ line. line) (c.replay.ensures.read judged)
+    cert_whole c.args.job _ _ (may_stop c.args.job c.requires.asked) Replay c.in-Replay.is (λ line. line)
+    (c.replay.ensures.read judged)
 
 -- or resumed
 pub returns-in-Resume-clause-answer : goal.returns-in-Resume-clause-answer
@@ -88,22 +98,62 @@ returns-in-Resume-clause-no_bad_line g c failed =
     let short = c.resume.ensures.short failed in (
       short.0,
       short.1,
-      cert_behind c.args.job short.0 c.requires.stops Resume c.in-Resume.is (λ line. line) short.2,
+      cert_behind c.args.job short.0 (may_stop c.args.job c.requires.asked) Resume c.in-Resume.is (λ line. line)
+          short.2,
     )
 
 pub returns-in-Resume-clause-read : goal.returns-in-Resume-clause-read
 returns-in-Resume-clause-read g c judged =
-    cert_whole c.args.job _ _ c.requires.stops Resume c.in-Resume.is (λ line. line) (c.resume.ensures.read judged)
+    cert_whole c.args.job _ _ (may_stop c.args.job c.requires.asked) Resume c.in-Resume.is (λ line. line)
+    (c.resume.ensures.read judged)
 
--- any other text is answered by the line of its command
+-- or a formula checked
+pub returns-in-Check-clause-answer : goal.returns-in-Check-clause-answer
+returns-in-Check-clause-answer g c text input read = elim input [
+  | inl known ↦
+      line_result c.args.job.command c.args.job _ text c.check.result (check_line c.args.job.command c.in-Check.is)
+      (verdict_result c.args.job _ text c.check.result c.in-Check.is (c.check.ensures.answer text known read))
+  | inr make ↦ absurd (not_check c.args.job.command c.in-Check.is make)
+]
+
+pub returns-in-Check-clause-unread : goal.returns-in-Check-clause-unread
+returns-in-Check-clause-unread g c make = absurd (not_check c.args.job.command c.in-Check.is make)
+
+pub returns-in-Check-clause-whole : goal.returns-in-Check-clause-whole
+returns-in-Check-clause-whole g c =
+    IfOk-weaker c.check.result _ _ (λ a whole has other. whole) c.check.ensures.whole
+
+pub returns-in-Check-clause-no_bad_line : goal.returns-in-Check-clause-no_bad_line
+returns-in-Check-clause-no_bad_line g c failed =
+    let front = c.check.ensures.no_bad_line failed in (
+      front.0,
+      front.1,
+      subst (λ p. MayFailBehind p c.args.job.command front.0) (sym c.in_default.is)
+          (subst (λ k. MayFailBehind None k front.0) (sym c.in-Check.is) front.2),
+    )
+
+pub returns-in-Check-clause-read : goal.returns-in-Check-clause-read
+returns-in-Check-clause-read g c judged =
+    subst (λ p. WasReadWhole p c.args.job.command (g.S.Source.left c.args.source.now)
+    (g.S.Source.left c.check.new.source)) (sym c.in_default.is)
+    (line_whole c.args.job.command (g.S.Source.left c.args.source.now) (g.S.Source.left c.check.new.source)
+    (check_line c.args.job.command c.in-Check.is))
+
+-- any other command samples
+pub sample-requires-clause-command : goal.sample-requires-clause-command
+sample-requires-clause-command g c =
+    let others = c.in_default-command in
+    line_samples c.args.job.command others.not-Check
+    (reads_no_cert c.args.job.command others.not-Replay others.not-Resume)
+
 pub returns-in_default-command-clause-answer : goal.returns-in_default-command-clause-answer
 returns-in_default-command-clause-answer g c text input read =
     let line = reads_no_cert c.args.job.command c.in_default-command.not-Replay c.in_default-command.not-Resume in
-    line_result c.args.job.command c.args.job _ text c.run_job.result line (c.run_job.ensures.answer text input read)
+    line_result c.args.job.command c.args.job _ text c.sample.result line (c.sample.ensures.answer text input read)
 
 pub returns-in_default-command-clause-no_bad_line : goal.returns-in_default-command-clause-no_bad_line
 returns-in_default-command-clause-no_bad_line g c failed =
-    let front = c.run_job.ensures.no_bad_line failed in
+    let front = c.sample.ensures.no_bad_line failed in
     let line = reads_no_cert c.args.job.command c.in_default-command.not-Replay c.in_default-command.not-Resume in (
       front.0,
       front.1,
@@ -115,5 +165,5 @@ pub returns-in_default-command-clause-read : goal.returns-in_default-command-cla
 returns-in_default-command-clause-read g c judged =
     let line = reads_no_cert c.args.job.command c.in_default-command.not-Replay c.in_default-command.not-Resume in
     subst (λ p. WasReadWhole p c.args.job.command (g.S.Source.left c.args.source.now)
-    (g.S.Source.left c.run_job.new.source)) (sym c.in_default.is)
-    (line_whole c.args.job.command (g.S.Source.left c.args.source.now) (g.S.Source.left c.run_job.new.source) line)
+    (g.S.Source.left c.sample.new.source)) (sym c.in_default.is)
+    (line_whole c.args.job.command (g.S.Source.left c.args.source.now) (g.S.Source.left c.sample.new.source) line)

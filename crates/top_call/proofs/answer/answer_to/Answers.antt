@@ -2,9 +2,7 @@ use Rattle.std.proofs.Common.{inl, inr, Ok, Err, map, string_bytes, ap, subst}
 use Rattle.pop_words.specs.declared.job.Job.{Job}
 use Rattle.top_call.specs.Answers.{ComesBy, IsOutcome, WasReadWhole}
 use Rattle.pop_words.proofs.OneJob.{same_job}
-use Rattle.pop_words.proofs.JobsInRange.{asked_height, asked_grow, asked_root, asked_size, asked_workers}
-use Rattle.top_call.proofs.BatchWords.{counted_keyed}
-use Rattle.top_call.proofs.PauseWords.{stopped_may}
+use Rattle.pop_words.proofs.JobsInRange.{asked_workers}
 use Rattle.top_call.proofs.Carrying.{carried}
 use Rattle.top_call.proofs.Lifting.{of_words, input_of_job, grid_job}
 use Rattle.top_call.proofs.WordResults.{words_refused, words_bad, words_only, words_judged, words_no_fault, job_past_words}
@@ -103,31 +101,8 @@ returns-clause-read g c job asks =
     (same_job (map string_bytes c.args.words.now) c.in-Ok.job job c.in-Ok.ensures.job asks)
     (c.in-Err-answer_job.ensures.read judged))
 
-pub answer_job-requires-clause-some : goal.answer_job-requires-clause-some
-answer_job-requires-clause-some g c =
-    (asked_height (map string_bytes c.args.words.now) c.in-Ok.job c.in-Ok.ensures.job).0
-
-pub answer_job-requires-clause-short : goal.answer_job-requires-clause-short
-answer_job-requires-clause-short g c =
-    (asked_height (map string_bytes c.args.words.now) c.in-Ok.job c.in-Ok.ensures.job).1
-
-pub answer_job-requires-clause-grow : goal.answer_job-requires-clause-grow
-answer_job-requires-clause-grow g c =
-    asked_grow (map string_bytes c.args.words.now) c.in-Ok.job c.in-Ok.ensures.job
-
-pub answer_job-requires-clause-root : goal.answer_job-requires-clause-root
-answer_job-requires-clause-root g c =
-    (asked_root (map string_bytes c.args.words.now) c.in-Ok.job c.in-Ok.ensures.job).0
-
--- a run that may stop is one of a command that has such runs
-pub answer_job-requires-clause-stops : goal.answer_job-requires-clause-stops
-answer_job-requires-clause-stops g c pops is =
-    stopped_may (map string_bytes c.args.words.now) c.in-Ok.job c.in-Ok.ensures.job pops is
-
-pub answer_job-requires-clause-side : goal.answer_job-requires-clause-side
-answer_job-requires-clause-side g c make =
-    let range = asked_size (map string_bytes c.args.words.now) c.in-Ok.job c.in-Ok.ensures.job in
-    (range.1 make, range.0)
+pub answer_job-requires-clause-asked : goal.answer_job-requires-clause-asked
+answer_job-requires-clause-asked g c = (map string_bytes c.args.words.now, c.in-Ok.ensures.job)
 
 -- from 1 to 64 workers are asked for
 pub new-crew-requires-clause-one : goal.new-crew-requires-clause-one
@@ -137,8 +112,3 @@ new-crew-requires-clause-one g c =
 pub new-crew-requires-clause-few : goal.new-crew-requires-clause-few
 new-crew-requires-clause-few g c =
     (asked_workers (map string_bytes c.args.words.now) c.in-Ok.job c.in-Ok.ensures.job).1
-
--- a number of samples is asked for beside a key
-pub answer_job-requires-clause-keyed : goal.answer_job-requires-clause-keyed
-answer_job-requires-clause-keyed g c count is =
-    counted_keyed (map string_bytes c.args.words.now) c.in-Ok.job c.in-Ok.ensures.job count is

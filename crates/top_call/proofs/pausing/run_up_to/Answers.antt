@@ -9,7 +9,7 @@ tell_pause-requires-clause-open g c =
 pub returns-in-Open : goal.returns-in-Open
 returns-in-Open g c =
     paused_result c.args.job.now _ c.args.input.now c.args.facts.now c.args.instance.now _ c.args.pops
-    c.tell_pause.result c.requires.made c.requires.pops c.requires.once
+    c.tell_pause.result c.requires.made c.requires.may c.requires.pops
     (full_part c.args.instance.now c.from.result c.args.pops c.in_ok-part.part c.in_ok-part.ensures.part c.from.ensures
     c.in-Open.is)
     c.tell_pause.ensures
@@ -28,5 +28,5 @@ ended-requires g c =
 pub returns-in_ok-run-in_default : goal.returns-in_ok-run-in_default
 returns-in_ok-run-in_default g c =
     ended_result c.args.job.now _ c.args.input.now c.args.facts.now c.args.instance.now c.of-asked.result
-    c.tell_end.result c.requires.made c.of-asked.ensures c.requires.once c.requires.extremal
+    c.tell_end.result c.requires.made c.of-asked.ensures c.requires.may c.requires.extremal
     c.tell_end.ensures.ended c.tell_end.ensures.history

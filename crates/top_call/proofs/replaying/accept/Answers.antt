@@ -9,7 +9,6 @@ use Rattle.job_subjects.specs.Made.{IsMade}
 use Rattle.pop_log.specs.declared.log_refusal.LogRefusal.{LogRefusal}
 use Rattle.job_subjects.specs.Refusals.{IsRefusal, unlogged}
 use Rattle.top_call.specs.Replays.{wanted_of, IsCertified, IsRefusedCert}
-use Rattle.top_call.specs.Answers.{ComesOf}
 use Rattle.job_subjects.proofs.Carrying.{refused_error}
 use Rattle.top_call.proofs.ReplayedCerts.{line_refused, text_refused}
 use Rattle.top_call.proofs.replaying.accept.Goals as goal
@@ -17,7 +16,7 @@ use Rattle.top_call.proofs.replaying.accept.Goals as goal
 -- what refuses the line of the certificate's command refuses it
 pub returns-in_err-made-clause-refused : goal.returns-in_err-made-clause-refused
 returns-in_err-made-clause-refused c =
-    refused_error (IsRefusal (IsRefusedCert ComesOf c.args.cert.now)) c.from_residual.result c.in_err-made.field-0.0
+    refused_error (IsRefusal (IsRefusedCert c.args.cert.now)) c.from_residual.result c.in_err-made.field-0.0
     c.from_residual.ensures.1 (line_refused c.args.cert.now c.in_err-made.field-0.0 c.in_err-made.ensures.refused)
 
 -- so does what refuses its log text
@@ -32,7 +31,7 @@ returns-in_err-reached-clause-refused c =
       is = c.run_of.ensures.instance;
       numbers = c.run_of.ensures.numbers;
     } in
-    refused_error (IsRefusal (IsRefusedCert ComesOf cert)) c.from_residual-in_err-reached.result
+    refused_error (IsRefusal (IsRefusedCert cert)) c.from_residual-in_err-reached.result
     c.in_err-reached.field-0.0 c.from_residual-in_err-reached.ensures.1
     (text_refused cert facts i c.in_err-reached.field-0.0 certified
     (subst (λ text. (cause : LogRefusal) × IsLogRefusal (names_for facts) i text cause
@@ -42,6 +41,7 @@ returns-in_err-reached-clause-refused c =
 pub returns-clause-held : goal.returns-clause-held
 returns-clause-held c = record {
   command_is = c.command.ensures;
+  paused_is = c.requires.command;
   certified = record {
     made = subst (IsMade (wanted_of c.args.cert.now.head) c.args.cert.now.input c.in_ok-made.made.facts)
         (sym c.raised-instance.ensures) c.in_ok-made.ensures.made;

@@ -6,13 +6,13 @@ use Rattle.job_subjects.specs.Made.{IsMade}
 use Rattle.job_subjects.specs.Refused.{IsStopOr, RefusesText}
 use Rattle.top_call.specs.Replays.{wanted_of}
 use Rattle.job_subjects.proofs.RefusedTexts.{lent_result}
-use Rattle.top_call.proofs.PauseWords.{not_made, paused_pops}
+use Rattle.top_call.proofs.PauseWords.{not_made, paused_samples, paused_no_rounds}
 use Rattle.top_call.proofs.ReplayedCerts.{head_wants}
 use Rattle.top_call.proofs.replaying.made_by.Goals as goal
 
 pub made_of-requires-clause-command : goal.made_of-requires-clause-command
 made_of-requires-clause-command c =
-    paused_pops c.command.result (subst (Contains paused) (sym c.command.ensures) c.requires.command)
+    paused_samples c.command.result (subst (Contains paused) (sym c.command.ensures) c.requires.command)
 
 pub made_of-requires-clause-side : goal.made_of-requires-clause-side
 made_of-requires-clause-side c make =
@@ -30,7 +30,9 @@ returns-clause-made c =
     (c.made_of.ensures.made input (inl (ap (λ (l : List ℕ). Some l) (c.new-source.ensures ∙ c.input.ensures))))
 
 pub returns-clause-extremal : goal.returns-clause-extremal
-returns-clause-extremal c ordered = c.made_of.ensures.extremal (λ is. ordered (sym c.command.ensures ∙ is))
+returns-clause-extremal c ordered =
+    c.made_of.ensures.extremal (λ is. ordered (sym c.command.ensures ∙ is))
+    (λ is. paused_no_rounds c.args.cert.now.head.command c.requires.command (sym c.command.ensures ∙ is))
 
 -- what refuses it is what refuses that, since the bytes are lent
 pub returns-clause-refused : goal.returns-clause-refused

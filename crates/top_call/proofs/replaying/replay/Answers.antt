@@ -1,7 +1,6 @@
 use Rattle.std.proofs.Common.{sym, subst}
 use Rattle.told_runs.specs.Outcomes.{IsTextStatus}
 use Rattle.top_call.specs.Replays.{ComesOfReplaying}
-use Rattle.top_call.specs.Answers.{ComesOf}
 use Rattle.top_call.proofs.Carrying.{refused_result}
 use Rattle.top_call.proofs.ReplayedCerts.{replay_result, same_fault}
 use Rattle.top_call.proofs.Statuses.{look_status_is}
@@ -10,7 +9,7 @@ use Rattle.top_call.proofs.replaying.replay.Goals as goal
 -- the text is refused
 pub returns-in_err-accepted-clause-answer : goal.returns-in_err-accepted-clause-answer
 returns-in_err-accepted-clause-answer g c text known failed =
-    refused_result (ComesOfReplaying ComesOf text) c.from_residual.result c.in_err-accepted.field-0.0 c.from_residual.ensures.1
+    refused_result (ComesOfReplaying text) c.from_residual.result c.in_err-accepted.field-0.0 c.from_residual.ensures.1
     (c.in_err-accepted.ensures.refused text known
     (λ is. failed (same_fault c.from_residual.result c.in_err-accepted.field-0.0 c.from_residual.ensures.1 is)))
 
