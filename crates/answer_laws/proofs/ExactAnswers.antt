@@ -23,12 +23,9 @@ use Rattle.pop_samples.proofs.ExchangedSamples.{exchanged_ends, exchange_leaves}
 use Rattle.pop_samples.proofs.Finishing.{finished_ends, first_finishes_by, runs_like}
 use Rattle.pop_samples.proofs.FrameRows.{rows_count, some_entry, suits_end}
 use Rattle.pop_samples.proofs.Reached.{reached_samples}
-use Rattle.pop_words.specs.declared.command.Command.{Command}
-use Rattle.pop_words.specs.declared.command.Command.TheVariants.{Formula, Orient, Tree, Resample, Check, Make, Rounds, Replay, Resume}
 use Rattle.pop_words.specs.declared.job.Job.{Job}
 use Rattle.pop_words.specs.CommandLines.{Asks}
 use Rattle.pop_words.proofs.GivenAlone.{asked_alone}
-use Rattle.pop_words.proofs.OneJob.{same_job}
 use Rattle.pop_watch.specs.Telling.{Watcher}
 use Rattle.pop_print.specs.declared.facts.Facts.{Facts}
 use Rattle.told_runs.specs.declared.asked.Asked.{Asked}
@@ -36,7 +33,7 @@ use Rattle.told_runs.specs.Names.{names_for}
 use Rattle.told_runs.specs.Tellings.{Telling}
 use Rattle.told_runs.specs.Outcomes.Outcome.{Ended}
 use Rattle.told_runs.specs.Ends.{IsToldOfFirst, EndsWithin}
-use Rattle.top_call.specs.Answers.{ComesOfCommand, IsOfLine, ComesBy}
+use Rattle.top_call.specs.Answers.{wanted_by, ComesOf}
 use Rattle.told_runs.specs.Asking.{asked_by}
 use Rattle.job_subjects.specs.Subjects.{Subject, instance_over, IsSubjectOf}
 use Rattle.answer_laws.specs.ExactAnswers.{over_rows, frame_of, frame_over, IsSampledBy, ExchangedAnswers, ReachedAnswers}
@@ -45,7 +42,10 @@ use Rattle.answer_laws.proofs.RowWords.{rows_line}
 use Rattle.answer_laws.proofs.EndedSubjects.{IsEndOfSubject, ended_subject, subject_ended}
 use Rattle.told_runs.proofs.ToldOfFirst.{first_runs, sorted_first, told_of_first}
 use Rattle.answer_laws.proofs.ToldAtStart.{told_at_start}
-use Rattle.answer_laws.proofs.SubjectFrames.{IsSampled, subject_sampled, subject_frame}
+use Rattle.answer_laws.proofs.OneOutcome.{asked_comes}
+use Rattle.answer_laws.proofs.OrderedCommands.{IsOrdered, ordered_extremal, quiet_ordered}
+use Rattle.answer_laws.proofs.SubjectKinds.{same_subject}
+use Rattle.answer_laws.proofs.SubjectFrames.{HasFamily, subject_family, subject_frame}
 
 -- the values of rows at cursors, from variable n on, are the entries under the cursors
 values_from : (value : ℕ → ℕ → ℕ) (n : ℕ) (rows : Rows) (c : List ℕ) → length c ≡ length rows
@@ -95,39 +95,19 @@ heights_some rows weights sound k d within =
     omega (arith, high, at)
 
 -- what is sampled doesn't hang on the rows
-pub of_rows : (command : Command) (job : Job) (rows : Rows) (text : List ℕ) (s : Subject) → IsSubjectOf command job text s
-    → IsSubjectOf command (over_rows job rows) text s
-of_rows Formula job rows text s h = h
-of_rows Orient job rows text s h = h
-of_rows Tree job rows text s h = h
-of_rows Make job rows text s h = h
-of_rows Resample job rows text s h = absurd h
-of_rows Rounds job rows text s h = absurd h
-of_rows Check job rows text s h = absurd h
-of_rows Replay job rows text s h = absurd h
-of_rows Resume job rows text s h = absurd h
+pub of_rows : (job : Job) (rows : Rows) (text : List ℕ) (s : Subject)
+    → IsSubjectOf job.command (wanted_by job) text s → IsSubjectOf job.command (wanted_by (over_rows job rows)) text s
+of_rows job rows text s is = same_subject job.command (wanted_by job) (wanted_by (over_rows job rows)) text s refl refl is
 
--- what is sampled is of a line
-pub subject_line : (command : Command) (job : Job) (text : List ℕ) (s : Subject) → IsSubjectOf command job text s
-    → IsOfLine command
-subject_line Formula job text s h = tt
-subject_line Orient job text s h = tt
-subject_line Tree job text s h = tt
-subject_line Make job text s h = tt
-subject_line Resample job text s h = absurd h
-subject_line Rounds job text s h = absurd h
-subject_line Check job text s h = absurd h
-subject_line Replay job text s h = absurd h
-subject_line Resume job text s h = absurd h
-
--- a job that samples is answered by the end of the run over these rows
+-- words over rows are answered by the end of the run over these
 sampled_by : (words : List (List ℕ)) (watchers : List Watcher) (text : List ℕ) (job : Job) (rows : Rows) (s : Subject)
-    (x c : List ℕ) (pops : ℕ) (a : Telling) → Asks words (over_rows job rows) → IsSubjectOf job.command job text s
-    → IsSound (GivenRows rows) s.weights → IsFirstEnd (instance_over (GivenRows rows) s) c pops []
+    (x c : List ℕ) (pops : ℕ) (a : Telling) → Asks words (over_rows job rows) → IsOrdered job.command
+    → IsSubjectOf job.command (wanted_by job) text s → IsSound (GivenRows rows) s.weights
+    → IsFirstEnd (instance_over (GivenRows rows) s) c pops []
     → IsToldOfFirst (asked_by job) watchers (names_for s.facts) (instance_over (GivenRows rows) s) a
     → length c ≡ length rows → entries_under rows c ≡ x → EndsWithin job.pops pops
     → IsSampledBy words watchers text s.facts x c pops a
-sampled_by words watchers text job rows s x c pops a asks is sound end told size entries within =
+sampled_by words watchers text job rows s x c pops a asks ordered is sound end told size entries within =
     let mine : Job = over_rows job rows in
     record {
       instance = instance_over (GivenRows rows) s;
@@ -135,9 +115,9 @@ sampled_by words watchers text job rows s x c pops a asks is sound end told size
         job = mine;
         asks = asks;
         comes = by_line job.command mine watchers text (Ended s.facts (instance_over (GivenRows rows) s) c pops [] a)
-            (subject_line job.command job text s is)
-            (subject_ended job.command mine watchers text s (asked_alone words mine asks rows refl).1
-            (of_rows job.command job rows text s is) sound c pops [] a within (end, told));
+            (rows_line words mine asks rows refl)
+            (subject_ended mine watchers text s ordered (asked_alone words mine asks rows refl).1
+            (of_rows job rows text s is) sound c pops [] a within (end, told));
       };
       sample = values_are s.weights rows c size ∙ entries;
     }
@@ -172,19 +152,19 @@ moved_telling f cubes extremal asked ws names rows others c pops a end told same
 pub exchanged_answers : ExchangedAnswers
 exchanged_answers job rows words others watchers text facts i c pops a x asks asks' h sample =
     let mine : Job = over_rows job rows in
-    let same : h.job ≡ mine = same_job words h.job mine h.asks asks in
-    let comes : ComesOfCommand job.command mine watchers text (Ended facts i c pops [] a) =
+    let comes : ComesOf mine watchers text (Ended facts i c pops [] a) =
     of_line job.command mine watchers text (Ended facts i c pops [] a) (rows_line words mine asks rows refl)
-    (subst (λ (j : Job). ComesBy j.command j watchers text (Ended facts i c pops [] a)) same h.comes) in
-    let of : IsEndOfSubject job.command mine watchers text facts i c pops [] a =
-    ended_subject words mine asks job.command refl watchers text facts i c pops [] a comes in
+    (asked_comes words mine watchers text (Ended facts i c pops [] a) asks h) in
+    let of : IsEndOfSubject mine watchers text facts i c pops [] a =
+    ended_subject mine watchers text facts i c pops [] a comes in
     let s : Subject = of.subject in
     let f : Frame = frame_over s (map length rows) in
     let sound : AreSoundRows rows s.weights = of.sound.rows in
-    let sampled : IsSampled s = subject_sampled job.command mine text s of.is in
+    let family : HasFamily s = subject_family job.command (wanted_by mine) text s of.is in
+    let extremal : IsExtremal s.family = ordered_extremal job.command (wanted_by mine) text s of.ordered of.is in
     let count : length (map length rows) ≡ length s.weights =
     length-map rows (λ (row : List ℕ). length row) ∙ sound.count in
-    let frame : IsFrame f = subject_frame s sampled (map length rows) count (heights_some rows s.weights sound) in
+    let frame : IsFrame f = subject_frame s family (map length rows) count (heights_some rows s.weights sound) in
     let shape : AreRows f.weights f.heights rows = rows_framed rows s.weights sound in
     let is : IsSampleOf f x =
     subst (λ (j : Instance). IsSampleOf (frame_of j (map length rows)) x) of.instance_is sample in
@@ -194,21 +174,23 @@ exchanged_answers job rows words others watchers text facts i c pops a x asks as
     record { shape = shape; finishes = (of.end.run.0, by); entries = refl } in
     let to = exchange_leaves f frame w x c rows at is in
     let new : Rows = exchange rows c x in
-    let kept : KeepsEnd f x c pops rows = exchanged_ends f frame sampled.extremal x c pops rows shape of.end is in
+    let kept : KeepsEnd f x c pops rows = exchanged_ends f frame extremal x c pops rows shape of.end is in
     let size : length c ≡ length new = (suits_end f frame new to.samples.shape c to.samples.finishes).size in
     let told : IsToldOfFirst (asked_by job) watchers (names_for s.facts) (over f new) a =
-    moved_telling f (family_cubes f.family sampled.family) sampled.extremal (asked_by job) watchers (names_for s.facts)
+    moved_telling f (family_cubes f.family family.family) extremal (asked_by job) watchers (names_for s.facts)
     rows new c pops a of.end of.told to.same_log kept.end in
     subst (λ (t : Facts). IsSampledBy others watchers text t x c pops a) (sym of.facts_are)
-    (sampled_by others watchers text mine new s x c pops a asks' of.is
+    (sampled_by others watchers text mine new s x c pops a asks' of.ordered of.is
     (sound_rows f frame new to.samples.shape of.sound.light) kept.end told size kept.entries of.within)
 
 -- the law of each sample
 pub reached_answers : ReachedAnswers
-reached_answers job text s heights x is light count some sample =
+reached_answers job text s heights x has is light count some sample =
     let f : Frame = frame_over s heights in
-    let sampled : IsSampled s = subject_sampled job.command job text s is in
-    let frame : IsFrame f = subject_frame s sampled heights count some in
+    let ordered : IsOrdered job.command = quiet_ordered job.command has in
+    let extremal : IsExtremal s.family = ordered_extremal job.command (wanted_by job) text s ordered is in
+    let frame : IsFrame f =
+    subject_frame s (subject_family job.command (wanted_by job) text s is) heights count some in
     let reached = reached_samples f frame x sample in
     let rows : Rows = reached.0 in
     let at = reached.1 in
@@ -216,7 +198,7 @@ reached_answers job text s heights x is light count some sample =
     let zeros : start ≡ replicate (length x) 0 = ap (λ n. replicate n 0) (sym sample.count) in
     let by : FinishesBy (over f rows) [] start =
     record { legal = tt; leads = refl; finished = at.finishes.1.finished } in
-    let first : IsFirstEnd (over f rows) start 0 [] = (runs_like (over f rows) sampled.extremal [] start by).first in
+    let first : IsFirstEnd (over f rows) start 0 [] = (runs_like (over f rows) extremal [] start by).first in
     let c : List ℕ = replicate (length x) 0 in
     let end : IsFirstEnd (over f rows) c 0 [] = subst (λ (d : List ℕ). IsFirstEnd (over f rows) d 0 []) zeros first in
     let size : length c ≡ length rows =
@@ -229,7 +211,7 @@ reached_answers job text s heights x is light count some sample =
           let told = told_at_start (asked_by job) watchers (names_for s.facts) (over f rows)
           (finished_ends (over f rows) [] start by) in (
             told.0,
-            sampled_by words watchers text job rows s x c 0 told.0 asks is (sound_rows f frame rows at.shape light) end
-                told.1 size entries (within_none job.pops),
+            sampled_by words watchers text job rows s x c 0 told.0 asks ordered is
+                (sound_rows f frame rows at.shape light) end told.1 size entries (within_none job.pops),
           );
     }

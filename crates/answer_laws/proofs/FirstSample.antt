@@ -1,6 +1,6 @@
 -- The first sample of a batch: its stacks are those of the job without a number of samples, and so is its end. Nothing
 -- of a log is told of either.
-use Rattle.std.proofs.Common.{inl, inr, ◌≡◌, ◌⊎◌, ℕ, ◌<◌, ◌≤◌, true, List, [], ◌∷◌, ◌++◌, flat_map, if◌then◌else◌, None, Some, IfSome, refl, sym, ap, ap₂, subst, ◌∙◌, arith, append_assoc, append-nil}
+use Rattle.std.proofs.Common.{◌≡◌, ◌⊎◌, ℕ, ◌<◌, ◌≤◌, true, List, [], ◌∷◌, ◌++◌, flat_map, if◌then◌else◌, None, Some, IfSome, refl, sym, ap, ap₂, subst, ◌∙◌, arith, append_assoc, append-nil}
 use Rattle.std.specs.List.{enumerate_from}
 use Rattle.std.proofs.lemmas.Bool.{false≢true}
 use Rattle.std.proofs.lemmas.Option.{none-some, same_Some}
@@ -15,11 +15,10 @@ use Rattle.pop_stacks.specs.declared.stack_spec.StackSpec.TheVariants.{Key as Ke
 use Rattle.pop_stacks.specs.Tables.{origin_of}
 use Rattle.pop_log.specs.declared.names.Names.{Names}
 use Rattle.pop_words.specs.declared.command.Command.{Command}
-use Rattle.pop_words.specs.declared.command.Command.TheVariants.{Formula, Orient, Tree, Resample, Check, Make, Rounds, Replay, Resume}
+use Rattle.pop_words.specs.declared.command.Command.TheVariants.{Formula, Orient, Tree}
 use Rattle.pop_words.specs.declared.job.Job.{Job}
 use Rattle.pop_words.specs.CommandLines.{Asks}
 use Rattle.pop_words.proofs.JobsInRange.{asked_count}
-use Rattle.pop_words.proofs.OneJob.{same_job}
 use Rattle.pop_watch.specs.Telling.{Watcher, log_told}
 use Rattle.pop_print.specs.declared.facts.Facts.{Facts}
 use Rattle.pop_print.specs.Output.{full_text, end_text}
@@ -32,20 +31,22 @@ use Rattle.told_runs.specs.Tellings.{Telling, records_of, layered_text, telling_
 use Rattle.told_runs.specs.Outcomes.{Outcome, status_of, text_of, run_text, end_status}
 use Rattle.told_runs.specs.Outcomes.Outcome.{Refused, Extremal, Ended, Resampled, Rounded, Batched, Paused, Replayed}
 use Rattle.told_runs.specs.Ends.{IsToldOfFirst, EndsWithin}
-use Rattle.job_subjects.specs.Subjects.{Subject, instance_over, IsSubjectOf}
-use Rattle.top_call.specs.Answers.{last_height, ComesOfCommand, ComesOf, IsOfLine, ComesBy, origin_for}
 use Rattle.told_runs.specs.Asking.{asked_by}
-use Rattle.answer_laws.specs.FirstSample.{of_one, BeginsWithOne, FirstSample}
-use Rattle.top_call.proofs.BatchWords.{is_batched, IsQuiet, counted_command, counted_quiet, uncounted}
-use Rattle.top_call.proofs.PauseWords.{counted_runs_out}
-use Rattle.answer_laws.proofs.EndedSubjects.{IsBatchOfSubject, batched_subject, subject_ended}
 use Rattle.told_runs.proofs.LayeredOrders.{layered_order}
+use Rattle.job_subjects.specs.Subjects.{Subject, instance_over}
+use Rattle.top_call.specs.Answers.{last_height, origin_for, wanted_by, ComesOf, IsOfLine}
+use Rattle.top_call.proofs.BatchEnds.{batch_of}
+use Rattle.top_call.proofs.BatchWords.{is_batched, IsQuiet, counted_command, counted_quiet, uncounted}
 use Rattle.top_call.proofs.ByCommand.{of_line}
-use Rattle.top_call.proofs.Lifting.{no_replay}
-use Rattle.answer_laws.proofs.OneOutcome.{word_cases}
-use Rattle.answer_laws.proofs.ShownBatches.{in_full}
-use Rattle.answer_laws.proofs.ShownSamples.{ended_once, resampled_once, rounds_once, verdict_once}
+use Rattle.top_call.proofs.PauseWords.{counted_runs_out}
+use Rattle.top_call.proofs.ReadCases.{no_replay}
+use Rattle.answer_laws.specs.FirstSample.{of_one, BeginsWithOne, FirstSample}
+use Rattle.answer_laws.proofs.EndedSubjects.{IsBatchOfSubject, batched_subject, ended_subject, subject_ended}
+use Rattle.answer_laws.proofs.OneOutcome.{asked_comes}
 use Rattle.answer_laws.proofs.RefusalStatuses.{refusal_not_low, not_low}
+use Rattle.answer_laws.proofs.ShownBatches.{in_full}
+use Rattle.answer_laws.proofs.SubjectKinds.{same_subject}
+use Rattle.answer_laws.proofs.ToldOfMade.{resampled_made, rounded_made}
 
 -- sample 0 has the entries of the job without a number
 of_first : (job : Job) → origin_of_sample 0 (origin_for job) ≡ origin_for job
@@ -54,19 +55,6 @@ of_first job = by_spec job.stacks (last_height job)
     by_spec : (spec : StackSpec) (height : ℕ) → origin_of_sample 0 (origin_of spec height) ≡ origin_of spec height
     by_spec (GivenStacks rows) height = refl
     by_spec (KeyedStacks key) height = refl
-
--- what is sampled doesn't hang on the number of samples
-of_many : (command : Command) (job : Job) (text : List ℕ) (s : Subject) → IsSubjectOf command job text s
-    → IsSubjectOf command (of_one job) text s
-of_many Formula job text s h = h
-of_many Orient job text s h = h
-of_many Tree job text s h = h
-of_many Make job text s h = h
-of_many Resample job text s h = absurd h
-of_many Rounds job text s h = absurd h
-of_many Check job text s h = absurd h
-of_many Replay job text s h = absurd h
-of_many Resume job text s h = absurd h
 
 -- what is told where nothing is asked for
 record TellsNothing (job : Job) (ws : List Watcher) (names : Names) (i : Instance) : Type 0 where
@@ -102,12 +90,12 @@ tells_nothing job ws names i c pops stuck quiet end =
     }
 
 -- the text of the first sample is the answer of its job
-first_text : (command : Command) (job : Job) (text : List ℕ) (facts : Facts) (i : Instance) (ends : List End)
-    (of : IsBatchOfSubject command job text facts i ends) (end : End) (names : Names) (t : Telling)
-    → is_batched command ≡ true → telling_text (names_for of.subject.facts) (instance_over (origin_for job) of.subject) t ≡ []
+first_text : (job : Job) (text : List ℕ) (facts : Facts) (i : Instance) (ends : List End)
+    (of : IsBatchOfSubject job text facts i ends) (end : End) (a : Telling) → is_batched job.command ≡ true
+    → telling_text (names_for of.subject.facts) (instance_over (origin_for job) of.subject) a ≡ []
     → full_text facts (instance_for 0 i) end.cursors end.pops end.stuck
-    ≡ run_text of.subject.facts (instance_over (origin_for job) of.subject) end.cursors end.pops end.stuck t
-first_text command job text facts i ends of end names t batched empty =
+    ≡ run_text of.subject.facts (instance_over (origin_for job) of.subject) end.cursors end.pops end.stuck a
+first_text job text facts i ends of end a batched empty =
     let s : Subject = of.subject in
     let j : Instance = instance_over (origin_for job) s in
     let c : List ℕ = end.cursors in
@@ -115,25 +103,24 @@ first_text command job text facts i ends of end names t batched empty =
     ap (λ f. full_text f (instance_for 0 i) c end.pops stuck) of.facts_are
     ∙ ap (λ k. full_text s.facts (instance_for 0 k) c end.pops stuck) of.instance_is
     ∙ ap (λ o. full_text s.facts (instance_over o s) c end.pops stuck) (of_first job)
-    ∙ sym (in_full command job text s j c end.pops stuck batched of.is)
+    ∙ sym (in_full job.command (wanted_by job) text s j c end.pops stuck batched of.is)
     ∙ sym (append-nil (end_text s.facts j c end.pops stuck))
     ∙ ap (λ l. end_text s.facts j c end.pops stuck ++ l) (sym empty)
 
 -- a batch begins with it
 begins : (words : List (List ℕ)) (job : Job) (asks : Asks words job) (count : ℕ) → job.count ≡ Some count
     → (ws : List Watcher) (text : List ℕ) (facts : Facts) (i : Instance) (ends : List End)
-    → ComesOfCommand job.command job ws text (Batched facts i ends)
-    → BeginsWithOne job ws text count (batch_text facts i ends)
+    → ComesOf job ws text (Batched facts i ends) → BeginsWithOne job ws text count (batch_text facts i ends)
 begins words job asks count is ws text facts i [] h =
-    let of = batched_subject words job asks job.command refl ws text facts i [] h in
-    let same : of.batch.count ≡ count = same_Some _ _ (sym of.batch.asked_is ∙ is) in
-    let size = of.batch.are.count_is in
+    let batch = batch_of job ws text facts i [] h in
+    let same : batch.count ≡ count = same_Some _ _ (sym batch.asked_is ∙ is) in
+    let size = batch.are.count_is in
     let range : (0 < count) × (count ≤ 65536) =
     subst (λ k. IfSome k (λ n. (0 < n) × (n ≤ 65536))) is (asked_count words job asks) in
     let some = range.0 in
     absurd (omega (arith, same, size, some))
 begins words job asks count is ws text facts i (end ∷ ends) h =
-    let of = batched_subject words job asks job.command refl ws text facts i (end ∷ ends) h in
+    let of = batched_subject job ws text facts i (end ∷ ends) h in
     let same : of.batch.count ≡ count = same_Some _ _ (sym of.batch.asked_is ∙ is) in
     let s : Subject = of.subject in
     let j : Instance = instance_over (origin_for job) s in
@@ -147,8 +134,7 @@ begins words job asks count is ws text facts i (end ∷ ends) h =
     let out : List ℕ = run_text s.facts j end.cursors end.pops end.stuck nothing.telling in
     let rest : List ℕ = flat_map (numbered_text facts i) (enumerate_from 1 ends) in
     let told : full_text facts (instance_for 0 i) end.cursors end.pops end.stuck ≡ out =
-    first_text job.command job text facts i (end ∷ ends) of end (names_for s.facts) nothing.telling batched nothing.empty
-    in
+    first_text job text facts i (end ∷ ends) of end nothing.telling batched nothing.empty in
     record {
       first = out;
       rest = rest;
@@ -157,8 +143,9 @@ begins words job asks count is ws text facts i (end ∷ ends) h =
       status = end_status end.stuck;
       answer = (
         Ended s.facts j end.cursors end.pops end.stuck nothing.telling,
-        subject_ended job.command (of_one job) ws text s refl (of_many job.command job text s of.is) of.sound end.cursors
-            end.pops end.stuck nothing.telling
+        subject_ended (of_one job) ws text s of.ordered refl
+            (same_subject job.command (wanted_by job) (wanted_by (of_one job)) text s refl refl of.is) of.sound
+            end.cursors end.pops end.stuck nothing.telling
             (subst (λ most. EndsWithin most end.pops) (sym (counted_runs_out words job asks count is)) tt)
             (first, nothing.told),
         record { status_is = refl; out_is = refl },
@@ -171,16 +158,17 @@ batch_begins : (words : List (List ℕ)) (job : Job) (asks : Asks words job) (co
     → (status_of o ≡ 0) ⊎ (status_of o ≡ 1) → BeginsWithOne job ws text count (text_of o)
 batch_begins words job asks count is ws text (Refused r) h low = absurd (refusal_not_low r low)
 batch_begins words job asks count is ws text (Paused j w t i l) h low = absurd (not_low 10 (omega arith) low)
-batch_begins words job asks count is ws text (Replayed i c n k) h low =
-    absurd (no_replay job.command job ws text i c n k h)
-batch_begins words job asks count is ws text (Extremal n) h low =
-    absurd (none-some count (sym (uncounted words job asks (verdict_once job.command job ws text n h)) ∙ is))
+batch_begins words job asks count is ws text (Replayed i c n k) h low = absurd (no_replay job ws text i c n k h)
+batch_begins words job asks count is ws text (Extremal n) (check, verdict) low =
+    absurd (none-some count (sym (uncounted words job asks (ap is_batched check)) ∙ is))
 batch_begins words job asks count is ws text (Ended t i c n s a) h low =
-    absurd (none-some count (sym (ended_once words job asks ws text t i c n s a h) ∙ is))
+    absurd (none-some count (sym (ended_subject job ws text t i c n s a h).once ∙ is))
 batch_begins words job asks count is ws text (Resampled t i l s a) h low =
-    absurd (none-some count (sym (uncounted words job asks (resampled_once job.command job ws text t i l s a h)) ∙ is))
+    let by = (resampled_made job ws text t i l s a h).by in
+    absurd (none-some count (sym (uncounted words job asks (ap is_batched by)) ∙ is))
 batch_begins words job asks count is ws text (Rounded t i c n s v) h low =
-    absurd (none-some count (sym (uncounted words job asks (rounds_once job.command job ws text t i c n s v h)) ∙ is))
+    let by = (rounded_made job ws text t i c n s v h).by in
+    absurd (none-some count (sym (uncounted words job asks (ap is_batched by)) ∙ is))
 batch_begins words job asks count is ws text (Batched t i ends) h low =
     begins words job asks count is ws text t i ends h
 
@@ -193,13 +181,9 @@ batched_line k is = absurd (false≢true is)
 
 -- the law
 pub first_sample : FirstSample
-first_sample words ws text job count status out asks is (o, comes, tells) low = elim (word_cases words ws text o comes) [
-  | inl (place, o_is, bad) ↦ absurd (bad.outside (job, asks))
-  | inr came ↦
-      let same : came.job ≡ job = same_job words came.job job came.asks asks in
-      subst (BeginsWithOne job ws text count) (sym tells.out_is)
-      (batch_begins words job asks count is ws text o (of_line job.command job ws text o
-      (batched_line job.command (counted_command words job asks count is))
-      (subst (λ (j : Job). ComesBy j.command j ws text o) same came.comes))
-      (subst (λ n. (n ≡ 0) ⊎ (n ≡ 1)) tells.status_is low))
-]
+first_sample words ws text job count status out asks is (o, comes, tells) low =
+    let line = batched_line job.command (counted_command words job asks count is) in
+    subst (BeginsWithOne job ws text count) (sym tells.out_is)
+    (batch_begins words job asks count is ws text o
+    (of_line job.command job ws text o line (asked_comes words job ws text o asks comes))
+    (subst (λ n. (n ≡ 0) ⊎ (n ≡ 1)) tells.status_is low))

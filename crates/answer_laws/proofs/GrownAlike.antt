@@ -2,9 +2,11 @@
 -- stacks that have it. Stacks of a run that may stop don't grow.
 use Rattle.std.proofs.Common.{◌≡◌, ℕ, Option, None, unwrap_or, sym, ap, ◌∙◌}
 use Rattle.pop_words.specs.declared.job.Job.{Job}
-use Rattle.answer_laws.specs.Stages.{at_last_height, GrownAlike}
-use Rattle.answer_laws.proofs.AlikeJobs.{AreAlike, said_by, comes_of_alike}
+use Rattle.told_runs.specs.Asking.{asked_by}
+use Rattle.top_call.specs.Answers.{wanted_by}
 use Rattle.top_call.proofs.PauseWords.{stopped_level}
+use Rattle.answer_laws.specs.Stages.{at_last_height, GrownAlike}
+use Rattle.answer_laws.proofs.AlikeJobs.{AreAlike, comes_of_alike}
 
 -- a job whose stacks don't grow has its last height from the start
 level : (job : Job) → job.grow ≡ None → at_last_height job ≡ job
@@ -17,8 +19,8 @@ level job none =
 pub grown_alike : GrownAlike
 grown_alike words others ws text status out d (o, comes, tells) =
     let alike : AreAlike d.job d.other = record {
-      command = ap (λ (j : Job). j.command) d.same;
-      said = ap said_by d.same;
+      wanted = ap wanted_by d.same;
+      asked = ap asked_by d.same;
     } in (
       o,
       comes_of_alike words others d.job d.other d.asks d.asks_other alike

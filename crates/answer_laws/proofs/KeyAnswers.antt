@@ -1,8 +1,7 @@
 -- The law of keys, said of answers. What is sampled makes a frame for stacks of one height; under a key its run, its rounds
 -- or its batch ends with samples just where the key's tables are among those for them, which are counted.
-use Rattle.std.proofs.Common.{inl, inr, ◌≡◌, ◌⊎◌, ◌↔◌, ◌≤◌, ℕ, ◌<◌, ◌^◌, Bool, true, false, List, [], ◌∷◌, length, get_or, sum, replicate, All, Option, None, Some, unwrap_or, refl, sym, ap, subst, ◌∙◌, arith}
+use Rattle.std.proofs.Common.{inl, inr, ◌≡◌, ◌⊎◌, ◌↔◌, ◌≤◌, ℕ, ◌<◌, ◌^◌, List, [], ◌∷◌, length, get_or, sum, replicate, All, Contains, Option, None, Some, unwrap_or, refl, sym, ap, subst, ◌∙◌, arith}
 use Rattle.std.specs.Prelude.{IfSome}
-use Rattle.std.proofs.lemmas.Bool.{false≢true}
 use Rattle.std.proofs.lemmas.List.{length-replicate, get_or-replicate}
 use Rattle.rand_chacha.specs.ChaCha.{key_of}
 use Rattle.pop_model.specs.Stacks.Origin.{Keyed}
@@ -30,38 +29,37 @@ use Rattle.key_samples.proofs.Exact.{exact_numbers, exact_round_numbers}
 use Rattle.key_samples.proofs.KeyedRuns.{keyed_rounds, keyed_runs}
 use Rattle.key_samples.proofs.KeyedEnds.{keyed_ends}
 use Rattle.graph_read.specs.Graphs.{GraphOf, IsGraph, IsVertex}
-use Rattle.graph_read.specs.Grids.{grid_of}
 use Rattle.graph_read.specs.Paths.{IsConnected}
-use Rattle.graph_read.proofs.GridGraphs.{grid_is_graph, first_vertex}
-use Rattle.graph_read.proofs.GridPaths.{grid_connected}
 use Rattle.cycle_popping.specs.Trees.{weights_of_tree}
 use Rattle.cycle_popping.proofs.TreeRows.{tree_weights}
 use Rattle.dimacs_read.specs.CnfText.{cnf_of}
 use Rattle.printed_samples.proofs.SoundSlots.{some_sum}
 use Rattle.pop_words.specs.declared.command.Command.{Command}
-use Rattle.pop_words.specs.declared.command.Command.TheVariants.{Formula, Orient, Tree, Resample, Check, Make, Rounds, Replay, Resume}
+use Rattle.pop_words.specs.declared.command.Command.TheVariants.{Check}
 use Rattle.pop_words.specs.declared.job.Job.{Job}
 use Rattle.pop_words.specs.Options.{quiet}
 use Rattle.pop_words.specs.CommandLines.{Asks}
 use Rattle.pop_words.proofs.JobsInRange.{asked_grow, asked_height}
-use Rattle.pop_words.proofs.ListTests.{all_at}
-use Rattle.pop_words.proofs.OneJob.{same_job}
 use Rattle.pop_watch.specs.Telling.{Watcher}
-use Rattle.pop_log.specs.Layers.{Placed}
 use Rattle.pop_print.specs.declared.facts.Facts.{Facts}
 use Rattle.told_runs.specs.Outcomes.{Outcome, end_status, status_of}
 use Rattle.told_runs.specs.Outcomes.Outcome.{Refused, Extremal, Ended, Resampled, Rounded, Batched, Paused, Replayed}
 use Rattle.told_runs.specs.Tellings.{Telling}
+use Rattle.told_runs.specs.Asking.{asked_by}
+use Rattle.job_subjects.specs.declared.wanted.Wanted.{Wanted}
+use Rattle.job_subjects.specs.Refusals.{refusal_status}
 use Rattle.job_subjects.specs.Subjects.{pair_weights, Subject, assignments, instance_over, IsSubjectOf}
-use Rattle.top_call.specs.Answers.{ComesBy, ComesOf, ComesOfCommand, IsOfLine, last_height, origin_for}
+use Rattle.top_call.specs.Answers.{ComesOf, last_height, origin_for, wanted_by}
 use Rattle.answer_laws.specs.KeyAnswers.{IsDrawn, IsKeyedAnswer, IsKeyedRounds, KeyedAnswers, KeyedRoundAnswers, keyed_frame}
 use Rattle.top_call.proofs.ByCommand.{of_line}
 use Rattle.answer_laws.proofs.EndedSubjects.{IsBatchOfSubject, IsEndOfSubject, batched_subject, ended_subject}
-use Rattle.top_call.proofs.Lifting.{no_replay}
-use Rattle.answer_laws.proofs.OneOutcome.{word_cases}
-use Rattle.answer_laws.proofs.RoundAnswers.{IsEndOfFormula, IsRounded, formula_frame, rounded_of, rounds_line_of}
+use Rattle.top_call.proofs.ReadCases.{no_replay, resampled_as, run_ends}
+use Rattle.answer_laws.proofs.OneOutcome.{asked_comes}
+use Rattle.answer_laws.proofs.OrderedCommands.{ordered_extremal, quiet_line, quiet_ordered, quiet_other}
+use Rattle.answer_laws.proofs.RoundAnswers.{IsEndOfRounds, rounded_of, rounds_cases, rounds_frame, rounds_line_of}
 use Rattle.answer_laws.proofs.RoundOutputs.{finished_rounds}
-use Rattle.answer_laws.proofs.SubjectFrames.{IsSampled, graph_known, subject_frame, subject_sampled}
+use Rattle.answer_laws.proofs.SubjectFrames.{HasFamily, subject_family, subject_frame}
+use Rattle.answer_laws.proofs.SubjectKinds.{holds_of, with_arrows}
 use Rattle.answer_laws.proofs.RefusalStatuses.{refusal_high}
 
 -- ---- stacks of one height under a key
@@ -97,24 +95,11 @@ slots_have g root is at joined k d within =
     some_sum (get_or (weights_of_tree g root) k d) (weights.some k d within) (weights.positive k d within)
 
 -- and so has whatever is sampled
-subject_has : (command : Command) (job : Job) (text : List ℕ) (s : Subject) → IsSubjectOf command job text s
-    → HaveWeights s.weights
-subject_has Formula job text s is =
-    subst (λ (t : Subject). HaveWeights t.weights) (sym is.is) (pairs_have is.formula.variables)
-subject_has Orient job text s is =
-    subst (λ (t : Subject). HaveWeights t.weights) (sym is.is) (pairs_have (length is.graph.edges))
-subject_has Tree job text s is =
-    subst (λ (t : Subject). HaveWeights t.weights) (sym is.is)
-    (slots_have is.graph job.root (graph_known text is.graph is.spelled) is.root_is is.joined)
-subject_has Make job text s is =
-    subst (λ (t : Subject). HaveWeights t.weights) (sym is.is)
-    (slots_have (grid_of job.size) 1 (grid_is_graph job.size is.side_is) (first_vertex job.size is.side_is)
-    (grid_connected job.size is.side_is))
-subject_has Resample job text s is = absurd is
-subject_has Rounds job text s is = absurd is
-subject_has Check job text s is = absurd is
-subject_has Replay job text s is = absurd is
-subject_has Resume job text s is = absurd is
+subject_has : (k : Command) (w : Wanted) (text : List ℕ) (s : Subject) → IsSubjectOf k w text s → HaveWeights s.weights
+subject_has k w text s =
+    let Have : Subject → Type 0 = λ t. HaveWeights t.weights in
+    holds_of text Have (with_arrows text Have (λ f events spelled are. pairs_have f.variables)
+    (λ g events spelled are. pairs_have (length g.edges)) (λ facts g root is at joined. slots_have g root is at joined)) k w s
 
 -- ---- what runs, rounds and batches end with
 
@@ -132,10 +117,10 @@ module _ (f : Frame) (frame : IsFrame f) (have : HaveWeights f.weights) (key : L
   i = under_key f key 0 height
 
   -- the end of the one-thread run
-  run_ends : IsExtremal f.family → (c : List ℕ) (pops : ℕ) (stuck : List Event) → IsFirstEnd i c pops stuck
+  first_ends : IsExtremal f.family → (c : List ℕ) (pops : ℕ) (stuck : List Event) → IsFirstEnd i c pops stuck
       → (samples : List (List ℕ)) → ((stuck ≡ []) × (values_at i.stacks c ∷ [] ≡ samples))
       ↔ TablesOf f (Samples f) samples (batch_numbers key height (length f.weights) 1)
-  run_ends extremal c pops stuck end samples = (
+  first_ends extremal c pops stuck end samples = (
     λ (none, is). subst (λ ws. TablesOf f (Samples f) ws (batch_numbers key height (length f.weights) 1)) is (
       (keyed_runs f frame have extremal key 0 height high (values_at i.stacks c)).0 (record {
         cursors = c;
@@ -181,98 +166,47 @@ module _ (f : Frame) (frame : IsFrame f) (have : HaveWeights f.weights) (key : L
 
 -- ---- what is drawn
 
--- a subject's stacks of one height make a frame
-keyed_is_frame : (s : Subject) → IsSampled s → (height : ℕ) → 0 < height → IsFrame (keyed_frame s height)
-keyed_is_frame s sampled height some =
-    subject_frame s sampled (replicate (length s.weights) height) (length-replicate (length s.weights) height)
-    (heights_above (length s.weights) height some)
-
-module _ (s : Subject) (sampled : IsSampled s) (have : HaveWeights s.weights) (key : List ℕ) (height : ℕ)
-    (some : 0 < height) where
+module _ (s : Subject) (family : HasFamily s) (extremal : IsExtremal s.family) (have : HaveWeights s.weights)
+    (key : List ℕ) (height : ℕ) (some : 0 < height) where
   -- the frame
   abbrev f : Frame
   f = keyed_frame s height
+
+  -- stacks of one height make it one
+  frame : IsFrame f
+  frame =
+      subject_frame s family (replicate (length s.weights) height) (length-replicate (length s.weights) height)
+      (heights_above (length s.weights) height some)
 
   -- the end of a run is drawn
   drawn_run : (facts : Facts) (i : Instance) (c : List ℕ) (pops : ℕ) (stuck : List Event) (a : Telling)
       → i ≡ instance_over (Keyed key 0 height) s → IsFirstEnd (instance_over (Keyed key 0 height) s) c pops stuck
       → IsDrawn f (Samples f) key height 1 (Ended facts i c pops stuck a)
-  drawn_run facts i c pops stuck a is end =
-      let frame : IsFrame f = keyed_is_frame s sampled height some in
-      record {
-        exact = exact_numbers f frame have sampled.extremal;
-        ends = λ samples.
-            subst (λ (j : Instance). ((stuck ≡ []) × (values_at j.stacks c ∷ [] ≡ samples))
-            ↔ TablesOf f (Samples f) samples (batch_numbers key height (length f.weights) 1)) (sym is)
-            (run_ends f frame have key height refl sampled.extremal c pops stuck end samples);
-      }
+  drawn_run facts i c pops stuck a is end = record {
+    exact = exact_numbers f frame have extremal;
+    ends = λ samples.
+        subst (λ (j : Instance). ((stuck ≡ []) × (values_at j.stacks c ∷ [] ≡ samples))
+        ↔ TablesOf f (Samples f) samples (batch_numbers key height (length f.weights) 1)) (sym is)
+        (first_ends f frame have key height refl extremal c pops stuck end samples);
+  }
 
   -- so are the ends of a batch
   drawn_batch : (facts : Facts) (i : Instance) (count : ℕ) (ends : List End)
       → AreEnds (instance_over (Keyed key 0 height) s) count ends
       → IsDrawn f (Samples f) key height count (Batched facts i ends)
-  drawn_batch facts i count ends are =
-      let frame : IsFrame f = keyed_is_frame s sampled height some in
-      record {
-        exact = exact_numbers f frame have sampled.extremal;
-        ends = keyed_ends f frame have sampled.extremal key height count refl ends are;
-      }
+  drawn_batch facts i count ends are = record {
+    exact = exact_numbers f frame have extremal;
+    ends = keyed_ends f frame have extremal key height count refl ends are;
+  }
 
 -- ---- what comes of a job
-
--- the command is one of these
-abbrev pub is_quiet : Command → Bool
-is_quiet Formula = true
-is_quiet Orient = true
-is_quiet Tree = true
-is_quiet Make = true
-is_quiet command = false
-
--- none of them gives a verdict
-no_verdict : (command : Command) (job : Job) (ws : List Watcher) (text : List ℕ) (n : ℕ) → is_quiet command ≡ true
-    → ComesOfCommand command job ws text (Extremal n) → ⊥
-no_verdict Formula job ws text n is h = h.comes.1.end
-no_verdict Orient job ws text n is h = h.comes.1.1.end
-no_verdict Tree job ws text n is h = h.comes.2.1
-no_verdict Make job ws text n is h = h.1
-no_verdict Resample job ws text n is h = false≢true is
-no_verdict Check job ws text n is h = false≢true is
-no_verdict Rounds job ws text n is h = false≢true is
-no_verdict Replay job ws text n is h = false≢true is
-no_verdict Resume job ws text n is h = false≢true is
-
--- or tells a run whose order isn't determined
-no_order : (command : Command) (job : Job) (ws : List Watcher) (text : List ℕ) (facts : Facts) (i : Instance)
-    (placed : List Placed) (stuck : List Event) (a : Telling) → is_quiet command ≡ true
-    → ComesOfCommand command job ws text (Resampled facts i placed stuck a) → ⊥
-no_order Formula job ws text facts i placed stuck a is h = h.comes.1.end
-no_order Orient job ws text facts i placed stuck a is h = h.comes.1.1.end
-no_order Tree job ws text facts i placed stuck a is h = h.comes.2.1
-no_order Make job ws text facts i placed stuck a is h = h.1
-no_order Resample job ws text facts i placed stuck a is h = false≢true is
-no_order Check job ws text facts i placed stuck a is h = false≢true is
-no_order Rounds job ws text facts i placed stuck a is h = false≢true is
-no_order Replay job ws text facts i placed stuck a is h = false≢true is
-no_order Resume job ws text facts i placed stuck a is h = false≢true is
-
--- it reads no certificate
-quiet_line : (command : Command) → is_quiet command ≡ true → IsOfLine command
-quiet_line Formula is = tt
-quiet_line Orient is = tt
-quiet_line Tree is = tt
-quiet_line Make is = tt
-quiet_line Resample is = tt
-quiet_line Check is = tt
-quiet_line Rounds is = tt
-quiet_line Replay is = absurd (false≢true is)
-quiet_line Resume is = absurd (false≢true is)
 
 -- a job's stacks under a key
 keyed_origin : (job : Job) (key : List ℕ) → job.stacks ≡ Key key
     → origin_for job ≡ Keyed (key_of key) 0 (last_height job)
 keyed_origin job key given = ap (λ spec. origin_of spec (last_height job)) given
 
--- an end that comes of a job's line
+-- an end that comes of a job
 pub record LowEnd (job : Job) (ws : List Watcher) (text : List ℕ) (o : Outcome) : Type 0 where
   pub facts : Facts
   pub instance : Instance
@@ -281,20 +215,20 @@ pub record LowEnd (job : Job) (ws : List Watcher) (text : List ℕ) (o : Outcome
   pub stuck : List Event
   pub telling : Telling
   pub told : o ≡ Ended facts instance cursors pops stuck telling
-  pub comes : ComesOfCommand job.command job ws text (Ended facts instance cursors pops stuck telling)
+  pub of : IsEndOfSubject job ws text facts instance cursors pops stuck telling
 
 -- a batch that comes of it
-pub record LowBatch (job : Job) (ws : List Watcher) (text : List ℕ) (o : Outcome) : Type 0 where
+pub record LowBatch (job : Job) (text : List ℕ) (o : Outcome) : Type 0 where
   pub facts : Facts
   pub instance : Instance
   pub ends : List End
   pub told : o ≡ Batched facts instance ends
-  pub comes : ComesOfCommand job.command job ws text (Batched facts instance ends)
+  pub of : IsBatchOfSubject job text facts instance ends
 
--- what comes of the line of such a command with status 0 or 1 is an end or a batch
-pub low_cases : (job : Job) → is_quiet job.command ≡ true → (ws : List Watcher) (text : List ℕ) (o : Outcome)
-    → ComesOf job ws text o → status_of o ≤ 1 → LowEnd job ws text o ⊎ LowBatch job ws text o
-low_cases job is ws text (Ended facts i c pops stuck a) h low = inl (record {
+-- what comes of a quiet command with status 0 or 1 is an end or a batch
+pub low_cases : (job : Job) → Contains quiet job.command → (ws : List Watcher) (text : List ℕ) (o : Outcome)
+    → ComesOf job ws text o → status_of o ≤ 1 → LowEnd job ws text o ⊎ LowBatch job text o
+low_cases job has ws text (Ended facts i c pops stuck a) h low = inl (record {
   facts = facts;
   instance = i;
   cursors = c;
@@ -302,19 +236,25 @@ low_cases job is ws text (Ended facts i c pops stuck a) h low = inl (record {
   stuck = stuck;
   telling = a;
   told = refl;
-  comes = h;
+  of = ended_subject job ws text facts i c pops stuck a h;
 })
-low_cases job is ws text (Batched facts i ends) h low =
-    inr (record { facts = facts; instance = i; ends = ends; told = refl; comes = h })
-low_cases job is ws text (Resampled facts i placed stuck a) h low =
-    absurd (no_order job.command job ws text facts i placed stuck a is h)
-low_cases job is ws text (Rounded facts i c rounds stuck short) h low =
-    let by = (rounded_of job.command job ws text facts i c rounds stuck short h).command_is in
-    absurd (false≢true (sym (ap is_quiet by) ∙ is))
-low_cases job is ws text (Extremal n) h low = absurd (no_verdict job.command job ws text n is h)
-low_cases job is ws text (Replayed i c n k) h low = absurd (no_replay job.command job ws text i c n k h)
-low_cases job is ws text (Refused r) h low = absurd (omega (arith, low, refusal_high r))
-low_cases job is ws text (Paused j w t i l) h low = absurd (omega (arith, low))
+low_cases job has ws text (Batched facts i ends) h low = inr (record {
+  facts = facts;
+  instance = i;
+  ends = ends;
+  told = refl;
+  of = batched_subject job ws text facts i ends h;
+})
+low_cases job has ws text (Resampled facts i placed stuck a) h low =
+    let end = resampled_as job.command (asked_by job) ws h.facts h.instance facts i placed stuck a
+    (run_ends job ws text (Resampled facts i placed stuck a) h (λ pops at. at)) in
+    absurd ((quiet_ordered job.command has).no_resampling end.0)
+low_cases job has ws text (Rounded facts i c rounds stuck short) h low =
+    absurd ((quiet_ordered job.command has).no_rounds (rounded_of job ws text facts i c rounds stuck short h).0)
+low_cases job has ws text (Extremal n) h low = absurd (quiet_other job.command Check has refl h.0)
+low_cases job has ws text (Replayed i c n k) h low = absurd (no_replay job ws text i c n k h)
+low_cases job has ws text (Refused r) h low = absurd (omega (arith, low, refusal_high r))
+low_cases job has ws text (Paused j w t i l) h low = absurd (omega (arith, low))
 
 module _ (words : List (List ℕ)) (job : Job) (asks : Asks words job) (key : List ℕ) (given : job.stacks ≡ Key key)
     (ws : List Watcher) (text : List ℕ) where
@@ -324,11 +264,8 @@ module _ (words : List (List ℕ)) (job : Job) (asks : Asks words job) (key : Li
 
   -- an end is drawn
   end_drawn : (facts : Facts) (i : Instance) (c : List ℕ) (pops : ℕ) (stuck : List Event) (a : Telling)
-      → ComesOfCommand job.command job ws text (Ended facts i c pops stuck a)
-      → IsKeyedAnswer job key text (Ended facts i c pops stuck a)
-  end_drawn facts i c pops stuck a h =
-      let of : IsEndOfSubject job.command job ws text facts i c pops stuck a =
-      ended_subject words job asks job.command refl ws text facts i c pops stuck a h in
+      → IsEndOfSubject job ws text facts i c pops stuck a → IsKeyedAnswer job key text (Ended facts i c pops stuck a)
+  end_drawn facts i c pops stuck a of =
       let s : Subject = of.subject in
       let origin = keyed_origin job key given in
       let f : Frame = keyed_frame s height in
@@ -337,18 +274,18 @@ module _ (words : List (List ℕ)) (job : Job) (asks : Asks words job) (key : Li
         is = of.is;
         drawn = subst (λ n. IsDrawn f (Samples f) (key_of key) height n (Ended facts i c pops stuck a))
             (ap (λ (n : Option ℕ). unwrap_or n 1) (sym of.once))
-            (drawn_run s (subject_sampled job.command job text s of.is) (subject_has job.command job text s of.is)
+            (drawn_run s (subject_family job.command (wanted_by job) text s of.is)
+            (ordered_extremal job.command (wanted_by job) text s of.ordered of.is)
+            (subject_has job.command (wanted_by job) text s of.is)
             (key_of key) height (height_some words job asks) facts i c pops stuck a
             (of.instance_is ∙ ap (λ o. instance_over o s) origin)
             (subst (λ o. IsFirstEnd (instance_over o s) c pops stuck) origin of.end));
       }
 
   -- so is a batch
-  batch_drawn : (facts : Facts) (i : Instance) (ends : List End)
-      → ComesOfCommand job.command job ws text (Batched facts i ends) → IsKeyedAnswer job key text (Batched facts i ends)
-  batch_drawn facts i ends h =
-      let of : IsBatchOfSubject job.command job text facts i ends =
-      batched_subject words job asks job.command refl ws text facts i ends h in
+  batch_drawn : (facts : Facts) (i : Instance) (ends : List End) → IsBatchOfSubject job text facts i ends
+      → IsKeyedAnswer job key text (Batched facts i ends)
+  batch_drawn facts i ends of =
       let s : Subject = of.subject in
       let f : Frame = keyed_frame s height in
       record {
@@ -356,45 +293,40 @@ module _ (words : List (List ℕ)) (job : Job) (asks : Asks words job) (key : Li
         is = of.is;
         drawn = subst (λ n. IsDrawn f (Samples f) (key_of key) height n (Batched facts i ends))
             (ap (λ (n : Option ℕ). unwrap_or n 1) (sym of.batch.asked_is))
-            (drawn_batch s (subject_sampled job.command job text s of.is) (subject_has job.command job text s of.is)
+            (drawn_batch s (subject_family job.command (wanted_by job) text s of.is)
+            (ordered_extremal job.command (wanted_by job) text s of.ordered of.is)
+            (subject_has job.command (wanted_by job) text s of.is)
             (key_of key) height (height_some words job asks) facts i of.batch.count ends
             (subst (λ o. AreEnds (instance_over o s) of.batch.count ends) (keyed_origin job key given) of.batch.are));
       }
 
 -- the law
 pub keyed_answers : KeyedAnswers
-keyed_answers job key words ws text o has given asks comes low = elim (word_cases words ws text o comes) [
-  | inl (place, is, bad) ↦
-      let two : status_of o ≡ 2 = ap status_of is in absurd (omega (arith, two, low))
-  | inr came ↦
-      let same : came.job ≡ job = same_job words came.job job came.asks asks in
-      let is : is_quiet job.command ≡ true = all_at is_quiet quiet refl job.command has in
-      elim (low_cases job is ws text o (of_line job.command job ws text o (quiet_line job.command is)
-      (subst (λ (j : Job). ComesBy j.command j ws text o) same came.comes)) low) [
-        | inl e ↦
-            subst (IsKeyedAnswer job key text) (sym e.told) (end_drawn words job asks key given ws text e.facts e.instance
-            e.cursors e.pops e.stuck e.telling e.comes)
-        | inr b ↦
-            subst (IsKeyedAnswer job key text) (sym b.told)
-            (batch_drawn words job asks key given ws text b.facts b.instance b.ends b.comes)
-      ]
-]
+keyed_answers job key words ws text o has given asks comes low =
+    elim (low_cases job has ws text o (of_line job.command job ws text o (quiet_line job.command has)
+    (asked_comes words job ws text o asks comes)) low) [
+      | inl e ↦
+          subst (IsKeyedAnswer job key text) (sym e.told) (end_drawn words job asks key given ws text e.facts e.instance
+          e.cursors e.pops e.stuck e.telling e.of)
+      | inr b ↦
+          subst (IsKeyedAnswer job key text) (sym b.told)
+          (batch_drawn words job asks key given ws text b.facts b.instance b.ends b.of)
+    ]
 
 -- ---- rounds
 
--- what comes of rounds under a key
+-- what comes of rounds under a key is drawn
 drawn_rounds : (words : List (List ℕ)) (job : Job) → Asks words job → (key : List ℕ) → job.stacks ≡ Key key
-    → job.command ≡ Rounds → (ws : List Watcher) (text : List ℕ) (o : Outcome) → ComesOf job ws text o
-    → status_of o ≤ 1 → IsKeyedRounds job key text o
-drawn_rounds words job asks key given by ws text (Rounded facts i c rounds stuck short) h low =
-    let r : IsRounded job.command (origin_for job) text facts i c rounds stuck short =
-    rounded_of job.command job ws text facts i c rounds stuck short h in
+    → (text : List ℕ) (facts : Facts) (i : Instance) (c : List ℕ) (rounds : ℕ) (stuck : List Event) (short : Option ℕ)
+    → IsEndOfRounds (origin_for job) text facts i c rounds stuck short
+    → IsKeyedRounds job key text (Rounded facts i c rounds stuck short)
+drawn_rounds words job asks key given text facts i c rounds stuck short own =
     let height : ℕ = last_height job in
-    let e : IsEndOfFormula (Keyed (key_of key) 0 height) (cnf_of text) i c rounds stuck short =
-    subst (λ o. IsEndOfFormula o (cnf_of text) i c rounds stuck short) (keyed_origin job key given) r.end in
+    let e : IsEndOfRounds (Keyed (key_of key) 0 height) text facts i c rounds stuck short =
+    subst (λ o. IsEndOfRounds o text facts i c rounds stuck short) (keyed_origin job key given) own in
     let s : Subject = assignments (cnf_of text) e.events in
     let f : Frame = keyed_frame s height in
-    let frame : IsFrame f = formula_frame text e.events (replicate (length s.weights) height) r.none e.of_formula
+    let frame : IsFrame f = rounds_frame text e.events (replicate (length s.weights) height) e.spelled e.of_formula
     (length-replicate (length s.weights) height ∙ length-replicate {A = List ℕ} (cnf_of text).variables (1 ∷ 1 ∷ []))
     (heights_above (length s.weights) height (height_some words job asks)) in
     let have : HaveWeights f.weights = pairs_have (cnf_of text).variables in
@@ -409,27 +341,17 @@ drawn_rounds words job asks key given by ws text (Rounded facts i c rounds stuck
             (rounds_ends f frame have (key_of key) height refl tt c rounds stuck short e.end samples);
       };
     }
-drawn_rounds words job asks key given by ws text (Ended t i c n s a) h low =
-    absurd (subst (λ k. ComesOfCommand k job ws text (Ended t i c n s a)) by h).comes.1.end
-drawn_rounds words job asks key given by ws text (Batched t i es) h low =
-    absurd (subst (λ k. ComesOfCommand k job ws text (Batched t i es)) by h).comes.1.end
-drawn_rounds words job asks key given by ws text (Resampled t i l s a) h low =
-    absurd (subst (λ k. ComesOfCommand k job ws text (Resampled t i l s a)) by h).comes.1.end
-drawn_rounds words job asks key given by ws text (Extremal n) h low =
-    absurd (subst (λ k. ComesOfCommand k job ws text (Extremal n)) by h).comes.1.end
-drawn_rounds words job asks key given by ws text (Replayed i c n k) h low =
-    absurd (no_replay job.command job ws text i c n k h)
-drawn_rounds words job asks key given by ws text (Refused r) h low = absurd (omega (arith, low, refusal_high r))
-drawn_rounds words job asks key given by ws text (Paused j w t i l) h low = absurd (omega (arith, low))
 
 -- the law of rounds
 pub keyed_round_answers : KeyedRoundAnswers
-keyed_round_answers job key words ws text o by given asks comes low = elim (word_cases words ws text o comes) [
-  | inl (place, is, bad) ↦
-      let two : status_of o ≡ 2 = ap status_of is in absurd (omega (arith, two, low))
-  | inr came ↦
-      let same : came.job ≡ job = same_job words came.job job came.asks asks in
-      drawn_rounds words job asks key given by ws text o
-      (of_line job.command job ws text o (rounds_line_of job.command by)
-      (subst (λ (j : Job). ComesBy j.command j ws text o) same came.comes)) low
-]
+keyed_round_answers job key words ws text o by given asks comes low =
+    elim (rounds_cases job by ws text o (of_line job.command job ws text o (rounds_line_of job.command by)
+    (asked_comes words job ws text o asks comes))) [
+      | inl (r, is, refuses) ↦
+          let high = refusal_high r in
+          let status : status_of o ≡ refusal_status r = ap status_of is in
+          absurd (omega (arith, low, high, status))
+      | inr e ↦
+          subst (IsKeyedRounds job key text) (sym e.told)
+          (drawn_rounds words job asks key given text e.facts e.instance e.cursors e.rounds e.stuck e.short e.is)
+    ]

@@ -1,22 +1,22 @@
 -- Events of a formula and of sinks: cubes that differ, over variables of two values.
-use Rattle.std.proofs.Common.{◌≡◌, ◌≢◌, ℕ, ◌<◌, List, [], ◌∷◌, Option, length, map, get_or, sym, ap, subst, ◌∙◌, arith, Contains}
+use Rattle.std.proofs.Common.{◌≡◌, ◌≢◌, ℕ, ◌<◌, ℤ, List, [], ◌∷◌, length, map, get_or, sym, ap, subst, ◌∙◌, arith, Contains}
 use Rattle.std.specs.List.Sorted.{IsStrictlyIncreasing}
-use Rattle.std.proofs.lemmas.List.{length-replicate, get_or-replicate}
+use Rattle.std.proofs.lemmas.List.{length-map, length-replicate, get_or-map, get_or-replicate}
 use Rattle.std.proofs.lemmas.List.Elements.{Contains-get_or}
-use Rattle.std.proofs.lemmas.Option.{same_Some, slice_get-get_or, slice_get_within, get_or_from_slice_get}
+use Rattle.std.proofs.lemmas.List.Kept.{AllPairs-from_increasing}
+use Rattle.std.proofs.lemmas.Option.{same_Some, slice_get-get_or, slice_get_within}
 use Rattle.pop_model.specs.Stacks.{Origin}
 use Rattle.pop_model.specs.Popping.{Cube, IsCube}
 use Rattle.pop_model.specs.Families.{Event, IsEvent, AreEvents}
-use Rattle.pop_model.specs.Families.Family.{Listed, Cycles}
+use Rattle.pop_model.specs.Families.Family.{Listed}
 use Rattle.pop_model.specs.Instances.{FamilyFits}
 use Rattle.pop_model.specs.Extremal.{IsExtremal, Exclude}
 use Rattle.pop_model.proofs.Following.{rising_demand}
 use Rattle.pop_instance.specs.Events.{FitVariables}
-use Rattle.pop_log.proofs.UnitEvents.{HaveCubes}
-use Rattle.dimacs_read.specs.Cnf.{Cnf}
-use Rattle.dimacs_read.specs.Falsifying.{AreEventsOf}
+use Rattle.dimacs_read.specs.Falsifying.{AreEventsOf, HasCube}
 use Rattle.graph_read.specs.Graphs.{GraphOf}
 use Rattle.sink_popping.specs.Sinks.{AreSinksOf}
+use Rattle.sink_popping.proofs.OneDirection.{sinks_extremal}
 use Rattle.sink_popping.proofs.SinkCubesLemmas.{pointing_small}
 use Rattle.job_subjects.specs.Subjects.{pair_weights}
 
@@ -26,7 +26,7 @@ alike e cube (v, x, y, has, other, differ) =
     differ (same_Some x y (sym (rising_demand e v x cube.rising has) ∙ rising_demand e v y cube.rising other))
 
 -- cubes of extremal rows differ: equal ones would share a variable and exclude nothing
-pub different_cubes : (rows : List (ℕ × Cube)) → IsStrictlyIncreasing (map (λ r. r.0) rows)
+different_cubes : (rows : List (ℕ × Cube)) → IsStrictlyIncreasing (map (λ r. r.0) rows)
     → ((r : ℕ × Cube) → Contains rows r → IsCube r.1) → IsExtremal (Listed rows) → AreEvents rows
 different_cubes rows rising cubes extremal = record {
   rising = rising;
@@ -48,35 +48,28 @@ different_cubes rows rising cubes extremal = record {
   cubes = λ k d within. cubes (get_or rows k d) (Contains-get_or rows k d within);
 }
 
--- events whose rows are cubes
-listed_cubes : (rows : List (ℕ × Cube)) → ((r : ℕ × Cube) → Contains rows r → IsCube r.1) → HaveCubes (Listed rows)
-listed_cubes rows cubes e (number, at) =
-    let r : ℕ × Cube = (number, e.cube) in
-    cubes r (e.unit, slice_get_within rows e.unit r at, get_or_from_slice_get rows e.unit r r at)
-
--- those of a formula
-pub formula_cubes : (f : Cnf) (rows : List (ℕ × Cube)) → AreEventsOf f.clauses rows → HaveCubes (Listed rows)
-formula_cubes f rows are = listed_cubes rows (λ r has. ((are.exact r.0 r.1).0 has).0.4.cube)
-
--- those of sinks
-pub sinks_cubes : (g : GraphOf) (rows : List (ℕ × Cube)) → AreSinksOf g rows → HaveCubes (Listed rows)
-sinks_cubes g rows are = listed_cubes rows (λ r has. ((are.exact r.0 r.1).0 has).sink.cube)
-
--- and cycles
-pub cycles_cubes : (heads : List (List (Option ℕ))) → HaveCubes (Cycles heads)
-cycles_cubes heads e event = event.0.cube
-
--- the events of an extremal formula
-pub formula_family : (f : Cnf) (rows : List (ℕ × Cube)) → AreEventsOf f.clauses rows → IsExtremal (Listed rows)
-    → AreEvents rows
-formula_family f rows are extremal =
-    different_cubes rows are.rising (λ r has. ((are.exact r.0 r.1).0 has).0.4.cube) extremal
+-- the events of a formula: of clauses with one cube only the first has an event, so no two cubes are the same
+pub formula_family : (clauses : List (List ℤ)) (rows : List (ℕ × Cube)) → AreEventsOf clauses rows → AreEvents rows
+formula_family clauses rows are = record {
+  rising = are.rising;
+  different = λ i j d less within same.
+      let r : ℕ × Cube = get_or rows i d in
+      let q : ℕ × Cube = get_or rows j d in
+      let size = length-map rows (λ (p : ℕ × Cube). p.0) in
+      let at_i = get_or-map (λ (p : ℕ × Cube). p.0) rows i d 0 (omega (arith, less, within)) in
+      let at_j = get_or-map (λ (p : ℕ × Cube). p.0) rows j d 0 within in
+      let step = AllPairs-from_increasing (map (λ (p : ℕ × Cube). p.0) rows) are.rising i j 0 less
+      (omega (arith, size, within)) in
+      let here = (are.exact r.0 r.1).0 (Contains-get_or rows i d (omega (arith, less, within))) in
+      let there = (are.exact q.0 q.1).0 (Contains-get_or rows j d within) in
+      there.1 r.0 (omega (arith, at_i, at_j, step)) (subst (HasCube clauses r.0) same here.0);
+  cubes = λ k d within. ((are.exact (get_or rows k d).0 (get_or rows k d).1).0 (Contains-get_or rows k d within)).0.4.cube;
+}
 
 -- the events of sinks
-pub sinks_family : (g : GraphOf) (rows : List (ℕ × Cube)) → AreSinksOf g rows → IsExtremal (Listed rows)
-    → AreEvents rows
-sinks_family g rows are extremal =
-    different_cubes rows are.rising (λ r has. ((are.exact r.0 r.1).0 has).sink.cube) extremal
+pub sinks_family : (g : GraphOf) (rows : List (ℕ × Cube)) → AreSinksOf g rows → AreEvents rows
+sinks_family g rows are =
+    different_cubes rows are.rising (λ r has. ((are.exact r.0 r.1).0 has).sink.cube) (sinks_extremal g rows are)
 
 -- the pairs of sinks are edges of the graph, with values below 2
 pub sinks_fit : (g : GraphOf) (rows : List (ℕ × Cube)) → AreSinksOf g rows → FitVariables (length g.edges) rows

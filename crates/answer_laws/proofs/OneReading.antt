@@ -1,4 +1,4 @@
--- A text is refused by a command's grammar in one way, or spells one formula or one graph.
+-- A text is refused by a grammar in one way, or spells a formula or a graph.
 use Rattle.std.proofs.Common.{inl, inr, ◌≡◌, ◌⊎◌, ℕ, ◌+◌, List, Ok, Err, Some, None, refl, sym, ap, ◌∙◌}
 use Rattle.pop_edge.specs.declared.refusal.ReadRefusal.{ReadRefusal}
 use Rattle.pop_edge.specs.declared.refusal.ReadRefusal.TheVariants.{Malformed, Count, EmptyClause, Limit, ReadFault, OutOfMemory}
@@ -6,10 +6,7 @@ use Rattle.dimacs_read.specs.Cnf.{Cnf, first_empty}
 use Rattle.dimacs_read.specs.CnfText.{AnswersCnf, cnf_refusal, cnf_of}
 use Rattle.graph_read.specs.Graphs.{GraphOf}
 use Rattle.graph_read.specs.GraphText.{AnswersGraph, graph_refusal}
-use Rattle.pop_words.specs.declared.command.Command.{Command}
-use Rattle.pop_words.specs.declared.command.Command.TheVariants.{Formula, Orient, Tree, Resample, Check, Make, Rounds, Replay, Resume}
 use Rattle.job_subjects.specs.Refused.{IsOfText, IsUnread}
-use Rattle.top_call.specs.Answers.{Refuses}
 use Rattle.job_subjects.specs.Refusals.{unread}
 use Rattle.answer_laws.proofs.RefusedStacks.{IsOneRefusal}
 
@@ -70,20 +67,16 @@ pub no_graph_refusal : (text : List ℕ) (g : GraphOf) (r : ReadRefusal) → Ans
     → AnswersGraph text (Err r) → ⊥
 no_graph_refusal text g r (none, g_is) of h = let some = graph_refused text r of h in absurd (cc)
 
--- a command's grammar refuses a text in one way
-pub one_refusal : (command : Command) (text : List ℕ) (a b : ReadRefusal) → IsOfText a → IsOfText b
-    → Refuses command text a → Refuses command text b → a ≡ b
-one_refusal Formula text a b of of' h h' = one_cnf_refusal text a b of of' h h'
-one_refusal Orient text a b of of' h h' = one_graph_refusal text a b of of' h h'
-one_refusal Tree text a b of of' h h' = one_graph_refusal text a b of of' h h'
-one_refusal Resample text a b of of' h h' = one_cnf_refusal text a b of of' h h'
-one_refusal Check text a b of of' h h' = one_cnf_refusal text a b of of' h h'
-one_refusal Make text a b of of' h h' = absurd h
-one_refusal Rounds text a b of of' h h' = one_cnf_refusal text a b of of' h h'
-one_refusal Replay text a b of of' h h' = absurd h
-one_refusal Resume text a b of of' h h' = absurd h
+-- a text that is refused once by a grammar is refused as one
+one_unread : (Refused : ReadRefusal → Type 0)
+    → ((a b : ReadRefusal) → IsOfText a → IsOfText b → Refused a → Refused b → a ≡ b) → IsOneRefusal (IsUnread Refused)
+one_unread Refused one r s h h' =
+    h.is ∙ ap unread (one h.cause h'.cause h.of_text h'.of_text h.refused h'.refused) ∙ sym h'.is
 
--- so it refuses it as one
-pub one_unread : (command : Command) (text : List ℕ) → IsOneRefusal (IsUnread (Refuses command text))
-one_unread command text r s h h' =
-    h.is ∙ ap unread (one_refusal command text h.cause h'.cause h.of_text h'.of_text h.refused h'.refused) ∙ sym h'.is
+-- so is one of a formula
+pub one_unread_cnf : (text : List ℕ) → IsOneRefusal (IsUnread (λ cause. AnswersCnf text (Err cause)))
+one_unread_cnf text = one_unread (λ cause. AnswersCnf text (Err cause)) (one_cnf_refusal text)
+
+-- and one of a graph
+pub one_unread_graph : (text : List ℕ) → IsOneRefusal (IsUnread (λ cause. AnswersGraph text (Err cause)))
+one_unread_graph text = one_unread (λ cause. AnswersGraph text (Err cause)) (one_graph_refusal text)

@@ -1,17 +1,11 @@
--- Bytes that are replayed or resumed have one outcome, but for the order of pops of a resampling. They are too many, or no
--- certificate in one way, or one certificate; what its command runs is refused in one way, or made as one thing; and its
--- log text is refused in one way, or is that of one log.
-use Rattle.std.proofs.Common.{inl, inr, ◌≡◌, ◌≤◌, ℕ, List, [], length, refl, sym, ap, ap₂, subst, ◌∙◌, arith, true, false}
+-- Bytes that are replayed or resumed have one outcome, but for the order of pops of a resampling. They are too many, or
+-- no certificate in one way, or one certificate; what its command runs is refused in one way, or made as one thing; and
+-- its log text is refused in one way, or is that of one log.
+use Rattle.std.proofs.Common.{inl, inr, ◌≡◌, ◌≤◌, ℕ, List, length, refl, sym, ap, ap₂, subst, ◌∙◌, arith}
 use Rattle.pop_model.specs.Instances.{Instance}
 use Rattle.pop_model.specs.Logs.{LogRecord}
-use Rattle.graph_read.specs.Grids.{grid_of}
-use Rattle.cycle_popping.specs.Trees.{weights_of_tree}
-use Rattle.pop_words.specs.declared.command.Command.{Command}
-use Rattle.pop_words.specs.declared.command.Command.TheVariants.{Formula, Orient, Tree, Resample, Make}
-use Rattle.pop_words.specs.declared.job.Job.{Job}
 use Rattle.pop_watch.specs.Telling.{Watcher}
 use Rattle.pop_print.specs.declared.facts.Facts.{Facts}
-use Rattle.pop_print.specs.declared.facts.Facts.TheVariants.{Made as MadeFacts}
 use Rattle.pop_log.specs.LogVersions.{IsReadAs}
 use Rattle.pop_log.specs.Refusals.{IsLogRefusal}
 use Rattle.pop_log.proofs.ExactReading.{exact_reading, read_once}
@@ -23,25 +17,22 @@ use Rattle.run_cert.specs.Certificates.{Certificate, IsCertOf}
 use Rattle.run_cert.specs.Looks.{IsLook}
 use Rattle.run_cert.proofs.OneText.{one_cert}
 use Rattle.run_cert.proofs.Unrefused.{unrefused, one_refusal as cert_refused_once}
-use Rattle.told_runs.specs.Names.{names_for}
-use Rattle.told_runs.specs.Outcomes.{Outcome}
-use Rattle.told_runs.specs.Outcomes.Outcome.{Refused, Replayed}
-use Rattle.job_subjects.specs.Made.{IsMadeBy}
-use Rattle.top_call.specs.Answers.{origin_for, wanted_by, ComesOfCommand, ComesOf}
-use Rattle.answer_laws.specs.Orders.{HasOneEnd}
-use Rattle.answer_laws.specs.Laws.{Agree}
-use Rattle.top_call.specs.Replays.{cert_limit, job_of, wanted_of, IsNoCert, IsCertified, IsLogRefused, IsRefusedCert, IsRefused, HasLog, IsReplay, IsReplayed, ComesOfReplaying, ComesOfCert}
-use Rattle.top_call.specs.Resumes.{ComesOfResuming, IsResumed}
-use Rattle.answer_laws.proofs.OnePause.{one_made}
-use Rattle.answer_laws.proofs.OneOutcome.{alike_read, one_read, made_unrefused}
 use Rattle.job_subjects.specs.declared.refusal.Refusal.{Refusal}
 use Rattle.job_subjects.specs.declared.refusal.Refusal.TheVariants.{Malformed}
 use Rattle.job_subjects.specs.Refusals.{unlogged}
-use Rattle.job_subjects.specs.Refused.{RefusesFormula, RefusesOrienting, RefusesTree}
-use Rattle.answer_laws.proofs.RefusedStacks.{IsOneRefusal, sound_unrefused}
-use Rattle.answer_laws.proofs.RefusedFormulas.{made_formula_unrefused}
-use Rattle.answer_laws.proofs.RefusedGraphs.{orienting_unrefused, tree_unrefused}
-use Rattle.answer_laws.proofs.RefusedOr.{IsApart, alike_or, refused_alike, replaying_cases, resuming_cases}
+use Rattle.told_runs.specs.Names.{names_for}
+use Rattle.told_runs.specs.Outcomes.{Outcome}
+use Rattle.told_runs.specs.Outcomes.Outcome.{Replayed}
+use Rattle.top_call.specs.Replays.{cert_limit, job_of, wanted_of, IsNoCert, IsCertified, IsLogRefused, IsRefusedCert, IsRefused, HasLog, IsReplay, IsReplayed, ComesOfReplaying, ComesOfCert}
+use Rattle.top_call.specs.Resumes.{ComesOfResuming, IsResumed}
+use Rattle.top_call.specs.Answers.{ComesOf}
+use Rattle.answer_laws.specs.Orders.{HasOneEnd}
+use Rattle.answer_laws.specs.Laws.{Agree}
+use Rattle.answer_laws.proofs.RefusedStacks.{IsOneRefusal}
+use Rattle.answer_laws.proofs.RefusedOr.{IsApart, alike_or, replaying_cases, resuming_cases}
+use Rattle.answer_laws.proofs.OneSubject.{one_made}
+use Rattle.answer_laws.proofs.OneRefusal.{one_text_refusal, made_unrefused}
+use Rattle.answer_laws.proofs.OneOutcome.{alike_read, one_read}
 
 -- bytes that are no certificate are refused in one way
 one_no_cert : (bytes : List ℕ) → IsOneRefusal (IsNoCert bytes)
@@ -62,40 +53,11 @@ no_cert_or_cert bytes cert r short is (inl (long, told)) = omega (arith, long, s
 no_cert_or_cert bytes cert r short is (inr (short', (l, code, bad, told))) =
     let memory : MalformedCert l code ≡ CertMemory = unrefused bytes cert is (MalformedCert l code) bad in absurd (cc)
 
--- where what a command runs is made, nothing else refuses it
-made_or_refused : (k : Command) (job : Job) (ws : List Watcher) (text : List ℕ) (facts : Facts) (i : Instance)
-    → IsMadeBy k (wanted_by job) text facts i → (r : Refusal) → ComesOfCommand k job ws text (Refused r) → ⊥
-made_or_refused Formula job ws text facts i made r h =
-    made_formula_unrefused false (origin_for job) job.count made.formula facts i made.made r
-    (subst (λ f. RefusesFormula false (origin_for job) job.count f r) (h.spelled.1 ∙ sym made.spelled.1) h.comes)
-made_or_refused Orient job ws text facts i made r h =
-    orienting_unrefused (origin_for job) job.count made.graph r made.made.touched made.made.is.sound made.made.is.few
-    (subst (λ g. RefusesOrienting (origin_for job) job.count g r) (h.spelled.1 ∙ sym made.spelled.1) h.comes)
-made_or_refused Tree job ws text facts i made r h =
-    tree_unrefused (origin_for job) job.count job.root made.graph r made.made.last made.made.joined made.made.is.sound
-    made.made.is.few
-    (subst (λ g. RefusesTree (origin_for job) job.count job.root g r) (h.spelled.1 ∙ sym made.spelled.1) h.comes)
-made_or_refused Resample job ws text facts i made r h =
-    made_formula_unrefused true (origin_for job) job.count made.formula facts i made.made r
-    (subst (λ f. RefusesFormula true (origin_for job) job.count f r) (h.spelled.1 ∙ sym made.spelled.1) h.comes)
-made_or_refused Make job ws text facts i made r h =
-    sound_unrefused (MadeFacts job.size) (origin_for job) (weights_of_tree (grid_of job.size) 1) job.count r made.sound
-    made.few h
-made_or_refused k job ws text facts i made r h = absurd made
-
--- nor does its line
-line_or_made : (cert : Certificate) (facts : Facts) (i : Instance) (r : Refusal) → IsCertified cert facts i
-    → ComesOf (job_of cert.head) [] cert.input (Refused r) → ⊥
-line_or_made cert facts i r certified (inl u) =
-    made_unrefused cert.head.command (wanted_of cert.head) cert.input facts i r certified.made u
-line_or_made cert facts i r certified (inr h) =
-    made_or_refused cert.head.command (job_of cert.head) [] cert.input facts i certified.made r h
-
 -- what a certificate runs is one thing
 one_certified : (cert : Certificate) (facts told : Facts) (i j : Instance) → IsCertified cert facts i
     → IsCertified cert told j → (facts ≡ told) × (i ≡ j)
 one_certified cert facts told i j a b =
-    one_made cert.head.command (wanted_of cert.head) cert.input facts told i j a.made b.made
+    one_made (wanted_of cert.head) cert.input facts told i j a.made b.made
 
 -- a log text is refused in one way
 one_log_refused : (cert : Certificate) → IsOneRefusal (IsLogRefused cert)
@@ -117,41 +79,36 @@ log_or_refused cert r a b =
     a.of_text (exact_reading (names_for b.facts) b.instance b.certified.is b.certified.numbers cert.log_text b.log b.read
     a.cause here)
 
--- the line of a command refuses an input in one way
-one_line : (cert : Certificate) → IsOneRefusal (λ r. ComesOf (job_of cert.head) [] cert.input (Refused r))
-one_line cert r s h h' =
-    let same : Refused r ≡ Refused s =
-    refused_alike r (Refused s)
-    (alike_read (job_of cert.head) [] [] cert.input (Refused r) (Refused s) (λ ordered log. refl) h h') in
-    cc
-
 -- a certificate is refused in one way
-one_refused_cert : (cert : Certificate) → IsOneRefusal (IsRefusedCert ComesOf cert)
-one_refused_cert cert r s (inl h) (inl h') = one_line cert r s h h'
-one_refused_cert cert r s (inl h) (inr b) = absurd (line_or_made cert b.facts b.instance r b.certified h)
-one_refused_cert cert r s (inr a) (inl h') = absurd (line_or_made cert a.facts a.instance s a.certified h')
+one_refused_cert : (cert : Certificate) → IsOneRefusal (IsRefusedCert cert)
+one_refused_cert cert r s (inl h) (inl h') = one_text_refusal (wanted_of cert.head) cert.input r s h h'
+one_refused_cert cert r s (inl h) (inr b) =
+    absurd (made_unrefused (wanted_of cert.head) cert.input b.facts b.instance r b.certified.made h)
+one_refused_cert cert r s (inr a) (inl h') =
+    absurd (made_unrefused (wanted_of cert.head) cert.input a.facts a.instance s a.certified.made h')
 one_refused_cert cert r s (inr a) (inr b) = one_log_refused cert r s a b
 
 -- and not where it has a log
-log_or_refused_cert : (cert : Certificate) (r : Refusal) → IsRefusedCert ComesOf cert r → HasLog cert → ⊥
-log_or_refused_cert cert r (inl h) b = line_or_made cert b.facts b.instance r b.certified h
+log_or_refused_cert : (cert : Certificate) (r : Refusal) → IsRefusedCert cert r → HasLog cert → ⊥
+log_or_refused_cert cert r (inl h) b =
+    made_unrefused (wanted_of cert.head) cert.input b.facts b.instance r b.certified.made h
 log_or_refused_cert cert r (inr a) b = log_or_refused cert r a b
 
 -- bytes are refused in one way
-one_refused : (bytes : List ℕ) → IsOneRefusal (IsRefused ComesOf bytes)
+one_refused : (bytes : List ℕ) → IsOneRefusal (IsRefused bytes)
 one_refused bytes r s (inl h) (inl h') = one_no_cert bytes r s h h'
 one_refused bytes r s (inl h) (inr b) = absurd (no_cert_or_cert bytes b.cert r b.short b.is h)
 one_refused bytes r s (inr a) (inl h') = absurd (no_cert_or_cert bytes a.cert s a.short a.is h')
 one_refused bytes r s (inr a) (inr b) =
     one_refused_cert b.cert r s
-    (subst (λ c. IsRefusedCert ComesOf c r) (one_cert bytes a.cert b.cert a.is b.is) a.comes) b.comes
+    (subst (λ c. IsRefusedCert c r) (one_cert bytes a.cert b.cert a.is b.is) a.comes) b.comes
 
 -- and not where they are a certificate that has a log
 pub accepted_or_refused : (bytes : List ℕ) (cert : Certificate) (r : Refusal) → length bytes ≤ cert_limit
-    → IsCertOf bytes cert → HasLog cert → IsRefused ComesOf bytes r → ⊥
+    → IsCertOf bytes cert → HasLog cert → IsRefused bytes r → ⊥
 accepted_or_refused bytes cert r short is has (inl h) = no_cert_or_cert bytes cert r short is h
 accepted_or_refused bytes cert r short is has (inr a) =
-    log_or_refused_cert cert r (subst (λ c. IsRefusedCert ComesOf c r) (one_cert bytes a.cert cert a.is is) a.comes) has
+    log_or_refused_cert cert r (subst (λ c. IsRefusedCert c r) (one_cert bytes a.cert cert a.is is) a.comes) has
 
 -- a run stands in one way
 one_look : (i : Instance) (c : List ℕ) (a b : Look) → IsLook i c a → IsLook i c b → a ≡ b
@@ -183,30 +140,29 @@ one_replayed cert o p a b =
     (subst (λ l. IsReplay y.instance l o) log (subst (λ i. IsReplay i x.log o) same.1 a.is)) b.is
 
 -- bytes that are replayed aren't refused
-replayed_apart : (bytes : List ℕ) → IsApart (IsRefused ComesOf bytes) (ComesOfCert IsReplayed bytes)
+replayed_apart : (bytes : List ℕ) → IsApart (IsRefused bytes) (ComesOfCert IsReplayed bytes)
 replayed_apart bytes r refused o b = accepted_or_refused bytes b.cert r b.short b.is b.comes.has refused
 
 -- so they have one outcome
-pub one_replaying : (bytes : List ℕ) (o p : Outcome) → ComesOfReplaying ComesOf bytes o
-    → ComesOfReplaying ComesOf bytes p → o ≡ p
+pub one_replaying : (bytes : List ℕ) (o p : Outcome) → ComesOfReplaying bytes o → ComesOfReplaying bytes p → o ≡ p
 one_replaying bytes o p h h' =
-    alike_or (λ o p. o ≡ p) (λ o p is. is) (IsRefused ComesOf bytes) (one_refused bytes) (ComesOfCert IsReplayed bytes)
+    alike_or (λ o p. o ≡ p) (λ o p is. is) (IsRefused bytes) (one_refused bytes) (ComesOfCert IsReplayed bytes)
     (ComesOfCert IsReplayed bytes) (replayed_apart bytes) (replayed_apart bytes)
     (λ o p a b. one_replayed b.cert o p (subst (λ c. IsReplayed c o) (one_cert bytes a.cert b.cert a.is b.is) a.comes)
-    b.comes) o p (replaying_cases ComesOf bytes o h) (replaying_cases ComesOf bytes p h')
+    b.comes) o p (replaying_cases bytes o h) (replaying_cases bytes p h')
 
 -- those that are resumed aren't refused
 resumed_apart : (ws : List Watcher) (bytes : List ℕ)
-    → IsApart (IsRefused ComesOf bytes) (ComesOfCert (IsResumed ComesOf ws) bytes)
+    → IsApart (IsRefused bytes) (ComesOfCert (IsResumed ComesOf ws) bytes)
 resumed_apart ws bytes r refused o b = accepted_or_refused bytes b.cert r b.short b.is b.comes.has refused
 
 -- their outcomes are alike where those of the line of the certificate's command are
-alike_resumed : (Alike : Outcome → Outcome → Type 0) → ((o p : Outcome) → o ≡ p → Alike o p) → (ws vs : List Watcher)
-    (bytes : List ℕ) → ((cert : Certificate) → IsCertOf bytes cert → (o p : Outcome)
+pub alike_resumed : (Alike : Outcome → Outcome → Type 0) → ((o p : Outcome) → o ≡ p → Alike o p)
+    → (ws vs : List Watcher) (bytes : List ℕ) → ((cert : Certificate) → IsCertOf bytes cert → (o p : Outcome)
     → ComesOf (job_of cert.head) ws cert.input o → ComesOf (job_of cert.head) vs cert.input p → Alike o p)
     → (o p : Outcome) → ComesOfResuming ComesOf ws bytes o → ComesOfResuming ComesOf vs bytes p → Alike o p
 alike_resumed Alike same ws vs bytes alike o p h h' =
-    alike_or Alike same (IsRefused ComesOf bytes) (one_refused bytes) (ComesOfCert (IsResumed ComesOf ws) bytes)
+    alike_or Alike same (IsRefused bytes) (one_refused bytes) (ComesOfCert (IsResumed ComesOf ws) bytes)
     (ComesOfCert (IsResumed ComesOf vs) bytes) (resumed_apart ws bytes) (resumed_apart vs bytes)
     (λ o p a b. alike b.cert b.is o p
     (subst (λ (c : Certificate). ComesOf (job_of c.head) ws c.input o) (one_cert bytes a.cert b.cert a.is b.is)

@@ -1,16 +1,17 @@
 -- The exact law on printed bytes. What is printed tells the sample, but at loops of a graph that is oriented; so words that
 -- print it are answered by one like it. The exchange of another, with the values of loops carried along, makes rows of
 -- which the words print that one, and goes back. Rounds are counted by the law of rounds.
-use Rattle.std.proofs.Common.{inl, inr, ◌≡◌, ℕ, ◌<◌, ◌^◌, true, List, [], ◌∷◌, ◌++◌, ◌*◌, length, map, get_or, slice_index, codes, refl, sym, ap, subst, ◌∙◌, arith, append_assoc, All, None}
+use Rattle.std.proofs.Common.{inl, inr, ◌≡◌, ℕ, ◌<◌, ◌^◌, List, [], ◌∷◌, ◌++◌, ◌*◌, length, map, get_or, slice_index, codes, refl, sym, ap, subst, ◌∙◌, arith, append_assoc, All, Contains, None, Ok}
 use Rattle.std.proofs.lemmas.List.{append_cancel_left, length-replicate, get_or_default}
 use Rattle.std.proofs.lemmas.List.Elements.{Contains-get_or}
 use Rattle.std.proofs.lemmas.Option.{none-some}
 use Rattle.pop_model.specs.Stacks.{row_of}
 use Rattle.pop_model.specs.Stacks.Origin.{Given as GivenRows}
 use Rattle.pop_model.specs.Popping.{Cube, cursor, values_at}
-use Rattle.pop_model.specs.Families.{Event, Family}
-use Rattle.pop_model.specs.Families.Family.{Listed, Cycles}
+use Rattle.pop_model.specs.Families.{Event}
+use Rattle.pop_model.specs.Families.Family.{Listed}
 use Rattle.pop_model.specs.Instances.{Instance}
+use Rattle.pop_model.specs.Extremal.{IsExtremal}
 use Rattle.pop_model.specs.Runs.{IsFirstEnd}
 use Rattle.pop_model.specs.Text.{line}
 use Rattle.pop_model.proofs.Diamond.{names_it}
@@ -31,19 +32,18 @@ use Rattle.round_samples.specs.Sampled.{Sampled, SampledBy}
 use Rattle.round_samples.proofs.ExactCounts.{exact_rounds}
 use Rattle.round_samples.proofs.ExchangedRounds.{rounds_suit}
 use Rattle.graph_read.specs.declared.edge.Edge.{Edge}
-use Rattle.graph_read.specs.Graphs.{GraphOf}
+use Rattle.graph_read.specs.Graphs.{GraphOf, IsGraph, IsVertex}
 use Rattle.graph_read.specs.Incidence.{is_loop}
-use Rattle.cycle_popping.specs.Trees.{heads_of_tree, weights_of_tree}
 use Rattle.sink_popping.specs.Sinks.{AreSinksOf}
-use Rattle.dimacs_read.specs.Cnf.{Cnf, first_empty}
-use Rattle.dimacs_read.specs.CnfText.{cnf_of, cnf_refusal}
+use Rattle.dimacs_read.specs.Cnf.{Cnf}
+use Rattle.dimacs_read.specs.CnfText.{AnswersCnf, cnf_of, cnf_refusal}
 use Rattle.dimacs_read.specs.Falsifying.{AreEventsOf}
 use Rattle.dimacs_read.proofs.GrammarLaw as cnf
 use Rattle.pop_words.specs.declared.command.Command.{Command}
-use Rattle.pop_words.specs.declared.command.Command.TheVariants.{Formula, Orient, Tree, Resample, Check, Make, Rounds, Replay, Resume}
+use Rattle.pop_words.specs.declared.command.Command.TheVariants.{Rounds}
 use Rattle.pop_words.specs.declared.job.Job.{Job}
+use Rattle.pop_words.specs.Options.{quiet}
 use Rattle.pop_words.proofs.GivenAlone.{asked_alone}
-use Rattle.pop_words.proofs.OneJob.{same_job}
 use Rattle.pop_watch.specs.Telling.{Watcher}
 use Rattle.pop_print.specs.declared.facts.Facts.{Facts}
 use Rattle.pop_print.specs.declared.facts.Facts.TheVariants.{Formula as FormulaFacts, Orient as OrientFacts, Tree as TreeFacts, Made as MadeFacts}
@@ -53,28 +53,31 @@ use Rattle.told_runs.specs.Names.{names_for}
 use Rattle.told_runs.specs.Outcomes.{Outcome, end_status, run_text, status_of, text_of}
 use Rattle.told_runs.specs.Outcomes.Outcome.{Ended}
 use Rattle.told_runs.specs.Tellings.{Telling, telling_text}
-use Rattle.job_subjects.specs.Subjects.{pair_weights, instance_of, Subject, assignments, arrows_to, instance_over, orientations, IsSubjectOf}
-use Rattle.top_call.specs.Answers.{ComesBy, ComesOf, ComesOfCommand, ComesOfJob, IsOutcome}
+use Rattle.job_subjects.specs.declared.wanted.Wanted.{Wanted}
+use Rattle.job_subjects.specs.Subjects.{pair_weights, Subject, assignments, arrows_to, instance_over, orientations, IsSubjectOf}
+use Rattle.top_call.specs.Answers.{wanted_by, ComesOf, IsOutcome}
 use Rattle.answer_laws.specs.ExactAnswers.{IsSampledBy, frame_of, frame_over, over_rows}
 use Rattle.answer_laws.specs.EverySample.{Satisfies}
 use Rattle.answer_laws.specs.PrintedOnce.{AreBits, AreSlots}
 use Rattle.answer_laws.specs.RoundAnswers.{IsRoundedBy, IsRoundedOutput, rounded_text}
 use Rattle.answer_laws.specs.ExactOutputs.{AreTelling, AskOver, ExactOutputs, ExactRoundOutputs, PrintsOver}
 use Rattle.top_call.proofs.ByCommand.{of_line}
-use Rattle.answer_laws.proofs.EndedSubjects.{IsEndOfSubject, batched_subject, ended_subject}
+use Rattle.answer_laws.proofs.EndedSubjects.{IsEndOfSubject, ended_subject}
 use Rattle.answer_laws.proofs.EverySample.{every_assignment}
-use Rattle.answer_laws.proofs.ExactAnswers.{exchanged_answers, of_rows, sound_rows, subject_line, values_are}
-use Rattle.answer_laws.proofs.KeyAnswers.{is_quiet, low_cases}
+use Rattle.answer_laws.proofs.ExactAnswers.{exchanged_answers, of_rows, sound_rows, values_are}
+use Rattle.answer_laws.proofs.KeyAnswers.{low_cases}
 use Rattle.job_subjects.proofs.MadeInstances.{count_of_weights, slots_of_weights}
 use Rattle.answer_laws.proofs.LoopedEdges.{DifferAtLoops, bits_weigh, carried, carried_alike, carried_back, carried_sample, same_lines}
-use Rattle.answer_laws.proofs.OneEvents.{one_events, one_sinks}
-use Rattle.answer_laws.proofs.OneOutcome.{word_cases}
+use Rattle.answer_laws.proofs.OneOutcome.{asked_comes}
+use Rattle.answer_laws.proofs.OneSubject.{one_subject}
+use Rattle.answer_laws.proofs.OrderedCommands.{ordered_extremal, quiet_line, quiet_ordered}
 use Rattle.answer_laws.proofs.PrintedApart.{assignments_apart, orientations_apart, trees_apart}
-use Rattle.answer_laws.proofs.RoundAnswers.{IsRounded, answered_by, comes_of_job, formula_frame, pairs_light}
+use Rattle.answer_laws.proofs.RoundAnswers.{IsEndOfRounds, answered_by, comes_of_job, pairs_light, rounds_frame, rounds_subject}
 use Rattle.answer_laws.proofs.RoundOutputs.{round_outputs}
 use Rattle.answer_laws.proofs.RowWords.{rows_line}
 use Rattle.answer_laws.proofs.SatisfiedFormulas.{sample_bits}
-use Rattle.answer_laws.proofs.SubjectFrames.{IsSampled, graph_known, subject_frame, subject_sampled}
+use Rattle.answer_laws.proofs.SubjectFrames.{subject_family, subject_frame}
+use Rattle.answer_laws.proofs.SubjectKinds.{graph_known, holds_of}
 
 -- ---- samples at ends
 
@@ -100,30 +103,6 @@ sample_at f frame w c rows s =
           (names_it e.cube p (Contains-get_or e.cube k d within)) in
           sym (at p.0 (omega (arith, known, size, count))) ∙ all k d within);
     })
-
--- ---- one subject
-
--- a job and a text ask for one subject
-one_subject : (command : Command) (job : Job) (text : List ℕ) (s t : Subject) → IsSubjectOf command job text s
-    → IsSubjectOf command job text t → s ≡ t
-one_subject Formula job text s t a b =
-    let same = a.spelled.1 ∙ sym b.spelled.1 in
-    let events = one_events b.formula.clauses a.events b.events
-    (subst (λ (f : Cnf). AreEventsOf f.clauses a.events) same a.of_formula) b.of_formula in
-    a.is ∙ ap (λ f. assignments f a.events) same ∙ ap (assignments b.formula) events ∙ sym b.is
-one_subject Orient job text s t a b =
-    let same = a.spelled.1 ∙ sym b.spelled.1 in
-    let events = one_sinks b.graph a.events b.events (subst (λ (g : GraphOf). AreSinksOf g a.events) same a.of_graph) b.of_graph in
-    a.is ∙ ap (λ g. orientations g a.events) same ∙ ap (orientations b.graph) events ∙ sym b.is
-one_subject Tree job text s t a b =
-    let same = a.spelled.1 ∙ sym b.spelled.1 in
-    a.is ∙ ap (λ g. arrows_to (TreeFacts g job.root) g job.root) same ∙ sym b.is
-one_subject Make job text s t a b = a.is ∙ sym b.is
-one_subject Resample job text s t a b = absurd a
-one_subject Rounds job text s t a b = absurd a
-one_subject Check job text s t a b = absurd a
-one_subject Replay job text s t a b = absurd a
-one_subject Resume job text s t a b = absurd a
 
 -- ---- different samples print different lines
 
@@ -179,44 +158,44 @@ BeginOneText heights x y more other t =
     × (sample_lines t.facts x ++ more ≡ sample_lines t.facts y ++ other)
 
 -- what a subject's samples print tells them
-lines_tell : (command : Command) (job : Job) (text : List ℕ) (s : Subject) → IsSubjectOf command job text s
-    → AreTelling s.facts → (heights x y more other : List ℕ) → BeginOneText heights x y more other s → IsLike s.facts x y
-lines_tell Formula job text s is tells heights x y more other both =
-    let spelled = is.spelled in
-    let own : BeginOneText heights x y more other (assignments is.formula is.events) =
-    subst (BeginOneText heights x y more other) is.is both in
-    let few : is.formula.variables < 2 ^ 32 =
-    subst (λ (f : Cnf). f.variables < 2 ^ 32) (sym spelled.1) (few_variables text spelled.0) in
-    subst (λ (t : Subject). IsLike t.facts x y) (sym is.is)
-    (assignments_apart is.formula.variables x y more other few
-    (pair_values is.formula.variables is.events (FormulaFacts is.formula.variables) heights x own.0)
-    (pair_values is.formula.variables is.events (FormulaFacts is.formula.variables) heights y own.1) own.2)
-lines_tell Orient job text s is tells heights x y more other both =
-    let g : GraphOf = is.graph in
-    let own : BeginOneText heights x y more other (orientations g is.events) =
-    subst (BeginOneText heights x y more other) is.is both in
-    let bits = pair_values (length g.edges) is.events (OrientFacts g) heights x own.0 in
-    let bits' = pair_values (length g.edges) is.events (OrientFacts g) heights y own.1 in
+abbrev LinesTell : Subject → Type 0
+LinesTell s = AreTelling s.facts → (heights x y more other : List ℕ) → BeginOneText heights x y more other s
+    → IsLike s.facts x y
+
+-- so it is of assignments
+assignments_tell : (text : List ℕ) (f : Cnf) (events : List (ℕ × Cube)) → AnswersCnf text (Ok f)
+    → LinesTell (assignments f events)
+assignments_tell text f events spelled tells heights x y more other both =
+    let few : f.variables < 2 ^ 32 =
+    subst (λ (g : Cnf). g.variables < 2 ^ 32) (sym spelled.1) (few_variables text spelled.0) in
+    assignments_apart f.variables x y more other few
+    (pair_values f.variables events (FormulaFacts f.variables) heights x both.0)
+    (pair_values f.variables events (FormulaFacts f.variables) heights y both.1) both.2
+
+-- of orientations
+orientations_tell : (g : GraphOf) (events : List (ℕ × Cube)) → IsGraph g → LinesTell (orientations g events)
+orientations_tell g events is tells heights x y more other both = λ j d less plain.
+    let bits = pair_values (length g.edges) events (OrientFacts g) heights x both.0 in
+    let bits' = pair_values (length g.edges) events (OrientFacts g) heights y both.1 in
     let none : Edge = record { u = 0; v = 0; weight = 0 } in
-    let like : DifferAtLoops g.edges x y = λ j d less plain.
     let at : get_or g.edges j none ≡ get_or g.edges j d = get_or_default g.edges j none d less in
-    orientations_apart g x y more other (graph_known text g is.spelled) bits bits' own.2 j less (ap is_loop at ∙ plain) in
-    subst (λ (t : Subject). IsLike t.facts x y) (sym is.is) like
-lines_tell Tree job text s is tells heights x y more other both =
-    let g : GraphOf = is.graph in
-    let root : ℕ = job.root in
-    let own : BeginOneText heights x y more other (arrows_to (TreeFacts g root) g root) =
-    subst (BeginOneText heights x y more other) is.is both in
-    subst (λ (t : Subject). IsLike t.facts x y) (sym is.is)
-    (trees_apart g root x y more other (graph_known text g is.spelled) is.root_is
-    (slots_of g root heights x own.0) (slots_of g root heights y own.1) own.2)
-lines_tell Make job text s is tells heights x y more other both =
-    absurd (subst (λ (t : Subject). AreTelling t.facts) is.is tells)
-lines_tell Resample job text s is tells heights x y more other both = absurd is
-lines_tell Rounds job text s is tells heights x y more other both = absurd is
-lines_tell Check job text s is tells heights x y more other both = absurd is
-lines_tell Replay job text s is tells heights x y more other both = absurd is
-lines_tell Resume job text s is tells heights x y more other both = absurd is
+    orientations_apart g x y more other is bits bits' both.2 j less (ap is_loop at ∙ plain)
+
+-- of arrows to a root
+arrows_tell : (g : GraphOf) (root : ℕ) → IsGraph g → IsVertex g.vertices root
+    → LinesTell (arrows_to (TreeFacts g root) g root)
+arrows_tell g root is root_is tells heights x y more other both =
+    trees_apart g root x y more other is root_is (slots_of g root heights x both.0) (slots_of g root heights y both.1)
+    both.2
+
+-- and of whatever is sampled
+lines_tell : (k : Command) (w : Wanted) (text : List ℕ) (s : Subject) → IsSubjectOf k w text s → LinesTell s
+lines_tell k w text s = holds_of text LinesTell (record {
+  assignments_hold = λ f events spelled are. assignments_tell text f events spelled;
+  orientations_hold = λ g events spelled are. orientations_tell g events (graph_known text g spelled);
+  arrows_hold = λ g root spelled root_is joined. arrows_tell g root (graph_known text g spelled) root_is;
+  grid_arrows_hold = λ side is tells. absurd tells;
+}) k w s
 
 -- ---- another sample, with the values of loops carried along
 
@@ -227,42 +206,33 @@ carry (OrientFacts g) u x = carried g.edges u x
 carry (TreeFacts g root) u x = x
 carry (MadeFacts side) u x = x
 
--- what is known of it for samples like w
-record Carries (s : Subject) (heights w x : List ℕ) : Type 0 where
-  made : (u : List ℕ) → IsSampleOf (frame_over s heights) u → IsLike s.facts u w
-      → IsSampleOf (frame_over s heights) (carry s.facts u x)
-  like : (u : List ℕ) → IsSampleOf (frame_over s heights) u → IsLike s.facts u w → IsLike s.facts (carry s.facts u x) x
-  back : (u : List ℕ) → IsSampleOf (frame_over s heights) u → IsLike s.facts u w
-      → carry s.facts (carry s.facts u x) w ≡ u
-  weight : (u : List ℕ) → IsSampleOf (frame_over s heights) u → IsLike s.facts u w → (a b : ℕ)
-      → a * sample_weight s.weights u ≡ b * sample_weight s.weights (carry s.facts u x)
-      → b * sample_weight s.weights x ≡ a * sample_weight s.weights w
+-- what is known of such values, for samples like w
+record Carries (f : Frame) (Like : List ℕ → List ℕ → Type 0) (move : List ℕ → List ℕ → List ℕ) (w x : List ℕ)
+    : Type 0 where
+  made : (u : List ℕ) → IsSampleOf f u → Like u w → IsSampleOf f (move u x)
+  like : (u : List ℕ) → IsSampleOf f u → Like u w → Like (move u x) x
+  back : (u : List ℕ) → IsSampleOf f u → Like u w → move (move u x) w ≡ u
+  weight : (u : List ℕ) → IsSampleOf f u → Like u w → (a b : ℕ)
+      → a * sample_weight f.weights u ≡ b * sample_weight f.weights (move u x)
+      → b * sample_weight f.weights x ≡ a * sample_weight f.weights w
 
--- where a subject's samples are like themselves alone
-plain_formula : (n : ℕ) (weights : List (List ℕ)) (family : Family) (heights w x : List ℕ)
-    → IsSampleOf (frame_over (record { facts = FormulaFacts n; weights = weights; family = family }) heights) x
-    → Carries (record { facts = FormulaFacts n; weights = weights; family = family }) heights w x
-plain_formula n weights family heights w x is_x = record {
+-- so it is of a subject
+abbrev CarriesOf : Subject → List ℕ → List ℕ → List ℕ → Type 0
+CarriesOf s heights w x = Carries (frame_over s heights) (IsLike s.facts) (carry s.facts) w x
+
+-- samples that are like themselves alone stand for themselves
+plain : (f : Frame) (w x : List ℕ) → IsSampleOf f x → Carries f (λ u v. u ≡ v) (λ u v. v) w x
+plain f w x is_x = record {
   made = λ u is same. is_x;
   like = λ u is same. refl;
   back = λ u is same. sym same;
-  weight = λ u is same a b e. sym e ∙ ap (λ (v : List ℕ). a * sample_weight weights v) same;
-}
-
-plain_tree : (g : GraphOf) (root : ℕ) (weights : List (List ℕ)) (family : Family) (heights w x : List ℕ)
-    → IsSampleOf (frame_over (record { facts = TreeFacts g root; weights = weights; family = family }) heights) x
-    → Carries (record { facts = TreeFacts g root; weights = weights; family = family }) heights w x
-plain_tree g root weights family heights w x is_x = record {
-  made = λ u is same. is_x;
-  like = λ u is same. refl;
-  back = λ u is same. sym same;
-  weight = λ u is same a b e. sym e ∙ ap (λ (v : List ℕ). a * sample_weight weights v) same;
+  weight = λ u is same a b e. sym e ∙ ap (λ (v : List ℕ). a * sample_weight f.weights v) same;
 }
 
 -- orientations carry the values of loops, and weigh 1
 oriented_carries : (g : GraphOf) (events : List (ℕ × Cube)) (heights w x : List ℕ) → AreSinksOf g events
     → IsSampleOf (frame_over (orientations g events) heights) w
-    → IsSampleOf (frame_over (orientations g events) heights) x → Carries (orientations g events) heights w x
+    → IsSampleOf (frame_over (orientations g events) heights) x → CarriesOf (orientations g events) heights w x
 oriented_carries g events heights w x are is_w is_x =
     let n : ℕ = length g.edges in
     let Of : List ℕ → Type 0 = IsSampleOf (frame_over (orientations g events) heights) in
@@ -281,30 +251,22 @@ oriented_carries g events heights w x are is_w is_x =
           ∙ ap (λ (k : ℕ). a * k) (one u is ∙ sym (one w is_w));
     }
 
--- so it is of each subject whose lines are printed
-carries : (command : Command) (job : Job) (text : List ℕ) (s : Subject) → IsSubjectOf command job text s
-    → AreTelling s.facts → (heights w x : List ℕ) → IsSampleOf (frame_over s heights) w
-    → IsSampleOf (frame_over s heights) x → Carries s heights w x
-carries Formula job text s is tells heights w x is_w is_x =
-    subst (λ (t : Subject). Carries t heights w x) (sym is.is)
-    (plain_formula is.formula.variables (pair_weights is.formula.variables) (Listed is.events) heights w x
-    (subst (λ (t : Subject). IsSampleOf (frame_over t heights) x) is.is is_x))
-carries Orient job text s is tells heights w x is_w is_x =
-    subst (λ (t : Subject). Carries t heights w x) (sym is.is)
-    (oriented_carries is.graph is.events heights w x is.of_graph
-    (subst (λ (t : Subject). IsSampleOf (frame_over t heights) w) is.is is_w)
-    (subst (λ (t : Subject). IsSampleOf (frame_over t heights) x) is.is is_x))
-carries Tree job text s is tells heights w x is_w is_x =
-    subst (λ (t : Subject). Carries t heights w x) (sym is.is)
-    (plain_tree is.graph job.root (weights_of_tree is.graph job.root) (Cycles (heads_of_tree is.graph job.root)) heights w x
-    (subst (λ (t : Subject). IsSampleOf (frame_over t heights) x) is.is is_x))
-carries Make job text s is tells heights w x is_w is_x =
-    absurd (subst (λ (t : Subject). AreTelling t.facts) is.is tells)
-carries Resample job text s is tells heights w x is_w is_x = absurd is
-carries Rounds job text s is tells heights w x is_w is_x = absurd is
-carries Check job text s is tells heights w x is_w is_x = absurd is
-carries Replay job text s is tells heights w x is_w is_x = absurd is
-carries Resume job text s is tells heights w x is_w is_x = absurd is
+-- another sample of a subject whose lines are printed may be carried so
+abbrev AreCarried : Subject → Type 0
+AreCarried s = AreTelling s.facts → (heights w x : List ℕ) → IsSampleOf (frame_over s heights) w
+    → IsSampleOf (frame_over s heights) x → CarriesOf s heights w x
+
+-- this may be done of each
+carries : (k : Command) (w : Wanted) (text : List ℕ) (s : Subject) → IsSubjectOf k w text s → AreCarried s
+carries k w text s = holds_of text AreCarried (record {
+  assignments_hold = λ f events spelled are tells heights v x is_v is_x.
+      plain (frame_over (assignments f events) heights) v x is_x;
+  orientations_hold = λ g events spelled are tells heights v x is_v is_x.
+      oriented_carries g events heights v x are is_v is_x;
+  arrows_hold = λ g root spelled root_is joined tells heights v x is_v is_x.
+      plain (frame_over (arrows_to (TreeFacts g root) g root) heights) v x is_x;
+  grid_arrows_hold = λ side is tells. absurd tells;
+}) k w s
 
 -- ---- what the text of an end begins with
 
@@ -333,38 +295,26 @@ begins_so (TreeFacts g root) i c pops a tells = (
 )
 begins_so (MadeFacts side) i c pops a tells = absurd tells
 
--- the command of a subject pops, and tells no log unasked
-subject_quiet : (command : Command) (job : Job) (text : List ℕ) (s : Subject) → IsSubjectOf command job text s
-    → is_quiet command ≡ true
-subject_quiet Formula job text s is = refl
-subject_quiet Orient job text s is = refl
-subject_quiet Tree job text s is = refl
-subject_quiet Make job text s is = refl
-subject_quiet Resample job text s is = absurd is
-subject_quiet Rounds job text s is = absurd is
-subject_quiet Check job text s is = absurd is
-subject_quiet Replay job text s is = absurd is
-subject_quiet Resume job text s is = absurd is
-
 -- an end with status 0 has no stuck event
 none_left : (stuck : List Event) → end_status stuck ≡ 0 → stuck ≡ []
 none_left [] zero = refl
 none_left (e ∷ stuck) zero = absurd (omega (arith, zero))
 
-module _ (job : Job) (text : List ℕ) (s : Subject) (is : IsSubjectOf job.command job text s) (tells : AreTelling s.facts)
-    (heights : List ℕ) (count : length heights ≡ length s.weights) (some : All (λ h. 0 < h) heights)
-    (words : Rows → List (List ℕ)) (ws : List Watcher) (ask : AskOver job s.weights heights words) where
+module _ (job : Job) (text : List ℕ) (s : Subject) (has : Contains quiet job.command)
+    (is : IsSubjectOf job.command (wanted_by job) text s) (tells : AreTelling s.facts) (heights : List ℕ)
+    (count : length heights ≡ length s.weights) (some : All (λ h. 0 < h) heights) (words : Rows → List (List ℕ))
+    (ws : List Watcher) (ask : AskOver job s.weights heights words) where
   -- the frame of these heights
   abbrev f : Frame
   f = frame_over s heights
 
-  -- it is extremal
-  sampled : IsSampled s
-  sampled = subject_sampled job.command job text s is
+  -- its family is extremal
+  extremal : IsExtremal s.family
+  extremal = ordered_extremal job.command (wanted_by job) text s (quiet_ordered job.command has) is
 
-  -- and a frame
+  -- and it is one
   frame : IsFrame f
-  frame = subject_frame s sampled heights count some
+  frame = subject_frame s (subject_family job.command (wanted_by job) text s is) heights count some
 
   -- rows whose words are answered by this sample, at these cursors
   abbrev Answered : List ℕ → List ℕ → Rows → Type 0
@@ -376,17 +326,13 @@ module _ (job : Job) (text : List ℕ) (s : Subject) (is : IsSubjectOf job.comma
   abbrev EndsRows : Rows → Instance → List ℕ → ℕ → List Event → Type 0
   EndsRows rows i c pops stuck = (i ≡ over f rows) × IsFirstEnd (over f rows) c pops stuck
 
-  -- an end that comes of them is that of the rows
-  end_of_rows : (rows : Rows) → AreRows s.weights heights rows → (facts : Facts) (i : Instance) (c : List ℕ) (pops : ℕ)
-      (stuck : List Event) (a : Telling)
-      → ComesOfCommand job.command (over_rows job rows) ws text (Ended facts i c pops stuck a)
+  -- an end of what is sampled over rows is that of the rows
+  end_of_rows : (rows : Rows) (facts : Facts) (i : Instance) (c : List ℕ) (pops : ℕ) (stuck : List Event) (a : Telling)
+      → IsEndOfSubject (over_rows job rows) ws text facts i c pops stuck a
       → (facts ≡ s.facts) × EndsRows rows i c pops stuck
-  end_of_rows rows shape facts i c pops stuck a comes =
-      let mine : Job = over_rows job rows in
-      let of : IsEndOfSubject job.command mine ws text facts i c pops stuck a =
-      ended_subject (words rows) mine (ask rows shape) job.command refl ws text facts i c pops stuck a comes in
+  end_of_rows rows facts i c pops stuck a of =
       let same : of.subject ≡ s =
-      one_subject job.command mine text of.subject s of.is (of_rows job.command job rows text s is) in (
+      one_subject job.command (wanted_by (over_rows job rows)) text of.subject s of.is (of_rows job rows text s is) in (
         of.facts_are ∙ ap (λ (t : Subject). t.facts) same,
         (
           of.instance_is ∙ ap (instance_over (GivenRows rows)) same,
@@ -394,22 +340,27 @@ module _ (job : Job) (text : List ℕ) (s : Subject) (is : IsSubjectOf job.comma
         ),
       )
 
-  -- what words over rows are answered by comes of the job's line
-  comes_of_rows : (rows : Rows) → AreRows s.weights heights rows → (o : Outcome) → ComesOfJob (words rows) ws text o
+  -- what words over rows are answered by comes of the job
+  comes_of_rows : (rows : Rows) → AreRows s.weights heights rows → (o : Outcome) → IsOutcome (words rows) ws text o
       → ComesOf (over_rows job rows) ws text o
-  comes_of_rows rows shape o came =
-      let mine : Job = over_rows job rows in
-      let same : came.job ≡ mine = same_job (words rows) came.job mine came.asks (ask rows shape) in
-      of_line job.command mine ws text o (subject_line job.command job text s is)
-      (subst (λ (j : Job). ComesBy j.command j ws text o) same came.comes)
+  comes_of_rows rows shape o outcome =
+      of_line job.command (over_rows job rows) ws text o (quiet_line job.command has)
+      (asked_comes (words rows) (over_rows job rows) ws text o (ask rows shape) outcome)
+
+  -- so a sample that answers them is at the end of the rows
+  answered_end : (w c : List ℕ) (rows : Rows) → AreRows s.weights heights rows → (pops : ℕ) (a : Telling)
+      → (by : IsSampledBy (words rows) ws text s.facts w c pops a) → EndsRows rows by.instance c pops []
+  answered_end w c rows shape pops a by =
+      (end_of_rows rows s.facts by.instance c pops [] a
+      (ended_subject (over_rows job rows) ws text s.facts by.instance c pops [] a
+      (comes_of_rows rows shape (Ended s.facts by.instance c pops [] a) by.outcome))).1
 
   -- rows that are answered so finish with the sample
   samples_there : (w c : List ℕ) (rows : Rows) → Answered w c rows → SamplesAt f w c rows
   samples_there w c rows (shape, (pops, a, by)) =
-      let known = end_of_rows rows shape s.facts by.instance c pops [] a
-      (comes_of_rows rows shape (Ended s.facts by.instance c pops [] a) by.outcome) in
-      let there : by.instance ≡ over f rows = known.1.0 in
-      let end : IsFirstEnd (over f rows) c pops [] = known.1.1 in
+      let known : EndsRows rows by.instance c pops [] = answered_end w c rows shape pops a by in
+      let there : by.instance ≡ over f rows = known.0 in
+      let end : IsFirstEnd (over f rows) c pops [] = known.1 in
       let log = first_finishes_by (over f rows) c pops end in
       let size : length c ≡ length rows = (suits_end f frame rows shape c (end.run.0, log)).size in
       record {
@@ -425,14 +376,13 @@ module _ (job : Job) (text : List ℕ) (s : Subject) (is : IsSubjectOf job.comma
   swap w x is_x c rows (shape, (pops, a, by)) =
       let at : SamplesAt f w c rows = samples_there w c rows (shape, (pops, a, by)) in
       let to : Exchanges f w x c rows = exchange_leaves f frame w x c rows at is_x in
-      let known = end_of_rows rows shape s.facts by.instance c pops [] a
-      (comes_of_rows rows shape (Ended s.facts by.instance c pops [] a) by.outcome) in
+      let known : EndsRows rows by.instance c pops [] = answered_end w c rows shape pops a by in
       let own : IsSampleOf (frame_of (over f rows) (map length rows)) x =
       record { count = is_x.count; values = is_x.values; sample = is_x.sample } in
       let new : Rows = exchange rows c x in
       let there = exchanged_answers job rows (words rows) (words new) ws text s.facts by.instance c pops a x (ask rows shape)
       (ask new to.samples.shape) by.outcome
-      (subst (λ (i : Instance). IsSampleOf (frame_of i (map length rows)) x) (sym known.1.0) own) in
+      (subst (λ (i : Instance). IsSampleOf (frame_of i (map length rows)) x) (sym known.0) own) in
       record { there = (to.samples.shape, (pops, a, there)); back = to.back; weight = to.weight }
 
   -- rows are answered at one place, by one sample
@@ -440,7 +390,7 @@ module _ (job : Job) (text : List ℕ) (s : Subject) (is : IsSubjectOf job.comma
   one_end u v c d rows a b =
       let at = samples_there u c rows a in
       let at' = samples_there v d rows b in
-      let place : c ≡ d = one_place (over f rows) sampled.extremal c d at.finishes at'.finishes in
+      let place : c ≡ d = one_place (over f rows) extremal c d at.finishes at'.finishes in
       (place, sym at.entries ∙ ap (entries_under rows) place ∙ at'.entries)
 
   -- rows whose words print the lines of a sample: they are answered by one like it
@@ -473,11 +423,11 @@ module _ (job : Job) (text : List ℕ) (s : Subject) (is : IsSubjectOf job.comma
       → out ≡ (line (codes "s SAMPLE") ++ sample_lines s.facts w) ++ more
       → (facts : Facts) (i : Instance) (c : List ℕ) (pops : ℕ) (stuck : List Event) (a : Telling)
       → IsOutcome (words rows) ws text (Ended facts i c pops stuck a)
-      → ComesOfCommand job.command (over_rows job rows) ws text (Ended facts i c pops stuck a)
-      → end_status stuck ≡ 0 → out ≡ run_text facts i c pops stuck a → Found w rows
-  from_end w rows is_w shape out more out_is facts i c pops stuck a outcome comes zero text_is =
+      → IsEndOfSubject (over_rows job rows) ws text facts i c pops stuck a → end_status stuck ≡ 0
+      → out ≡ run_text facts i c pops stuck a → Found w rows
+  from_end w rows is_w shape out more out_is facts i c pops stuck a outcome of zero text_is =
       let none : stuck ≡ [] = none_left stuck zero in
-      let known = end_of_rows rows shape facts i c pops stuck a comes in
+      let known = end_of_rows rows facts i c pops stuck a of in
       let named : facts ≡ s.facts = known.0 in
       let told : Ended facts i c pops stuck a ≡ Ended s.facts i c pops [] a =
       ap (λ (t : Facts). Ended t i c pops stuck a) named ∙ ap (λ (l : List Event). Ended s.facts i c pops l a) none in
@@ -495,7 +445,7 @@ module _ (job : Job) (text : List ℕ) (s : Subject) (is : IsSubjectOf job.comma
       (sym (append_assoc head (sample_lines s.facts v) front.0) ∙ whole
       ∙ append_assoc head (sample_lines s.facts w) more) in
       let like : IsLike s.facts v w =
-      lines_tell job.command job text s is tells heights v w front.0 more (is_v, is_w, lines) in
+      lines_tell job.command (wanted_by job) text s is tells heights v w front.0 more (is_v, is_w, lines) in
       (c, v, is_v, like, mine)
 
   -- so are words that print it
@@ -505,23 +455,15 @@ module _ (job : Job) (text : List ℕ) (s : Subject) (is : IsSubjectOf job.comma
       let o : Outcome = p.prints.answer.0 in
       let outcome = p.prints.answer.1 in
       let tell = p.prints.answer.2 in
-      elim (word_cases (words rows) ws text o outcome) [
-        | inl (place, usage, bad) ↦
-            let two = tell.status_is ∙ ap status_of usage in absurd (omega (arith, two))
-        | inr came ↦
-            let zero : status_of o ≡ 0 = sym tell.status_is in
-            elim (low_cases (over_rows job rows) (subject_quiet job.command job text s is) ws text o
-            (comes_of_rows rows p.shape o came) (omega (arith, zero))) [
-              | inl e ↦
-                  from_end w rows is_w p.shape p.prints.out p.prints.more p.prints.out_is e.facts e.instance e.cursors e.pops
-                  e.stuck e.telling (subst (IsOutcome (words rows) ws text) e.told outcome) e.comes
-                  (sym (ap status_of e.told) ∙ zero) (tell.out_is ∙ ap text_of e.told)
-              | inr b ↦
-                  let of = batched_subject (words rows) (over_rows job rows) (ask rows p.shape) job.command refl ws text
-                  b.facts b.instance b.ends b.comes in
-                  let alone = (asked_alone (words rows) (over_rows job rows) (ask rows p.shape) rows refl).1 in
-                  absurd (none-some of.batch.count (sym alone ∙ of.batch.asked_is))
-            ]
+      let zero : status_of o ≡ 0 = sym tell.status_is in
+      elim (low_cases (over_rows job rows) has ws text o (comes_of_rows rows p.shape o outcome) (omega (arith, zero))) [
+        | inl e ↦
+            from_end w rows is_w p.shape p.prints.out p.prints.more p.prints.out_is e.facts e.instance e.cursors e.pops
+            e.stuck e.telling (subst (IsOutcome (words rows) ws text) e.told outcome) e.of
+            (sym (ap status_of e.told) ∙ zero) (tell.out_is ∙ ap text_of e.told)
+        | inr b ↦
+            let alone = (asked_alone (words rows) (over_rows job rows) (ask rows p.shape) rows refl).1 in
+            absurd (none-some b.of.batch.count (sym alone ∙ b.of.batch.asked_is))
       ]
 
   -- rows that are answered by a sample like w, and those that the exchange makes of them for x
@@ -533,7 +475,7 @@ module _ (job : Job) (text : List ℕ) (s : Subject) (is : IsSubjectOf job.comma
       ≡ weight_of s.weights r * sample_weight s.weights (carry s.facts u x))
 
   -- such rows have a partner
-  partner : (w x : List ℕ) → Carries s heights w x → (r : Rows) → Found w r
+  partner : (w x : List ℕ) → CarriesOf s heights w x → (r : Rows) → Found w r
       → (t : Rows) × Found x t × Pair w x r t
   partner w x to r (c, u, is_u, like, at) =
       let v : List ℕ = carry s.facts u x in
@@ -546,7 +488,7 @@ module _ (job : Job) (text : List ℕ) (s : Subject) (is : IsSubjectOf job.comma
       )
 
   -- and are one's partner
-  partner_of : (w x : List ℕ) → Carries s heights w x → Carries s heights x w → (t : Rows) → Found x t
+  partner_of : (w x : List ℕ) → CarriesOf s heights w x → CarriesOf s heights x w → (t : Rows) → Found x t
       → (r : Rows) × Found w r × Pair w x r t
   partner_of w x to fro t (c, v, is_v, like, at) =
       let u : List ℕ = carry s.facts v w in
@@ -571,7 +513,7 @@ module _ (job : Job) (text : List ℕ) (s : Subject) (is : IsSubjectOf job.comma
       )
 
   -- each has one at most, with the weight in proportion
-  matches : (w x : List ℕ) → Carries s heights w x
+  matches : (w x : List ℕ) → CarriesOf s heights w x
       → Matches (Pair w x) (weight_of s.weights) (sample_weight s.weights w) (sample_weight s.weights x)
   matches w x to = record {
     weight = λ r t (c, u, is_u, like, at, there, made, back, weight).
@@ -588,27 +530,27 @@ module _ (job : Job) (text : List ℕ) (s : Subject) (is : IsSubjectOf job.comma
 
 -- the law of runs
 pub exact_outputs : ExactOutputs
-exact_outputs job text s heights words ws is tells count some ask w x is_w is_x all others mine theirs =
-    let to : Carries s heights w x = carries job.command job text s is tells heights w x is_w is_x in
-    let fro : Carries s heights x w = carries job.command job text s is tells heights x w is_x is_w in
+exact_outputs job text s heights words ws has is tells count some ask w x is_w is_x all others mine theirs =
+    let to : CarriesOf s heights w x = carries job.command (wanted_by job) text s is tells heights w x is_w is_x in
+    let fro : CarriesOf s heights x w = carries job.command (wanted_by job) text s is tells heights x w is_x is_w in
     let both : Alike (weight_of s.weights) (sample_weight s.weights w) (sample_weight s.weights x) all others =
-    alike (Pair job text s is tells heights count some words ws ask w x) (weight_of s.weights)
+    alike (Pair job text s has is tells heights count some words ws ask w x) (weight_of s.weights)
     (sample_weight s.weights w) (sample_weight s.weights x)
-    (matches job text s is tells heights count some words ws ask w x to) all others mine.differ theirs.differ
-    (λ r has.
-    let p = partner job text s is tells heights count some words ws ask w x to r
-    (from_prints job text s is tells heights count some words ws ask w r is_w ((mine.exact r).0 has)) in
-    (p.0, (theirs.exact p.0).1 (to_prints job text s is tells heights count some words ws ask x p.0 p.1), p.2))
-    (λ t has.
-    let p = partner_of job text s is tells heights count some words ws ask w x to fro t
-    (from_prints job text s is tells heights count some words ws ask x t is_x ((theirs.exact t).0 has)) in
-    (p.0, (mine.exact p.0).1 (to_prints job text s is tells heights count some words ws ask w p.0 p.1), p.2)) in
+    (matches job text s has is tells heights count some words ws ask w x to) all others mine.differ theirs.differ
+    (λ r there.
+    let p = partner job text s has is tells heights count some words ws ask w x to r
+    (from_prints job text s has is tells heights count some words ws ask w r is_w ((mine.exact r).0 there)) in
+    (p.0, (theirs.exact p.0).1 (to_prints job text s has is tells heights count some words ws ask x p.0 p.1), p.2))
+    (λ t there.
+    let p = partner_of job text s has is tells heights count some words ws ask w x to fro t
+    (from_prints job text s has is tells heights count some words ws ask x t is_x ((theirs.exact t).0 there)) in
+    (p.0, (mine.exact p.0).1 (to_prints job text s has is tells heights count some words ws ask w p.0 p.1), p.2)) in
     record { count = both.size; weight = both.total }
 
 -- ---- rounds
 
 module _ (job : Job) (text : List ℕ) (events : List (ℕ × Cube)) (heights : List ℕ) (words : Rows → List (List ℕ))
-    (ws : List Watcher) (by : job.command ≡ Rounds) (none : cnf_refusal text ≡ None) (full : first_empty (cnf_of text) ≡ None)
+    (ws : List Watcher) (by : job.command ≡ Rounds) (spelled : AnswersCnf text (Ok (cnf_of text)))
     (are : AreEventsOf (cnf_of text).clauses events) (count : length heights ≡ (cnf_of text).variables)
     (some : All (λ h. 0 < h) heights) (ask : AskOver job (pair_weights (cnf_of text).variables) heights words) where
   -- the frame of the formula's events
@@ -617,7 +559,7 @@ module _ (job : Job) (text : List ℕ) (events : List (ℕ × Cube)) (heights : 
 
   -- it is one
   g_frame : IsFrame g
-  g_frame = formula_frame text events heights none are count some
+  g_frame = rounds_frame text events heights spelled are count some
 
   -- the values of an assignment that satisfies the formula
   satisfied_bits : (x : List ℕ) → Satisfies (cnf_of text) x → AreBits (cnf_of text).variables x
@@ -627,15 +569,17 @@ module _ (job : Job) (text : List ℕ) (events : List (ℕ × Cube)) (heights : 
   rounded_rows : (w c : List ℕ) (n : ℕ) (rows : Rows) → AreRows g.weights heights rows
       → IsRoundedBy (words rows) ws text w c n → SampledBy g w c n rows
   rounded_rows w c n rows shape r =
-      let is : IsRounded job.command (GivenRows rows) text (FormulaFacts (cnf_of text).variables) r.instance c n [] None =
-      comes_of_job (words rows) ws text (over_rows job rows) (FormulaFacts (cnf_of text).variables) r.instance c n [] None
-      (ask rows shape) (rows_line (words rows) (over_rows job rows) (ask rows shape) rows refl) r.outcome in
-      let same : is.end.events ≡ events =
-      one_events (cnf_of text).clauses is.end.events events is.end.of_formula are in
+      let mine : Job = over_rows job rows in
+      let e : IsEndOfRounds (GivenRows rows) text (FormulaFacts (cnf_of text).variables) r.instance c n [] None =
+      (comes_of_job (words rows) ws text mine (FormulaFacts (cnf_of text).variables) r.instance c n [] None
+      (ask rows shape) (rows_line (words rows) mine (ask rows shape) rows refl) r.outcome).1 in
+      let same : assignments (cnf_of text) e.events ≡ assignments (cnf_of text) events =
+      one_subject Rounds (wanted_by job) text (assignments (cnf_of text) e.events) (assignments (cnf_of text) events)
+      (rounds_subject (wanted_by job) text e.events spelled e.of_formula)
+      (rounds_subject (wanted_by job) text events spelled are) in
       let end : IsRoundsEnd (over g rows) c n [] None =
-      subst (λ es. IsRoundsEnd (instance_of (GivenRows rows) (cnf_of text).variables es) c n [] None) same is.end.end in
-      let there : r.instance ≡ over g rows =
-      is.end.instance_is ∙ ap (instance_of (GivenRows rows) (cnf_of text).variables) same in
+      subst (λ (t : Subject). IsRoundsEnd (instance_over (GivenRows rows) t) c n [] None) same e.end in
+      let there : r.instance ≡ over g rows = e.instance_is ∙ ap (instance_over (GivenRows rows)) same in
       let size : length c ≡ length rows = (rounds_suit g g_frame rows shape c n end).size in
       record {
         shape = shape;
@@ -657,7 +601,7 @@ module _ (job : Job) (text : List ℕ) (events : List (ℕ × Cube)) (heights : 
       ∙ sym (append_assoc (head ++ assignment_line o.values) (used_line o.cursors) (rounds_line o.rounds))
       ∙ sym o.out_is ∙ p.prints.out_is ∙ append_assoc head (assignment_line w) p.prints.more in
       let same : o.values ≡ w =
-      assignments_apart (cnf_of text).variables o.values w rest p.prints.more (few_variables text none)
+      assignments_apart (cnf_of text).variables o.values w rest p.prints.more (few_variables text spelled.0)
       (satisfied_bits o.values o.satisfied) (satisfied_bits w ok)
       (append_cancel_left head (assignment_line o.values ++ rest) (assignment_line w ++ p.prints.more) whole) in (
         o.cursors,
@@ -674,15 +618,8 @@ module _ (job : Job) (text : List ℕ) (events : List (ℕ × Cube)) (heights : 
   sampled_prints w rows ok (c, (n, s)) =
       let size : length c ≡ length rows = (rounds_suit g g_frame rows s.shape c n s.end).size in
       let r : IsRoundedBy (words rows) ws text w c n =
-      answered_by (words rows) ws text (over_rows job rows) (over g rows) w c n (ask rows s.shape) by none
-      (record {
-        filled = full;
-        events = events;
-        of_formula = are;
-        instance_is = refl;
-        sound = sound_rows g g_frame rows s.shape (pairs_light (cnf_of text).variables);
-        end = s.end;
-      })
+      answered_by (words rows) ws text (over_rows job rows) events w c n (ask rows s.shape) by spelled are
+      (sound_rows g g_frame rows s.shape (pairs_light (cnf_of text).variables)) s.end
       (values_are g.weights rows c size ∙ s.entries) in
       record {
         shape = s.shape;
@@ -700,13 +637,13 @@ pub exact_round_outputs : ExactRoundOutputs
 exact_round_outputs job text events heights words ws by spelled are count some ask w x ok_w ok_x all others mine theirs =
     let s : Subject = assignments (cnf_of text) events in
     let f : Frame = frame_over s heights in
-    let frame : IsFrame f = formula_frame text events heights spelled.0 are count some in
+    let frame : IsFrame f = rounds_frame text events heights spelled are count some in
     let To : (v : List ℕ) → Satisfies (cnf_of text) v → (rows : Rows)
     → PrintsOver s.weights heights words ws text s.facts v rows → Sampled f v rows =
-    λ v ok rows. prints_sampled job text events heights words ws by spelled.0 spelled.2 are count some ask v rows ok in
+    λ v ok rows. prints_sampled job text events heights words ws by spelled are count some ask v rows ok in
     let Back : (v : List ℕ) → Satisfies (cnf_of text) v → (rows : Rows) → Sampled f v rows
     → PrintsOver s.weights heights words ws text s.facts v rows =
-    λ v ok rows. sampled_prints job text events heights words ws by spelled.0 spelled.2 are count some ask v rows ok in
+    λ v ok rows. sampled_prints job text events heights words ws by spelled are count some ask v rows ok in
     (exact_rounds f frame tt w x (every_assignment (cnf_of text) events heights w are ok_w)
     (every_assignment (cnf_of text) events heights x are ok_x) all others
     (same_kind (PrintsOver s.weights heights words ws text s.facts w) (Sampled f w) all mine (To w ok_w) (Back w ok_w))

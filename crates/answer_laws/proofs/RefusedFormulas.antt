@@ -1,10 +1,9 @@
--- A formula is refused in one way, and not where it can be sampled: its stacks are sound, the samples that are asked for
--- are few, and its events don't clash where they may not.
+-- A formula is refused in one way, and not where it can be sampled: its stacks are sound, the samples that are asked
+-- for are few, and its events don't clash where they may not.
 use Rattle.std.proofs.Common.{inl, inr, ℕ, Bool, true, false, List, length, Option, refl, sym, ap₂, subst, ◌∙◌}
 use Rattle.pop_model.specs.Stacks.{Origin}
 use Rattle.pop_model.specs.Popping.{Cube}
 use Rattle.pop_model.specs.Families.Family.{Listed}
-use Rattle.pop_model.specs.Instances.{Instance}
 use Rattle.pop_model.specs.Extremal.{IsExtremal}
 use Rattle.pop_model.specs.Places.{IsLeastPair}
 use Rattle.pop_model.proofs.Leasts.{one_least_pair}
@@ -12,17 +11,15 @@ use Rattle.pop_stacks.specs.Faults.{IsSound}
 use Rattle.extremal_check.specs.Clashes.{AreClashing}
 use Rattle.dimacs_read.specs.Cnf.{Cnf}
 use Rattle.dimacs_read.specs.Falsifying.{AreEventsOf}
-use Rattle.pop_print.specs.declared.facts.Facts.{Facts}
 use Rattle.pop_print.specs.declared.facts.Facts.TheVariants.{Formula as FormulaFacts}
 use Rattle.job_subjects.specs.declared.refusal.Refusal.{Refusal}
 use Rattle.job_subjects.specs.declared.refusal.Refusal.TheVariants.{Clashes}
 use Rattle.job_subjects.specs.StackFaults.{AreFew}
-use Rattle.job_subjects.specs.Subjects.{pair_weights}
+use Rattle.job_subjects.specs.Subjects.{Subject, pair_weights, assignments, AreAssignments}
 use Rattle.job_subjects.specs.Refused.{IsClashing, RefusesEvents, RefusesFormula}
-use Rattle.job_subjects.specs.Made.{IsMadeFormula}
 use Rattle.answer_laws.proofs.OneClash.{extremal_has_none}
 use Rattle.answer_laws.proofs.OneEvents.{one_events}
-use Rattle.answer_laws.proofs.RefusedStacks.{IsOneRefusal, one_stacks, sound_unrefused}
+use Rattle.answer_laws.proofs.RefusedStacks.{IsOneRefusal, CanBeRun, one_stacks, sound_unrefused}
 
 -- a formula has one least clash
 pub one_clash : (f : Cnf) → IsOneRefusal (IsClashing f)
@@ -69,17 +66,16 @@ formula_unrefused may_clash origin asked f r sound few none (inl h) =
     sound_unrefused (FormulaFacts f.variables) origin (pair_weights f.variables) asked r sound few h
 formula_unrefused may_clash origin asked f r sound few none (inr (sound', clash, few')) = none clash
 
--- nor are the events of what is made of it
-made_unclashed : (may_clash : Bool) (origin : Origin) (asked : Option ℕ) (f : Cnf) (facts : Facts) (i : Instance)
-    → IsMadeFormula may_clash origin asked f facts i → (r : Refusal) → RefusesEvents may_clash f r → ⊥
-made_unclashed true origin asked f facts i made r clash = clash
-made_unclashed false origin asked f facts i made r clash =
-    no_clash f r clash made.events made.of_formula (made.extremal refl)
+-- the events of assignments to it don't clash where they may not
+unclashed : (may_clash : Bool) (f : Cnf) (s : Subject) (r : Refusal) → AreAssignments may_clash f s
+    → RefusesEvents may_clash f r → ⊥
+unclashed true f s r are clash = clash
+unclashed false f s r are clash = no_clash f r clash are.events are.of_formula (are.extremal refl)
 
--- so it isn't where something is
-pub made_formula_unrefused : (may_clash : Bool) (origin : Origin) (asked : Option ℕ) (f : Cnf) (facts : Facts)
-    (i : Instance) → IsMadeFormula may_clash origin asked f facts i → (r : Refusal)
+-- so it isn't where these can be sampled
+pub assignments_unrefused : (may_clash : Bool) (origin : Origin) (asked : Option ℕ) (f : Cnf) (s : Subject)
+    (r : Refusal) → AreAssignments may_clash f s → CanBeRun origin asked s
     → RefusesFormula may_clash origin asked f r → ⊥
-made_formula_unrefused may_clash origin asked f facts i made r h =
-    formula_unrefused may_clash origin asked f r made.is.sound made.is.few
-    (made_unclashed may_clash origin asked f facts i made r) h
+assignments_unrefused may_clash origin asked f s r are can h =
+    let own : CanBeRun origin asked (assignments f are.events) = subst (CanBeRun origin asked) are.is can in
+    formula_unrefused may_clash origin asked f r own.0 own.1 (unclashed may_clash f s r are) h

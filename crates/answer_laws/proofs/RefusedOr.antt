@@ -4,11 +4,10 @@ use Rattle.std.proofs.Common.{inl, inr, ◌≡◌, ◌⊎◌, List, ℕ, refl, s
 use Rattle.pop_watch.specs.Telling.{Watcher}
 use Rattle.job_subjects.specs.declared.refusal.Refusal.{Refusal}
 use Rattle.told_runs.specs.Outcomes.{Outcome}
-use Rattle.told_runs.specs.Outcomes.Outcome.{Refused, Resampled, Paused}
-use Rattle.top_call.specs.Replays.{ByLine, ComesOfCert, IsRefused, IsReplayed, ComesOfReplaying}
-use Rattle.top_call.specs.Resumes.{IsResumed, ComesOfResuming}
+use Rattle.told_runs.specs.Outcomes.Outcome.{Refused}
+use Rattle.top_call.specs.Replays.{ComesOfCert, IsRefused, IsReplayed, ComesOfReplaying}
+use Rattle.top_call.specs.Resumes.{ByLine, IsResumed, ComesOfResuming}
 use Rattle.answer_laws.proofs.RefusedStacks.{IsOneRefusal}
-use Rattle.answer_laws.specs.Laws.{Agree}
 
 -- the outcome is such a refusal, or comes so
 abbrev pub RefusedOr : (Refusal → Type 0) → (Outcome → Type 0) → Outcome → Type 0
@@ -32,25 +31,14 @@ alike_or Alike same Refuses one Comes Others apart apart' alike o p (inr comes) 
 alike_or Alike same Refuses one Comes Others apart apart' alike o p (inr comes) (inr comes') =
     alike o p comes comes'
 
--- what agrees with a refusal is the same
-pub refused_alike : (r : Refusal) (p : Outcome) → Agree (Refused r) p → Refused r ≡ p
-refused_alike r p (inl is) = is
-refused_alike r p (inr runs) = absurd runs
-
-pub alike_refused : (o : Outcome) (s : Refusal) → Agree o (Refused s) → o ≡ Refused s
-alike_refused o s (inl is) = is
-alike_refused (Resampled t i l n a) s (inr runs) = absurd runs
-alike_refused (Paused j w t i l) s (inr runs) = absurd runs
-alike_refused o s (inr runs) = absurd runs
-
 -- what comes of bytes that are replayed is such an outcome
-pub replaying_cases : (Line : ByLine) (bytes : List ℕ) (o : Outcome) → ComesOfReplaying Line bytes o
-    → RefusedOr (IsRefused Line bytes) (ComesOfCert IsReplayed bytes) o
-replaying_cases Line bytes (Refused r) h = inl (r, refl, h)
-replaying_cases Line bytes o h = inr h
+pub replaying_cases : (bytes : List ℕ) (o : Outcome) → ComesOfReplaying bytes o
+    → RefusedOr (IsRefused bytes) (ComesOfCert IsReplayed bytes) o
+replaying_cases bytes (Refused r) h = inl (r, refl, h)
+replaying_cases bytes o h = inr h
 
 -- and what comes of bytes that are resumed
 pub resuming_cases : (Line : ByLine) (ws : List Watcher) (bytes : List ℕ) (o : Outcome)
-    → ComesOfResuming Line ws bytes o → RefusedOr (IsRefused Line bytes) (ComesOfCert (IsResumed Line ws) bytes) o
+    → ComesOfResuming Line ws bytes o → RefusedOr (IsRefused bytes) (ComesOfCert (IsResumed Line ws) bytes) o
 resuming_cases Line ws bytes (Refused r) h = inl (r, refl, h)
 resuming_cases Line ws bytes o h = inr h

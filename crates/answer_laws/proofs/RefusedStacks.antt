@@ -7,11 +7,16 @@ use Rattle.pop_print.specs.declared.facts.Facts.{Facts}
 use Rattle.job_subjects.specs.declared.refusal.Refusal.{Refusal}
 use Rattle.job_subjects.specs.declared.refusal.Refusal.TheVariants.{TooMany}
 use Rattle.job_subjects.specs.StackFaults.{unsound, AreFaulty, AreFew, AreTooMany, RefusesStacks}
+use Rattle.job_subjects.specs.Subjects.{Subject}
 use Rattle.answer_laws.proofs.OneFault.{one_cause, sound_has_none}
 
 -- there is at most one refusal
 abbrev pub IsOneRefusal : (Refusal → Type 0) → Type 0
 IsOneRefusal Refuses = (r s : Refusal) → Refuses r → Refuses s → r ≡ s
+
+-- a subject can be run over stacks of this origin: they are sound, and the samples that are asked for are few
+abbrev pub CanBeRun : Origin → Option ℕ → Subject → Type 0
+CanBeRun origin asked s = IsSound origin s.weights × AreFew asked (length s.weights)
 
 -- few samples aren't too many
 not_many : (asked : Option ℕ) (variables : ℕ) (r : Refusal) → AreFew asked variables → AreTooMany asked variables r → ⊥

@@ -17,31 +17,27 @@ use Rattle.prs_rounds.proofs.OnlyOccurring.{some_occurs}
 use Rattle.pop_samples.specs.Finishing.{IsSample}
 use Rattle.pop_samples.proofs.MovedLogs.{known_variable}
 use Rattle.dimacs_read.specs.Cnf.{Cnf}
-use Rattle.dimacs_read.specs.CnfText.{cnf_of, cnf_refusal}
-use Rattle.dimacs_read.proofs.LiteralsLemmas.{events_fit}
-use Rattle.pop_words.specs.declared.command.Command.{Command}
+use Rattle.dimacs_read.specs.CnfText.{cnf_of}
 use Rattle.pop_words.specs.declared.command.Command.TheVariants.{Rounds}
 use Rattle.pop_words.specs.declared.job.Job.{Job}
 use Rattle.pop_words.specs.CommandLines.{Asks}
-use Rattle.pop_words.proofs.OneJob.{same_job}
 use Rattle.pop_watch.specs.Telling.{Watcher}
 use Rattle.pop_print.specs.declared.facts.Facts.{Facts}
 use Rattle.pop_print.specs.declared.facts.Facts.TheVariants.{Formula as FormulaFacts}
-use Rattle.pop_print.specs.Rounds.{rounds_text}
 use Rattle.printed_samples.proofs.ShownEnds.{literals_of_text, pair_bits}
+use Rattle.job_subjects.specs.Refusals.{refusal_status}
+use Rattle.job_subjects.specs.Subjects.{pair_weights, instance_over, assignments}
 use Rattle.told_runs.specs.Outcomes.{Outcome, Tells, end_status, status_of, text_of}
-use Rattle.told_runs.specs.Outcomes.Outcome.{Refused, Extremal, Ended, Resampled, Rounded, Batched, Paused, Replayed}
-use Rattle.job_subjects.specs.Subjects.{pair_weights, instance_of}
-use Rattle.top_call.specs.Answers.{ComesBy, ComesOf, ComesOfCommand, IsOutcome, origin_for}
+use Rattle.told_runs.specs.Outcomes.Outcome.{Rounded}
+use Rattle.top_call.specs.Answers.{ComesOf, IsOutcome, origin_for}
+use Rattle.top_call.proofs.ByCommand.{of_line}
 use Rattle.answer_laws.specs.EverySample.{Satisfies}
 use Rattle.answer_laws.specs.RoundAnswers.{IsRoundedOutput, RoundOutputs, rounded_text}
-use Rattle.top_call.proofs.ByCommand.{of_line}
-use Rattle.top_call.proofs.Lifting.{no_replay}
-use Rattle.answer_laws.proofs.ListedEvents.{pairs_fit}
-use Rattle.answer_laws.proofs.OneOutcome.{word_cases}
-use Rattle.answer_laws.proofs.RoundAnswers.{IsEndOfFormula, IsRounded, rounded_of, rounds_line_of}
-use Rattle.answer_laws.proofs.SatisfiedFormulas.{samples_satisfy}
+use Rattle.answer_laws.proofs.OneOutcome.{asked_comes}
 use Rattle.answer_laws.proofs.RefusalStatuses.{refusal_high}
+use Rattle.answer_laws.proofs.RoundAnswers.{IsEndOfRounds, rounds_cases, rounds_line_of}
+use Rattle.answer_laws.proofs.SatisfiedFormulas.{samples_satisfy}
+use Rattle.answer_laws.proofs.SubjectFrames.{assignments_family}
 
 -- where the stuck list of rounds is empty, no event occurs and no variable is short
 pub finished_rounds : (i : Instance) (c : List ℕ) (rounds : ℕ) (stuck : List Event) (short : Option ℕ)
@@ -55,51 +51,46 @@ finished_rounds i c rounds [] (Some v) end zero =
 finished_rounds i c rounds (e ∷ stuck) short end zero = absurd (omega (arith, zero))
 
 -- an end of rounds with status 0
-record IsFinishedEnd (command : Command) (origin : Origin) (text : List ℕ) (o : Outcome) : Type 0 where
-  facts : Facts
+record IsFinishedEnd (origin : Origin) (text : List ℕ) (o : Outcome) : Type 0 where
   instance : Instance
   cursors : List ℕ
   rounds : ℕ
-  told : o ≡ Rounded facts instance cursors rounds [] None
-  is : IsRounded command origin text facts instance cursors rounds [] None
+  told : o ≡ Rounded (FormulaFacts (cnf_of text).variables) instance cursors rounds [] None
+  is : IsEndOfRounds origin text (FormulaFacts (cnf_of text).variables) instance cursors rounds [] None
+
+-- one that tells no event tells one
+no_event_left : (origin : Origin) (text : List ℕ) (o : Outcome) (facts : Facts) (i : Instance) (c : List ℕ) (n : ℕ)
+    (stuck : List Event) (short : Option ℕ) → o ≡ Rounded facts i c n stuck short → end_status stuck ≡ 0
+    → IsEndOfRounds origin text facts i c n stuck short → IsFinishedEnd origin text o
+no_event_left origin text o facts i c n stuck short told zero is =
+    let none = finished_rounds (instance_over origin (assignments (cnf_of text) is.events)) c n stuck short is.end zero in
+    let Told : Facts → List Event → Option ℕ → Type 0 =
+    λ t s v. (o ≡ Rounded t i c n s v) × IsEndOfRounds origin text t i c n s v in
+    let facts' : Facts = FormulaFacts (cnf_of text).variables in
+    let end : Told facts' [] None =
+    subst (λ t. Told t [] None) is.facts_are (subst (λ v. Told facts [] v) none.1 (subst (λ s. Told facts s short) none.0
+    (told, is))) in
+    record { instance = i; cursors = c; rounds = n; told = end.0; is = end.1 }
 
 -- what comes of rounds with status 0 is such an end
 finished_end : (job : Job) (ws : List Watcher) (text : List ℕ) (o : Outcome) → job.command ≡ Rounds
-    → ComesOf job ws text o → status_of o ≡ 0 → IsFinishedEnd job.command (origin_for job) text o
-finished_end job ws text (Rounded facts i c n stuck short) by h zero =
-    let is : IsRounded job.command (origin_for job) text facts i c n stuck short =
-    rounded_of job.command job ws text facts i c n stuck short h in
-    let end : IsRoundsEnd i c n stuck short =
-    subst (λ (j : Instance). IsRoundsEnd j c n stuck short) (sym is.end.instance_is) is.end.end in
-    let none = finished_rounds i c n stuck short end zero in
-    record {
-      facts = facts;
-      instance = i;
-      cursors = c;
-      rounds = n;
-      told = ap (λ (s : List Event). Rounded facts i c n s short) none.0
-          ∙ ap (λ (v : Option ℕ). Rounded facts i c n [] v) none.1;
-      is = subst (λ (v : Option ℕ). IsRounded job.command (origin_for job) text facts i c n [] v) none.1
-          (subst (λ (s : List Event). IsRounded job.command (origin_for job) text facts i c n s short) none.0 is);
-    }
-finished_end job ws text (Refused r) by h zero = absurd (omega (arith, zero, refusal_high r))
-finished_end job ws text (Extremal n) by h zero =
-    absurd (subst (λ k. ComesOfCommand k job ws text (Extremal n)) by h).comes.1.end
-finished_end job ws text (Ended t i c n s a) by h zero =
-    absurd (subst (λ k. ComesOfCommand k job ws text (Ended t i c n s a)) by h).comes.1.end
-finished_end job ws text (Resampled t i l s a) by h zero =
-    absurd (subst (λ k. ComesOfCommand k job ws text (Resampled t i l s a)) by h).comes.1.end
-finished_end job ws text (Batched t i es) by h zero =
-    absurd (subst (λ k. ComesOfCommand k job ws text (Batched t i es)) by h).comes.1.end
-finished_end job ws text (Paused j w t i l) by h zero = absurd (omega (arith, zero))
-finished_end job ws text (Replayed i c n k) by h zero = absurd (no_replay job.command job ws text i c n k h)
+    → ComesOf job ws text o → status_of o ≡ 0 → IsFinishedEnd (origin_for job) text o
+finished_end job ws text o by h zero = elim (rounds_cases job by ws text o h) [
+  | inl (r, is, refuses) ↦
+      let high = refusal_high r in
+      let status : status_of o ≡ refusal_status r = ap status_of is in
+      absurd (omega (arith, zero, high, status))
+  | inr e ↦
+      no_event_left (origin_for job) text o e.facts e.instance e.cursors e.rounds e.stuck e.short e.told
+      (sym (ap status_of e.told) ∙ zero) e.is
+]
 
 -- the values at an end of rounds satisfy the formula
-values_satisfy : (origin : Origin) (text : List ℕ) (i : Instance) (c : List ℕ) (n : ℕ) → cnf_refusal text ≡ None
-    → IsEndOfFormula origin (cnf_of text) i c n [] None → Satisfies (cnf_of text) (values_at i.stacks c)
-values_satisfy origin text i c n none e =
+values_satisfy : (origin : Origin) (text : List ℕ) (facts : Facts) (i : Instance) (c : List ℕ) (n : ℕ)
+    → IsEndOfRounds origin text facts i c n [] None → Satisfies (cnf_of text) (values_at i.stacks c)
+values_satisfy origin text facts i c n e =
     subst (λ (j : Instance). Satisfies f (values_at j.stacks c)) (sym e.instance_is)
-    ((samples_satisfy f e.events [] x (literals_of_text text none) e.filled e.of_formula).0
+    ((samples_satisfy f e.events [] x (literals_of_text text e.spelled.0) e.spelled.2 e.of_formula).0
     (record { count = count; values = values; sample = sample }))
   where
     f : Cnf
@@ -116,8 +107,8 @@ values_satisfy origin text i c n none e =
 
     size : length c ≡ (cnf_of text).variables
     size =
-        length-rounds (instance_of origin (cnf_of text).variables e.events) n
-        (start_of (instance_of origin (cnf_of text).variables e.events)) c e.end.run
+        length-rounds (instance_over origin (assignments (cnf_of text) e.events)) n
+        (start_of (instance_over origin (assignments (cnf_of text) e.events))) c e.end.run
         ∙ length-replicate (length (pair_weights (cnf_of text).variables)) 0 ∙ pairs
 
     count : length (values_at s c) ≡ length (pair_weights (cnf_of text).variables)
@@ -138,45 +129,35 @@ values_satisfy origin text i c n none e =
     sample g event all = e.end.end g event (λ k d within.
         let p : ℕ × ℕ = get_or g.cube k d in
         let known = known_variable s (Listed e.events)
-        (pairs_fit origin (cnf_of text).variables e.events (events_fit (cnf_of text).variables (cnf_of text).clauses
-        e.events (literals_of_text text none) e.of_formula))
-        g event p.0 (names_it g.cube p (Contains-get_or g.cube k d within)) in
+        ((assignments_family text (cnf_of text) e.events e.spelled e.of_formula).fits origin) g event p.0
+        (names_it g.cube p (Contains-get_or g.cube k d within)) in
         sym (value-values_at s c p.0 (omega (arith, known, size, pairs))) ∙ all k d within)
 
 -- its text is that of its values
-text_is : (facts : Facts) (text : List ℕ) (i : Instance) (c : List ℕ) (n : ℕ)
-    → facts ≡ FormulaFacts (cnf_of text).variables
-    → text_of (Rounded facts i c n [] None) ≡ rounded_text (values_at i.stacks c) c n
-text_is facts text i c n is =
-    ap (λ (t : Facts). rounds_text t i c n [] None) is ∙ append-nil (rounded_text (values_at i.stacks c) c n)
+text_is : (text : List ℕ) (i : Instance) (c : List ℕ) (n : ℕ)
+    → text_of (Rounded (FormulaFacts (cnf_of text).variables) i c n [] None) ≡ rounded_text (values_at i.stacks c) c n
+text_is text i c n = append-nil (rounded_text (values_at i.stacks c) c n)
 
 -- an answer with status 0 is such an output
 to_output : (job : Job) (words : List (List ℕ)) (ws : List Watcher) (text out : List ℕ) → job.command ≡ Rounds
     → Asks words job → (o : Outcome) → IsOutcome words ws text o → Tells o 0 out → IsRoundedOutput words ws text out
-to_output job words ws text out by asks o comes tells = elim (word_cases words ws text o comes) [
-  | inl (place, is, bad) ↦ let two = tells.status_is ∙ ap status_of is in absurd (omega (arith, two))
-  | inr came ↦
-      let same : came.job ≡ job = same_job words came.job job came.asks asks in
-      let h : ComesOf job ws text o = of_line job.command job ws text o (rounds_line_of job.command by)
-      (subst (λ (j : Job). ComesBy j.command j ws text o) same came.comes) in
-      let end : IsFinishedEnd job.command (origin_for job) text o =
-      finished_end job ws text o by h (sym tells.status_is) in
-      let told : o ≡ Rounded (FormulaFacts (cnf_of text).variables) end.instance end.cursors end.rounds [] None =
-      end.told ∙ ap (λ (t : Facts). Rounded t end.instance end.cursors end.rounds [] None) end.is.facts_are in
-      record {
-        values = values_at end.instance.stacks end.cursors;
-        cursors = end.cursors;
-        rounds = end.rounds;
-        by = record {
-          instance = end.instance;
-          outcome = subst (IsOutcome words ws text) told comes;
-          sample = refl;
-        };
-        satisfied = values_satisfy (origin_for job) text end.instance end.cursors end.rounds end.is.none end.is.end;
-        out_is = tells.out_is ∙ ap text_of told
-            ∙ text_is (FormulaFacts (cnf_of text).variables) text end.instance end.cursors end.rounds refl;
-      }
-]
+to_output job words ws text out by asks o comes tells =
+    let h : ComesOf job ws text o = of_line job.command job ws text o (rounds_line_of job.command by)
+    (asked_comes words job ws text o asks comes) in
+    let end : IsFinishedEnd (origin_for job) text o = finished_end job ws text o by h (sym tells.status_is) in
+    record {
+      values = values_at end.instance.stacks end.cursors;
+      cursors = end.cursors;
+      rounds = end.rounds;
+      by = record {
+        instance = end.instance;
+        outcome = subst (IsOutcome words ws text) end.told comes;
+        sample = refl;
+      };
+      satisfied = values_satisfy (origin_for job) text (FormulaFacts (cnf_of text).variables) end.instance end.cursors
+          end.rounds end.is;
+      out_is = tells.out_is ∙ ap text_of end.told ∙ text_is text end.instance end.cursors end.rounds;
+    }
 
 -- the law
 pub round_outputs : RoundOutputs
@@ -188,7 +169,7 @@ round_outputs job words ws text out by asks = (
     record {
       status_is = refl;
       out_is = r.out_is ∙ ap (λ (w : List ℕ). rounded_text w r.cursors r.rounds) (sym r.by.sample)
-          ∙ sym (text_is (FormulaFacts (cnf_of text).variables) text r.by.instance r.cursors r.rounds refl);
+          ∙ sym (text_is text r.by.instance r.cursors r.rounds);
     },
   ),
 )

@@ -1,9 +1,9 @@
--- Rounds of an extremal formula end as its run on one thread does. Both spell one formula, which has one list of events,
+-- Rounds of an extremal formula end as its run on one thread does. What is made of the text for one is made for the other,
 -- over stacks of one origin: so both are of one instance. There rounds are exhausted exactly where the run is, and where
 -- both finish, their cursors are equal; and an event occurs at the end of rounds exactly where they are exhausted.
-use Rattle.std.proofs.Common.{inl, inr, ◌≡◌, ◌≢◌, ◌⊎◌, ◌≤◌, ℕ, List, [], ◌∷◌, Option, None, Some, Ok, refl, sym, ap, subst, ◌∙◌, arith, append-nil, false, true, length}
+use Rattle.std.proofs.Common.{inl, inr, ◌≡◌, ◌≢◌, ◌⊎◌, ◌≤◌, ℕ, false, List, [], ◌∷◌, Option, None, Some, refl, sym, ap, subst, ◌∙◌, arith, append-nil}
 use Rattle.std.proofs.lemmas.Option.{none-some}
-use Rattle.pop_model.specs.Stacks.{Origin, StackTable}
+use Rattle.pop_model.specs.Stacks.{StackTable}
 use Rattle.pop_model.specs.Popping.{Cube}
 use Rattle.pop_model.specs.Families.{Event}
 use Rattle.pop_model.specs.Families.Family.{Listed}
@@ -11,41 +11,38 @@ use Rattle.pop_model.specs.Instances.{Instance}
 use Rattle.pop_model.specs.Extremal.{IsExtremal}
 use Rattle.pop_model.specs.Runs.{IsFinished, IsStuckList, IsFirstEnd}
 use Rattle.pop_model.proofs.Rising.{head_member}
+use Rattle.pop_stacks.specs.Faults.{IsSound}
 use Rattle.prs_rounds.specs.Rounds.{IsRoundsEnd}
 use Rattle.prs_rounds.proofs.OnlyOccurring.{resampled_occurs}
 use Rattle.prs_rounds.proofs.LikeFirst.{ends_like_first}
-use Rattle.dimacs_read.specs.Cnf.{Cnf}
-use Rattle.dimacs_read.specs.CnfText.{AnswersCnf}
 use Rattle.pop_words.specs.declared.command.Command.TheVariants.{Formula, Rounds}
 use Rattle.pop_words.specs.declared.job.Job.{Job}
-use Rattle.pop_words.proofs.OneJob.{same_job}
 use Rattle.pop_watch.specs.Telling.{Watcher}
+use Rattle.pop_print.specs.declared.facts.Facts.{Facts}
 use Rattle.pop_print.specs.declared.facts.Facts.TheVariants.{Formula as FormulaFacts}
 use Rattle.pop_print.specs.Output.{findings}
+use Rattle.job_subjects.specs.declared.wanted.Wanted.{Wanted}
+use Rattle.job_subjects.specs.Subjects.{Subject, pair_weights, instance_over, AreAssignments, IsOfCnf, IsSubjectOf}
+use Rattle.job_subjects.specs.Made.{IsMade}
+use Rattle.told_runs.specs.declared.asked.Asked.{Asked}
+use Rattle.told_runs.specs.Asking.{asked_by}
 use Rattle.told_runs.specs.Names.{names_for}
 use Rattle.told_runs.specs.Tellings.{Telling, telling_text}
 use Rattle.told_runs.specs.Outcomes.{Outcome, status_of, text_of, end_status}
 use Rattle.told_runs.specs.Outcomes.Outcome.{Ended, Rounded}
-use Rattle.top_call.specs.Formulas.{EndsFormula, ComesOfFormula}
-use Rattle.told_runs.specs.Ends.{IsRoundsEndOf}
-use Rattle.top_call.specs.Rounds.{EndsRounds, ComesOfRounds}
-use Rattle.job_subjects.specs.Subjects.{pair_weights, instance_of}
-use Rattle.job_subjects.specs.Made.{IsMadeBy}
-use Rattle.top_call.specs.Answers.{ComesOfCnf, Refuses, ComesOf, ComesOfCommand, IsOfLine, ComesBy, origin_for, wanted_by}
-use Rattle.told_runs.specs.Asking.{asked_by}
+use Rattle.told_runs.specs.Ends.{IsEndOf, IsRoundsEndOf}
+use Rattle.top_call.specs.Answers.{origin_for, wanted_by, EndsAs, ComesOf, IsOfLine}
+use Rattle.top_call.proofs.BatchWords.{is_batched, uncounted}
 use Rattle.top_call.proofs.ByCommand.{of_line}
-use Rattle.top_call.proofs.ReadCases.{read_cases}
+use Rattle.top_call.proofs.PauseWords.{paused_no_rounds}
+use Rattle.top_call.proofs.ReadCases.{read_cases, paused_as}
 use Rattle.answer_laws.specs.RoundsLikeFormula.{AgreeUpToUsed, RoundsLikeFormula}
 use Rattle.answer_laws.proofs.Finished.{finished}
-use Rattle.answer_laws.proofs.OneEvents.{one_events}
-use Rattle.answer_laws.proofs.OneOutcome.{word_cases}
-use Rattle.answer_laws.proofs.OneReading.{no_cnf_refusal}
-use Rattle.answer_laws.proofs.OneRounds.{rounded, rounds_cases}
 use Rattle.answer_laws.proofs.OneEnd.{ended}
-use Rattle.pop_stacks.specs.Faults.{IsSound}
-use Rattle.answer_laws.proofs.OneFormula.{formula_cases}
-use Rattle.answer_laws.proofs.RefusedStacks.{no_count_few}
-use Rattle.answer_laws.proofs.RefusedFormulas.{formula_unrefused}
+use Rattle.answer_laws.proofs.OneOutcome.{asked_comes}
+use Rattle.answer_laws.proofs.OneRefusal.{made_unrefused}
+use Rattle.answer_laws.proofs.OneRounds.{rounded}
+use Rattle.answer_laws.proofs.OneSubject.{one_made}
 use Rattle.answer_laws.proofs.RefusalStatuses.{refusal_not_low, not_low}
 
 -- how the end of a run stands beside that of rounds
@@ -129,99 +126,124 @@ answers_alike n i c d pops rounds stuck rest a short alike = (
       (texts_agree n i c pops rounds a)),
 )
 
--- of one formula
-formula_alike : (job : Job) (ws : List Watcher) (origin : Origin) (f : Cnf) (o p : Outcome) → job.count ≡ None
-    → EndsFormula origin (asked_by job) ws f o → EndsRounds origin f p → AnswerAlike o p
-formula_alike job ws origin f o p once h h' =
-    let facts = FormulaFacts f.variables in
-    let i : Instance = instance_of origin f.variables h.events in
-    let events = one_events f.clauses h'.events h.events h'.of_formula h.of_formula in
-    let b = rounded facts i p (subst (λ rows. IsRoundsEndOf facts (instance_of origin f.variables rows) p) events h'.end) in
-    elim (ended (asked_by job) ws facts i o h.end) [
+-- so the ends of what was made do
+ends_alike : (asked : Asked) (ws : List Watcher) (n : ℕ) (s : StackTable) (rows : List (ℕ × Cube)) → asked.count ≡ None
+    → IsExtremal (Listed rows) → (o p : Outcome)
+    → IsEndOf asked ws (FormulaFacts n) (record { stacks = s; family = Listed rows }) o
+    → IsRoundsEndOf (FormulaFacts n) (record { stacks = s; family = Listed rows }) p → AnswerAlike o p
+ends_alike asked ws n s rows once extremal o p h h' =
+    let facts : Facts = FormulaFacts n in
+    let i : Instance = record { stacks = s; family = Listed rows } in
+    let b = rounded facts i p h' in
+    elim (ended asked ws facts i o h) [
       | inl a ↦
           subst (λ q. AnswerAlike q p) (sym a.is) (subst (AnswerAlike (Ended facts i a.cursors a.pops a.stuck a.telling)) (sym b.is)
-          (answers_alike f.variables i a.cursors b.cursors a.pops b.rounds a.stuck b.stuck a.telling b.short
-          (end_alike i.stacks h.events h.extremal a.cursors a.pops a.stuck a.end b.cursors b.rounds b.stuck b.short b.end)))
-      | inr a ↦ absurd (none-some _ (sym once ∙ a.batch.asked_is))
+          (answers_alike n i a.cursors b.cursors a.pops b.rounds a.stuck b.stuck a.telling b.short
+          (end_alike s rows extremal a.cursors a.pops a.stuck a.end b.cursors b.rounds b.stuck b.short b.end)))
+      | inr a ↦ absurd (none-some a.batch.count (sym once ∙ a.batch.asked_is))
     ]
 
--- rounds of a formula whose stacks are sound aren't refused
-rounds_run : (origin : Origin) (f : Cnf) (p : Outcome) → IsSound origin (pair_weights f.variables)
-    → ComesOfRounds origin f p → EndsRounds origin f p
-rounds_run origin f p sound h = elim (rounds_cases origin f p h) [
-  | inl (r, is, refuses) ↦
-      absurd (formula_unrefused true origin None f r sound (no_count_few None (length (pair_weights f.variables)) refl)
-      (λ clash. clash) refuses)
-  | inr (sound', run, few) ↦ run
+-- what is made of the formula for one sample is made for rounds too
+made_for_rounds : (w v : Wanted) (text : List ℕ) (facts : Facts) (i : Instance) → w.command ≡ Formula
+    → v.command ≡ Rounds → w.origin ≡ v.origin → v.count ≡ None → IsMade w text facts i → IsMade v text facts i
+made_for_rounds w v text facts i is is' origin once made =
+    let of : IsOfCnf (AreAssignments false) text made.subject =
+    subst (λ k. IsSubjectOf k w text made.subject) is made.are in
+    let by_rounds : IsSubjectOf Rounds v text made.subject = record {
+      formula = of.formula;
+      spelled = of.spelled;
+      are = record {
+        events = of.are.events;
+        of_formula = of.are.of_formula;
+        extremal = λ may_not. absurd (cc);
+        is = of.are.is;
+      };
+    } in
+    record {
+      subject = made.subject;
+      are = subst (λ k. IsSubjectOf k v text made.subject) (sym is') by_rounds;
+      over = record {
+        facts_are = made.over.facts_are;
+        instance_is = made.over.instance_is ∙ ap (λ o. instance_over o made.subject) origin;
+        sound = subst (λ o. IsSound o made.subject.weights) origin made.over.sound;
+        few = λ count many. absurd (none-some count (sym once ∙ many));
+      };
+    }
+
+-- of what comes of rounds where this is made for them, each is the end of the rounds of that
+rounds_end : (job : Job) (ws : List Watcher) (text : List ℕ) (facts : Facts) (i : Instance) (o : Outcome)
+    → job.command ≡ Rounds → IsMade (wanted_by job) text facts i → ComesOf job ws text o → IsRoundsEndOf facts i o
+rounds_end job ws text facts i o is made h = elim (read_cases job ws text o h) [
+  | inl (r, o_is, refuses) ↦ absurd (made_unrefused (wanted_by job) text facts i r made refuses)
+  | inr (inl (n, o_is, check, verdict)) ↦ absurd (cc)
+  | inr (inr run) ↦ elim run.run [
+    | inl end ↦
+        let (facts_are, instance_is) = one_made (wanted_by job) text run.facts facts run.instance i run.made made in
+        subst (λ t. IsRoundsEndOf t i o) facts_are (subst (λ j. IsRoundsEndOf run.facts j o) instance_is
+        (subst (λ k. EndsAs k (asked_by job) ws run.facts run.instance o) is end))
+    | inr p ↦ absurd (paused_no_rounds job.command p.may.command is)
+  ]
 ]
 
--- of what comes of a formula with a status of a run, and by rounds over stacks of the same origin
-sampled_alike : (job other : Job) (ws : List Watcher) (f : Cnf) (o p : Outcome) → job.count ≡ None
-    → origin_for job ≡ origin_for other → ComesOfFormula false (origin_for job) (asked_by job) ws f o
-    → ComesOfRounds (origin_for other) f p → (status_of o ≡ 0) ⊎ (status_of o ≡ 1) → AnswerAlike o p
-sampled_alike job other ws f o p once origin h h' low =
-    elim (formula_cases false (origin_for job) (asked_by job) ws f o h) [
-      | inl (r, is, refuses) ↦
-          absurd (refusal_not_low r (subst (λ q. (status_of q ≡ 0) ⊎ (status_of q ≡ 1)) is low))
-      | inr (sound, end, few) ↦
-          formula_alike job ws (origin_for job) f o p once end
-          (rounds_run (origin_for job) f p sound (subst (λ from. ComesOfRounds from f p) (sym origin) h'))
-    ]
+-- what was made of a formula, with its end
+record IsFormulaEnd (job : Job) (ws : List Watcher) (text : List ℕ) (o : Outcome) : Type 0 where
+  facts : Facts
+  instance : Instance
+  made : IsMade (wanted_by job) text facts instance
+  end : IsEndOf (asked_by job) ws facts instance o
 
--- what comes of a formula with a status of a run
-by_formula : (job : Job) (ws : List Watcher) (text : List ℕ) (o : Outcome) → job.command ≡ Formula
-    → (status_of o ≡ 0) ⊎ (status_of o ≡ 1) → ComesOf job ws text o
-    → (f : Cnf) × AnswersCnf text (Ok f) × ComesOfFormula false (origin_for job) (asked_by job) ws f o
-by_formula job ws text o is low h = elim (read_cases job ws text o h) [
-  | inl (r, o_is, unread) ↦
+-- it comes of the formula where the status is that of a run
+formula_end : (job : Job) (ws : List Watcher) (text : List ℕ) (o : Outcome) → job.command ≡ Formula
+    → (status_of o ≡ 0) ⊎ (status_of o ≡ 1) → ComesOf job ws text o → IsFormulaEnd job ws text o
+formula_end job ws text o is low h = elim (read_cases job ws text o h) [
+  | inl (r, o_is, refuses) ↦
       absurd (refusal_not_low r (subst (λ q. (status_of q ≡ 0) ⊎ (status_of q ≡ 1)) o_is low))
-  | inr (inl done) ↦
-      let c : ComesOfCnf (ComesOfFormula false (origin_for job) (asked_by job) ws) text o =
-      subst (λ k. ComesOfCommand k job ws text o) is done in
-      (c.formula, c.spelled, c.comes)
-  | inr (inr b) ↦ absurd (not_low (status_of o) (subst (λ q. 2 ≤ status_of q) (sym b.is) (omega arith)) low)
-]
-
--- and by rounds, of a text that spells one
-by_rounds : (job : Job) (ws : List Watcher) (text : List ℕ) (f : Cnf) (p : Outcome) → AnswersCnf text (Ok f)
-    → job.command ≡ Rounds → ComesOf job ws text p → ComesOfRounds (origin_for job) f p
-by_rounds job ws text f p spelled is h = elim (read_cases job ws text p h) [
-  | inl (r, p_is, u) ↦
-      absurd (no_cnf_refusal text f u.cause spelled u.of_text (subst (λ k. Refuses k text u.cause) is u.refused))
-  | inr (inl done) ↦
-      let c : ComesOfCnf (ComesOfRounds (origin_for job)) text p = subst (λ k. ComesOfCommand k job ws text p) is done in
-      subst (λ g. ComesOfRounds (origin_for job) g p) (c.spelled.1 ∙ sym spelled.1) c.comes
-  | inr (inr b) ↦ absurd (subst (λ k. IsMadeBy k (wanted_by job) text b.facts b.i) is b.made)
+  | inr (inl (n, o_is, check, verdict)) ↦ absurd (cc)
+  | inr (inr run) ↦ elim run.run [
+    | inl end ↦ record {
+      facts = run.facts;
+      instance = run.instance;
+      made = run.made;
+      end = subst (λ k. EndsAs k (asked_by job) ws run.facts run.instance o) is end;
+    }
+    | inr p ↦
+        let (placed, o_is, pause) = paused_as job text run.facts run.instance p.pops o p.at in
+        absurd (not_low (status_of o) (subst (λ q. 2 ≤ status_of q) (sym o_is) (omega arith)) low)
+  ]
 ]
 
 -- of two lines over one text
 lines_alike : (job other : Job) (ws vs : List Watcher) (text : List ℕ) (o p : Outcome) → job.command ≡ Formula
-    → other.command ≡ Rounds → job.count ≡ None → origin_for job ≡ origin_for other → ComesOf job ws text o
-    → ComesOf other vs text p → (status_of o ≡ 0) ⊎ (status_of o ≡ 1) → AnswerAlike o p
-lines_alike job other ws vs text o p is is' once origin h h' low =
-    let (f, spelled, comes) = by_formula job ws text o is low h in
-    sampled_alike job other ws f o p once origin comes (by_rounds other vs text f p spelled is' h') low
+    → other.command ≡ Rounds → job.count ≡ None → other.count ≡ None → origin_for job ≡ origin_for other
+    → ComesOf job ws text o → ComesOf other vs text p → (status_of o ≡ 0) ⊎ (status_of o ≡ 1) → AnswerAlike o p
+lines_alike job other ws vs text o p is is' once once' origin h h' low =
+    let e : IsFormulaEnd job ws text o = formula_end job ws text o is low h in
+    let rounds : IsRoundsEndOf e.facts e.instance p = rounds_end other vs text e.facts e.instance p is'
+    (made_for_rounds (wanted_by job) (wanted_by other) text e.facts e.instance is is' origin once' e.made) h' in
+    let of : IsOfCnf (AreAssignments false) text e.made.subject =
+    subst (λ k. IsSubjectOf k (wanted_by job) text e.made.subject) is e.made.are in
+    let n : ℕ = of.formula.variables in
+    let s : StackTable = record { origin = origin_for job; weights = pair_weights n } in
+    let facts_are : e.facts ≡ FormulaFacts n = e.made.over.facts_are ∙ ap (λ (t : Subject). t.facts) of.are.is in
+    let instance_is : e.instance ≡ record { stacks = s; family = Listed of.are.events } =
+    e.made.over.instance_is ∙ ap (instance_over (origin_for job)) of.are.is in
+    let Ends : Facts → Instance → Type 0 = λ t i. IsEndOf (asked_by job) ws t i o × IsRoundsEndOf t i p in
+    let ends : Ends (FormulaFacts n) (record { stacks = s; family = Listed of.are.events }) =
+    subst (λ t. Ends t (record { stacks = s; family = Listed of.are.events })) facts_are
+    (subst (λ i. Ends e.facts i) instance_is (e.end, rounds)) in
+    ends_alike (asked_by job) ws n s of.are.events once (of.are.extremal refl) o p ends.0 ends.1
 
 -- the law
 pub rounds_like_formula : RoundsLikeFormula
 rounds_like_formula words others ws vs text status other out out' d (o, comes, tells) (p, comes', tells') low =
-    elim (word_cases words ws text o comes) [
-      | inl (place, o_is, bad) ↦ absurd (bad.outside (d.job, d.asks))
-      | inr came ↦ elim (word_cases others vs text p comes') [
-        | inl (place, p_is, bad) ↦ absurd (bad.outside (d.other, d.asks_other))
-        | inr came' ↦
-            let one : ComesOf d.job ws text o =
-            of_line d.job.command d.job ws text o (subst IsOfLine (sym d.command) tt)
-            (subst (λ (j : Job). ComesBy j.command j ws text o) (same_job words came.job d.job came.asks d.asks) came.comes) in
-            let two : ComesOf d.other vs text p =
-            of_line d.other.command d.other vs text p (subst IsOfLine (sym d.by_rounds) tt)
-            (subst (λ (j : Job). ComesBy j.command j vs text p) (same_job others came'.job d.other came'.asks d.asks_other)
-            came'.comes) in
-            let alike = lines_alike d.job d.other ws vs text o p d.command d.by_rounds d.once d.origin one two
-            (subst (λ n. (n ≡ 0) ⊎ (n ≡ 1)) tells.status_is low) in (
-              tells.status_is ∙ alike.0 ∙ sym tells'.status_is,
-              λ zero. subst (λ x. AgreeUpToUsed x out') (sym tells.out_is) (subst (AgreeUpToUsed (text_of o)) (sym tells'.out_is)
-                  (alike.1 (sym tells.status_is ∙ zero))),
-            )
-      ]
-    ]
+    let one : ComesOf d.job ws text o = of_line d.job.command d.job ws text o (subst IsOfLine (sym d.command) tt)
+    (asked_comes words d.job ws text o d.asks comes) in
+    let two : ComesOf d.other vs text p = of_line d.other.command d.other vs text p (subst IsOfLine (sym d.by_rounds) tt)
+    (asked_comes others d.other vs text p d.asks_other comes') in
+    let alone : d.other.count ≡ None = uncounted others d.other d.asks_other (ap is_batched d.by_rounds) in
+    let alike = lines_alike d.job d.other ws vs text o p d.command d.by_rounds d.once alone d.origin one two
+    (subst (λ n. (n ≡ 0) ⊎ (n ≡ 1)) tells.status_is low) in (
+      tells.status_is ∙ alike.0 ∙ sym tells'.status_is,
+      λ zero. subst (λ x. AgreeUpToUsed x out') (sym tells.out_is) (subst (AgreeUpToUsed (text_of o)) (sym tells'.out_is)
+          (alike.1 (sym tells.status_is ∙ zero))),
+    )

@@ -1,10 +1,10 @@
 -- Words that give rows ask for a command that reads no certificate: no other allows stacks.
-use Rattle.std.proofs.Common.{inl, inr, ◌≡◌, ℕ, ◌-◌, ◌^◌, Bool, true, false, List, Some, refl, sym, ◌∙◌}
+use Rattle.std.proofs.Common.{inl, inr, ◌≡◌, ℕ, ◌-◌, ◌^◌, Bool, true, false, List, Some, refl, sym, ap, ◌∙◌}
 use Rattle.std.specs.Prelude.{unwrap_or}
 use Rattle.std.proofs.lemmas.Bool.{false≢true}
 use Rattle.pop_stacks.specs.declared.stack_spec.StackSpec.TheVariants.{Given as GivenStacks}
 use Rattle.pop_words.specs.declared.command.Command.{Command}
-use Rattle.pop_words.specs.declared.command.Command.TheVariants.{Formula, Orient, Tree, Resample, Check, Make, Rounds, Replay, Resume}
+use Rattle.pop_words.specs.declared.command.Command.TheVariants.{Replay, Resume}
 use Rattle.pop_words.specs.declared.field.Field.{Field}
 use Rattle.pop_words.specs.declared.field.Field.TheVariants.{Stacks, Key, Height, Grow, Count, Pops, Workers, Board, Log, Root, Witness, Reports, Size}
 use Rattle.pop_words.specs.declared.job.Job.{Job}
@@ -13,6 +13,7 @@ use Rattle.pop_words.specs.Options.{value_of}
 use Rattle.pop_words.specs.CommandLines.{Asks}
 use Rattle.top_call.specs.Answers.{IsOfLine}
 use Rattle.top_call.proofs.ApartWords.{kept, AreKinds, settled}
+use Rattle.top_call.proofs.ByCommand.{reads_no_cert}
 
 -- an option sets the stacks
 abbrev of_stacks : Field → Bool
@@ -70,15 +71,9 @@ stacks_of_lines = record {
 
 -- a command that reads none
 line_by : (k : Command) → is_line k ≡ true → IsOfLine k
-line_by Formula is = tt
-line_by Orient is = tt
-line_by Tree is = tt
-line_by Resample is = tt
-line_by Check is = tt
-line_by Make is = tt
-line_by Rounds is = tt
-line_by Replay is = absurd (false≢true is)
-line_by Resume is = absurd (false≢true is)
+line_by k is =
+    reads_no_cert k (λ same. false≢true (sym (ap is_line same) ∙ is))
+    (λ same. false≢true (sym (ap is_line same) ∙ is))
 
 -- where rows are given, the command is one of these
 pub rows_line : (words : List (List ℕ)) (job : Job) → Asks words job → (rows : List (List ℕ)) → job.stacks ≡ GivenStacks rows

@@ -7,6 +7,7 @@ use Rattle.pop_model.specs.Stacks.{Origin, origin_for as origin_of_sample}
 use Rattle.pop_model.specs.Stacks.Origin.{Given, Keyed}
 use Rattle.pop_model.specs.Families.{Event}
 use Rattle.pop_model.specs.Instances.{Instance, instance_for}
+use Rattle.pop_model.specs.Runs.{IsFirstEnd}
 use Rattle.confluence_core.specs.declared.end.End.{End}
 use Rattle.pop_stacks.specs.Faults.{IsSound}
 use Rattle.pop_words.specs.declared.command.Command.{Command}
@@ -19,13 +20,14 @@ use Rattle.pop_print.specs.Output.{full_text, end_text}
 use Rattle.pop_print.specs.Batches.{batch_line, sample_line, numbered_text, batch_text}
 use Rattle.told_runs.specs.Batches.{batch_status}
 use Rattle.told_runs.specs.Outcomes.Outcome.{Batched}
+use Rattle.job_subjects.specs.declared.wanted.Wanted.{Wanted}
 use Rattle.job_subjects.specs.Subjects.{Subject, instance_over, IsSubjectOf}
-use Rattle.top_call.specs.Answers.{ComesOfCommand, origin_for}
+use Rattle.top_call.specs.Answers.{wanted_by, ComesOf, origin_for}
 use Rattle.answer_laws.specs.Shown.{ShowsSample, ShowsExhausted, ShowsEnd, ShowsEach, ShowsSamples, ShowsStuckSamples}
 use Rattle.top_call.proofs.BatchWords.{is_batched, counted_command}
 use Rattle.top_call.proofs.BatchEnds.{unstuck, a_stuck_one}
 use Rattle.answer_laws.proofs.EndedSubjects.{IsBatchOfSubject, batched_subject}
-use Rattle.answer_laws.proofs.ShownSubjects.{subject_shows}
+use Rattle.answer_laws.proofs.ShownSubjects.{first_over, subject_shows}
 use Rattle.answer_laws.proofs.ShownBehind.{as_sample, as_exhausted}
 
 -- the text of the end of sample j
@@ -89,36 +91,37 @@ sound_for j (Given rows) weights sound = sound
 sound_for j (Keyed key sample height) weights sound = record { rows = tt; light = sound.light }
 
 -- of a command that has batches an end is told in full
-pub in_full : (command : Command) (job : Job) (text : List ℕ) (s : Subject) (i : Instance) (c : List ℕ) (pops : ℕ)
-    (stuck : List Event) → is_batched command ≡ true → IsSubjectOf command job text s
+pub in_full : (command : Command) (w : Wanted) (text : List ℕ) (s : Subject) (i : Instance) (c : List ℕ) (pops : ℕ)
+    (stuck : List Event) → is_batched command ≡ true → IsSubjectOf command w text s
     → end_text s.facts i c pops stuck ≡ full_text s.facts i c pops stuck
-in_full Formula job text s i c pops stuck batched is =
-    subst (λ (t : Subject). end_text t.facts i c pops stuck ≡ full_text t.facts i c pops stuck) (sym is.is) refl
-in_full Orient job text s i c pops stuck batched is =
-    subst (λ (t : Subject). end_text t.facts i c pops stuck ≡ full_text t.facts i c pops stuck) (sym is.is) refl
-in_full Tree job text s i c pops stuck batched is =
-    subst (λ (t : Subject). end_text t.facts i c pops stuck ≡ full_text t.facts i c pops stuck) (sym is.is) refl
-in_full command job text s i c pops stuck batched is = absurd (false≢true batched)
+in_full Formula w text s i c pops stuck batched is =
+    subst (λ (t : Subject). end_text t.facts i c pops stuck ≡ full_text t.facts i c pops stuck) (sym is.are.is) refl
+in_full Orient w text s i c pops stuck batched is =
+    subst (λ (t : Subject). end_text t.facts i c pops stuck ≡ full_text t.facts i c pops stuck) (sym is.are.is) refl
+in_full Tree w text s i c pops stuck batched is =
+    subst (λ (t : Subject). end_text t.facts i c pops stuck ≡ full_text t.facts i c pops stuck) (sym is.are.is) refl
+in_full command w text s i c pops stuck batched is = absurd (false≢true batched)
 
 -- what the text of a sample shows
-sample_shows : (command : Command) (job : Job) (text : List ℕ) (facts : Facts) (i : Instance) (ends : List End)
-    → is_batched command ≡ true → (of : IsBatchOfSubject command job text facts i ends) → (j : ℕ) (end : End)
+sample_shows : (job : Job) (text : List ℕ) (facts : Facts) (i : Instance) (ends : List End)
+    → is_batched job.command ≡ true → (of : IsBatchOfSubject job text facts i ends) → (j : ℕ) (end : End)
     → slice_get ends j ≡ Some end
-    → ShowsEnd command job (origin_of_sample j (origin_for job)) text end.stuck (text_at facts i j end)
-sample_shows command job text facts i ends batched of j end at =
+    → ShowsEnd job.command job (origin_of_sample j (origin_for job)) text end.stuck (text_at facts i j end)
+sample_shows job text facts i ends batched of j end at =
+    let k : Command = job.command in
     let origin : Origin = origin_of_sample j (origin_for job) in
+    let c : List ℕ = end.cursors in
+    let stuck : List Event = end.stuck in
     let s : Subject = of.subject in
-    let first = (of.batch.are.each j end at).first in
-    let own : ShowsEnd command job origin text end.stuck
-    (end_text s.facts (instance_over origin s) end.cursors end.pops end.stuck) =
-    subject_shows command job origin text s of.is end.cursors end.pops end.stuck
-    (sound_for j (origin_for job) s.weights of.sound, first) in
-    let full : ShowsEnd command job origin text end.stuck
-    (full_text s.facts (instance_over origin s) end.cursors end.pops end.stuck) =
-    subst (ShowsEnd command job origin text end.stuck)
-    (in_full command job text s (instance_over origin s) end.cursors end.pops end.stuck batched of.is) own in
-    subst (λ t. ShowsEnd command job origin text end.stuck (text_at t i j end)) (sym of.facts_are)
-    (subst (λ k. ShowsEnd command job origin text end.stuck (text_at s.facts k j end)) (sym of.instance_is) full)
+    let first : IsFirstEnd (instance_over origin s) c end.pops stuck = (of.batch.are.each j end at).first in
+    let own : ShowsEnd k job origin text stuck (end_text s.facts (instance_over origin s) c end.pops stuck) =
+    subject_shows k job origin text s of.is c end.pops stuck
+    (first_over origin s c end.pops stuck (sound_for j (origin_for job) s.weights of.sound) first) in
+    let full : ShowsEnd k job origin text stuck (full_text s.facts (instance_over origin s) c end.pops stuck) =
+    subst (ShowsEnd k job origin text stuck)
+    (in_full k (wanted_by job) text s (instance_over origin s) c end.pops stuck batched of.is) own in
+    subst (λ t. ShowsEnd k job origin text stuck (text_at t i j end)) (sym of.facts_are)
+    (subst (λ n. ShowsEnd k job origin text stuck (text_at s.facts n j end)) (sym of.instance_is) full)
 
 -- the text of a batch, of which each shows what the text of its end does
 abbrev batch_shows : (facts : Facts) (i : Instance) (ends : List End) (count : ℕ) (Shows : ℕ → List ℕ → Type 0)
@@ -142,23 +145,23 @@ either command job origin text (e ∷ stuck) out h = inl h
 
 -- a batch with status 0 shows as many samples as are asked for
 pub batch_samples : (words : List (List ℕ)) (job : Job) → Asks words job → (ws : List Watcher) (text : List ℕ)
-    (facts : Facts) (i : Instance) (ends : List End) → ComesOfCommand job.command job ws text (Batched facts i ends)
+    (facts : Facts) (i : Instance) (ends : List End) → ComesOf job ws text (Batched facts i ends)
     → batch_status ends ≡ 0 → ShowsSamples job.count job text (batch_text facts i ends)
 batch_samples words job asks ws text facts i ends h is =
-    let of = batched_subject words job asks job.command refl ws text facts i ends h in
+    let of = batched_subject job ws text facts i ends h in
     let batched = counted_command words job asks of.batch.count of.batch.asked_is in
     let Shows : ℕ → List ℕ → Type 0 = λ j t. ShowsSample job.command job text t in
     subst (λ k. ShowsSamples k job text (batch_text facts i ends)) (sym of.batch.asked_is)
     (batch_shows facts i ends of.batch.count Shows of.batch.are.count_is
     (λ j end at. as_sample job.command job (origin_of_sample j (origin_for job)) text end.stuck (text_at facts i j end)
-    (unstuck ends j end is at) (sample_shows job.command job text facts i ends batched of j end at)))
+    (unstuck ends j end is at) (sample_shows job text facts i ends batched of j end at)))
 
 -- and one with status 1 a stuck end
 pub batch_exhausted : (words : List (List ℕ)) (job : Job) → Asks words job → (ws : List Watcher) (text : List ℕ)
-    (facts : Facts) (i : Instance) (ends : List End) → ComesOfCommand job.command job ws text (Batched facts i ends)
+    (facts : Facts) (i : Instance) (ends : List End) → ComesOf job ws text (Batched facts i ends)
     → batch_status ends ≡ 1 → ShowsStuckSamples job.count job text (batch_text facts i ends)
 batch_exhausted words job asks ws text facts i ends h is =
-    let of = batched_subject words job asks job.command refl ws text facts i ends h in
+    let of = batched_subject job ws text facts i ends h in
     let batched = counted_command words job asks of.batch.count of.batch.asked_is in
     let Shows : ℕ → List ℕ → Type 0 =
     λ j t. ShowsExhausted job.command job (origin_of_sample j (origin_for job)) text t in
@@ -167,12 +170,12 @@ batch_exhausted words job asks ws text facts i ends h is =
     subst (λ k. ShowsStuckSamples k job text (batch_text facts i ends)) (sym of.batch.asked_is) (record {
       all = batch_shows facts i ends of.batch.count (λ k t. Shows k t ⊎ Others k t) of.batch.are.count_is
           (λ k e there. either job.command job (origin_of_sample k (origin_for job)) text e.stuck (text_at facts i k e)
-          (sample_shows job.command job text facts i ends batched of k e there));
+          (sample_shows job text facts i ends batched of k e there));
       some = (
         j,
         text_at facts i j end,
         text_of_end facts i 0 ends j end at ∙ ap (λ k. Some (text_at facts i k end)) (omega arith),
         as_exhausted job.command job (origin_of_sample j (origin_for job)) text end.stuck (text_at facts i j end) stuck
-            (sample_shows job.command job text facts i ends batched of j end at),
+            (sample_shows job text facts i ends batched of j end at),
       );
     })

@@ -1,9 +1,8 @@
 -- An output determines the log that it shows. Where a text comes to no one end, its outcome is a run that is resampled or
 -- one that stopped, and the text of either has the text of its log; this is legal and layered as it stands, and so is
 -- determined by its text. A certificate says what it runs, so that runs of any words have one log where theirs is one.
-use Rattle.std.proofs.Common.{inl, inr, ◌≡◌, ◌≢◌, ℕ, ◌^◌, ◌<◌, Bool, true, None, Some, List, [], ◌∷◌, ◌++◌, length, map, refl, sym, ap, ap₂, subst, ◌∙◌, arith, append_assoc}
-use Rattle.std.specs.Prelude.{if◌then◌else◌, unwrap_or}
-use Rattle.std.proofs.lemmas.Bool.{false≢true}
+use Rattle.std.proofs.Common.{inl, inr, ◌≡◌, ℕ, ◌^◌, ◌<◌, Bool, true, None, Some, List, [], ◌∷◌, ◌++◌, length, map, refl, sym, ap, ap₂, subst, ◌∙◌, arith, append_assoc}
+use Rattle.std.specs.Prelude.{if◌then◌else◌}
 use Rattle.std.proofs.lemmas.List.{length-map}
 use Rattle.pop_model.specs.Families.{Event}
 use Rattle.pop_model.specs.Instances.{Instance}
@@ -11,46 +10,39 @@ use Rattle.pop_model.specs.Logs.{IsLegal, replay}
 use Rattle.pop_model.specs.Runs.{start_of}
 use Rattle.pop_model.proofs.Replays.{start_count}
 use Rattle.confluence_core.proofs.ShortLogs.{legal_short}
-use Rattle.pop_stacks.specs.Tables.{origin_of}
 use Rattle.pop_log.specs.declared.names.Names.{Names}
 use Rattle.pop_log.specs.Layers.{Placed}
 use Rattle.pop_log.specs.Layered.{AreInLayers}
 use Rattle.pop_log.specs.LayeredTexts.{written, placed_text}
 use Rattle.pop_log.proofs.OnePlaced.{one_placed}
-use Rattle.pop_words.specs.declared.command.Command.{Command}
-use Rattle.pop_words.specs.declared.command.Command.TheVariants.{Formula, Orient, Tree, Resample, Check, Make, Rounds, Replay, Resume}
+use Rattle.pop_words.specs.declared.command.Command.TheVariants.{Resample}
 use Rattle.pop_words.specs.declared.job.Job.{Job}
 use Rattle.pop_words.specs.Options.{command_row}
-use Rattle.pop_words.specs.CommandLines.{Asks}
-use Rattle.pop_words.proofs.JobsInRange.{asked_root}
 use Rattle.pop_watch.specs.Telling.{Watcher}
 use Rattle.pop_print.specs.declared.facts.Facts.{Facts}
 use Rattle.pop_print.specs.declared.facts.Facts.TheVariants.{Formula as FormulaFacts}
 use Rattle.pop_print.specs.Output.{end_text}
-use Rattle.run_cert.specs.Certificates.{Certificate, IsCertOf, height_said, cert_of, cert_text}
+use Rattle.run_cert.specs.Certificates.{Certificate, cert_of}
 use Rattle.run_cert.proofs.OneText.{one_cert}
-use Rattle.run_cert.proofs.PrintedCerts.{printed_is_read}
 use Rattle.told_runs.specs.Names.{names_for}
 use Rattle.told_runs.specs.Witnesses.{witness_text}
 use Rattle.told_runs.specs.Tellings.{Telling, records_of, layered_text, telling_text}
 use Rattle.told_runs.specs.Outcomes.{Outcome, text_of}
 use Rattle.told_runs.specs.Outcomes.Outcome.{Resampled, Paused}
-use Rattle.job_subjects.specs.Subjects.{instance_of}
-use Rattle.job_subjects.specs.declared.wanted.Wanted.{Wanted}
-use Rattle.job_subjects.specs.Made.{IsMadeBy, IsMade}
+use Rattle.job_subjects.specs.Subjects.{Subject, AreAssignments, IsOfCnf, IsSubjectOf}
+use Rattle.job_subjects.specs.Made.{IsMade}
 use Rattle.top_call.specs.Replays.{job_of, wanted_of}
-use Rattle.top_call.specs.Answers.{origin_for, wanted_by, ComesOfCommand, ComesOf, IsOutcome}
+use Rattle.top_call.specs.Answers.{origin_for, wanted_by, ComesOf, IsOutcome}
 use Rattle.top_call.proofs.ByCommand.{by_kind}
-use Rattle.job_subjects.proofs.MadeExtremal.{made_short}
-use Rattle.top_call.proofs.PauseWords.{not_made, stopped_may}
 use Rattle.answer_laws.specs.Laws.{Agree, shown_log}
 use Rattle.answer_laws.specs.ShownLogs.{StopsBehind, AreOneRun, OneShownLog, OneStoppedRun}
 use Rattle.answer_laws.proofs.MadeBounds.{AreShort, IsBounded, made_bounded}
-use Rattle.answer_laws.proofs.CertBounds.{spec_short, job_short}
+use Rattle.answer_laws.proofs.CertBounds.{spec_short, job_short, cert_bounded}
 use Rattle.answer_laws.proofs.CutLogs.{IsFront, end_front, front_cut, written_cut}
-use Rattle.answer_laws.proofs.OnePause.{one_made}
+use Rattle.answer_laws.proofs.OneSubject.{one_made}
 use Rattle.answer_laws.proofs.OneWords.{one_outcome}
-use Rattle.answer_laws.proofs.ResumedUnpaused.{height_alike, made_alike}
+use Rattle.answer_laws.proofs.PausedCerts.{IsPauseCert, paused_cert}
+use Rattle.answer_laws.proofs.ToldOfMade.{resampled_made}
 use Rattle.answer_laws.proofs.UnaskedLogs.{resampling_tells}
 
 -- ---- a log and its text
@@ -93,50 +85,25 @@ record IsToldRun (facts : Facts) (i : Instance) (placed : List Placed) (a : Tell
   log : IsLogOf i placed
   told : a.log ≡ Some placed
 
--- so is what comes of a command that resamples, and no other has such an outcome
-told_by_line : (k : Command) (job : Job) → job.command ≡ k → (job.command ≡ Resample → job.log ≡ true)
-    → AreShort (origin_for job) → (ws : List Watcher) (text : List ℕ) (facts : Facts) (i : Instance)
-    (placed : List Placed) (stuck : List Event) (a : Telling)
-    → ComesOfCommand k job ws text (Resampled facts i placed stuck a) → IsToldRun facts i placed a
-told_by_line Formula job is tells short ws text facts i placed stuck a h = absurd h.comes.1.end
-told_by_line Orient job is tells short ws text facts i placed stuck a h = absurd h.comes.1.1.end
-told_by_line Tree job is tells short ws text facts i placed stuck a h = absurd h.comes.2.1
-told_by_line Resample job is tells short ws text facts i placed stuck a h =
-    let (facts_are, instance_is, leads, layered, told, within) = h.comes.1.history in
-    let facts' : Facts = FormulaFacts h.formula.variables in
-    let j : Instance = instance_of (origin_for job) h.formula.variables h.comes.1.events in
-    let wanted : Wanted = record (wanted_by job) { root = 1 } in
-    let made : IsMadeBy Resample wanted text facts' j = record {
-      formula = h.formula;
-      spelled = h.spelled;
-      made = record {
-        events = h.comes.1.events;
-        of_formula = h.comes.1.of_formula;
-        extremal = λ never. absurd (false≢true (sym never));
-        is = record {
-          facts_are = refl;
-          instance_is = refl;
-          sound = h.comes.0;
-          few = h.comes.2;
-        };
-      };
-    } in
-    let bounded = made_bounded Resample wanted text facts' j short (omega arith) (λ is. absurd (cc)) made in
+-- so is what comes of a job, which resamples
+told_by_line : (job : Job) → (job.command ≡ Resample → job.log ≡ true) → AreShort (origin_for job)
+    → (ws : List Watcher) (text : List ℕ) (facts : Facts) (i : Instance) (placed : List Placed) (stuck : List Event)
+    (a : Telling) → ComesOf job ws text (Resampled facts i placed stuck a) → IsToldRun facts i placed a
+told_by_line job tells short ws text facts i placed stuck a h =
+    let of = resampled_made job ws text facts i placed stuck a h in
+    let s : Subject = of.made.subject in
+    let is : IsOfCnf (AreAssignments true) text s =
+    subst (λ k. IsSubjectOf k (wanted_by job) text s) of.by of.made.are in
     record {
-      n = h.formula.variables;
-      facts_are = facts_are;
+      n = is.formula.variables;
+      facts_are = of.made.over.facts_are ∙ ap (λ (t : Subject). t.facts) is.are.is;
       log = record {
-        bounded = subst IsBounded (sym instance_is) bounded;
-        legal = subst (λ k. IsLegal k (start_of k) (records_of placed)) (sym instance_is) leads.legal;
-        layered = layered;
+        bounded = made_bounded (wanted_by job) text facts i short of.made;
+        legal = of.leads.legal;
+        layered = of.layered;
       };
-      told = told.log_is ∙ ap (λ (asked : Bool). if asked then Some placed else None) (tells is);
+      told = of.told.log_is ∙ ap (λ (asked : Bool). if asked then Some placed else None) (tells of.by);
     }
-told_by_line Check job is tells short ws text facts i placed stuck a h = absurd h.comes
-told_by_line Make job is tells short ws text facts i placed stuck a h = absurd h.1
-told_by_line Rounds job is tells short ws text facts i placed stuck a h = absurd h.comes.1.end
-told_by_line Replay job is tells short ws text facts i placed stuck a h = absurd h
-told_by_line Resume job is tells short ws text facts i placed stuck a h = absurd h
 
 -- and what comes of words, also where a certificate is gone on with
 told_run : (words : List (List ℕ)) (ws : List Watcher) (text : List ℕ) (facts : Facts) (i : Instance)
@@ -145,12 +112,13 @@ told_run : (words : List (List ℕ)) (ws : List Watcher) (text : List ℕ) (fact
 told_run words ws text facts i placed stuck a came =
     let job = came.job in
     elim (by_kind job.command job ws text (Resampled facts i placed stuck a) came.comes) [
-      | inl (line, h) ↦ told_by_line job.command job refl (resampling_tells words job came.asks)
-          (job_short words job came.asks) ws text facts i placed stuck a h
+      | inl (line, h) ↦
+          told_by_line job (resampling_tells words job came.asks) (job_short words job came.asks) ws text facts i placed
+          stuck a h
       | inr (inl (is, b)) ↦ let other = b.comes.is.told in absurd (cc)
       | inr (inr (is, r)) ↦
           let head = r.cert.head in
-          told_by_line head.command (job_of head) refl (λ (by : head.command ≡ Resample). ap (λ k. (command_row k).log) by)
+          told_by_line (job_of head) (λ (by : head.command ≡ Resample). ap (λ k. (command_row k).log) by)
           (spec_short head.stacks head.height r.is.is.head.stacks r.is.is.head.height) ws r.cert.input facts i placed
           stuck a r.comes.comes
     ]
@@ -194,56 +162,36 @@ one_told facts i placed another s r a b run other same =
 
 -- ---- runs that stopped
 
--- a certificate says what was run, and has the run's log
+-- the bytes are a certificate of this text and log
 record HasRunOf (out text : List ℕ) (i : Instance) (placed : List Placed) : Type 0 where
-  cert : Certificate
-  is : IsCertOf out cert
-  input_is : cert.input ≡ text
+  job : Job
   facts : Facts
-  log_text_is : cert.log_text ≡ placed_text (names_for facts) i placed
-  made : IsMade (wanted_of cert.head) cert.input facts i
-  log : IsLogOf i placed
+  cert : IsPauseCert job text out facts i placed
 
--- a pause of a job that words ask for prints one
-paused_run : (words : List (List ℕ)) (job told : Job) → Asks words job → (ws : List Watcher) (text input : List ℕ)
-    (facts : Facts) (i : Instance) (placed : List Placed) → ComesOf job ws text (Paused told input facts i placed)
-    → HasRunOf (text_of (Paused told input facts i placed)) text i placed
-paused_run words job told asks ws text input facts i placed (told_is, input_is, made, (pops, stop, pause), once) =
-    let may = stopped_may words job asks pops stop in
-    let reads : job.command ≢ Make = not_made job.command may.command in
-    let small = made_short job.command (wanted_by job) text facts i reads made in
-    let log_text : List ℕ = placed_text (names_for facts) i placed in
-    let cert : Certificate = cert_of job text log_text in
-    let is : IsCertOf (cert_text cert) cert =
-    printed_is_read words job text log_text asks may.command (omega (arith, small)) in
-    let root = asked_root words job asks in
-    let first = root.0 in
-    let tall : origin_for job ≡ origin_of job.stacks job.height =
-    ap (λ g. origin_of job.stacks (unwrap_or g job.height)) may.level in
-    record {
-      cert = cert;
-      is = subst (λ out. IsCertOf out cert) (sym (ap₂ (λ (j : Job) (x : List ℕ). cert_text (cert_of j x log_text)) told_is input_is)) is;
-      input_is = refl;
-      facts = facts;
-      log_text_is = refl;
-      made = made_alike job.command (wanted_by job) (origin_of job.stacks (height_said job.stacks job.height)) text facts i
-          reads once (tall ∙ sym (height_alike job.stacks job.height)) made;
-      log = record {
-        bounded = made_bounded job.command (wanted_by job) text facts i (job_short words job asks)
-            (omega (arith, first)) reads made;
-        legal = pause.legal;
-        layered = pause.layered;
-      };
-    }
+-- what it holds
+abbrev held_by : (out text : List ℕ) (i : Instance) (placed : List Placed) → HasRunOf out text i placed → Certificate
+held_by out text i placed run = cert_of run.job text (placed_text (names_for run.facts) i placed)
 
--- so does one that comes of words
+-- the log is one of the instance
+log_of : (out text : List ℕ) (i : Instance) (placed : List Placed) → HasRunOf out text i placed → IsLogOf i placed
+log_of out text i placed run = record {
+  bounded = cert_bounded out (held_by out text i placed run) run.cert.is run.facts i run.cert.made;
+  legal = run.cert.legal;
+  layered = run.cert.layered;
+}
+
+-- a pause that comes of words prints one
 stopped_run : (words : List (List ℕ)) (ws : List Watcher) (text : List ℕ) (told : Job) (input : List ℕ) (facts : Facts)
     (i : Instance) (placed : List Placed) → IsOutcome words ws text (Paused told input facts i placed)
     → HasRunOf (text_of (Paused told input facts i placed)) text i placed
 stopped_run words ws text told input facts i placed came =
     let job = came.job in
     elim (by_kind job.command job ws text (Paused told input facts i placed) came.comes) [
-      | inl (line, h) ↦ paused_run words job told came.asks ws text input facts i placed h
+      | inl (line, h) ↦ record {
+        job = job;
+        facts = facts;
+        cert = paused_cert words job came.asks ws text told input facts i placed h;
+      }
       | inr (inl (is, b)) ↦ let other = b.comes.is.told in absurd (cc)
       | inr (inr (is, r)) ↦ absurd r.comes.goes_on
     ]
@@ -252,19 +200,20 @@ stopped_run words ws text told input facts i placed came =
 one_run : (out text input : List ℕ) (i j : Instance) (placed another : List Placed) → HasRunOf out text i placed
     → HasRunOf out input j another → AreOneRun text input i j placed another
 one_run out text input i j placed another run other =
-    let cert = other.cert in
-    let one : run.cert ≡ cert = one_cert out run.cert cert run.is other.is in
+    let held : Certificate = held_by out text i placed run in
+    let cert : Certificate = held_by out input j another other in
+    let one : held ≡ cert = one_cert out held cert run.cert.is other.cert.is in
     let made : IsMade (wanted_of cert.head) cert.input run.facts i =
-    subst (λ (c : Certificate). IsMade (wanted_of c.head) c.input run.facts i) one run.made in
-    let same = one_made cert.head.command (wanted_of cert.head) cert.input run.facts other.facts i j made other.made in
-    let log : IsLogOf j placed = subst (λ k. IsLogOf k placed) same.1 run.log in
+    subst (λ (c : Certificate). IsMade (wanted_of c.head) c.input run.facts i) one run.cert.made in
+    let same = one_made (wanted_of cert.head) cert.input run.facts other.facts i j made other.cert.made in
+    let log : IsLogOf j placed = subst (λ k. IsLogOf k placed) same.1 (log_of out text i placed run) in
     let texts : placed_text (names_for other.facts) j placed ≡ placed_text (names_for other.facts) j another =
-    sym (ap₂ (λ (f : Facts) (k : Instance). placed_text (names_for f) k placed) same.0 same.1) ∙ sym run.log_text_is
-    ∙ ap (λ (c : Certificate). c.log_text) one ∙ other.log_text_is in
+    sym (ap₂ (λ (f : Facts) (k : Instance). placed_text (names_for f) k placed) same.0 same.1)
+    ∙ ap (λ (c : Certificate). c.log_text) one in
     record {
-      same_text = sym run.input_is ∙ ap (λ (c : Certificate). c.input) one ∙ other.input_is;
+      same_text = ap (λ (c : Certificate). c.input) one;
       same_instance = same.1;
-      same_log = one_text (names_for other.facts) j placed another log other.log texts;
+      same_log = one_text (names_for other.facts) j placed another log (log_of out input j another other) texts;
     }
 
 -- a run that is stopped prints the text of one that isn't nowhere

@@ -3,8 +3,7 @@ use Rattle.std.proofs.Common.{inl, inr, ◌≡◌, ℕ, ◌-◌, ◌^◌, Bool, 
 use Rattle.std.specs.Prelude.{unwrap_or}
 use Rattle.std.proofs.lemmas.Bool.{false≢true}
 use Rattle.pop_stacks.specs.declared.stack_spec.StackSpec.TheVariants.{Key as KeyedStacks, Given as GivenStacks}
-use Rattle.pop_words.specs.declared.command.Command.{Command}
-use Rattle.pop_words.specs.declared.command.Command.TheVariants.{Formula, Orient, Tree, Resample, Make}
+use Rattle.pop_words.specs.declared.command.Command.TheVariants.{Resample}
 use Rattle.pop_words.specs.declared.field.Field.{Field}
 use Rattle.pop_words.specs.declared.field.Field.TheVariants.{Stacks, Key, Height, Grow, Count, Pops, Workers, Board, Log, Root, Witness, Reports, Size}
 use Rattle.pop_words.specs.declared.job.Job.{Job}
@@ -12,14 +11,7 @@ use Rattle.pop_words.specs.Values.{number_between, rows_in, key_in, board_in, pa
 use Rattle.pop_words.specs.Options.{command_row, value_of}
 use Rattle.pop_words.specs.CommandLines.{Asks}
 use Rattle.top_call.proofs.ApartWords.{kept, AreKinds, settled}
-
--- the commands that tell a log where they are asked to
-abbrev is_quiet : Command → Bool
-is_quiet Formula = true
-is_quiet Orient = true
-is_quiet Tree = true
-is_quiet Make = true
-is_quiet command = false
+use Rattle.answer_laws.proofs.OrderedCommands.{is_quiet}
 
 -- the field says whether a log is told
 abbrev is_of_log : Field → Bool

@@ -13,10 +13,12 @@ use Rattle.pop_words.specs.Values.{number_between, rows_in, key_in, board_in, sw
 use Rattle.pop_words.specs.Options.{value_of, default_job}
 use Rattle.pop_words.specs.CommandLines.{job_from}
 use Rattle.pop_stacks.specs.declared.stack_spec.StackSpec.TheVariants.{Key as KeyedStacks, Given as GivenStacks}
+use Rattle.told_runs.specs.declared.asked.Asked.{Asked}
+use Rattle.told_runs.specs.Asking.{asked_by}
 use Rattle.told_runs.specs.Outcomes.{status_of, text_of}
-use Rattle.top_call.specs.Answers.{IsOutcome}
+use Rattle.top_call.specs.Answers.{wanted_by, IsOutcome}
 use Rattle.answer_laws.specs.Workers.{tells_crew, but_workers, DifferInWorkers, WorkersAgree}
-use Rattle.answer_laws.proofs.AlikeJobs.{AreAlike, Said, said_by, comes_of_alike}
+use Rattle.answer_laws.proofs.AlikeJobs.{AreAlike, comes_of_alike}
 use Rattle.answer_laws.proofs.FilteredOptions.{AreDropped, unsets, goes_on, parts}
 use Rattle.answer_laws.proofs.OneWords.{one_end}
 
@@ -69,7 +71,7 @@ alike_but_workers words others d =
     let both : uncrewed d.other ≡ uncrewed d.job =
     right ∙ sym (ap (job_from (default_job two.command)) d.options)
     ∙ sym (ap (λ k. job_from (default_job k) (but_workers one.chosen)) d.command) ∙ sym left in
-    record { command = ap (λ (j : Job). j.command) both; said = ap said_by both }
+    record { wanted = ap wanted_by both; asked = ap asked_by both }
 
 -- the law
 pub workers_agree : WorkersAgree
@@ -77,6 +79,6 @@ workers_agree words others ws vs text status other out out' d once like (o, come
     let here : IsOutcome words vs text p = comes_of_alike others words d.other d.job d.asks_other d.asks
     (alike_but_workers words others d)
     (λ pops is. absurd (none-some pops (sym (once d.job d.asks).1
-    ∙ sym (ap (λ (s : Said). s.1.pops) (alike_but_workers words others d).said) ∙ is))) vs text p comes' in
+    ∙ sym (ap (λ (a : Asked). a.pops) (alike_but_workers words others d).asked) ∙ is))) vs text p comes' in
     let same = one_end words ws vs text o p once like comes here in
     (tells.status_is ∙ ap status_of same ∙ sym tells'.status_is, tells.out_is ∙ ap text_of same ∙ sym tells'.out_is)

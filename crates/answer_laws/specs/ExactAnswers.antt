@@ -1,6 +1,6 @@
 -- The exact law, said of answers: into given rows any sample may be written in place of the one
 -- with which their run ends (Propp and Wilson 1998; Guo, Jerrum and Liu 2019).
-use Rattle.std.specs.Prelude.{◌≡◌, ◌↔◌, ℕ, ◌<◌, ◌≤◌, ◌^◌, List, [], length, map, replicate, All}
+use Rattle.std.specs.Prelude.{◌≡◌, ◌↔◌, ℕ, ◌<◌, ◌≤◌, ◌^◌, List, [], length, map, replicate, All, Contains}
 use Rattle.pop_model.specs.Popping.{values_at}
 use Rattle.pop_model.specs.Instances.{Instance}
 use Rattle.pop_stacks.specs.declared.stack_spec.StackSpec.TheVariants.{Given}
@@ -10,14 +10,14 @@ use Rattle.pop_samples.specs.Exchange.{exchange}
 use Rattle.pop_words.specs.declared.command.Command.{Command}
 use Rattle.pop_words.specs.declared.command.Command.TheVariants.{Formula, Orient, Tree, Make, Rounds}
 use Rattle.pop_words.specs.declared.job.Job.{Job}
-use Rattle.pop_words.specs.Options.{default_job}
+use Rattle.pop_words.specs.Options.{default_job, quiet}
 use Rattle.pop_words.specs.CommandLines.{Asks}
 use Rattle.pop_watch.specs.Telling.{Watcher}
 use Rattle.run_cert.specs.Heads.{MayBeStacks}
 use Rattle.pop_print.specs.declared.facts.Facts.{Facts}
 use Rattle.told_runs.specs.Tellings.{Telling}
 use Rattle.told_runs.specs.Outcomes.Outcome.{Ended}
-use Rattle.top_call.specs.Answers.{IsOutcome}
+use Rattle.top_call.specs.Answers.{wanted_by, IsOutcome}
 use Rattle.job_subjects.specs.Subjects.{Subject, IsSubjectOf}
 
 -- the job with these rows for its stacks
@@ -62,12 +62,13 @@ pub record IsReached (job : Job) (text : List ℕ) (s : Subject) (heights x : Li
       → (telling : Telling)
       × IsSampledBy words watchers text s.facts x (replicate (length x) 0) 0 telling
 
--- Each sample of what a job and a text ask for is the answer to some rows, of any heights: each
--- assignment under which no event occurs, each orientation without a sink, each tree to the root.
+-- Each sample of what `formula`, `orient`, `tree` or `make` is asked for is the answer to some rows,
+-- of any heights: each assignment under which no event occurs, each orientation without a sink, each
+-- tree to the root.
 abbrev pub ReachedAnswers : Type 0
 ReachedAnswers = (job : Job) (text : List ℕ) (s : Subject) (heights x : List ℕ)
-    → IsSubjectOf job.command job text s → AreLight s.weights
-    → length heights ≡ length s.weights → All (λ h. 0 < h) heights
+    → Contains quiet job.command → IsSubjectOf job.command (wanted_by job) text s
+    → AreLight s.weights → length heights ≡ length s.weights → All (λ h. 0 < h) heights
     → IsSampleOf (frame_over s heights) x → IsReached job text s heights x
 
 -- a job of such a command with no option but a root, or the side of a grid

@@ -1,6 +1,6 @@
 -- The exact law on printed bytes: of all words that differ in their rows alone, as many make the
 -- program print one sample as another (Propp and Wilson 1998; Guo, Jerrum and Liu 2019).
-use Rattle.std.specs.Prelude.{◌≡◌, ℕ, ◌<◌, List, ◌++◌, length, codes, All, Ok, ⊤}
+use Rattle.std.specs.Prelude.{◌≡◌, ℕ, ◌<◌, List, ◌++◌, length, codes, All, Contains, Ok, ⊤}
 use Rattle.pop_model.specs.Popping.{Cube}
 use Rattle.pop_model.specs.Text.{line}
 use Rattle.dimacs_read.specs.CnfText.{AnswersCnf, cnf_of}
@@ -10,12 +10,13 @@ use Rattle.pop_samples.specs.Lists.{AreAll}
 use Rattle.pop_samples.specs.ExactLaws.{AreProportional}
 use Rattle.pop_words.specs.declared.command.Command.TheVariants.{Rounds}
 use Rattle.pop_words.specs.declared.job.Job.{Job}
+use Rattle.pop_words.specs.Options.{quiet}
 use Rattle.pop_words.specs.CommandLines.{Asks}
 use Rattle.pop_watch.specs.Telling.{Watcher}
 use Rattle.pop_print.specs.declared.facts.Facts.{Facts}
 use Rattle.pop_print.specs.declared.facts.Facts.TheVariants.{Formula as FormulaFacts, Orient as OrientFacts, Tree as TreeFacts, Made as MadeFacts}
 use Rattle.pop_print.specs.Output.{sample_lines}
-use Rattle.top_call.specs.Answers.{IsAnswer}
+use Rattle.top_call.specs.Answers.{wanted_by, IsAnswer}
 use Rattle.job_subjects.specs.Subjects.{Subject, assignments, IsSubjectOf}
 use Rattle.answer_laws.specs.ExactAnswers.{frame_over, over_rows}
 use Rattle.answer_laws.specs.EverySample.{Satisfies}
@@ -53,7 +54,8 @@ AreTelling (MadeFacts side) = ⊥
 abbrev pub ExactOutputs : Type 0
 ExactOutputs = (job : Job) (text : List ℕ) (s : Subject) (heights : List ℕ)
     (words : Rows → List (List ℕ)) (watchers : List Watcher)
-    → IsSubjectOf job.command job text s → AreTelling s.facts
+    → Contains quiet job.command → IsSubjectOf job.command (wanted_by job) text s
+    → AreTelling s.facts
     → length heights ≡ length s.weights → All (λ h. 0 < h) heights
     → AskOver job s.weights heights words → (w x : List ℕ)
     → IsSampleOf (frame_over s heights) w → IsSampleOf (frame_over s heights) x

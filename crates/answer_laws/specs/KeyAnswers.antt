@@ -19,7 +19,7 @@ use Rattle.pop_words.specs.CommandLines.{Asks}
 use Rattle.pop_watch.specs.Telling.{Watcher}
 use Rattle.told_runs.specs.Outcomes.{Outcome, status_of}
 use Rattle.told_runs.specs.Outcomes.Outcome.{Ended, Rounded, Batched}
-use Rattle.top_call.specs.Answers.{IsOutcome, last_height}
+use Rattle.top_call.specs.Answers.{IsOutcome, last_height, wanted_by}
 use Rattle.job_subjects.specs.Subjects.{Subject, assignments, IsSubjectOf}
 use Rattle.answer_laws.specs.ExactAnswers.{frame_over}
 
@@ -52,7 +52,7 @@ pub record IsDrawn (f : Frame) (Kind : List ℕ → Rows → Type 0) (key : List
 -- so it is drawn from all samples of what is asked for
 pub record IsKeyedAnswer (job : Job) (key text : List ℕ) (o : Outcome) : Type 0 where
   pub subject : Subject
-  pub is : IsSubjectOf job.command job text subject
+  pub is : IsSubjectOf job.command (wanted_by job) text subject
   pub drawn : IsDrawn (keyed_frame subject (last_height job))
       (Samples (keyed_frame subject (last_height job))) (key_of key) (last_height job)
       (samples_asked job) o
