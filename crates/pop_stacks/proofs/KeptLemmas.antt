@@ -1,44 +1,75 @@
--- What is kept of entries after a group's values, or those of a first block, took a line.
+-- What is kept of entries after the values that a mark says took a line.
 use Rattle.std.proofs.Common.{◌≡◌, ◌<◌, ◌+◌, ◌-◌, ◌*◌, ◌/◌, ◌%◌, ◌^◌, ◌∙◌, ℕ, zero, suc, List, [], ◌∷◌, length, Option, Some, None, false, ltb, cond, arith, refl, sym, ap, subst, inl, inr}
-use Rattle.std.proofs.lemmas.Bool.{cases_Bool, eqb-true, eqb-false, ne_eqb, ltb-true, cond-true, cond-false}
-use Rattle.std.proofs.lemmas.Option.{cond_some}
+use Rattle.std.proofs.lemmas.Bool.{cases_Bool, eqb-true, eqb-false, ne_eqb, eq-eqb, ltb-true, cond-true, cond-false}
+use Rattle.std.proofs.lemmas.Option.{cond_some, none-some, same_Some}
 use Rattle.std.specs.Prelude.{◌==◌, slice_get, slice_index, slice_set}
-use Rattle.std.specs.Option.{option_and_then}
-use Rattle.std.specs.Int.{bit_at}
+use Rattle.std.specs.Option.{option_and_then, option_map}
 use Rattle.pop_model.specs.Stacks.{StackTable, value_at, domain_of}
-use Rattle.pop_stacks.specs.KeptValues.{KeepsValues, AreValuesOf, AreBelow, Replaces, Begins, kept_at, kept_in, begun_in, kept_or_begun_in}
+use Rattle.pop_stacks.specs.KeptValues.{KeepsValues, AreValuesOf, HasPlaces, Replaces, kept_at, kept_in, place_in}
 use Rattle.pop_stacks.specs.declared.kept_values.KeptValues.{KeptValues}
 
--- an entry's place in its group has the entry's value
-pub value_in_group : (s : StackTable) (v k : ℕ) (values : List ℕ) → AreValuesOf s v (k / 32) values
-    → (slice_index values (k % 32) ≡ value_at s v k) × (slice_index values (k % 32) < domain_of s v)
-value_in_group s v k values are =
-    let whole : 32 * (k / 32) + k % 32 ≡ k = omega arith in
-    let at = are (k % 32) (omega arith) in
-    (at.0 ∙ ap (value_at s v) whole, at.1)
+-- the mark of a group is none of the first block
+group_unmarked : (group : ℕ) → group < 2 ^ 26 → (group + 1 == 2 ^ 32 - 1) ≡ false
+group_unmarked group small = ne_eqb (group + 1) (2 ^ 32 - 1) (λ marked. omega (arith, marked, small))
 
--- what a line of values of a group keeps of an entry is its value
-kept_in_is : (s : StackTable) (v group k x : ℕ) (values : List ℕ) → AreValuesOf s v group values
-    → kept_in (group + 1) (slice_index values) k ≡ Some x → (x ≡ value_at s v k) × (x < domain_of s v)
-kept_in_is s v group k x values are kept =
-    let is = cond_some (group + 1 == k / 32 + 1) (slice_index values (k % 32)) x kept in
-    let same : group ≡ k / 32 = let e : group + 1 ≡ k / 32 + 1 = eqb-true (group + 1) (k / 32 + 1) is.0 in omega (arith, e) in
-    let at = value_in_group s v k values (subst (λ g. AreValuesOf s v g values) same are) in
-    (sym is.1 ∙ at.0, subst (λ y. y < domain_of s v) is.1 at.1)
+-- the entry at a place of a group
+pub group_entry : (group k i : ℕ) → group < 2 ^ 26 → place_in (group + 1) k ≡ Some i
+    → (k ≡ 32 * group + i) × (i < 32)
+group_entry group k i small at =
+    let whole = cond (group + 1 == k / 32 + 1) (Some (k % 32)) None in
+    let of_group : whole ≡ Some i = sym (cond-false (group + 1 == 2 ^ 32 - 1) _ whole (group_unmarked group small)) ∙ at in
+    let is = cond_some (group + 1 == k / 32 + 1) (k % 32) i of_group in
+    let same : group + 1 ≡ k / 32 + 1 = eqb-true (group + 1) (k / 32 + 1) is.0 in
+    (omega (arith, same, is.1), omega (arith, is.1))
 
--- where a group's values took a line, what is kept of an entry is its value
-pub keeps_replaced : (s : StackTable) (old new : KeptValues) (v group : ℕ) (values : List ℕ) → KeepsValues s old
-    → Replaces old new v group values → AreValuesOf s v group values → KeepsValues s new
-keeps_replaced s old new v group values keeps replaces are u k x kept = elim (cases_Bool (u == v)) [
-  | inl same ↦
-      let own = kept_in (group + 1) (slice_index values) k in
-      let here : own ≡ Some x = sym (cond-true (u == v) own (kept_at old u k) same) ∙ sym (replaces u k) ∙ kept in
-      let is : v ≡ u = sym (eqb-true u v same) in
-      kept_in_is s u group k x values (subst (λ w. AreValuesOf s w group values) is are) here
-  | inr other ↦
-      let own = kept_in (group + 1) (slice_index values) k in
-      keeps u k x (sym (cond-false (u == v) own (kept_at old u k) other) ∙ sym (replaces u k) ∙ kept)
-]
+-- the place of an entry in its group
+pub place_in_group : (k : ℕ) → k < 2 ^ 31 → place_in (k / 32 + 1) k ≡ Some (k % 32)
+place_in_group k short =
+    let whole = cond (k / 32 + 1 == k / 32 + 1) (Some (k % 32)) None in
+    cond-false (k / 32 + 1 == 2 ^ 32 - 1) _ whole (group_unmarked (k / 32) (omega arith))
+    ∙ cond-true (k / 32 + 1 == k / 32 + 1) (Some (k % 32)) None (eq-eqb (k / 32 + 1) (k / 32 + 1) refl)
+
+-- the entry at a place of the first block
+pub block_entry : (k i : ℕ) → place_in (2 ^ 32 - 1) k ≡ Some i → (k ≡ i) × (i < 8)
+block_entry k i at =
+    let is = cond_some (ltb k 8) k i at in
+    let few = ltb-true k 8 is.0 in
+    (is.1, omega (arith, is.1, few))
+
+-- values that are the same where a line has places are kept alike
+same_at : (at : Option ℕ) (f g : ℕ → ℕ) → ((i : ℕ) → at ≡ Some i → f i ≡ g i) → option_map f at ≡ option_map g at
+same_at None f g same = refl
+same_at (Some i) f g same = ap Some (same i refl)
+
+pub same_kept : (mark n k : ℕ) (f g : ℕ → ℕ) → HasPlaces mark n → ((i : ℕ) → i < n → f i ≡ g i)
+    → kept_in mark f k ≡ kept_in mark g k
+same_kept mark n k f g places same = same_at (place_in mark k) f g (λ i at. same i (places k i at))
+
+-- what is kept stands at a place
+kept_place : (at : Option ℕ) (f : ℕ → ℕ) (x : ℕ) → option_map f at ≡ Some x → (i : ℕ) × (at ≡ Some i) × (f i ≡ x)
+kept_place None f x kept = absurd (none-some x kept)
+kept_place (Some i) f x kept = (i, refl, same_Some (f i) x kept)
+
+-- what a line of values of a variable keeps of an entry is its value
+kept_is : (s : StackTable) (v mark k x : ℕ) (values : List ℕ) → AreValuesOf s v mark values
+    → kept_in mark (slice_index values) k ≡ Some x → (x ≡ value_at s v k) × (x < domain_of s v)
+kept_is s v mark k x values are kept =
+    let at = kept_place (place_in mark k) (slice_index values) x kept in
+    let is = are k at.0 at.1 in
+    (sym at.2 ∙ is.0, subst (λ y. y < domain_of s v) at.2 is.1)
+
+-- where values of a variable took a line, what is kept of an entry is its value
+pub keeps_replaced : (s : StackTable) (old new : KeptValues) (v mark : ℕ) (values : List ℕ) → KeepsValues s old
+    → Replaces old new v mark values → AreValuesOf s v mark values → KeepsValues s new
+keeps_replaced s old new v mark values keeps replaces are u k x kept =
+    let own = kept_in mark (slice_index values) k in
+    elim (cases_Bool (u == v)) [
+      | inl same ↦
+          let here : own ≡ Some x = sym (cond-true (u == v) own (kept_at old u k) same) ∙ sym (replaces u k) ∙ kept in
+          let is : v ≡ u = sym (eqb-true u v same) in
+          kept_is s u mark k x values (subst (λ w. AreValuesOf s w mark values) is are) here
+      | inr other ↦ keeps u k x (sym (cond-false (u == v) own (kept_at old u k) other) ∙ sym (replaces u k) ∙ kept)
+    ]
 
 -- a line that was written
 written : {L : Type 0} (lines : List L) (v : ℕ) (line : L) → v < length lines
@@ -72,39 +103,3 @@ line_written at own lines v u line within is =
           ap (option_and_then at) (unwritten lines v u line (eqb-false u v other))
           ∙ sym (cond-false (u == v) own rest other)
     ]
-
--- a line of bits that is marked with a group keeps the group's values
-pub bits_kept : (group bits k : ℕ) (values : List ℕ) → group < 2 ^ 26 → AreBelow 2 values
-    → ((i : ℕ) → i < 32 → bit_at bits i ≡ bit_at (slice_index values i) 0)
-    → kept_or_begun_in (group + 1) (bit_at bits) k ≡ kept_in (group + 1) (slice_index values) k
-bits_kept group bits k values small below planes =
-    let unmarked : (group + 1 == 2 ^ 32 - 1) ≡ false =
-    ne_eqb (group + 1) (2 ^ 32 - 1) (λ marked. omega (arith, marked)) in
-    let value : bit_at bits (k % 32) ≡ slice_index values (k % 32) =
-    let small_value = below (k % 32) (omega arith) in omega (arith, planes (k % 32) (omega arith), small_value) in
-    cond-false (group + 1 == 2 ^ 32 - 1) _ _ unmarked
-    ∙ ap (λ x. cond (group + 1 == k / 32 + 1) (Some x) None) value
-
--- what a line that has a first block keeps of an entry is its value
-begun_is : (s : StackTable) (v k x : ℕ) (value : ℕ → ℕ)
-    → ((i : ℕ) → i < 8 → (value i ≡ value_at s v i) × (value i < domain_of s v))
-    → begun_in value k ≡ Some x → (x ≡ value_at s v k) × (x < domain_of s v)
-begun_is s v k x value are kept =
-    let is = cond_some (ltb k 8) (value k) x kept in
-    let at = are k (ltb-true k 8 is.0) in
-    (sym is.1 ∙ at.0, subst (λ y. y < domain_of s v) is.1 at.1)
-
--- where the values of a first block took a line, what is kept of an entry is its value
-pub keeps_begun : (s : StackTable) (old new : KeptValues) (v bits : ℕ) → KeepsValues s old → Begins old new v bits
-    → ((i : ℕ) → i < 8 → (bit_at bits i ≡ value_at s v i) × (bit_at bits i < domain_of s v)) → KeepsValues s new
-keeps_begun s old new v bits keeps begins are u k x kept = elim (cases_Bool (u == v)) [
-  | inl same ↦
-      let own = begun_in (bit_at bits) k in
-      let here : own ≡ Some x = sym (cond-true (u == v) own (kept_at old u k) same) ∙ sym (begins u k) ∙ kept in
-      let is : v ≡ u = sym (eqb-true u v same) in
-      begun_is s u k x (bit_at bits)
-      (subst (λ w. (i : ℕ) → i < 8 → (bit_at bits i ≡ value_at s w i) × (bit_at bits i < domain_of s w)) is are) here
-  | inr other ↦
-      let own = begun_in (bit_at bits) k in
-      keeps u k x (sym (cond-false (u == v) own (kept_at old u k) other) ∙ sym (begins u k) ∙ kept)
-]

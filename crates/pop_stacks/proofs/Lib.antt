@@ -4,7 +4,7 @@ mod SumsInPlace
 mod WeightsBySums
 -- Values: drawn by the sums, one or a group at a time, from the words of a key
 pub mod DrawsLemmas
-mod GroupDraws
+mod ManyDraws
 mod KeyedEntries
 -- What a reader keeps: bits in words, and groups in lines
 mod PlaneLemmas

@@ -1,6 +1,5 @@
 -- Weights by their running sums.
 use Rattle.std.specs.Prelude.{◌≡◌, ℕ, ◌+◌, ◌-◌, ◌*◌, ◌^◌, ◌<◌, ◌≤◌, ltb, if◌then◌else◌, List, [], ◌∷◌, ⊤, All, length, slice_index}
-use Rattle.std.specs.Int.{bit_at}
 use Rattle.pop_model.specs.Stacks.{scaled, weighted}
 use Rattle.pop_stacks.specs.Rows.{AreShort}
 
@@ -20,25 +19,20 @@ pub record AreRunning (rows : List (List ℕ)) : Type 0 where
   pub some : All (λ row. 0 < length row) rows
   pub rising : All (λ row. RisesFrom 0 row) rows
 
--- the number of an entry, by the words of its group: its low word comes first
-abbrev pub number_in : List ℕ → ℕ → ℕ
-number_in words i = slice_index words (2 * i) + 2 ^ 32 * slice_index words (2 * i + 1)
+-- the number of an entry, by the words from a place on: its low word comes first
+abbrev pub number_in : List ℕ → ℕ → ℕ → ℕ
+number_in words at i = slice_index words (at + 2 * i) + 2 ^ 32 * slice_index words (at + 2 * i + 1)
 
--- the first values are those that these words give under these weights
-abbrev pub AreDrawn : List ℕ → List ℕ → ℕ → List ℕ → Type 0
-AreDrawn weights words n values = (i : ℕ) → i < n
-    → (slice_index values i ≡ weighted weights (number_in words i))
+-- the first n values are those that the words from a place on give under these weights
+abbrev pub AreDrawn : List ℕ → List ℕ → ℕ → ℕ → List ℕ → Type 0
+AreDrawn weights words at n values = (i : ℕ) → i < n
+    → (slice_index values i ≡ weighted weights (number_in words at i))
     × (slice_index values i < length weights)
 
--- the first eight bits are the values that the words from a place on give two values of weight 1
-abbrev pub AreDrawnBits : List ℕ → ℕ → ℕ → Type 0
-AreDrawnBits words at bits = (i : ℕ) → i < 8 → bit_at bits i ≡ weighted (1 ∷ 1 ∷ [])
-    (slice_index words (at + 2 * i) + 2 ^ 32 * slice_index words (at + 2 * i + 1))
-
--- the first numbers are those that these words make, scaled to a total
-abbrev pub AreScaled : ℕ → List ℕ → ℕ → List ℕ → Type 0
-AreScaled total words n numbers = (i : ℕ) → i < n
-    → slice_index numbers i ≡ scaled (number_in words i) total
+-- the first n numbers are those that the words from a place on make, scaled to a total
+abbrev pub AreScaled : ℕ → List ℕ → ℕ → ℕ → List ℕ → Type 0
+AreScaled total words at n numbers = (i : ℕ) → i < n
+    → slice_index numbers i ≡ scaled (number_in words at i) total
 
 -- the least place of a sum above m
 pub record IsFirstAbove (sums : List ℕ) (m place : ℕ) : Type 0 where

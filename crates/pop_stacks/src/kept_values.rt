@@ -1,12 +1,14 @@
-ghost use Rattle.std.specs.Prelude.{◌≡◌, ◌<◌, ◌^◌, ℕ, ◌↔◌, IfOk, IsTrue, None};
+ghost use Rattle.std.specs.Prelude.{◌≡◌, ◌≤◌, ℕ, ◌↔◌, IfOk, IsTrue, None};
 
-use crate::bit_line::{self, BEGUN, BitLine};
+use crate::bit_line::{self, BitLine};
 use crate::bit_planes::plane;
 use crate::byte_line::{self, ByteLine};
+use crate::mark::NOTHING;
 use crate::quad_line::{self, QuadLine};
 use std::alloc::{AllocError, Global};
 
-/// For each variable that has a line the values of the group of entries that was looked at last.
+/// For each variable that has a line the values of its first block of entries, or of the group that was
+/// looked at last.
 #[derive(Drop)]
 pub enum KeptValues {
     /// No variable has a line.
@@ -20,7 +22,7 @@ pub enum KeptValues {
 }
 
 impl KeptValues {
-    ghost use Rattle.pop_stacks.specs.KeptValues.{kept_at, keeps, CanKeep, CanBegin, AreBelow, Replaces, Begins};
+    ghost use Rattle.pop_stacks.specs.KeptValues.{kept_at, keeps, CanKeep, AreBelow, HasPlaces, Replaces};
 
     /// Empty lines for this many variables, for values 0 and 1.
     pub fn bits(alloc: Global, count: u32) -> Result<KeptValues, AllocError>
@@ -70,60 +72,42 @@ impl KeptValues {
         }
     }
 
-    /// Whether variable v has a line for values 0 and 1, which keeps nothing yet.
-    pub fn can_begin(&self, v: u32) -> bool
-        ensures { IsTrue result → CanBegin self.now v }
+    /// Whether `can_keep`, and nothing is kept of variable v yet.
+    pub fn can_begin(&self, v: u32, domain: u32) -> bool
+        ensures { IsTrue result → CanKeep self.now v domain }
     {
-        match self {
-            KeptValues::Bits(lines) => {
-                (v as usize) < lines.len() && lines[v as usize].filled == 0
+        self.can_keep(v, domain)
+            && match self {
+                KeptValues::Nothing => false,
+                KeptValues::Bits(lines) => lines[v as usize].mark == NOTHING,
+                KeptValues::Quads(lines) => lines[v as usize].mark == NOTHING,
+                KeptValues::Bytes(lines) => lines[v as usize].mark == NOTHING,
             }
-            KeptValues::Nothing | KeptValues::Quads(_) | KeptValues::Bytes(_) => false,
-        }
     }
 
-    /// Keeps the values of the first block of variable v, a bit each, in the place of what was kept
-    /// of it.
-    pub fn begin(&mut self, v: u32, bits: u32)
-        requires known { CanBegin self.old v }
-        ensures begun { Begins self.old self.new v bits }
-        ensures keeping { keeps self.new ≡ keeps self.old }
-    {
-        match self {
-            KeptValues::Bits(lines) => {
-                lines[v as usize] = BitLine {
-                    filled: BEGUN,
-                    bits,
-                };
-            }
-            KeptValues::Nothing | KeptValues::Quads(_) | KeptValues::Bytes(_) => {}
-        }
-    }
-
-    /// Keeps the values of a group of variable v, which are below `domain`, in the place of what
-    /// was kept of it.
-    pub fn keep(&mut self, v: u32, domain: u32, group: u32, values: &[u8; 32])
+    /// Keeps the values that this mark says of variable v, which are below `domain`, in the place of
+    /// what was kept of it.
+    pub fn keep<const N: usize>(&mut self, v: u32, domain: u32, mark: u32, values: &[u8; N])
         requires known { CanKeep self.old v domain }
-        requires below { AreBelow domain values.now }
-        requires group { group < 2 ^ 26 }
-        ensures replaced { Replaces self.old self.new v group values.now }
+        requires below { AreBelow domain N values.now }
+        requires places { HasPlaces mark N }
+        requires few { N ≤ 32 }
+        ensures replaced { Replaces self.old self.new v mark values.now }
         ensures keeping { keeps self.new ≡ keeps self.old }
     {
-        let filled = group + 1;
         match self {
             KeptValues::Nothing => {}
             KeptValues::Bits(lines) => {
                 let bits = plane(values, 0);
-                lines[v as usize] = BitLine { filled, bits };
+                lines[v as usize] = BitLine { mark, bits };
             }
             KeptValues::Quads(lines) => {
                 let low = plane(values, 0);
                 let high = plane(values, 1);
-                lines[v as usize] = QuadLine { filled, low, high };
+                lines[v as usize] = QuadLine { mark, low, high };
             }
             KeptValues::Bytes(lines) => {
-                let values = *values;
-                lines[v as usize] = ByteLine { filled, values };
+                lines[v as usize] = ByteLine::of(mark, values);
             }
         }
     }

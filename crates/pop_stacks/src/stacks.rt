@@ -1,9 +1,9 @@
 ghost use Rattle.std.specs.Prelude.{◌≡◌, ◌<◌, ◌≤◌, ◌^◌, ◌↔◌, ℕ, [], ◌∷◌, OnOk, IfOk, IfErr, IsTrue};
 ghost use Rattle.pop_model.specs.Stacks.{variables_of, row_of, domain_of, height_of, value_at, stream_of, IsKeyed, stacks_for, stacks_raised, IsTable};
 
-use crate::group_drawing::draw_pair_bits;
 use crate::kept_values::KeptValues;
 use crate::key_stream::KeyStream;
+use crate::mark::FIRST_BLOCK;
 use crate::refill::{BLOCK, GROUP};
 use crate::sums::Sums;
 use crate::{StackFault, StackSpec, Weights};
@@ -159,14 +159,12 @@ impl Stacks {
         KeptValues::bytes(alloc, count)
     }
 
-    // Entry k of variable v, one of its first block, where each variable has two values of weight 1.
-    // The first blocks of four variables are drawn at once, for a quarter of a refill each, and kept
-    // where nothing is kept yet. It is no part of `value`, whose other ways want no room for lanes.
+    // Entry k of variable v, one of its first block. The first blocks of four variables are drawn at
+    // once, for a quarter of a refill each, and kept where nothing is kept yet. It is no part of
+    // `value`, whose other ways want no room for lanes.
     #[inline(never)]
     fn begin(&self, stream: &KeyStream, kept: &mut KeptValues, v: u32, k: u32) -> u32
         requires keyed { IsKeyed self.now.origin }
-        requires pairs { (u : ℕ) → u < variables_of self.now
-            → row_of self.now.weights u ≡ 1 ∷ 1 ∷ [] }
         requires streams { Streams self.now.origin stream.now }
         requires kept { KeepsValues self.now kept.old }
         requires variable { v < variables_of self.now }
@@ -176,14 +174,15 @@ impl Stacks {
         ensures kept { KeepsValues self.now kept.new }
         ensures keeping { keeps kept.new ≡ keeps kept.old }
     {
-        let count = self.sums.count();
         let first = v - v % 4;
         let mut words = [0; 64];
         stream.read_first(stream_number(self.sample, first), &mut words);
-        for j in 0..4 {
-            let u = first + j;
-            if u < count && kept.can_begin(u) {
-                kept.begin(u, draw_pair_bits(&words, 16 * j as usize));
+        let end = self.sums.count().min(first + 4);
+        for u in first..end {
+            let domain = self.sums.slots(u);
+            if kept.can_begin(u, domain) {
+                let values: [u8; 8] = self.sums.draw_many(u, &words, 16 * (u - first) as usize);
+                kept.keep(u, domain, FIRST_BLOCK, &values);
             }
         }
         let at = (16 * (v - first) + 2 * k) as usize;
@@ -206,15 +205,15 @@ impl Stacks {
     {
         match &self.spec {
             StackSpec::Key(_) => {
-                if k < BLOCK && self.sums.are_pairs() && kept.can_begin(v) {
+                let domain = self.sums.slots(v);
+                if k < BLOCK && kept.can_begin(v, domain) {
                     return self.begin(stream, kept, v, k);
                 }
-                let domain = self.sums.slots(v);
                 if kept.can_keep(v, domain) {
                     let mut words = [0; 64];
                     stream.read(stream_number(self.sample, v), k / GROUP, &mut words);
-                    let values = self.sums.draw_group(v, &words);
-                    kept.keep(v, domain, k / GROUP, &values);
+                    let values: [u8; 32] = self.sums.draw_many(v, &words, 0);
+                    kept.keep(v, domain, k / GROUP + 1, &values);
                     return values[(k % GROUP) as usize] as u32;
                 }
                 let (low, high) = stream.words(stream_number(self.sample, v), k);

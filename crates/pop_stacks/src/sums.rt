@@ -6,7 +6,7 @@ ghost use Rattle.pop_stacks.specs.Draws.{AreDrawn};
 ghost use Rattle.pop_stacks.specs.Rows.{AreWeights};
 
 use crate::drawing::draw;
-use crate::group_drawing::{draw_all, draw_pairs};
+use crate::drawing_many::{draw_all, draw_pairs};
 use crate::{Rows, Weights};
 use std::alloc::{AllocError, Global};
 use std::marker::Model;
@@ -100,16 +100,6 @@ impl Sums {
         true
     }
 
-    /// Whether each variable has two values of weight 1.
-    pub fn are_pairs(&self) -> bool
-        ensures { IsTrue result → (v : ℕ) → v < length self.now → row_of self.now v ≡ 1 ∷ 1 ∷ [] }
-    {
-        match &self.kept {
-            KeptSums::Pairs(_) => true,
-            KeptSums::Rows(_) => false,
-        }
-    }
-
     /// How many values variable v has.
     pub fn slots(&self, v: u32) -> u32
         requires { v < length self.now }
@@ -134,15 +124,16 @@ impl Sums {
         }
     }
 
-    /// The values that the words of a group of entries give variable v, which has at most 256.
-    pub fn draw_group(&self, v: u32, words: &[u32; 64]) -> [u8; 32]
+    /// The values that the words of entries, from a place on, give variable v, which has at most 256.
+    pub fn draw_many<const N: usize>(&self, v: u32, words: &[u32; 64], at: usize) -> [u8; N]
         requires known { v < length self.now }
         requires small { length (row_of self.now v) ≤ 256 }
-        ensures { AreDrawn (row_of self.now v) words.now 32 result }
+        requires place { at + 2 * N ≤ 64 }
+        ensures { AreDrawn (row_of self.now v) words.now at N result }
     {
         match &self.kept {
-            KeptSums::Pairs(_) => draw_pairs(words),
-            KeptSums::Rows(rows) => draw_all(rows.row(v), words),
+            KeptSums::Pairs(_) => draw_pairs(words, at),
+            KeptSums::Rows(rows) => draw_all(rows.row(v), words, at),
         }
     }
 }

@@ -6,7 +6,7 @@ use Rattle.pop_stacks.proofs.bit_planes.plane.Goals as goal
 use Rattle.pop_stacks.proofs.bit_planes.plane.Goals.{then-values-i-eq1, else-values-i-eq1}
 
 pub loop-i-preserved : goal.loop-i-preserved
-loop-i-preserved c =
+loop-i-preserved g c =
     let i = c.loop-i.i in
     let bit : ℕ → ℕ = λ j. bit_at (get_or c.args.values.now j 0) c.args.bit in
     let read : bit_and (get_or c.args.values.now i 0 / 2 ^ c.args.bit) 1 ≡ bit i =
@@ -15,7 +15,7 @@ loop-i-preserved c =
     elim c.if-values-i-eq1.branch [
       | then-values-i-eq1 w ↦
           subst (λ b. HasBits (i + 1) b bit) (sym w.bits-is)
-          (one_placed i c.loop-i.bits bit c.loop-i-test.true (sym read ∙ w.if-values-i-eq1.true) c.loop-i.invariant)
+          (one_placed i c.loop-i.bits bit (omega (arith, c.loop-i-test.true, c.requires.few)) (sym read ∙ w.if-values-i-eq1.true) c.loop-i.invariant)
       | else-values-i-eq1 w ↦
           subst (λ b. HasBits (i + 1) b bit) (sym w.bits-is)
           (zero_placed i c.loop-i.bits bit (omega (arith, below, read, w.if-values-i-eq1.false)) c.loop-i.invariant)

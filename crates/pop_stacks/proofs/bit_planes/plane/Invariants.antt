@@ -5,4 +5,4 @@ use Rattle.pop_stacks.proofs.bit_planes.plane.Given as goal
 
 -- the bits up to here are those of the values
 abbrev pub invariant-loop-i : goal.invariant-loop-i
-invariant-loop-i l = HasBits l.i l.bits (λ j. bit_at (get_or l.values j 0) l.bit)
+invariant-loop-i g l = HasBits l.i l.bits (λ j. bit_at (get_or l.values j 0) l.bit)

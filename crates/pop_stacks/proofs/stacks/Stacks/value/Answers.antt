@@ -1,29 +1,41 @@
-use Rattle.std.proofs.Common.{◌/◌, ◌+◌, ◌*◌, ◌∙◌, ap, subst}
+use Rattle.std.proofs.Common.{◌/◌, ◌%◌, ◌+◌, ◌*◌, ◌∙◌, arith, rules, ap, subst}
 use Rattle.rand_chacha.specs.ChaCha.{word_at}
 use Rattle.pop_stacks.specs.Words.{AreWordsOf}
 use Rattle.pop_stacks.specs.KeptValues.{AreValuesOf}
-use Rattle.pop_stacks.proofs.KeyedEntries.{keyed_value, keyed_values}
-use Rattle.pop_stacks.proofs.KeptLemmas.{value_in_group, keeps_replaced}
+use Rattle.pop_stacks.proofs.KeyedEntries.{keyed_value, group_values}
+use Rattle.pop_stacks.proofs.KeptLemmas.{group_entry, place_in_group, keeps_replaced}
 use Rattle.pop_stacks.proofs.stacks.Stacks.value.Goals as goal
 use Rattle.pop_stacks.proofs.stacks.Stacks.value.Goals.{After-keep}
 
 -- the values of the group are drawn
-drawn : (c : After-keep) → AreValuesOf c.args.self.now c.args.v (c.args.k / 32) c.draw_group-values.result
+drawn : (c : After-keep) → AreValuesOf c.args.self.now c.args.v (c.args.k / 32 + 1) c.draw_many-values.result
 drawn c =
-    keyed_values c.args.self.now c.self.inside.spec c.in-Key.field-0 c.args.stream.now c.self.inside.sample c.self.inside.height
-    c.self.inside.sums c.args.v (c.args.k / 32) c.read.new.words c.draw_group-values.result
-    c.in-Key.is c.self.view_is c.requires.streams
+    group_values c.args.self.now c.self.inside.spec c.in-Key.field-0 c.args.stream.now c.self.inside.sample c.self.inside.height
+    c.self.inside.sums c.args.v (c.args.k / 32) c.read.new.words c.draw_many-values.result
+    c.in-Key.is c.self.view_is c.requires.streams (omega arith)
     (subst (λ n. AreWordsOf c.args.stream.now n (c.args.k / 32) c.read.new.words) c.stream_number.ensures c.read.ensures.words)
-    c.draw_group-values.ensures
+    c.draw_many-values.ensures
+
+pub keep-requires : goal.keep-requires
+keep-requires c = (
+  omega arith,
+  (
+    search rules,
+    (
+      search rules,
+      (λ k i at. (group_entry (c.args.k / 32) k i (omega arith) at).1, omega arith),
+    ),
+  ),
+)
 
 pub returns-then-can_keep-clause-value : goal.returns-then-can_keep-clause-value
 returns-then-can_keep-clause-value c =
-    (value_in_group c.args.self.now c.args.v c.args.k c.draw_group-values.result (drawn c)).0
+    (drawn c c.args.k (c.args.k % 32) (place_in_group c.args.k c.requires.short)).0
 
 pub returns-then-can_keep-clause-kept : goal.returns-then-can_keep-clause-kept
 returns-then-can_keep-clause-kept c =
-    keeps_replaced c.args.self.now c.args.kept.now c.keep.new.self c.args.v (c.args.k / 32)
-    c.draw_group-values.result c.requires.kept c.keep.ensures.replaced (drawn c)
+    keeps_replaced c.args.self.now c.args.kept.now c.keep.new.self c.args.v (c.args.k / 32 + 1)
+    c.draw_many-values.result c.requires.kept c.keep.ensures.replaced (drawn c)
 
 pub returns-else-can_keep-clause-value : goal.returns-else-can_keep-clause-value
 returns-else-can_keep-clause-value c =

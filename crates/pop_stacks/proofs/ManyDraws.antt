@@ -1,4 +1,4 @@
--- Values of a group of entries. Where sums rise, the places that move past each sum not above a
+-- Values of many entries. Where sums rise, the places that move past each sum not above a
 -- number end at the least place of a sum above it. The least places of sums above the scaled
 -- numbers are the values that the weights give, as they are for one entry.
 use Rattle.std.proofs.Common.{inl, inr, ◌≡◌, ℕ, ◌+◌, ◌-◌, ◌<◌, ◌≤◌, List, length, get_or, cond, sym, ap, subst, arith}
@@ -7,13 +7,13 @@ use Rattle.pop_stacks.specs.Draws.{differences, past, number_in, RisesFrom, AreD
 use Rattle.pop_stacks.proofs.DrawsLemmas.{length-differences, rises_between, unit_sums, drawn}
 
 -- the least places of sums above the scaled numbers are the values that the weights give
-pub drawn_group : (sums words numbers values : List ℕ) → 0 < length sums → RisesFrom 0 sums
-    → AreScaled (get_or sums (length sums - 1) 0) words 32 numbers → AreFirstAbove sums numbers 32 values
-    → AreDrawn (differences 0 sums) words 32 values
-drawn_group sums words numbers values some rising scaled firsts i below =
+pub drawn_many : (sums words : List ℕ) (at n : ℕ) (numbers values : List ℕ) → 0 < length sums → RisesFrom 0 sums
+    → AreScaled (get_or sums (length sums - 1) 0) words at n numbers → AreFirstAbove sums numbers n values
+    → AreDrawn (differences 0 sums) words at n values
+drawn_many sums words start n numbers values some rising scaled firsts i below =
     let at = firsts i below in
     let within = at.within in (
-      drawn sums (number_in words i) (get_or numbers i 0) (get_or values i 0) some rising (scaled i below)
+      drawn sums (number_in words start i) (get_or numbers i 0) (get_or values i 0) some rising (scaled i below)
           within at.above at.least,
       omega (arith, length-differences 0 sums, within),
     )

@@ -1,10 +1,10 @@
 use Rattle.std.proofs.Common.{◌≡◌, length}
 use Rattle.pop_stacks.specs.Draws.{AreFirstAbove}
-use Rattle.pop_stacks.proofs.group_drawing.halve_all.Given as goal
+use Rattle.pop_stacks.proofs.drawing_many.halve_all.Given as goal
 
 -- the places up to here are found
 abbrev pub invariant-loop-i : goal.invariant-loop-i
-invariant-loop-i l = record {
+invariant-loop-i g l = record {
   found : AreFirstAbove l.sums l.numbers l.i l.places;
-  size : length l.places ≡ 32;
+  size : length l.places ≡ g.row.N;
 }

@@ -1,19 +1,25 @@
 use Rattle.std.proofs.Common.{◌-◌, length, get_or, sym, subst, arith}
 use Rattle.pop_stacks.specs.Draws.{IsFirstAbove}
 use Rattle.pop_stacks.proofs.DrawsLemmas.{rises_at}
-use Rattle.pop_stacks.proofs.GroupDraws.{drawn_group, unit_first}
-use Rattle.pop_stacks.proofs.group_drawing.draw_all.Goals as goal
+use Rattle.pop_stacks.proofs.ManyDraws.{drawn_many, unit_first}
+use Rattle.pop_stacks.proofs.drawing_many.draw_all.Goals as goal
 
 pub scale_all-numbers-requires : goal.scale_all-numbers-requires
-scale_all-numbers-requires c =
+scale_all-numbers-requires g c =
     let some = c.requires.some in
-    rises_at 0 c.args.sums.now (length c.args.sums.now - 1) c.requires.rising (omega arith)
+    let place = c.requires.place in (
+      omega (arith, place),
+      (
+        place,
+        rises_at 0 c.args.sums.now (length c.args.sums.now - 1) c.requires.rising (omega arith),
+      ),
+    )
 
 pub returns-then-total-sums : goal.returns-then-total-sums
-returns-then-total-sums c =
+returns-then-total-sums g c =
     let sums = c.args.sums.now in
     let numbers = c.scale_all-numbers.result in
-    drawn_group sums c.args.words.now numbers c.narrow.result c.requires.some c.requires.rising
+    drawn_many sums c.args.words.now c.args.at g.row.N numbers c.narrow.result c.requires.some c.requires.rising
     c.scale_all-numbers.ensures.scaled
     (λ i below.
     let within = c.scale_all-numbers.ensures.below i below in
@@ -22,11 +28,11 @@ returns-then-total-sums c =
     (omega (arith, within, c.if-total-sums.true))))
 
 pub returns-then-sums-le-FEW : goal.returns-then-sums-le-FEW
-returns-then-sums-le-FEW c =
-    drawn_group c.args.sums.now c.args.words.now c.scale_all-numbers.result c.pass_all.result
+returns-then-sums-le-FEW g c =
+    drawn_many c.args.sums.now c.args.words.now c.args.at g.row.N c.scale_all-numbers.result c.pass_all.result
     c.requires.some c.requires.rising c.scale_all-numbers.ensures.scaled c.pass_all.ensures
 
 pub returns : goal.returns
-returns c =
-    drawn_group c.args.sums.now c.args.words.now c.scale_all-numbers.result c.halve_all.result
+returns g c =
+    drawn_many c.args.sums.now c.args.words.now c.args.at g.row.N c.scale_all-numbers.result c.halve_all.result
     c.requires.some c.requires.rising c.scale_all-numbers.ensures.scaled c.halve_all.ensures

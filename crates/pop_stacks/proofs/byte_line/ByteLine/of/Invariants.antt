@@ -1,0 +1,9 @@
+use Rattle.std.proofs.Common.{◌≡◌, ◌<◌, ℕ, length, get_or}
+use Rattle.pop_stacks.proofs.byte_line.ByteLine.of.Given as goal
+
+-- the values up to here are written
+abbrev pub invariant-loop-i : goal.invariant-loop-i
+invariant-loop-i g l = record {
+  same : (k : ℕ) → k < l.i → get_or l.values k 0 ≡ get_or l.first k 0;
+  size : length l.values ≡ 32;
+}
