@@ -3,11 +3,11 @@ ghost use Rattle.std.specs.Prelude.{◌≡◌};
 ghost use Rattle.pop_model.specs.Families.Family.{Cycles, Listed};
 ghost use Rattle.pop_model.specs.Instances.{FamilyFits};
 ghost use Rattle.pop_instance.specs.Events.{FitVariables};
-ghost use Rattle.run_makers.specs.Growing.{MayIndex};
+ghost use Rattle.growing_instances.specs.Growing.{MayIndex};
 ghost use Rattle.job_subjects.specs.Subjects.{pair_weights, instance_of};
 
+use growing_instances::{GrowingInstance, GrowingStacks};
 use pop_instance::{Arrows, Events, Family, Index};
-use run_makers::{GrowingInstance, GrowingStacks};
 
 /// The instance of events over so many variables of two values, with their index, where it is at
 /// hand.

@@ -7,9 +7,9 @@ ghost use Rattle.job_subjects.specs.Refusals.{IsRefusal};
 ghost use Rattle.job_subjects.specs.StackFaults.{AreFaulty};
 
 use crate::refusal::{Refusal, unsound};
+use growing_instances::GrowingStacks;
 use pop_print::Facts;
 use pop_stacks::{StackSpec, Stacks, Weights};
-use run_makers::GrowingStacks;
 use std::alloc::{AllocError, Global};
 use std::marker::Model;
 

@@ -4,10 +4,14 @@ use Rattle.std.specs.List.{enumerate_from}
 use Rattle.std.proofs.lemmas.List.{take_all, get_or-map, length-map}
 use Rattle.std.proofs.lemmas.List.FromFn.{get_or-enumerate_from, length-enumerate_from}
 use Rattle.pop_model.specs.Families.{Event, Family}
+use Rattle.pop_model.specs.Popping.{values_at}
+use Rattle.pop_model.specs.Instances.{Instance}
 use Rattle.pop_model.specs.Text.{spaced}
 use Rattle.pop_text.proofs.PrintedMembers.{flat_map-take}
 use Rattle.pop_print.specs.declared.facts.Facts.{Facts}
-use Rattle.pop_print.specs.Output.{literal_of, literals_of, assignment_line, stuck_lines, found_lines}
+use Rattle.pop_print.specs.declared.facts.Facts.TheVariants.{Formula, Orient, Tree, Made}
+use Rattle.pop_print.specs.Ends.{IsToldInFull}
+use Rattle.pop_print.specs.Output.{literal_of, literals_of, assignment_line, stuck_lines, found_lines, sample_lines, used_line, pops_line, full_text, end_text}
 
 -- a member under its number
 pub numbered_at : {X : Type 0} (xs : List X) (i : ℕ) (x : X) → i < length xs → x ≡ get_or xs i x
@@ -69,3 +73,29 @@ found_some facts family values [] before out new some first pushed = absurd (ome
 found_some facts family values (e ∷ stuck) before out new some first pushed =
     pushed ∙ ap (λ l. l ++ stuck_lines facts family (e ∷ stuck)) first
     ∙ append_assoc before (codes "s EXHAUSTED\n") (stuck_lines facts family (e ∷ stuck))
+
+-- the text of an end at which no event occurs, in full, and piece by piece
+in_full : (facts : Facts) (i : Instance) (cursors : List ℕ) (pops : ℕ) (values o₁ o₂ o₃ o₄ : List ℕ)
+    → values ≡ values_at i.stacks cursors → o₁ ≡ codes "s SAMPLE\n" → o₂ ≡ o₁ ++ sample_lines facts values
+    → o₃ ≡ o₂ ++ used_line cursors → o₄ ≡ o₃ ++ pops_line pops → o₄ ≡ full_text facts i cursors pops []
+in_full facts i cursors pops values o₁ o₂ o₃ o₄ are first second third fourth =
+    let lines : List ℕ → List ℕ = λ shown. codes "s SAMPLE\n" ++ sample_lines facts shown in
+    fourth ∙ ap (λ o. o ++ pops_line pops) (third ∙ ap (λ o. o ++ used_line cursors)
+    (second ∙ ap (λ o. o ++ sample_lines facts values) first))
+    ∙ ap (λ shown. lines shown ++ used_line cursors ++ pops_line pops) are
+
+-- which is its text, where no grid was made
+pub sample_told : (facts : Facts) (i : Instance) (cursors : List ℕ) (pops : ℕ) (stuck : List Event)
+    (values o₁ o₂ o₃ o₄ : List ℕ) → IsToldInFull facts → stuck ≡ [] → values ≡ values_at i.stacks cursors
+    → o₁ ≡ codes "s SAMPLE\n" → o₂ ≡ o₁ ++ sample_lines facts values → o₃ ≡ o₂ ++ used_line cursors
+    → o₄ ≡ o₃ ++ pops_line pops → o₄ ≡ end_text facts i cursors pops stuck
+sample_told (Made side) i cursors pops stuck values o₁ o₂ o₃ o₄ full none are first second third fourth = absurd full
+sample_told (Formula n) i cursors pops stuck values o₁ o₂ o₃ o₄ full none are first second third fourth =
+    in_full (Formula n) i cursors pops values o₁ o₂ o₃ o₄ are first second third fourth
+    ∙ ap (full_text (Formula n) i cursors pops) (sym none)
+sample_told (Orient g) i cursors pops stuck values o₁ o₂ o₃ o₄ full none are first second third fourth =
+    in_full (Orient g) i cursors pops values o₁ o₂ o₃ o₄ are first second third fourth
+    ∙ ap (full_text (Orient g) i cursors pops) (sym none)
+sample_told (Tree g root) i cursors pops stuck values o₁ o₂ o₃ o₄ full none are first second third fourth =
+    in_full (Tree g root) i cursors pops values o₁ o₂ o₃ o₄ are first second third fourth
+    ∙ ap (full_text (Tree g root) i cursors pops) (sym none)

@@ -1,5 +1,5 @@
 -- The ends that can be printed.
-use Rattle.std.specs.Prelude.{◌≡◌, ℕ, ◌+◌, ◌<◌, List, Option, length, slice_index, All}
+use Rattle.std.specs.Prelude.{◌≡◌, ℕ, ◌+◌, ◌<◌, List, Option, length, slice_index, ⊤, All}
 use Rattle.pop_model.specs.Stacks.{variables_of, domain_of}
 use Rattle.pop_model.specs.Popping.{Cube, AreWithin, AreValuesAt}
 use Rattle.pop_model.specs.Families.{Event}
@@ -40,6 +40,11 @@ AreFactsOf (Formula n) i = IsOfPairs n i
 AreFactsOf (Orient g) i = IsOfPairs (length g.edges) i
 AreFactsOf (Tree g root) i = IsOfTree g root i
 AreFactsOf (Made side) i = IsOfGrid side i
+
+-- no grid was made, so ends are told in full
+abbrev pub IsToldInFull : Facts → Type 0
+IsToldInFull (Made side) = ⊥
+IsToldInFull facts = ⊤
 
 -- one cursor for each variable, below its height, the events that occur there, and the values
 pub record IsAtEnd (i : Instance) (cursors : List ℕ) (stuck : List Event) (shown : List ℕ)

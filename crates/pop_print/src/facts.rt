@@ -1,4 +1,5 @@
-ghost use Rattle.std.specs.Prelude.{◌≡◌, ◌<◌, ◌^◌};
+ghost use Rattle.std.specs.Prelude.{◌≡◌, ◌<◌, ◌^◌, ◌↔◌, IsTrue};
+ghost use Rattle.pop_print.specs.Ends.{IsToldInFull};
 ghost use Rattle.pop_print.specs.Names.{name_of};
 
 use graph_read::{Graph, vertex_of};
@@ -17,6 +18,16 @@ pub enum Facts {
 }
 
 impl Facts {
+    /// Whether ends are told in full: that over a made grid is told in short.
+    pub fn are_told_in_full(&self) -> bool
+        ensures { IsTrue result ↔ IsToldInFull self.now }
+    {
+        match self {
+            Facts::Formula(_) | Facts::Orient(_) | Facts::Tree(_, _) => true,
+            Facts::Made(_) => false,
+        }
+    }
+
     /// The printed name of a variable below 2^31: its number from 1, that of the edge, or the
     /// vertex.
     pub fn name(&self, v: u32) -> u32

@@ -21,5 +21,5 @@ pub use batches::text_of_batch;
 pub use counts::push_used;
 pub use facts::Facts;
 pub use line::push_line;
-pub use printing::text;
+pub use printing::{text, text_of_sample};
 pub use rounds::text_of_rounds;

@@ -1,5 +1,6 @@
-ghost use Rattle.std.specs.Prelude.{◌≡◌, ◌++◌, OnOk, IfOk};
-ghost use Rattle.pop_print.specs.Ends.{AreFactsOf, IsAtEnd, IsPrintable};
+ghost use Rattle.std.specs.Prelude.{◌≡◌, ◌++◌, [], OnOk, IfOk};
+ghost use Rattle.pop_model.specs.Stacks.{variables_of};
+ghost use Rattle.pop_print.specs.Ends.{AreFactsOf, IsToldInFull, IsAtEnd, IsPrintable};
 ghost use Rattle.pop_print.specs.Output.{found_lines, used_line, pops_line, end_text};
 
 use crate::Facts;
@@ -13,6 +14,7 @@ use itoa::Buffer;
 use pop_instance::Instance;
 use pop_text::Output;
 use std::alloc::{AllocError, Global};
+use std::snapshot::Snapshot;
 
 // What was found: the sample, or the events that occur.
 fn push_findings(
@@ -29,7 +31,7 @@ fn push_findings(
 {
     if end.stuck.len() == 0 {
         out.push(b"s SAMPLE\n")?;
-        push_sample(alloc, out, facts, instance, end)
+        push_sample(alloc, out, facts, Snapshot::of(instance), end)
     } else {
         out.push(b"s EXHAUSTED\n")?;
         push_stuck(out, facts, instance.family(), &end.stuck)
@@ -113,5 +115,30 @@ pub fn text(
     let count = instance.stacks().count();
     let mut out = Output::with_room(alloc, room_for(facts, count))?;
     push_text(alloc, &mut out, facts, instance, end)?;
+    Ok(out.into_bytes())
+}
+
+/// The same text where no event occurs and no grid was made. Nothing is looked at in the instance, so
+/// that it may be let go of before: it had `count` variables.
+pub fn text_of_sample(
+    alloc: Global,
+    facts: &Facts,
+    of: Snapshot<Instance>,
+    count: u32,
+    end: &End,
+) -> Result<Vec<u8>, AllocError>
+    requires facts { AreFactsOf facts.now of.value }
+    requires full { IsToldInFull facts.now }
+    requires count { count ≡ variables_of of.value.stacks }
+    requires end { IsAtEnd of.value end.now.cursors end.now.stuck end.now.values }
+    requires sample { end.now.stuck ≡ [] }
+    ensures { IfOk result (λ bytes. bytes.items
+        ≡ end_text facts.now of.value end.now.cursors end.now.pops end.now.stuck) }
+{
+    let mut out = Output::with_room(alloc, room_for(facts, count))?;
+    out.push(b"s SAMPLE\n")?;
+    push_sample(alloc, &mut out, facts, of, end)?;
+    push_used(&mut out, &end.cursors, count)?;
+    push_line(&mut out, b"pops ", end.pops)?;
     Ok(out.into_bytes())
 }

@@ -11,20 +11,22 @@ use confluence_core::End;
 use pop_instance::Instance;
 use pop_text::Output;
 use std::alloc::{AllocError, Global};
+use std::snapshot::Snapshot;
 
-/// The lines of the sample. A made grid has none: it is told in short.
+/// The lines of the sample of an instance, at which nothing is looked. A made grid has none: it is
+/// told in short.
 pub fn push_sample(
     alloc: Global,
     out: &mut Output,
     facts: &Facts,
-    instance: &Instance,
+    of: Snapshot<Instance>,
     end: &End,
 ) -> Result<(), AllocError>
-    requires facts { AreFactsOf facts.now instance.now }
-    requires end { IsPrintable instance.now end.now.cursors end.now.stuck end.now.values }
+    requires facts { AreFactsOf facts.now of.value }
+    requires end { IsPrintable of.value end.now.cursors end.now.stuck end.now.values }
     ensures { OnOk result (out.new ≡ out.old ++ sample_lines facts.now end.now.values) }
 {
-    let _ = instance;
+    let _ = of;
     match facts {
         Facts::Formula(count) => push_assignment(out, &end.values, *count),
         Facts::Orient(graph) => push_orientation(out, graph, &end.values),

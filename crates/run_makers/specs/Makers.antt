@@ -6,7 +6,7 @@ use Rattle.confluence_core.specs.declared.reached.Reached.{Reached}
 use Rattle.confluence_core.specs.declared.run.Run.{Run}
 use Rattle.confluence_core.specs.Runs.{IsRunOf, ended}
 use Rattle.confluence_core.specs.Stretches.{GoesOn, HasCome, IsReached}
-use Rattle.run_makers.specs.Growing.{MayIndex}
+use Rattle.growing_instances.specs.Growing.{MayIndex}
 
 -- a run of the instance from zeros to an end, and the instance that it was
 pub record IsRunTo (i : Instance) (keeps : Bool) (ran : Run × Instance) : Type 0 where

@@ -5,8 +5,6 @@
 mod alone;
 mod by;
 mod crew;
-mod growing_instance;
-mod growing_stacks;
 mod maker;
 mod on_threads;
 mod opening;
@@ -15,8 +13,6 @@ mod stretch;
 pub use alone::Alone;
 pub use by::By;
 pub use crew::Crew;
-pub use growing_instance::GrowingInstance;
-pub use growing_stacks::GrowingStacks;
 pub use maker::Maker;
 pub use on_threads::OnThreads;
 pub use opening::Opening;

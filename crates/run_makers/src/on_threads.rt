@@ -4,7 +4,7 @@ ghost use Rattle.pop_model.specs.Instances.{instance_raised};
 ghost use Rattle.pop_model.specs.Runs.{start_of};
 ghost use Rattle.confluence_core.specs.Kept.{keeps_log};
 ghost use Rattle.confluence_core.specs.Runs.{IsRunOf};
-ghost use Rattle.run_makers.specs.Growing.{MayGrowTo};
+ghost use Rattle.growing_instances.specs.Growing.{MayGrowTo};
 ghost use Rattle.run_makers.specs.Makers.{IsRunTo, MayGoOn, IsBroughtOn};
 
 use crate::crew::Crew;

@@ -1,7 +1,7 @@
 //! A run that is to be made from zeros.
 use crate::crew::Crew;
-use crate::growing_instance::GrowingInstance;
 use confluence_core::Keep;
+use growing_instances::GrowingInstance;
 use std::alloc::Global;
 
 /// A run that is to be made from zeros to an end at the instance's last height.

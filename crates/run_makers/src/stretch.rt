@@ -1,7 +1,7 @@
 //! A run that is to go on.
 ghost use Rattle.std.specs.Prelude.{IfOk};
 ghost use Rattle.pop_instance.specs.Index.{IsFamilyIndex};
-ghost use Rattle.run_makers.specs.Growing.{MayIndex};
+ghost use Rattle.growing_instances.specs.Growing.{MayIndex};
 
 use crate::crew::Crew;
 use confluence_core::Reached;

@@ -10,10 +10,11 @@ ghost use Rattle.told_runs.specs.Ends.{IsEndOf};
 
 use crate::asked::Asked;
 use crate::call::Call;
+use growing_instances::GrowingInstance;
 use job_subjects::Answer;
 use pop_batch::Ends;
 use pop_print::{Facts, text_of_batch};
-use run_makers::{GrowingInstance, Maker};
+use run_makers::Maker;
 use std::alloc::AllocError;
 
 // The status of a batch: 1 where at some end an event still occurs.

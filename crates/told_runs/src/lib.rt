@@ -9,6 +9,7 @@ mod names;
 mod reporting;
 mod rounding;
 mod running;
+mod sampled;
 mod telling;
 mod witness;
 

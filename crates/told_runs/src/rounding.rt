@@ -9,10 +9,11 @@ ghost use Rattle.told_runs.specs.Ends.{IsRoundsEndOf};
 
 use crate::call::Call;
 use crate::running::status_by;
+use growing_instances::GrowingInstance;
 use job_subjects::Answer;
 use pop_instance::{Family, Index, Instance};
 use pop_print::text_of_rounds;
-use run_makers::{GrowingInstance, Maker};
+use run_makers::Maker;
 use std::alloc::{AllocError, Global};
 
 // The index of the instance's listed events.

@@ -17,14 +17,16 @@ use crate::asked::Asked;
 use crate::call::Call;
 use crate::names::{Named, names_of};
 use crate::reporting::report_log;
+use crate::sampled::tell_sample;
 use crate::witness::{LogText, witness_of};
 use confluence_core::{End, Log, Stuck};
+use growing_instances::GrowingInstance;
 use job_subjects::Answer;
 use pop_instance::{Cursors, Instance};
 use pop_log::{LayeredLog, Names};
 use pop_print::{Facts, text};
 use pop_workers::Outcome;
-use run_makers::{GrowingInstance, Maker, Opening};
+use run_makers::{Maker, Opening};
 use std::alloc::{AllocError, Global};
 
 /// The status of a run by the events that occur at its end: 1 where there are any.
@@ -272,5 +274,8 @@ pub fn run_and_tell<M: Maker>(
         growing,
         keep: asked.keep(),
     })?;
+    if run.log.is_none() && run.end.stuck.len() == 0 && facts.are_told_in_full() {
+        return tell_sample(call.alloc, facts, instance, &run.end, asked);
+    }
     tell_end(call, facts, &instance, run, asked)
 }

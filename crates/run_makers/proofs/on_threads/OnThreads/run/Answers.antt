@@ -1,7 +1,7 @@
 use Rattle.std.proofs.Common.{◌∙◌, sym, ap}
 use Rattle.pop_model.specs.Runs.{start_of}
 use Rattle.confluence_core.specs.Kept.{keeps_log}
-use Rattle.run_makers.specs.Growing.{instance_grown}
+use Rattle.growing_instances.specs.Growing.{instance_grown}
 use Rattle.run_makers.proofs.on_threads.OnThreads.run.Goals as goal
 
 -- at its own height the instance is run from zeros

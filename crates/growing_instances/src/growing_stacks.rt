@@ -1,6 +1,6 @@
 //! Stacks whose height may grow.
 ghost use Rattle.std.specs.Prelude.{◌≡◌};
-ghost use Rattle.run_makers.specs.Growing.{grown, MayGrowTo};
+ghost use Rattle.growing_instances.specs.Growing.{grown, MayGrowTo};
 
 use pop_stacks::Stacks;
 use std::marker::Model;
@@ -15,7 +15,7 @@ pub struct GrowingStacks {
 
 impl Model for GrowingStacks {
     ghost use Rattle.pop_model.specs.Stacks.{StackTable};
-    ghost use Rattle.run_makers.specs.Growing.{grown, MayGrowTo};
+    ghost use Rattle.growing_instances.specs.Growing.{grown, MayGrowTo};
 
     ghost Value = { StackTable };
 

@@ -2,7 +2,7 @@
 ghost use Rattle.std.specs.Prelude.{◌≡◌, MatchOption};
 ghost use Rattle.pop_model.specs.Instances.{FamilyFits};
 ghost use Rattle.pop_instance.specs.Family.{family_of};
-ghost use Rattle.run_makers.specs.Growing.{instance_grown, MayGrowTo, MayIndex};
+ghost use Rattle.growing_instances.specs.Growing.{instance_grown, MayGrowTo, MayIndex};
 
 use crate::growing_stacks::GrowingStacks;
 use pop_instance::{Family, Index, Instance};
@@ -19,7 +19,7 @@ pub struct GrowingInstance {
 
 impl Model for GrowingInstance {
     ghost use Rattle.pop_model.specs.Instances.{Instance as ModelInstance};
-    ghost use Rattle.run_makers.specs.Growing.{instance_grown, MayGrowTo, MayIndex};
+    ghost use Rattle.growing_instances.specs.Growing.{instance_grown, MayGrowTo, MayIndex};
 
     ghost Value = { ModelInstance };
 
