@@ -9,7 +9,7 @@ use Rattle.pop_model.proofs.TallerStacks.{raised_extends}
 use Rattle.confluence_core.specs.declared.reached.Reached.{Reached}
 use Rattle.confluence_core.specs.declared.run.Run.{Run}
 use Rattle.confluence_core.specs.Runs.{IsRunOf, ended}
-use Rattle.confluence_core.specs.Stretches.{GoesOn, IsReached, IsTold, before_pops}
+use Rattle.confluence_core.specs.Stretches.{GoesOn, HasCome, IsReached, IsTold, before_pops}
 use Rattle.confluence_core.proofs.EventVariables.{event_below, event_cube}
 use Rattle.confluence_core.proofs.Reaching.{goes_then, leads_for, reached_raised, told_run}
 use Rattle.pop_workers.specs.Stages.{height, at_next_height, IsLast, IsToCome, IsStageEnd, StagesLead, AreStages, HasBegun}
@@ -35,6 +35,30 @@ pub have_begun : {last : ℕ} {i : Instance} {keeps : Bool} {j : Instance} {reac
 have_begun (StagesLead.one reached stuck is end) = inl refl
 have_begun (StagesLead.more j before reached old stuck staged goes_on is end) =
     inr (j, before, old, staged, goes_on, refl)
+
+-- a run that has come to the end of a stage has come so far at a greater height, where what is stuck is suspected
+pub reached_on : (j k : Instance) (h : ℕ) (start : List ℕ) (keeps : Bool) (before : Reached) (old : List Event)
+    (suspects : List ℕ) → ((v : ℕ) → height_of j.stacks v ≤ h) → IsInstance j → IsReached j start keeps before
+    → IsStageEnd j before old → k ≡ instance_raised h j → suspects ≡ map (λ e. e.unit) old
+    → IsReached k start keeps (record before { suspects = suspects })
+reached_on j k h start keeps before old suspects lower instance reached end is are =
+    subst (λ us. IsReached k start keeps (record before { suspects = us })) (sym are)
+    (subst (λ (x : Instance). IsReached x start keeps (record before { suspects = map (λ e. e.unit) old })) (sym is)
+    (reached_raised j (stacks_raised h j.stacks) (raised_extends j.stacks.origin j.stacks.weights h lower) start keeps
+    before old instance reached end.stuck_list))
+
+-- the same of some run
+pub come_on : (j k : Instance) (h : ℕ) (before : Reached) (old : List Event) (suspects : List ℕ)
+    → ((v : ℕ) → height_of j.stacks v ≤ h) → IsInstance j → HasCome j before → IsStageEnd j before old
+    → k ≡ instance_raised h j → suspects ≡ map (λ e. e.unit) old → HasCome k (record before { suspects = suspects })
+come_on j k h before old suspects lower instance (start, keeps, reached) end is are =
+    (start, keeps, reached_on j k h start keeps before old suspects lower instance reached end is are)
+
+-- it goes on whatever it suspects where it had come
+pub goes_for : (k : Instance) (before left : Reached) (suspects : List ℕ) → GoesOn k before left
+    → GoesOn k (record before { suspects = suspects }) left
+goes_for k before left suspects on =
+    record { leads = leads_for k before left suspects left.suspects on.leads; can = on.can }
 
 -- Stages were made: the stacks are keyed and at most as high as the last, the instance is the first one raised, and the
 -- run has come so far from zeros at its height.
@@ -120,37 +144,22 @@ module _ (last : ℕ) (i : Instance) (keeps : Bool) (j : Instance) (before : Rea
       ∙ raised_height i.stacks.origin made.raised.0 0 made.keyed in
       made.raised.2 ∙ ap (λ n. instance_raised n i) (sym same)
 
-  -- the run has come so far at the next height, where what is stuck is suspected
-  pub next_reached : (h : ℕ) (k : Instance) (suspects : List ℕ) → IsInstance j → IsToCome last j old h
-      → k ≡ instance_raised h j → suspects ≡ map (λ e. e.unit) old
-      → IsReached k (start_of i) keeps (record before { suspects = suspects })
-  next_reached h k suspects instance to_come is are =
-      subst (λ us. IsReached k (start_of i) keeps (record before { suspects = us })) (sym are)
-      (subst (λ (x : Instance). IsReached x (start_of i) keeps (record before { suspects = map (λ e. e.unit) old }))
-      (sym is)
-      (reached_raised j (stacks_raised h j.stacks)
-      (raised_extends j.stacks.origin j.stacks.weights h (all_lower h to_come)) (start_of i) keeps before old instance
-      made.reached made.end.stuck_list))
-
   -- the next stage was made
-  pub next_made : (h : ℕ) (k : Instance) (suspects : List ℕ) (left : Reached) (stuck : List Event) → IsInstance j
-      → IsToCome last j old h → k ≡ instance_raised h j → suspects ≡ map (λ e. e.unit) old
-      → GoesOn k (record before { suspects = suspects }) left → IsStageEnd k left stuck → AreMade last i keeps k left stuck
-  next_made h k suspects left stuck instance to_come is are on end =
+  pub next_made : (h : ℕ) (k : Instance) (left : Reached) (stuck : List Event) → IsInstance j → IsToCome last j old h
+      → k ≡ instance_raised h j → GoesOn k before left → IsStageEnd k left stuck → AreMade last i keeps k left stuck
+  next_made h k left stuck instance to_come is on end =
       let at : k ≡ at_next_height last j = is ∙ ap (λ n. instance_raised n j) to_come.is in
-      let from : GoesOn k before left = record {
-        leads = leads_for k (record before { suspects = suspects }) left before.suspects left.suspects on.leads;
-        can = on.can;
-      } in
+      let suspects = map (λ (e : Event). e.unit) old in
       let staged : StagesLead last i keeps (at_next_height last j) left stuck =
       StagesLead.more j before left old stuck made.staged to_come.goes_on
-      (subst (λ (x : Instance). GoesOn x before left) at from) (subst (λ (x : Instance). IsStageEnd x left stuck) at end) in
+      (subst (λ (x : Instance). GoesOn x before left) at on) (subst (λ (x : Instance). IsStageEnd x left stuck) at end) in
       record {
         staged = subst (λ (x : Instance). StagesLead last i keeps x left stuck) (sym at) staged;
         keyed = made.keyed;
         raised = (h, to_come.most, raised_on h k is);
         reached = goes_then k (before_pops (start_of i) keeps) (record before { suspects = suspects }) left
-            (next_reached h k suspects instance to_come is are) on;
+            (reached_on j k h (start_of i) keeps before old suspects (all_lower h to_come) instance made.reached made.end is
+            refl) (goes_for k before left suspects on);
         end = end;
       }
 

@@ -1,5 +1,5 @@
 //! Runs by workers that claim words.
-ghost use Rattle.std.specs.Prelude.{◌≡◌, ◌<◌, ◌≤◌, [], ℕ, Bool, List, length, IfOk, IfSome};
+ghost use Rattle.std.specs.Prelude.{◌≡◌, ◌<◌, ◌≤◌, [], ℕ, Bool, List, length, IfOk, IfSome, OnOk};
 ghost use Rattle.pop_model.specs.Stacks.{variables_of};
 ghost use Rattle.pop_model.specs.Popping.{AreWithin, AreValuesAt};
 ghost use Rattle.pop_model.specs.Instances.{Instance as ModelInstance, IsInstance};
@@ -10,13 +10,15 @@ ghost use Rattle.confluence_core.specs.Kept.{keeps_log};
 ghost use Rattle.confluence_core.specs.Indexes.{Serves};
 ghost use Rattle.confluence_core.specs.Runs.{IsRunOf};
 ghost use Rattle.confluence_core.specs.Stretches.{CanGoOn, GoesOn, HasCome, IsReached};
+ghost use Rattle.claim_words.specs.Passes.{IsOf, IsIdle, IsSole, instance_of};
 ghost use Rattle.pop_workers.specs.Closings.{AreMerged, IsClosed};
+ghost use Rattle.pop_workers.specs.Readers.{AreReadersOf};
 
 use crate::gated::Gated;
 use crate::words::work_by;
 use crate::workers::Workers;
 use crate::{Gate, Outcome};
-use claim_words::{Board, Closed};
+use claim_words::{Board, Closed, Pass};
 use confluence_core::{Indexed, Keep, Log, Reached, Stuck, Tickets, stuck_at};
 use pop_instance::{Cursors, Index, Instance, Values};
 use pop_log::merge;
@@ -54,15 +56,10 @@ pub fn sample_claimed<R: Threads + Sync, G: Gate + Sync>(
     let opening = Reached::starting(alloc, instance, start, keep)?;
     let index = instance.index(alloc)?;
     if workers == 1 {
-        let mut gated = Gated::with(alloc, instance, index, gate)?;
-        let ended = gated.finish(alloc, instance, opening)?;
-        return gated.alone.tell(alloc, instance, ended);
+        return Gated::with(alloc, instance, index, gate)?.run(alloc, instance, opening);
     }
-    let mut claimed = Claimed::with(alloc, instance, index, Workers { rt, gate, workers })?;
-    let ended = claimed.finish(alloc, instance, opening)?;
-    let stuck = claimed.stuck(alloc, instance, &ended)?;
-    let values = claimed.values(alloc, instance, &ended.cursors)?;
-    Ok(ended.told(stuck, values))
+    let crew = Workers { rt, gate, workers };
+    Claimed::with(alloc, instance, index, crew)?.run(alloc, instance, opening)
 }
 
 /// Several workers, who claim words of a board. What they leave, the calling thread pops; what is
@@ -104,8 +101,7 @@ impl<'c, R, G> Claimed<'c, R, G> {
         requires most { crew.workers ≤ 64 }
         ensures { IfOk result (λ claimed. claimed ≡ instance.now) }
     {
-        let mut readers = Vec::new(alloc);
-        readers.push(Reader::keeping(alloc, instance.stacks())?)?;
+        let readers = first_reader(alloc, instance)?;
         Ok(Claimed {
             crew,
             index,
@@ -113,6 +109,15 @@ impl<'c, R, G> Claimed<'c, R, G> {
             made_for: Snapshot::of(instance),
         })
     }
+}
+
+// One reader, of an instance's stacks.
+fn first_reader(alloc: Global, instance: &Instance) -> Result<Vec<Reader>, AllocError>
+    ensures { IfOk result (λ readers. AreReadersOf instance.now.stacks readers.items) }
+{
+    let mut readers = Vec::new(alloc);
+    readers.push(Reader::keeping(alloc, instance.stacks())?)?;
+    Ok(readers)
 }
 
 impl<'c, R: Threads + Sync, G: Gate + Sync> Claimed<'c, R, G> {
@@ -151,17 +156,39 @@ impl<'c, R: Threads + Sync, G: Gate + Sync> Claimed<'c, R, G> {
         ensures made_for { self.new ≡ self.old }
     {
         let _units = instance.units();
-        let Workers { rt, gate, workers } = self.crew;
-        let crew = Workers { rt, gate, workers };
         let (board, mut pass) = Board::start(alloc, instance, from, keep)?;
-        // Worker 0 goes on with the reader that keeps what was seen last.
-        let reader = mem::replace(&mut self.readers[0], Reader::new(instance.stacks()));
-        let index = &self.index;
-        self.readers = work_by(alloc, crew, &board, &mut pass, instance, index, reader)?;
+        self.work_on(alloc, instance, &board, &mut pass)?;
         match board.close(pass) {
             Ok(closed) => left_by(alloc, closed),
             Err((_, _, failed)) => Err(failed),
         }
+    }
+
+    // Lets the workers bring a board to its end.
+    fn work_on<'i>(
+        &mut self,
+        alloc: Global,
+        instance: &'i Instance,
+        board: &Board<'i>,
+        pass: &mut Pass,
+    ) -> Result<(), AllocError>
+        requires serves { Serves instance.now self.old }
+        requires board { instance_of board.now ≡ instance.now }
+        requires pass { IsOf board.now pass.old }
+        requires idle { IsIdle pass.old }
+        requires sole { IsSole pass.old }
+        ensures pass { IsOf board.now pass.new }
+        ensures idle { IsIdle pass.new }
+        ensures sole { OnOk result (IsSole pass.new) }
+        ensures made_for { self.new ≡ self.old }
+    {
+        let Workers { rt, gate, workers } = self.crew;
+        let crew = Workers { rt, gate, workers };
+        // Worker 0 goes on with the reader that keeps what was seen last.
+        let reader = mem::replace(&mut self.readers[0], Reader::new(instance.stacks()));
+        let index = &self.index;
+        self.readers = work_by(alloc, crew, board, pass, instance, index, reader)?;
+        Ok(())
     }
 
     /// Every event that occurs where a run has come, by rising unit.
@@ -177,6 +204,25 @@ impl<'c, R: Threads + Sync, G: Gate + Sync> Claimed<'c, R, G> {
         ensures made_for { self.new ≡ self.old }
     {
         stuck_at(alloc, instance, &mut self.readers[0], reached)
+    }
+
+    // Brings a run to its end, and tells it.
+    fn run(
+        self,
+        alloc: Global,
+        instance: &Instance,
+        reached: Reached,
+    ) -> Result<Outcome, AllocError>
+        requires serves { Serves instance.now self }
+        requires reached { HasCome instance.now reached }
+        ensures { (start : List ℕ) → (keeps : Bool) → IsReached instance.now start keeps reached
+            → IfOk result (IsRunOf instance.now start keeps) }
+    {
+        let mut claimed = self;
+        let ended = claimed.finish(alloc, instance, reached)?;
+        let stuck = claimed.stuck(alloc, instance, &ended)?;
+        let values = claimed.values(alloc, instance, &ended.cursors)?;
+        Ok(ended.told(stuck, values))
     }
 
     /// The value of each variable at its cursor, which is the last that the readers look up.

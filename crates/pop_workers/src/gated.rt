@@ -1,9 +1,10 @@
-ghost use Rattle.std.specs.Prelude.{◌≡◌, [], IfOk};
+ghost use Rattle.std.specs.Prelude.{◌≡◌, [], ℕ, Bool, List, IfOk};
 ghost use Rattle.pop_instance.specs.Index.{IsFamilyIndex};
 ghost use Rattle.confluence_core.specs.Indexes.{Serves};
-ghost use Rattle.confluence_core.specs.Stretches.{GoesOn, HasCome};
+ghost use Rattle.confluence_core.specs.Runs.{IsRunOf};
+ghost use Rattle.confluence_core.specs.Stretches.{GoesOn, HasCome, IsReached};
 
-use crate::Gate;
+use crate::{Gate, Outcome};
 use confluence_core::{Alone, Reached};
 use pop_instance::{Index, Instance};
 use std::alloc::{AllocError, Global};
@@ -47,5 +48,22 @@ impl<'c, G: Gate> Gated<'c, G> {
     {
         self.gate.at(0, 0);
         self.alone.finish(alloc, instance, reached)
+    }
+
+    /// Brings a run to its end, and tells it.
+    pub(crate) fn run(
+        self,
+        alloc: Global,
+        instance: &Instance,
+        reached: Reached,
+    ) -> Result<Outcome, AllocError>
+        requires serves { Serves instance.now self.alone }
+        requires reached { HasCome instance.now reached }
+        ensures { (start : List ℕ) → (keeps : Bool) → IsReached instance.now start keeps reached
+            → IfOk result (IsRunOf instance.now start keeps) }
+    {
+        let mut gated = self;
+        let ended = gated.finish(alloc, instance, reached)?;
+        gated.alone.tell(alloc, instance, ended)
     }
 }

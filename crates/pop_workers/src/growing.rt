@@ -4,8 +4,11 @@ ghost use Rattle.pop_model.specs.Stacks.{height_of, IsKeyed};
 ghost use Rattle.pop_model.specs.Instances.{IsInstance, instance_raised};
 ghost use Rattle.pop_model.specs.Runs.{IsStuckList, start_of};
 ghost use Rattle.confluence_core.specs.Kept.{keeps_log};
+ghost use Rattle.confluence_core.specs.Indexes.{Serves};
 ghost use Rattle.confluence_core.specs.Runs.{IsRunOf};
-ghost use Rattle.pop_workers.specs.Stages.{height, AreStages, HasBegun, IsLast, IsToCome};
+ghost use Rattle.confluence_core.specs.Stretches.{GoesOn, HasCome, IsReached};
+ghost use Rattle.pop_workers.specs.MadeFor.{made_for};
+ghost use Rattle.pop_workers.specs.Stages.{height, AreStages, HasBegun, IsLast, IsStageEnd, IsToCome, StagesLead};
 
 use crate::makers::Makers;
 use crate::workers::Workers;
@@ -57,16 +60,66 @@ pub fn sample_grown<R: Threads + Wait + Sync, G: Gate + Sync>(
 {
     let crew = Workers { rt, gate, workers };
     let mut makers = Makers::of(alloc, instance, crew, claimed)?;
+    let end = all_stages(alloc, instance, &mut makers, last, keep)?;
+    makers.tell(alloc, instance, end)
+}
+
+// How far the stages come together, and what is stuck there.
+fn all_stages<R: Threads + Wait + Sync, G: Gate + Sync>(
+    alloc: Global,
+    instance: &mut Instance,
+    makers: &mut Makers<R, G>,
+    last: u32,
+    keep: Keep,
+) -> Result<(Reached, Stuck), AllocError>
+    requires serves { Serves instance.old (made_for makers.old) }
+    requires keyed { IsKeyed instance.old.stacks.origin }
+    requires higher { (v : ℕ) → height_of instance.old.stacks v ≤ last }
+    requires short { last < 2 ^ 31 }
+    ensures stages { IfOk result (λ end.
+        StagesLead last instance.old (keeps_log keep) instance.new end.0 end.1) }
+    ensures reached { IfOk result (λ end.
+        IsReached instance.new (start_of instance.old) (keeps_log keep) end.0) }
+    ensures end { IfOk result (λ end. IsStageEnd instance.new end.0 end.1) }
+    ensures last { IfOk result (λ end. IsLast last instance.new end.1) }
+    ensures begun { HasBegun last instance.old (keeps_log keep) instance.new }
+    ensures raised { instance.new ≡ instance_raised (height instance.new) instance.old }
+    ensures low { height instance.new ≤ last }
+    ensures serves { Serves instance.new (made_for makers.new) }
+{
     let opening = Reached::opening(alloc, instance, keep)?;
-    let (mut reached, mut stuck) = makers.stage(alloc, instance, opening)?;
-    'stages: while let Some(height) = height_to_come(instance, &stuck, last) {
-        // What is poppable at the new height occurred at the end before.
-        instance.raise(height);
-        reached.suspects = stuck.units(alloc)?;
-        (reached, stuck) = makers.stage(alloc, instance, reached)?;
+    let mut end = makers.stage(alloc, instance, opening)?;
+    'stages: while let Some(height) = height_to_come(instance, &end.1, last) {
+        end = next_stage(alloc, instance, makers, end, height)?;
     }
-    let values = makers.values(alloc, instance, &reached.cursors)?;
-    Ok(reached.told(stuck, values))
+    Ok(end)
+}
+
+// Raises the stacks to this height, and goes on from the end of a stage to an end there.
+fn next_stage<R: Threads + Wait + Sync, G: Gate + Sync>(
+    alloc: Global,
+    instance: &mut Instance,
+    makers: &mut Makers<R, G>,
+    end: (Reached, Stuck),
+    height: u32,
+) -> Result<(Reached, Stuck), AllocError>
+    requires serves { Serves instance.old (made_for makers.old) }
+    requires keyed { IsKeyed instance.old.stacks.origin }
+    requires higher { (v : ℕ) → height_of instance.old.stacks v ≤ height }
+    requires short { height < 2 ^ 31 }
+    requires come { HasCome instance.old end.0 }
+    requires end { IsStageEnd instance.old end.0 end.1 }
+    ensures raised { instance.new ≡ instance_raised height instance.old }
+    ensures on { IfOk result (λ stage. GoesOn instance.new end.0 stage.0) }
+    ensures end { IfOk result (λ stage. IsStageEnd instance.new stage.0 stage.1) }
+    ensures made_for { made_for makers.new ≡ made_for makers.old }
+{
+    let (mut reached, stuck) = end;
+    let _units = instance.units();
+    instance.raise(height);
+    // What is poppable at the new height occurred at the end before.
+    reached.suspects = stuck.units(alloc)?;
+    makers.stage(alloc, instance, reached)
 }
 
 // The height of the stage behind one that left this, where there is to be one.

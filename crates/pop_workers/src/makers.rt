@@ -5,7 +5,7 @@ ghost use Rattle.pop_model.specs.Runs.{IsStuckList};
 ghost use Rattle.pop_instance.specs.Index.{IsFamilyIndex};
 ghost use Rattle.confluence_core.specs.Indexes.{Serves};
 ghost use Rattle.confluence_core.specs.Runs.{IsRunOf, ended};
-ghost use Rattle.confluence_core.specs.Stretches.{CanGoOn, GoesOn, HasCome, IsReached};
+ghost use Rattle.confluence_core.specs.Stretches.{CanGoOn, GoesOn, HasCome, IsReached, IsTold};
 ghost use Rattle.pop_workers.specs.MadeFor.{made_for};
 ghost use Rattle.pop_workers.specs.Stages.{IsStageEnd};
 
@@ -158,8 +158,25 @@ impl<'c, R: Threads + Wait + Sync, G: Gate + Sync> Makers<'c, R, G> {
             → IfOk result (IsRunOf instance.now start keeps) }
     {
         let mut makers = self;
-        let (ended, stuck) = makers.stage(alloc, instance, reached)?;
-        let values = makers.values(alloc, instance, &ended.cursors)?;
-        Ok(ended.told(stuck, values))
+        let end = makers.stage(alloc, instance, reached)?;
+        makers.tell(alloc, instance, end)
+    }
+
+    /// Tells where a run has come, with what is stuck there. The values are looked up.
+    pub(crate) fn tell(
+        self,
+        alloc: Global,
+        instance: &Instance,
+        end: (Reached, Stuck),
+    ) -> Result<Outcome, AllocError>
+        requires serves { Serves instance.now (made_for self) }
+        requires can { CanGoOn instance.now end.0 }
+        requires stuck { IsStuckList instance.now end.0.cursors end.1 }
+        ensures { IfOk result
+            (λ run. IsTold instance.now end.0 run × (run.end.stuck ≡ end.1)) }
+    {
+        let (reached, stuck) = end;
+        let values = self.values(alloc, instance, &reached.cursors)?;
+        Ok(reached.told(stuck, values))
     }
 }

@@ -1,12 +1,12 @@
 //! Workers on a board of claim words, to its end.
-ghost use Rattle.std.specs.Prelude.{◌≡◌, ◌<◌, ◌≤◌, length, All, IfOk, OnOk, IfSome};
+ghost use Rattle.std.specs.Prelude.{◌≡◌, ◌+◌, ◌<◌, ◌≤◌, length, All, IfOk, OnOk, IfSome};
 ghost use Rattle.pop_model.specs.Families.{units_of};
 ghost use Rattle.pop_model.specs.Runs.{IsEnd};
 ghost use Rattle.pop_stacks.specs.Readers.{Belongs};
 ghost use Rattle.pop_instance.specs.Index.{IsFamilyIndex};
 ghost use Rattle.claim_words.specs.Passes.{IsOf, IsIdle, IsHelper, IsSole, view, instance_of, opening_of};
 ghost use Rattle.claim_words.specs.TicketLogs.{vector};
-ghost use Rattle.pop_workers.specs.Attempts.{IsIndexed};
+ghost use Rattle.pop_workers.specs.Attempts.{IsIndexed, AreTools, Goes};
 ghost use Rattle.pop_workers.specs.Readers.{AreReadersOf};
 
 use crate::jobs::{Jobs, hand_out, take_back, work_beside};
@@ -153,14 +153,47 @@ fn work_with<'i, 'x, W: Range + Send + Sync, R: Threads + Sync, G: Gate + Sync>(
     ensures readers { IfOk result
         (λ readers. AreReadersOf shared.now.instance.now.stacks readers.items) }
 {
-    let Workers { rt, gate, .. } = crew;
     let mut deques = deques;
-    let first = deques.remove(0);
-    let mut tools = Tools::with(shared.alloc, shared.instance, 0, reader)?;
-    let mut jobs = Jobs {
-        own: first,
-        others: hand_out(shared.alloc, board, pass, deques)?,
-    };
+    let own = deques.remove(0);
+    let tools = Tools::with(shared.alloc, shared.instance, 0, reader)?;
+    let others = hand_out(shared.alloc, board, pass, deques)?;
+    let (tools, jobs) = work_at_once(crew, board, pass, shared, tools, Jobs { own, others });
+    finish_alone(board, pass, shared, tools, jobs)
+}
+
+// The work of all workers, each up to where no deque has a hint: of the caller, with these tools, and
+// of the others, each in a thread of its own where one can be started.
+fn work_at_once<'i, 'x, W: Range + Send + Sync, R: Threads + Sync, G: Gate + Sync>(
+    crew: Workers<R, G>,
+    board: &Board<'i>,
+    pass: &mut Pass,
+    shared: &Shared<'i, 'x, W>,
+    tools: Tools,
+    jobs: Jobs<W>,
+) -> (Tools, Jobs<W>)
+    requires board { instance_of board.now ≡ shared.now.instance.now }
+    requires pass { IsOf board.now pass.old }
+    requires idle { IsIdle pass.old }
+    requires index { IsIndexed shared.now.instance.now shared.now.index.now }
+    requires range { units_of shared.now.instance.now.family ≡ W.units }
+    requires tools { AreTools shared.now.instance.now tools.reader tools.walker }
+    requires worker { tools.worker < length shared.now.all.items }
+    requires passes { All (λ job. IsHelper board.now job.0) jobs.others.items }
+    requires len { length jobs.others.items < length shared.now.all.items }
+    requires few { length jobs.others.items < 64 }
+    ensures pass { IsOf board.now pass.new }
+    ensures idle { IsIdle pass.new }
+    ensures goes { Goes (view pass.old) (view pass.new) }
+    ensures tools { AreTools shared.now.instance.now result.0.reader result.0.walker }
+    ensures worker { result.0.worker ≡ tools.worker }
+    ensures passes { All (λ job. IsHelper board.now job.0) result.1.others.items }
+    ensures readers { All (λ job.
+        IfSome job.2 (Belongs (instance_of board.now).stacks)) result.1.others.items }
+    ensures len { length result.1.others.items ≡ length jobs.others.items }
+{
+    let Workers { rt, gate, .. } = crew;
+    let mut tools = tools;
+    let mut jobs = jobs;
     let Jobs { own, others } = &mut jobs;
     let _ = join_mut(
         rt,
@@ -178,13 +211,103 @@ fn work_with<'i, 'x, W: Range + Send + Sync, R: Threads + Sync, G: Gate + Sync>(
             ensures len { length others.exit.now.items ≡ length others.entry.now.items }
         { work_beside(rt, board, shared, others, gate) },
     );
-    let Jobs { own, others } = jobs;
-    let mut own = own;
-    let mut readers = take_back(shared.alloc, board, pass, others)?;
-    work(board, pass, shared, &mut tools, &mut own, &NoGate)?;
-    round_off(board, pass, shared, &mut tools, &mut own)?;
+    (tools, jobs)
+}
+
+// Takes the passes of the others in again, and brings the board to its end with these tools. Their
+// reader stands before those of the others.
+fn finish_alone<W: Range>(
+    board: &Board,
+    pass: &mut Pass,
+    shared: &Shared<W>,
+    tools: Tools,
+    jobs: Jobs<W>,
+) -> Result<Vec<Reader>, AllocError>
+    requires board { instance_of board.now ≡ shared.now.instance.now }
+    requires pass { IsOf board.now pass.old }
+    requires idle { IsIdle pass.old }
+    requires share { (view pass.old).share + length jobs.others.items ≡ 64 }
+    requires index { IsIndexed shared.now.instance.now shared.now.index.now }
+    requires range { units_of shared.now.instance.now.family ≡ W.units }
+    requires tools { AreTools shared.now.instance.now tools.reader tools.walker }
+    requires worker { tools.worker < length shared.now.all.items }
+    requires passes { All (λ job. IsHelper board.now job.0) jobs.others.items }
+    requires readers { All (λ job.
+        IfSome job.2 (Belongs (instance_of board.now).stacks)) jobs.others.items }
+    ensures pass { IsOf board.now pass.new }
+    ensures idle { IsIdle pass.new }
+    ensures sole { OnOk result (IsSole pass.new) }
+    ensures end { OnOk result
+        (IsEnd (instance_of board.now) (vector (opening_of board.now) (view pass.new).mine)) }
+    ensures readers { IfOk result
+        (λ readers. AreReadersOf shared.now.instance.now.stacks readers.items) }
+{
+    let mut tools = tools;
+    let mut readers = bring_in(board, pass, shared, &mut tools, jobs)?;
     readers.insert(0, tools.reader)?;
     Ok(readers)
+}
+
+// The same with tools that are lent. The readers of the others, with room for one more.
+fn bring_in<W: Range>(
+    board: &Board,
+    pass: &mut Pass,
+    shared: &Shared<W>,
+    tools: &mut Tools,
+    jobs: Jobs<W>,
+) -> Result<Vec<Reader>, AllocError>
+    requires board { instance_of board.now ≡ shared.now.instance.now }
+    requires pass { IsOf board.now pass.old }
+    requires idle { IsIdle pass.old }
+    requires share { (view pass.old).share + length jobs.others.items ≡ 64 }
+    requires index { IsIndexed shared.now.instance.now shared.now.index.now }
+    requires range { units_of shared.now.instance.now.family ≡ W.units }
+    requires tools { AreTools shared.now.instance.now tools.old.reader tools.old.walker }
+    requires worker { tools.old.worker < length shared.now.all.items }
+    requires passes { All (λ job. IsHelper board.now job.0) jobs.others.items }
+    requires readers { All (λ job.
+        IfSome job.2 (Belongs (instance_of board.now).stacks)) jobs.others.items }
+    ensures pass { IsOf board.now pass.new }
+    ensures idle { IsIdle pass.new }
+    ensures sole { OnOk result (IsSole pass.new) }
+    ensures end { OnOk result
+        (IsEnd (instance_of board.now) (vector (opening_of board.now) (view pass.new).mine)) }
+    ensures tools { AreTools shared.now.instance.now tools.new.reader tools.new.walker }
+    ensures readers { IfOk result
+        (λ readers. All (Belongs (instance_of board.now).stacks) readers.items) }
+{
+    let Jobs { own, others } = jobs;
+    let mut own = own;
+    let readers = take_back(shared.alloc, board, pass, others)?;
+    end_alone(board, pass, shared, tools, &mut own)?;
+    Ok(readers)
+}
+
+// The work of a sole pass, from the hints that are left to the end of the board.
+fn end_alone<W: Range>(
+    board: &Board,
+    pass: &mut Pass,
+    shared: &Shared<W>,
+    tools: &mut Tools,
+    own: &mut Own<W>,
+) -> Result<(), AllocError>
+    requires board { instance_of board.now ≡ shared.now.instance.now }
+    requires pass { IsOf board.now pass.old }
+    requires idle { IsIdle pass.old }
+    requires sole { IsSole pass.old }
+    requires index { IsIndexed shared.now.instance.now shared.now.index.now }
+    requires range { units_of shared.now.instance.now.family ≡ W.units }
+    requires tools { AreTools shared.now.instance.now tools.old.reader tools.old.walker }
+    requires worker { tools.old.worker < length shared.now.all.items }
+    ensures pass { IsOf board.now pass.new }
+    ensures idle { IsIdle pass.new }
+    ensures sole { IsSole pass.new }
+    ensures end { OnOk result
+        (IsEnd (instance_of board.now) (vector (opening_of board.now) (view pass.new).mine)) }
+    ensures tools { AreTools shared.now.instance.now tools.new.reader tools.new.walker }
+{
+    work(board, pass, shared, tools, own, &NoGate)?;
+    round_off(board, pass, shared, tools, own)
 }
 
 // The deques of so many workers, with their first hints.

@@ -4,7 +4,7 @@ use Rattle.pop_workers.proofs.claimed.Claimed.claim.Goals as goal
 
 pub left_by-requires : goal.left_by-requires
 left_by-requires g c =
-    let closed = is_closed c.args.instance.now c.args.from.now c.args.keep c.in_ok-board.board c.work_by.new.pass
+    let closed = is_closed c.args.instance.now c.args.from.now c.args.keep c.in_ok-board.board c.work_on.new.pass
     c.in-Ok.closed c.in_ok-board.ensures.instance c.in_ok-board.ensures.start c.in_ok-board.ensures.keep
     c.in-Ok.ensures.closed c.in-Ok.ensures.left c.in-Ok.ensures.log c.in-Ok.ensures.count in
     record { closed = (c.args.instance.now, c.args.from.now, keeps_log c.args.keep, closed) }
@@ -12,6 +12,6 @@ left_by-requires g c =
 pub returns-in-Ok-clause-reached : goal.returns-in-Ok-clause-reached
 returns-in-Ok-clause-reached g c =
     c.left_by.ensures c.args.instance.now c.args.from.now (keeps_log c.args.keep) c.units-units.ensures.instance
-    (is_closed c.args.instance.now c.args.from.now c.args.keep c.in_ok-board.board c.work_by.new.pass c.in-Ok.closed
+    (is_closed c.args.instance.now c.args.from.now c.args.keep c.in_ok-board.board c.work_on.new.pass c.in-Ok.closed
     c.in_ok-board.ensures.instance c.in_ok-board.ensures.start c.in_ok-board.ensures.keep c.in-Ok.ensures.closed
     c.in-Ok.ensures.left c.in-Ok.ensures.log c.in-Ok.ensures.count)

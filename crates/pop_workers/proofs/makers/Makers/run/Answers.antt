@@ -1,13 +1,23 @@
-use Rattle.pop_workers.proofs.ToldRuns.{told_gone, told_on}
+use Rattle.std.proofs.lemmas.Result.{IfOk-weaker}
+use Rattle.confluence_core.specs.declared.run.Run.{Run}
+use Rattle.confluence_core.proofs.Reaching.{gone_run}
+use Rattle.pop_workers.proofs.ToldRuns.{told_on}
 use Rattle.pop_workers.proofs.makers.Makers.run.Goals as goal
+
+pub tell-requires-clause-can : goal.tell-requires-clause-can
+tell-requires-clause-can g c κs within = c.in_ok-end.ensures.on.can
+
+pub tell-requires-clause-stuck : goal.tell-requires-clause-stuck
+tell-requires-clause-stuck g c κs within = c.in_ok-end.ensures.end.stuck_list
 
 pub returns-clause-on : goal.returns-clause-on
 returns-clause-on g c =
-    told_on c.args.instance.now c.args.reached c.in_ok-ended.ended c.in_ok-ended.stuck c.in_ok-values.values c.told.result
-    c.in_ok-ended.ensures.on c.in_ok-ended.ensures.end.none c.told.ensures
+    IfOk-weaker c.tell.result _ _
+    (λ (run : Run) told. told_on c.args.instance.now c.args.reached c.in_ok-end.end.0 run.end.stuck run.end.values run
+    c.in_ok-end.ensures.on c.in_ok-end.ensures.end.none told.0.are) c.tell.ensures
 
 pub returns-clause-run : goal.returns-clause-run
 returns-clause-run g c start keeps is =
-    told_gone c.args.instance.now start keeps c.args.reached c.in_ok-ended.ended c.in_ok-ended.stuck
-    c.in_ok-values.values c.told.result is c.in_ok-ended.ensures.on c.in_ok-ended.ensures.end.none
-    c.in_ok-ended.ensures.end.stuck_list c.in_ok-values.ensures.values c.told.ensures
+    IfOk-weaker c.tell.result _ _
+    (λ (run : Run) told. gone_run c.args.instance.now start keeps c.args.reached c.in_ok-end.end.0 run is
+    c.in_ok-end.ensures.on c.in_ok-end.ensures.end.none told.0) c.tell.ensures

@@ -4,12 +4,12 @@ use Rattle.confluence_core.specs.Indexes.{Serves}
 use Rattle.pop_workers.specs.MadeFor.{made_for}
 use Rattle.pop_workers.specs.Stages.{height}
 use Rattle.pop_workers.proofs.StageTurns.{AreMade}
-use Rattle.pop_workers.proofs.growing.sample_grown.Given as goal
+use Rattle.pop_workers.proofs.growing.all_stages.Given as goal
 
 -- the stages up to here were made, and those who make them serve the instance as it is
 abbrev pub invariant-stages : goal.invariant-stages
 invariant-stages g l = record {
-  made : AreMade l.last l.initial.instance (keeps_log l.fn.keep) l.instance l.reached l.stuck;
+  made : AreMade l.last l.initial.instance (keeps_log l.fn.keep) l.instance l.end.0 l.end.1;
   serves : Serves l.instance (made_for l.makers);
 }
 
