@@ -1,152 +1,128 @@
 //! Arrows, in one array, in lists, and packed.
-ghost use Rattle.std.specs.Prelude.{◌<◌, ◌^◌, length, All, IfOk, OnOk};
+ghost use Rattle.std.specs.Prelude.{◌<◌, ◌^◌, length, All};
 ghost use Rattle.pop_instance.specs.Arrows.{heads_of};
 
-use crate::compare::holds;
+use crate::compare::is_so;
 use pop_instance::Arrows;
 use pop_rows::RowList;
 use std::alloc::Global;
-use std::test::Fail;
+use std::process::Abort;
 
 // Adds a row of fewer than nine numbers.
-fn push(rows: &mut RowList, row: &[u32]) -> Result<(), Fail>
+fn push(rt: &impl Abort, rows: &mut RowList, row: &[u32])
     requires { All (λ row. length row < 2 ^ 31) rows.old }
-    ensures { OnOk result (All (λ row. length row < 2 ^ 31) rows.new) }
+    ensures { All (λ row. length row < 2 ^ 31) rows.new }
 {
-    if row.len() >= 9 {
-        return Err(Fail::new("a row is too long"));
-    }
-    rows.push_row(row)?;
-    Ok(())
+    assert!(rt; row.len() < 9);
+    rows.push_row(row).expect(rt, "memory");
 }
 
 // Rows of numbers in one array.
-fn numbers(alloc: Global, table: &[&[u32]]) -> Result<RowList, Fail>
-    ensures short { IfOk result (λ rows. length rows < 2 ^ 31) }
-    ensures short_rows { IfOk result (All (λ row. length row < 2 ^ 31)) }
+fn numbers(rt: &impl Abort, alloc: Global, table: &[&[u32]]) -> RowList
+    ensures short { length result < 2 ^ 31 }
+    ensures short_rows { All (λ row. length row < 2 ^ 31) result }
 {
-    let mut rows = RowList::with_room(alloc, 3, 8)?;
+    let mut rows = RowList::with_room(alloc, 3, 8).expect(rt, "memory");
     for row in table {
-        push(&mut rows, row)?;
+        push(rt, &mut rows, row);
     }
-    if rows.count() >= 9 {
-        return Err(Fail::new("too many rows"));
-    }
-    Ok(rows)
+    assert!(rt; rows.count() < 9);
+    rows
 }
 
 // Rows of heads in an array each.
-fn heads(alloc: Global, table: &[&[Option<u32>]]) -> Result<Vec<Vec<Option<u32>>>, Fail>
-    ensures short { IfOk result (λ rows. length rows.items < 2 ^ 31) }
-    ensures short_rows { IfOk result (λ rows.
-        All (λ row. length row < 2 ^ 31) (heads_of rows.items)) }
+fn heads(rt: &impl Abort, alloc: Global, table: &[&[Option<u32>]]) -> Vec<Vec<Option<u32>>>
+    ensures short { length result.items < 2 ^ 31 }
+    ensures short_rows { All (λ row. length row < 2 ^ 31) (heads_of result.items) }
 {
     let mut rows = Vec::new(alloc);
     for row in table {
-        if row.len() >= 9 {
-            return Err(Fail::new("a row is too long"));
-        }
-        rows.push(Vec::from_slice(alloc, row)?)?;
+        assert!(rt; row.len() < 9);
+        let row = Vec::from_slice(alloc, row).expect(rt, "memory");
+        rows.push(row).expect(rt, "memory");
     }
-    if rows.len() >= 9 {
-        return Err(Fail::new("too many rows"));
-    }
-    Ok(rows)
+    assert!(rt; rows.len() < 9);
+    rows
 }
 
 // Compares where the slots of a variable lead.
-fn leads(arrows: &Arrows, v: u32, want: &[Option<u32>]) -> Result<(), Fail>
+fn leads(rt: &impl Abort, arrows: &Arrows, v: u32, want: &[Option<u32>])
     requires { v < length arrows.now }
 {
-    if arrows.slots(v) as usize != want.len() {
-        return Err(Fail::new("another count of slots"));
-    }
+    assert!(rt; arrows.slots(v) as usize == want.len());
     for slot in 0..arrows.slots(v) {
         let leads = arrows.head(v, slot) == want[slot as usize];
-        holds(leads, "head of a slot of variable", v)?;
+        is_so(rt, leads, "head of a slot of variable", v);
     }
-    Ok(())
 }
 
 // The case of the test below: variable 0 leads to the root and to variable 1.
 static HEADS: [&[Option<u32>]; 3] = [&[None, Some(1)], &[Some(2)], &[Some(0), Some(0), None]];
 
 // Compares arrows with those of the case.
-fn is_worked_case(arrows: &Arrows) -> Result<(), Fail> {
-    if arrows.count() != 3 {
-        return Err(Fail::new("another count of variables"));
-    }
+fn is_worked_case(rt: &impl Abort, arrows: &Arrows) {
+    assert!(rt; arrows.count() == 3);
     for v in 0..3 {
-        leads(arrows, v, HEADS[v as usize])?;
+        leads(rt, arrows, v, HEADS[v as usize]);
     }
-    Ok(())
 }
 
 // Compares the same arrows packed with those of the case.
-fn is_packed_case(alloc: Global, arrows: Arrows) -> Result<(), Fail> {
-    let packed = arrows.packed(alloc)?;
-    is_worked_case(&packed)
+fn is_packed_case(rt: &impl Abort, alloc: Global, arrows: Arrows) {
+    let packed = arrows.packed(alloc).expect(rt, "memory");
+    is_worked_case(rt, &packed);
 }
 
 // Compares arrows that were made, and the same packed, with those of the case.
-fn are_worked_case(alloc: Global, made: Option<Arrows>) -> Result<(), Fail> {
-    let Some(arrows) = made else {
-        return Err(Fail::new("no arrows"));
-    };
-    is_worked_case(&arrows)?;
-    is_packed_case(alloc, arrows)
+fn are_worked_case(rt: &impl Abort, alloc: Global, made: Option<Arrows>) {
+    let arrows = made.expect(rt, "arrows");
+    is_worked_case(rt, &arrows);
+    is_packed_case(rt, alloc, arrows);
 }
 
 static NUMBERS: [&[u32]; 3] = [&[3, 1], &[2], &[0, 0, 3]];
 
 // Worked by hand: of three variables, number 3 is the root.
 #[test]
-fn arrows_in_one_array_answer_like_lists(rt: HostRuntime) -> Result<(), Fail> {
+fn arrows_in_one_array_answer_like_lists(rt: HostRuntime) {
     let alloc = rt.alloc();
-    are_worked_case(alloc, Arrows::flat(numbers(alloc, &NUMBERS)?))?;
-    are_worked_case(alloc, Arrows::new(heads(alloc, &HEADS)?))
+    are_worked_case(&rt, alloc, Arrows::flat(numbers(&rt, alloc, &NUMBERS)));
+    are_worked_case(&rt, alloc, Arrows::new(heads(&rt, alloc, &HEADS)));
 }
 
 // For each of so many variables one number, falling to 0, so that no two lead as far.
-fn falling(alloc: Global, count: u32) -> Result<RowList, Fail>
-    ensures short { IfOk result (λ rows. length rows < 2 ^ 31) }
-    ensures short_rows { IfOk result (All (λ row. length row < 2 ^ 31)) }
+fn falling(rt: &impl Abort, alloc: Global, count: u32) -> RowList
+    ensures short { length result < 2 ^ 31 }
+    ensures short_rows { All (λ row. length row < 2 ^ 31) result }
 {
-    let mut rows = RowList::with_room(alloc, 0, 0)?;
+    let mut rows = RowList::with_room(alloc, 0, 0).expect(rt, "memory");
     for v in 0..count {
-        push(&mut rows, &[count - 1 - v])?;
+        push(rt, &mut rows, &[count - 1 - v]);
     }
-    if rows.count() >= 999 {
-        return Err(Fail::new("too many rows"));
-    }
-    Ok(rows)
+    assert!(rt; rows.count() < 999);
+    rows
 }
 
 // Compares where falling numbers lead.
-fn fall(arrows: &Arrows, count: u32) -> Result<(), Fail> {
-    if arrows.count() != count {
-        return Err(Fail::new("another count of variables"));
-    }
+fn fall(rt: &impl Abort, arrows: &Arrows, count: u32) {
+    assert!(rt; arrows.count() == count);
     for v in 0..count {
-        leads(arrows, v, &[Some(count - 1 - v)])?;
+        leads(rt, arrows, v, &[Some(count - 1 - v)]);
     }
-    Ok(())
 }
 
 // Packs the arrows of falling numbers, and looks where they lead.
-fn packed_fall(alloc: Global, count: u32) -> Result<(), Fail> {
-    let Some(arrows) = Arrows::flat(falling(alloc, count)?) else {
-        return Err(Fail::new("no arrows"));
-    };
-    let packed = arrows.packed(alloc)?;
-    fall(&packed, count)
+fn packed_fall(rt: &impl Abort, alloc: Global, count: u32) {
+    let arrows = Arrows::flat(falling(rt, alloc, count)).expect(rt, "arrows");
+    let packed = arrows.packed(alloc).expect(rt, "memory");
+    fall(rt, &packed, count);
 }
 
 // A byte tells 256 variables apart that lead as far as no other.
 #[test]
-fn arrows_that_no_byte_tells_apart_are_packed_as_they_are(rt: HostRuntime) -> Result<(), Fail> {
-    packed_fall(rt.alloc(), 256)?;
-    packed_fall(rt.alloc(), 257)
+fn arrows_that_no_byte_tells_apart_are_packed_as_they_are(rt: HostRuntime) {
+    packed_fall(&rt, rt.alloc(), 256);
+    packed_fall(&rt, rt.alloc(), 257);
 }
 
 // Rows without a slot of a variable, and with a number past the root.
@@ -156,29 +132,27 @@ static BAD_NUMBERS: [&[&[u32]]; 2] = [&[&[3, 1], &[], &[0, 0, 3]], &[&[3, 1], &[
 static BAD_HEADS: [&[&[Option<u32>]]; 2] = [&[&[Some(0)], &[]], &[&[Some(1), None]]];
 
 // Whether numbers make no arrows.
-fn are_no_arrows(alloc: Global, table: &[&[u32]]) -> Result<bool, Fail> {
-    Ok(Arrows::flat(numbers(alloc, table)?).is_none())
+fn are_no_arrows(rt: &impl Abort, alloc: Global, table: &[&[u32]]) -> bool {
+    Arrows::flat(numbers(rt, alloc, table)).is_none()
 }
 
 #[test]
-fn no_slot_and_a_number_past_the_root_are_refused(rt: HostRuntime) -> Result<(), Fail> {
+fn no_slot_and_a_number_past_the_root_are_refused(rt: HostRuntime) {
     for table in BAD_NUMBERS.iter() {
-        let refused = are_no_arrows(rt.alloc(), table)?;
-        holds(refused, "refusal of numbers", 0)?;
+        let refused = are_no_arrows(&rt, rt.alloc(), table);
+        is_so(&rt, refused, "refusal of numbers", 0);
     }
-    Ok(())
 }
 
 // Whether heads make no arrows.
-fn make_no_arrows(alloc: Global, table: &[&[Option<u32>]]) -> Result<bool, Fail> {
-    Ok(Arrows::new(heads(alloc, table)?).is_none())
+fn make_no_arrows(rt: &impl Abort, alloc: Global, table: &[&[Option<u32>]]) -> bool {
+    Arrows::new(heads(rt, alloc, table)).is_none()
 }
 
 #[test]
-fn no_slot_and_a_head_past_the_last_variable_are_refused(rt: HostRuntime) -> Result<(), Fail> {
+fn no_slot_and_a_head_past_the_last_variable_are_refused(rt: HostRuntime) {
     for table in BAD_HEADS.iter() {
-        let refused = make_no_arrows(rt.alloc(), table)?;
-        holds(refused, "refusal of heads", 0)?;
+        let refused = make_no_arrows(&rt, rt.alloc(), table);
+        is_so(&rt, refused, "refusal of heads", 0);
     }
-    Ok(())
 }

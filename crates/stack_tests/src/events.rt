@@ -1,9 +1,9 @@
 //! Events that are gathered: equal cubes, and different ones with equal digests.
-use crate::compare::{holds, same};
+use crate::compare::{is_so, same};
 use crate::tables::listed;
 use pop_instance::{Events, Family};
 use std::alloc::Global;
-use std::test::Fail;
+use std::process::Abort;
 use test_instances::EventRow;
 
 // Two cubes of one digest, which `proofs/Vectors.antt` of `pop_instance` has: behind the leading 1
@@ -26,57 +26,45 @@ static REPEATED: [EventRow; 6] = [
 ];
 
 // Compares an event's number and first pair.
-fn is_event(events: &Events, place: u32, number: u32, first: (u32, u32)) -> Result<(), Fail> {
-    if place >= events.count() {
-        return Err(Fail::new("no such event"));
-    }
-    same(events.number(place), number, "number of event", place)?;
+fn is_event(rt: &impl Abort, events: &Events, place: u32, number: u32, first: (u32, u32)) {
+    assert!(rt; place < events.count());
+    same(rt, events.number(place), number, "number of event", place);
     let cube = events.cube(place);
-    if cube.len() == 0 {
-        return Err(Fail::new("no pair"));
-    }
-    holds(cube.pair(0) == first, "first pair of event", place)
+    assert!(rt; cube.len() > 0);
+    is_so(rt, cube.pair(0) == first, "first pair of event", place);
 }
 
-// Compares the number and the first pair of each event.
-fn are_events(events: &Events, want: &[(u32, (u32, u32))]) -> Result<(), Fail> {
-    if events.count() as usize != want.len() {
-        return Err(Fail::new("another count of events"));
-    }
+// Compares the number and the first pair of each event of a family.
+fn are_gathered(rt: &impl Abort, family: &Family, want: &[(u32, (u32, u32))]) {
+    let Family::Listed(events) = family else {
+        panic!(rt; "no listed family")
+    };
+    assert!(rt; events.count() as usize == want.len());
     for place in 0..events.count() {
         let (number, first) = want[place as usize];
-        is_event(events, place, number, first)?;
-    }
-    Ok(())
-}
-
-// Compares the events of a family.
-fn are_gathered(family: &Family, want: &[(u32, (u32, u32))]) -> Result<(), Fail> {
-    match family {
-        Family::Listed(events) => are_events(events, want),
-        Family::Cycles(_) => Err(Fail::new("no listed family")),
+        is_event(rt, events, place, number, first);
     }
 }
 
 // Compares what is gathered from these rows.
-fn gather(alloc: Global, table: &[EventRow], want: &[(u32, (u32, u32))]) -> Result<(), Fail> {
-    let family = listed(alloc, table)?;
-    are_gathered(&family, want)
+fn gather(rt: &impl Abort, alloc: Global, table: &[EventRow], want: &[(u32, (u32, u32))]) {
+    let family = listed(rt, alloc, table);
+    are_gathered(rt, &family, want);
 }
 
 #[test]
-fn cubes_that_differ_stay_where_their_digests_are_equal(rt: HostRuntime) -> Result<(), Fail> {
-    gather(rt.alloc(), &COLLISION, &[(2, (0, 0)), (7, (1, 0))])
+fn cubes_that_differ_stay_where_their_digests_are_equal(rt: HostRuntime) {
+    gather(&rt, rt.alloc(), &COLLISION, &[(2, (0, 0)), (7, (1, 0))]);
 }
 
 #[test]
-fn rows_without_equal_cubes_stay_as_they_are(rt: HostRuntime) -> Result<(), Fail> {
+fn rows_without_equal_cubes_stay_as_they_are(rt: HostRuntime) {
     let want = [(1, (8, 0)), (4, (3, 0)), (5, (0, 0))];
-    gather(rt.alloc(), &DIFFERENT, &want)
+    gather(&rt, rt.alloc(), &DIFFERENT, &want);
 }
 
 #[test]
-fn the_first_of_equal_cubes_is_kept_under_its_number(rt: HostRuntime) -> Result<(), Fail> {
+fn the_first_of_equal_cubes_is_kept_under_its_number(rt: HostRuntime) {
     let want = [(1, (3, 0)), (3, (4, 0)), (6, (5, 0))];
-    gather(rt.alloc(), &REPEATED, &want)
+    gather(&rt, rt.alloc(), &REPEATED, &want);
 }

@@ -7,83 +7,69 @@ ghost use Rattle.pop_stacks.specs.Readers.{Belongs};
 use crate::readers::compare;
 use pop_stacks::{Reader, StackSpec, Stacks, Weights};
 use std::alloc::Global;
-use std::test::Fail;
+use std::process::Abort;
 
 // Places on both sides of the ends of the first block and of the first group, back and forth.
 static PLACES: [u32; 10] = [7, 0, 5, 8, 1, 31, 6, 32, 2, 63];
 
 // Compares entries of variable v.
-fn compare_places(stacks: &Stacks, keeping: &mut Reader, v: u32) -> Result<(), Fail>
+fn compare_places(rt: &impl Abort, stacks: &Stacks, keeping: &mut Reader, v: u32)
     requires { Belongs stacks.now keeping.old }
     ensures { Belongs stacks.now keeping.new }
 {
     for k in PLACES.iter() {
-        compare(stacks, keeping, v, *k)?;
+        compare(rt, stacks, keeping, v, *k);
     }
-    Ok(())
 }
 
 // Compares the first entry of each variable, and then entries of each.
-fn compare_all(stacks: &Stacks, keeping: &mut Reader) -> Result<(), Fail>
+fn compare_all(rt: &impl Abort, stacks: &Stacks, keeping: &mut Reader)
     requires { Belongs stacks.now keeping.old }
     ensures { Belongs stacks.now keeping.new }
 {
     for v in 0..stacks.count() {
-        compare(stacks, keeping, v, 0)?;
+        compare(rt, stacks, keeping, v, 0);
     }
     for v in 0..stacks.count() {
-        compare_places(stacks, keeping, v)?;
+        compare_places(rt, stacks, keeping, v);
     }
-    Ok(())
 }
 
-// Compares an entry of variable v, whose four are drawn so, and then entries of all.
-fn compare_behind(stacks: &Stacks, keeping: &mut Reader, v: u32) -> Result<(), Fail>
-    requires { Belongs stacks.now keeping.old }
-    ensures { Belongs stacks.now keeping.new }
-{
-    compare(stacks, keeping, v, 3)?;
-    compare_all(stacks, keeping)
-}
-
-// Compares entries by a reader that looks at variable v first.
-fn compare_from(alloc: Global, stacks: &Stacks, v: u32) -> Result<(), Fail> {
-    let mut keeping = Reader::keeping(alloc, stacks)?;
-    compare_behind(stacks, &mut keeping, v)
-}
-
-// Compares entries by readers that look at each variable first.
-fn compare_from_each(alloc: Global, stacks: &Stacks) -> Result<(), Fail> {
+// Compares entries by readers that look at each variable first: an entry of it, whose four are drawn
+// so, and then entries of all.
+fn compare_from_each(rt: &impl Abort, alloc: Global, stacks: &Stacks) {
     for v in 0..stacks.count() {
-        compare_from(alloc, stacks, v)?;
+        let mut keeping = Reader::keeping(alloc, stacks).expect(rt, "memory");
+        compare(rt, stacks, &mut keeping, v, 3);
+        compare_all(rt, stacks, &mut keeping);
     }
-    Ok(())
 }
 
 // Compares entries of the last sample that there is.
-fn compare_last(alloc: Global, stacks: &Stacks) -> Result<(), Fail>
+fn compare_last(rt: &impl Abort, alloc: Global, stacks: &Stacks)
     requires { IsKeyed stacks.now.origin }
 {
-    let last = stacks.for_sample(alloc, u32::MAX)?;
-    compare_from_each(alloc, &last)
+    let last = stacks.for_sample(alloc, u32::MAX).expect(rt, "memory");
+    compare_from_each(rt, alloc, &last);
 }
 
 // Compares entries of this many variables, of sample 0 and of the last sample.
-fn compare_samples(alloc: Global, count: u32) -> Result<(), Fail>
+fn compare_samples(rt: &impl Abort, alloc: Global, count: u32)
     requires { count < 2 ^ 31 }
 {
-    let stacks = Stacks::new(StackSpec::Key([5; 32]), Weights::pairs(count), 64)?;
-    compare_from_each(alloc, &stacks)?;
-    compare_last(alloc, &stacks)
+    let spec = StackSpec::Key([5; 32]);
+    let stacks = Stacks::new(spec, Weights::pairs(count), 64).expect(rt, "stacks");
+    compare_from_each(rt, alloc, &stacks);
+    compare_last(rt, alloc, &stacks);
 }
 
 // The last variables are one, two, three and four of their four.
 #[test]
-fn first_blocks_of_four_variables_are_those_of_their_streams(rt: HostRuntime) -> Result<(), Fail> {
+fn first_blocks_of_four_variables_are_those_of_their_streams(rt: HostRuntime) {
     let alloc = rt.alloc();
-    compare_samples(alloc, 1)?;
-    compare_samples(alloc, 4)?;
-    compare_samples(alloc, 5)?;
-    compare_samples(alloc, 10)?;
-    compare_samples(alloc, 11)
+    compare_samples(&rt, alloc, 1);
+    compare_samples(&rt, alloc, 4);
+    compare_samples(&rt, alloc, 5);
+    compare_samples(&rt, alloc, 10);
+    compare_samples(&rt, alloc, 11);
 }

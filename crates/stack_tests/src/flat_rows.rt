@@ -1,38 +1,33 @@
 //! Rows with room for so many numbers each.
 use crate::compare::same_row;
 use pop_rows::FlatRows;
-use std::test::Fail;
+use std::process::Abort;
 
 // Compares the numbers of each row.
-fn are_rows(rows: &FlatRows, want: &[&[u32]]) -> Result<(), Fail> {
-    if rows.count() as usize != want.len() {
-        return Err(Fail::new("another count of rows"));
-    }
+fn are_rows(rt: &impl Abort, rows: &FlatRows, want: &[&[u32]]) {
+    assert!(rt; rows.count() as usize == want.len());
     for v in 0..rows.count() {
-        same_row(rows.row(v), want[v as usize], v)?;
+        same_row(rt, rows.row(v), want[v as usize], v);
     }
-    Ok(())
 }
 
 // Room is left in the last row.
 #[test]
-fn rows_have_what_was_pushed_to_them_in_order(rt: HostRuntime) -> Result<(), Fail> {
+fn rows_have_what_was_pushed_to_them_in_order(rt: HostRuntime) {
     let alloc = rt.alloc();
-    let rooms = Vec::from_slice(alloc, &[2, 0, 1, 2])?;
-    let mut rows = FlatRows::with_rooms(alloc, rooms)?;
+    let rooms = Vec::from_slice(alloc, &[2, 0, 1, 2]).expect(&rt, "memory");
+    let mut rows = FlatRows::with_rooms(alloc, rooms).expect(&rt, "memory");
     rows.push(2, 7);
     rows.push(0, 5);
     rows.push(3, 9);
     rows.push(0, 6);
-    are_rows(&rows, &[&[5, 6], &[], &[7], &[9]])
+    are_rows(&rt, &rows, &[&[5, 6], &[], &[7], &[9]]);
 }
 
 #[test]
-fn rooms_past_32_bits_find_no_memory(rt: HostRuntime) -> Result<(), Fail> {
+fn rooms_past_32_bits_find_no_memory(rt: HostRuntime) {
     let alloc = rt.alloc();
-    let rooms = Vec::from_slice(alloc, &[1 << 31, 1 << 31])?;
-    match FlatRows::with_rooms(alloc, rooms) {
-        Ok(_) => Err(Fail::new("rooms past 32 bits")),
-        Err(_) => Ok(()),
-    }
+    let rooms = Vec::from_slice(alloc, &[1 << 31, 1 << 31]).expect(&rt, "memory");
+    let made = FlatRows::with_rooms(alloc, rooms);
+    assert!(&rt; made.is_err(), "rooms past 32 bits");
 }

@@ -1,37 +1,28 @@
 //! Rows that are fronts of one list.
 use crate::compare::same_row;
 use pop_rows::Fronts;
-use std::alloc::{AllocError, Global};
-use std::test::Fail;
+use std::alloc::Global;
+use std::process::Abort;
 
 // Compares the numbers of each row.
-fn are_rows(rows: &Fronts, want: &[&[u32]]) -> Result<(), Fail> {
-    if rows.count() as usize != want.len() {
-        return Err(Fail::new("another count of rows"));
-    }
+fn are_rows(rt: &impl Abort, rows: &Fronts, want: &[&[u32]]) {
+    assert!(rt; rows.count() as usize == want.len());
     for v in 0..rows.count() {
-        same_row(rows.row(v), want[v as usize], v)?;
+        same_row(rt, rows.row(v), want[v as usize], v);
     }
-    Ok(())
 }
 
 // Four rows of ones.
-fn ones(alloc: Global) -> Result<Fronts, AllocError> {
-    let lengths = Vec::from_slice(alloc, &[2, 0, 3, 1])?;
-    Fronts::ones(alloc, lengths)
-}
-
-// Compares rows of ones with their running sums.
-fn are_summed(rows: &mut Fronts) -> Result<(), Fail> {
-    are_rows(rows, &[&[1, 1], &[], &[1, 1, 1], &[1]])?;
-    if rows.accumulate().is_some() {
-        return Err(Fail::new("a sum past 32 bits"));
-    }
-    are_rows(rows, &[&[1, 2], &[], &[1, 2, 3], &[1]])
+fn ones(rt: &impl Abort, alloc: Global) -> Fronts {
+    let lengths = Vec::from_slice(alloc, &[2, 0, 3, 1]).expect(rt, "memory");
+    Fronts::ones(alloc, lengths).expect(rt, "memory")
 }
 
 #[test]
-fn rows_of_ones_sum_to_their_places(rt: HostRuntime) -> Result<(), Fail> {
-    let mut rows = ones(rt.alloc())?;
-    are_summed(&mut rows)
+fn rows_of_ones_sum_to_their_places(rt: HostRuntime) {
+    let mut rows = ones(&rt, rt.alloc());
+    are_rows(&rt, &rows, &[&[1, 1], &[], &[1, 1, 1], &[1]]);
+    let heavy = rows.accumulate();
+    assert!(&rt; heavy.is_none(), "a sum past 32 bits");
+    are_rows(&rt, &rows, &[&[1, 2], &[], &[1, 2, 3], &[1]]);
 }

@@ -1,135 +1,121 @@
 //! Instances: the events of their families, and their indexes.
 ghost use Rattle.pop_instance.specs.Index.{IsIndex};
 
-use crate::compare::{holds, same, same_row};
+use crate::compare::{is_so, made, same, same_row};
 use pop_instance::{Arrows, Events, Family, Index, Instance};
 use pop_stacks::{StackSpec, Stacks, Weights};
 use std::alloc::Global;
-use std::test::Fail;
+use std::process::Abort;
 use test_instances::{cube, family, over, stacks};
 
 // The family of event 1: value 1 of variable 0, and this pair.
-fn event(alloc: Global, last: (u32, u32)) -> Result<Family, Fail> {
+fn event(rt: &impl Abort, alloc: Global, last: (u32, u32)) -> Family {
+    let cube = made(rt, cube(alloc, &[(0, 1), last]), "a cube");
     let mut rows = Vec::new(alloc);
-    rows.push((1, cube(alloc, &[(0, 1), last])?))?;
-    family(alloc, rows)
+    rows.push((1, cube)).expect(rt, "memory");
+    made(rt, family(alloc, rows), "a family")
 }
 
 // The instance of two variables with two values each, and of this event.
-fn instance(alloc: Global, last: (u32, u32)) -> Result<Option<Instance>, Fail> {
-    let family = event(alloc, last)?;
-    let stacks = stacks(alloc, &[&[0], &[1]])?;
-    Ok(Instance::new(stacks, family))
+fn instance(rt: &impl Abort, alloc: Global, last: (u32, u32)) -> Option<Instance> {
+    let family = event(rt, alloc, last);
+    let stacks = made(rt, stacks(alloc, &[&[0], &[1]]), "stacks");
+    Instance::new(stacks, family)
 }
 
 // The instance of two variables, whose event is value 1 of both.
-fn listed(alloc: Global) -> Result<Instance, Fail> {
-    match instance(alloc, (1, 1))? {
-        Some(instance) => Ok(instance),
-        None => Err(Fail::new("no instance")),
-    }
+fn listed(rt: &impl Abort, alloc: Global) -> Instance {
+    instance(rt, alloc, (1, 1)).expect(rt, "an instance")
 }
 
-// Whether value 1 of variable 0, and this pair, is an event.
-fn has_event(alloc: Global, instance: &Instance, last: (u32, u32)) -> Result<bool, Fail> {
-    let cube = cube(alloc, &[(0, 1), last])?;
-    Ok(instance.is_event(&cube))
+// Compares whether value 1 of variable 0, and this pair, is an event.
+fn has_event(rt: &impl Abort, alloc: Global, instance: &Instance, last: (u32, u32), want: bool) {
+    let cube = made(rt, cube(alloc, &[(0, 1), last]), "a cube");
+    is_so(
+        rt,
+        instance.is_event(&cube) == want,
+        "event of value",
+        last.1,
+    );
 }
 
 // Compares the events of an instance with value 1 of variables 0 and 1.
-fn has_its_event(alloc: Global, instance: &Instance) -> Result<(), Fail> {
-    same(instance.units(), 1, "units", 0)?;
-    let is_event = has_event(alloc, instance, (1, 1))?;
-    holds(is_event, "event of value", 1)?;
-    let is_other = has_event(alloc, instance, (1, 0))?;
-    holds(!is_other, "no event of value", 0)
+fn has_its_event(rt: &impl Abort, alloc: Global, instance: &Instance) {
+    same(rt, instance.units(), 1, "units", 0);
+    has_event(rt, alloc, instance, (1, 1), true);
+    has_event(rt, alloc, instance, (1, 0), false);
 }
 
 #[test]
-fn an_instance_has_the_events_of_its_family(rt: HostRuntime) -> Result<(), Fail> {
-    let alloc = rt.alloc();
-    let listed = listed(alloc)?;
-    has_its_event(alloc, &listed)
+fn an_instance_has_the_events_of_its_family(rt: HostRuntime) {
+    let listed = listed(&rt, rt.alloc());
+    has_its_event(&rt, rt.alloc(), &listed);
 }
 
-// Whether there is an instance with this pair in its event.
-fn is_made(alloc: Global, last: (u32, u32)) -> Result<bool, Fail> {
-    Ok(instance(alloc, last)?.is_some())
+// Tells that there is no instance with this pair in its event.
+fn is_not_made(rt: &impl Abort, alloc: Global, last: (u32, u32)) {
+    let is_made = instance(rt, alloc, last).is_some();
+    is_so(rt, !is_made, "no instance with variable", last.0);
 }
 
+// Value 2 of variable 1, and variable 2.
 #[test]
-fn events_name_variables_and_values_that_the_stacks_have(rt: HostRuntime) -> Result<(), Fail> {
-    let alloc = rt.alloc();
-    let has_value = is_made(alloc, (1, 2))?;
-    holds(!has_value, "no instance with value 2 of variable", 1)?;
-    let has_variable = is_made(alloc, (2, 1))?;
-    holds(!has_variable, "no instance with variable", 2)
+fn events_name_variables_and_values_that_the_stacks_have(rt: HostRuntime) {
+    is_not_made(&rt, rt.alloc(), (1, 2));
+    is_not_made(&rt, rt.alloc(), (2, 1));
 }
 
 // The arrows of one variable, whose values lead to the root and to itself.
-fn arrows(alloc: Global) -> Result<Arrows, Fail> {
-    let row = Vec::from_slice(alloc, &[None, Some(0)])?;
+fn arrows(rt: &impl Abort, alloc: Global) -> Arrows {
+    let row = Vec::from_slice(alloc, &[None, Some(0)]).expect(rt, "memory");
     let mut heads = Vec::new(alloc);
-    heads.push(row)?;
-    match Arrows::new(heads) {
-        Some(arrows) => Ok(arrows),
-        None => Err(Fail::new("no arrows")),
-    }
+    heads.push(row).expect(rt, "memory");
+    Arrows::new(heads).expect(rt, "arrows")
 }
 
-// The stacks of one variable with two values.
-fn keyed() -> Result<Stacks, Fail> {
-    Ok(Stacks::new(StackSpec::Key([0; 32]), Weights::pairs(1), 1)?)
-}
-
-// The instance of the cycles of one variable, whose values lead to the root and to itself.
-fn loops(alloc: Global) -> Result<Instance, Fail> {
-    let arrows = arrows(alloc)?;
-    over(keyed()?, Family::Cycles(arrows))
+// The instance of the cycles of one variable with two values, which lead to the root and to itself.
+fn loops(rt: &impl Abort, alloc: Global) -> Instance {
+    let arrows = arrows(rt, alloc);
+    let stacks = Stacks::new(StackSpec::Key([0; 32]), Weights::pairs(1), 1).expect(rt, "stacks");
+    made(rt, over(stacks, Family::Cycles(arrows)), "an instance")
 }
 
 // Compares the places of each variable of the first event with its place alone.
-fn have_the_first_place(events: &Events, index: &Index) -> Result<(), Fail>
+fn have_the_first_place(rt: &impl Abort, events: &Events, index: &Index)
     requires { IsIndex events.now index.now }
 {
-    if events.count() == 0 {
-        return Err(Fail::new("no event"));
-    }
+    assert!(rt; events.count() > 0);
     let cube = events.cube(0);
     for i in 0..cube.len() {
         let (v, _) = cube.pair(i);
-        same_row(index.at(v), &[0], v)?;
+        same_row(rt, index.at(v), &[0], v);
     }
-    Ok(())
 }
 
 // Compares the index of an instance of listed events.
-fn has_index(alloc: Global, instance: &Instance) -> Result<(), Fail> {
+fn has_index(rt: &impl Abort, alloc: Global, instance: &Instance) {
     let Family::Listed(events) = instance.family() else {
-        return Err(Fail::new("no listed family"));
+        panic!(rt; "no listed family")
     };
-    match instance.index(alloc)? {
-        Some(index) => have_the_first_place(events, &index),
-        None => Err(Fail::new("no index")),
-    }
+    let index = instance.index(alloc).expect(rt, "memory");
+    let index = index.expect(rt, "an index");
+    have_the_first_place(rt, events, &index);
 }
 
 #[test]
-fn listed_events_have_an_index(rt: HostRuntime) -> Result<(), Fail> {
-    let alloc = rt.alloc();
-    let listed = listed(alloc)?;
-    has_index(alloc, &listed)
+fn listed_events_have_an_index(rt: HostRuntime) {
+    let listed = listed(&rt, rt.alloc());
+    has_index(&rt, rt.alloc(), &listed);
 }
 
 // Tells that an instance has no index.
-fn has_no_index(alloc: Global, instance: &Instance) -> Result<(), Fail> {
-    let index = instance.index(alloc)?;
-    holds(index.is_none(), "no index of cycles", 0)
+fn has_no_index(rt: &impl Abort, alloc: Global, instance: &Instance) {
+    let index = instance.index(alloc).expect(rt, "memory");
+    is_so(rt, index.is_none(), "no index of cycles", 0);
 }
 
 #[test]
-fn cycles_have_no_index(rt: HostRuntime) -> Result<(), Fail> {
-    let alloc = rt.alloc();
-    let cycles = loops(alloc)?;
-    has_no_index(alloc, &cycles)
+fn cycles_have_no_index(rt: HostRuntime) {
+    let cycles = loops(&rt, rt.alloc());
+    has_no_index(&rt, rt.alloc(), &cycles);
 }

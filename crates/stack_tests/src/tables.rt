@@ -4,25 +4,23 @@ ghost use Rattle.std.specs.Bool.{OnTrue};
 ghost use Rattle.pop_model.specs.Stacks.{variables_of};
 ghost use Rattle.pop_model.specs.Popping.{AreWithin};
 
+use crate::compare::made;
 use pop_instance::{Cursors, Family};
 use pop_stacks::{Rows, Stacks, Weights};
 use std::alloc::Global;
-use std::test::Fail;
+use std::process::Abort;
 use test_instances::{EventRow, event_rows, family};
 
 /// These rows, fewer than nine, of fewer than nine numbers.
-pub fn rows(alloc: Global, table: &[&[u32]]) -> Result<Rows, Fail> {
+pub fn rows(rt: &impl Abort, alloc: Global, table: &[&[u32]]) -> Rows {
     let mut rows = Vec::new(alloc);
     for row in table {
-        if row.len() >= 9 {
-            return Err(Fail::new("a row is too long"));
-        }
-        rows.push(Vec::from_slice(alloc, row)?)?;
+        assert!(rt; row.len() < 9);
+        let row = Vec::from_slice(alloc, row).expect(rt, "memory");
+        rows.push(row).expect(rt, "memory");
     }
-    if rows.len() >= 9 {
-        return Err(Fail::new("too many rows"));
-    }
-    Ok(Rows::of(rows))
+    assert!(rt; rows.len() < 9);
+    Rows::of(rows)
 }
 
 /// Whether there is a weight, and none is 0.
@@ -33,23 +31,22 @@ pub fn are_weights(row: &[u32]) -> bool
 }
 
 /// The weights of these rows, fewer than nine, of fewer than nine numbers, none of which is 0.
-pub fn weights(alloc: Global, table: &[&[u32]]) -> Result<Weights, Fail> {
+pub fn weights(rt: &impl Abort, alloc: Global, table: &[&[u32]]) -> Weights {
     let mut rows = Vec::new(alloc);
     for row in table {
-        if !are_weights(row) || row.len() >= 9 {
-            return Err(Fail::new("no weights"));
-        }
-        rows.push(Vec::from_slice(alloc, row)?)?;
+        let is_good = are_weights(row) && row.len() < 9;
+        assert!(rt; is_good);
+        let row = Vec::from_slice(alloc, row).expect(rt, "memory");
+        rows.push(row).expect(rt, "memory");
     }
-    if rows.len() >= 9 {
-        return Err(Fail::new("too many rows"));
-    }
-    Ok(Weights::of(Rows::of(rows)))
+    assert!(rt; rows.len() < 9);
+    Weights::of(Rows::of(rows))
 }
 
 /// The family of the events of these numbers, which rise, and pairs.
-pub fn listed(alloc: Global, table: &[EventRow]) -> Result<Family, Fail> {
-    family(alloc, event_rows(alloc, table)?)
+pub fn listed(rt: &impl Abort, alloc: Global, table: &[EventRow]) -> Family {
+    let rows = made(rt, event_rows(alloc, table), "events");
+    made(rt, family(alloc, rows), "a family")
 }
 
 /// Whether each variable has an entry at its cursor.

@@ -3,7 +3,7 @@ use crate::readers::look_afresh;
 use crate::tables::weights;
 use pop_stacks::{StackSpec, Stacks};
 use std::alloc::Global;
-use std::test::Fail;
+use std::process::Abort;
 
 // RFC 8439, A.1, vectors 1 and 2: the key of zeros, stream 0, blocks 0 and 1. Of each entry the low
 // word stands first.
@@ -28,30 +28,27 @@ static WORDS: [(u32, u32); 16] = [
 
 // The stacks of variable 0 under the key of zeros and two weights, whose sum is the greatest that
 // there is, 2^32 - 1.
-fn stacks(alloc: Global, first: u32) -> Result<Stacks, Fail> {
-    let weights = weights(alloc, &[&[first, u32::MAX - first]])?;
-    Ok(Stacks::new(StackSpec::Key([0; 32]), weights, 64)?)
+fn stacks(rt: &impl Abort, alloc: Global, first: u32) -> Stacks {
+    let weights = weights(rt, alloc, &[&[first, u32::MAX - first]]);
+    Stacks::new(StackSpec::Key([0; 32]), weights, 64).expect(rt, "stacks")
 }
 
 // Compares entry k of these stacks.
-fn is_value(alloc: Global, k: u32, first: u32, value: u32) -> Result<(), Fail> {
-    let stacks = stacks(alloc, first)?;
-    look_afresh(&stacks, 0, k, value)
+fn is_value(rt: &impl Abort, alloc: Global, k: u32, first: u32, value: u32) {
+    let stacks = stacks(rt, alloc, first);
+    look_afresh(rt, &stacks, 0, k, value);
 }
 
 // What comes of the two words of an entry, scaled by that sum, by hand: the high word, or one less
 // where the low word isn't above it. With a first weight of as much the value is the second one, and
 // with one more the first.
 #[test]
-fn the_words_are_those_of_the_standard(rt: HostRuntime) -> Result<(), Fail> {
+fn the_words_are_those_of_the_standard(rt: HostRuntime) {
     let alloc = rt.alloc();
     for (k, (low, high)) in WORDS.iter().enumerate() {
         let scaled = high.saturating_sub((low <= high) as u32);
-        let Some(next) = scaled.checked_add(1) else {
-            return Err(Fail::new("a scaled number is too great"));
-        };
-        is_value(alloc, k as u32, scaled, 1)?;
-        is_value(alloc, k as u32, next, 0)?;
+        let next = scaled.checked_add(1).expect(&rt, "a lesser number");
+        is_value(&rt, alloc, k as u32, scaled, 1);
+        is_value(&rt, alloc, k as u32, next, 0);
     }
-    Ok(())
 }

@@ -3,4 +3,4 @@ use Rattle.stack_tests.proofs.arrows.falling.Given as goal
 
 -- the rows so far are short
 abbrev pub invariant-loop-v : goal.invariant-loop-v
-invariant-loop-v l = All (λ row. length row < 2 ^ 31) l.rows
+invariant-loop-v g l = All (λ row. length row < 2 ^ 31) l.rows

@@ -4,7 +4,7 @@ use Rattle.std.proofs.lemmas.List.Elements.{All-map}
 use Rattle.stack_tests.proofs.tables.rows.Goals as goal
 
 pub of-requires : goal.of-requires
-of-requires c =
+of-requires g c =
     let rows = c.loop-row.rows.items in
     let items : Vec ℕ Global → List ℕ = λ v. v.items in
     let size = length-map rows items in

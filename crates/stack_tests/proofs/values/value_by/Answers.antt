@@ -3,8 +3,9 @@ use Rattle.pop_model.proofs.ValuesLemmas.{length-values_at}
 use Rattle.stack_tests.proofs.values.value_by.Goals as goal
 
 pub get-requires : goal.get-requires
-get-requires c =
-    let are = c.in_ok-values.ensures.values.are in
+get-requires g c =
+    let known = rw c.expect-values.ensures at c.at_by.ensures in
+    let are = known.values.are in
     let same = ap length are in
     let size = length-values_at c.args.stacks.now c.args.cursors.now in
     record { known = omega (arith, same, size, c.requires.count, c.requires.variable) }
