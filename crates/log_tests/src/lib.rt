@@ -4,6 +4,10 @@
 #![tactic(auto)]
 
 #[cfg(test)]
+mod comparing;
+#[cfg(test)]
+mod instances;
+#[cfg(test)]
 mod layers;
 #[cfg(test)]
 mod merging;

@@ -1,4 +1,4 @@
-ghost use Rattle.std.specs.Prelude.{◌≡◌, [], ◌++◌, ◌∷◌, IfOk, OnOk};
+ghost use Rattle.std.specs.Prelude.{◌≡◌, [], ◌++◌, ◌∷◌};
 ghost use Rattle.pop_model.specs.Logs.{LogRecord};
 ghost use Rattle.pop_model.specs.Tickets.{AreNumbered};
 
@@ -7,42 +7,25 @@ use confluence_core::{Log, Ticketed, Tickets};
 use pop_log::merge;
 use std::alloc::Global;
 use std::process::Abort;
-use std::test::Fail;
 
 // Adds the record of an event of this unit, below 99, under a ticket.
-fn push_ticket(
-    rt: &impl Abort,
-    alloc: Global,
-    tickets: &mut Tickets,
-    ticket: u64,
-    unit: u32,
-) -> Result<(), Fail>
-    ensures { OnOk result
-        ((popped : LogRecord) × (tickets.new ≡ tickets.old ++ (ticket, popped) ∷ [])) }
+fn push_ticket(rt: &impl Abort, alloc: Global, tickets: &mut Tickets, ticket: u64, unit: u32)
+    ensures { (popped : LogRecord) × (tickets.new ≡ tickets.old ++ (ticket, popped) ∷ []) }
 {
-    let popped = popped(rt, alloc, 99, unit, &[unit])?;
-    tickets.push(Ticketed { ticket, popped })?;
-    Ok(())
+    let popped = popped(rt, alloc, 99, unit, &[unit]);
+    tickets
+        .push(Ticketed { ticket, popped })
+        .expect(rt, "memory");
 }
 
 // Adds the tickets 2, 0 and 1.
-fn push_three(rt: &impl Abort, alloc: Global, tickets: &mut Tickets) -> Result<(), Fail>
+fn push_three(rt: &impl Abort, alloc: Global, tickets: &mut Tickets)
     requires { tickets.old ≡ [] }
-    ensures { OnOk result (AreNumbered tickets.new) }
+    ensures { AreNumbered tickets.new }
 {
-    push_ticket(rt, alloc, tickets, 2, 40)?;
-    push_ticket(rt, alloc, tickets, 0, 60)?;
-    push_ticket(rt, alloc, tickets, 1, 50)?;
-    Ok(())
-}
-
-// The tickets 2, 0 and 1.
-fn three(rt: &impl Abort, alloc: Global) -> Result<Tickets, Fail>
-    ensures { IfOk result AreNumbered }
-{
-    let mut tickets = Tickets::new(alloc);
-    push_three(rt, alloc, &mut tickets)?;
-    Ok(tickets)
+    push_ticket(rt, alloc, tickets, 2, 40);
+    push_ticket(rt, alloc, tickets, 0, 60);
+    push_ticket(rt, alloc, tickets, 1, 50);
 }
 
 // Compares the units of a log.
@@ -54,16 +37,15 @@ fn has_units(rt: &impl Abort, log: &Log, units: &[u32]) {
 }
 
 #[test]
-fn records_stand_in_the_order_of_their_tickets(rt: HostRuntime) -> Result<(), Fail> {
-    let tickets = three(&rt, rt.alloc())?;
-    let log = merge(rt.alloc(), tickets)?;
+fn records_stand_in_the_order_of_their_tickets(rt: HostRuntime) {
+    let mut tickets = Tickets::new(rt.alloc());
+    push_three(&rt, rt.alloc(), &mut tickets);
+    let log = merge(rt.alloc(), tickets).expect(&rt, "memory");
     has_units(&rt, &log, &[60, 50, 40]);
-    Ok(())
 }
 
 #[test]
-fn no_tickets_give_the_empty_log(rt: HostRuntime) -> Result<(), Fail> {
-    let log = merge(rt.alloc(), Tickets::new(rt.alloc()))?;
+fn no_tickets_give_the_empty_log(rt: HostRuntime) {
+    let log = merge(rt.alloc(), Tickets::new(rt.alloc())).expect(&rt, "memory");
     has_units(&rt, &log, &[]);
-    Ok(())
 }

@@ -1,14 +1,15 @@
 ghost use Rattle.pop_model.specs.Logs.{IsLegal};
 ghost use Rattle.pop_model.specs.Runs.{start_of};
 
+use crate::comparing::same_text;
+use crate::instances::of_events;
 use crate::runs::log_of_run;
 use confluence_core::Log;
 use pop_instance::Instance;
 use pop_log::{Names, print_layered, print_log};
-use std::alloc::{AllocError, Global};
+use std::alloc::Global;
 use std::process::Abort;
-use std::test::Fail;
-use test_instances::{EventRow, listed};
+use test_instances::EventRow;
 
 // The rows and the events of an instance, and the text of the log of its run from zeros: in layers,
 // or in the order of the log.
@@ -21,41 +22,31 @@ struct Case {
 
 // The text of a log, in layers or in its own order.
 fn text_of(
+    rt: &impl Abort,
     alloc: Global,
     instance: &Instance,
     log: &Log,
     in_layers: bool,
-) -> Result<Vec<u8>, AllocError>
+) -> Vec<u8>
     requires { IsLegal instance.now (start_of instance.now) log.now }
 {
     if in_layers {
-        return print_layered(alloc, instance, &Names::Plain, log);
+        return print_layered(alloc, instance, &Names::Plain, log).expect(rt, "memory");
     }
-    print_log(alloc, instance, &Names::Plain, log)
+    print_log(alloc, instance, &Names::Plain, log).expect(rt, "memory")
 }
 
 // The text of the log of a run from zeros.
-fn text_of_run(
-    rt: &impl Abort,
-    alloc: Global,
-    instance: &Instance,
-    in_layers: bool,
-) -> Result<Vec<u8>, Fail> {
-    let log = log_of_run(rt, alloc, instance)?;
-    Ok(text_of(alloc, instance, &log, in_layers)?)
-}
-
-// Compares a text.
-fn is_text(rt: &impl Abort, found: &[u8], want: &str) {
-    assert!(rt; found == want.as_bytes(), "{want}");
+fn text_of_run(rt: &impl Abort, alloc: Global, instance: &Instance, in_layers: bool) -> Vec<u8> {
+    let log = log_of_run(rt, alloc, instance);
+    text_of(rt, alloc, instance, &log, in_layers)
 }
 
 // Compares the text of the log of a run from zeros.
-fn prints(rt: &impl Abort, alloc: Global, case: &Case) -> Result<(), Fail> {
-    let instance = listed(alloc, case.rows, case.events)?;
-    let text = text_of_run(rt, alloc, &instance, case.in_layers)?;
-    is_text(rt, &text, case.text);
-    Ok(())
+fn prints(rt: &impl Abort, alloc: Global, case: &Case) {
+    let instance = of_events(rt, alloc, case.rows, case.events);
+    let text = text_of_run(rt, alloc, &instance, case.in_layers);
+    same_text(rt, &text, case.text);
 }
 
 // The variables have the entries 0, 1, 1 and 0, 0, 1. The clauses `1 2` and `-1 2`, under the
@@ -69,9 +60,8 @@ static PLAIN: Case = Case {
 
 // Worked by hand.
 #[test]
-fn a_record_has_the_number_of_its_event_and_the_entries_used(rt: HostRuntime) -> Result<(), Fail> {
-    let alloc = rt.alloc();
-    prints(&rt, alloc, &PLAIN)
+fn a_record_has_the_number_of_its_event_and_the_entries_used(rt: HostRuntime) {
+    prints(&rt, rt.alloc(), &PLAIN);
 }
 
 // The variables have the entries 0, 0, 1 and 0, 1. The clauses `1` and `2`.
@@ -84,7 +74,6 @@ static LAYERED: Case = Case {
 
 // Worked by hand: the second pop of the first clause waits for its first, and no other does.
 #[test]
-fn a_record_stands_in_its_layer(rt: HostRuntime) -> Result<(), Fail> {
-    let alloc = rt.alloc();
-    prints(&rt, alloc, &LAYERED)
+fn a_record_stands_in_its_layer(rt: HostRuntime) {
+    prints(&rt, rt.alloc(), &LAYERED);
 }

@@ -1,107 +1,107 @@
 mod texts;
 
+use crate::instances::{of_arrows, of_events};
 use confluence_core::{Log, Record};
 use pop_instance::Instance;
 use pop_log::{LogRefusal, Names, read_log};
-use std::alloc::{AllocError, Global};
+use std::alloc::Global;
 use std::process::Abort;
-use std::test::Fail;
-use test_instances::{EventRow, arrows, cycles, listed};
+use test_instances::EventRow;
 use texts::{FIRST, FORMULA, LAST, LAYERED, MIDDLE, ONE_CLAUSE, SINKS};
 
-// The instance of the clause `1`: value 0 of its one variable. The stack is 0, 0, 1.
-fn one_clause(alloc: Global) -> Result<Instance, Fail> {
-    static ROWS: [&[u32]; 1] = [&[0, 0, 1]];
-    static CLAUSES: [EventRow; 1] = [(1, &[(0, 0)])];
-    listed(alloc, &ROWS, &CLAUSES)
-}
+// The clause `1`: value 0 of its one variable, whose stack is 0, 0, 1.
+static ONE_ROW: [&[u32]; 1] = [&[0, 0, 1]];
 
-// The instance of the clauses `1` and `2`.
-fn two_clauses(alloc: Global) -> Result<Instance, Fail> {
-    static ROWS: [&[u32]; 2] = [&[0, 0, 1], &[0, 1]];
-    static CLAUSES: [EventRow; 2] = [(1, &[(0, 0)]), (2, &[(1, 0)])];
-    listed(alloc, &ROWS, &CLAUSES)
-}
+static ONE: [EventRow; 1] = [(1, &[(0, 0)])];
 
-// The instance of the clauses `1 2`, `-1 3`, `1 2` and `3`, of which the third is dropped.
-fn formula(alloc: Global) -> Result<Instance, Fail> {
-    static ROWS: [&[u32]; 3] = [&[0, 1, 1], &[0, 1, 0], &[0, 0, 1]];
-    static CLAUSES: [EventRow; 4] = [
-        (1, &[(0, 0), (1, 0)]),
-        (2, &[(0, 1), (2, 0)]),
-        (3, &[(0, 0), (1, 0)]),
-        (4, &[(2, 0)]),
-    ];
-    listed(alloc, &ROWS, &CLAUSES)
-}
+// The clauses `1` and `2`.
+static TWO_ROWS: [&[u32]; 2] = [&[0, 0, 1], &[0, 1]];
+
+static TWO: [EventRow; 2] = [(1, &[(0, 0)]), (2, &[(1, 0)])];
+
+// The clauses `1 2`, `-1 3`, `1 2` and `3`, of which the third is dropped.
+static CLAUSE_ROWS: [&[u32]; 3] = [&[0, 1, 1], &[0, 1, 0], &[0, 0, 1]];
+
+static CLAUSES: [EventRow; 4] = [
+    (1, &[(0, 0), (1, 0)]),
+    (2, &[(0, 1), (2, 0)]),
+    (3, &[(0, 0), (1, 0)]),
+    (4, &[(2, 0)]),
+];
 
 // The sinks of the triangle with the edges 1 2, 2 3 and 3 1.
-fn triangle(alloc: Global) -> Result<Instance, Fail> {
-    static ROWS: [&[u32]; 3] = [&[1, 0, 1], &[0, 1, 1], &[0, 1, 0]];
-    static SINKS: [EventRow; 3] = [
-        (1, &[(0, 1), (2, 0)]),
-        (2, &[(0, 0), (1, 1)]),
-        (3, &[(1, 0), (2, 1)]),
-    ];
-    listed(alloc, &ROWS, &SINKS)
-}
+static TRIANGLE_ROWS: [&[u32]; 3] = [&[1, 0, 1], &[0, 1, 1], &[0, 1, 0]];
+
+static TRIANGLE: [EventRow; 3] = [
+    (1, &[(0, 1), (2, 0)]),
+    (2, &[(0, 0), (1, 1)]),
+    (3, &[(1, 0), (2, 1)]),
+];
 
 // The trees of the triangle to its vertex 2. Each other vertex has an arrow to it, and one to the
 // other.
-fn tree(alloc: Global) -> Result<Instance, Fail> {
-    static ROWS: [&[u32]; 2] = [&[1, 1, 0], &[1, 1, 0]];
-    static HEADS: [[Option<u32>; 2]; 2] = [[None, Some(1)], [None, Some(0)]];
-    let arrows = arrows(alloc, &HEADS)?;
-    cycles(alloc, &ROWS, arrows)
-}
+static TREE_ROWS: [&[u32]; 2] = [&[1, 1, 0], &[1, 1, 0]];
+
+static HEADS: [[Option<u32>; 2]; 2] = [[None, Some(1)], [None, Some(0)]];
 
 // Adds a record: the unit, and of each variable its value and its entry.
-fn push_record(text: &mut String, record: &Record) -> Result<(), AllocError> {
-    write!(text, "{}:", record.unit())?;
+fn push_record(rt: &impl Abort, text: &mut String, record: &Record) {
+    write!(text, "{}:", record.unit()).expect(rt, "memory");
     let cube = record.cube();
     for i in 0..cube.len() {
         let (v, x) = cube.pair(i);
-        write!(text, " {v}={x}@{}", record.entry(i))?;
+        write!(text, " {v}={x}@{}", record.entry(i)).expect(rt, "memory");
     }
-    text.push_str(";")
+    text.push_str(";").expect(rt, "memory");
 }
 
-// The records of a log: of each the unit, and of each variable its value and its entry.
-fn records(alloc: Global, log: &Log) -> Result<String, AllocError> {
-    let mut text = String::new(alloc);
+// Adds the records of a log: of each the unit, and of each variable its value and its entry.
+fn push_records(rt: &impl Abort, text: &mut String, log: &Log) {
     for place in 0..log.len() {
-        push_record(&mut text, log.at(place))?;
+        push_record(rt, text, log.at(place));
     }
-    Ok(text)
 }
 
-// What is answered to a text that is refused.
-fn refused(alloc: Global, refusal: &LogRefusal) -> Result<String, AllocError> {
-    match refusal {
-        LogRefusal::Limit => String::from_str(alloc, "limit"),
-        LogRefusal::Malformed(line) => format!(in alloc; "malformed {line}"),
-        LogRefusal::NotLegal(place) => format!(in alloc; "not legal {place}"),
-        LogRefusal::Unlayered(place) => format!(in alloc; "unlayered {place}"),
-        LogRefusal::OutOfMemory => Err(AllocError),
-    }
+// Adds what is answered to a text that is refused.
+fn push_refusal(rt: &impl Abort, text: &mut String, refusal: &LogRefusal) {
+    let pushed = match refusal {
+        LogRefusal::Limit => text.push_str("limit"),
+        LogRefusal::Malformed(line) => write!(text, "malformed {line}"),
+        LogRefusal::NotLegal(place) => write!(text, "not legal {place}"),
+        LogRefusal::Unlayered(place) => write!(text, "unlayered {place}"),
+        LogRefusal::OutOfMemory => panic!(rt; "memory"),
+    };
+    pushed.expect(rt, "memory");
 }
 
 // What is answered to a text.
 fn answer(
+    rt: &impl Abort,
     alloc: Global,
     instance: &Instance,
     names: &Names,
     text: &[u8],
-) -> Result<String, AllocError> {
+) -> String {
+    let mut answer = String::new(alloc);
     match read_log(alloc, instance, names, text) {
-        Ok(log) => records(alloc, &log),
-        Err(refusal) => refused(alloc, &refusal),
+        Ok(log) => push_records(rt, &mut answer, &log),
+        Err(refusal) => push_refusal(rt, &mut answer, &refusal),
     }
+    answer
 }
 
-// Compares an answer.
-fn same_answer(rt: &impl Abort, found: &str, want: &str, text: &str) {
-    assert_eq!(rt; found, want, "{text}");
+// Compares the answer to a text.
+fn is_answered(
+    rt: &impl Abort,
+    alloc: Global,
+    instance: &Instance,
+    names: &Names,
+    text: &[u8],
+    want: &str,
+) {
+    let found = answer(rt, alloc, instance, names, text);
+    let size = text.len();
+    assert!(rt; found.as_str() == want, "{size} bytes: {found}, not {want}");
 }
 
 // Compares the answers to texts with those that were worked by hand.
@@ -111,54 +111,55 @@ fn compare(
     instance: &Instance,
     names: Names,
     cases: &[(&str, &str)],
-) -> Result<(), Fail> {
+) {
     for (text, want) in cases {
-        let found = answer(alloc, instance, &names, text.as_bytes())?;
-        same_answer(rt, found.as_str(), want, text);
+        is_answered(rt, alloc, instance, &names, text.as_bytes(), want);
     }
-    Ok(())
+}
+
+// The same over the instance of these rows of entries and these events.
+fn compare_listed(
+    rt: &impl Abort,
+    alloc: Global,
+    rows: &[&[u32]],
+    events: &[EventRow],
+    cases: &[(&str, &str)],
+) {
+    let instance = of_events(rt, alloc, rows, events);
+    compare(rt, alloc, &instance, Names::Plain, cases);
 }
 
 #[test]
-fn logs_of_a_formula_are_read_and_others_refused(rt: HostRuntime) -> Result<(), Fail> {
-    let alloc = rt.alloc();
-    let instance = formula(alloc)?;
-    compare(&rt, alloc, &instance, Names::Plain, &FORMULA)
+fn logs_of_a_formula_are_read_and_others_refused(rt: HostRuntime) {
+    compare_listed(&rt, rt.alloc(), &CLAUSE_ROWS, &CLAUSES, &FORMULA);
 }
 
 #[test]
-fn logs_are_read_in_both_versions(rt: HostRuntime) -> Result<(), Fail> {
-    let alloc = rt.alloc();
-    let instance = one_clause(alloc)?;
-    compare(&rt, alloc, &instance, Names::Plain, &ONE_CLAUSE)
+fn logs_are_read_in_both_versions(rt: HostRuntime) {
+    compare_listed(&rt, rt.alloc(), &ONE_ROW, &ONE, &ONE_CLAUSE);
 }
 
 #[test]
-fn logs_in_layers_are_read_and_others_refused(rt: HostRuntime) -> Result<(), Fail> {
-    let alloc = rt.alloc();
-    let instance = two_clauses(alloc)?;
-    compare(&rt, alloc, &instance, Names::Plain, &LAYERED)
+fn logs_in_layers_are_read_and_others_refused(rt: HostRuntime) {
+    compare_listed(&rt, rt.alloc(), &TWO_ROWS, &TWO, &LAYERED);
 }
 
 #[test]
-fn logs_of_sinks_are_read(rt: HostRuntime) -> Result<(), Fail> {
-    let alloc = rt.alloc();
-    let instance = triangle(alloc)?;
-    compare(&rt, alloc, &instance, Names::Plain, &SINKS)
+fn logs_of_sinks_are_read(rt: HostRuntime) {
+    compare_listed(&rt, rt.alloc(), &TRIANGLE_ROWS, &TRIANGLE, &SINKS);
 }
 
 // Compares the answers by the names of each root.
-fn compare_trees(rt: &impl Abort, alloc: Global, instance: &Instance) -> Result<(), Fail> {
-    compare(rt, alloc, instance, Names::Tree(2), &MIDDLE)?;
-    compare(rt, alloc, instance, Names::Tree(1), &FIRST)?;
-    compare(rt, alloc, instance, Names::Tree(3), &LAST)
+fn compare_trees(rt: &impl Abort, alloc: Global, instance: &Instance) {
+    compare(rt, alloc, instance, Names::Tree(2), &MIDDLE);
+    compare(rt, alloc, instance, Names::Tree(1), &FIRST);
+    compare(rt, alloc, instance, Names::Tree(3), &LAST);
 }
 
 #[test]
-fn logs_of_trees_are_read_by_the_names_of_their_root(rt: HostRuntime) -> Result<(), Fail> {
-    let alloc = rt.alloc();
-    let instance = tree(alloc)?;
-    compare_trees(&rt, alloc, &instance)
+fn logs_of_trees_are_read_by_the_names_of_their_root(rt: HostRuntime) {
+    let instance = of_arrows(&rt, rt.alloc(), &TREE_ROWS, &HEADS);
+    compare_trees(&rt, rt.alloc(), &instance);
 }
 
 // What is to be answered to so many bytes of a text.
@@ -173,18 +174,15 @@ fn cut_answer(n: usize) -> &'static str {
 
 static CUT: [u8; 28] = *b"log 1 2\npop 1 1:0\npop 1 1:1\n";
 
-// Compares the answer to the first bytes of that text.
-fn compare_cuts(rt: &impl Abort, alloc: Global, instance: &Instance) -> Result<(), Fail> {
+// Compares the answers to its first bytes.
+fn compare_cuts(rt: &impl Abort, alloc: Global, instance: &Instance) {
     for n in 0..29 {
-        let found = answer(alloc, instance, &Names::Plain, &CUT[..n])?;
-        assert!(rt; found.as_str() == cut_answer(n), "the first {n} bytes");
+        is_answered(rt, alloc, instance, &Names::Plain, &CUT[..n], cut_answer(n));
     }
-    Ok(())
 }
 
 #[test]
-fn every_cut_of_a_text_is_refused_at_its_line(rt: HostRuntime) -> Result<(), Fail> {
-    let alloc = rt.alloc();
-    let instance = one_clause(alloc)?;
-    compare_cuts(&rt, alloc, &instance)
+fn every_cut_of_a_text_is_refused_at_its_line(rt: HostRuntime) {
+    let instance = of_events(&rt, rt.alloc(), &ONE_ROW, &ONE);
+    compare_cuts(&rt, rt.alloc(), &instance);
 }

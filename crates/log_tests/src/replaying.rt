@@ -1,61 +1,31 @@
+use crate::instances::{of_arrows, of_events};
 use crate::records::popped_with;
 use confluence_core::Log;
 use pop_instance::Instance;
 use pop_log::{Replay, replay};
-use std::alloc::{AllocError, Global};
+use std::alloc::Global;
 use std::process::Abort;
-use std::test::Fail;
-use test_instances::{EventRow, arrows, cycles, listed};
+use test_instances::EventRow;
 
 // The log of pops, each of a unit, a variable below 10 that has value 0, and its entry.
-fn log_of(rt: &impl Abort, alloc: Global, pops: &[(u32, u32, u32)]) -> Result<Log, Fail> {
+fn log_of(rt: &impl Abort, alloc: Global, pops: &[(u32, u32, u32)]) -> Log {
     let mut log = Log::new(alloc);
     for (unit, v, entry) in pops {
-        log.push(popped_with(rt, alloc, 10, *unit, &[*v], &[*entry])?)?;
+        let popped = popped_with(rt, alloc, 10, *unit, &[*v], &[*entry]);
+        log.push(popped).expect(rt, "memory");
     }
-    Ok(log)
-}
-
-// Variable 0 has the entries 0, 0, 0 and variable 1 the entries 1, 0. Events 0 and 1 are that
-// variable 0 and variable 1 have value 0.
-fn two_events(alloc: Global) -> Result<Instance, Fail> {
-    static ROWS: [&[u32]; 2] = [&[0, 0, 0], &[1, 0]];
-    static EVENTS: [EventRow; 2] = [(1, &[(0, 0)]), (2, &[(1, 0)])];
-    listed(alloc, &ROWS, &EVENTS)
-}
-
-// Variable 0 leads to itself by value 0 and to the root by value 1. It has the entries 0, 0, 1.
-fn ring(alloc: Global) -> Result<Instance, Fail> {
-    static ROWS: [&[u32]; 1] = [&[0, 0, 1]];
-    static HEADS: [[Option<u32>; 2]; 1] = [[Some(0), None]];
-    let arrows = arrows(alloc, &HEADS)?;
-    cycles(alloc, &ROWS, arrows)
+    log
 }
 
 // The cursor of variable 0 that a log leaves, or the place of its first record that isn't
 // legal.
-fn left_by(
-    rt: &impl Abort,
-    alloc: Global,
-    instance: &Instance,
-    log: &Log,
-) -> Result<Result<u32, u64>, AllocError> {
+fn left_by(rt: &impl Abort, alloc: Global, instance: &Instance, log: &Log) -> Result<u32, u64> {
     assert!(rt; 0 < instance.stacks().count());
-    match replay(alloc, instance, log)? {
-        Replay::Legal(cursors) => Ok(Ok(cursors.get(0))),
-        Replay::NotLegal(place) => Ok(Err(place)),
+    let end = replay(alloc, instance, log).expect(rt, "memory");
+    match end {
+        Replay::Legal(cursors) => Ok(cursors.get(0)),
+        Replay::NotLegal(place) => Err(place),
     }
-}
-
-// The same of the log of pops.
-fn replayed(
-    rt: &impl Abort,
-    alloc: Global,
-    instance: &Instance,
-    pops: &[(u32, u32, u32)],
-) -> Result<Result<u32, u64>, Fail> {
-    let log = log_of(rt, alloc, pops)?;
-    Ok(left_by(rt, alloc, instance, &log)?)
 }
 
 // Replays the pops. Compares the cursor of variable 0 that they leave, or the place of the
@@ -66,10 +36,10 @@ fn is_replay(
     instance: &Instance,
     pops: &[(u32, u32, u32)],
     want: Result<u32, u64>,
-) -> Result<(), Fail> {
-    let found = replayed(rt, alloc, instance, pops)?;
-    assert_eq!(rt; found, want, "{pops:?}");
-    Ok(())
+) {
+    let log = log_of(rt, alloc, pops);
+    let found = left_by(rt, alloc, instance, &log);
+    assert!(rt; found == want, "{pops:?}: {found:?}, not {want:?}");
 }
 
 // Replays each of these.
@@ -78,12 +48,17 @@ fn are_replays(
     alloc: Global,
     instance: &Instance,
     cases: &[(&[(u32, u32, u32)], Result<u32, u64>)],
-) -> Result<(), Fail> {
+) {
     for (pops, want) in cases {
-        is_replay(rt, alloc, instance, pops, *want)?;
+        is_replay(rt, alloc, instance, pops, *want);
     }
-    Ok(())
 }
+
+// Variable 0 has the entries 0, 0, 0 and variable 1 the entries 1, 0. Events 0 and 1 are that
+// variable 0 and variable 1 have value 0.
+static ROWS: [&[u32]; 2] = [&[0, 0, 0], &[1, 0]];
+
+static EVENTS: [EventRow; 2] = [(1, &[(0, 0)]), (2, &[(1, 0)])];
 
 // Pops of the listed events, and the cursor of variable 0 that they leave, or the place of the
 // first that isn't legal. Worked by hand.
@@ -102,11 +77,15 @@ static LOGS: [(&[(u32, u32, u32)], Result<u32, u64>); 9] = [
 ];
 
 #[test]
-fn a_log_is_legal_up_to_its_first_illegal_record(rt: HostRuntime) -> Result<(), Fail> {
-    let alloc = rt.alloc();
-    let instance = two_events(alloc)?;
-    are_replays(&rt, alloc, &instance, &LOGS)
+fn a_log_is_legal_up_to_its_first_illegal_record(rt: HostRuntime) {
+    let instance = of_events(&rt, rt.alloc(), &ROWS, &EVENTS);
+    are_replays(&rt, rt.alloc(), &instance, &LOGS);
 }
+
+// Variable 0 leads to itself by value 0 and to the root by value 1. It has the entries 0, 0, 1.
+static RING_ROWS: [&[u32]; 1] = [&[0, 0, 1]];
+
+static RING_HEADS: [[Option<u32>; 2]; 1] = [[Some(0), None]];
 
 // The same of pops of the ring. Worked by hand.
 static RING_LOGS: [(&[(u32, u32, u32)], Result<u32, u64>); 2] = [
@@ -115,8 +94,7 @@ static RING_LOGS: [(&[(u32, u32, u32)], Result<u32, u64>); 2] = [
 ];
 
 #[test]
-fn cycles_are_replayed_under_their_least_variable(rt: HostRuntime) -> Result<(), Fail> {
-    let alloc = rt.alloc();
-    let instance = ring(alloc)?;
-    are_replays(&rt, alloc, &instance, &RING_LOGS)
+fn cycles_are_replayed_under_their_least_variable(rt: HostRuntime) {
+    let instance = of_arrows(&rt, rt.alloc(), &RING_ROWS, &RING_HEADS);
+    are_replays(&rt, rt.alloc(), &instance, &RING_LOGS);
 }

@@ -1,5 +1,4 @@
 //! Logs of runs.
-ghost use Rattle.std.specs.Prelude.{IfOk};
 ghost use Rattle.pop_model.specs.Logs.{IsLegal};
 ghost use Rattle.pop_model.specs.Runs.{start_of};
 
@@ -7,12 +6,11 @@ use confluence_core::{Keep, Log, run_from_zeros};
 use pop_instance::Instance;
 use std::alloc::Global;
 use std::process::Abort;
-use std::test::Fail;
 
 /// The log of a run from zeros.
-pub fn log_of_run(rt: &impl Abort, alloc: Global, instance: &Instance) -> Result<Log, Fail>
-    ensures { IfOk result (λ log. IsLegal instance.now (start_of instance.now) log) }
+pub fn log_of_run(rt: &impl Abort, alloc: Global, instance: &Instance) -> Log
+    ensures { IsLegal instance.now (start_of instance.now) result }
 {
-    let run = run_from_zeros(alloc, instance, Keep::Log)?;
-    Ok(run.log.expect(rt, "a log"))
+    let run = run_from_zeros(alloc, instance, Keep::Log).expect(rt, "memory");
+    run.log.expect(rt, "a log")
 }

@@ -1,10 +1,10 @@
 mod plain;
 
+use crate::comparing::same_text;
 use crate::records::popped;
 use confluence_core::Log;
 use std::alloc::Global;
 use std::process::Abort;
-use std::test::Fail;
 use witness_trees::{Tree, print_missing, tree};
 
 // All variables are below this.
@@ -14,12 +14,13 @@ const COUNT: u32 = 7;
 type Pop = (u32, &'static [u32]);
 
 // The log of these units and variables.
-fn log_of(rt: &impl Abort, alloc: Global, pops: &[Pop]) -> Result<Log, Fail> {
+fn log_of(rt: &impl Abort, alloc: Global, pops: &[Pop]) -> Log {
     let mut log = Log::new(alloc);
     for (unit, variables) in pops {
-        log.push(popped(rt, alloc, COUNT, *unit, variables)?)?;
+        let popped = popped(rt, alloc, COUNT, *unit, variables);
+        log.push(popped).expect(rt, "memory");
     }
-    Ok(log)
+    log
 }
 
 // Compares the depths and units of a tree, in preorder.
@@ -40,11 +41,11 @@ struct Case {
 }
 
 // Compares the tree of the record of a case.
-fn is_case(rt: &impl Abort, alloc: Global, log: &Log, case: &Case) -> Result<(), Fail> {
+fn is_case(rt: &impl Abort, alloc: Global, case: &Case) {
+    let log = log_of(rt, alloc, case.pops);
     assert!(rt; case.t < log.len(), "{}", case.what);
-    let tree = tree(alloc, log, case.t)?;
+    let tree = tree(alloc, &log, case.t).expect(rt, "memory");
     has_vertices(rt, &tree, case.tree, case.what);
-    Ok(())
 }
 
 // The events of the clauses `1 2 0`, `3 4 0` and `2 3 0`.
@@ -123,42 +124,34 @@ static CASES: [Case; 9] = [
 ];
 
 #[test]
-fn trees_have_the_vertices_that_are_worked_by_hand(rt: HostRuntime) -> Result<(), Fail> {
-    let alloc = rt.alloc();
+fn trees_have_the_vertices_that_are_worked_by_hand(rt: HostRuntime) {
     for case in CASES.iter() {
-        let log = log_of(&rt, alloc, case.pops)?;
-        is_case(&rt, alloc, &log, case)?;
+        is_case(&rt, rt.alloc(), case);
     }
-    Ok(())
 }
 
 // Variables, entries and cursors, and what is printed of a pop that isn't there. Worked by hand.
-static MISSING: [(u32, u32, u32, &[u8]); 2] = [
-    (7, 2, 2, b"witness none 7 2 2\n"),
-    (1, 0, 4294967295, b"witness none 1 0 4294967295\n"),
+static MISSING: [(u32, u32, u32, &str); 2] = [
+    (7, 2, 2, "witness none 7 2 2\n"),
+    (1, 0, 4294967295, "witness none 1 0 4294967295\n"),
 ];
 
-// Compares a text.
-fn is_printed(rt: &impl Abort, found: &[u8], want: &[u8], entry: u32) {
-    assert!(rt; found == want, "entry {entry}");
-}
-
 #[test]
-fn a_missing_pop_is_printed_with_its_entry_and_the_cursor(rt: HostRuntime) -> Result<(), Fail> {
+fn a_missing_pop_is_printed_with_its_entry_and_the_cursor(rt: HostRuntime) {
     for (name, entry, cursor, want) in MISSING.iter() {
-        let text = print_missing(rt.alloc(), *name, *entry, *cursor)?;
-        is_printed(&rt, &text, want, *entry);
+        let text = print_missing(rt.alloc(), *name, *entry, *cursor).expect(&rt, "memory");
+        same_text(&rt, &text, want);
     }
-    Ok(())
 }
 
 // The log of so many pops of one event, of unit 3.
-fn log_of_one(rt: &impl Abort, alloc: Global, pops: u64) -> Result<Log, Fail> {
+fn log_of_one(rt: &impl Abort, alloc: Global, pops: u64) -> Log {
     let mut log = Log::new(alloc);
     for _ in 0..pops {
-        log.push(popped(rt, alloc, COUNT, 3, &[1, 2])?)?;
+        let popped = popped(rt, alloc, COUNT, 3, &[1, 2]);
+        log.push(popped).expect(rt, "memory");
     }
-    Ok(log)
+    log
 }
 
 // Compares a tree with a path of so many vertices of unit 3.
@@ -170,10 +163,9 @@ fn is_path(rt: &impl Abort, tree: &Tree, vertices: u64) {
 }
 
 #[test]
-fn pops_of_one_event_make_a_path(rt: HostRuntime) -> Result<(), Fail> {
-    let log = log_of_one(&rt, rt.alloc(), 1000)?;
+fn pops_of_one_event_make_a_path(rt: HostRuntime) {
+    let log = log_of_one(&rt, rt.alloc(), 1000);
     assert!(&rt; log.len() == 1000);
-    let tree = tree(rt.alloc(), &log, 999)?;
+    let tree = tree(rt.alloc(), &log, 999).expect(&rt, "memory");
     is_path(&rt, &tree, 1000);
-    Ok(())
 }

@@ -1,18 +1,17 @@
 //! What watchers report of pops of one unit.
+use crate::comparing::same_text;
 use crate::records::popped_with;
 use pop_watch::{Heights, Layers, Totals, Watch};
 use std::alloc::Global;
 use std::process::Abort;
-use std::test::Fail;
 
 // The variables of a pop, all below 8, the entries that it used, and what is reported behind it.
 type Told = (&'static [u32], &'static [u32], &'static str);
 
 // Compares what a watcher reports.
-fn reports<W: Watch>(rt: &impl Abort, alloc: Global, watcher: &W, want: &str) -> Result<(), Fail> {
-    let text = watcher.report(alloc)?;
-    assert!(rt; text.as_slice() == want.as_bytes(), "{want}");
-    Ok(())
+fn reports<W: Watch>(rt: &impl Abort, alloc: Global, watcher: &W, want: &str) {
+    let text = watcher.report(alloc).expect(rt, "memory");
+    same_text(rt, &text, want);
 }
 
 // Tells a watcher a pop.
@@ -22,10 +21,9 @@ fn tell<W: Watch>(
     watcher: &mut W,
     variables: &[u32],
     entries: &[u32],
-) -> Result<(), Fail> {
-    let popped = popped_with(rt, alloc, 8, 0, variables, entries)?;
-    watcher.tell(&popped)?;
-    Ok(())
+) {
+    let popped = popped_with(rt, alloc, 8, 0, variables, entries);
+    watcher.tell(&popped).expect(rt, "memory");
 }
 
 // Compares what a watcher reports at first, and behind each pop that it is told.
@@ -35,13 +33,12 @@ fn reports_each<W: Watch>(
     watcher: &mut W,
     first: &str,
     pops: &[Told],
-) -> Result<(), Fail> {
-    reports(rt, alloc, watcher, first)?;
+) {
+    reports(rt, alloc, watcher, first);
     for (variables, entries, want) in pops {
-        tell(rt, alloc, watcher, variables, entries)?;
-        reports(rt, alloc, watcher, want)?;
+        tell(rt, alloc, watcher, variables, entries);
+        reports(rt, alloc, watcher, want);
     }
-    Ok(())
 }
 
 // Worked by hand.
@@ -52,7 +49,7 @@ static TOTALS: [Told; 3] = [
 ];
 
 #[test]
-fn totals_count_records_entries_and_the_longest(rt: HostRuntime) -> Result<(), Fail> {
+fn totals_count_records_entries_and_the_longest(rt: HostRuntime) {
     let mut totals = Totals::new();
     assert!(&rt; totals.kind() == 1);
     reports_each(
@@ -61,7 +58,7 @@ fn totals_count_records_entries_and_the_longest(rt: HostRuntime) -> Result<(), F
         &mut totals,
         "report totals 0 0 0\n",
         &TOTALS,
-    )
+    );
 }
 
 // Worked by hand: 0 has no digit, 1 has one, 2 and 3 have two, 8 has four, and 2^32 - 1 has 32.
@@ -79,9 +76,9 @@ static HEIGHTS: [Told; 2] = [
 ];
 
 #[test]
-fn heights_are_counted_by_binary_digits(rt: HostRuntime) -> Result<(), Fail> {
+fn heights_are_counted_by_binary_digits(rt: HostRuntime) {
     let mut heights = Heights::new();
-    reports_each(&rt, rt.alloc(), &mut heights, "report heights\n", &HEIGHTS)
+    reports_each(&rt, rt.alloc(), &mut heights, "report heights\n", &HEIGHTS);
 }
 
 // Worked by hand: the greatest layer so far, and how many variables were named.
@@ -95,7 +92,7 @@ static LAYERS: [Told; 6] = [
 ];
 
 #[test]
-fn layers_tell_the_greatest_and_the_variables_named(rt: HostRuntime) -> Result<(), Fail> {
-    let mut layers = Layers::new(rt.alloc())?;
-    reports_each(&rt, rt.alloc(), &mut layers, "report layers 0 0\n", &LAYERS)
+fn layers_tell_the_greatest_and_the_variables_named(rt: HostRuntime) {
+    let mut layers = Layers::new(rt.alloc()).expect(&rt, "memory");
+    reports_each(&rt, rt.alloc(), &mut layers, "report layers 0 0\n", &LAYERS);
 }

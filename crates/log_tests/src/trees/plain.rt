@@ -7,7 +7,6 @@ use crate::records::popped;
 use confluence_core::Log;
 use std::alloc::Global;
 use std::process::Abort;
-use std::test::Fail;
 use witness_trees::{Tree, tree};
 
 // A vertex that was found by search: the variables of the labels from the root down to it, and its
@@ -48,42 +47,43 @@ fn parent<'a, 'b>(found: &'b [Found<'a>], variables: &[u32]) -> Option<&'b [&'a 
 
 // The path to a vertex of these variables: none where they meet no vertex that was found.
 fn path_of<'a>(
+    rt: &impl Abort,
     alloc: Global,
     found: &[Found<'a>],
     variables: &'a [u32],
-) -> Result<Option<Vec<&'a [u32]>>, Fail> {
+) -> Option<Vec<&'a [u32]>> {
     let mut path: Vec<&'a [u32]> = Vec::new(alloc);
     if !found.is_empty() {
         match parent(found, variables) {
-            None => return Ok(None),
-            Some(above) => path = Vec::from_slice(alloc, above)?,
+            None => return None,
+            Some(above) => path = Vec::from_slice(alloc, above).expect(rt, "memory"),
         }
     }
-    path.push(variables)?;
-    Ok(Some(path))
+    path.push(variables).expect(rt, "memory");
+    Some(path)
 }
 
 // Adds the vertex of a pop, unless it meets none that was found.
 fn add<'a>(
+    rt: &impl Abort,
     alloc: Global,
     found: &mut Vec<Found<'a>>,
     unit: u32,
     variables: &'a [u32],
-) -> Result<(), Fail> {
-    if let Some(path) = path_of(alloc, found, variables)? {
-        found.push(Found { path, unit })?;
+) {
+    if let Some(path) = path_of(rt, alloc, found, variables) {
+        found.push(Found { path, unit }).expect(rt, "memory");
     }
-    Ok(())
 }
 
 // The vertices of the tree of the last pop, in preorder.
-fn search<'a>(alloc: Global, pops: &'a [(u32, Vec<u32>)]) -> Result<Vec<Found<'a>>, Fail> {
+fn search<'a>(rt: &impl Abort, alloc: Global, pops: &'a [(u32, Vec<u32>)]) -> Vec<Found<'a>> {
     let mut found: Vec<Found<'a>> = Vec::new(alloc);
     for (unit, variables) in pops.iter().rev() {
-        add(alloc, &mut found, *unit, variables.as_slice())?;
+        add(rt, alloc, &mut found, *unit, variables.as_slice());
     }
     found.sort_unstable_by(|vertex, other| vertex.path.cmp(&other.path));
-    Ok(found)
+    found
 }
 
 // A number below the bound, and the next state.
@@ -98,7 +98,7 @@ fn draw(state: &mut u64, bound: u64) -> u64
 }
 
 // One to three of six variables, with a unit of their own.
-fn event(alloc: Global, state: &mut u64) -> Result<(u32, Vec<u32>), Fail> {
+fn event(rt: &impl Abort, alloc: Global, state: &mut u64) -> (u32, Vec<u32>) {
     let (a, b, c) = (draw(state, 6), draw(state, 6), draw(state, 6));
     let mut unit: u32 = 0;
     let mut variables = Vec::new(alloc);
@@ -106,28 +106,30 @@ fn event(alloc: Global, state: &mut u64) -> Result<(u32, Vec<u32>), Fail> {
         unit = unit.wrapping_mul(2);
         if v == a || v == b || v == c {
             unit = unit.wrapping_add(1);
-            variables.push(v as u32)?;
+            variables.push(v as u32).expect(rt, "memory");
         }
     }
-    Ok((unit, variables))
+    (unit, variables)
 }
 
 // One to twelve pops.
-fn draw_pops(alloc: Global, state: &mut u64) -> Result<Vec<(u32, Vec<u32>)>, Fail> {
+fn draw_pops(rt: &impl Abort, alloc: Global, state: &mut u64) -> Vec<(u32, Vec<u32>)> {
     let mut pops = Vec::new(alloc);
     for _ in 0..draw(state, 12) + 1 {
-        pops.push(event(alloc, state)?)?;
+        let event = event(rt, alloc, state);
+        pops.push(event).expect(rt, "memory");
     }
-    Ok(pops)
+    pops
 }
 
 // Their log.
-fn logged(rt: &impl Abort, alloc: Global, pops: &[(u32, Vec<u32>)]) -> Result<Log, Fail> {
+fn logged(rt: &impl Abort, alloc: Global, pops: &[(u32, Vec<u32>)]) -> Log {
     let mut log = Log::new(alloc);
     for (unit, variables) in pops {
-        log.push(popped(rt, alloc, COUNT, *unit, variables)?)?;
+        let popped = popped(rt, alloc, COUNT, *unit, variables);
+        log.push(popped).expect(rt, "memory");
     }
-    Ok(log)
+    log
 }
 
 // Compares a tree with what is found by search.
@@ -142,28 +144,26 @@ fn is_found(rt: &impl Abort, tree: &Tree, want: &[Found]) {
 }
 
 // Compares the tree of the last record of a log with what is found by search.
-fn has_found(rt: &impl Abort, alloc: Global, log: &Log, want: &[Found]) -> Result<(), Fail> {
+fn has_found(rt: &impl Abort, alloc: Global, log: &Log, want: &[Found]) {
     let count = log.len();
     assert!(rt; 0 < count);
-    let tree = tree(alloc, log, count - 1)?;
+    let tree = tree(alloc, log, count - 1).expect(rt, "memory");
     is_found(rt, &tree, want);
-    Ok(())
 }
 
 // Compares the tree of the last pop with what is found by search.
-fn agree(rt: &impl Abort, alloc: Global, pops: &[(u32, Vec<u32>)]) -> Result<(), Fail> {
-    let want = search(alloc, pops)?;
-    let log = logged(rt, alloc, pops)?;
-    has_found(rt, alloc, &log, &want)
+fn agree(rt: &impl Abort, alloc: Global, pops: &[(u32, Vec<u32>)]) {
+    let want = search(rt, alloc, pops);
+    let log = logged(rt, alloc, pops);
+    has_found(rt, alloc, &log, &want);
 }
 
 #[test]
-fn trees_are_those_that_a_search_finds(rt: HostRuntime) -> Result<(), Fail> {
+fn trees_are_those_that_a_search_finds(rt: HostRuntime) {
     let alloc = rt.alloc();
     let mut state = 1;
     for _ in 0..400 {
-        let pops = draw_pops(alloc, &mut state)?;
-        agree(&rt, alloc, &pops)?;
+        let pops = draw_pops(&rt, alloc, &mut state);
+        agree(&rt, alloc, &pops);
     }
-    Ok(())
 }

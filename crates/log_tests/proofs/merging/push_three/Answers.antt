@@ -17,9 +17,9 @@ numbered p q r = (
 
 pub returns : goal.returns
 returns g c =
-    let first = c.in_ok-push_ticket.ensures in
-    let second = c.in_ok-push_ticket-2.ensures in
-    let third = c.in_ok-push_ticket-3.ensures in
+    let first = c.push_ticket.ensures in
+    let second = c.push_ticket-2.ensures in
+    let third = c.push_ticket-3.ensures in
     let built : c.push_ticket-3.new.tickets ≡ (2, first.0) ∷ (0, second.0) ∷ (1, third.0) ∷ [] =
     third.1 ∙ ap (λ (ts : List (ℕ × LogRecord)). ts ++ (1, third.0) ∷ [])
     (second.1 ∙ ap (λ (ts : List (ℕ × LogRecord)). ts ++ (0, second.0) ∷ [])

@@ -8,4 +8,4 @@ find_pop-requires g c =
     let i = c.args.instance.now in
     let stacks = ap variables_of c.stacks.ensures in
     let below : c.args.v < variables_of i.stacks = omega (arith, stacks, c.count.ensures.count) in
-    legal_log_counts i c.in_ok-log.log c.in_ok-log.ensures c.args.v below
+    legal_log_counts i c.log_of_run-log.result c.log_of_run-log.ensures c.args.v below

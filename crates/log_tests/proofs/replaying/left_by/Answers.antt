@@ -10,7 +10,8 @@ pub get-requires : goal.get-requires
 get-requires g c =
     let i : Instance = c.args.instance.now in
     let log = c.args.log.now in
-    let legal = subst (IsReplay i log) c.in-Legal.is c.in_ok-cursors.ensures in
+    let known = rw c.expect-end.ensures at c.replay.ensures in
+    let legal = subst (IsReplay i log) c.in-Legal.is known in
     let size : length c.in-Legal.cursors ≡ variables_of i.stacks =
     ap length legal.1 ∙ length-replay (start_of i) log ∙ sym (start_count i) in
     let count = ap variables_of c.stacks.ensures in
