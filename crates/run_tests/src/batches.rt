@@ -4,7 +4,7 @@ ghost use Rattle.pop_model.specs.Extremal.{IsExtremal};
 ghost use Rattle.confluence_core.specs.Runs.{IsEndOver};
 ghost use Rattle.pop_batch.specs.Batches.{AreEnds};
 
-use crate::compare::{same, same_at};
+use crate::compare::{is_so, same, same_at};
 use confluence_core::{End, Stuck, run_first};
 use instances::{cycles, listed};
 use pop_batch::{Ends, batch, batch_alone};
@@ -12,7 +12,6 @@ use pop_instance::Instance;
 use pop_stacks::Stacks;
 use std::alloc::Global;
 use std::process::Abort;
-use std::test::Fail;
 use std::thread::Threads;
 use test_instances::EventRow;
 
@@ -41,7 +40,7 @@ fn same_stuck(rt: &impl Abort, stuck: &Stuck, others: &Stuck, i: u64)
     let (unit, cube) = stuck.at(i);
     let (other_unit, other_cube) = others.at(i);
     same_at(rt, unit, other_unit, "stuck event", i);
-    assert!(rt; *cube == *other_cube, "stuck event {i}");
+    is_so(rt, *cube == *other_cube, "stuck event", i);
 }
 
 // Compares two lists of stuck events.
@@ -66,71 +65,54 @@ fn are_alike(rt: &impl Abort, stacks: &Stacks, end: &End, other: &End)
 }
 
 // Compares an end with that of the one-thread run on an instance.
-fn ends_as_first(rt: &impl Abort, alloc: Global, sample: &Instance, end: &End) -> Result<(), Fail>
+fn ends_as_first(rt: &impl Abort, alloc: Global, sample: &Instance, end: &End)
     requires { IsEndOver sample.now.stacks end.now }
 {
-    let first = run_first(alloc, sample)?;
+    let first = run_first(alloc, sample).expect(rt, "memory");
     are_alike(rt, sample.stacks(), end, &first);
-    Ok(())
 }
 
 // Compares the end of sample j with that of the one-thread run on an instance of its own.
-fn is_that_of_first(
-    rt: &impl Abort,
-    alloc: Global,
-    instance: &Instance,
-    ends: &Ends,
-    j: u32,
-) -> Result<(), Fail>
+fn is_that_of_first(rt: &impl Abort, alloc: Global, instance: &Instance, ends: &Ends, j: u32)
     requires keyed { IsKeyed instance.now.stacks.origin }
     requires ends { (count : ℕ) × AreEnds instance.now count ends.now }
     requires known { j < length ends.now }
 {
     let end = ends.at(j);
-    let sample = instance.for_sample(alloc, j)?;
-    ends_as_first(rt, alloc, &sample, end)
+    let sample = instance.for_sample(alloc, j).expect(rt, "memory");
+    ends_as_first(rt, alloc, &sample, end);
 }
 
 // Compares the ends of three samples of an instance with those of one-thread runs.
-fn are_those_of_first(
-    rt: &impl Abort,
-    alloc: Global,
-    instance: &Instance,
-    ends: &Ends,
-) -> Result<(), Fail>
+fn are_those_of_first(rt: &impl Abort, alloc: Global, instance: &Instance, ends: &Ends)
     requires keyed { IsKeyed instance.now.stacks.origin }
     requires ends { (count : ℕ) × AreEnds instance.now count ends.now }
 {
     assert!(rt; ends.len() == 3);
     for j in 0..3 {
-        is_that_of_first(rt, alloc, instance, ends, j)?;
+        is_that_of_first(rt, alloc, instance, ends, j);
     }
-    Ok(())
 }
 
 // Compares three samples that are run on this thread with one-thread runs.
-fn three_alone(rt: &impl Abort, alloc: Global, instance: &Instance) -> Result<(), Fail>
+fn three_alone(rt: &impl Abort, alloc: Global, instance: &Instance)
     requires keyed { IsKeyed instance.now.stacks.origin }
     requires extremal { IsExtremal instance.now.family }
 {
-    let ends = batch_alone(alloc, instance, 3)?;
-    are_those_of_first(rt, alloc, instance, &ends)
+    let ends = batch_alone(alloc, instance, 3).expect(rt, "memory");
+    are_those_of_first(rt, alloc, instance, &ends);
 }
 
 // Compares three samples of an instance, run in parallel and run on this thread, with one-thread
 // runs, and returns whether one is stuck.
-fn three_samples<R: Threads + Abort + Sync>(
-    rt: &R,
-    alloc: Global,
-    instance: &Instance,
-) -> Result<bool, Fail>
+fn three_samples<R: Threads + Abort + Sync>(rt: &R, alloc: Global, instance: &Instance) -> bool
     requires keyed { IsKeyed instance.now.stacks.origin }
     requires extremal { IsExtremal instance.now.family }
 {
-    three_alone(rt, alloc, instance)?;
-    let ends = batch(rt, alloc, instance, 3)?;
-    are_those_of_first(rt, alloc, instance, &ends)?;
-    Ok(ends.some_stuck())
+    three_alone(rt, alloc, instance);
+    let ends = batch(rt, alloc, instance, 3).expect(rt, "memory");
+    are_those_of_first(rt, alloc, instance, &ends);
+    ends.some_stuck()
 }
 
 // The clauses 1 2, -1 3 and -2 -3: each is an event where its literals are false.
@@ -157,42 +139,33 @@ fn are_events_stuck<R: Threads + Abort + Sync>(
     alloc: Global,
     height: u32,
     table: &[EventRow],
-) -> Result<bool, Fail> {
-    let instance = listed(rt, alloc, 3, height, table)?;
+) -> bool {
+    let instance = listed(rt, alloc, 3, height, table);
     three_samples(rt, alloc, &instance)
 }
 
 // Compares samples of the square at this height, and returns whether one is stuck.
-fn is_square_stuck<R: Threads + Abort + Sync>(
-    rt: &R,
-    alloc: Global,
-    height: u32,
-) -> Result<bool, Fail> {
-    let square = cycles(rt, alloc, height, &SQUARE)?;
+fn is_square_stuck<R: Threads + Abort + Sync>(rt: &R, alloc: Global, height: u32) -> bool {
+    let square = cycles(rt, alloc, height, &SQUARE);
     three_samples(rt, alloc, &square)
 }
 
 // Compares samples of the three instances at this height, and returns whether one is stuck.
-fn is_some_stuck<R: Threads + Abort + Sync>(
-    rt: &R,
-    alloc: Global,
-    height: u32,
-) -> Result<bool, Fail> {
-    let formula = are_events_stuck(rt, alloc, height, &FORMULA)?;
-    let sinks = are_events_stuck(rt, alloc, height, &SINKS)?;
-    let square = is_square_stuck(rt, alloc, height)?;
-    Ok(formula || sinks || square)
+fn is_some_stuck<R: Threads + Abort + Sync>(rt: &R, alloc: Global, height: u32) -> bool {
+    let formula = are_events_stuck(rt, alloc, height, &FORMULA);
+    let sinks = are_events_stuck(rt, alloc, height, &SINKS);
+    let square = is_square_stuck(rt, alloc, height);
+    formula || sinks || square
 }
 
 #[test]
-fn each_sample_ends_as_the_run_on_its_own_stacks(rt: HostRuntime) -> Result<(), Fail> {
+fn each_sample_ends_as_the_run_on_its_own_stacks(rt: HostRuntime) {
     let alloc = rt.alloc();
-    let high = is_some_stuck(&rt, alloc, 900)?;
+    let high = is_some_stuck(&rt, alloc, 900);
     assert!(&rt; !high);
-    let low = is_some_stuck(&rt, alloc, 1)?;
+    let low = is_some_stuck(&rt, alloc, 1);
     assert!(&rt; low);
-    is_some_stuck(&rt, alloc, 2)?;
-    Ok(())
+    is_some_stuck(&rt, alloc, 2);
 }
 
 // For each variable the event that it has the value 0.
@@ -221,87 +194,66 @@ static FIRST_ONES: [[u32; 8]; 4] = [
 fn are_first_ones(rt: &impl Abort, stacks: &Stacks, end: &End, row: &[u32])
     requires over { IsEndOver stacks.now end.now }
 {
-    assert!(rt; row.len() == stacks.count() as usize);
-    for v in 0..stacks.count() {
+    let count = stacks.count();
+    assert!(rt; row.len() == count as usize);
+    for v in 0..count {
         same_shown(rt, shown(stacks, end, v), (row[v as usize], 1), v);
     }
 }
 
 // Compares sample j of the events above with its row.
-fn is_sample_of_ones(
-    rt: &impl Abort,
-    alloc: Global,
-    instance: &Instance,
-    ends: &Ends,
-    j: u32,
-) -> Result<(), Fail>
+fn is_sample_of_ones(rt: &impl Abort, alloc: Global, instance: &Instance, ends: &Ends, j: u32)
     requires keyed { IsKeyed instance.now.stacks.origin }
     requires ends { (count : ℕ) × AreEnds instance.now count ends.now }
     requires known { j < length ends.now }
     requires few { j < 4 }
 {
     let end = ends.at(j);
-    let own = instance.stacks().for_sample(alloc, j)?;
+    let own = instance.stacks().for_sample(alloc, j).expect(rt, "memory");
     are_first_ones(rt, &own, end, &FIRST_ONES[j as usize]);
-    Ok(())
 }
 
 // Compares four samples of the events above with their rows.
-fn are_samples_of_ones(
-    rt: &impl Abort,
-    alloc: Global,
-    instance: &Instance,
-    ends: &Ends,
-) -> Result<(), Fail>
+fn are_samples_of_ones(rt: &impl Abort, alloc: Global, instance: &Instance, ends: &Ends)
     requires keyed { IsKeyed instance.now.stacks.origin }
     requires ends { (count : ℕ) × AreEnds instance.now count ends.now }
 {
     assert!(rt; ends.len() == 4);
     for j in 0..4 {
-        is_sample_of_ones(rt, alloc, instance, ends, j)?;
+        is_sample_of_ones(rt, alloc, instance, ends, j);
     }
-    Ok(())
 }
 
 // Runs four samples of the events above, and compares them with their rows.
-fn four_samples<R: Threads + Abort + Sync>(
-    rt: &R,
-    alloc: Global,
-    instance: &Instance,
-) -> Result<(), Fail>
+fn four_samples<R: Threads + Abort + Sync>(rt: &R, alloc: Global, instance: &Instance)
     requires keyed { IsKeyed instance.now.stacks.origin }
     requires extremal { IsExtremal instance.now.family }
 {
-    let ends = batch(rt, alloc, instance, 4)?;
-    are_samples_of_ones(rt, alloc, instance, &ends)
+    let ends = batch(rt, alloc, instance, 4).expect(rt, "memory");
+    are_samples_of_ones(rt, alloc, instance, &ends);
 }
 
 // Compares the one-thread run on the instance of the events above with the first row.
-fn first_is_of_ones(rt: &impl Abort, alloc: Global, instance: &Instance) -> Result<(), Fail> {
-    let first = run_first(alloc, instance)?;
+fn first_is_of_ones(rt: &impl Abort, alloc: Global, instance: &Instance) {
+    let first = run_first(alloc, instance).expect(rt, "memory");
     are_first_ones(rt, instance.stacks(), &first, &FIRST_ONES[0]);
-    Ok(())
 }
 
 // Compares the one-thread run and four samples of the events above with their rows.
-fn all_are_of_ones<R: Threads + Abort + Sync>(
-    rt: &R,
-    alloc: Global,
-    instance: &Instance,
-) -> Result<(), Fail>
+fn all_are_of_ones<R: Threads + Abort + Sync>(rt: &R, alloc: Global, instance: &Instance)
     requires keyed { IsKeyed instance.now.stacks.origin }
     requires extremal { IsExtremal instance.now.family }
 {
-    first_is_of_ones(rt, alloc, instance)?;
-    four_samples(rt, alloc, instance)
+    first_is_of_ones(rt, alloc, instance);
+    four_samples(rt, alloc, instance);
 }
 
 // The one-thread run on the instance itself is sample 0.
 #[test]
-fn each_sample_has_the_entries_of_its_own_streams(rt: HostRuntime) -> Result<(), Fail> {
+fn each_sample_has_the_entries_of_its_own_streams(rt: HostRuntime) {
     let alloc = rt.alloc();
-    let instance = listed(&rt, alloc, 8, 64, &ZEROS)?;
-    all_are_of_ones(&rt, alloc, &instance)
+    let instance = listed(&rt, alloc, 8, 64, &ZEROS);
+    all_are_of_ones(&rt, alloc, &instance);
 }
 
 // Compares how many ends a batch of so many samples has, and whether it is stuck.
@@ -311,28 +263,23 @@ fn batch_is<R: Threads + Abort + Sync>(
     instance: &Instance,
     count: u32,
     stuck: bool,
-) -> Result<(), Fail>
+)
     requires keyed { IsKeyed instance.now.stacks.origin }
     requires extremal { IsExtremal instance.now.family }
 {
-    let ends = batch(rt, alloc, instance, count)?;
+    let ends = batch(rt, alloc, instance, count).expect(rt, "memory");
     same(rt, ends.len() as u64, count as u64, "samples");
-    assert!(rt; ends.some_stuck() == stuck, "{count} samples");
-    Ok(())
+    is_so(rt, ends.some_stuck() == stuck, "samples", count as u64);
 }
 
 // Compares batches of three samples, of one more, and of none.
-fn three_batches<R: Threads + Abort + Sync>(
-    rt: &R,
-    alloc: Global,
-    instance: &Instance,
-) -> Result<(), Fail>
+fn three_batches<R: Threads + Abort + Sync>(rt: &R, alloc: Global, instance: &Instance)
     requires keyed { IsKeyed instance.now.stacks.origin }
     requires extremal { IsExtremal instance.now.family }
 {
-    batch_is(rt, alloc, instance, 3, false)?;
-    batch_is(rt, alloc, instance, 4, true)?;
-    batch_is(rt, alloc, instance, 0, false)
+    batch_is(rt, alloc, instance, 3, false);
+    batch_is(rt, alloc, instance, 4, true);
+    batch_is(rt, alloc, instance, 0, false);
 }
 
 // The event that variable 0 has the value 0.
@@ -341,8 +288,8 @@ static ZERO: [EventRow; 1] = [(1, &[(0, 0)])];
 // Variable 0 is 1 at its first entry in samples 0 to 2, and stays 0 in sample 3, where it has no
 // second one.
 #[test]
-fn a_batch_with_one_stuck_sample_is_stuck(rt: HostRuntime) -> Result<(), Fail> {
+fn a_batch_with_one_stuck_sample_is_stuck(rt: HostRuntime) {
     let alloc = rt.alloc();
-    let instance = listed(&rt, alloc, 1, 1, &ZERO)?;
-    three_batches(&rt, alloc, &instance)
+    let instance = listed(&rt, alloc, 1, 1, &ZERO);
+    three_batches(&rt, alloc, &instance);
 }

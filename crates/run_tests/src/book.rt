@@ -1,17 +1,17 @@
-ghost use Rattle.std.specs.Prelude.{◌≡◌, ◌<◌, length, IfOk};
+ghost use Rattle.std.specs.Prelude.{◌≡◌, ◌<◌, length};
 ghost use Rattle.pop_model.specs.Stacks.{variables_of};
 ghost use Rattle.pop_model.specs.Runs.{start_of};
 
 use crate::compare::{same, same_at};
+use crate::made::{arrows, cycles, listed};
 use confluence_core::{Log, Record};
 use lock_board::{Attempt, Book, Site};
 use pop_instance::{Arrows, Cursors, Instance};
 use pop_stacks::Reader;
-use std::alloc::{AllocError, Global};
+use std::alloc::Global;
 use std::marker::Brand;
 use std::process::Abort;
-use std::test::Fail;
-use test_instances::{EventRow, arrows, cycles, listed};
+use test_instances::EventRow;
 
 // What attempts answered, and the parts of the book that they left.
 #[derive(Drop)]
@@ -28,47 +28,39 @@ fn answers<N: Site>(
     instance: &Instance,
     book: &mut Book<N>,
     units: &[u32],
-) -> Result<Vec<Attempt>, Fail>
+) -> Vec<Attempt>
     requires site { instance.now ≡ N.instance }
 {
     let mut reader = Reader::new(instance.stacks());
     let mut answers = Vec::new(alloc);
     for unit in units {
         assert!(rt; *unit < instance.units());
-        answers.push(book.attempt(alloc, &mut reader, *unit))?;
+        answers
+            .push(book.attempt(alloc, &mut reader, *unit))
+            .expect(rt, "memory");
     }
-    Ok(answers)
+    answers
 }
 
 // Attempts these units of a new book in turn.
-fn try_units<N: Site>(
-    rt: &impl Abort,
-    alloc: Global,
-    instance: &Instance,
-    units: &[u32],
-) -> Result<Tried, Fail>
+fn try_units<N: Site>(rt: &impl Abort, alloc: Global, instance: &Instance, units: &[u32]) -> Tried
     requires site { instance.now ≡ N.instance }
     requires start { N.start ≡ start_of N.instance }
-    ensures { IfOk result (λ tried. variables_of instance.now.stacks ≡ length tried.cursors) }
+    ensures { variables_of instance.now.stacks ≡ length result.cursors }
 {
-    let mut book = Book::<N>::new(alloc, instance)?;
-    let answers = answers(rt, alloc, instance, &mut book, units)?;
+    let mut book = Book::<N>::new(alloc, instance).expect(rt, "memory");
+    let answers = answers(rt, alloc, instance, &mut book, units);
     let (cursors, log) = book.into_parts();
-    Ok(Tried {
+    Tried {
         answers,
         cursors,
         log,
-    })
+    }
 }
 
 // Attempts these units of a new book of the instance in turn.
-fn attempts(
-    rt: &impl Abort,
-    alloc: Global,
-    instance: &Instance,
-    units: &[u32],
-) -> Result<Tried, Fail>
-    ensures { IfOk result (λ tried. variables_of instance.now.stacks ≡ length tried.cursors) }
+fn attempts(rt: &impl Abort, alloc: Global, instance: &Instance, units: &[u32]) -> Tried
+    ensures { variables_of instance.now.stacks ≡ length result.cursors }
 {
     try_units::<Brand>(rt, alloc, instance, units)
 }
@@ -77,13 +69,14 @@ fn attempts(
 static ZERO: [EventRow; 1] = [(1, &[(0, 0)])];
 
 // The instance of one variable with these entries, whose event is that it has the value 0.
-fn clause(alloc: Global, entries: &[u32]) -> Result<Instance, Fail> {
-    listed(alloc, &[entries], &ZERO)
+fn clause(rt: &impl Abort, alloc: Global, entries: &[u32]) -> Instance {
+    listed(rt, alloc, &[entries], &ZERO)
 }
 
 // Compares what attempts answered.
 fn are_answers(rt: &impl Abort, answers: &[Attempt], want: &[Attempt]) {
-    assert_eq!(rt; answers, want);
+    let same = *answers == *want;
+    assert!(rt; same, "attempts");
 }
 
 // Compares what attempts answered, and how many pops they left in the log.
@@ -101,15 +94,9 @@ struct Case {
 }
 
 // Compares the attempts of a case over an instance.
-fn case_comes(
-    rt: &impl Abort,
-    alloc: Global,
-    instance: &Instance,
-    case: &Case,
-) -> Result<(), Fail> {
-    let tried = attempts(rt, alloc, instance, case.units)?;
+fn case_comes(rt: &impl Abort, alloc: Global, instance: &Instance, case: &Case) {
+    let tried = attempts(rt, alloc, instance, case.units);
     came_to(rt, &tried, case.answers, case.pops);
-    Ok(())
 }
 
 // Worked by hand: the entries 0 and 0 are popped, and at 1 the event doesn't occur.
@@ -137,24 +124,23 @@ fn left_by_two_pops(rt: &impl Abort, tried: &Tried)
 }
 
 // Compares what the case of two pops leaves of its instance.
-fn two_pops_leave(rt: &impl Abort, alloc: Global, instance: &Instance) -> Result<(), Fail> {
+fn two_pops_leave(rt: &impl Abort, alloc: Global, instance: &Instance) {
     assert!(rt; instance.stacks().count() == 1);
-    let tried = attempts(rt, alloc, instance, POPPED_TWICE.units)?;
+    let tried = attempts(rt, alloc, instance, POPPED_TWICE.units);
     left_by_two_pops(rt, &tried);
-    Ok(())
 }
 
 // Compares the attempts of that case, and what they leave.
-fn is_popped_twice(rt: &impl Abort, alloc: Global, instance: &Instance) -> Result<(), Fail> {
-    case_comes(rt, alloc, instance, &POPPED_TWICE)?;
-    two_pops_leave(rt, alloc, instance)
+fn is_popped_twice(rt: &impl Abort, alloc: Global, instance: &Instance) {
+    case_comes(rt, alloc, instance, &POPPED_TWICE);
+    two_pops_leave(rt, alloc, instance);
 }
 
 #[test]
-fn a_listed_event_is_popped_until_it_is_absent(rt: HostRuntime) -> Result<(), Fail> {
+fn a_listed_event_is_popped_until_it_is_absent(rt: HostRuntime) {
     let alloc = rt.alloc();
-    let instance = clause(alloc, POPPED_TWICE.entries)?;
-    is_popped_twice(&rt, alloc, &instance)
+    let instance = clause(&rt, alloc, POPPED_TWICE.entries);
+    is_popped_twice(&rt, alloc, &instance);
 }
 
 // Worked by hand: the entry 0 is popped, and the last one is 0 too.
@@ -166,43 +152,37 @@ static STUCK_EVENT: Case = Case {
 };
 
 #[test]
-fn a_listed_event_is_stuck_at_the_last_entry(rt: HostRuntime) -> Result<(), Fail> {
+fn a_listed_event_is_stuck_at_the_last_entry(rt: HostRuntime) {
     let alloc = rt.alloc();
-    let instance = clause(alloc, STUCK_EVENT.entries)?;
-    case_comes(&rt, alloc, &instance, &STUCK_EVENT)
+    let instance = clause(&rt, alloc, STUCK_EVENT.entries);
+    case_comes(&rt, alloc, &instance, &STUCK_EVENT);
 }
 
 // The heads of so many variables, each with an arrow to the next one and one to the root; the last
 // has one to this variable in place of the next.
-fn heads(alloc: Global, count: u32, back: u32) -> Result<Vec<[Option<u32>; 2]>, AllocError>
+fn heads(rt: &impl Abort, alloc: Global, count: u32, back: u32) -> Vec<[Option<u32>; 2]>
     requires few { count < 1000 }
 {
     let mut heads = Vec::new(alloc);
     for v in 0..count {
         let next = if v + 1 == count { back } else { v + 1 };
-        heads.push([Some(next), None])?;
+        heads.push([Some(next), None]).expect(rt, "memory");
     }
-    Ok(heads)
+    heads
 }
 
 // Their arrows.
-fn lasso_arrows(rt: &impl Abort, alloc: Global, count: u32, back: u32) -> Result<Arrows, Fail> {
+fn lasso_arrows(rt: &impl Abort, alloc: Global, count: u32, back: u32) -> Arrows {
     assert!(rt; count < 1000);
-    let heads = heads(alloc, count, back)?;
-    arrows(alloc, &heads)
+    let heads = heads(rt, alloc, count, back);
+    arrows(rt, alloc, &heads)
 }
 
 // Such variables, each with these entries.
-fn lasso(
-    rt: &impl Abort,
-    alloc: Global,
-    count: u32,
-    back: u32,
-    entries: &[u32],
-) -> Result<Instance, Fail> {
-    let arrows = lasso_arrows(rt, alloc, count, back)?;
-    let rows = Vec::from_elem(alloc, entries, count as usize)?;
-    cycles(alloc, &rows, arrows)
+fn lasso(rt: &impl Abort, alloc: Global, count: u32, back: u32, entries: &[u32]) -> Instance {
+    let arrows = lasso_arrows(rt, alloc, count, back);
+    let rows = Vec::from_elem(alloc, entries, count as usize).expect(rt, "memory");
+    cycles(rt, alloc, &rows, arrows)
 }
 
 // The cycle is popped, and then the arrows lead to the root.
@@ -247,35 +227,27 @@ fn left_by_cycle(rt: &impl Abort, tried: &Tried, count: u32, back: u32)
 }
 
 // Pops the cycle of an instance of so many variables, and compares what is left.
-fn cycle_leaves(
-    rt: &impl Abort,
-    alloc: Global,
-    instance: &Instance,
-    count: u32,
-    back: u32,
-) -> Result<(), Fail>
+fn cycle_leaves(rt: &impl Abort, alloc: Global, instance: &Instance, count: u32, back: u32)
     requires back { back < count }
 {
     assert!(rt; instance.stacks().count() == count);
-    let tried = attempts(rt, alloc, instance, POPPED_CYCLE.units)?;
+    let tried = attempts(rt, alloc, instance, POPPED_CYCLE.units);
     left_by_cycle(rt, &tried, count, back);
-    Ok(())
 }
 
 // Pops the cycle of a lasso of so many variables.
-fn lasso_pops(rt: &impl Abort, alloc: Global, count: u32, back: u32) -> Result<(), Fail>
+fn lasso_pops(rt: &impl Abort, alloc: Global, count: u32, back: u32)
     requires back { back < count }
 {
-    let instance = lasso(rt, alloc, count, back, POPPED_CYCLE.entries)?;
-    cycle_leaves(rt, alloc, &instance, count, back)
+    let instance = lasso(rt, alloc, count, back, POPPED_CYCLE.entries);
+    cycle_leaves(rt, alloc, &instance, count, back);
 }
 
 // Pops the cycles of as many lassos as there are variables.
-fn lassos_of(rt: &impl Abort, alloc: Global, count: u32) -> Result<(), Fail> {
+fn lassos_of(rt: &impl Abort, alloc: Global, count: u32) {
     for back in 0..count {
-        lasso_pops(rt, alloc, count, back)?;
+        lasso_pops(rt, alloc, count, back);
     }
-    Ok(())
 }
 
 static COUNTS: [u32; 8] = [1, 2, 3, 4, 7, 8, 9, 40];
@@ -283,12 +255,11 @@ static COUNTS: [u32; 8] = [1, 2, 3, 4, 7, 8, 9, 40];
 // The arrows lead from variable 0 to the last one and back to some variable: these are the cycle,
 // which is popped once, under its least variable. Then they all lead to the root.
 #[test]
-fn the_cycle_that_the_arrows_lead_to_is_popped(rt: HostRuntime) -> Result<(), Fail> {
+fn the_cycle_that_the_arrows_lead_to_is_popped(rt: HostRuntime) {
     let alloc = rt.alloc();
     for count in COUNTS.iter() {
-        lassos_of(&rt, alloc, *count)?;
+        lassos_of(&rt, alloc, *count);
     }
-    Ok(())
 }
 
 static STUCK_CYCLE: Case = Case {
@@ -299,8 +270,8 @@ static STUCK_CYCLE: Case = Case {
 };
 
 #[test]
-fn a_cycle_is_stuck_at_the_last_entry(rt: HostRuntime) -> Result<(), Fail> {
+fn a_cycle_is_stuck_at_the_last_entry(rt: HostRuntime) {
     let alloc = rt.alloc();
-    let instance = lasso(&rt, alloc, 5, 2, STUCK_CYCLE.entries)?;
-    case_comes(&rt, alloc, &instance, &STUCK_CYCLE)
+    let instance = lasso(&rt, alloc, 5, 2, STUCK_CYCLE.entries);
+    case_comes(&rt, alloc, &instance, &STUCK_CYCLE);
 }

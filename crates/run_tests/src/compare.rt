@@ -7,18 +7,23 @@ use std::process::Abort;
 /// Compares two counts. Tests compare by this call and the next two, so that what tells of numbers
 /// that differ is proved once.
 pub fn same(rt: &impl Abort, found: u64, want: u64, what: &str) {
-    assert_eq!(rt; found, want, "{what}");
+    assert!(rt; found == want, "{what}");
 }
 
 /// Compares two numbers at a place.
 pub fn same_at(rt: &impl Abort, found: u32, want: u32, what: &str, place: u64) {
-    assert_eq!(rt; found, want, "{what} {place}");
+    assert!(rt; found == want, "{what} {place}");
+}
+
+/// Stops the test where this isn't so at a place.
+pub fn is_so(rt: &impl Abort, holds: bool, what: &str, place: u64) {
+    assert!(rt; holds, "{what} {place}");
 }
 
 /// Compares two counts of what two numbers name.
 pub fn same_of(rt: &impl Abort, found: u64, want: u64, what: &str, of: (u32, u32)) {
     let (one, other) = of;
-    assert_eq!(rt; found, want, "{what} {one}, {other}");
+    assert!(rt; found == want, "{what} {one}, {other}");
 }
 
 /// Compares the cursors of so many variables.

@@ -3,12 +3,12 @@ ghost use Rattle.std.specs.Prelude.{All};
 ghost use Rattle.std.specs.Bool.{OnTrue};
 ghost use Rattle.pop_model.specs.Popping.{NamesBelow};
 
+use crate::made::events;
 use extremal_check::{Verdict, check};
 use pop_instance::{Cube, Events, Family, Index};
 use std::alloc::Global;
 use std::process::Abort;
-use std::test::Fail;
-use test_instances::{EventRow, event_rows, family};
+use test_instances::EventRow;
 
 // How many variables the events may name.
 const VARIABLES: u32 = 10;
@@ -38,33 +38,26 @@ fn are_known(events: &Events) -> bool
 }
 
 // The verdict on listed events.
-fn verdict_on(rt: &impl Abort, alloc: Global, events: &Events) -> Result<Verdict, Fail> {
+fn verdict_on(rt: &impl Abort, alloc: Global, events: &Events) -> Verdict {
     let known = are_known(events);
     assert!(rt; known);
-    let index = Index::build(alloc, events, VARIABLES)?;
-    Ok(check(alloc, events, &index)?)
+    let index = Index::build(alloc, events, VARIABLES).expect(rt, "memory");
+    check(alloc, events, &index).expect(rt, "memory")
 }
 
 // Compares the verdict on the listed events of a family.
-fn has_verdict(
-    rt: &impl Abort,
-    alloc: Global,
-    family: &Family,
-    want: Verdict,
-    what: &str,
-) -> Result<(), Fail> {
+fn has_verdict(rt: &impl Abort, alloc: Global, family: &Family, want: Verdict, what: &str) {
     let Family::Listed(events) = family else {
         panic!(rt; "listed events");
     };
-    let verdict = verdict_on(rt, alloc, events)?;
+    let verdict = verdict_on(rt, alloc, events);
     assert!(rt; verdict == want, "{what}");
-    Ok(())
 }
 
-// The family of events by a table.
-fn family_of(alloc: Global, table: &[EventRow]) -> Result<Family, Fail> {
-    let rows = event_rows(alloc, table)?;
-    family(alloc, rows)
+// Compares the verdict on the events of a table.
+fn case_has_verdict(rt: &impl Abort, alloc: Global, table: &[EventRow], want: Verdict, what: &str) {
+    let family = events(rt, alloc, table);
+    has_verdict(rt, alloc, &family, want, what);
 }
 
 // What a case is of, its events, and the verdict on them.
@@ -154,11 +147,9 @@ static CASES: [Case; 13] = [
 ];
 
 #[test]
-fn the_least_clash_is_named_and_no_other_pair(rt: HostRuntime) -> Result<(), Fail> {
+fn the_least_clash_is_named_and_no_other_pair(rt: HostRuntime) {
     let alloc = rt.alloc();
     for (what, table, want) in CASES.iter() {
-        let family = family_of(alloc, table)?;
-        has_verdict(&rt, alloc, &family, *want, what)?;
+        case_has_verdict(&rt, alloc, table, *want, what);
     }
-    Ok(())
 }

@@ -12,6 +12,8 @@ mod compare;
 #[cfg(test)]
 mod extremal;
 #[cfg(test)]
+mod made;
+#[cfg(test)]
 mod one_thread;
 #[cfg(test)]
 mod readers;

@@ -1,12 +1,13 @@
 ghost use Rattle.std.specs.Prelude.{◌≡◌, length};
+ghost use Rattle.pop_model.specs.Stacks.{variables_of};
 
-use crate::compare::{are_cursors, are_stuck, same, same_at};
+use crate::compare::{are_cursors, are_stuck, is_so, same, same_at};
+use crate::made::listed;
 use confluence_core::{End, Keep, Log, Record, Stuck, run_first, run_from_zeros};
 use pop_instance::{Cursors, Instance};
-use std::alloc::{AllocError, Global};
+use std::alloc::Global;
 use std::process::Abort;
-use std::test::Fail;
-use test_instances::{EventRow, listed};
+use test_instances::EventRow;
 
 mod chains;
 mod log;
@@ -31,33 +32,21 @@ fn is_end(rt: &impl Abort, end: &End, count: u32, want: &Want)
 }
 
 // Compares the end of the plain run.
-fn first_ends_with(
-    rt: &impl Abort,
-    alloc: Global,
-    instance: &Instance,
-    want: &Want,
-) -> Result<(), Fail> {
-    let end = run_first(alloc, instance)?;
+fn first_ends_with(rt: &impl Abort, alloc: Global, instance: &Instance, want: &Want) {
+    let end = run_first(alloc, instance).expect(rt, "memory");
     is_end(rt, &end, instance.stacks().count(), want);
-    Ok(())
 }
 
 // Compares the end of the run from zeros.
-fn run_ends_with(
-    rt: &impl Abort,
-    alloc: Global,
-    instance: &Instance,
-    want: &Want,
-) -> Result<(), Fail> {
-    let run = run_from_zeros(alloc, instance, Keep::Nothing)?;
+fn run_ends_with(rt: &impl Abort, alloc: Global, instance: &Instance, want: &Want) {
+    let run = run_from_zeros(alloc, instance, Keep::Nothing).expect(rt, "memory");
     is_end(rt, &run.end, instance.stacks().count(), want);
-    Ok(())
 }
 
 // Runs the instance by both calls, and compares their ends.
-fn ends_with(rt: &impl Abort, alloc: Global, instance: &Instance, want: &Want) -> Result<(), Fail> {
-    first_ends_with(rt, alloc, instance, want)?;
-    run_ends_with(rt, alloc, instance, want)
+fn ends_with(rt: &impl Abort, alloc: Global, instance: &Instance, want: &Want) {
+    first_ends_with(rt, alloc, instance, want);
+    run_ends_with(rt, alloc, instance, want);
 }
 
 // Compares the cursors of so many variables at two ends.
@@ -89,13 +78,20 @@ fn ends_alike(rt: &impl Abort, end: &End, other: &End, count: u32)
     stuck_alike(rt, &end.stuck, &other.stuck);
 }
 
+// Compares the end of the run from zeros with that of the plain run.
+fn run_ends_as(rt: &impl Abort, alloc: Global, instance: &Instance, first: &End)
+    requires { variables_of instance.now.stacks ≡ length first.now.cursors }
+{
+    let run = run_from_zeros(alloc, instance, Keep::Nothing).expect(rt, "memory");
+    ends_alike(rt, &run.end, first, instance.stacks().count());
+}
+
 // Runs an instance by both calls, and compares their ends. Returns the pops and how many events are
 // stuck.
-fn pops_and_stuck(rt: &impl Abort, alloc: Global, instance: &Instance) -> Result<(u64, u64), Fail> {
-    let first = run_first(alloc, instance)?;
-    let run = run_from_zeros(alloc, instance, Keep::Nothing)?;
-    ends_alike(rt, &run.end, &first, instance.stacks().count());
-    Ok((first.pops, first.stuck.len()))
+fn pops_and_stuck(rt: &impl Abort, alloc: Global, instance: &Instance) -> (u64, u64) {
+    let first = run_first(alloc, instance).expect(rt, "memory");
+    run_ends_as(rt, alloc, instance, &first);
+    (first.pops, first.stuck.len())
 }
 
 // Rows of entries, listed events, and what the end of their run is to be. Worked by hand.
@@ -106,9 +102,9 @@ struct Case {
 }
 
 // Runs the instance of a case, and compares its ends.
-fn case_ends(rt: &impl Abort, alloc: Global, case: &Case) -> Result<(), Fail> {
-    let instance = listed(alloc, case.rows, case.events)?;
-    ends_with(rt, alloc, &instance, &case.want)
+fn case_ends(rt: &impl Abort, alloc: Global, case: &Case) {
+    let instance = listed(rt, alloc, case.rows, case.events);
+    ends_with(rt, alloc, &instance, &case.want);
 }
 
 static PAST_A_STUCK_EVENT: Case = Case {
@@ -122,8 +118,8 @@ static PAST_A_STUCK_EVENT: Case = Case {
 };
 
 #[test]
-fn popping_goes_on_past_a_stuck_event(rt: HostRuntime) -> Result<(), Fail> {
-    case_ends(&rt, rt.alloc(), &PAST_A_STUCK_EVENT)
+fn popping_goes_on_past_a_stuck_event(rt: HostRuntime) {
+    case_ends(&rt, rt.alloc(), &PAST_A_STUCK_EVENT);
 }
 
 static AT_THE_LAST_ENTRY: Case = Case {
@@ -137,8 +133,8 @@ static AT_THE_LAST_ENTRY: Case = Case {
 };
 
 #[test]
-fn an_event_is_stuck_at_the_last_entry(rt: HostRuntime) -> Result<(), Fail> {
-    case_ends(&rt, rt.alloc(), &AT_THE_LAST_ENTRY)
+fn an_event_is_stuck_at_the_last_entry(rt: HostRuntime) {
+    case_ends(&rt, rt.alloc(), &AT_THE_LAST_ENTRY);
 }
 
 static EVERY_VARIABLE: Case = Case {
@@ -152,20 +148,20 @@ static EVERY_VARIABLE: Case = Case {
 };
 
 #[test]
-fn a_pop_moves_every_variable_of_the_event(rt: HostRuntime) -> Result<(), Fail> {
-    case_ends(&rt, rt.alloc(), &EVERY_VARIABLE)
+fn a_pop_moves_every_variable_of_the_event(rt: HostRuntime) {
+    case_ends(&rt, rt.alloc(), &EVERY_VARIABLE);
 }
 
 // The log that a run from zeros keeps, where it is asked for one.
-fn log_of(alloc: Global, instance: &Instance, keep: Keep) -> Result<Option<Log>, AllocError> {
-    let run = run_from_zeros(alloc, instance, keep)?;
-    Ok(run.log)
+fn log_of(rt: &impl Abort, alloc: Global, instance: &Instance, keep: Keep) -> Option<Log> {
+    let run = run_from_zeros(alloc, instance, keep).expect(rt, "memory");
+    run.log
 }
 
 // Whether a run keeps a log that is asked for none.
-fn logs_unasked(alloc: Global, instance: &Instance) -> Result<bool, AllocError> {
-    let log = log_of(alloc, instance, Keep::Nothing)?;
-    Ok(log.is_some())
+fn logs_unasked(rt: &impl Abort, alloc: Global, instance: &Instance) -> bool {
+    let log = log_of(rt, alloc, instance, Keep::Nothing);
+    log.is_some()
 }
 
 // A term of a record: a variable of its cube, its value there, and its entry.
@@ -179,7 +175,7 @@ fn is_record(rt: &impl Abort, popped: &Record, unit: u32, terms: &[Term]) {
     for (i, term) in terms.iter().enumerate() {
         let (v, value) = cube.pair(i as u32);
         let found = (v, value, popped.entry(i as u32));
-        assert!(rt; found == *term, "term {i}");
+        is_so(rt, found == *term, "term", i as u64);
     }
 }
 
@@ -192,16 +188,9 @@ fn is_log(rt: &impl Abort, log: &Log, unit: u32, want: &[&[Term]]) {
 }
 
 // Compares the log of a run.
-fn logs(
-    rt: &impl Abort,
-    alloc: Global,
-    instance: &Instance,
-    unit: u32,
-    want: &[&[Term]],
-) -> Result<(), Fail> {
-    let log = log_of(alloc, instance, Keep::Log)?.expect(rt, "a log");
+fn logs(rt: &impl Abort, alloc: Global, instance: &Instance, unit: u32, want: &[&[Term]]) {
+    let log = log_of(rt, alloc, instance, Keep::Log).expect(rt, "a log");
     is_log(rt, &log, unit, want);
-    Ok(())
 }
 
 static TERMS: &[&[Term]] = &[&[(0, 0, 0)], &[(0, 0, 1)]];
@@ -218,16 +207,16 @@ static TWO_POPS: Case = Case {
 };
 
 // Compares the log of their instance, which is kept only where it is asked for.
-fn two_pops_logged(rt: &impl Abort, alloc: Global, instance: &Instance) -> Result<(), Fail> {
-    let logs_unasked = logs_unasked(alloc, instance)?;
+fn two_pops_logged(rt: &impl Abort, alloc: Global, instance: &Instance) {
+    let logs_unasked = logs_unasked(rt, alloc, instance);
     assert!(rt; !logs_unasked);
-    logs(rt, alloc, instance, 0, TERMS)
+    logs(rt, alloc, instance, 0, TERMS);
 }
 
 #[test]
-fn the_log_has_each_pop_with_its_entries(rt: HostRuntime) -> Result<(), Fail> {
+fn the_log_has_each_pop_with_its_entries(rt: HostRuntime) {
     let alloc = rt.alloc();
-    let instance = listed(alloc, TWO_POPS.rows, TWO_POPS.events)?;
-    ends_with(&rt, alloc, &instance, &TWO_POPS.want)?;
-    two_pops_logged(&rt, alloc, &instance)
+    let instance = listed(&rt, alloc, TWO_POPS.rows, TWO_POPS.events);
+    ends_with(&rt, alloc, &instance, &TWO_POPS.want);
+    two_pops_logged(&rt, alloc, &instance);
 }

@@ -5,7 +5,6 @@ use crate::compare::same_at;
 use pop_stacks::{Reader, Rows, StackSpec, Stacks, Weights};
 use std::alloc::{AllocError, Global};
 use std::process::Abort;
-use std::test::Fail;
 
 // Compares entry k of variable 0.
 fn looks(rt: &impl Abort, stacks: &Stacks, reader: &mut Reader, k: u32, value: u32)
@@ -41,13 +40,10 @@ fn two_and_one(alloc: Global) -> Result<Weights, AllocError> {
 // The numbers of the entries are the words of RFC 8439, A.1, vector 1; they were scaled to the sums
 // of the weights 1 and 1, and 2 and 1, by hand.
 #[test]
-fn a_plain_reader_serves_stacks_of_the_same_key_with_other_weights(
-    rt: HostRuntime,
-) -> Result<(), Fail> {
-    let weights = two_and_one(rt.alloc())?;
-    let uneven = Stacks::new(StackSpec::Key([0; 32]), weights, 8)?;
-    let even = Stacks::new(StackSpec::Key([0; 32]), Weights::pairs(1), 8)?;
+fn a_plain_reader_serves_stacks_of_the_same_key_with_other_weights(rt: HostRuntime) {
+    let weights = two_and_one(rt.alloc()).expect(&rt, "memory");
+    let uneven = Stacks::new(StackSpec::Key([0; 32]), weights, 8).expect(&rt, "memory");
+    let even = Stacks::new(StackSpec::Key([0; 32]), Weights::pairs(1), 8).expect(&rt, "memory");
     let mut reader = Reader::new(&even);
     looks_at_both(&rt, &even, &uneven, &mut reader);
-    Ok(())
 }

@@ -3,15 +3,15 @@ ghost use Rattle.pop_model.specs.Stacks.{variables_of};
 ghost use Rattle.prs_rounds.specs.Units.{IsListed, IsIndexOf};
 
 use crate::compare::{are_cursors, are_stuck, same, same_at};
+use crate::made::listed;
 use confluence_core::Units;
 use instances::{index_of, many};
 use pop_instance::{Cursors, Index, Instance};
 use prs_rounds::{RoundEnd, resampling_set, run_rounds, run_rounds_alone, violated};
 use std::alloc::Global;
 use std::process::Abort;
-use std::test::Fail;
 use std::thread::Threads;
-use test_instances::{EventRow, listed};
+use test_instances::EventRow;
 
 mod counts;
 mod instances;
@@ -111,19 +111,12 @@ fn is_end(rt: &impl Abort, count: u32, end: &RoundEnd, want: &Want)
 }
 
 // Compares the end of the rounds of an instance that are run on this thread.
-fn ends_alone(
-    rt: &impl Abort,
-    alloc: Global,
-    instance: &Instance,
-    index: &Index,
-    want: &Want,
-) -> Result<(), Fail>
+fn ends_alone(rt: &impl Abort, alloc: Global, instance: &Instance, index: &Index, want: &Want)
     requires index { IsIndexOf instance.now.family index.now }
     requires variables { length index.now ≡ variables_of instance.now.stacks }
 {
-    let end = run_rounds_alone(alloc, instance, index)?;
+    let end = run_rounds_alone(alloc, instance, index).expect(rt, "memory");
     is_end(rt, instance.stacks().count(), &end, want);
-    Ok(())
 }
 
 // Compares the end of the rounds of an instance.
@@ -133,28 +126,21 @@ fn ends_in_parallel<R: Threads + Abort + Sync>(
     instance: &Instance,
     index: &Index,
     want: &Want,
-) -> Result<(), Fail>
+)
     requires index { IsIndexOf instance.now.family index.now }
     requires variables { length index.now ≡ variables_of instance.now.stacks }
 {
-    let end = run_rounds(rt, alloc, instance, index)?;
+    let end = run_rounds(rt, alloc, instance, index).expect(rt, "memory");
     is_end(rt, instance.stacks().count(), &end, want);
-    Ok(())
 }
 
 // Compares the places of the events that occur at zeros.
-fn are_violated<R: Threads + Abort + Sync>(
-    rt: &R,
-    alloc: Global,
-    instance: &Instance,
-    want: &[u32],
-) -> Result<(), Fail>
+fn are_violated<R: Threads + Abort + Sync>(rt: &R, alloc: Global, instance: &Instance, want: &[u32])
     requires listed { IsListed instance.now.family }
 {
-    let zeros = Cursors::zeros(alloc, instance.stacks().count())?;
-    let units = violated(rt, alloc, instance, &zeros)?;
+    let zeros = Cursors::zeros(alloc, instance.stacks().count()).expect(rt, "memory");
+    let units = violated(rt, alloc, instance, &zeros).expect(rt, "memory");
     are_units(rt, &units, want);
-    Ok(())
 }
 
 // Compares the places of the events of the resampling set at zeros.
@@ -164,43 +150,36 @@ fn are_resampled<R: Threads + Abort + Sync>(
     instance: &Instance,
     index: &Index,
     want: &[u32],
-) -> Result<(), Fail>
+)
     requires listed { IsListed instance.now.family }
     requires index { IsIndexOf instance.now.family index.now }
     requires variables { length index.now ≡ variables_of instance.now.stacks }
 {
-    let zeros = Cursors::zeros(alloc, instance.stacks().count())?;
-    let units = resampling_set(rt, alloc, instance, index, &zeros)?;
+    let zeros = Cursors::zeros(alloc, instance.stacks().count()).expect(rt, "memory");
+    let units = resampling_set(rt, alloc, instance, index, &zeros).expect(rt, "memory");
     are_units(rt, &units, want);
-    Ok(())
 }
 
 // Compares what comes of an instance.
-fn comes_of<R: Threads + Abort + Sync>(
-    rt: &R,
-    alloc: Global,
-    instance: &Instance,
-    want: &Want,
-) -> Result<(), Fail> {
-    let index = index_of(rt, alloc, instance)?;
-    are_violated(rt, alloc, instance, want.violated)?;
-    are_resampled(rt, alloc, instance, &index, want.set)?;
-    ends_in_parallel(rt, alloc, instance, &index, want)?;
-    ends_alone(rt, alloc, instance, &index, want)
+fn comes_of<R: Threads + Abort + Sync>(rt: &R, alloc: Global, instance: &Instance, want: &Want) {
+    let index = index_of(rt, alloc, instance);
+    are_violated(rt, alloc, instance, want.violated);
+    are_resampled(rt, alloc, instance, &index, want.set);
+    ends_in_parallel(rt, alloc, instance, &index, want);
+    ends_alone(rt, alloc, instance, &index, want);
 }
 
 // Makes the instance, and compares what comes of it.
-fn comes<R: Threads + Abort + Sync>(rt: &R, alloc: Global, want: &Want) -> Result<(), Fail> {
-    let instance = listed(alloc, want.stacks, want.events)?;
-    comes_of(rt, alloc, &instance, want)
+fn comes<R: Threads + Abort + Sync>(rt: &R, alloc: Global, want: &Want) {
+    let instance = listed(rt, alloc, want.stacks, want.events);
+    comes_of(rt, alloc, &instance, want);
 }
 
 #[test]
-fn rounds_move_each_variable_of_the_resampling_set_once(rt: HostRuntime) -> Result<(), Fail> {
+fn rounds_move_each_variable_of_the_resampling_set_once(rt: HostRuntime) {
     for want in WANTS.iter() {
-        comes(&rt, rt.alloc(), want)?;
+        comes(&rt, rt.alloc(), want);
     }
-    Ok(())
 }
 
 // Compares the end of rounds over so many variables, of which just those of even number moved, once.
@@ -216,21 +195,16 @@ fn even_ones_moved(rt: &impl Abort, count: u32, end: &RoundEnd)
 }
 
 // Runs an instance, of which just the variables of even number move.
-fn even_ones_move<R: Threads + Abort + Sync>(
-    rt: &R,
-    alloc: Global,
-    instance: &Instance,
-) -> Result<(), Fail> {
-    let index = index_of(rt, alloc, instance)?;
-    let end = run_rounds(rt, alloc, instance, &index)?;
+fn even_ones_move<R: Threads + Abort + Sync>(rt: &R, alloc: Global, instance: &Instance) {
+    let index = index_of(rt, alloc, instance);
+    let end = run_rounds(rt, alloc, instance, &index).expect(rt, "memory");
     even_ones_moved(rt, instance.stacks().count(), &end);
-    Ok(())
 }
 
 // Worked by hand: just the variables of even number move, once.
 #[test]
-fn many_events_are_looked_at_in_several_threads(rt: HostRuntime) -> Result<(), Fail> {
+fn many_events_are_looked_at_in_several_threads(rt: HostRuntime) {
     let alloc = rt.alloc();
-    let instance = many(alloc, 5000)?;
-    even_ones_move(&rt, alloc, &instance)
+    let instance = many(&rt, alloc, 5000);
+    even_ones_move(&rt, alloc, &instance);
 }

@@ -1,38 +1,37 @@
 //! Instances by tables, under a key: listed events over variables with two values each, and arrows
 //! with two slots each.
-ghost use Rattle.std.specs.Prelude.{IfOk, OnOk};
 ghost use Rattle.pop_model.specs.Stacks.{IsKeyed};
 ghost use Rattle.pop_model.specs.Extremal.{IsExtremal};
 
+use crate::made::{arrows, events};
 use extremal_check::{Verdict, check};
 use pop_instance::{Family, Index, Instance};
 use pop_stacks::{StackSpec, Stacks, Weights};
 use std::alloc::Global;
 use std::process::Abort;
-use std::test::Fail;
-use test_instances::{EventRow, arrows, event_rows, family};
+use test_instances::EventRow;
 
 // The stacks of so many variables with two values each, under the key of zeros.
-fn stacks(rt: &impl Abort, count: u32, height: u32) -> Result<Stacks, Fail>
-    ensures { IfOk result (λ stacks. IsKeyed stacks.origin) }
+fn stacks(rt: &impl Abort, count: u32, height: u32) -> Stacks
+    ensures { IsKeyed result.origin }
 {
     assert!(rt; count < 1000);
     assert!(rt; 0 < height);
     assert!(rt; height < 1000);
-    Ok(Stacks::new(StackSpec::Key([0; 32]), Weights::pairs(count), height)?)
+    Stacks::new(StackSpec::Key([0; 32]), Weights::pairs(count), height).expect(rt, "memory")
 }
 
 // Stops the test where two listed events of the instance clash.
-fn expect_extremal(rt: &impl Abort, alloc: Global, instance: &Instance) -> Result<(), Fail>
-    ensures { OnOk result (IsExtremal instance.now.family) }
+fn expect_extremal(rt: &impl Abort, alloc: Global, instance: &Instance)
+    ensures { IsExtremal instance.now.family }
 {
     let _units = instance.units();
     let Family::Listed(events) = instance.family() else {
         panic!(rt; "listed events");
     };
-    let index = Index::build(alloc, events, instance.stacks().count())?;
-    match check(alloc, events, &index)? {
-        Verdict::Extremal => Ok(()),
+    let index = Index::build(alloc, events, instance.stacks().count()).expect(rt, "memory");
+    match check(alloc, events, &index).expect(rt, "memory") {
+        Verdict::Extremal => {}
         Verdict::Clash(_, _) => panic!(rt; "events that don't clash"),
     }
 }
@@ -44,12 +43,12 @@ fn of_events(
     count: u32,
     height: u32,
     table: &[EventRow],
-) -> Result<Instance, Fail>
-    ensures { IfOk result (λ i. IsKeyed i.stacks.origin) }
+) -> Instance
+    ensures { IsKeyed result.stacks.origin }
 {
-    let family = family(alloc, event_rows(alloc, table)?)?;
-    let stacks = stacks(rt, count, height)?;
-    Ok(Instance::new(stacks, family).expect(rt, "an instance"))
+    let family = events(rt, alloc, table);
+    let stacks = stacks(rt, count, height);
+    Instance::new(stacks, family).expect(rt, "an instance")
 }
 
 /// The same, where no two events clash.
@@ -59,27 +58,22 @@ pub fn listed(
     count: u32,
     height: u32,
     table: &[EventRow],
-) -> Result<Instance, Fail>
-    ensures keyed { IfOk result (λ i. IsKeyed i.stacks.origin) }
-    ensures extremal { IfOk result (λ i. IsExtremal i.family) }
+) -> Instance
+    ensures keyed { IsKeyed result.stacks.origin }
+    ensures extremal { IsExtremal result.family }
 {
-    let instance = of_events(rt, alloc, count, height, table)?;
-    expect_extremal(rt, alloc, &instance)?;
-    Ok(instance)
+    let instance = of_events(rt, alloc, count, height, table);
+    expect_extremal(rt, alloc, &instance);
+    instance
 }
 
 /// The instance of the cycles of arrows with these heads, two for each variable, at this height.
-pub fn cycles(
-    rt: &impl Abort,
-    alloc: Global,
-    height: u32,
-    table: &[[Option<u32>; 2]],
-) -> Result<Instance, Fail>
-    ensures keyed { IfOk result (λ i. IsKeyed i.stacks.origin) }
-    ensures extremal { IfOk result (λ i. IsExtremal i.family) }
+pub fn cycles(rt: &impl Abort, alloc: Global, height: u32, table: &[[Option<u32>; 2]]) -> Instance
+    ensures keyed { IsKeyed result.stacks.origin }
+    ensures extremal { IsExtremal result.family }
 {
-    let arrows = arrows(alloc, table)?;
-    let stacks = stacks(rt, arrows.count(), height)?;
+    let arrows = arrows(rt, alloc, table);
+    let stacks = stacks(rt, arrows.count(), height);
     let instance = Instance::new(stacks, Family::Cycles(arrows)).expect(rt, "two slots for each");
-    Ok(instance)
+    instance
 }

@@ -1,91 +1,81 @@
 //! Chains of events: each shares a variable with the next, and excludes it there.
 use super::pops_and_stuck;
+use crate::compare::is_so;
+use crate::made::{cube, family, over_keyed};
 use pop_instance::{Cube, Instance};
 use std::alloc::Global;
 use std::process::Abort;
-use std::test::Fail;
-use test_instances::{cube, family, keyed, over};
 
 // The event that variables 2i and 2i + 1 have the value 0 and variable 2i + 2 has the value 1.
-fn link(rt: &impl Abort, alloc: Global, i: u32) -> Result<Cube, Fail> {
+fn link(rt: &impl Abort, alloc: Global, i: u32) -> Cube {
     assert!(rt; i < 1000);
     let pairs = [(2 * i, 0), (2 * i + 1, 0), (2 * i + 2, 1)];
-    cube(alloc, &pairs)
+    cube(rt, alloc, &pairs)
 }
 
 // So many such events, in their order.
-fn links_of(rt: &impl Abort, alloc: Global, links: u32) -> Result<Vec<(u32, Cube)>, Fail> {
+fn links_of(rt: &impl Abort, alloc: Global, links: u32) -> Vec<(u32, Cube)> {
     let mut rows = Vec::new(alloc);
     for i in 0..links {
-        let link = link(rt, alloc, i)?;
-        rows.push((i + 1, link))?;
+        let link = link(rt, alloc, i);
+        rows.push((i + 1, link)).expect(rt, "memory");
     }
-    Ok(rows)
+    rows
 }
 
 // The chain of so many links, with stacks of this height under a key of 32 such bytes.
-fn chain(
-    rt: &impl Abort,
-    alloc: Global,
-    links: u32,
-    key: u8,
-    height: u32,
-) -> Result<Instance, Fail> {
+fn chain(rt: &impl Abort, alloc: Global, links: u32, key: u8, height: u32) -> Instance {
     assert!(rt; links < 1000);
-    let rows = links_of(rt, alloc, links)?;
-    let family = family(alloc, rows)?;
-    let stacks = keyed(key, 2 * links + 1, height)?;
-    over(stacks, family)
+    let family = family(rt, alloc, links_of(rt, alloc, links));
+    over_keyed(rt, key, 2 * links + 1, height, family)
 }
 
 // Runs such a chain. Returns its pops and how many events are stuck.
-fn run_chain(
-    rt: &impl Abort,
-    alloc: Global,
-    links: u32,
-    key: u8,
-    height: u32,
-) -> Result<(u64, u64), Fail> {
-    let chain = chain(rt, alloc, links, key, height)?;
+fn run_chain(rt: &impl Abort, alloc: Global, links: u32, key: u8, height: u32) -> (u64, u64) {
+    let chain = chain(rt, alloc, links, key, height);
     pops_and_stuck(rt, alloc, &chain)
 }
 
 static HIGH_KEYS: [u8; 4] = [0, 1, 77, 255];
 
 // Runs the chain of so many links under high stacks and several keys. Returns the most pops.
-fn most_pops(rt: &impl Abort, alloc: Global, links: u32) -> Result<u64, Fail> {
+fn most_pops(rt: &impl Abort, alloc: Global, links: u32) -> u64 {
     let mut most = 0;
     for key in HIGH_KEYS.iter() {
-        let (pops, stuck) = run_chain(rt, alloc, links, *key, 900)?;
-        assert!(rt; stuck == 0, "{links} links under key {key}");
+        let (pops, stuck) = run_chain(rt, alloc, links, *key, 900);
+        is_so(rt, stuck == 0, "nothing is stuck under key", *key as u64);
         most = most.max(pops);
     }
-    Ok(most)
+    most
 }
 
 static LINKS: [u32; 7] = [1, 2, 3, 7, 20, 99, 400];
 
 #[test]
-fn both_runs_end_alike_under_high_stacks(rt: HostRuntime) -> Result<(), Fail> {
+fn both_runs_end_alike_under_high_stacks(rt: HostRuntime) {
     let alloc = rt.alloc();
     let mut most = 0;
     for links in LINKS.iter() {
-        let pops = most_pops(&rt, alloc, *links)?;
+        let pops = most_pops(&rt, alloc, *links);
         most = most.max(pops);
     }
     assert!(&rt; most > 50);
-    Ok(())
 }
 
 // Runs the chain of so many links under a key at several heights. Returns the most stuck events.
-fn most_stuck(rt: &impl Abort, alloc: Global, links: u32, key: u8) -> Result<u64, Fail> {
+fn most_stuck(rt: &impl Abort, alloc: Global, links: u32, key: u8) -> u64 {
     let mut most = 0;
     for height in 1..5 {
-        let (pops, stuck) = run_chain(rt, alloc, links, key, height)?;
-        assert!(rt; height > 1 || pops == 0, "a stack of one entry has no next");
+        let (pops, stuck) = run_chain(rt, alloc, links, key, height);
+        is_so(
+            rt,
+            height > 1 || pops == 0,
+            "a stack of one entry has no next, of",
+            height as u64,
+        );
         most = most.max(stuck);
     }
-    Ok(most)
+    most
 }
 
 // How many links there are, and under which key.
@@ -105,13 +95,12 @@ static TIGHT: [(u32, u8); 12] = [
 ];
 
 #[test]
-fn both_runs_end_alike_under_tight_heights(rt: HostRuntime) -> Result<(), Fail> {
+fn both_runs_end_alike_under_tight_heights(rt: HostRuntime) {
     let alloc = rt.alloc();
     let mut most = 0;
     for (links, key) in TIGHT.iter() {
-        let stuck = most_stuck(&rt, alloc, *links, *key)?;
+        let stuck = most_stuck(&rt, alloc, *links, *key);
         most = most.max(stuck);
     }
     assert!(&rt; most > 0);
-    Ok(())
 }

@@ -1,27 +1,26 @@
 //! A log behind another.
 use crate::compare::same_at;
+use crate::made::cube;
 use confluence_core::{Log, Record};
 use std::alloc::Global;
 use std::process::Abort;
-use std::test::Fail;
-use test_instances::cube;
 
 // A record of this unit.
-fn popped(rt: &impl Abort, alloc: Global, unit: u32) -> Result<Record, Fail> {
-    let entries = vec![in alloc; 7]?;
-    let cube = cube(alloc, &[(unit, 0)])?;
+fn popped(rt: &impl Abort, alloc: Global, unit: u32) -> Record {
+    let cube = cube(rt, alloc, &[(unit, 0)]);
+    let entries = vec![in alloc; 7].expect(rt, "memory");
     assert!(rt; entries.len() == cube.len() as usize);
-    Ok(Record::new(unit, cube, entries))
+    Record::new(unit, cube, entries)
 }
 
 // The log of records of these units.
-fn log_of(rt: &impl Abort, alloc: Global, units: &[u32]) -> Result<Log, Fail> {
+fn log_of(rt: &impl Abort, alloc: Global, units: &[u32]) -> Log {
     let mut log = Log::new(alloc);
     for unit in units {
-        let popped = popped(rt, alloc, *unit)?;
-        log.push(popped)?;
+        let popped = popped(rt, alloc, *unit);
+        log.push(popped).expect(rt, "memory");
     }
-    Ok(log)
+    log
 }
 
 // Compares the units of a log.
@@ -34,11 +33,10 @@ fn has_units(rt: &impl Abort, log: &Log, units: &[u32]) {
 }
 
 #[test]
-fn the_other_log_comes_behind(rt: HostRuntime) -> Result<(), Fail> {
+fn the_other_log_comes_behind(rt: HostRuntime) {
     let alloc = rt.alloc();
-    let mut log = log_of(&rt, alloc, &[4])?;
-    let other = log_of(&rt, alloc, &[2, 3])?;
-    log.append(other)?;
+    let mut log = log_of(&rt, alloc, &[4]);
+    let other = log_of(&rt, alloc, &[2, 3]);
+    log.append(other).expect(&rt, "memory");
     has_units(&rt, &log, &[4, 2, 3]);
-    Ok(())
 }

@@ -1,18 +1,17 @@
 //! Runs that stop at a limit, looks at what they leave, and runs over shared parts.
-ghost use Rattle.std.specs.Prelude.{◌≡◌, length, IfOk};
+ghost use Rattle.std.specs.Prelude.{◌≡◌, length};
 ghost use Rattle.pop_model.specs.Stacks.{variables_of};
 ghost use Rattle.pop_model.specs.Popping.{AreWithin};
 ghost use Rattle.confluence_core.specs.Runs.{IsEndOver};
 
 use super::{Case, Want, is_end};
-use crate::compare::{same, same_at};
+use crate::compare::{is_so, same, same_at};
+use crate::made::listed;
 use confluence_core::{Alone, End, Keep, Reached, Run, first_poppable, occurring, run_first};
 use pop_instance::{Cursors, Instance, Values};
 use pop_stacks::Reader;
-use std::alloc::{AllocError, Global};
+use std::alloc::Global;
 use std::process::Abort;
-use std::test::Fail;
-use test_instances::listed;
 
 // Two variables with the entries 0, 0, 1 and 0, 1; the events have the value 0 of each.
 static TWO_EVENTS: Case = Case {
@@ -26,38 +25,40 @@ static TWO_EVENTS: Case = Case {
 };
 
 // Their instance.
-fn two_events(alloc: Global) -> Result<Instance, Fail> {
-    listed(alloc, TWO_EVENTS.rows, TWO_EVENTS.events)
+fn two_events(rt: &impl Abort, alloc: Global) -> Instance {
+    listed(rt, alloc, TWO_EVENTS.rows, TWO_EVENTS.events)
 }
 
 // A run from zeros to this many pops.
-fn run_to(alloc: Global, instance: &Instance, limit: u64) -> Result<Run, AllocError>
-    ensures over { IfOk result (λ run. IsEndOver instance.now.stacks run.end) }
+fn run_to(rt: &impl Abort, alloc: Global, instance: &Instance, limit: u64) -> Run
+    ensures over { IsEndOver instance.now.stacks result.end }
 {
-    let opening = Reached::opening(alloc, instance, Keep::Log)?;
-    let mut alone = Alone::of(alloc, instance)?;
-    let reached = alone.advance(alloc, instance, opening, limit)?;
-    alone.tell(alloc, instance, reached)
+    let opening = Reached::opening(alloc, instance, Keep::Log).expect(rt, "memory");
+    let mut alone = Alone::of(alloc, instance).expect(rt, "memory");
+    let reached = alone.advance(alloc, instance, opening, limit);
+    alone
+        .tell(alloc, instance, reached.expect(rt, "memory"))
+        .expect(rt, "memory")
 }
 
 // Whether an event is poppable at cursors.
-fn goes_on(alloc: Global, instance: &Instance, cursors: &Cursors) -> Result<bool, AllocError>
+fn goes_on(rt: &impl Abort, alloc: Global, instance: &Instance, cursors: &Cursors) -> bool
     requires count { variables_of instance.now.stacks ≡ length cursors.now }
     requires within { AreWithin instance.now.stacks cursors.now }
 {
     let mut reader = Reader::new(instance.stacks());
-    let next = first_poppable(alloc, instance, &mut reader, cursors)?;
-    Ok(next.is_some())
+    let next = first_poppable(alloc, instance, &mut reader, cursors).expect(rt, "memory");
+    next.is_some()
 }
 
 // How many events occur at cursors.
-fn stuck_at(alloc: Global, instance: &Instance, cursors: &Cursors) -> Result<u64, AllocError>
+fn stuck_at(rt: &impl Abort, alloc: Global, instance: &Instance, cursors: &Cursors) -> u64
     requires count { variables_of instance.now.stacks ≡ length cursors.now }
     requires within { AreWithin instance.now.stacks cursors.now }
 {
     let mut reader = Reader::new(instance.stacks());
-    let stuck = occurring(alloc, instance, &mut reader, cursors)?;
-    Ok(stuck.len())
+    let stuck = occurring(alloc, instance, &mut reader, cursors).expect(rt, "memory");
+    stuck.len()
 }
 
 // Compares what a run leaves: its pops, which its log has too, and its stuck events.
@@ -71,47 +72,37 @@ fn leaves(rt: &impl Abort, run: &Run, pops: u64, stuck: u64) {
 }
 
 // Compares what a run to a limit leaves, of which the whole has 3 pops.
-fn is_left(
-    rt: &impl Abort,
-    alloc: Global,
-    instance: &Instance,
-    run: &Run,
-    limit: u64,
-    pops: u64,
-) -> Result<(), Fail>
+fn is_left(rt: &impl Abort, alloc: Global, instance: &Instance, run: &Run, limit: u64, pops: u64)
     requires over { IsEndOver instance.now.stacks run.now.end }
 {
-    let goes_on = goes_on(alloc, instance, &run.end.cursors)?;
-    assert!(rt; goes_on == (pops < 3), "limit {limit}");
-    let stuck = stuck_at(alloc, instance, &run.end.cursors)?;
+    let goes_on = goes_on(rt, alloc, instance, &run.end.cursors);
+    is_so(rt, goes_on == (pops < 3), "limit", limit);
+    let stuck = stuck_at(rt, alloc, instance, &run.end.cursors);
     leaves(rt, run, pops, stuck);
-    Ok(())
 }
 
 // Compares a run to a limit.
-fn stops_at(
-    rt: &impl Abort,
-    alloc: Global,
-    instance: &Instance,
-    limit: u64,
-    pops: u64,
-) -> Result<(), Fail> {
-    let run = run_to(alloc, instance, limit)?;
-    is_left(rt, alloc, instance, &run, limit, pops)
+fn stops_at(rt: &impl Abort, alloc: Global, instance: &Instance, limit: u64, pops: u64) {
+    let run = run_to(rt, alloc, instance, limit);
+    is_left(rt, alloc, instance, &run, limit, pops);
 }
 
 // Limits, and the pops of the runs to them.
 static LIMITS: [(u64, u64); 5] = [(0, 0), (1, 1), (2, 2), (3, 3), (9, 3)];
 
+// Compares the runs of an instance to each limit.
+fn stops_at_each(rt: &impl Abort, alloc: Global, instance: &Instance) {
+    for (limit, pops) in LIMITS.iter() {
+        stops_at(rt, alloc, instance, *limit, *pops);
+    }
+}
+
 // Worked by hand: the whole run pops event 0 twice and event 1 once.
 #[test]
-fn a_run_stops_at_its_limit(rt: HostRuntime) -> Result<(), Fail> {
+fn a_run_stops_at_its_limit(rt: HostRuntime) {
     let alloc = rt.alloc();
-    let instance = two_events(alloc)?;
-    for (limit, pops) in LIMITS.iter() {
-        stops_at(&rt, alloc, &instance, *limit, *pops)?;
-    }
-    Ok(())
+    let instance = two_events(&rt, alloc);
+    stops_at_each(&rt, alloc, &instance);
 }
 
 // How many values an end has: one for each variable.
@@ -134,39 +125,42 @@ fn are_values(rt: &impl Abort, values: &Values, count: u32, want: &[u32])
 
 static VALUES: &[u32] = &[1, 1];
 
+// Compares the values at the end of the plain run of an instance.
+fn ends_with_values(rt: &impl Abort, alloc: Global, instance: &Instance, want: &[u32]) {
+    let end = run_first(alloc, instance).expect(rt, "memory");
+    let count = values_count(instance, &end);
+    are_values(rt, &end.values, count, want);
+}
+
 // Worked by hand.
 #[test]
-fn an_end_has_the_values_at_its_cursors(rt: HostRuntime) -> Result<(), Fail> {
+fn an_end_has_the_values_at_its_cursors(rt: HostRuntime) {
     let alloc = rt.alloc();
-    let instance = two_events(alloc)?;
-    let end = run_first(alloc, &instance)?;
-    let count = values_count(&instance, &end);
-    are_values(&rt, &end.values, count, VALUES);
-    Ok(())
+    let instance = two_events(&rt, alloc);
+    ends_with_values(&rt, alloc, &instance, VALUES);
 }
 
 // A run by an index that is made apart.
-fn run_by_index(alloc: Global, instance: &Instance) -> Result<Run, AllocError>
-    ensures over { IfOk result (λ run. IsEndOver instance.now.stacks run.end) }
+fn run_by_index(rt: &impl Abort, alloc: Global, instance: &Instance) -> Run
+    ensures over { IsEndOver instance.now.stacks result.end }
 {
-    let index = instance.index(alloc)?;
-    let mut alone = Alone::with(alloc, instance, index)?;
-    let opening = Reached::opening(alloc, instance, Keep::Nothing)?;
-    let reached = alone.finish(alloc, instance, opening)?;
-    alone.tell(alloc, instance, reached)
+    let index = instance.index(alloc).expect(rt, "memory");
+    let mut alone = Alone::with(alloc, instance, index).expect(rt, "memory");
+    let opening = Reached::opening(alloc, instance, Keep::Nothing).expect(rt, "memory");
+    let reached = alone.finish(alloc, instance, opening).expect(rt, "memory");
+    alone.tell(alloc, instance, reached).expect(rt, "memory")
 }
 
 // Compares its end.
-fn ends_by_index(rt: &impl Abort, alloc: Global, instance: &Instance) -> Result<(), Fail> {
-    let run = run_by_index(alloc, instance)?;
+fn ends_by_index(rt: &impl Abort, alloc: Global, instance: &Instance) {
+    let run = run_by_index(rt, alloc, instance);
     is_end(rt, &run.end, instance.stacks().count(), &TWO_EVENTS.want);
-    Ok(())
 }
 
 // Worked by hand.
 #[test]
-fn an_index_that_is_at_hand_serves(rt: HostRuntime) -> Result<(), Fail> {
+fn an_index_that_is_at_hand_serves(rt: HostRuntime) {
     let alloc = rt.alloc();
-    let instance = two_events(alloc)?;
-    ends_by_index(&rt, alloc, &instance)
+    let instance = two_events(&rt, alloc);
+    ends_by_index(&rt, alloc, &instance);
 }

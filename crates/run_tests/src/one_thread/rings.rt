@@ -2,12 +2,11 @@
 ghost use Rattle.std.specs.Prelude.{◌<◌};
 
 use super::{Term, logs, pops_and_stuck};
-use crate::compare::same;
+use crate::compare::{is_so, same};
+use crate::made::{arrows, cycles, over_keyed};
 use pop_instance::{Arrows, Family, Instance};
-use std::alloc::{AllocError, Global};
+use std::alloc::Global;
 use std::process::Abort;
-use std::test::Fail;
-use test_instances::{arrows, cycles, keyed, over};
 
 // Where a variable leads in rings of this size, of which the last may be shorter: to the next one
 // of its ring.
@@ -25,24 +24,26 @@ fn next_of(v: u32, count: u32, size: u32) -> u32
 
 // The two heads of each of so many variables in rings of this size. Each leads to the next one of
 // its ring, and to the variable before it; variable 0 to the root.
-fn heads(alloc: Global, count: u32, size: u32) -> Result<Vec<[Option<u32>; 2]>, AllocError>
+fn heads(rt: &impl Abort, alloc: Global, count: u32, size: u32) -> Vec<[Option<u32>; 2]>
     requires some { 0 < size }
     requires few { count < 1000 }
 {
     let mut heads = Vec::new(alloc);
     for v in 0..count {
         let next = next_of(v, count, size);
-        heads.push([Some(next), v.checked_sub(1)])?;
+        heads
+            .push([Some(next), v.checked_sub(1)])
+            .expect(rt, "memory");
     }
-    Ok(heads)
+    heads
 }
 
 // The arrows of such rings.
-fn ring_arrows(rt: &impl Abort, alloc: Global, count: u32, size: u32) -> Result<Arrows, Fail> {
+fn ring_arrows(rt: &impl Abort, alloc: Global, count: u32, size: u32) -> Arrows {
     assert!(rt; 0 < size);
     assert!(rt; count < 1000);
-    let heads = heads(alloc, count, size)?;
-    arrows(alloc, &heads)
+    let heads = heads(rt, alloc, count, size);
+    arrows(rt, alloc, &heads)
 }
 
 // Rings: how many variables there are, and the size of a ring.
@@ -53,16 +54,9 @@ struct Rings {
 
 // Runs rings over stacks of this height under a key of 32 such bytes. Returns their pops, and how
 // many cycles are stuck.
-fn run_rings(
-    rt: &impl Abort,
-    alloc: Global,
-    rings: &Rings,
-    key: u8,
-    height: u32,
-) -> Result<(u64, u64), Fail> {
-    let arrows = ring_arrows(rt, alloc, rings.count, rings.size)?;
-    let stacks = keyed(key, rings.count, height)?;
-    let instance = over(stacks, Family::Cycles(arrows))?;
+fn run_rings(rt: &impl Abort, alloc: Global, rings: &Rings, key: u8, height: u32) -> (u64, u64) {
+    let arrows = ring_arrows(rt, alloc, rings.count, rings.size);
+    let instance = over_keyed(rt, key, rings.count, height, Family::Cycles(arrows));
     pops_and_stuck(rt, alloc, &instance)
 }
 
@@ -91,28 +85,30 @@ impl Most {
 static HEIGHTS: [u32; 5] = [1, 2, 3, 5, 900];
 
 // Runs rings under a key at several heights.
-fn most_of_key(rt: &impl Abort, alloc: Global, rings: &Rings, key: u8) -> Result<Most, Fail> {
+fn most_of_key(rt: &impl Abort, alloc: Global, rings: &Rings, key: u8) -> Most {
     let mut most = Most::none();
     for height in HEIGHTS.iter() {
-        let (pops, stuck) = run_rings(rt, alloc, rings, key, *height)?;
-        assert!(rt;
+        let (pops, stuck) = run_rings(rt, alloc, rings, key, *height);
+        is_so(
+            rt,
             *height > 1 || pops == 0,
-            "a stack of one entry has no next"
+            "a stack of one entry has no next, of",
+            *height as u64,
         );
         most = most.with(Most { pops, stuck });
     }
-    Ok(most)
+    most
 }
 
 static KEYS: [u8; 4] = [0, 3, 77, 200];
 
 // Runs rings under several keys and heights.
-fn most_of(rt: &impl Abort, alloc: Global, rings: &Rings) -> Result<Most, Fail> {
+fn most_of(rt: &impl Abort, alloc: Global, rings: &Rings) -> Most {
     let mut most = Most::none();
     for key in KEYS.iter() {
-        most = most.with(most_of_key(rt, alloc, rings, *key)?);
+        most = most.with(most_of_key(rt, alloc, rings, *key));
     }
-    Ok(most)
+    most
 }
 
 static RINGS: [Rings; 7] = [
@@ -129,15 +125,14 @@ static RINGS: [Rings; 7] = [
 ];
 
 #[test]
-fn both_runs_of_rings_end_alike(rt: HostRuntime) -> Result<(), Fail> {
+fn both_runs_of_rings_end_alike(rt: HostRuntime) {
     let alloc = rt.alloc();
     let mut most = Most::none();
     for rings in RINGS.iter() {
-        most = most.with(most_of(&rt, alloc, rings)?);
+        most = most.with(most_of(&rt, alloc, rings));
     }
     assert!(&rt; most.pops > 50);
     assert!(&rt; most.stuck > 2);
-    Ok(())
 }
 
 // The heads of variables, and the rows of their entries.
@@ -154,19 +149,24 @@ static TWO_ARROWS: Case = Case {
 static TERMS: &[&[Term]] = &[&[(0, 1, 0), (1, 0, 0)]];
 
 // Their instance.
-fn two_arrows(alloc: Global) -> Result<Instance, Fail> {
-    let arrows = arrows(alloc, TWO_ARROWS.heads)?;
-    cycles(alloc, TWO_ARROWS.rows, arrows)
+fn two_arrows(rt: &impl Abort, alloc: Global) -> Instance {
+    let arrows = arrows(rt, alloc, TWO_ARROWS.heads);
+    cycles(rt, alloc, TWO_ARROWS.rows, arrows)
+}
+
+// Compares the pops of their instance and its log.
+fn one_cycle_logged(rt: &impl Abort, alloc: Global, instance: &Instance) {
+    let (pops, stuck) = pops_and_stuck(rt, alloc, instance);
+    same(rt, pops, 1, "pops");
+    same(rt, stuck, 0, "stuck cycles");
+    logs(rt, alloc, instance, 0, TERMS);
 }
 
 // Worked by hand. Variable 0 leads to the root or to variable 1, and this to variable 0 or to the
 // root. Their entries are 1, 0 and 0, 0: the cycle of both occurs, and is popped once.
 #[test]
-fn the_log_has_the_cycle_with_its_entries(rt: HostRuntime) -> Result<(), Fail> {
+fn the_log_has_the_cycle_with_its_entries(rt: HostRuntime) {
     let alloc = rt.alloc();
-    let instance = two_arrows(alloc)?;
-    let (pops, stuck) = pops_and_stuck(&rt, alloc, &instance)?;
-    same(&rt, pops, 1, "pops");
-    same(&rt, stuck, 0, "stuck cycles");
-    logs(&rt, alloc, &instance, 0, TERMS)
+    let instance = two_arrows(&rt, alloc);
+    one_cycle_logged(&rt, alloc, &instance);
 }

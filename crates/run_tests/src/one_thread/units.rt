@@ -1,6 +1,5 @@
 //! Lists of units.
 use confluence_core::Units;
-use std::test::Fail;
 
 // Whether units 4 and 0 were pushed, in this order.
 fn are_pushed(units: &Units) -> bool {
@@ -8,11 +7,10 @@ fn are_pushed(units: &Units) -> bool {
 }
 
 #[test]
-fn units_stand_in_the_order_of_their_pushes(rt: HostRuntime) -> Result<(), Fail> {
+fn units_stand_in_the_order_of_their_pushes(rt: HostRuntime) {
     let mut units = Units::new(rt.alloc());
-    units.push(4)?;
-    units.push(0)?;
+    units.push(4).expect(&rt, "memory");
+    units.push(0).expect(&rt, "memory");
     let pushed = are_pushed(&units);
     assert!(&rt; pushed);
-    Ok(())
 }

@@ -5,13 +5,13 @@ ghost use Rattle.prs_rounds.specs.Units.{IsListed, IsIndexOf};
 
 use super::instances::index_of;
 use crate::compare::same;
+use crate::made::listed;
 use pop_instance::{Index, Instance};
 use prs_rounds::run_rounds;
 use std::alloc::Global;
 use std::process::Abort;
-use std::test::Fail;
 use std::thread::Threads;
-use test_instances::{EventRow, listed};
+use test_instances::EventRow;
 
 // Two clauses that share a variable and may be false together.
 static TWO: [EventRow; 2] = [(1, &[(0, 0), (1, 0)]), (2, &[(1, 0), (2, 0)])];
@@ -31,11 +31,11 @@ static COUNTS_OF_TWO: [u64; 8] = [0, 0, 97, 97, 0, 97, 97, 97];
 static COUNTS_OF_THREE: [u64; 8] = [0, 0, 112, 0, 0, 112, 112, 112];
 
 // The instance of these rows and clauses: entry k of variable v is bit 3v + k.
-fn instance(alloc: Global, rows: u32, clauses: &[EventRow]) -> Result<Instance, Fail> {
+fn instance(rt: &impl Abort, alloc: Global, rows: u32, clauses: &[EventRow]) -> Instance {
     let first = [rows % 2, rows / 2 % 2, rows / 4 % 2];
     let second = [rows / 8 % 2, rows / 16 % 2, rows / 32 % 2];
     let third = [rows / 64 % 2, rows / 128 % 2, rows / 256 % 2];
-    listed(alloc, &[&first, &second, &third], clauses)
+    listed(rt, alloc, &[&first, &second, &third], clauses)
 }
 
 // The assignment as a number.
@@ -52,15 +52,25 @@ fn end_of<R: Threads + Abort + Sync>(
     alloc: Global,
     instance: &Instance,
     index: &Index,
-) -> Result<Option<u32>, Fail>
+) -> Option<u32>
     requires index { IsIndexOf instance.now.family index.now }
     requires variables { length index.now ≡ variables_of instance.now.stacks }
 {
-    let end = run_rounds(rt, alloc, instance, index)?;
+    let end = run_rounds(rt, alloc, instance, index).expect(rt, "memory");
     if end.short.is_some() {
-        return Ok(None);
+        return None;
     }
-    Ok(Some(number_of(rt, &end.values)))
+    Some(number_of(rt, &end.values))
+}
+
+// The same where no index is at hand.
+fn indexed_end<R: Threads + Abort + Sync>(
+    rt: &R,
+    alloc: Global,
+    instance: &Instance,
+) -> Option<u32> {
+    let index = index_of(rt, alloc, instance);
+    end_of(rt, alloc, instance, &index)
 }
 
 // The same of these rows.
@@ -69,10 +79,9 @@ fn sample_of<R: Threads + Abort + Sync>(
     alloc: Global,
     rows: u32,
     clauses: &[EventRow],
-) -> Result<Option<u32>, Fail> {
-    let instance = instance(alloc, rows, clauses)?;
-    let index = index_of(rt, alloc, &instance)?;
-    end_of(rt, alloc, &instance, &index)
+) -> Option<u32> {
+    let instance = instance(rt, alloc, rows, clauses);
+    indexed_end(rt, alloc, &instance)
 }
 
 // Compares how often an assignment is among these.
@@ -87,18 +96,14 @@ fn is_among(rt: &impl Abort, all: &[u32], sample: u32, want: u64) {
 }
 
 // The assignments at the ends of all rows, but for those where rounds are exhausted.
-fn samples_of<R: Threads + Abort + Sync>(
-    rt: &R,
-    alloc: Global,
-    clauses: &[EventRow],
-) -> Result<Vec<u32>, Fail> {
+fn samples_of<R: Threads + Abort + Sync>(rt: &R, alloc: Global, clauses: &[EventRow]) -> Vec<u32> {
     let mut all = Vec::new(alloc);
     for rows in 0..512 {
-        if let Some(sample) = sample_of(rt, alloc, rows, clauses)? {
-            all.push(sample)?;
+        if let Some(sample) = sample_of(rt, alloc, rows, clauses) {
+            all.push(sample).expect(rt, "memory");
         }
     }
-    Ok(all)
+    all
 }
 
 // Compares how often each assignment is among these.
@@ -114,15 +119,14 @@ fn are_counted<R: Threads + Abort + Sync>(
     alloc: Global,
     clauses: &[EventRow],
     counts: &[u64; 8],
-) -> Result<(), Fail> {
-    let all = samples_of(rt, alloc, clauses)?;
+) {
+    let all = samples_of(rt, alloc, clauses);
     are_among(rt, &all, counts);
-    Ok(())
 }
 
 #[test]
-fn as_many_rows_end_with_each_sample_where_clauses_clash(rt: HostRuntime) -> Result<(), Fail> {
+fn as_many_rows_end_with_each_sample_where_clauses_clash(rt: HostRuntime) {
     let alloc = rt.alloc();
-    are_counted(&rt, alloc, &TWO, &COUNTS_OF_TWO)?;
-    are_counted(&rt, alloc, &THREE, &COUNTS_OF_THREE)
+    are_counted(&rt, alloc, &TWO, &COUNTS_OF_TWO);
+    are_counted(&rt, alloc, &THREE, &COUNTS_OF_THREE);
 }

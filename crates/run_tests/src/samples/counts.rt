@@ -2,7 +2,6 @@
 use super::instances::*;
 use crate::compare::same_of;
 use std::process::Abort;
-use std::test::Fail;
 
 // All cursors but those where an event is stuck.
 const ANY: u32 = 28;
@@ -70,14 +69,13 @@ fn finish_with_each(rt: &impl Abort, which: usize, all: &[Finish], rows: u64) {
 static COUNTS: [(usize, u64); 3] = [(FORMULA, 112), (TRIANGLE, 154), (PATH, 112)];
 
 #[test]
-fn as_many_rows_finish_with_each_sample(rt: HostRuntime) -> Result<(), Fail> {
+fn as_many_rows_finish_with_each_sample(rt: HostRuntime) {
     let alloc = rt.alloc();
     for (which, rows) in COUNTS.iter() {
-        let all = finishes(&rt, alloc, *which)?;
+        let all = finishes(&rt, alloc, *which);
         finish_with_each(&rt, *which, &all, *rows);
         all_proportional(&rt, *which, &all, ANY);
     }
-    Ok(())
 }
 
 // Compares any two samples at each cursors.
@@ -88,13 +86,12 @@ fn proportional_at_each(rt: &impl Abort, which: usize, all: &[Finish]) {
 }
 
 #[test]
-fn as_many_rows_finish_with_each_sample_at_each_cursors(rt: HostRuntime) -> Result<(), Fail> {
+fn as_many_rows_finish_with_each_sample_at_each_cursors(rt: HostRuntime) {
     let alloc = rt.alloc();
     for which in EXTREMAL.iter() {
-        let all = finishes(&rt, alloc, *which)?;
+        let all = finishes(&rt, alloc, *which);
         proportional_at_each(&rt, *which, &all);
     }
-    Ok(())
 }
 
 // The samples of the clauses that clash, and how many rows finish with each. The numbers were
@@ -117,8 +114,7 @@ fn clashing_finish(rt: &impl Abort, all: &[Finish], counts: &[(u32, u64)]) {
 }
 
 #[test]
-fn not_as_many_finish_with_each_where_clauses_clash(rt: HostRuntime) -> Result<(), Fail> {
-    let all = finishes(&rt, rt.alloc(), CLASHING)?;
+fn not_as_many_finish_with_each_where_clauses_clash(rt: HostRuntime) {
+    let all = finishes(&rt, rt.alloc(), CLASHING);
     clashing_finish(&rt, &all, &CLASHING_COUNTS);
-    Ok(())
 }

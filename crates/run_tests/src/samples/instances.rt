@@ -2,13 +2,12 @@
 //! three bits, and cursors are a number of three digits to base 3, that of variable 0 lowest.
 ghost use Rattle.std.specs.Prelude.{◌≡◌, ◌<◌, length};
 
+use crate::made::{arrows, cube, family, over, stacks};
 use confluence_core::{End, run_first};
 use pop_instance::{Cube, Cursors, Family, Instance};
 use pop_stacks::Stacks;
-use std::alloc::{AllocError, Global};
+use std::alloc::Global;
 use std::process::Abort;
-use std::test::Fail;
-use test_instances::{arrows, cube, family, over, stacks};
 
 /// A formula of two clauses that share a variable and exclude each other.
 pub const FORMULA: usize = 0;
@@ -125,21 +124,21 @@ fn rows_weight(rt: &impl Abort, rows: u32) -> u64 {
 }
 
 // The pairs of an event.
-fn pairs(alloc: Global, names: u32, values: u32) -> Result<Vec<(u32, u32)>, AllocError> {
+fn pairs(rt: &impl Abort, alloc: Global, names: u32, values: u32) -> Vec<(u32, u32)> {
     let mut pairs = Vec::new(alloc);
     for v in 0..3 {
         if bit(names, v) == 1 {
-            pairs.push((v, bit(values, v)))?;
+            pairs.push((v, bit(values, v))).expect(rt, "memory");
         }
     }
-    Ok(pairs)
+    pairs
 }
 
 // The cube of an event.
-fn cube_of(rt: &impl Abort, alloc: Global, which: usize, e: usize) -> Result<Cube, Fail> {
+fn cube_of(rt: &impl Abort, alloc: Global, which: usize, e: usize) -> Cube {
     let (names, values) = event(rt, which, e);
-    let pairs = pairs(alloc, names, values)?;
-    cube(alloc, &pairs)
+    let pairs = pairs(rt, alloc, names, values);
+    cube(rt, alloc, &pairs)
 }
 
 // Where the arrows of the path lead: variables 0, 1 and 2 in a row, with the root before and behind
@@ -147,38 +146,36 @@ fn cube_of(rt: &impl Abort, alloc: Global, which: usize, e: usize) -> Result<Cub
 static HEADS: [[Option<u32>; 2]; 3] = [[None, Some(1)], [Some(0), Some(2)], [Some(1), None]];
 
 // The listed events of an instance, which aren't the path's.
-fn events(rt: &impl Abort, alloc: Global, which: usize) -> Result<Vec<(u32, Cube)>, Fail> {
+fn events(rt: &impl Abort, alloc: Global, which: usize) -> Vec<(u32, Cube)> {
     let mut rows = Vec::new(alloc);
     for e in 0..3 {
-        let cube = cube_of(rt, alloc, which, e)?;
-        rows.push((e as u32 + 1, cube))?;
+        let cube = cube_of(rt, alloc, which, e);
+        rows.push((e as u32 + 1, cube)).expect(rt, "memory");
     }
-    Ok(rows)
+    rows
 }
 
 // The events of an instance.
-fn family_of(rt: &impl Abort, alloc: Global, which: usize) -> Result<Family, Fail> {
+fn family_of(rt: &impl Abort, alloc: Global, which: usize) -> Family {
     if which != PATH {
-        let rows = events(rt, alloc, which)?;
-        return family(alloc, rows);
+        return family(rt, alloc, events(rt, alloc, which));
     }
-    let arrows = arrows(alloc, &HEADS)?;
-    Ok(Family::Cycles(arrows))
+    Family::Cycles(arrows(rt, alloc, &HEADS))
 }
 
 // The stacks of these rows. No weight chooses an entry where rows are given.
-fn stacks_of(alloc: Global, rows: u32) -> Result<Stacks, Fail> {
+fn stacks_of(rt: &impl Abort, alloc: Global, rows: u32) -> Stacks {
     let first = [bit(rows, 0), bit(rows, 1), bit(rows, 2)];
     let second = [bit(rows, 3), bit(rows, 4), bit(rows, 5)];
     let third = [bit(rows, 6), bit(rows, 7), bit(rows, 8)];
-    stacks(alloc, &[&first, &second, &third])
+    stacks(rt, alloc, &[&first, &second, &third])
 }
 
 // The instance of these rows.
-fn instance(rt: &impl Abort, alloc: Global, which: usize, rows: u32) -> Result<Instance, Fail> {
-    let family = family_of(rt, alloc, which)?;
-    let stacks = stacks_of(alloc, rows)?;
-    over(stacks, family)
+fn instance(rt: &impl Abort, alloc: Global, which: usize, rows: u32) -> Instance {
+    let family = family_of(rt, alloc, which);
+    let stacks = stacks_of(rt, alloc, rows);
+    over(rt, stacks, family)
 }
 
 // Three cursors as one number.
@@ -206,25 +203,26 @@ fn finish_at(rt: &impl Abort, end: &End, rows: u32) -> Finish
 }
 
 // Runs an instance of these rows.
-fn run_of(rt: &impl Abort, alloc: Global, instance: &Instance, rows: u32) -> Result<Finish, Fail> {
+fn run_of(rt: &impl Abort, alloc: Global, instance: &Instance, rows: u32) -> Finish {
     assert!(rt; instance.stacks().count() == 3);
-    let end = run_first(alloc, instance)?;
-    Ok(finish_at(rt, &end, rows))
+    let end = run_first(alloc, instance).expect(rt, "memory");
+    finish_at(rt, &end, rows)
 }
 
 // Makes the instance of these rows, and runs it.
-fn end_of(rt: &impl Abort, alloc: Global, which: usize, rows: u32) -> Result<Finish, Fail> {
-    let instance = instance(rt, alloc, which, rows)?;
+fn end_of(rt: &impl Abort, alloc: Global, which: usize, rows: u32) -> Finish {
+    let instance = instance(rt, alloc, which, rows);
     run_of(rt, alloc, &instance, rows)
 }
 
 /// The ends of all rows.
-pub fn finishes(rt: &impl Abort, alloc: Global, which: usize) -> Result<Vec<Finish>, Fail> {
+pub fn finishes(rt: &impl Abort, alloc: Global, which: usize) -> Vec<Finish> {
     let mut all = Vec::new(alloc);
     for rows in 0..512 {
-        all.push(end_of(rt, alloc, which, rows)?)?;
+        let end = end_of(rt, alloc, which, rows);
+        all.push(end).expect(rt, "memory");
     }
-    Ok(all)
+    all
 }
 
 /// The end of these rows.

@@ -5,6 +5,6 @@ use Rattle.run_tests.proofs.batches.is_that_of_first.Goals as goal
 
 pub ends_as_first-requires : goal.ends_as_first-requires
 ends_as_first-requires g c =
-    let stacks = ap (λ (i : Instance). i.stacks) c.in_ok-sample.ensures in
+    let stacks = ap (λ (i : Instance). i.stacks) (rw c.expect-sample.ensures at c.for_sample.ensures) in
     let end = c.requires.ends.1.each c.args.j c.at-end.result.now c.at-end.ensures in
     subst (λ s. IsEndOver s c.at-end.result.now) (sym stacks) end.over

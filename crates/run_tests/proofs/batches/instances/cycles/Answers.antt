@@ -7,4 +7,4 @@ use Rattle.run_tests.proofs.batches.instances.cycles.Goals as goal
 pub returns-clause-extremal : goal.returns-clause-extremal
 returns-clause-extremal g c =
     let is = rw c.expect-instance.ensures at c.new.ensures in
-    subst IsExtremal (sym (ap (λ (i : Instance). i.family) is)) (family.cycles_extremal c.in_ok-arrows.arrows)
+    subst IsExtremal (sym (ap (λ (i : Instance). i.family) is)) (family.cycles_extremal c.arrows-arrows.result)
