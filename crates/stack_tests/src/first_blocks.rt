@@ -1,10 +1,11 @@
-//! First blocks of variables with two values of weight 1: a reader that keeps values draws those of
-//! four variables at once, and one that keeps none reads each stream by itself.
+//! First blocks: a reader that keeps values draws those of four variables at once, and one that keeps
+//! none reads each stream by itself.
 ghost use Rattle.std.specs.Prelude.{◌<◌, ◌^◌};
 ghost use Rattle.pop_model.specs.Stacks.{IsKeyed};
 ghost use Rattle.pop_stacks.specs.Readers.{Belongs};
 
 use crate::readers::compare;
+use crate::tables::weights;
 use pop_stacks::{Reader, StackSpec, Stacks, Weights};
 use std::alloc::Global;
 use std::process::Abort;
@@ -72,4 +73,40 @@ fn first_blocks_of_four_variables_are_those_of_their_streams(rt: HostRuntime) {
     compare_samples(&rt, alloc, 5);
     compare_samples(&rt, alloc, 10);
     compare_samples(&rt, alloc, 11);
+}
+
+// Rows of weights, of which some stand in a four with rows of another length: a variable has up to two
+// values, up to four, or more.
+static TABLES: [&[&[u32]]; 3] = [
+    &[&[9], &[2, 1], &[1, 5], &[1, 1], &[3, 3]],
+    &[
+        &[2, 1],
+        &[1, 1, 1, 1],
+        &[5, 1, 2],
+        &[7],
+        &[1, 2, 3, 4],
+        &[1, 1],
+    ],
+    &[
+        &[1, 1, 1],
+        &[3, 1, 4, 1, 5, 9],
+        &[1, 1],
+        &[2, 7],
+        &[4],
+        &[1, 1, 1, 1, 1],
+    ],
+];
+
+// Compares entries of variables with these weights.
+fn compare_weighted(rt: &impl Abort, alloc: Global, table: &[&[u32]]) {
+    let weights = weights(rt, alloc, table);
+    let stacks = Stacks::new(StackSpec::Key([5; 32]), weights, 64).expect(rt, "stacks");
+    compare_from_each(rt, alloc, &stacks);
+}
+
+#[test]
+fn first_blocks_have_the_values_of_their_variables_weights(rt: HostRuntime) {
+    for table in TABLES.iter() {
+        compare_weighted(&rt, rt.alloc(), table);
+    }
 }
