@@ -70,6 +70,7 @@ fn ends_as_first(rt: &impl Abort, alloc: Global, sample: &Instance, end: &End)
 {
     let first = run_first(alloc, sample).expect(rt, "memory");
     are_alike(rt, sample.stacks(), end, &first);
+    drop(first);
 }
 
 // Compares the end of sample j with that of the one-thread run on an instance of its own.
@@ -81,6 +82,7 @@ fn is_that_of_first(rt: &impl Abort, alloc: Global, instance: &Instance, ends: &
     let end = ends.at(j);
     let sample = instance.for_sample(alloc, j).expect(rt, "memory");
     ends_as_first(rt, alloc, &sample, end);
+    drop(sample);
 }
 
 // Compares the ends of three samples of an instance with those of one-thread runs.
@@ -101,6 +103,7 @@ fn three_alone(rt: &impl Abort, alloc: Global, instance: &Instance)
 {
     let ends = batch_alone(alloc, instance, 3).expect(rt, "memory");
     are_those_of_first(rt, alloc, instance, &ends);
+    drop(ends);
 }
 
 // Compares three samples of an instance, run in parallel and run on this thread, with one-thread
@@ -112,7 +115,9 @@ fn three_samples<R: Threads + Abort + Sync>(rt: &R, alloc: Global, instance: &In
     three_alone(rt, alloc, instance);
     let ends = batch(rt, alloc, instance, 3).expect(rt, "memory");
     are_those_of_first(rt, alloc, instance, &ends);
-    ends.some_stuck()
+    let stuck = ends.some_stuck();
+    drop(ends);
+    stuck
 }
 
 // The clauses 1 2, -1 3 and -2 -3: each is an event where its literals are false.
@@ -141,13 +146,17 @@ fn are_events_stuck<R: Threads + Abort + Sync>(
     table: &[EventRow],
 ) -> bool {
     let instance = listed(rt, alloc, 3, height, table);
-    three_samples(rt, alloc, &instance)
+    let answer = three_samples(rt, alloc, &instance);
+    drop(instance);
+    answer
 }
 
 // Compares samples of the square at this height, and returns whether one is stuck.
 fn is_square_stuck<R: Threads + Abort + Sync>(rt: &R, alloc: Global, height: u32) -> bool {
     let square = cycles(rt, alloc, height, &SQUARE);
-    three_samples(rt, alloc, &square)
+    let answer = three_samples(rt, alloc, &square);
+    drop(square);
+    answer
 }
 
 // Compares samples of the three instances at this height, and returns whether one is stuck.
@@ -211,6 +220,7 @@ fn is_sample_of_ones(rt: &impl Abort, alloc: Global, instance: &Instance, ends: 
     let end = ends.at(j);
     let own = instance.stacks().for_sample(alloc, j).expect(rt, "memory");
     are_first_ones(rt, &own, end, &FIRST_ONES[j as usize]);
+    drop(own);
 }
 
 // Compares four samples of the events above with their rows.
@@ -231,12 +241,14 @@ fn four_samples<R: Threads + Abort + Sync>(rt: &R, alloc: Global, instance: &Ins
 {
     let ends = batch(rt, alloc, instance, 4).expect(rt, "memory");
     are_samples_of_ones(rt, alloc, instance, &ends);
+    drop(ends);
 }
 
 // Compares the one-thread run on the instance of the events above with the first row.
 fn first_is_of_ones(rt: &impl Abort, alloc: Global, instance: &Instance) {
     let first = run_first(alloc, instance).expect(rt, "memory");
     are_first_ones(rt, instance.stacks(), &first, &FIRST_ONES[0]);
+    drop(first);
 }
 
 // Compares the one-thread run and four samples of the events above with their rows.
@@ -254,6 +266,7 @@ fn each_sample_has_the_entries_of_its_own_streams(rt: HostRuntime) {
     let alloc = rt.alloc();
     let instance = listed(&rt, alloc, 8, 64, &ZEROS);
     all_are_of_ones(&rt, alloc, &instance);
+    drop(instance);
 }
 
 // Compares how many ends a batch of so many samples has, and whether it is stuck.
@@ -270,6 +283,7 @@ fn batch_is<R: Threads + Abort + Sync>(
     let ends = batch(rt, alloc, instance, count).expect(rt, "memory");
     same(rt, ends.len() as u64, count as u64, "samples");
     is_so(rt, ends.some_stuck() == stuck, "samples", count as u64);
+    drop(ends);
 }
 
 // Compares batches of three samples, of one more, and of none.
@@ -292,4 +306,5 @@ fn a_batch_with_one_stuck_sample_is_stuck(rt: HostRuntime) {
     let alloc = rt.alloc();
     let instance = listed(&rt, alloc, 1, 1, &ZERO);
     three_batches(&rt, alloc, &instance);
+    drop(instance);
 }

@@ -97,6 +97,7 @@ struct Case {
 fn case_comes(rt: &impl Abort, alloc: Global, instance: &Instance, case: &Case) {
     let tried = attempts(rt, alloc, instance, case.units);
     came_to(rt, &tried, case.answers, case.pops);
+    drop(tried);
 }
 
 // Worked by hand: the entries 0 and 0 are popped, and at 1 the event doesn't occur.
@@ -128,6 +129,7 @@ fn two_pops_leave(rt: &impl Abort, alloc: Global, instance: &Instance) {
     assert!(rt; instance.stacks().count() == 1);
     let tried = attempts(rt, alloc, instance, POPPED_TWICE.units);
     left_by_two_pops(rt, &tried);
+    drop(tried);
 }
 
 // Compares the attempts of that case, and what they leave.
@@ -141,6 +143,7 @@ fn a_listed_event_is_popped_until_it_is_absent(rt: HostRuntime) {
     let alloc = rt.alloc();
     let instance = clause(&rt, alloc, POPPED_TWICE.entries);
     is_popped_twice(&rt, alloc, &instance);
+    drop(instance);
 }
 
 // Worked by hand: the entry 0 is popped, and the last one is 0 too.
@@ -156,6 +159,7 @@ fn a_listed_event_is_stuck_at_the_last_entry(rt: HostRuntime) {
     let alloc = rt.alloc();
     let instance = clause(&rt, alloc, STUCK_EVENT.entries);
     case_comes(&rt, alloc, &instance, &STUCK_EVENT);
+    drop(instance);
 }
 
 // The heads of so many variables, each with an arrow to the next one and one to the root; the last
@@ -233,6 +237,7 @@ fn cycle_leaves(rt: &impl Abort, alloc: Global, instance: &Instance, count: u32,
     assert!(rt; instance.stacks().count() == count);
     let tried = attempts(rt, alloc, instance, POPPED_CYCLE.units);
     left_by_cycle(rt, &tried, count, back);
+    drop(tried);
 }
 
 // Pops the cycle of a lasso of so many variables.
@@ -241,6 +246,7 @@ fn lasso_pops(rt: &impl Abort, alloc: Global, count: u32, back: u32)
 {
     let instance = lasso(rt, alloc, count, back, POPPED_CYCLE.entries);
     cycle_leaves(rt, alloc, &instance, count, back);
+    drop(instance);
 }
 
 // Pops the cycles of as many lassos as there are variables.
@@ -274,4 +280,5 @@ fn a_cycle_is_stuck_at_the_last_entry(rt: HostRuntime) {
     let alloc = rt.alloc();
     let instance = lasso(&rt, alloc, 5, 2, STUCK_CYCLE.entries);
     case_comes(&rt, alloc, &instance, &STUCK_CYCLE);
+    drop(instance);
 }

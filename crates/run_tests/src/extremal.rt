@@ -42,7 +42,9 @@ fn verdict_on(rt: &impl Abort, alloc: Global, events: &Events) -> Verdict {
     let known = are_known(events);
     assert!(rt; known);
     let index = Index::build(alloc, events, VARIABLES).expect(rt, "memory");
-    check(alloc, events, &index).expect(rt, "memory")
+    let answer = check(alloc, events, &index).expect(rt, "memory");
+    drop(index);
+    answer
 }
 
 // Compares the verdict on the listed events of a family.
@@ -58,6 +60,7 @@ fn has_verdict(rt: &impl Abort, alloc: Global, family: &Family, want: Verdict, w
 fn case_has_verdict(rt: &impl Abort, alloc: Global, table: &[EventRow], want: Verdict, what: &str) {
     let family = events(rt, alloc, table);
     has_verdict(rt, alloc, &family, want, what);
+    drop(family);
 }
 
 // What a case is of, its events, and the verdict on them.

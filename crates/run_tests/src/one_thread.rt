@@ -35,12 +35,14 @@ fn is_end(rt: &impl Abort, end: &End, count: u32, want: &Want)
 fn first_ends_with(rt: &impl Abort, alloc: Global, instance: &Instance, want: &Want) {
     let end = run_first(alloc, instance).expect(rt, "memory");
     is_end(rt, &end, instance.stacks().count(), want);
+    drop(end);
 }
 
 // Compares the end of the run from zeros.
 fn run_ends_with(rt: &impl Abort, alloc: Global, instance: &Instance, want: &Want) {
     let run = run_from_zeros(alloc, instance, Keep::Nothing).expect(rt, "memory");
     is_end(rt, &run.end, instance.stacks().count(), want);
+    drop(run);
 }
 
 // Runs the instance by both calls, and compares their ends.
@@ -84,6 +86,7 @@ fn run_ends_as(rt: &impl Abort, alloc: Global, instance: &Instance, first: &End)
 {
     let run = run_from_zeros(alloc, instance, Keep::Nothing).expect(rt, "memory");
     ends_alike(rt, &run.end, first, instance.stacks().count());
+    drop(run);
 }
 
 // Runs an instance by both calls, and compares their ends. Returns the pops and how many events are
@@ -91,7 +94,9 @@ fn run_ends_as(rt: &impl Abort, alloc: Global, instance: &Instance, first: &End)
 fn pops_and_stuck(rt: &impl Abort, alloc: Global, instance: &Instance) -> (u64, u64) {
     let first = run_first(alloc, instance).expect(rt, "memory");
     run_ends_as(rt, alloc, instance, &first);
-    (first.pops, first.stuck.len())
+    let found = (first.pops, first.stuck.len());
+    drop(first);
+    found
 }
 
 // Rows of entries, listed events, and what the end of their run is to be. Worked by hand.
@@ -105,6 +110,7 @@ struct Case {
 fn case_ends(rt: &impl Abort, alloc: Global, case: &Case) {
     let instance = listed(rt, alloc, case.rows, case.events);
     ends_with(rt, alloc, &instance, &case.want);
+    drop(instance);
 }
 
 static PAST_A_STUCK_EVENT: Case = Case {
@@ -161,7 +167,9 @@ fn log_of(rt: &impl Abort, alloc: Global, instance: &Instance, keep: Keep) -> Op
 // Whether a run keeps a log that is asked for none.
 fn logs_unasked(rt: &impl Abort, alloc: Global, instance: &Instance) -> bool {
     let log = log_of(rt, alloc, instance, Keep::Nothing);
-    log.is_some()
+    let answer = log.is_some();
+    drop(log);
+    answer
 }
 
 // A term of a record: a variable of its cube, its value there, and its entry.
@@ -191,6 +199,7 @@ fn is_log(rt: &impl Abort, log: &Log, unit: u32, want: &[&[Term]]) {
 fn logs(rt: &impl Abort, alloc: Global, instance: &Instance, unit: u32, want: &[&[Term]]) {
     let log = log_of(rt, alloc, instance, Keep::Log).expect(rt, "a log");
     is_log(rt, &log, unit, want);
+    drop(log);
 }
 
 static TERMS: &[&[Term]] = &[&[(0, 0, 0)], &[(0, 0, 1)]];
@@ -219,4 +228,5 @@ fn the_log_has_each_pop_with_its_entries(rt: HostRuntime) {
     let instance = listed(&rt, alloc, TWO_POPS.rows, TWO_POPS.events);
     ends_with(&rt, alloc, &instance, &TWO_POPS.want);
     two_pops_logged(&rt, alloc, &instance);
+    drop(instance);
 }

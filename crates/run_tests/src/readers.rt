@@ -46,4 +46,7 @@ fn a_plain_reader_serves_stacks_of_the_same_key_with_other_weights(rt: HostRunti
     let even = Stacks::new(StackSpec::Key([0; 32]), Weights::pairs(1), 8).expect(&rt, "memory");
     let mut reader = Reader::new(&even);
     looks_at_both(&rt, &even, &uneven, &mut reader);
+    drop(reader);
+    drop(even);
+    drop(uneven);
 }

@@ -117,6 +117,7 @@ fn ends_alone(rt: &impl Abort, alloc: Global, instance: &Instance, index: &Index
 {
     let end = run_rounds_alone(alloc, instance, index).expect(rt, "memory");
     is_end(rt, instance.stacks().count(), &end, want);
+    drop(end);
 }
 
 // Compares the end of the rounds of an instance.
@@ -132,6 +133,7 @@ fn ends_in_parallel<R: Threads + Abort + Sync>(
 {
     let end = run_rounds(rt, alloc, instance, index).expect(rt, "memory");
     is_end(rt, instance.stacks().count(), &end, want);
+    drop(end);
 }
 
 // Compares the places of the events that occur at zeros.
@@ -141,6 +143,8 @@ fn are_violated<R: Threads + Abort + Sync>(rt: &R, alloc: Global, instance: &Ins
     let zeros = Cursors::zeros(alloc, instance.stacks().count()).expect(rt, "memory");
     let units = violated(rt, alloc, instance, &zeros).expect(rt, "memory");
     are_units(rt, &units, want);
+    drop(units);
+    drop(zeros);
 }
 
 // Compares the places of the events of the resampling set at zeros.
@@ -158,6 +162,8 @@ fn are_resampled<R: Threads + Abort + Sync>(
     let zeros = Cursors::zeros(alloc, instance.stacks().count()).expect(rt, "memory");
     let units = resampling_set(rt, alloc, instance, index, &zeros).expect(rt, "memory");
     are_units(rt, &units, want);
+    drop(units);
+    drop(zeros);
 }
 
 // Compares what comes of an instance.
@@ -167,12 +173,14 @@ fn comes_of<R: Threads + Abort + Sync>(rt: &R, alloc: Global, instance: &Instanc
     are_resampled(rt, alloc, instance, &index, want.set);
     ends_in_parallel(rt, alloc, instance, &index, want);
     ends_alone(rt, alloc, instance, &index, want);
+    drop(index);
 }
 
 // Makes the instance, and compares what comes of it.
 fn comes<R: Threads + Abort + Sync>(rt: &R, alloc: Global, want: &Want) {
     let instance = listed(rt, alloc, want.stacks, want.events);
     comes_of(rt, alloc, &instance, want);
+    drop(instance);
 }
 
 #[test]
@@ -199,6 +207,8 @@ fn even_ones_move<R: Threads + Abort + Sync>(rt: &R, alloc: Global, instance: &I
     let index = index_of(rt, alloc, instance);
     let end = run_rounds(rt, alloc, instance, &index).expect(rt, "memory");
     even_ones_moved(rt, instance.stacks().count(), &end);
+    drop(end);
+    drop(index);
 }
 
 // Worked by hand: just the variables of even number move, once.
@@ -207,4 +217,5 @@ fn many_events_are_looked_at_in_several_threads(rt: HostRuntime) {
     let alloc = rt.alloc();
     let instance = many(&rt, alloc, 5000);
     even_ones_move(&rt, alloc, &instance);
+    drop(instance);
 }

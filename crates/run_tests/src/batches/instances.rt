@@ -30,7 +30,9 @@ fn expect_extremal(rt: &impl Abort, alloc: Global, instance: &Instance)
         panic!(rt; "listed events");
     };
     let index = Index::build(alloc, events, instance.stacks().count()).expect(rt, "memory");
-    match check(alloc, events, &index).expect(rt, "memory") {
+    let verdict = check(alloc, events, &index).expect(rt, "memory");
+    drop(index);
+    match verdict {
         Verdict::Extremal => {}
         Verdict::Clash(_, _) => panic!(rt; "events that don't clash"),
     }

@@ -33,7 +33,9 @@ fn chain(rt: &impl Abort, alloc: Global, links: u32, key: u8, height: u32) -> In
 // Runs such a chain. Returns its pops and how many events are stuck.
 fn run_chain(rt: &impl Abort, alloc: Global, links: u32, key: u8, height: u32) -> (u64, u64) {
     let chain = chain(rt, alloc, links, key, height);
-    pops_and_stuck(rt, alloc, &chain)
+    let answer = pops_and_stuck(rt, alloc, &chain);
+    drop(chain);
+    answer
 }
 
 static HIGH_KEYS: [u8; 4] = [0, 1, 77, 255];

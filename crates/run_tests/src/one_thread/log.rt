@@ -39,4 +39,5 @@ fn the_other_log_comes_behind(rt: HostRuntime) {
     let other = log_of(&rt, alloc, &[2, 3]);
     log.append(other).expect(&rt, "memory");
     has_units(&rt, &log, &[4, 2, 3]);
+    drop(log);
 }

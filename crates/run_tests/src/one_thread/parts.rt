@@ -48,7 +48,10 @@ fn goes_on(rt: &impl Abort, alloc: Global, instance: &Instance, cursors: &Cursor
 {
     let mut reader = Reader::new(instance.stacks());
     let next = first_poppable(alloc, instance, &mut reader, cursors).expect(rt, "memory");
-    next.is_some()
+    let answer = next.is_some();
+    drop(next);
+    drop(reader);
+    answer
 }
 
 // How many events occur at cursors.
@@ -58,7 +61,10 @@ fn stuck_at(rt: &impl Abort, alloc: Global, instance: &Instance, cursors: &Curso
 {
     let mut reader = Reader::new(instance.stacks());
     let stuck = occurring(alloc, instance, &mut reader, cursors).expect(rt, "memory");
-    stuck.len()
+    let answer = stuck.len();
+    drop(stuck);
+    drop(reader);
+    answer
 }
 
 // Compares what a run leaves: its pops, which its log has too, and its stuck events.
@@ -85,6 +91,7 @@ fn is_left(rt: &impl Abort, alloc: Global, instance: &Instance, run: &Run, limit
 fn stops_at(rt: &impl Abort, alloc: Global, instance: &Instance, limit: u64, pops: u64) {
     let run = run_to(rt, alloc, instance, limit);
     is_left(rt, alloc, instance, &run, limit, pops);
+    drop(run);
 }
 
 // Limits, and the pops of the runs to them.
@@ -103,6 +110,7 @@ fn a_run_stops_at_its_limit(rt: HostRuntime) {
     let alloc = rt.alloc();
     let instance = two_events(&rt, alloc);
     stops_at_each(&rt, alloc, &instance);
+    drop(instance);
 }
 
 // How many values an end has: one for each variable.
@@ -130,6 +138,7 @@ fn ends_with_values(rt: &impl Abort, alloc: Global, instance: &Instance, want: &
     let end = run_first(alloc, instance).expect(rt, "memory");
     let count = values_count(instance, &end);
     are_values(rt, &end.values, count, want);
+    drop(end);
 }
 
 // Worked by hand.
@@ -138,6 +147,7 @@ fn an_end_has_the_values_at_its_cursors(rt: HostRuntime) {
     let alloc = rt.alloc();
     let instance = two_events(&rt, alloc);
     ends_with_values(&rt, alloc, &instance, VALUES);
+    drop(instance);
 }
 
 // A run by an index that is made apart.
@@ -155,6 +165,7 @@ fn run_by_index(rt: &impl Abort, alloc: Global, instance: &Instance) -> Run
 fn ends_by_index(rt: &impl Abort, alloc: Global, instance: &Instance) {
     let run = run_by_index(rt, alloc, instance);
     is_end(rt, &run.end, instance.stacks().count(), &TWO_EVENTS.want);
+    drop(run);
 }
 
 // Worked by hand.
@@ -163,4 +174,5 @@ fn an_index_that_is_at_hand_serves(rt: HostRuntime) {
     let alloc = rt.alloc();
     let instance = two_events(&rt, alloc);
     ends_by_index(&rt, alloc, &instance);
+    drop(instance);
 }

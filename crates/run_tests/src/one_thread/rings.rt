@@ -57,7 +57,9 @@ struct Rings {
 fn run_rings(rt: &impl Abort, alloc: Global, rings: &Rings, key: u8, height: u32) -> (u64, u64) {
     let arrows = ring_arrows(rt, alloc, rings.count, rings.size);
     let instance = over_keyed(rt, key, rings.count, height, Family::Cycles(arrows));
-    pops_and_stuck(rt, alloc, &instance)
+    let answer = pops_and_stuck(rt, alloc, &instance);
+    drop(instance);
+    answer
 }
 
 // The most pops and the most stuck cycles of some runs.
@@ -169,4 +171,5 @@ fn the_log_has_the_cycle_with_its_entries(rt: HostRuntime) {
     let alloc = rt.alloc();
     let instance = two_arrows(&rt, alloc);
     one_cycle_logged(&rt, alloc, &instance);
+    drop(instance);
 }

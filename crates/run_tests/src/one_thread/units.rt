@@ -13,4 +13,5 @@ fn units_stand_in_the_order_of_their_pushes(rt: HostRuntime) {
     units.push(0).expect(&rt, "memory");
     let pushed = are_pushed(&units);
     assert!(&rt; pushed);
+    drop(units);
 }

@@ -7,7 +7,7 @@ use super::instances::index_of;
 use crate::compare::same;
 use crate::made::listed;
 use pop_instance::{Index, Instance};
-use prs_rounds::run_rounds;
+use prs_rounds::{RoundEnd, run_rounds};
 use std::alloc::Global;
 use std::process::Abort;
 use std::thread::Threads;
@@ -46,7 +46,15 @@ fn number_of(rt: &impl Abort, values: &[u32]) -> u32 {
     a + 2 * b + 4 * c
 }
 
-// The assignment at the end of rounds; none where they are exhausted.
+// The assignment at an end of rounds; none where they are exhausted.
+fn number_at(rt: &impl Abort, end: &RoundEnd) -> Option<u32> {
+    if end.short.is_some() {
+        return None;
+    }
+    Some(number_of(rt, &end.values))
+}
+
+// The assignment at the end of the rounds of an instance.
 fn end_of<R: Threads + Abort + Sync>(
     rt: &R,
     alloc: Global,
@@ -57,10 +65,9 @@ fn end_of<R: Threads + Abort + Sync>(
     requires variables { length index.now ≡ variables_of instance.now.stacks }
 {
     let end = run_rounds(rt, alloc, instance, index).expect(rt, "memory");
-    if end.short.is_some() {
-        return None;
-    }
-    Some(number_of(rt, &end.values))
+    let number = number_at(rt, &end);
+    drop(end);
+    number
 }
 
 // The same where no index is at hand.
@@ -70,7 +77,9 @@ fn indexed_end<R: Threads + Abort + Sync>(
     instance: &Instance,
 ) -> Option<u32> {
     let index = index_of(rt, alloc, instance);
-    end_of(rt, alloc, instance, &index)
+    let answer = end_of(rt, alloc, instance, &index);
+    drop(index);
+    answer
 }
 
 // The same of these rows.
@@ -81,7 +90,9 @@ fn sample_of<R: Threads + Abort + Sync>(
     clauses: &[EventRow],
 ) -> Option<u32> {
     let instance = instance(rt, alloc, rows, clauses);
-    indexed_end(rt, alloc, &instance)
+    let answer = indexed_end(rt, alloc, &instance);
+    drop(instance);
+    answer
 }
 
 // Compares how often an assignment is among these.
@@ -122,6 +133,7 @@ fn are_counted<R: Threads + Abort + Sync>(
 ) {
     let all = samples_of(rt, alloc, clauses);
     are_among(rt, &all, counts);
+    drop(all);
 }
 
 #[test]

@@ -117,4 +117,5 @@ fn clashing_finish(rt: &impl Abort, all: &[Finish], counts: &[(u32, u64)]) {
 fn not_as_many_finish_with_each_where_clauses_clash(rt: HostRuntime) {
     let all = finishes(&rt, rt.alloc(), CLASHING);
     clashing_finish(&rt, &all, &CLASHING_COUNTS);
+    drop(all);
 }

@@ -206,13 +206,17 @@ fn finish_at(rt: &impl Abort, end: &End, rows: u32) -> Finish
 fn run_of(rt: &impl Abort, alloc: Global, instance: &Instance, rows: u32) -> Finish {
     assert!(rt; instance.stacks().count() == 3);
     let end = run_first(alloc, instance).expect(rt, "memory");
-    finish_at(rt, &end, rows)
+    let answer = finish_at(rt, &end, rows);
+    drop(end);
+    answer
 }
 
 // Makes the instance of these rows, and runs it.
 fn end_of(rt: &impl Abort, alloc: Global, which: usize, rows: u32) -> Finish {
     let instance = instance(rt, alloc, which, rows);
-    run_of(rt, alloc, &instance, rows)
+    let answer = run_of(rt, alloc, &instance, rows);
+    drop(instance);
+    answer
 }
 
 /// The ends of all rows.
