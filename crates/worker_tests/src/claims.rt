@@ -5,13 +5,13 @@ ghost use Rattle.claim_words.specs.Openings.{marks_in};
 ghost use Rattle.claim_words.specs.Passes.{IsOf, view, count_of, marks_of};
 
 use crate::comparing::same;
+use crate::made::made;
 use crate::passes::{marks_in, started};
 use claim_words::{Board, Claim, Closed, Pass};
 use confluence_core::{Keep, Tickets};
 use pop_instance::Instance;
 use std::alloc::Global;
 use std::process::Abort;
-use std::test::Fail;
 use test_instances::{EventRow, listed};
 
 mod boards;
@@ -54,6 +54,7 @@ fn claims_of_two(rt: &impl Abort, board: &Board, pass: &mut Pass) -> (Claim, Cla
     same(rt, other.share() as u64, 1, "shares of the other");
     let first = claim_first(rt, board, pass);
     let second = claim_first(rt, board, &mut other);
+    drop(other);
     (first, second)
 }
 
@@ -64,14 +65,16 @@ fn second_is_busy(rt: &impl Abort, alloc: Global, instance: &Instance) {
     let (first, second) = claims_of_two(rt, &board, &mut pass);
     assert!(rt; first == Claim::Mine(0));
     assert!(rt; second == Claim::Busy(9223372036854775808));
+    drop(pass);
+    drop(board);
 }
 
 #[test]
-fn a_claimed_variable_is_busy_for_another_pass(rt: HostRuntime) -> Result<(), Fail> {
+fn a_claimed_variable_is_busy_for_another_pass(rt: HostRuntime) {
     let alloc = rt.alloc();
-    let instance = listed(alloc, &ROWS, &EVENTS)?;
+    let instance = made(&rt, listed(alloc, &ROWS, &EVENTS));
     second_is_busy(&rt, alloc, &instance);
-    Ok(())
+    drop(instance);
 }
 
 // Whether the mark of unit 1 was there, where a pass takes it.
@@ -110,14 +113,16 @@ fn mark_is_taken(rt: &impl Abort, alloc: Global, instance: &Instance) {
     are_two_events(rt, instance);
     let (board, mut pass) = started(rt, alloc, instance, Keep::Nothing);
     takes_in_turn(rt, &board, &mut pass);
+    drop(pass);
+    drop(board);
 }
 
 #[test]
-fn a_mark_that_was_taken_is_gone_until_it_is_set(rt: HostRuntime) -> Result<(), Fail> {
+fn a_mark_that_was_taken_is_gone_until_it_is_set(rt: HostRuntime) {
     let alloc = rt.alloc();
-    let instance = listed(alloc, &ROWS, &EVENTS)?;
+    let instance = made(&rt, listed(alloc, &ROWS, &EVENTS));
     mark_is_taken(&rt, alloc, &instance);
-    Ok(())
+    drop(instance);
 }
 
 // Compares what the board of two events leaves after one pop of the first.
@@ -141,22 +146,28 @@ fn is_first_ticket(rt: &impl Abort, log: &Tickets) {
     same(rt, first.popped.unit() as u64, 0, "unit");
 }
 
-// Worked by hand: the first event is popped under ticket 0, and then neither is poppable, but both
-// share a variable with it and so are marked.
-fn leaves_one_ticket(rt: &impl Abort, alloc: Global, instance: &Instance) {
-    are_two(rt, instance);
-    let closed = close_after_turns(rt, alloc, instance);
-    is_after_one_pop(rt, &closed);
+// Compares what is logged of one pop of the first event.
+fn is_ticketed(rt: &impl Abort, closed: &Closed) {
     let Some(log) = &closed.log else {
         panic!(rt; "no log");
     };
     is_first_ticket(rt, log);
 }
 
+// Worked by hand: the first event is popped under ticket 0, and then neither is poppable, but both
+// share a variable with it and so are marked.
+fn leaves_one_ticket(rt: &impl Abort, alloc: Global, instance: &Instance) {
+    are_two(rt, instance);
+    let closed = close_after_turns(rt, alloc, instance);
+    is_after_one_pop(rt, &closed);
+    is_ticketed(rt, &closed);
+    drop(closed);
+}
+
 #[test]
-fn one_pop_leaves_its_ticket_and_the_marks_it_owed(rt: HostRuntime) -> Result<(), Fail> {
+fn one_pop_leaves_its_ticket_and_the_marks_it_owed(rt: HostRuntime) {
     let alloc = rt.alloc();
-    let instance = listed(alloc, &ROWS, &EVENTS)?;
+    let instance = made(&rt, listed(alloc, &ROWS, &EVENTS));
     leaves_one_ticket(&rt, alloc, &instance);
-    Ok(())
+    drop(instance);
 }

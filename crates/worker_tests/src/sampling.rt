@@ -1,10 +1,11 @@
 //! Runs by workers, which end as the run on one thread does.
 ghost use Rattle.std.specs.Prelude.{◌≡◌, ◌<◌, ◌≤◌, ℕ, length};
 ghost use Rattle.pop_model.specs.Stacks.{variables_of, height_of, IsKeyed};
+ghost use Rattle.pop_model.specs.Popping.{AreWithin};
 
 use crate::comparing::{cursors_alike, same};
 use confluence_core::{End, Keep, run_first};
-use pop_instance::{Family, Instance};
+use pop_instance::{Cursors, Family, Instance};
 use pop_stacks::{StackSpec, Stacks, Weights};
 use pop_workers::{Gate, NoGate, Outcome, sample_claimed, sample_locked, zeros_of};
 use std::alloc::Global;
@@ -31,7 +32,30 @@ fn under_key(rt: &impl Abort, count: u32, key: u8, height: u32, family: Family) 
     Instance::new(stacks, family).expect(rt, "an instance")
 }
 
-// The run of so many workers, on claim words or else under a lock.
+// The run of so many workers from these cursors, on claim words or else under a lock.
+fn sample_from<R: Threads + Wait + Abort + Sync, G: Gate + Sync>(
+    rt: &R,
+    alloc: Global,
+    instance: &Instance,
+    from: &Cursors,
+    claimed: bool,
+    workers: u32,
+    gate: &G,
+) -> Outcome
+    requires count { variables_of instance.now.stacks ≡ length from.now }
+    requires within { AreWithin instance.now.stacks from.now }
+    requires workers { (0 < workers) × (workers ≤ 64) }
+    ensures { variables_of instance.now.stacks ≡ length result.end.cursors }
+{
+    if claimed {
+        let run = sample_claimed(rt, alloc, instance, from, workers, Keep::Log, gate);
+        return run.expect(rt, "memory");
+    }
+    let run = sample_locked(rt, alloc, instance, from, workers, Keep::Log, gate);
+    run.expect(rt, "memory")
+}
+
+// The same from zeros.
 fn sample<R: Threads + Wait + Abort + Sync, G: Gate + Sync>(
     rt: &R,
     alloc: Global,
@@ -44,12 +68,9 @@ fn sample<R: Threads + Wait + Abort + Sync, G: Gate + Sync>(
     ensures { variables_of instance.now.stacks ≡ length result.end.cursors }
 {
     let from = zeros_of(alloc, instance).expect(rt, "memory");
-    if claimed {
-        let run = sample_claimed(rt, alloc, instance, &from, workers, Keep::Log, gate);
-        return run.expect(rt, "memory");
-    }
-    let run = sample_locked(rt, alloc, instance, &from, workers, Keep::Log, gate);
-    run.expect(rt, "memory")
+    let run = sample_from(rt, alloc, instance, &from, claimed, workers, gate);
+    drop(from);
+    run
 }
 
 // Compares how long the log of a run is with its pops.
@@ -85,6 +106,7 @@ fn run_alike<R: Threads + Wait + Abort + Sync>(
 {
     let outcome = sample(rt, alloc, instance, claimed, workers, &NoGate);
     is_alike(rt, &outcome, first, instance.stacks().count());
+    drop(outcome);
 }
 
 // Compares the ends of so many workers on both boards.
@@ -128,7 +150,9 @@ fn ends_alike<R: Threads + Wait + Abort + Sync>(
 ) -> (u64, u64) {
     let first = run_first(alloc, instance).expect(rt, "memory");
     all_alike(rt, alloc, instance, &first);
-    (first.pops, first.stuck.len())
+    let found = (first.pops, first.stuck.len());
+    drop(first);
+    found
 }
 
 // The greater of both numbers of two pairs.

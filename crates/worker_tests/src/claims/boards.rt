@@ -1,5 +1,5 @@
 //! Boards that threads work on together, to the end of the one-thread run.
-ghost use Rattle.std.specs.Prelude.{◌≡◌, ◌+◌, ◌<◌, length, All, IfSome};
+ghost use Rattle.std.specs.Prelude.{◌≡◌, ◌+◌, ◌<◌, length, All};
 ghost use Rattle.pop_model.specs.Stacks.{variables_of};
 ghost use Rattle.claim_words.specs.Passes.{IsOf, IsIdle, IsHelper, IsSole, view, instance_of};
 
@@ -12,7 +12,6 @@ use confluence_core::{End, Keep, run_first};
 use pop_instance::Instance;
 use std::alloc::Global;
 use std::process::Abort;
-use std::test::Fail;
 use std::thread;
 use std::thread::Threads;
 
@@ -23,6 +22,17 @@ const THREADS: u32 = 2;
 
 // The most turns of a thread at one board.
 const TURNS: u32 = 10000;
+
+// A pass of share 1, by which another thread works.
+fn helper(board: &Board, pass: &mut Pass) -> Pass
+    requires pass { IsOf board.now pass.old × IsIdle pass.old }
+    requires share { 1 < (view pass.old).share }
+    ensures pass { IsOf board.now pass.new × IsIdle pass.new }
+    ensures helper { IsHelper board.now result }
+    ensures share { (view pass.new).share + 1 ≡ (view pass.old).share }
+{
+    board.split(pass, 1)
+}
 
 // So many passes of share 1.
 fn hand_out(
@@ -40,31 +50,34 @@ fn hand_out(
 {
     let mut passes = Vec::with_capacity(alloc, others as usize).expect(rt, "memory");
     for _ in 0..others {
-        passes.push_reserved(board.split(pass, 1));
+        passes.push_reserved(helper(board, pass));
     }
     passes
 }
 
-// The work of one thread: its pass again, or none where memory was wanting.
-fn worked(alloc: Global, board: &Board, mut pass: Pass, instance: &Instance) -> Option<Pass>
+// The work of one thread: its pass again.
+fn worked(
+    rt: &impl Abort,
+    alloc: Global,
+    board: &Board,
+    mut pass: Pass,
+    instance: &Instance,
+) -> Pass
     requires pass { IsHelper board.now pass }
     requires instance { instance_of board.now ≡ instance.now }
-    ensures { IfSome result (IsHelper board.now) }
+    ensures { IsHelper board.now result }
 {
-    match work(alloc, board, &mut pass, instance, TURNS) {
-        Ok(_) => Some(pass),
-        Err(_) => None,
-    }
+    work(rt, alloc, board, &mut pass, instance, TURNS);
+    pass
 }
 
 // Takes the passes in again.
-fn take_back(rt: &impl Abort, board: &Board, pass: &mut Pass, passes: Vec<Option<Pass>>)
+fn take_back(rt: &impl Abort, board: &Board, pass: &mut Pass, passes: Vec<Pass>)
     requires pass { IsOf board.now pass.old × IsIdle pass.old }
-    requires passes { All (λ p. IfSome p (IsHelper board.now)) passes.items }
+    requires passes { All (IsHelper board.now) passes.items }
     ensures pass { IsOf board.now pass.new × IsIdle pass.new }
 {
     for other in passes {
-        let other = other.expect(rt, "memory");
         if board.rejoin(pass, other).is_err() {
             panic!(rt; "out of memory");
         }
@@ -88,7 +101,7 @@ fn work_together<R: Threads + Abort + Sync>(
     let back = thread::map_vec(
         rt,
         passes,
-        &|pass: Pass| worked(alloc, board, pass, instance),
+        &|pass: Pass| worked(rt, alloc, board, pass, instance),
     );
     take_back(rt, board, pass, back.expect(rt, "threads"));
 }
@@ -101,7 +114,7 @@ fn work_to_end(rt: &impl Abort, alloc: Global, board: &Board, pass: &mut Pass, i
     ensures idle { IsIdle pass.new }
     ensures sole { IsSole pass.new }
 {
-    let at_end = work(alloc, board, pass, instance, TURNS).expect(rt, "memory");
+    let at_end = work(rt, alloc, board, pass, instance, TURNS);
     assert!(rt; at_end);
     same(rt, pass.share() as u64, 64, "shares");
 }
@@ -132,22 +145,20 @@ fn ends_as<R: Threads + Abort + Sync>(rt: &R, alloc: Global, instance: &Instance
     let closed = close_together(rt, alloc, instance);
     pops_alike(rt, &closed, end.pops);
     cursors_alike(rt, &closed.cursors, &end.cursors, instance.stacks().count());
+    drop(closed);
 }
 
 // Compares what a board left with the one-thread run: the pops that the threads made.
 fn ends_alike<R: Threads + Abort + Sync>(rt: &R, alloc: Global, instance: &Instance) -> u64 {
     let end = run_first(alloc, instance).expect(rt, "memory");
     ends_as(rt, alloc, instance, &end);
-    end.pops
+    let pops = end.pops;
+    drop(end);
+    pops
 }
 
 // The next random instance: a chain for each even board, else a tree.
-fn instance_for(
-    rt: &impl Abort,
-    alloc: Global,
-    board: u32,
-    state: &mut u64,
-) -> Result<Instance, Fail> {
+fn instance_for(rt: &impl Abort, alloc: Global, board: u32, state: &mut u64) -> Instance {
     if board % 2 == 0 {
         return chain(rt, alloc, state);
     }
@@ -160,20 +171,21 @@ fn board_ends_alike<R: Threads + Abort + Sync>(
     alloc: Global,
     board: u32,
     state: &mut u64,
-) -> Result<u64, Fail> {
-    let instance = instance_for(rt, alloc, board, state)?;
-    Ok(ends_alike(rt, alloc, &instance))
+) -> u64 {
+    let instance = instance_for(rt, alloc, board, state);
+    let pops = ends_alike(rt, alloc, &instance);
+    drop(instance);
+    pops
 }
 
 #[test]
-fn threads_end_alike_on_boards_of_both_families(rt: HostRuntime) -> Result<(), Fail> {
+fn threads_end_alike_on_boards_of_both_families(rt: HostRuntime) {
     let alloc = rt.alloc();
     let mut state = 2026;
     let mut pops: u64 = 0;
     for board in 0..BOARDS {
-        let more = board_ends_alike(&rt, alloc, board, &mut state)?;
+        let more = board_ends_alike(&rt, alloc, board, &mut state);
         pops = more.checked_add(pops).expect(&rt, "few pops");
     }
     assert!(&rt; pops > 100, "{pops} pops");
-    Ok(())
 }

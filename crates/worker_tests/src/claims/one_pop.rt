@@ -1,5 +1,5 @@
 //! One pop on a board of claim words, step by step, up to the merged log.
-ghost use Rattle.std.specs.Prelude.{◌≡◌, ◌≤◌, ◌<◌, ◌+◌, ◌++◌, ◌∷◌, [], length, IfOk, IfSome, OnOk};
+ghost use Rattle.std.specs.Prelude.{◌≡◌, ◌≤◌, ◌<◌, ◌+◌, ◌++◌, ◌∷◌, [], length, IfSome};
 ghost use Rattle.pop_model.specs.Stacks.{variables_of};
 ghost use Rattle.pop_model.specs.Popping.{variables, AreWithin};
 ghost use Rattle.pop_model.specs.Tickets.{AreNumbered};
@@ -13,15 +13,15 @@ ghost use Rattle.claim_words.specs.Steps.{fresh};
 
 use super::{are_two, are_two_events, is_after_one_pop, is_first_ticket};
 use crate::comparing::same;
+use crate::made::made;
 use crate::passes::{close, mark_all, release_below, started};
 use claim_words::{Board, Claim, Closed, Pass};
-use confluence_core::{Keep, Log, first_poppable};
+use confluence_core::{Keep, Log, Tickets, first_poppable};
 use pop_instance::{Cube, Cursors, Instance};
 use pop_log::merge;
 use pop_stacks::Reader;
-use std::alloc::{AllocError, Global};
+use std::alloc::Global;
 use std::process::Abort;
-use std::test::Fail;
 use test_instances::{EventRow, listed};
 
 // Two variables with the entries 0 and 1.
@@ -86,26 +86,21 @@ fn claim_again(rt: &impl Abort, board: &Board, pass: &mut Pass, v: u32) -> u64
 }
 
 // Two cursors.
-fn cursors_of(alloc: Global, first: u32, second: u32) -> Result<Cursors, AllocError>
-    ensures { IfOk result (λ cursors. cursors ≡ first ∷ second ∷ []) }
+fn cursors_of(rt: &impl Abort, alloc: Global, first: u32, second: u32) -> Cursors
+    ensures { result ≡ first ∷ second ∷ [] }
 {
-    Ok(Cursors::of(vec![in alloc; first, second]?))
+    Cursors::of(vec![in alloc; first, second].expect(rt, "memory"))
 }
 
 // Claims both variables, the first of them twice: their cursors. Bit 63 is 9223372036854775808.
-fn claim_both(
-    rt: &impl Abort,
-    alloc: Global,
-    board: &Board,
-    pass: &mut Pass,
-) -> Result<Cursors, AllocError>
+fn claim_both(rt: &impl Abort, alloc: Global, board: &Board, pass: &mut Pass) -> Cursors
     requires pass { IsOf board.now pass.old }
     requires free { (view pass.old).held ≡ [] }
     requires count { count_of board.now ≡ 2 }
     requires room { 2 ≤ spare pass.old }
     ensures pass { IsOf board.now pass.new }
     ensures same { SameMarks pass.old pass.new }
-    ensures held { IfOk result (HoldsAll board.now pass.new) }
+    ensures held { HoldsAll board.now pass.new result }
     ensures log_room { log_spare pass.new ≡ log_spare pass.old }
 {
     let first = claim_free(rt, board, pass, 0);
@@ -114,7 +109,7 @@ fn claim_both(
     same(rt, first as u64, 0, "variable 0");
     same(rt, word, 9223372036854775808, "word of variable 0");
     same(rt, second as u64, 0, "variable 1");
-    cursors_of(alloc, first, second)
+    cursors_of(rt, alloc, first, second)
 }
 
 // The poppable event of least unit.
@@ -123,14 +118,15 @@ fn first_event(
     alloc: Global,
     instance: &Instance,
     cursors: &Cursors,
-) -> Result<(u32, Cube), Fail>
+) -> (u32, Cube)
     requires count { variables_of instance.now.stacks ≡ length cursors.now }
     requires within { AreWithin instance.now.stacks cursors.now }
-    ensures { IfOk result (λ e. IsFirstPoppable instance.now cursors.now (event_of e)) }
+    ensures { IsFirstPoppable instance.now cursors.now (event_of result) }
 {
     let mut reader = Reader::new(instance.stacks());
-    let found = first_poppable(alloc, instance, &mut reader, cursors)?;
-    Ok(found.expect(rt, "a poppable event"))
+    let found = first_poppable(alloc, instance, &mut reader, cursors).expect(rt, "memory");
+    drop(reader);
+    found.expect(rt, "a poppable event")
 }
 
 // Tests that an event is the first one, of two variables.
@@ -150,7 +146,7 @@ fn pop_first(
     pass: &mut Pass,
     instance: &Instance,
     cursors: &Cursors,
-) -> Result<(), Fail>
+)
     requires pass { IsOf board.now pass.old }
     requires instance { instance_of board.now ≡ instance.now }
     requires held { HoldsAll board.now pass.old cursors.now }
@@ -159,16 +155,16 @@ fn pop_first(
     requires room { HasRoom pass.old.log 2 }
     ensures pass { IsOf board.now pass.new }
     ensures held { variables (view pass.new).held ≡ variables (view pass.old).held }
-    ensures taken { IfOk result (λ _. (view pass.new).taken ≡ []) }
-    ensures owed { IfOk result (λ _. Each (λ u. u < marks_of board.now) (view pass.new).owed) }
+    ensures taken { (view pass.new).taken ≡ [] }
+    ensures owed { Each (λ u. u < marks_of board.now) (view pass.new).owed }
     ensures share { (view pass.new).share ≡ (view pass.old).share }
 {
     let _units = instance.units();
-    let (unit, cube) = first_event(rt, alloc, instance, cursors)?;
+    let (unit, cube) = first_event(rt, alloc, instance, cursors);
     is_first(rt, unit, &cube);
     let ticket = board.pop(pass, unit, &cube);
+    drop(cube);
     same(rt, ticket, 0, "ticket");
-    Ok(())
 }
 
 // Marks both units, and lets go of both variables.
@@ -187,41 +183,35 @@ fn let_go(board: &Board, pass: &mut Pass)
 }
 
 // Pops the first event on a fresh board, and lets go of all.
-fn pop_on(
-    rt: &impl Abort,
-    alloc: Global,
-    board: &Board,
-    pass: &mut Pass,
-    instance: &Instance,
-) -> Result<(), Fail>
+fn pop_on(rt: &impl Abort, alloc: Global, board: &Board, pass: &mut Pass, instance: &Instance)
     requires pass { IsOf board.now pass.old }
     requires fresh { view pass.old ≡ fresh (opening_of board.now) }
     requires instance { instance_of board.now ≡ instance.now }
     requires count { variables_of instance.now.stacks ≡ 2 }
     requires marks { marks_in instance.now.family ≡ 2 }
     ensures pass { IsOf board.now pass.new }
-    ensures idle { OnOk result (IsIdle pass.new) }
-    ensures share { OnOk result (IsSole pass.new) }
+    ensures idle { IsIdle pass.new }
+    ensures share { IsSole pass.new }
 {
     same(rt, pass.share() as u64, 64, "shares");
-    board.reserve(pass, 3)?;
+    board.reserve(pass, 3).expect(rt, "memory");
     take_once(rt, board, pass, 0);
-    let cursors = claim_both(rt, alloc, board, pass)?;
-    pop_first(rt, alloc, board, pass, instance, &cursors)?;
+    let cursors = claim_both(rt, alloc, board, pass);
+    pop_first(rt, alloc, board, pass, instance, &cursors);
+    drop(cursors);
     let_go(board, pass);
-    Ok(())
 }
 
 // What a board leaves on which the first event is popped.
-fn close_after_pop(rt: &impl Abort, alloc: Global, instance: &Instance) -> Result<Closed, Fail>
+fn close_after_pop(rt: &impl Abort, alloc: Global, instance: &Instance) -> Closed
     requires count { variables_of instance.now.stacks ≡ 2 }
     requires marks { marks_in instance.now.family ≡ 2 }
-    ensures count { IfOk result (λ closed. length closed.cursors ≡ 2) }
-    ensures numbered { IfOk result (λ closed. IfSome closed.log AreNumbered) }
+    ensures count { length result.cursors ≡ 2 }
+    ensures numbered { IfSome result.log AreNumbered }
 {
     let (board, mut pass) = started(rt, alloc, instance, Keep::Log);
-    pop_on(rt, alloc, &board, &mut pass, instance)?;
-    Ok(close(rt, board, pass))
+    pop_on(rt, alloc, &board, &mut pass, instance);
+    close(rt, board, pass)
 }
 
 // Tests that there is one record, of the first event.
@@ -230,23 +220,31 @@ fn is_one_record(rt: &impl Abort, log: &Log) {
     same(rt, log.at(0).unit() as u64, 0, "unit");
 }
 
+// Compares the tickets of one pop, and the log that they make.
+fn make_one_record(rt: &impl Abort, alloc: Global, tickets: Tickets)
+    requires { AreNumbered tickets }
+{
+    is_first_ticket(rt, &tickets);
+    let log = merge(alloc, tickets).expect(rt, "memory");
+    is_one_record(rt, &log);
+    drop(log);
+}
+
 // Compares what is left of a board of two events, up to its merged log.
-fn leaves_one_record(rt: &impl Abort, alloc: Global, instance: &Instance) -> Result<(), Fail> {
+fn leaves_one_record(rt: &impl Abort, alloc: Global, instance: &Instance) {
     are_two(rt, instance);
     are_two_events(rt, instance);
-    let closed = close_after_pop(rt, alloc, instance)?;
+    let closed = close_after_pop(rt, alloc, instance);
     is_after_one_pop(rt, &closed);
     let tickets = closed.log.expect(rt, "a log");
-    is_first_ticket(rt, &tickets);
-    let log = merge(alloc, tickets)?;
-    is_one_record(rt, &log);
-    Ok(())
+    make_one_record(rt, alloc, tickets);
 }
 
 // Worked by hand.
 #[test]
-fn one_pop_leaves_a_log_of_one_record(rt: HostRuntime) -> Result<(), Fail> {
+fn one_pop_leaves_a_log_of_one_record(rt: HostRuntime) {
     let alloc = rt.alloc();
-    let instance = listed(alloc, &ROWS, &EVENTS)?;
-    leaves_one_record(&rt, alloc, &instance)
+    let instance = made(&rt, listed(alloc, &ROWS, &EVENTS));
+    leaves_one_record(&rt, alloc, &instance);
+    drop(instance);
 }

@@ -1,6 +1,6 @@
 //! What one thread does with its pass: it claims all variables, pops the first event that is
 //! poppable there, marks what it owes, and lets go.
-ghost use Rattle.std.specs.Prelude.{◌≡◌, ◌≤◌, ◌<◌, ◌+◌, ◌++◌, ◌∷◌, [], length, IfOk, IfSome, OnOk, MatchOption};
+ghost use Rattle.std.specs.Prelude.{◌≡◌, ◌≤◌, ◌<◌, ◌+◌, ◌++◌, ◌∷◌, [], length, IfSome, MatchOption};
 ghost use Rattle.pop_model.specs.Stacks.{variables_of};
 ghost use Rattle.pop_model.specs.Popping.{variables};
 ghost use Rattle.claim_words.specs.Openings.{height};
@@ -12,7 +12,7 @@ use claim_words::{Board, Claim, Closed, Pass};
 use confluence_core::{Keep, first_poppable};
 use pop_instance::{Cursors, Instance};
 use pop_stacks::Reader;
-use std::alloc::{AllocError, Global};
+use std::alloc::Global;
 use std::process::Abort;
 
 // Claims a variable: its cursor; none where it is refused.
@@ -36,39 +36,40 @@ fn claim_next(board: &Board, pass: &mut Pass, v: u32) -> Option<u32>
 
 // Claims all variables, in order: their cursors. Where one is refused, lets go of those before it.
 fn claim_all(
+    rt: &impl Abort,
     alloc: Global,
     board: &Board,
     pass: &mut Pass,
     count: u32,
-) -> Result<Option<Cursors>, AllocError>
+) -> Option<Cursors>
     requires pass { IsOf board.now pass.old × IsIdle pass.old }
     requires count { count ≡ count_of board.now }
     requires room { count ≤ spare pass.old }
     ensures pass { IsOf board.now pass.new }
     ensures same { SameMarks pass.old pass.new }
-    ensures held { IfOk result (λ found. MatchOption found ((view pass.new).held ≡ [])
-        (HoldsAll board.now pass.new)) }
+    ensures held { MatchOption result ((view pass.new).held ≡ []) (HoldsAll board.now pass.new) }
 {
-    let mut cursors = Vec::with_capacity(alloc, count as usize)?;
+    let mut cursors = Vec::with_capacity(alloc, count as usize).expect(rt, "memory");
     for v in 0..count {
         let Some(cursor) = claim_next(board, pass, v) else {
             release_below(board, pass, v);
-            return Ok(None);
+            return None;
         };
         cursors.push_reserved(cursor);
     }
-    Ok(Some(Cursors::of(cursors)))
+    Some(Cursors::of(cursors))
 }
 
 // Pops the event of least unit that is poppable, where the pass holds all variables at these
 // cursors: its ticket. Then marks what is owed.
 fn pop_first(
+    rt: &impl Abort,
     alloc: Global,
     board: &Board,
     pass: &mut Pass,
     instance: &Instance,
     cursors: &Cursors,
-) -> Result<Option<u64>, AllocError>
+) -> Option<u64>
     requires pass { IsOf board.now pass.old }
     requires instance { instance_of board.now ≡ instance.now }
     requires held { HoldsAll board.now pass.old cursors.now }
@@ -80,58 +81,58 @@ fn pop_first(
 {
     let _units = instance.units();
     let mut reader = Reader::new(instance.stacks());
-    let Some((unit, cube)) = first_poppable(alloc, instance, &mut reader, cursors)? else {
-        return Ok(None);
+    let found = first_poppable(alloc, instance, &mut reader, cursors).expect(rt, "memory");
+    drop(reader);
+    let Some((unit, cube)) = found else {
+        return None;
     };
-    board.reserve(pass, cube.len())?;
+    board.reserve(pass, cube.len()).expect(rt, "memory");
     let ticket = board.pop(pass, unit, &cube);
+    drop(cube);
     mark_all(board, pass, marks_in(instance));
-    Ok(Some(ticket))
+    Some(ticket)
 }
 
 // One turn: whether the board is at an end.
-fn turn(
-    alloc: Global,
-    board: &Board,
-    pass: &mut Pass,
-    instance: &Instance,
-) -> Result<bool, AllocError>
+fn turn(rt: &impl Abort, alloc: Global, board: &Board, pass: &mut Pass, instance: &Instance) -> bool
     requires pass { IsOf board.now pass.old × IsIdle pass.old }
     requires instance { instance_of board.now ≡ instance.now }
     ensures pass { IsOf board.now pass.new }
-    ensures idle { OnOk result (IsIdle pass.new) }
+    ensures idle { IsIdle pass.new }
     ensures share { (view pass.new).share ≡ (view pass.old).share }
 {
     let count = instance.stacks().count();
-    board.reserve(pass, count)?;
-    let Some(cursors) = claim_all(alloc, board, pass, count)? else {
-        return Ok(false);
+    board.reserve(pass, count).expect(rt, "memory");
+    let Some(cursors) = claim_all(rt, alloc, board, pass, count) else {
+        return false;
     };
-    let popped = pop_first(alloc, board, pass, instance, &cursors)?;
+    let popped = pop_first(rt, alloc, board, pass, instance, &cursors);
+    drop(cursors);
     release_below(board, pass, count);
-    Ok(popped.is_none())
+    popped.is_none()
 }
 
 // Works until the board is at an end, or for so many turns: whether it is.
 pub(super) fn work(
+    rt: &impl Abort,
     alloc: Global,
     board: &Board,
     pass: &mut Pass,
     instance: &Instance,
     turns: u32,
-) -> Result<bool, AllocError>
+) -> bool
     requires pass { IsOf board.now pass.old × IsIdle pass.old }
     requires instance { instance_of board.now ≡ instance.now }
     ensures pass { IsOf board.now pass.new }
-    ensures idle { OnOk result (IsIdle pass.new) }
+    ensures idle { IsIdle pass.new }
     ensures share { (view pass.new).share ≡ (view pass.old).share }
 {
     for _ in 0..turns {
-        if turn(alloc, board, pass, instance)? {
-            return Ok(true);
+        if turn(rt, alloc, board, pass, instance) {
+            return true;
         }
     }
-    Ok(false)
+    false
 }
 
 // Lets a pass that is split off work, which has one turn and finds nothing to pop, and takes it in.
@@ -149,7 +150,7 @@ fn other_finds_none(
     ensures pass { IsOf board.now pass.new × IsIdle pass.new }
 {
     let mut other = other;
-    let at_end = work(alloc, board, &mut other, instance, 1).expect(rt, "memory");
+    let at_end = work(rt, alloc, board, &mut other, instance, 1);
     assert!(rt; at_end);
     if board.rejoin(pass, other).is_err() {
         panic!(rt; "out of memory");
@@ -167,7 +168,7 @@ fn take_turns(rt: &impl Abort, alloc: Global, board: &Board, pass: &mut Pass, in
     ensures sole { IsSole pass.new }
 {
     let other = board.split(pass, 1);
-    let at_end = work(alloc, board, pass, instance, 1).expect(rt, "memory");
+    let at_end = work(rt, alloc, board, pass, instance, 1);
     assert!(rt; !at_end);
     other_finds_none(rt, alloc, board, pass, other, instance);
     same(rt, pass.share() as u64, 64, "shares");

@@ -6,6 +6,7 @@ ghost use Rattle.event_finders.specs.UnitConditions.{Indexes};
 
 use super::{Want, is_left};
 use crate::comparing::is_so;
+use crate::made::made;
 use crate::passes::{close, started};
 use claim_words::{Board, Claim, Closed, Pass};
 use confluence_core::Keep;
@@ -14,7 +15,6 @@ use pop_instance::{Family, Index, Instance};
 use pop_stacks::Reader;
 use std::alloc::Global;
 use std::process::Abort;
-use std::test::Fail;
 use test_instances::{EventRow, listed};
 
 // Two variables with the entries 0, 1 each. Unit 0 demands 0 of both, unit 1 demands 1 and 0.
@@ -59,6 +59,8 @@ fn try_each(
         let tried = try_unit(board, pass, instance, &index, &mut reader, *unit);
         is_so(rt, tried == *wanted, "unit", *unit);
     }
+    drop(reader);
+    drop(index);
 }
 
 // What a board leaves after one pass tried these units.
@@ -85,6 +87,7 @@ fn leaves(
 ) {
     let closed = close_after(rt, alloc, instance, table);
     is_left(rt, &closed, instance.stacks().count(), want);
+    drop(closed);
 }
 
 // Worked by hand. After the pop both variables are at their last entry, whose value is 1.
@@ -101,10 +104,10 @@ static TWO_LEFT: Want = Want {
 };
 
 #[test]
-fn a_cleared_unit_has_no_mark(rt: HostRuntime) -> Result<(), Fail> {
-    let instance = listed(rt.alloc(), &TWO_ROWS, &TWO_EVENTS)?;
+fn a_cleared_unit_has_no_mark(rt: HostRuntime) {
+    let instance = made(&rt, listed(rt.alloc(), &TWO_ROWS, &TWO_EVENTS));
     leaves(&rt, rt.alloc(), &instance, &TWO_TRIES, &TWO_LEFT);
-    Ok(())
+    drop(instance);
 }
 
 // Worked by hand: the second entry of the only variable is its last, and has the event's value.
@@ -120,10 +123,10 @@ static ONE_LEFT: Want = Want {
 };
 
 #[test]
-fn a_stuck_unit_has_no_mark(rt: HostRuntime) -> Result<(), Fail> {
-    let instance = listed(rt.alloc(), &ONE_ROW, &ONE_EVENT)?;
+fn a_stuck_unit_has_no_mark(rt: HostRuntime) {
+    let instance = made(&rt, listed(rt.alloc(), &ONE_ROW, &ONE_EVENT));
     leaves(&rt, rt.alloc(), &instance, &ONE_TRIES, &ONE_LEFT);
-    Ok(())
+    drop(instance);
 }
 
 // The same and an event that demands 0 of the last variable alone.
@@ -173,11 +176,14 @@ fn try_apart(rt: &impl Abort, alloc: Global, instance: &Instance) {
     let mut other = board.split(&mut pass, 1);
     board.reserve(&mut other, 1).expect(rt, "memory");
     try_beside(rt, alloc, &board, &mut pass, &mut other, instance);
+    drop(other);
+    drop(pass);
+    drop(board);
 }
 
 #[test]
-fn a_unit_that_was_refused_is_marked_again(rt: HostRuntime) -> Result<(), Fail> {
-    let instance = listed(rt.alloc(), &TWO_ROWS, &THREE_EVENTS)?;
+fn a_unit_that_was_refused_is_marked_again(rt: HostRuntime) {
+    let instance = made(&rt, listed(rt.alloc(), &TWO_ROWS, &THREE_EVENTS));
     try_apart(&rt, rt.alloc(), &instance);
-    Ok(())
+    drop(instance);
 }

@@ -1,5 +1,5 @@
 //! Walks on boards of two variables with two slots each.
-ghost use Rattle.std.specs.Prelude.{◌≡◌, ◌<◌, false, length, IfOk};
+ghost use Rattle.std.specs.Prelude.{◌≡◌, ◌<◌, false, length};
 ghost use Rattle.pop_model.specs.Stacks.{variables_of};
 ghost use Rattle.claim_words.specs.Openings.{is_listed};
 ghost use Rattle.claim_words.specs.Passes.{IsOf, IsIdle, view, instance_of, count_of};
@@ -7,6 +7,7 @@ ghost use Rattle.event_finders.specs.Trails.{resting};
 
 use super::{Want, is_left};
 use crate::comparing::{is_so, same};
+use crate::made::made;
 use crate::passes::{close, started};
 use claim_words::{Board, Closed, Pass};
 use confluence_core::Keep;
@@ -15,21 +16,15 @@ use pop_instance::{Family, Instance};
 use pop_stacks::Reader;
 use std::alloc::Global;
 use std::process::Abort;
-use std::test::Fail;
 use test_instances::{arrows, stacks};
 
 // The instance of these rows and heads, whose events are the cycles.
-fn cycles(
-    rt: &impl Abort,
-    alloc: Global,
-    rows: &[&[u32]],
-    table: &[[Option<u32>; 2]],
-) -> Result<Instance, Fail>
-    ensures { IfOk result (λ instance. is_listed instance.family ≡ false) }
+fn cycles(rt: &impl Abort, alloc: Global, rows: &[&[u32]], table: &[[Option<u32>; 2]]) -> Instance
+    ensures { is_listed result.family ≡ false }
 {
-    let arrows = arrows(alloc, table)?;
-    let stacks = stacks(alloc, rows)?;
-    Ok(Instance::new(stacks, Family::Cycles(arrows)).expect(rt, "an instance"))
+    let arrows = made(rt, arrows(alloc, table));
+    let stacks = made(rt, stacks(alloc, rows));
+    Instance::new(stacks, Family::Cycles(arrows)).expect(rt, "an instance")
 }
 
 // A walk that is to be made: its start, after how many pops it ends, if it isn't `try_walk`, and
@@ -105,6 +100,7 @@ fn closed_after(rt: &impl Abort, alloc: Global, instance: &Instance, turns: &[Tu
     let mut walker = Walker::new(alloc, instance.stacks().count()).expect(rt, "memory");
     let (board, mut pass) = started(rt, alloc, instance, Keep::Log);
     walk_in_turn(rt, &board, &mut pass, instance, &mut walker, turns);
+    drop(walker);
     close_whole(rt, board, pass)
 }
 
@@ -114,6 +110,7 @@ fn leaves(rt: &impl Abort, alloc: Global, instance: &Instance, turns: &[Turn], w
 {
     let closed = closed_after(rt, alloc, instance, turns);
     is_left(rt, &closed, instance.stacks().count(), want);
+    drop(closed);
 }
 
 // The edges 1-2, 2-3 and 1-3 with the root 1: variable 0 is vertex 2, and variable 1 vertex 3. They
@@ -135,10 +132,10 @@ static TRIANGLE_LEFT: Want = Want {
 };
 
 #[test]
-fn a_cycle_is_popped_and_then_its_path_is_settled(rt: HostRuntime) -> Result<(), Fail> {
-    let instance = cycles(&rt, rt.alloc(), &TRIANGLE_ROWS, &TRIANGLE_HEADS)?;
+fn a_cycle_is_popped_and_then_its_path_is_settled(rt: HostRuntime) {
+    let instance = cycles(&rt, rt.alloc(), &TRIANGLE_ROWS, &TRIANGLE_HEADS);
     leaves(&rt, rt.alloc(), &instance, &TRIANGLE_TURNS, &TRIANGLE_LEFT);
-    Ok(())
+    drop(instance);
 }
 
 // Worked by hand: variable 0 leads to 1, which leads to itself three times and then to the root. So
@@ -159,10 +156,10 @@ static LOOP_LEFT: Want = Want {
 };
 
 #[test]
-fn a_walk_goes_on_where_a_cycle_closed(rt: HostRuntime) -> Result<(), Fail> {
-    let instance = cycles(&rt, rt.alloc(), &LOOP_ROWS, &LOOP_HEADS)?;
+fn a_walk_goes_on_where_a_cycle_closed(rt: HostRuntime) {
+    let instance = cycles(&rt, rt.alloc(), &LOOP_ROWS, &LOOP_HEADS);
     leaves(&rt, rt.alloc(), &instance, &LOOP_TURNS, &LOOP_LEFT);
-    Ok(())
+    drop(instance);
 }
 
 // A pass that holds a variable.
@@ -199,11 +196,15 @@ fn meet_claim(rt: &impl Abort, alloc: Global, instance: &Instance)
     walk_in_turn(rt, &board, &mut pass, instance, &mut walker, &BUSY_TURNS);
     same(rt, pass.share() as u64, 63, "shares");
     same(rt, other.share() as u64, 1, "shares of the other");
+    drop(other);
+    drop(pass);
+    drop(board);
+    drop(walker);
 }
 
 #[test]
-fn a_walk_that_meets_a_claim_holds_nothing(rt: HostRuntime) -> Result<(), Fail> {
-    let instance = cycles(&rt, rt.alloc(), &TRIANGLE_ROWS, &TRIANGLE_HEADS)?;
+fn a_walk_that_meets_a_claim_holds_nothing(rt: HostRuntime) {
+    let instance = cycles(&rt, rt.alloc(), &TRIANGLE_ROWS, &TRIANGLE_HEADS);
     meet_claim(&rt, rt.alloc(), &instance);
-    Ok(())
+    drop(instance);
 }

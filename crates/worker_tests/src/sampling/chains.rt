@@ -1,37 +1,40 @@
 //! Chains of events: each shares a variable with the next, and excludes it there.
-ghost use Rattle.std.specs.Prelude.{◌≡◌, ℕ, IfOk};
+ghost use Rattle.std.specs.Prelude.{◌≡◌, ℕ};
 ghost use Rattle.pop_model.specs.Stacks.{height_of, IsKeyed};
 
 use super::{ends_alike, greater, under_key};
+use crate::made::made;
 use pop_instance::{Cube, Family, Instance};
 use std::alloc::Global;
 use std::process::Abort;
 use std::sync::Wait;
-use std::test::Fail;
 use std::thread::Threads;
 use test_instances::{cube, family};
 
 // The event that variables 2i and 2i + 1 have the value 0 and variable 2i + 2 has the value 1.
-fn link(rt: &impl Abort, alloc: Global, i: u32) -> Result<Cube, Fail> {
+fn link(rt: &impl Abort, alloc: Global, i: u32) -> Cube {
     assert!(rt; i < 1000);
-    cube(alloc, &[(2 * i, 0), (2 * i + 1, 0), (2 * i + 2, 1)])
+    made(
+        rt,
+        cube(alloc, &[(2 * i, 0), (2 * i + 1, 0), (2 * i + 2, 1)]),
+    )
 }
 
 // So many such events, under their numbers.
-fn links_of(rt: &impl Abort, alloc: Global, links: u32) -> Result<Vec<(u32, Cube)>, Fail> {
+fn links_of(rt: &impl Abort, alloc: Global, links: u32) -> Vec<(u32, Cube)> {
     let mut rows = Vec::new(alloc);
     for i in 0..links {
-        let link = link(rt, alloc, i)?;
-        rows.push((i + 1, link))?;
+        let link = link(rt, alloc, i);
+        rows.push((i + 1, link)).expect(rt, "memory");
     }
-    Ok(rows)
+    rows
 }
 
 // The chain of so many links.
-fn chain(rt: &impl Abort, alloc: Global, links: u32) -> Result<Family, Fail> {
+fn chain(rt: &impl Abort, alloc: Global, links: u32) -> Family {
     assert!(rt; links < 1000);
-    let rows = links_of(rt, alloc, links)?;
-    family(alloc, rows)
+    let rows = links_of(rt, alloc, links);
+    made(rt, family(alloc, rows))
 }
 
 // Such a chain over stacks of this height under a key of 32 such bytes.
@@ -41,13 +44,13 @@ pub(super) fn chain_under_key(
     links: u32,
     key: u8,
     height: u32,
-) -> Result<Instance, Fail>
-    ensures keyed { IfOk result (λ i. IsKeyed i.stacks.origin) }
-    ensures height { IfOk result (λ i. (v : ℕ) → height_of i.stacks v ≡ height) }
+) -> Instance
+    ensures keyed { IsKeyed result.stacks.origin }
+    ensures height { (v : ℕ) → height_of result.stacks v ≡ height }
 {
     assert!(rt; links < 1000);
-    let chain = chain(rt, alloc, links)?;
-    Ok(under_key(rt, 2 * links + 1, key, height, chain))
+    let chain = chain(rt, alloc, links);
+    under_key(rt, 2 * links + 1, key, height, chain)
 }
 
 // Compares the ends of the runs of one chain.
@@ -57,9 +60,11 @@ fn chain_ends_alike<R: Threads + Wait + Abort + Sync>(
     links: u32,
     key: u8,
     height: u32,
-) -> Result<(u64, u64), Fail> {
-    let instance = chain_under_key(rt, alloc, links, key, height)?;
-    Ok(ends_alike(rt, alloc, &instance))
+) -> (u64, u64) {
+    let instance = chain_under_key(rt, alloc, links, key, height);
+    let answer = ends_alike(rt, alloc, &instance);
+    drop(instance);
+    answer
 }
 
 // Keys and heights.
@@ -71,24 +76,23 @@ fn chains_end_alike<R: Threads + Wait + Abort + Sync>(
     rt: &R,
     alloc: Global,
     links: u32,
-) -> Result<(u64, u64), Fail> {
+) -> (u64, u64) {
     let mut most = (0, 0);
     for (key, height) in STACKS.iter() {
-        most = greater(most, chain_ends_alike(rt, alloc, links, *key, *height)?);
+        most = greater(most, chain_ends_alike(rt, alloc, links, *key, *height));
     }
-    Ok(most)
+    most
 }
 
 static LINKS: [u32; 3] = [1, 7, 40];
 
 #[test]
-fn chains_end_alike_for_each_number_of_workers(rt: HostRuntime) -> Result<(), Fail> {
+fn chains_end_alike_for_each_number_of_workers(rt: HostRuntime) {
     let alloc = rt.alloc();
     let mut most = (0, 0);
     for links in LINKS.iter() {
-        most = greater(most, chains_end_alike(&rt, alloc, *links)?);
+        most = greater(most, chains_end_alike(&rt, alloc, *links));
     }
     assert!(&rt; most.0 > 5);
     assert!(&rt; most.1 > 0);
-    Ok(())
 }

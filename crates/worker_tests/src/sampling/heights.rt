@@ -1,11 +1,12 @@
 //! Heights that grow.
-ghost use Rattle.std.specs.Prelude.{◌≡◌, ◌<◌, ◌≤◌, ℕ, length, IfOk};
+ghost use Rattle.std.specs.Prelude.{◌≡◌, ◌<◌, ◌≤◌, ℕ, length};
 ghost use Rattle.pop_model.specs.Stacks.{variables_of, height_of, IsKeyed};
 
 use super::chains::chain_under_key;
 use super::trees::tree_under_key;
 use super::{is_alike, under_key};
 use crate::comparing::same_at;
+use crate::made::made;
 use confluence_core::{Keep, run_first};
 use pop_instance::{Family, Instance};
 use pop_log::{Replay, replay};
@@ -13,7 +14,6 @@ use pop_workers::{NoGate, Outcome, sample_grown};
 use std::alloc::Global;
 use std::process::Abort;
 use std::sync::Wait;
-use std::test::Fail;
 use std::thread::Threads;
 use test_instances::{cube, family};
 
@@ -46,22 +46,22 @@ fn grown<R: Threads + Wait + Abort + Sync>(
 static VALUES: [u32; 8] = [1, 0, 0, 1, 1, 0, 0, 1];
 
 // For each of these values the event that variable 0 has it, whose number is the value.
-fn each_value(alloc: Global, values: &[u32]) -> Result<Family, Fail> {
+fn each_value(rt: &impl Abort, alloc: Global, values: &[u32]) -> Family {
     let mut rows = Vec::new(alloc);
     for value in values {
-        let cube = cube(alloc, &[(0, *value)])?;
-        rows.push((*value, cube))?;
+        let cube = made(rt, cube(alloc, &[(0, *value)]));
+        rows.push((*value, cube)).expect(rt, "memory");
     }
-    family(alloc, rows)
+    made(rt, family(alloc, rows))
 }
 
 // These events over stacks of this height under the key of zeros.
-fn of_values(rt: &impl Abort, alloc: Global, values: &[u32], height: u32) -> Result<Instance, Fail>
-    ensures keyed { IfOk result (λ i. IsKeyed i.stacks.origin) }
-    ensures height { IfOk result (λ i. (v : ℕ) → height_of i.stacks v ≡ height) }
+fn of_values(rt: &impl Abort, alloc: Global, values: &[u32], height: u32) -> Instance
+    ensures keyed { IsKeyed result.stacks.origin }
+    ensures height { (v : ℕ) → height_of result.stacks v ≡ height }
 {
-    let family = each_value(alloc, values)?;
-    Ok(under_key(rt, 1, 0, height, family))
+    let family = each_value(rt, alloc, values);
+    under_key(rt, 1, 0, height, family)
 }
 
 // The heights at first and at last; the pops, the stuck events, and the height that is left.
@@ -187,52 +187,42 @@ fn grows_as<R: Threads + Wait + Abort + Sync>(
     values: &[u32],
     row: &Row,
     board: (bool, u32),
-) -> Result<Outcome, Fail> {
-    let mut instance = of_values(rt, alloc, values, row.first)?;
-    Ok(leaves(rt, alloc, &mut instance, row, board))
+) -> Outcome {
+    let mut instance = of_values(rt, alloc, values, row.first);
+    let run = leaves(rt, alloc, &mut instance, row, board);
+    drop(instance);
+    run
 }
 
 // The same on each board, for the event of value 1.
-fn one_value_grows<R: Threads + Wait + Abort + Sync>(
-    rt: &R,
-    alloc: Global,
-    row: &Row,
-) -> Result<(), Fail> {
+fn one_value_grows<R: Threads + Wait + Abort + Sync>(rt: &R, alloc: Global, row: &Row) {
     for board in BOARDS.iter() {
-        let _run = grows_as(rt, alloc, &[1], row, *board)?;
+        let _run = grows_as(rt, alloc, &[1], row, *board);
     }
-    Ok(())
 }
 
 #[test]
-fn heights_grow_until_no_event_occurs(rt: HostRuntime) -> Result<(), Fail> {
+fn heights_grow_until_no_event_occurs(rt: HostRuntime) {
     let alloc = rt.alloc();
     for row in ONE_VALUE.iter() {
-        one_value_grows(&rt, alloc, row)?;
+        one_value_grows(&rt, alloc, row);
     }
-    Ok(())
 }
 
 // The same on each board, for the events of both values.
-fn both_values_grow<R: Threads + Wait + Abort + Sync>(
-    rt: &R,
-    alloc: Global,
-    row: &Row,
-) -> Result<(), Fail> {
+fn both_values_grow<R: Threads + Wait + Abort + Sync>(rt: &R, alloc: Global, row: &Row) {
     for board in BOARDS.iter() {
-        let run = grows_as(rt, alloc, &[0, 1], row, *board)?;
+        let run = grows_as(rt, alloc, &[0, 1], row, *board);
         are_values(rt, &run);
     }
-    Ok(())
 }
 
 #[test]
-fn stages_use_the_entries_in_their_order_up_to_the_last(rt: HostRuntime) -> Result<(), Fail> {
+fn stages_use_the_entries_in_their_order_up_to_the_last(rt: HostRuntime) {
     let alloc = rt.alloc();
     for row in BOTH_VALUES.iter() {
-        both_values_grow(&rt, alloc, row)?;
+        both_values_grow(&rt, alloc, row);
     }
-    Ok(())
 }
 
 // Tests that the log of a run is legal for the instance.
@@ -253,7 +243,9 @@ fn ends_as_first(rt: &impl Abort, alloc: Global, tall: &Instance, run: &Outcome,
 {
     let first = run_first(alloc, tall).expect(rt, "memory");
     is_alike(rt, run, &first, count);
-    first.stuck.len()
+    let stuck = first.stuck.len();
+    drop(first);
+    stuck
 }
 
 // Compares what stages left with the one-thread run at the last height, where their log is to be
@@ -290,19 +282,13 @@ struct Growth {
 }
 
 // The instance of such a kind.
-fn of_kind(
-    rt: &impl Abort,
-    alloc: Global,
-    kind: Kind,
-    key: u8,
-    height: u32,
-) -> Result<Instance, Fail>
-    ensures keyed { IfOk result (λ i. IsKeyed i.stacks.origin) }
-    ensures height { IfOk result (λ i. (v : ℕ) → height_of i.stacks v ≡ height) }
+fn of_kind(rt: &impl Abort, alloc: Global, kind: Kind, key: u8, height: u32) -> Instance
+    ensures keyed { IsKeyed result.stacks.origin }
+    ensures height { (v : ℕ) → height_of result.stacks v ≡ height }
 {
     match kind {
         Kind::Chain => chain_under_key(rt, alloc, 20, key, height),
-        Kind::Tree => Ok(tree_under_key(rt, alloc, &mut 2026, 70, key, height)),
+        Kind::Tree => tree_under_key(rt, alloc, &mut 2026, 70, key, height),
     }
 }
 
@@ -321,7 +307,9 @@ fn grows_to<R: Threads + Wait + Abort + Sync>(
     assert!(rt; growth.first <= growth.last);
     assert!(rt; growth.last < 1000);
     let run = grown(rt, alloc, instance, growth.last, board);
-    ends_as(rt, alloc, tall, instance, &run)
+    let stuck = ends_as(rt, alloc, tall, instance, &run);
+    drop(run);
+    stuck
 }
 
 // Grows an instance to the height of a tall one.
@@ -331,9 +319,11 @@ fn grows_beside<R: Threads + Wait + Abort + Sync>(
     tall: &Instance,
     growth: &Growth,
     board: (bool, u32),
-) -> Result<u64, Fail> {
-    let mut instance = of_kind(rt, alloc, growth.kind, growth.key, growth.first)?;
-    Ok(grows_to(rt, alloc, tall, &mut instance, growth, board))
+) -> u64 {
+    let mut instance = of_kind(rt, alloc, growth.kind, growth.key, growth.first);
+    let stuck = grows_to(rt, alloc, tall, &mut instance, growth, board);
+    drop(instance);
+    stuck
 }
 
 // Grows an instance, and compares what is left.
@@ -342,9 +332,11 @@ fn grows<R: Threads + Wait + Abort + Sync>(
     alloc: Global,
     growth: &Growth,
     board: (bool, u32),
-) -> Result<u64, Fail> {
-    let tall = of_kind(rt, alloc, growth.kind, growth.key, growth.last)?;
-    grows_beside(rt, alloc, &tall, growth, board)
+) -> u64 {
+    let tall = of_kind(rt, alloc, growth.kind, growth.key, growth.last);
+    let stuck = grows_beside(rt, alloc, &tall, growth, board);
+    drop(tall);
+    stuck
 }
 
 // Keys, and the heights at first and at last, of chains.
@@ -360,7 +352,7 @@ fn all_grow<R: Threads + Wait + Abort + Sync>(
     kind: Kind,
     table: &[(u8, u32, u32)],
     board: (bool, u32),
-) -> Result<u64, Fail> {
+) -> u64 {
     let mut most = 0;
     for (key, first, last) in table {
         let growth = Growth {
@@ -369,19 +361,18 @@ fn all_grow<R: Threads + Wait + Abort + Sync>(
             first: *first,
             last: *last,
         };
-        most = grows(rt, alloc, &growth, board)?.max(most);
+        most = grows(rt, alloc, &growth, board).max(most);
     }
-    Ok(most)
+    most
 }
 
 #[test]
-fn stages_end_as_the_one_thread_run_at_the_last_height(rt: HostRuntime) -> Result<(), Fail> {
+fn stages_end_as_the_one_thread_run_at_the_last_height(rt: HostRuntime) {
     let alloc = rt.alloc();
     let mut most_stuck = 0;
     for board in BOARDS.iter() {
-        most_stuck = all_grow(&rt, alloc, Kind::Chain, &CHAINS, *board)?.max(most_stuck);
-        most_stuck = all_grow(&rt, alloc, Kind::Tree, &TREES, *board)?.max(most_stuck);
+        most_stuck = all_grow(&rt, alloc, Kind::Chain, &CHAINS, *board).max(most_stuck);
+        most_stuck = all_grow(&rt, alloc, Kind::Tree, &TREES, *board).max(most_stuck);
     }
     assert!(&rt; most_stuck > 0);
-    Ok(())
 }

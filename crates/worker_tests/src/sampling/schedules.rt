@@ -1,6 +1,7 @@
 //! A gate may hold a worker: the log tells which worker popped first.
 use super::sample;
 use crate::comparing::same;
+use crate::made::made;
 use pop_instance::Instance;
 use pop_workers::{Gate, Outcome};
 use std::alloc::Global;
@@ -8,7 +9,6 @@ use std::process::Abort;
 use std::sync::Wait;
 use std::sync::atomic::AtomicBool;
 use std::sync::atomic::Ordering::SeqCst;
-use std::test::Fail;
 use std::thread::Threads;
 use test_instances::{EventRow, listed};
 
@@ -117,6 +117,7 @@ fn pops_last<R: Threads + Wait + Abort + Sync>(
 ) {
     let run = held_run(rt, alloc, instance, claimed, row.held, row.other);
     are_units(rt, &run, row.units);
+    drop(run);
 }
 
 // Holds each of the two workers.
@@ -132,10 +133,10 @@ fn each_pops_last<R: Threads + Wait + Abort + Sync>(
 }
 
 #[test]
-fn the_worker_that_is_held_pops_last(rt: HostRuntime) -> Result<(), Fail> {
+fn the_worker_that_is_held_pops_last(rt: HostRuntime) {
     let alloc = rt.alloc();
-    let instance = listed(alloc, &ROWS, &EVENTS)?;
+    let instance = made(&rt, listed(alloc, &ROWS, &EVENTS));
     each_pops_last(&rt, alloc, &instance, false);
     each_pops_last(&rt, alloc, &instance, true);
-    Ok(())
+    drop(instance);
 }

@@ -36,7 +36,9 @@ fn tree_ends_alike<R: Threads + Wait + Abort + Sync>(
     height: u32,
 ) -> (u64, u64) {
     let instance = tree_under_key(rt, alloc, state, count, key, height);
-    ends_alike(rt, alloc, &instance)
+    let answer = ends_alike(rt, alloc, &instance);
+    drop(instance);
+    answer
 }
 
 // Keys and heights.

@@ -19,9 +19,9 @@ pop-ticket-requires-clause-poppable g c =
     let i : Instance = c.args.instance.now in
     let d : View = view c.args.pass.now in
     let cs : List ℕ = c.args.cursors.now in
-    let unit : ℕ = c.in_ok-unit.unit in
-    let cube : Cube = c.in_ok-unit.cube in
-    let first = c.in_ok-unit.ensures in
+    let unit : ℕ = c.first_event-unit.result.0 in
+    let cube : Cube = c.first_event-unit.result.1 in
+    let first = c.first_event-unit.ensures in
     let all = c.requires.held in
     let count : variables_of i.stacks ≡ length cs =
     sym (all.count ∙ ap (λ (x : Instance). variables_of x.stacks) c.requires.instance) in
@@ -35,13 +35,13 @@ pop-ticket-requires-clause-poppable g c =
 pub returns-clause-held : goal.returns-clause-held
 returns-clause-held g c =
     ap (λ (x : View). variables x.held) c.pop-ticket.ensures.step
-    ∙ variables-raise_all c.in_ok-unit.cube (view c.args.pass.now).held
+    ∙ variables-raise_all c.first_event-unit.result.1 (view c.args.pass.now).held
 
 -- each mark that is owed is one of the board
 pub returns-clause-owed : goal.returns-clause-owed
 returns-clause-owed g c =
     let d : View = view c.args.pass.now in
-    let cube : Cube = c.in_ok-unit.cube in
+    let cube : Cube = c.first_event-unit.result.1 in
     let i : Instance = instance_of c.args.board.now in
     let owed : (view c.pop-ticket.new.pass).owed ≡ sharing i.family cube =
     ap (λ (x : View). x.owed) c.pop-ticket.ensures.step ∙ ap (λ (l : List ℕ). l ++ sharers d.opening cube) c.requires.owed

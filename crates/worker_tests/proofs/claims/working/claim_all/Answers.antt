@@ -11,13 +11,13 @@ use Rattle.claim_words.proofs.HeldWhole.{variables-enumerate}
 use Rattle.worker_tests.proofs.claims.working.claim_all.Goals as goal
 
 pub release_below-requires-clause-held : goal.release_below-requires-clause-held
-release_below-requires-clause-held c =
+release_below-requires-clause-held g c =
     let i = c.loop-v.invariant in
     let same = rw c.in_default.is at c.claim_next.ensures.held in
     ap variables (same ∙ i.held) ∙ variables-enumerate 0 c.loop-v.cursors.items ∙ ap (range_with_len 0) i.len
 
 pub loop-v-preserved : goal.loop-v-preserved
-loop-v-preserved c =
+loop-v-preserved g c =
     let i = c.loop-v.invariant in
     let v : ℕ = c.loop-v.v in
     let x : ℕ = c.in-Some.cursor in

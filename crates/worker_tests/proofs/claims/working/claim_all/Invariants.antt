@@ -6,7 +6,7 @@ use Rattle.worker_tests.proofs.claims.working.claim_all.Given as goal
 
 -- the variables before here are held, at these cursors
 abbrev pub invariant-loop-v : goal.invariant-loop-v
-invariant-loop-v l = record {
+invariant-loop-v g l = record {
   pass : IsOf l.board l.pass;
   same : SameMarks l.initial.pass l.pass;
   room : l.count ≤ spare l.pass + l.v;

@@ -15,11 +15,12 @@ use Rattle.claim_words.proofs.HeldWhole.{ready_all, owed_below}
 use Rattle.worker_tests.proofs.claims.working.pop_first.Goals as goal
 
 pub pop-ticket-requires-clause-poppable : goal.pop-ticket-requires-clause-poppable
-pop-ticket-requires-clause-poppable c =
+pop-ticket-requires-clause-poppable g c =
     let i : Instance = c.args.instance.now in
     let d : View = view c.args.pass.now in
     let cs : List ℕ = c.args.cursors.now in
-    let first = rw c.in-Some.is at c.in_ok-unit.ensures.first in
+    let found = rw c.expect-found.ensures at c.first_poppable.ensures.first in
+    let first = rw c.in-Some.is at found in
     let all = c.requires.held in
     let fits = c.units-units.ensures.instance.fits in
     let count : variables_of i.stacks ≡ length cs =
@@ -33,7 +34,7 @@ pop-ticket-requires-clause-poppable c =
     (subst (λ (x : Instance). CanPop x d c.in-Some.unit c.in-Some.cube) (sym c.requires.instance) can)
 
 pub mark_all-requires-clause-owed : goal.mark_all-requires-clause-owed
-mark_all-requires-clause-owed c =
+mark_all-requires-clause-owed g c =
     let i : Instance = c.args.instance.now in
     let d : View = view c.reserve.new.pass in
     let cube : Cube = c.in-Some.cube in
@@ -46,7 +47,7 @@ mark_all-requires-clause-owed c =
     (subst (Each (λ u. u < marks_in i.family)) (sym owed) (owed_below i.family cube))
 
 pub returns-clause-held : goal.returns-clause-held
-returns-clause-held c =
+returns-clause-held g c =
     let cube : Cube = c.in-Some.cube in
     let d : View = view c.reserve.new.pass in
     ap variables c.mark_all.ensures.held ∙ ap (λ (x : View). variables x.held) c.pop-ticket.ensures.step
