@@ -1,42 +1,98 @@
 //! Answers of `run`, over sources and sinks in memory: devices that fail, watchers of the caller's
 //! own, and a gate that holds a worker. What words and a text are answered is tried on the built
 //! program.
+//!
+//! A test ends where memory is wanting, and what owns more than numbers is dropped by a call: so no
+//! function has a way out on which values are left to be dropped part by part.
 use pop_edge::{MemSink, MemSource};
 use pop_watch::Watch;
 use pop_workers::Gate;
 use std::alloc::Global;
+use std::process::Abort;
 use std::sync::Wait;
-use std::test::Fail;
 use std::thread::Threads;
-use top_call::run;
+use top_call::{Answer, run};
 
 mod alone;
 mod faults;
 mod watchers;
 mod workers;
 
+// Stops the test where this isn't so of these words.
+fn is_so(rt: &impl Abort, holds: bool, what: &str, words: &[&str]) {
+    assert!(rt; holds, "{what}: {words:?}");
+}
+
+// A source that gives so many bytes of an input at a call, of which the call of this number fails;
+// 0 is none.
+fn source_of(rt: &impl Abort, alloc: Global, input: &str, piece: usize, failing: u64) -> MemSource {
+    let bytes = Vec::from_slice(alloc, input.as_bytes()).expect(rt, "memory");
+    let failing = vec![in alloc; failing].expect(rt, "memory");
+    MemSource::new(bytes, piece.max(1), failing)
+}
+
+// A sink with this room that takes so many bytes at a call, of which the call of this number fails;
+// 0 is none.
+fn sink_of(rt: &impl Abort, alloc: Global, room: usize, piece: usize, failing: u64) -> MemSink {
+    let failing = vec![in alloc; failing].expect(rt, "memory");
+    MemSink::new(alloc, room, piece.max(1), failing).expect(rt, "memory")
+}
+
+// The status of a run. Each run of the tests is made here, so that what `run` promises is read by
+// one function.
+fn status_of<R: Threads + Wait + Sync, G: Gate + Sync>(
+    rt: &R,
+    alloc: Global,
+    gate: &G,
+    words: &[String],
+    watchers: Vec<Box<dyn Watch>>,
+    source: &mut MemSource,
+    sink: &mut MemSink,
+) -> u8 {
+    run(rt, alloc, words, watchers, gate, source, sink)
+}
+
+// A status, and what the sink holds.
+fn answer_in(rt: &impl Abort, alloc: Global, status: u8, sink: &MemSink) -> Answer {
+    let text = Vec::from_slice(alloc, sink.bytes()).expect(rt, "memory");
+    Answer { status, text }
+}
+
 // The status and the output of a run, with this gate and these watchers, and a source and a sink
 // that don't fail.
-fn answer<R: Threads + Wait + Sync, G: Gate + Sync>(
+fn answer<R: Threads + Wait + Sync + Abort, G: Gate + Sync>(
     rt: &R,
     alloc: Global,
     gate: &G,
     words: &[String],
     input: &str,
     watchers: Vec<Box<dyn Watch>>,
-) -> Result<(u8, Vec<u8>), Fail> {
-    let bytes = Vec::from_slice(alloc, input.as_bytes())?;
-    let mut source = MemSource::new(bytes, 64, Vec::new(alloc));
-    let mut sink = MemSink::new(alloc, 4096, 4096, Vec::new(alloc))?;
-    let status = run(rt, alloc, words, watchers, gate, &mut source, &mut sink);
-    Ok((status, Vec::from_slice(alloc, sink.bytes())?))
+) -> Answer {
+    let mut source = source_of(rt, alloc, input, 64, 0);
+    let mut sink = sink_of(rt, alloc, 4096, 4096, 0);
+    let status = status_of(rt, alloc, gate, words, watchers, &mut source, &mut sink);
+    drop(source);
+    let answer = answer_in(rt, alloc, status, &sink);
+    drop(sink);
+    answer
+}
+
+// Adds a word.
+fn push_word(rt: &impl Abort, alloc: Global, all: &mut Vec<String>, word: &str) {
+    let word = String::from_str(alloc, word).expect(rt, "memory");
+    all.push(word).expect(rt, "memory");
+}
+
+// Adds words.
+fn push_words(rt: &impl Abort, alloc: Global, all: &mut Vec<String>, words: &[&str]) {
+    for word in words {
+        push_word(rt, alloc, all, word);
+    }
 }
 
 // Words of one's own.
-fn owned(alloc: Global, words: &[&str]) -> Result<Vec<String>, Fail> {
+fn owned(rt: &impl Abort, alloc: Global, words: &[&str]) -> Vec<String> {
     let mut all = Vec::new(alloc);
-    for word in words {
-        all.push(String::from_str(alloc, word)?)?;
-    }
-    Ok(all)
+    push_words(rt, alloc, &mut all, words);
+    all
 }

@@ -1,15 +1,14 @@
 //! Reads and writes that fail, each in turn, and those that move few bytes.
-use super::owned;
-use pop_edge::{MemSink, MemSource, Source};
+use super::{answer_in, owned, sink_of, source_of, status_of};
+use pop_edge::{MemSource, Source};
 use pop_workers::NoGate;
 use std::alloc::Global;
 use std::process::Abort;
 use std::sync::Wait;
-use std::test::Fail;
 use std::thread::Threads;
-use top_call::run;
+use top_call::Answer;
 
-const WORDS: [&str; 3] = ["formula", "--stacks", "0,0,1"];
+static WORDS: [&str; 3] = ["formula", "--stacks", "0,0,1"];
 
 // It has 14 bytes.
 const INPUT: &str = "p cnf 1 1\n1 0\n";
@@ -36,21 +35,35 @@ fn failing(read: u64, write: u64) -> Devices {
 }
 
 // The status of words and an input on these devices, and what the sink holds.
-fn answer_on<R: Threads + Wait + Sync>(
+fn answer_on<R: Threads + Wait + Sync + Abort>(
     rt: &R,
     alloc: Global,
-    words: &[&str],
+    words: &[String],
     input: &str,
     devices: Devices,
-) -> Result<(u8, Vec<u8>), Fail> {
-    let piece = devices.piece.max(1);
-    let words = owned(alloc, words)?;
-    let bytes = Vec::from_slice(alloc, input.as_bytes())?;
-    let mut source = MemSource::new(bytes, piece, vec![in alloc; devices.read]?);
-    let mut sink = MemSink::new(alloc, 64, piece, vec![in alloc; devices.write]?)?;
+) -> Answer {
+    let mut source = source_of(rt, alloc, input, devices.piece, devices.read);
+    let mut sink = sink_of(rt, alloc, 64, devices.piece, devices.write);
     let none = Vec::new(alloc);
-    let status = run(rt, alloc, &words, none, &NoGate, &mut source, &mut sink);
-    Ok((status, Vec::from_slice(alloc, sink.bytes())?))
+    let status = status_of(rt, alloc, &NoGate, words, none, &mut source, &mut sink);
+    drop(source);
+    let answer = answer_in(rt, alloc, status, &sink);
+    drop(sink);
+    answer
+}
+
+// Stops the test where this isn't so of an input on these devices.
+fn is_so_on(rt: &impl Abort, holds: bool, what: &str, input: &str, devices: Devices) {
+    let Devices { piece, read, write } = devices;
+    assert!(rt; holds, "{what}: {input:?}, {piece} {read} {write}");
+}
+
+// Compares an answer to an input on these devices.
+fn is_wanted(rt: &impl Abort, got: &Answer, input: &str, devices: Devices, wanted: (u8, &str)) {
+    let (status, output) = wanted;
+    let text = got.text.as_slice();
+    is_so_on(rt, got.status == status, "status", input, devices);
+    is_so_on(rt, text == output.as_bytes(), "text", input, devices);
 }
 
 // Words and an input are answered so on these devices.
@@ -61,135 +74,148 @@ fn is_answered<R: Threads + Wait + Sync + Abort>(
     input: &str,
     devices: Devices,
     wanted: (u8, &str),
-) -> Result<(), Fail> {
-    let Devices { piece, read, write } = devices;
-    let (status, output) = wanted;
-    let (got, text) = answer_on(rt, alloc, words, input, devices)?;
-    assert_eq!(rt; got, status, "{input:?}, {piece} {read} {write}");
-    assert_eq!(rt;
-        text.as_slice(),
-        output.as_bytes(),
-        "{input:?}, {piece} {read} {write}"
-    );
-    Ok(())
+) {
+    let words = owned(rt, alloc, words);
+    let got = answer_on(rt, alloc, &words, input, devices);
+    drop(words);
+    is_wanted(rt, &got, input, devices, wanted);
+    drop(got);
+}
+
+// Each of so many first reads that fails is told.
+fn reads_are_told<R: Threads + Wait + Sync + Abort>(
+    rt: &R,
+    alloc: Global,
+    input: &str,
+    count: u64,
+) {
+    let fault = (7, "s READFAULT\n");
+    for before in 0..count {
+        is_answered(rt, alloc, &WORDS, input, failing(before + 1, 0), fault);
+    }
 }
 
 // Read 15 is the end of the input.
 #[test]
-fn each_read_that_fails_is_told(rt: HostRuntime) -> Result<(), Fail> {
+fn each_read_that_fails_is_told(rt: HostRuntime) {
     let alloc = rt.alloc();
-    for read in 1..16 {
-        is_answered(
-            &rt,
-            alloc,
-            &WORDS,
-            INPUT,
-            failing(read, 0),
-            (7, "s READFAULT\n"),
-        )?;
-    }
-    is_answered(&rt, alloc, &WORDS, INPUT, failing(16, 0), (0, OUTPUT))
+    reads_are_told(&rt, alloc, INPUT, 15);
+    is_answered(&rt, alloc, &WORDS, INPUT, failing(16, 0), (0, OUTPUT));
 }
 
 // Read 5 comes behind the end of the line, where it has one.
 #[test]
-fn a_fault_comes_before_a_line_without_its_end(rt: HostRuntime) -> Result<(), Fail> {
+fn a_fault_comes_before_a_line_without_its_end(rt: HostRuntime) {
     let alloc = rt.alloc();
-    for read in 1..5 {
-        is_answered(
-            &rt,
-            alloc,
-            &WORDS,
-            "1 0",
-            failing(read, 0),
-            (7, "s READFAULT\n"),
-        )?;
-    }
+    reads_are_told(&rt, alloc, "1 0", 4);
     let refused = (3, "s MALFORMED 1 1\n");
-    is_answered(&rt, alloc, &WORDS, "1 0", failing(5, 0), refused)?;
-    is_answered(&rt, alloc, &WORDS, "1 0\n2", failing(5, 0), refused)
+    is_answered(&rt, alloc, &WORDS, "1 0", failing(5, 0), refused);
+    is_answered(&rt, alloc, &WORDS, "1 0\n2", failing(5, 0), refused);
 }
+
+static ONE_POP: [&str; 3] = ["formula", "--pops", "1"];
 
 // The line that is refused was read whole, but the source is read to its end before it is judged.
 #[test]
-fn a_fault_comes_before_a_bad_line_where_a_run_may_stop(rt: HostRuntime) -> Result<(), Fail> {
-    let words = ["formula", "--pops", "1"];
+fn a_fault_comes_before_a_bad_line_where_a_run_may_stop(rt: HostRuntime) {
     let fault = (7, "s READFAULT\n");
-    is_answered(&rt, rt.alloc(), &words, "1 0\n2", failing(6, 0), fault)
+    is_answered(&rt, rt.alloc(), &ONE_POP, "1 0\n2", failing(6, 0), fault);
 }
+
+static GRID: [&str; 3] = ["make", "grid", "1"];
 
 // The first read would fail.
 #[test]
-fn a_grid_is_made_without_the_source(rt: HostRuntime) -> Result<(), Fail> {
-    let words = ["make", "grid", "1"];
-    let output = "s SAMPLE\ngrid 1\nused 0 0\npops 0\nsum 0\n";
-    is_answered(
-        &rt,
-        rt.alloc(),
-        &words,
-        "p edge",
-        failing(1, 0),
-        (0, output),
-    )
+fn a_grid_is_made_without_the_source(rt: HostRuntime) {
+    let wanted = (0, "s SAMPLE\ngrid 1\nused 0 0\npops 0\nsum 0\n");
+    is_answered(&rt, rt.alloc(), &GRID, "p edge", failing(1, 0), wanted);
+}
+
+// Where the write behind so many fails, so many bytes of the text are held.
+fn write_leaves<R: Threads + Wait + Sync + Abort>(rt: &R, alloc: Global, before: u8) {
+    let front = OUTPUT.get(..before as usize).unwrap_or("");
+    let devices = failing(0, before as u64 + 1);
+    is_answered(rt, alloc, &WORDS, INPUT, devices, (8, front));
 }
 
 #[test]
-fn each_write_that_fails_leaves_a_front_of_the_text(rt: HostRuntime) -> Result<(), Fail> {
+fn each_write_that_fails_leaves_a_front_of_the_text(rt: HostRuntime) {
     let alloc = rt.alloc();
-    for write in 1..30u64 {
-        let front = OUTPUT.get(..write as usize - 1).unwrap_or("");
-        is_answered(&rt, alloc, &WORDS, INPUT, failing(0, write), (8, front))?;
+    for before in 0..29u8 {
+        write_leaves(&rt, alloc, before);
     }
-    is_answered(&rt, alloc, &WORDS, INPUT, failing(0, 30), (0, OUTPUT))
+    is_answered(&rt, alloc, &WORDS, INPUT, failing(0, 30), (0, OUTPUT));
 }
 
 #[test]
-fn a_fault_of_the_sink_is_told_by_the_status_alone(rt: HostRuntime) -> Result<(), Fail> {
-    is_answered(&rt, rt.alloc(), &WORDS, INPUT, failing(1, 1), (8, ""))
+fn a_fault_of_the_sink_is_told_by_the_status_alone(rt: HostRuntime) {
+    is_answered(&rt, rt.alloc(), &WORDS, INPUT, failing(1, 1), (8, ""));
 }
 
-// How many bytes are left to read behind words that are bad, where the first write fails.
-fn left_behind_bad_words<R: Threads + Wait + Sync>(rt: &R, alloc: Global) -> Result<usize, Fail> {
-    let words = owned(alloc, &["formula", "--height", "0"])?;
-    let bytes = Vec::from_slice(alloc, INPUT.as_bytes())?;
-    let mut source = MemSource::new(bytes, 64, Vec::new(alloc));
-    let mut sink = MemSink::new(alloc, 64, 64, vec![in alloc; 1]?)?;
+static BAD_WORDS: [&str; 3] = ["formula", "--height", "0"];
+
+// Runs words that are bad, where the first write fails.
+fn run_bad_words<R: Threads + Wait + Sync + Abort>(rt: &R, alloc: Global, source: &mut MemSource) {
+    let words = owned(rt, alloc, &BAD_WORDS);
+    let mut sink = sink_of(rt, alloc, 64, 64, 1);
     let none = Vec::new(alloc);
-    let _status = run(rt, alloc, &words, none, &NoGate, &mut source, &mut sink);
-    Ok(source.read(&mut [0; 64]).unwrap_or(0))
+    let _status = status_of(rt, alloc, &NoGate, &words, none, source, &mut sink);
+    drop(sink);
+    drop(words);
+}
+
+// How many bytes a read gives.
+fn read_from(source: &mut MemSource) -> usize {
+    source.read(&mut [0; 64]).unwrap_or(0)
+}
+
+// How many bytes are left to read behind such words.
+fn left_behind_bad_words<R: Threads + Wait + Sync + Abort>(rt: &R, alloc: Global) -> usize {
+    let mut source = source_of(rt, alloc, INPUT, 64, 0);
+    run_bad_words(rt, alloc, &mut source);
+    let left = read_from(&mut source);
+    drop(source);
+    left
 }
 
 #[test]
-fn bad_words_leave_the_source_as_it_was(rt: HostRuntime) -> Result<(), Fail> {
+fn bad_words_leave_the_source_as_it_was(rt: HostRuntime) {
     let alloc = rt.alloc();
-    assert_eq!(&rt; left_behind_bad_words(&rt, alloc)?, 14);
-    let words = ["formula", "--height", "0"];
-    is_answered(&rt, alloc, &words, INPUT, failing(1, 1), (8, ""))
+    let left = left_behind_bad_words(&rt, alloc);
+    assert!(&rt; left == 14, "{left} bytes are left");
+    is_answered(&rt, alloc, &BAD_WORDS, INPUT, failing(1, 1), (8, ""));
 }
 
 // Of four bytes at a call, the second of which fails.
 #[test]
-fn a_sink_that_takes_pieces_holds_the_first(rt: HostRuntime) -> Result<(), Fail> {
+fn a_sink_that_takes_pieces_holds_the_first(rt: HostRuntime) {
     let devices = Devices {
         piece: 4,
         read: 0,
         write: 2,
     };
-    is_answered(&rt, rt.alloc(), &WORDS, INPUT, devices, (8, "s SA"))
+    is_answered(&rt, rt.alloc(), &WORDS, INPUT, devices, (8, "s SA"));
 }
 
-#[test]
-fn the_size_of_the_pieces_changes_no_byte(rt: HostRuntime) -> Result<(), Fail> {
-    let words = ["formula", "--stacks", "0;0;1"];
+static THREE_STACKS: [&str; 3] = ["formula", "--stacks", "0;0;1"];
+
+// A text with comments and an end mark is answered so in pieces of this size.
+fn is_read_in_pieces<R: Threads + Wait + Sync + Abort>(rt: &R, alloc: Global, piece: usize) {
     let input = "c by hand\np cnf 3 2\n1 -2\nc in the middle\n0\n2 3\n%\n0\n";
     let wanted = (0, "s SAMPLE\nv -1 -2 3 0\nused 0 0 0\npops 0\n");
-    for piece in [1, 2, 3, 7, 50] {
-        let devices = Devices {
-            piece,
-            read: 0,
-            write: 0,
-        };
-        is_answered(&rt, rt.alloc(), &words, input, devices, wanted)?;
+    let devices = Devices {
+        piece,
+        read: 0,
+        write: 0,
+    };
+    is_answered(rt, alloc, &THREE_STACKS, input, devices, wanted);
+}
+
+static PIECES: [usize; 5] = [1, 2, 3, 7, 50];
+
+#[test]
+fn the_size_of_the_pieces_changes_no_byte(rt: HostRuntime) {
+    for piece in PIECES.iter() {
+        is_read_in_pieces(&rt, rt.alloc(), *piece);
     }
-    Ok(())
 }

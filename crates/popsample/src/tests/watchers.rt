@@ -1,7 +1,7 @@
 //! Watchers of the caller's own, and what they report of a log.
 ghost use Rattle.std.specs.Prelude.{[], ◌∷◌};
 
-use super::{answer, owned};
+use super::{answer, is_so, owned, push_words};
 use confluence_core::Record;
 use pop_instance::Cube;
 use pop_watch::{Heights, Totals, Watch};
@@ -10,8 +10,8 @@ use std::alloc::{AllocError, Global};
 use std::process::Abort;
 use std::sync::atomic::{AtomicU64, Ordering};
 use std::sync::{Arc, Wait};
-use std::test::Fail;
 use std::thread::Threads;
+use top_call::Answer;
 
 // What is printed of two pops of one clause, but for the reports. Worked by hand.
 static TWO_POPS: [&str; 3] = ["resample", "--stacks", "0,0,1"];
@@ -21,12 +21,18 @@ const INPUT: &str = "p cnf 1 1\n1 0\n";
 const HISTORY: &str = "s SAMPLE\nv 1 0\nused 2\npops 2\nlog 2 2\npop 1 1 1:0\npop 2 1 1:1\n";
 
 // The words that ask for the two pops, with these behind them.
-fn behind_stacks(alloc: Global, more: &[&str]) -> Result<Vec<String>, Fail> {
-    let mut words = owned(alloc, &TWO_POPS)?;
-    for word in more {
-        words.push(String::from_str(alloc, word)?)?;
-    }
-    Ok(words)
+fn behind_stacks(rt: &impl Abort, alloc: Global, more: &[&str]) -> Vec<String> {
+    let mut words = owned(rt, alloc, &TWO_POPS);
+    push_words(rt, alloc, &mut words, more);
+    words
+}
+
+// Compares an answer with the history of the two pops, with this behind the log.
+fn is_history(rt: &impl Abort, alloc: Global, got: &Answer, more: &[&str], behind: &str) {
+    let whole = format!(in alloc; "{HISTORY}{behind}").expect(rt, "memory");
+    is_so(rt, got.status == 0, "status", more);
+    is_so(rt, got.text.as_slice() == whole.as_bytes(), "text", more);
+    drop(whole);
 }
 
 // Of the two pops with these words behind the stacks, and these watchers, this is printed behind
@@ -37,31 +43,31 @@ fn is_reported<R: Threads + Wait + Sync + Abort>(
     more: &[&str],
     watchers: Vec<Box<dyn Watch>>,
     behind: &str,
-) -> Result<(), Fail> {
-    let words = behind_stacks(alloc, more)?;
-    let (status, text) = answer(rt, alloc, &NoGate, &words, INPUT, watchers)?;
-    let whole = format!(in alloc; "{HISTORY}{behind}")?;
-    assert_eq!(rt; status, 0, "{more:?}");
-    assert_eq!(rt; text.as_slice(), whole.as_bytes(), "{more:?}");
-    Ok(())
+) {
+    let words = behind_stacks(rt, alloc, more);
+    let got = answer(rt, alloc, &NoGate, &words, INPUT, watchers);
+    drop(words);
+    is_history(rt, alloc, &got, more, behind);
+    drop(got);
 }
 
 // The words that ask for totals and heights.
 static BOTH: [&str; 2] = ["--report", "totals,heights"];
 
 // A watcher of heights alone.
-fn heights(alloc: Global) -> Result<Vec<Box<dyn Watch>>, Fail> {
+fn heights(rt: &impl Abort, alloc: Global) -> Vec<Box<dyn Watch>> {
+    let heights = Box::new(alloc, Heights::new()).expect(rt, "memory");
     let mut watchers: Vec<Box<dyn Watch>> = Vec::new(alloc);
-    watchers.push(Box::new(alloc, Heights::new())?)?;
-    Ok(watchers)
+    watchers.push(heights).expect(rt, "memory");
+    watchers
 }
 
 #[test]
-fn a_kind_that_no_watcher_has_has_no_line(rt: HostRuntime) -> Result<(), Fail> {
+fn a_kind_that_no_watcher_has_has_no_line(rt: HostRuntime) {
     let alloc = rt.alloc();
-    is_reported(&rt, alloc, &BOTH, Vec::new(alloc), "")?;
-    let watchers = heights(alloc)?;
-    is_reported(&rt, alloc, &BOTH, watchers, "report heights 1 1\n")
+    is_reported(&rt, alloc, &BOTH, Vec::new(alloc), "");
+    let watchers = heights(&rt, alloc);
+    is_reported(&rt, alloc, &BOTH, watchers, "report heights 1 1\n");
 }
 
 // What was done with a watcher.
@@ -130,6 +136,53 @@ impl Drop for Noted {
     }
 }
 
+// Notes of a watcher with which nothing was done.
+fn no_notes(rt: &impl Abort, alloc: Global) -> Arc<Notes> {
+    Arc::new(alloc, Notes::none()).expect(rt, "memory")
+}
+
+// Totals that note in these notes.
+fn noting(rt: &impl Abort, alloc: Global, notes: Arc<Notes>) -> Box<Noted> {
+    let noted = Noted {
+        totals: Totals::new(),
+        notes,
+    };
+    Box::new(alloc, noted).expect(rt, "memory")
+}
+
+// Totals alone that note in these notes.
+fn noted_alone(rt: &impl Abort, alloc: Global, notes: &Arc<Notes>) -> Vec<Box<dyn Watch>> {
+    let notes = notes.clone().expect(rt, "memory");
+    let noted = noting(rt, alloc, notes);
+    let mut watchers: Vec<Box<dyn Watch>> = Vec::new(alloc);
+    watchers.push(noted).expect(rt, "memory");
+    watchers
+}
+
+// Runs these words on this text, with totals that note in these notes.
+fn run_noting<R: Threads + Wait + Sync + Abort>(
+    rt: &R,
+    alloc: Global,
+    words: &[String],
+    input: &str,
+    notes: &Arc<Notes>,
+) {
+    let watchers = noted_alone(rt, alloc, notes);
+    let got = answer(rt, alloc, &NoGate, words, input, watchers);
+    assert!(rt; got.status == 0, "status");
+    drop(got);
+}
+
+// A watcher was dropped after its reports.
+fn was_dropped(rt: &impl Abort, notes: &Notes) {
+    let reported = notes.reported.load(Ordering::SeqCst);
+    let dropped = notes.dropped.load(Ordering::SeqCst);
+    assert!(rt;
+        dropped == reported.wrapping_add(1),
+        "dropped behind {reported} reports"
+    );
+}
+
 // The notes of totals that were handed in with these words and this text. They were dropped after
 // their reports.
 fn notes_of<R: Threads + Wait + Sync + Abort>(
@@ -137,52 +190,42 @@ fn notes_of<R: Threads + Wait + Sync + Abort>(
     alloc: Global,
     words: &[String],
     input: &str,
-) -> Result<Arc<Notes>, Fail> {
-    let notes = Arc::new(alloc, Notes::none())?;
-    let mut watchers: Vec<Box<dyn Watch>> = Vec::new(alloc);
-    let noted = Noted {
-        totals: Totals::new(),
-        notes: notes.clone()?,
-    };
-    watchers.push(Box::new(alloc, noted)?)?;
-    let (status, _text) = answer(rt, alloc, &NoGate, words, input, watchers)?;
-    assert_eq!(rt; status, 0);
-    let reported = notes.reported.load(Ordering::SeqCst);
-    assert_eq!(rt;
-        notes.dropped.load(Ordering::SeqCst),
-        reported.wrapping_add(1)
-    );
-    Ok(notes)
+) -> Arc<Notes> {
+    let notes = no_notes(rt, alloc);
+    run_noting(rt, alloc, words, input, &notes);
+    was_dropped(rt, &notes);
+    notes
 }
 
 // How often totals were told the two pops with these words behind the stacks, and how often they
 // reported.
-fn done<R: Threads + Wait + Sync + Abort>(
-    rt: &R,
-    alloc: Global,
-    more: &[&str],
-) -> Result<(u64, u64), Fail> {
-    let words = behind_stacks(alloc, more)?;
-    let notes = notes_of(rt, alloc, &words, INPUT)?;
+fn done<R: Threads + Wait + Sync + Abort>(rt: &R, alloc: Global, more: &[&str]) -> (u64, u64) {
+    let words = behind_stacks(rt, alloc, more);
+    let notes = notes_of(rt, alloc, &words, INPUT);
+    drop(words);
     let told = notes.told.load(Ordering::SeqCst);
-    Ok((told, notes.reported.load(Ordering::SeqCst)))
+    let reported = notes.reported.load(Ordering::SeqCst);
+    drop(notes);
+    (told, reported)
 }
 
 // The numbers of the events that totals are told of two clauses, of which the first is popped twice
 // before the second.
-fn order_told<R: Threads + Wait + Sync + Abort>(
-    rt: &R,
-    alloc: Global,
-    words: &[&str],
-) -> Result<u64, Fail> {
-    let words = owned(alloc, words)?;
-    let notes = notes_of(rt, alloc, &words, "p cnf 2 2\n1 0\n2 0\n")?;
-    Ok(notes.order.load(Ordering::SeqCst))
+fn order_told<R: Threads + Wait + Sync + Abort>(rt: &R, alloc: Global, words: &[&str]) -> u64 {
+    let words = owned(rt, alloc, words);
+    let notes = notes_of(rt, alloc, &words, "p cnf 2 2\n1 0\n2 0\n");
+    drop(words);
+    let order = notes.order.load(Ordering::SeqCst);
+    drop(notes);
+    order
 }
+
+// Words, and the numbers of the events.
+type Ordered = (&'static [&'static str], u64);
 
 // Worked by hand: the layers are 1, 2 and 1. Where a run is one of many orders, watchers are told
 // in any case, and else where a report is asked for.
-static ORDERS: [(&[&str], u64); 5] = [
+static ORDERS: [Ordered; 5] = [
     (
         &["formula", "--stacks", "0,0,1;0,1", "--report", "totals"],
         121,
@@ -193,25 +236,48 @@ static ORDERS: [(&[&str], u64); 5] = [
     (&["resample", "--stacks", "0,0,1;0,1"], 121),
 ];
 
-#[test]
-fn watchers_are_told_the_layered_log(rt: HostRuntime) -> Result<(), Fail> {
-    for (words, order) in ORDERS.iter() {
-        let got = order_told(&rt, rt.alloc(), words)?;
-        assert_eq!(&rt; got, *order, "{words:?}");
+// Compares the order in which totals are told two clauses by each of these words.
+fn are_orders<R: Threads + Wait + Sync + Abort>(rt: &R, alloc: Global, orders: &[Ordered]) {
+    for (words, order) in orders.iter() {
+        let got = order_told(rt, alloc, words);
+        is_so(rt, got == *order, "order", words);
     }
-    Ok(())
 }
+
+#[test]
+fn watchers_are_told_the_layered_log(rt: HostRuntime) {
+    are_orders(&rt, rt.alloc(), &ORDERS);
+}
+
+// Compares how often totals were told and reported with these words behind the stacks.
+fn is_done<R: Threads + Wait + Sync + Abort>(
+    rt: &R,
+    alloc: Global,
+    more: &[&str],
+    want: (u64, u64),
+) {
+    let (told, reported) = done(rt, alloc, more);
+    is_so(rt, told == want.0, "told", more);
+    is_so(rt, reported == want.1, "reported", more);
+}
+
+static NO_WORDS: [&str; 0] = [];
+
+static OTHER_REPORT: [&str; 2] = ["--report", "heights"];
+
+static OWN_REPORT: [&str; 2] = ["--report", "totals"];
+
+static TWO_REPORTS: [&str; 2] = ["--report", "heights,totals"];
 
 // The log has two records. A watcher is told them also where its report isn't asked for, and is
 // dropped by the call, after its report.
 #[test]
-fn each_watcher_is_told_each_record_once_and_dropped(rt: HostRuntime) -> Result<(), Fail> {
+fn each_watcher_is_told_each_record_once_and_dropped(rt: HostRuntime) {
     let alloc = rt.alloc();
-    assert_eq!(&rt; done(&rt, alloc, &[])?, (2, 0));
-    assert_eq!(&rt; done(&rt, alloc, &["--report", "heights"])?, (2, 0));
-    assert_eq!(&rt; done(&rt, alloc, &["--report", "totals"])?, (2, 1));
-    assert_eq!(&rt; done(&rt, alloc, &["--report", "heights,totals"])?, (2, 1));
-    Ok(())
+    is_done(&rt, alloc, &NO_WORDS, (2, 0));
+    is_done(&rt, alloc, &OTHER_REPORT, (2, 0));
+    is_done(&rt, alloc, &OWN_REPORT, (2, 1));
+    is_done(&rt, alloc, &TWO_REPORTS, (2, 1));
 }
 
 // A watcher of a kind that has no report.
@@ -238,52 +304,62 @@ impl Watch for Silent {
 }
 
 // A watcher of another kind, one of heights and one of totals, and another one of totals.
-fn silent_and_others(alloc: Global) -> Result<Vec<Box<dyn Watch>>, Fail> {
+fn silent_and_others(rt: &impl Abort, alloc: Global) -> Vec<Box<dyn Watch>> {
+    let silent = Box::new(alloc, Silent).expect(rt, "memory");
+    let heights = Box::new(alloc, Heights::new()).expect(rt, "memory");
+    let totals = Box::new(alloc, Totals::new()).expect(rt, "memory");
+    let notes = no_notes(rt, alloc);
+    let noted = noting(rt, alloc, notes);
     let mut watchers: Vec<Box<dyn Watch>> = Vec::new(alloc);
-    watchers.push(Box::new(alloc, Silent)?)?;
-    watchers.push(Box::new(alloc, Heights::new())?)?;
-    watchers.push(Box::new(alloc, Totals::new())?)?;
-    let noted = Noted {
-        totals: Totals::new(),
-        notes: Arc::new(alloc, Notes::none())?,
-    };
-    watchers.push(Box::new(alloc, noted)?)?;
-    Ok(watchers)
+    watchers.push(silent).expect(rt, "memory");
+    watchers.push(heights).expect(rt, "memory");
+    watchers.push(totals).expect(rt, "memory");
+    watchers.push(noted).expect(rt, "memory");
+    watchers
 }
 
 // The one of another kind changes nothing, and of two of a kind the first reports.
 #[test]
-fn the_first_watcher_of_a_kind_reports(rt: HostRuntime) -> Result<(), Fail> {
+fn the_first_watcher_of_a_kind_reports(rt: HostRuntime) {
     let alloc = rt.alloc();
-    let watchers = silent_and_others(alloc)?;
+    let watchers = silent_and_others(&rt, alloc);
     let behind = "report totals 2 2 1\nreport heights 1 1\n";
-    is_reported(&rt, alloc, &BOTH, watchers, behind)
+    is_reported(&rt, alloc, &BOTH, watchers, behind);
+}
+
+// A pop of two entries.
+fn two_entries(rt: &impl Abort, alloc: Global) -> Record {
+    let pairs = vec![in alloc; (0, 0), (1, 0)].expect(rt, "memory");
+    let cube = Cube::new(pairs).expect(rt, "rising variables");
+    assert!(rt; cube.len() == 2, "two variables");
+    let entries = vec![in alloc; 4, 0].expect(rt, "memory");
+    Record::new(0, cube, entries)
 }
 
 // Totals that were told a pop of two entries.
-fn begun_totals(rt: &impl Abort, alloc: Global) -> Result<Totals, Fail> {
-    let cube = Cube::new(vec![in alloc; (0, 0), (1, 0)]?).expect(rt, "rising variables");
-    assert_eq!(rt; cube.len(), 2);
-    let record = Record::new(0, cube, vec![in alloc; 4, 0]?);
+fn begun_totals(rt: &impl Abort, alloc: Global) -> Totals {
+    let record = two_entries(rt, alloc);
     let mut totals = Totals::new();
-    totals.tell(&record)?;
-    Ok(totals)
+    totals.tell(&record).expect(rt, "memory");
+    drop(record);
+    totals
 }
 
 // These totals, and others behind them.
-fn before_others(alloc: Global, totals: Totals) -> Result<Vec<Box<dyn Watch>>, Fail> {
+fn before_others(rt: &impl Abort, alloc: Global, totals: Totals) -> Vec<Box<dyn Watch>> {
+    let first = Box::new(alloc, totals).expect(rt, "memory");
+    let others = Box::new(alloc, Totals::new()).expect(rt, "memory");
     let mut watchers: Vec<Box<dyn Watch>> = Vec::new(alloc);
-    watchers.push(Box::new(alloc, totals)?)?;
-    watchers.push(Box::new(alloc, Totals::new())?)?;
-    Ok(watchers)
+    watchers.push(first).expect(rt, "memory");
+    watchers.push(others).expect(rt, "memory");
+    watchers
 }
 
 // Worked by hand.
 #[test]
-fn a_report_goes_on_from_the_state_that_is_handed_in(rt: HostRuntime) -> Result<(), Fail> {
+fn a_report_goes_on_from_the_state_that_is_handed_in(rt: HostRuntime) {
     let alloc = rt.alloc();
-    let totals = begun_totals(&rt, alloc)?;
-    let watchers = before_others(alloc, totals)?;
-    let more = ["--report", "totals"];
-    is_reported(&rt, alloc, &more, watchers, "report totals 3 4 2\n")
+    let totals = begun_totals(&rt, alloc);
+    let watchers = before_others(&rt, alloc, totals);
+    is_reported(&rt, alloc, &OWN_REPORT, watchers, "report totals 3 4 2\n");
 }

@@ -5,8 +5,8 @@ use std::alloc::Global;
 use std::process::Abort;
 use std::sync::Wait;
 use std::sync::atomic::{AtomicBool, AtomicU64, Ordering};
-use std::test::Fail;
 use std::thread::Threads;
+use top_call::Answer;
 
 // Holds a worker before its first turn until the other of two comes to its second, and counts the
 // turns of both.
@@ -50,84 +50,120 @@ impl Gate for Held {
     }
 }
 
-// What two workers on this board print of two clauses that clash, where this one is held.
-fn with_held<R: Threads + Wait + Sync + Abort>(
+// A command, its stacks and its input.
+struct Case {
+    command: &'static str,
+    stacks: &'static str,
+    input: &'static str,
+}
+
+// The answer of two workers on this board, with this gate.
+fn answer_of_two<R: Threads + Wait + Sync + Abort>(
     rt: &R,
     alloc: Global,
-    board: &str,
-    worker: u32,
-) -> Result<Vec<u8>, Fail> {
-    let gate = Held::new(worker);
-    let stacks = "0,1;0,0;0,0";
+    gate: &Held,
+    case: &Case,
+    board: &'static str,
+) -> Answer {
     let words = [
-        "resample",
+        case.command,
         "--stacks",
-        stacks,
+        case.stacks,
         "--workers",
         "2",
         "--board",
         board,
     ];
-    let input = "p cnf 3 2\n1 2 0\n1 3 0\n";
-    let words = owned(alloc, &words)?;
-    let (status, text) = answer(rt, alloc, &gate, &words, input, Vec::new(alloc))?;
-    assert_eq!(rt; status, 0);
-    assert!(rt;
-        !gate.ran_out.load(Ordering::SeqCst),
-        "the other worker never came"
-    );
-    Ok(text)
+    let words = owned(rt, alloc, &words);
+    let got = answer(rt, alloc, gate, &words, case.input, Vec::new(alloc));
+    drop(words);
+    got
+}
+
+// Compares a sample that is printed on this board.
+fn is_printed(rt: &impl Abort, got: &Answer, want: &str, board: &str) {
+    assert!(rt; got.status == 0, "status on {board}");
+    assert!(rt; got.text.as_slice() == want.as_bytes(), "text on {board}");
+}
+
+// The worker that was held went on because the other came.
+fn other_came(rt: &impl Abort, gate: &Held) {
+    let ran_out = gate.ran_out.load(Ordering::SeqCst);
+    assert!(rt; !ran_out, "the other worker never came");
+}
+
+// Two clauses that clash.
+static CLASH: Case = Case {
+    command: "resample",
+    stacks: "0,1;0,0;0,0",
+    input: "p cnf 3 2\n1 2 0\n1 3 0\n",
+};
+
+// This is what two workers on this board print of two clauses that clash, where this one is held.
+fn is_printed_with_held<R: Threads + Wait + Sync + Abort>(
+    rt: &R,
+    alloc: Global,
+    board: &'static str,
+    worker: u32,
+    want: &str,
+) {
+    let gate = Held::new(worker);
+    let got = answer_of_two(rt, alloc, &gate, &CLASH, board);
+    other_came(rt, &gate);
+    drop(gate);
+    is_printed(rt, &got, want, board);
+    drop(got);
+}
+
+const FIRST: &str = "s SAMPLE\nv 1 -2 -3 0\nused 1 1 0\npops 1\nlog 2 1\npop 1 1 1:0 2:0\n";
+
+const SECOND: &str = "s SAMPLE\nv 1 -2 -3 0\nused 1 0 1\npops 1\nlog 2 1\npop 1 2 1:0 3:0\n";
+
+// On this board the one that isn't held pops its event.
+fn other_pops<R: Threads + Wait + Sync + Abort>(rt: &R, alloc: Global, board: &'static str) {
+    is_printed_with_held(rt, alloc, board, 0, SECOND);
+    is_printed_with_held(rt, alloc, board, 1, FIRST);
 }
 
 // Two workers on two threads: the one that isn't held pops its event, so no body on one thread can
 // print both texts.
 #[test]
-fn each_of_two_workers_pops_where_the_other_is_held(rt: HostRuntime) -> Result<(), Fail> {
-    let first = "s SAMPLE\nv 1 -2 -3 0\nused 1 1 0\npops 1\nlog 2 1\npop 1 1 1:0 2:0\n";
-    let second = "s SAMPLE\nv 1 -2 -3 0\nused 1 0 1\npops 1\nlog 2 1\npop 1 2 1:0 3:0\n";
-    for board in ["words", "lock"] {
-        let behind = with_held(&rt, rt.alloc(), board, 0)?;
-        assert_eq!(&rt; behind.as_slice(), second.as_bytes(), "{board}");
-        let before = with_held(&rt, rt.alloc(), board, 1)?;
-        assert_eq!(&rt; before.as_slice(), first.as_bytes(), "{board}");
-    }
-    Ok(())
+fn each_of_two_workers_pops_where_the_other_is_held(rt: HostRuntime) {
+    let alloc = rt.alloc();
+    other_pops(&rt, alloc, "words");
+    other_pops(&rt, alloc, "lock");
 }
+
+// A cycle that is popped ten times.
+static CYCLE: Case = Case {
+    command: "tree",
+    stacks: "1,1,1,1,1,1,1,1,1,1,0;0,0,0,0,0,0,0,0,0,0,0",
+    input: "p edge 3 3\ne 1 2\ne 2 3\ne 1 3\n",
+};
 
 // How many turns two workers on this board take over a cycle that is popped ten times, where the
 // second is held.
-fn turns_on<R: Threads + Wait + Sync + Abort>(
-    rt: &R,
-    alloc: Global,
-    board: &str,
-) -> Result<u64, Fail> {
+fn turns_on<R: Threads + Wait + Sync + Abort>(rt: &R, alloc: Global, board: &'static str) -> u64 {
     let gate = Held::new(1);
-    let stacks = "1,1,1,1,1,1,1,1,1,1,0;0,0,0,0,0,0,0,0,0,0,0";
-    let words = [
-        "tree",
-        "--stacks",
-        stacks,
-        "--workers",
-        "2",
-        "--board",
+    let got = answer_of_two(rt, alloc, &gate, &CYCLE, board);
+    is_printed(
+        rt,
+        &got,
+        "s SAMPLE\na 2 1 1\na 3 2 2\nused 10 10\npops 10\n",
         board,
-    ];
-    let input = "p edge 3 3\ne 1 2\ne 2 3\ne 1 3\n";
-    let words = owned(alloc, &words)?;
-    let (status, text) = answer(rt, alloc, &gate, &words, input, Vec::new(alloc))?;
-    assert_eq!(rt; status, 0);
-    assert_eq!(rt;
-        text.as_slice(),
-        b"s SAMPLE\na 2 1 1\na 3 2 2\nused 10 10\npops 10\n".as_slice()
     );
-    Ok(gate.turns.load(Ordering::SeqCst))
+    drop(got);
+    let turns = gate.turns.load(Ordering::SeqCst);
+    drop(gate);
+    turns
 }
 
 // On a book under a lock a turn pops one event at most. On claim words the first turn pops all ten,
 // one of the workers has the other start, and each ends at a turn without one.
 #[test]
-fn workers_meet_on_the_board_that_is_asked_for(rt: HostRuntime) -> Result<(), Fail> {
-    assert!(&rt; turns_on(&rt, rt.alloc(), "lock")? > 10);
-    assert_eq!(&rt; turns_on(&rt, rt.alloc(), "words")?, 4);
-    Ok(())
+fn workers_meet_on_the_board_that_is_asked_for(rt: HostRuntime) {
+    let on_lock = turns_on(&rt, rt.alloc(), "lock");
+    assert!(&rt; on_lock > 10, "{on_lock} turns on a lock");
+    let on_words = turns_on(&rt, rt.alloc(), "words");
+    assert!(&rt; on_words == 4, "{on_words} turns on words");
 }
