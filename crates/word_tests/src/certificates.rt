@@ -1,6 +1,7 @@
 //! Tests of certificates and of runs that are stopped.
 use run_cert::Look;
 use std::process::Abort;
+use std::test::Fail;
 
 mod judging;
 mod paused;
@@ -22,4 +23,12 @@ fn looks_at(rt: &impl Abort, found: Look, want: Look, place: u64) {
 // Compares bytes.
 fn same_bytes(rt: &impl Abort, found: &[u8], want: &[u8], what: &str) {
     assert!(rt; found == want, "{what}");
+}
+
+// What was made, and stops the test where nothing was.
+fn made<T>(rt: &impl Abort, tried: Result<T, Fail>, what: &str) -> T {
+    match tried {
+        Ok(value) => value,
+        Err(_) => panic!(rt; "not made: {what}"),
+    }
 }

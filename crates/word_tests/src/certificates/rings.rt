@@ -4,13 +4,12 @@ ghost use Rattle.std.specs.Prelude.{◌≡◌, length};
 ghost use Rattle.pop_model.specs.Stacks.{variables_of};
 ghost use Rattle.pop_model.specs.Popping.{AreWithin};
 
-use super::{looks_at, same_at};
+use super::{looks_at, made, same_at};
 use confluence_core::{End, run_first};
 use pop_instance::{Family, Instance};
 use run_cert::{Look, Part, look, run_part};
 use std::alloc::Global;
 use std::process::Abort;
-use std::test::Fail;
 use test_instances::{arrows, keyed, over};
 
 // The two heads of each of so many variables in a ring: the next one, and the one before it;
@@ -27,22 +26,9 @@ fn heads(rt: &impl Abort, alloc: Global, count: u32) -> Vec<[Option<u32>; 2]> {
 }
 
 // The cycles of a ring of so many variables.
-fn cycles(rt: &impl Abort, alloc: Global, count: u32) -> Result<Family, Fail> {
+fn cycles(rt: &impl Abort, alloc: Global, count: u32) -> Family {
     let heads = heads(rt, alloc, count);
-    Ok(Family::Cycles(arrows(alloc, &heads)?))
-}
-
-// A ring of so many variables, over stacks of this height under a key of 32 such bytes.
-fn ring(
-    rt: &impl Abort,
-    alloc: Global,
-    count: u32,
-    key: u8,
-    height: u32,
-) -> Result<Instance, Fail> {
-    let family = cycles(rt, alloc, count)?;
-    let stacks = keyed(key, count, height)?;
-    over(stacks, family)
+    Family::Cycles(made(rt, arrows(alloc, &heads), "arrows"))
 }
 
 // Compares what a run to a limit leaves with the end of the run of first events: as many records as
@@ -114,25 +100,23 @@ static RINGS: [(u32, u8, u32); 8] = [
     (30, 77, 900),
 ];
 
-// Makes a ring, and stops its run at each limit. Returns the pops.
-fn stop_ring(
-    rt: &impl Abort,
-    alloc: Global,
-    count: u32,
-    key: u8,
-    height: u32,
-) -> Result<u64, Fail> {
-    let ring = ring(rt, alloc, count, key, height)?;
-    Ok(stop_at_each(rt, alloc, &ring))
+// Makes a ring of so many variables, over stacks of this height under a key of 32 such bytes, and
+// stops its run at each limit. Returns the pops.
+fn stop_ring(rt: &impl Abort, alloc: Global, count: u32, key: u8, height: u32) -> u64 {
+    let family = cycles(rt, alloc, count);
+    let stacks = made(rt, keyed(key, count, height), "stacks");
+    let ring = made(rt, over(stacks, family), "a ring");
+    let pops = stop_at_each(rt, alloc, &ring);
+    drop(ring);
+    pops
 }
 
 #[test]
-fn rings_stop_at_every_limit(rt: HostRuntime) -> Result<(), Fail> {
+fn rings_stop_at_every_limit(rt: HostRuntime) {
     let mut most = 0;
     for (count, key, height) in RINGS.iter() {
-        let pops = stop_ring(&rt, rt.alloc(), *count, *key, *height)?;
+        let pops = stop_ring(&rt, rt.alloc(), *count, *key, *height);
         most = most.max(pops);
     }
     assert!(&rt; most > 5);
-    Ok(())
 }

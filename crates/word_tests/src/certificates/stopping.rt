@@ -3,19 +3,19 @@ ghost use Rattle.std.specs.Prelude.{◌≡◌, length};
 
 use super::paused::{INPUT, LOG_TEXT, TEXT, is_it};
 use super::printed::job_of;
-use super::{looks_at, same_at, same_bytes};
+use super::{looks_at, made, same_at, same_bytes};
 use pop_instance::{Cursors, Instance};
 use pop_log::{LogRefusal, Names, print_layered, read_run};
 use run_cert::{Look, look, print_cert, read_cert, run_part};
 use std::alloc::Global;
 use std::process::Abort;
-use std::test::Fail;
 use test_instances::listed;
 
 // The instance of the clause `1` over the row 0, 0, 1: the event is that its variable has the
 // value 0.
-fn one_clause(alloc: Global) -> Result<Instance, Fail> {
-    listed(alloc, &[&[0, 0, 1]], &[(1, &[(0, 0)])])
+fn one_clause(rt: &impl Abort, alloc: Global) -> Instance {
+    let tried = listed(alloc, &[&[0, 0, 1]], &[(1, &[(0, 0)])]);
+    made(rt, tried, "an instance")
 }
 
 // Limits, and what a run to them leaves: the records of its log, which are as many as the popped
@@ -72,10 +72,10 @@ fn leaves_each(rt: &impl Abort, alloc: Global, instance: &Instance) {
 }
 
 #[test]
-fn a_run_stops_at_its_limit(rt: HostRuntime) -> Result<(), Fail> {
-    let instance = one_clause(rt.alloc())?;
+fn a_run_stops_at_its_limit(rt: HostRuntime) {
+    let instance = one_clause(&rt, rt.alloc());
     leaves_each(&rt, rt.alloc(), &instance);
-    Ok(())
+    drop(instance);
 }
 
 // The log text of a run to one pop.
@@ -107,10 +107,10 @@ fn is_told(rt: &impl Abort, alloc: Global, instance: &Instance) {
 }
 
 #[test]
-fn a_paused_run_is_told(rt: HostRuntime) -> Result<(), Fail> {
-    let instance = one_clause(rt.alloc())?;
+fn a_paused_run_is_told(rt: HostRuntime) {
+    let instance = one_clause(&rt, rt.alloc());
     is_told(&rt, rt.alloc(), &instance);
-    Ok(())
+    drop(instance);
 }
 
 // Log texts, and what they leave: the popped entries of the one variable, which are as many as the
@@ -138,10 +138,10 @@ fn tells_each(rt: &impl Abort, alloc: Global, instance: &Instance) {
 }
 
 #[test]
-fn a_log_text_tells_how_a_run_stands(rt: HostRuntime) -> Result<(), Fail> {
-    let instance = one_clause(rt.alloc())?;
+fn a_log_text_tells_how_a_run_stands(rt: HostRuntime) {
+    let instance = one_clause(&rt, rt.alloc());
     tells_each(&rt, rt.alloc(), &instance);
-    Ok(())
+    drop(instance);
 }
 
 // Reads a log text whose first record isn't legal.
@@ -160,10 +160,10 @@ fn reads_refused(rt: &impl Abort, alloc: Global, instance: &Instance, text: &[u8
 
 // The entry 1 isn't that of the first pop.
 #[test]
-fn a_changed_entry_is_no_legal_log(rt: HostRuntime) -> Result<(), Fail> {
+fn a_changed_entry_is_no_legal_log(rt: HostRuntime) {
     let mut text = TEXT;
     text[69] = b'1';
-    let instance = one_clause(rt.alloc())?;
+    let instance = one_clause(&rt, rt.alloc());
     reads_refused(&rt, rt.alloc(), &instance, text.as_slice());
-    Ok(())
+    drop(instance);
 }
