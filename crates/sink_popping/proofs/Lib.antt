@@ -1,4 +1,5 @@
 pub mod SinkCubesLemmas
 mod GatheredSinks
 mod SinkRows
+mod PlacesKept
 pub mod OneDirection

@@ -1,4 +1,5 @@
 pub mod Sinks
 pub mod SinkCubes
 pub mod SinkPlaces
+pub mod KeptPlaces
 pub mod Laws

@@ -6,6 +6,7 @@ mod events;
 mod index;
 pub mod laws;
 mod loops;
+mod places;
 mod sink_cubes;
 mod sink_fault;
 

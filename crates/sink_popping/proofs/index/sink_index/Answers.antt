@@ -6,15 +6,15 @@ use Rattle.sink_popping.specs.SinkPlaces.{places_at}
 use Rattle.sink_popping.proofs.SinkRows.{numbers_within, rows_are_index}
 use Rattle.sink_popping.proofs.index.sink_index.Goals as goal
 
-pub places_of-requires : goal.places_of-requires
-places_of-requires c =
+pub of-requires : goal.of-requires
+of-requires c =
     subst (λ n. All (λ r. r.0 ≤ n) c.args.events.now) (sym c.vertices.ensures.count)
     (numbers_within c.args.graph.now c.args.events.now c.requires.sinks)
 
 pub returns-clause-index : goal.returns-clause-index
 returns-clause-index c =
     let g = c.args.graph.now in
-    let places : List (Option ℕ) = c.in_ok-places.places.items in
+    let places : List (Option ℕ) = c.in_ok-places.places in
     let all : take c.loop-i.i g.edges ≡ g.edges =
     take_all c.loop-i.i g.edges (omega (arith, c.edges-i-end.ensures.count, c.loop-i-test.false)) in
     let ends : All (λ (e : Edge). (e.u < length places) × (e.v < length places)) g.edges = λ k d within.

@@ -4,4 +4,4 @@ use Rattle.sink_popping.proofs.index.sink_index.Given as goal
 
 -- the rows of the edges before here
 abbrev pub invariant-loop-i : goal.invariant-loop-i
-invariant-loop-i l = l.rows ≡ map (places_at l.places.items) (take l.i l.graph.edges)
+invariant-loop-i l = l.rows ≡ map (places_at l.places) (take l.i l.graph.edges)

@@ -1,6 +1,6 @@
 use Rattle.std.proofs.Common.{◌≡◌, ◌+◌, length}
 use Rattle.sink_popping.specs.SinkPlaces.{ArePlaces}
-use Rattle.sink_popping.proofs.index.places_of.Given as goal
+use Rattle.sink_popping.proofs.places.listed.Given as goal
 
 -- the events before here have their places
 abbrev pub invariant-loop-place : goal.invariant-loop-place

@@ -2,7 +2,7 @@ use Rattle.std.proofs.Common.{◌≡◌, ◌+◌, ◌<◌, ℕ, List, Option, So
 use Rattle.std.proofs.lemmas.List.{length-set}
 use Rattle.sink_popping.specs.SinkPlaces.{ArePlaces}
 use Rattle.sink_popping.proofs.SinkRows.{places_more}
-use Rattle.sink_popping.proofs.index.places_of.Goals as goal
+use Rattle.sink_popping.proofs.places.listed.Goals as goal
 
 pub loop-place-preserved : goal.loop-place-preserved
 loop-place-preserved c =

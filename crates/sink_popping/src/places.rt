@@ -1,0 +1,92 @@
+ghost use Rattle.std.specs.Prelude.{◌≡◌, ◌+◌, ◌<◌, ◌≤◌, None, length, slice_index_or, All, IfOk, IsTrue, ℕ};
+ghost use Rattle.pop_instance.specs.Events.{event_number};
+ghost use Rattle.sink_popping.specs.SinkPlaces.{ArePlaces};
+
+use pop_instance::Events;
+use std::alloc::{AllocError, Global};
+use std::marker::Model;
+
+// How the places are kept.
+#[derive(Drop)]
+enum KeptPlaces {
+    // Each of so many vertices has an event, that of vertex w at place w - 1, and nothing is kept.
+    Each(u32),
+    // By vertex. Vertices count from 1, so the first place says nothing.
+    Listed(Vec<Option<u32>>),
+}
+
+/// For each vertex the place of its event. Contracts see a list whose first member says nothing,
+/// since vertices count from 1.
+#[derive(Drop)]
+pub struct Places {
+    kept: KeptPlaces,
+}
+
+impl Model for Places {
+    ghost use Rattle.std.specs.Prelude.{ℕ, List, Option};
+    ghost use Rattle.sink_popping.specs.KeptPlaces.{places_kept};
+
+    ghost Value = { List (Option ℕ) };
+
+    ghost view = { λ a. places_kept a.kept };
+}
+
+impl Places {
+    /// The places of the events of so many vertices. Where each vertex has one, they are known
+    /// without a list, which would be read in no order.
+    pub fn of(alloc: Global, events: &Events, vertices: u32) -> Result<Places, AllocError>
+        requires { All (λ r. r.0 ≤ vertices) events.now }
+        ensures count { IfOk result (λ places. length places ≡ vertices + 1) }
+        ensures places { IfOk result (ArePlaces events.now (length events.now)) }
+    {
+        let kept = if have_all(events, vertices) {
+            KeptPlaces::Each(vertices)
+        } else {
+            KeptPlaces::Listed(listed(alloc, events, vertices)?)
+        };
+        Ok(Places { kept })
+    }
+
+    /// The place of a vertex's event.
+    #[inline]
+    pub fn at(&self, vertex: u32) -> Option<u32>
+        requires { vertex < length self.now }
+        ensures { result ≡ slice_index_or self.now vertex None }
+    {
+        match &self.kept {
+            KeptPlaces::Each(_) => vertex.checked_sub(1),
+            KeptPlaces::Listed(places) => places[vertex as usize],
+        }
+    }
+}
+
+// Whether each of so many vertices has an event.
+fn have_all(events: &Events, vertices: u32) -> bool
+    ensures count { IsTrue result → length events.now ≡ vertices }
+    ensures numbers { IsTrue result
+        → (place : ℕ) → place < vertices → event_number events.now place ≡ place + 1 }
+{
+    if events.count() != vertices {
+        return false;
+    }
+    for place in 0..vertices {
+        if events.number(place) != place + 1 {
+            return false;
+        }
+    }
+    true
+}
+
+// The places one by one.
+fn listed(alloc: Global, events: &Events, vertices: u32) -> Result<Vec<Option<u32>>, AllocError>
+    requires { All (λ r. r.0 ≤ vertices) events.now }
+    ensures count { IfOk result (λ places. length places.items ≡ vertices + 1) }
+    ensures places { IfOk result (λ places.
+        ArePlaces events.now (length events.now) places.items) }
+{
+    let mut places = vec![in alloc; None; vertices as usize + 1]?;
+    for place in 0..events.count() {
+        places[events.number(place) as usize] = Some(place);
+    }
+    Ok(places)
+}
