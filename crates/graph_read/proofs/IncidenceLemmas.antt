@@ -7,9 +7,7 @@ use Rattle.std.proofs.lemmas.List.FromFn.{get_or-map-range_with_len}
 use Rattle.pop_edge.proofs.JudgedLines.{enumerate-append}
 use Rattle.graph_read.specs.declared.edge.Edge.{Edge}
 use Rattle.graph_read.specs.Graphs.{GraphOf, IsVertex}
-use Rattle.graph_read.specs.declared.put.Put.{Put}
-use Rattle.graph_read.specs.declared.put.Put.TheVariants.{Number}
-use Rattle.graph_read.specs.Incidence.{is_loop, touches, edges_at, row_by, rows_by, at_vertex}
+use Rattle.graph_read.specs.Incidence.{is_loop, touches, edges_at, Putting, put_number, row_by, rows_by, at_vertex}
 
 -- the edge stands at the vertex: it touches it and isn't a loop
 abbrev pub stands_at : Edge → ℕ → Bool
@@ -47,12 +45,12 @@ at_from_more w i es e h is =
     ∙ ap (λ xs. at_from w 0 (take i es) ++ xs) (at_from_one w i e)
 
 -- the row of a vertex has what the edges that stand there put into it
-pub at_vertex-rows_by : (put : Put) (g : GraphOf) (w : ℕ) → IsVertex g.vertices w
+pub at_vertex-rows_by : (put : Putting) (g : GraphOf) (w : ℕ) → IsVertex g.vertices w
     → at_vertex (rows_by put g) w ≡ row_by put g w
 at_vertex-rows_by put g w v =
     get_or-map-range_with_len (row_by put g) 1 g.vertices (w - 1) w (let none : List ℕ = [] in none)
     (omega (arith, v.first, v.last)) (omega (arith, v.first))
 
 -- their numbers themselves
-pub numbers_by : (g : GraphOf) (w : ℕ) → row_by Number g w ≡ edges_at g w
+pub numbers_by : (g : GraphOf) (w : ℕ) → row_by put_number g w ≡ edges_at g w
 numbers_by g w = map-id (edges_at g w)

@@ -14,10 +14,8 @@ use Rattle.pop_edge.proofs.JudgedLines.{enumerate-append}
 use Rattle.pop_rows.specs.FlatRows.{RoomyRows, HasRoom, push_at}
 use Rattle.pop_rows.proofs.Puts.{CountPuts, HoldPuts, put_into, put_into-append, counts_more, count_fits, holds_none, holds_more, has_room_for_next}
 use Rattle.graph_read.specs.declared.edge.Edge.{Edge}
-use Rattle.graph_read.specs.declared.put.Put.{Put}
-use Rattle.graph_read.specs.declared.put.Put.TheVariants.{Number}
 use Rattle.graph_read.specs.Graphs.{GraphOf, IsVertex, IsEdge, edge_at}
-use Rattle.graph_read.specs.Incidence.{is_loop, touches, edges_at, degrees_of, put_of, row_by, rows_by}
+use Rattle.graph_read.specs.Incidence.{is_loop, touches, edges_at, degrees_of, Putting, put_number, row_by, rows_by}
 use Rattle.graph_read.proofs.IncidenceLemmas.{stands_at, at_from}
 
 -- numbers that are put into rows: of each the row, and the number
@@ -25,16 +23,16 @@ abbrev pub Puts : Type 0
 Puts = List (ℕ × ℕ)
 
 -- what an edge puts into rows
-abbrev pub ends_at : Put → ℕ × Edge → Puts
+abbrev pub ends_at : Putting → ℕ × Edge → Puts
 ends_at put p = cond (is_loop p.1) []
-    ((p.1.u - 1, put_of put p.0 p.1 p.1.u) ∷ (p.1.v - 1, put_of put p.0 p.1 p.1.v) ∷ [])
+    ((p.1.u - 1, put p.0 p.1 p.1.u) ∷ (p.1.v - 1, put p.0 p.1 p.1.v) ∷ [])
 
 -- what edges put into rows, of which the first has the number n
-abbrev pub ends_from : Put → ℕ → List Edge → Puts
+abbrev pub ends_from : Putting → ℕ → List Edge → Puts
 ends_from put n es = flat_map (ends_at put) (enumerate_from n es)
 
 -- of edges behind one another
-ends_from-append : (put : Put) (n : ℕ) (xs ys : List Edge)
+ends_from-append : (put : Putting) (n : ℕ) (xs ys : List Edge)
     → ends_from put n (xs ++ ys) ≡ ends_from put n xs ++ ends_from put (n + length xs) ys
 ends_from-append put n xs ys =
     ap (flat_map (ends_at put)) (enumerate-append n xs ys)
@@ -47,11 +45,11 @@ pub record IsEdgeAt (g : GraphOf) (i : ℕ) (e : Edge) : Type 0 where
   pub edge : IsEdge g.vertices e
 
 -- what the first i edges put into rows
-abbrev pub first_ends : Put → GraphOf → ℕ → Puts
+abbrev pub first_ends : Putting → GraphOf → ℕ → Puts
 first_ends put g i = ends_from put 0 (take i g.edges)
 
 -- with an edge more
-ends_more : (put : Put) (g : GraphOf) (i : ℕ) (e : Edge) → IsEdgeAt g i e
+ends_more : (put : Putting) (g : GraphOf) (i : ℕ) (e : Edge) → IsEdgeAt g i e
     → first_ends put g (i + 1) ≡ first_ends put g i ++ ends_at put (i, e)
 ends_more put g i e at =
     let size : 0 + length (take i g.edges) ≡ i =
@@ -62,11 +60,11 @@ ends_more put g i e at =
     ∙ ap (λ ps. first_ends put g i ++ ps) (append-nil (ends_at put (i, e)))
 
 -- what comes behind the edge
-abbrev rest_ends : Put → GraphOf → ℕ → Puts
+abbrev rest_ends : Putting → GraphOf → ℕ → Puts
 rest_ends put g i = ends_from put (0 + length (take (i + 1) g.edges)) (drop (i + 1) g.edges)
 
 -- all, cut at the edge
-all_ends : (put : Put) (g : GraphOf) (i : ℕ) (e : Edge) → IsEdgeAt g i e
+all_ends : (put : Putting) (g : GraphOf) (i : ℕ) (e : Edge) → IsEdgeAt g i e
     → ends_from put 0 g.edges ≡ (first_ends put g i ++ ends_at put (i, e)) ++ rest_ends put g i
 all_ends put g i e at =
     ap (ends_from put 0) (sym (take-append-drop (i + 1) g.edges))
@@ -74,23 +72,23 @@ all_ends put g i e at =
     ∙ ap (λ ps. ps ++ rest_ends put g i) (ends_more put g i e at)
 
 -- what an edge puts at its first end, and at its second
-abbrev pub put_first : Put → ℕ → Edge → ℕ × ℕ
-put_first put i e = (e.u - 1, put_of put i e e.u)
+abbrev pub put_first : Putting → ℕ → Edge → ℕ × ℕ
+put_first put i e = (e.u - 1, put i e e.u)
 
-abbrev pub put_second : Put → ℕ → Edge → ℕ × ℕ
-put_second put i e = (e.v - 1, put_of put i e e.v)
+abbrev pub put_second : Putting → ℕ → Edge → ℕ × ℕ
+put_second put i e = (e.v - 1, put i e e.v)
 
 -- what an edge puts that isn't a loop
-plain_ends : (put : Put) (i : ℕ) (e : Edge) → is_loop e ≡ false
+plain_ends : (put : Putting) (i : ℕ) (e : Edge) → is_loop e ≡ false
     → ends_at put (i, e) ≡ put_first put i e ∷ put_second put i e ∷ []
 plain_ends put i e apart = ap (λ b. cond b [] (put_first put i e ∷ put_second put i e ∷ [])) apart
 
 -- a loop puts none
-loop_ends : (put : Put) (i : ℕ) (e : Edge) → is_loop e ≡ true → ends_at put (i, e) ≡ []
+loop_ends : (put : Putting) (i : ℕ) (e : Edge) → is_loop e ≡ true → ends_at put (i, e) ≡ []
 loop_ends put i e loop = ap (λ b. cond b [] (put_first put i e ∷ put_second put i e ∷ [])) loop
 
 -- with both ends of it one behind the other
-pub two_more : (put : Put) (g : GraphOf) (i : ℕ) (e : Edge) → IsEdgeAt g i e → is_loop e ≡ false
+pub two_more : (put : Putting) (g : GraphOf) (i : ℕ) (e : Edge) → IsEdgeAt g i e → is_loop e ≡ false
     → (first_ends put g i ++ put_first put i e ∷ []) ++ put_second put i e ∷ [] ≡ first_ends put g (i + 1)
 two_more put g i e at apart =
     append_assoc (first_ends put g i) (put_first put i e ∷ []) (put_second put i e ∷ [])
@@ -127,8 +125,8 @@ one_of_two false true m n x h first second = ap (λ y. y ∷ []) (second refl)
 one_of_two false false m n x h first second = refl
 
 -- an edge puts a number into the rows of the vertices where it stands
-ends_stand : (put : Put) (m n w : ℕ) (e : Edge) → IsEdge m e → 1 ≤ w
-    → put_into (w - 1) (ends_at put (n, e)) ≡ cond (stands_at e w) (put_of put n e w ∷ []) []
+ends_stand : (put : Putting) (m n w : ℕ) (e : Edge) → IsEdge m e → 1 ≤ w
+    → put_into (w - 1) (ends_at put (n, e)) ≡ cond (stands_at e w) (put n e w ∷ []) []
 ends_stand put m n w e edge h = by (is_loop e) refl
   where
     apart : is_loop e ≡ false → nat_eq e.u w ≡ true → nat_eq e.v w ≡ true → ⊥
@@ -136,21 +134,21 @@ ends_stand put m n w e edge h = by (is_loop e) refl
 
     by : (b : Bool) → is_loop e ≡ b
         → put_into (w - 1) (cond b [] (put_first put n e ∷ put_second put n e ∷ []))
-        ≡ cond (touches e w && not b) (put_of put n e w ∷ []) []
-    by true loop = sym (ap (λ b. cond b (put_of put n e w ∷ []) []) (and_right (touches e w) false refl))
+        ≡ cond (touches e w && not b) (put n e w ∷ []) []
+    by true loop = sym (ap (λ b. cond b (put n e w ∷ []) []) (and_right (touches e w) false refl))
     by false ne =
-        let first = put_of put n e e.u in
-        let second = put_of put n e e.v in
+        let first = put n e e.u in
+        let second = put n e e.v in
         put_two (e.u - 1) (e.v - 1) first second (w - 1)
         ∙ ap₂ (λ s t. cond s (first ∷ cond t (second ∷ []) []) (cond t (second ∷ []) []))
         (same_row e.u w edge.from.first h) (same_row e.v w edge.to.first h)
-        ∙ one_of_two (nat_eq e.u w) (nat_eq e.v w) first second (put_of put n e w) (apart ne)
-        (λ same. ap (put_of put n e) (eqb-true e.u w same)) (λ same. ap (put_of put n e) (eqb-true e.v w same))
+        ∙ one_of_two (nat_eq e.u w) (nat_eq e.v w) first second (put n e w) (apart ne)
+        (λ same. ap (put n e) (eqb-true e.u w same)) (λ same. ap (put n e) (eqb-true e.v w same))
 
 -- what comes into a row is what the edges put there that stand at its vertex
-put_into-ends : (put : Put) (edge : ℕ → Edge) (m w n : ℕ) (d : Edge) (es : List Edge) → All (IsEdge m) es → 1 ≤ w
+put_into-ends : (put : Putting) (edge : ℕ → Edge) (m w n : ℕ) (d : Edge) (es : List Edge) → All (IsEdge m) es → 1 ≤ w
     → ((k : ℕ) → k < length es → edge (n + k) ≡ get_or es k d)
-    → put_into (w - 1) (ends_from put n es) ≡ map (λ i. put_of put i (edge i) w) (at_from w n es)
+    → put_into (w - 1) (ends_from put n es) ≡ map (λ i. put i (edge i) w) (at_from w n es)
 put_into-ends put edge m w n d [] all h are = refl
 put_into-ends put edge m w n d (e ∷ es) all h are =
     put_into-append (w - 1) (ends_at put (n, e)) (ends_from put (n + 1) es)
@@ -161,17 +159,17 @@ put_into-ends put edge m w n d (e ∷ es) all h are =
     ∙ by (stands_at e w) (ap edge (let same : n ≡ n + 0 = omega arith in same) ∙ are 0 (omega arith))
   where
     number : ℕ → ℕ
-    number i = put_of put i (edge i) w
+    number i = put i (edge i) w
 
-    by : (b : Bool) → edge n ≡ e → cond b (put_of put n e w ∷ []) [] ++ map number (at_from w (n + 1) es)
+    by : (b : Bool) → edge n ≡ e → cond b (put n e w ∷ []) [] ++ map number (at_from w (n + 1) es)
         ≡ map number (map (λ p. p.0) (cond {A = List (ℕ × Edge)} b
         ((n, e) ∷ filter (λ p. stands_at p.1 w) (enumerate_from (n + 1) es))
         (filter (λ p. stands_at p.1 w) (enumerate_from (n + 1) es))))
-    by true here = ap (λ x. put_of put n x w ∷ map number (at_from w (n + 1) es)) (sym here)
+    by true here = ap (λ x. put n x w ∷ map number (at_from w (n + 1) es)) (sym here)
     by false here = refl
 
 -- what comes into row k is what the edges at vertex k + 1 put there
-pub row_stands : (put : Put) (g : GraphOf) (k : ℕ) → All (IsEdge g.vertices) g.edges
+pub row_stands : (put : Putting) (g : GraphOf) (k : ℕ) → All (IsEdge g.vertices) g.edges
     → put_into k (ends_from put 0 g.edges) ≡ row_by put g (k + 1)
 row_stands put g k all =
     let d : Edge = record { u = 0; v = 0; weight = 0 } in
@@ -180,11 +178,11 @@ row_stands put g k all =
     (λ n less. ap (λ i. get_or g.edges i d) (let same : 0 + n ≡ n = omega arith in same))
 
 -- and as many as stand there
-length-row_stands : (put : Put) (g : GraphOf) (k : ℕ) → All (IsEdge g.vertices) g.edges
+length-row_stands : (put : Putting) (g : GraphOf) (k : ℕ) → All (IsEdge g.vertices) g.edges
     → length (put_into k (ends_from put 0 g.edges)) ≡ length (edges_at g (k + 1))
 length-row_stands put g k all =
     ap length (row_stands put g k all)
-    ∙ length-map (edges_at g (k + 1)) (λ i. put_of put i (edge_at g i) (k + 1))
+    ∙ length-map (edges_at g (k + 1)) (λ i. put i (edge_at g i) (k + 1))
 
 -- ---- counting
 
@@ -193,7 +191,7 @@ pub row_there : (n u : ℕ) → IsVertex n u → u - 1 < n
 row_there n u v = omega (arith, v.first, v.last)
 
 -- i edges put at most 2 i numbers into rows
-length-ends : (put : Put) (n : ℕ) (es : List Edge) → length (ends_from put n es) ≤ 2 * length es
+length-ends : (put : Putting) (n : ℕ) (es : List Edge) → length (ends_from put n es) ≤ 2 * length es
 length-ends put n [] = omega arith
 length-ends put n (e ∷ es) =
     omega (
@@ -209,52 +207,52 @@ length-ends put n (e ∷ es) =
 
 -- the count at an end of an edge that is to come is small
 pub count_small : (g : GraphOf) (i u : ℕ) (ds : List ℕ) → length g.edges ≤ 2 ^ 23
-    → CountPuts g.vertices (first_ends Number g i) ds → IsVertex g.vertices u → get_or ds (u - 1) 0 ≤ 2 ^ 24
+    → CountPuts g.vertices (first_ends put_number g i) ds → IsVertex g.vertices u → get_or ds (u - 1) 0 ≤ 2 ^ 24
 count_small g i u ds few counts v =
     omega (
       arith,
-      count_fits g.vertices (u - 1) (first_ends Number g i) ds (row_there g.vertices u v) counts,
-      length-ends Number 0 (take i g.edges),
+      count_fits g.vertices (u - 1) (first_ends put_number g i) ds (row_there g.vertices u v) counts,
+      length-ends put_number 0 (take i g.edges),
       length-take i g.edges,
       few,
     )
 
 -- an edge is counted at its first end
 pub counts_from : (g : GraphOf) (i : ℕ) (e : Edge) (ds ds' : List ℕ) → IsEdgeAt g i e
-    → CountPuts g.vertices (first_ends Number g i) ds → ds' ≡ set ds (e.u - 1) (get_or ds (e.u - 1) 0 + 1)
-    → CountPuts g.vertices (first_ends Number g i ++ put_first Number i e ∷ []) ds'
+    → CountPuts g.vertices (first_ends put_number g i) ds → ds' ≡ set ds (e.u - 1) (get_or ds (e.u - 1) 0 + 1)
+    → CountPuts g.vertices (first_ends put_number g i ++ put_first put_number i e ∷ []) ds'
 counts_from g i e ds ds' at counts first =
-    subst (CountPuts g.vertices (first_ends Number g i ++ put_first Number i e ∷ [])) (sym first)
-    (counts_more g.vertices (e.u - 1) i (first_ends Number g i) ds (row_there g.vertices e.u at.edge.from) counts)
+    subst (CountPuts g.vertices (first_ends put_number g i ++ put_first put_number i e ∷ [])) (sym first)
+    (counts_more g.vertices (e.u - 1) i (first_ends put_number g i) ds (row_there g.vertices e.u at.edge.from) counts)
 
 -- and the count at its second end is still small
 pub count_small_still : (g : GraphOf) (i : ℕ) (e : Edge) (ds : List ℕ) → IsEdgeAt g i e → length g.edges ≤ 2 ^ 23
-    → CountPuts g.vertices (first_ends Number g i ++ put_first Number i e ∷ []) ds → get_or ds (e.v - 1) 0 ≤ 2 ^ 24 + 1
+    → CountPuts g.vertices (first_ends put_number g i ++ put_first put_number i e ∷ []) ds → get_or ds (e.v - 1) 0 ≤ 2 ^ 24 + 1
 count_small_still g i e ds at few counts =
     omega (
       arith,
-      count_fits g.vertices (e.v - 1) (first_ends Number g i ++ put_first Number i e ∷ []) ds
+      count_fits g.vertices (e.v - 1) (first_ends put_number g i ++ put_first put_number i e ∷ []) ds
           (row_there g.vertices e.v at.edge.to) counts,
-      length-append (first_ends Number g i) (put_first Number i e ∷ []),
-      length-ends Number 0 (take i g.edges),
+      length-append (first_ends put_number g i) (put_first put_number i e ∷ []),
+      length-ends put_number 0 (take i g.edges),
       length-take i g.edges,
       few,
     )
 
 -- and at its second, so that it is counted
 pub counts_to : (g : GraphOf) (i : ℕ) (e : Edge) (ds ds' : List ℕ) → IsEdgeAt g i e → is_loop e ≡ false
-    → CountPuts g.vertices (first_ends Number g i ++ put_first Number i e ∷ []) ds
-    → ds' ≡ set ds (e.v - 1) (get_or ds (e.v - 1) 0 + 1) → CountPuts g.vertices (first_ends Number g (i + 1)) ds'
+    → CountPuts g.vertices (first_ends put_number g i ++ put_first put_number i e ∷ []) ds
+    → ds' ≡ set ds (e.v - 1) (get_or ds (e.v - 1) 0 + 1) → CountPuts g.vertices (first_ends put_number g (i + 1)) ds'
 counts_to g i e ds ds' at apart counts second =
-    let half = first_ends Number g i ++ put_first Number i e ∷ [] in
-    let two : CountPuts g.vertices (half ++ put_second Number i e ∷ []) ds' =
-    subst (CountPuts g.vertices (half ++ put_second Number i e ∷ [])) (sym second)
-    (counts_more g.vertices (e.v - 1) i (first_ends Number g i ++ put_first Number i e ∷ []) ds
+    let half = first_ends put_number g i ++ put_first put_number i e ∷ [] in
+    let two : CountPuts g.vertices (half ++ put_second put_number i e ∷ []) ds' =
+    subst (CountPuts g.vertices (half ++ put_second put_number i e ∷ [])) (sym second)
+    (counts_more g.vertices (e.v - 1) i (first_ends put_number g i ++ put_first put_number i e ∷ []) ds
     (row_there g.vertices e.v at.edge.to) counts) in
-    subst (λ ps. CountPuts g.vertices ps ds') (two_more Number g i e at apart) two
+    subst (λ ps. CountPuts g.vertices ps ds') (two_more put_number g i e at apart) two
 
 -- a loop puts nothing
-pub loop_more : (put : Put) (g : GraphOf) (i : ℕ) (e : Edge) → IsEdgeAt g i e → is_loop e ≡ true
+pub loop_more : (put : Putting) (g : GraphOf) (i : ℕ) (e : Edge) → IsEdgeAt g i e → is_loop e ≡ true
     → first_ends put g i ≡ first_ends put g (i + 1)
 loop_more put g i e at loop =
     sym (ends_more put g i e at ∙ ap (λ ps. first_ends put g i ++ ps) (loop_ends put i e loop)
@@ -262,25 +260,25 @@ loop_more put g i e at loop =
 
 -- so the counts stay behind a loop
 pub counts_loop : (g : GraphOf) (i : ℕ) (e : Edge) (ds : List ℕ) → IsEdgeAt g i e → is_loop e ≡ true
-    → CountPuts g.vertices (first_ends Number g i) ds → CountPuts g.vertices (first_ends Number g (i + 1)) ds
-counts_loop g i e ds at loop counts = subst (λ ps. CountPuts g.vertices ps ds) (loop_more Number g i e at loop) counts
+    → CountPuts g.vertices (first_ends put_number g i) ds → CountPuts g.vertices (first_ends put_number g (i + 1)) ds
+counts_loop g i e ds at loop counts = subst (λ ps. CountPuts g.vertices ps ds) (loop_more put_number g i e at loop) counts
 
 -- after all edges the counts are the degrees
 pub counts_all : (g : GraphOf) (i : ℕ) (ds : List ℕ) → All (IsEdge g.vertices) g.edges → length g.edges ≤ i
-    → CountPuts g.vertices (first_ends Number g i) ds → ds ≡ degrees_of g
+    → CountPuts g.vertices (first_ends put_number g i) ds → ds ≡ degrees_of g
 counts_all g i ds edges all counts =
     ext_get_or 0 ds (degrees_of g)
     (counts.size ∙ sym (length-map-range_with_len (λ w. length (edges_at g w)) 1 g.vertices))
     (λ k below.
     let here : k < g.vertices = omega (arith, below, counts.size) in
-    counts.each k here ∙ ap (λ es. length (put_into k (ends_from Number 0 es))) (take_all i g.edges all)
-    ∙ length-row_stands Number g k edges
+    counts.each k here ∙ ap (λ es. length (put_into k (ends_from put_number 0 es))) (take_all i g.edges all)
+    ∙ length-row_stands put_number g k edges
     ∙ sym (get_or-map-range_with_len (λ w. length (edges_at g w)) 1 g.vertices k (k + 1) 0 here (omega arith)))
 
 -- ---- pushing
 
 -- the rooms are as large as all edges need
-pub rooms_count : (put : Put) (g : GraphOf) (rooms : List ℕ) → All (IsEdge g.vertices) g.edges → rooms ≡ degrees_of g
+pub rooms_count : (put : Putting) (g : GraphOf) (rooms : List ℕ) → All (IsEdge g.vertices) g.edges → rooms ≡ degrees_of g
     → CountPuts g.vertices (ends_from put 0 g.edges) rooms
 rooms_count put g rooms edges is =
     record {
@@ -292,12 +290,12 @@ rooms_count put g rooms edges is =
     }
 
 -- what holds of rows once the first i edges were pushed
-pub record HoldsEdges (put : Put) (g : GraphOf) (i : ℕ) (f : RoomyRows) : Type 0 where
+pub record HoldsEdges (put : Putting) (g : GraphOf) (i : ℕ) (f : RoomyRows) : Type 0 where
   pub rooms : CountPuts g.vertices (ends_from put 0 g.edges) f.rooms
   pub rows : HoldPuts g.vertices (first_ends put g i) f.rows
 
 -- before the first edge the rows are empty
-pub holds_no_edge : (put : Put) (g : GraphOf) (f : RoomyRows) (degrees : List ℕ) → All (IsEdge g.vertices) g.edges
+pub holds_no_edge : (put : Putting) (g : GraphOf) (f : RoomyRows) (degrees : List ℕ) → All (IsEdge g.vertices) g.edges
     → degrees ≡ degrees_of g → f.rooms ≡ degrees → f.rows ≡ replicate (length degrees) [] → HoldsEdges put g 0 f
 holds_no_edge put g f degrees edges is rooms rows =
     let counts = rooms_count put g f.rooms edges (rooms ∙ is) in
@@ -309,10 +307,10 @@ holds_no_edge put g f degrees edges is rooms rows =
     }
 
 -- there is room for an edge at its first end
-pub room_from : (put : Put) (g : GraphOf) (i : ℕ) (e : Edge) (f : RoomyRows) → IsEdgeAt g i e → is_loop e ≡ false
+pub room_from : (put : Putting) (g : GraphOf) (i : ℕ) (e : Edge) (f : RoomyRows) → IsEdgeAt g i e → is_loop e ≡ false
     → HoldsEdges put g i f → HasRoom f (e.u - 1)
 room_from put g i e f at apart h =
-    has_room_for_next g.vertices (e.u - 1) (put_of put i e e.u) (first_ends put g i)
+    has_room_for_next g.vertices (e.u - 1) (put i e e.u) (first_ends put g i)
     (put_second put i e ∷ rest_ends put g i) f
     (row_there g.vertices e.u at.edge.from)
     (subst (λ ps. CountPuts g.vertices ps f.rooms)
@@ -321,26 +319,26 @@ room_from put g i e f at apart h =
     h.rows
 
 -- what holds between the two pushes
-pub record HoldsHalf (put : Put) (g : GraphOf) (i : ℕ) (e : Edge) (f : RoomyRows) : Type 0 where
+pub record HoldsHalf (put : Putting) (g : GraphOf) (i : ℕ) (e : Edge) (f : RoomyRows) : Type 0 where
   pub rooms : CountPuts g.vertices (ends_from put 0 g.edges) f.rooms
   pub rows : HoldPuts g.vertices (first_ends put g i ++ put_first put i e ∷ []) f.rows
 
 -- behind the first push the rows hold half of the edge
-pub holds_from : (put : Put) (g : GraphOf) (i : ℕ) (e : Edge) (f f' : RoomyRows) → IsEdgeAt g i e → HoldsEdges put g i f
-    → f'.rows ≡ push_at f.rows (e.u - 1) (put_of put i e e.u) → f'.rooms ≡ f.rooms → HoldsHalf put g i e f'
+pub holds_from : (put : Putting) (g : GraphOf) (i : ℕ) (e : Edge) (f f' : RoomyRows) → IsEdgeAt g i e → HoldsEdges put g i f
+    → f'.rows ≡ push_at f.rows (e.u - 1) (put i e e.u) → f'.rooms ≡ f.rooms → HoldsHalf put g i e f'
 holds_from put g i e f f' at h rows rooms =
     record {
       rooms = subst (CountPuts g.vertices (ends_from put 0 g.edges)) (sym rooms) h.rooms;
       rows = subst (HoldPuts g.vertices (first_ends put g i ++ put_first put i e ∷ [])) (sym rows)
-          (holds_more g.vertices (e.u - 1) (put_of put i e e.u) (first_ends put g i) f.rows
+          (holds_more g.vertices (e.u - 1) (put i e e.u) (first_ends put g i) f.rows
           (row_there g.vertices e.u at.edge.from) h.rows);
     }
 
 -- there is room for it at its second end
-pub room_to : (put : Put) (g : GraphOf) (i : ℕ) (e : Edge) (f : RoomyRows) → IsEdgeAt g i e → is_loop e ≡ false
+pub room_to : (put : Putting) (g : GraphOf) (i : ℕ) (e : Edge) (f : RoomyRows) → IsEdgeAt g i e → is_loop e ≡ false
     → HoldsHalf put g i e f → HasRoom f (e.v - 1)
 room_to put g i e f at apart h =
-    has_room_for_next g.vertices (e.v - 1) (put_of put i e e.v) (first_ends put g i ++ put_first put i e ∷ [])
+    has_room_for_next g.vertices (e.v - 1) (put i e e.v) (first_ends put g i ++ put_first put i e ∷ [])
     (rest_ends put g i) f
     (row_there g.vertices e.v at.edge.to)
     (subst (λ ps. CountPuts g.vertices ps f.rooms)
@@ -351,8 +349,8 @@ room_to put g i e f at apart h =
     h.rooms) h.rows
 
 -- an edge more
-pub holds_edge : (put : Put) (g : GraphOf) (i : ℕ) (e : Edge) (f f' : RoomyRows) → IsEdgeAt g i e → is_loop e ≡ false
-    → HoldsHalf put g i e f → f'.rows ≡ push_at f.rows (e.v - 1) (put_of put i e e.v) → f'.rooms ≡ f.rooms
+pub holds_edge : (put : Putting) (g : GraphOf) (i : ℕ) (e : Edge) (f f' : RoomyRows) → IsEdgeAt g i e → is_loop e ≡ false
+    → HoldsHalf put g i e f → f'.rows ≡ push_at f.rows (e.v - 1) (put i e e.v) → f'.rooms ≡ f.rooms
     → HoldsEdges put g (i + 1) f'
 holds_edge put g i e f f' at apart h rows rooms =
     record {
@@ -360,18 +358,18 @@ holds_edge put g i e f f' at apart h rows rooms =
       rows = subst (λ ps. HoldPuts g.vertices ps f'.rows) (two_more put g i e at apart)
           (subst (HoldPuts g.vertices ((first_ends put g i ++ put_first put i e ∷ []) ++ put_second put i e ∷ []))
           (sym rows)
-          (holds_more g.vertices (e.v - 1) (put_of put i e e.v) (first_ends put g i ++ put_first put i e ∷ []) f.rows
+          (holds_more g.vertices (e.v - 1) (put i e e.v) (first_ends put g i ++ put_first put i e ∷ []) f.rows
           (row_there g.vertices e.v at.edge.to) h.rows));
     }
 
 -- and the rows stay behind a loop
-pub holds_loop : (put : Put) (g : GraphOf) (i : ℕ) (e : Edge) (f : RoomyRows) → IsEdgeAt g i e → is_loop e ≡ true
+pub holds_loop : (put : Putting) (g : GraphOf) (i : ℕ) (e : Edge) (f : RoomyRows) → IsEdgeAt g i e → is_loop e ≡ true
     → HoldsEdges put g i f → HoldsEdges put g (i + 1) f
 holds_loop put g i e f at loop h =
     record { rooms = h.rooms; rows = subst (λ ps. HoldPuts g.vertices ps f.rows) (loop_more put g i e at loop) h.rows }
 
 -- after all edges the rows have what they put there
-pub holds_all : (put : Put) (g : GraphOf) (i : ℕ) (f : RoomyRows) → All (IsEdge g.vertices) g.edges
+pub holds_all : (put : Putting) (g : GraphOf) (i : ℕ) (f : RoomyRows) → All (IsEdge g.vertices) g.edges
     → length g.edges ≤ i → HoldsEdges put g i f → f.rows ≡ rows_by put g
 holds_all put g i f edges all h =
     let none : List ℕ = [] in

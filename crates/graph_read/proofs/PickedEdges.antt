@@ -7,9 +7,8 @@ use Rattle.std.proofs.lemmas.Bool.{cases_eq, cases_lt, eq-eqb, ne_eqb}
 use Rattle.std.proofs.lemmas.List.{length-set, get_or-set_same, get_or-set_other, get_or_append_left, take_all}
 use Rattle.pop_rows.proofs.Puts.{put_into, put_into-append}
 use Rattle.graph_read.specs.declared.edge.Edge.{Edge}
-use Rattle.graph_read.specs.declared.put.Put.TheVariants.{Number}
 use Rattle.graph_read.specs.Graphs.{GraphOf, IsEdge}
-use Rattle.graph_read.specs.Incidence.{StandAtPlaces, is_loop, edges_at}
+use Rattle.graph_read.specs.Incidence.{StandAtPlaces, is_loop, edges_at, put_number}
 use Rattle.graph_read.proofs.IncidenceLemmas.{numbers_by}
 use Rattle.graph_read.proofs.IncidenceRows.{IsEdgeAt, Puts, ends_from, first_ends, loop_more, row_stands, row_there, two_more}
 
@@ -133,7 +132,7 @@ module _ (n v i : ℕ) (ps : Puts) (places left picked : List ℕ) (below : v < 
 
 -- the numbers that the first i edges put into rows came
 abbrev pub PicksEdges : GraphOf → ℕ → List ℕ → List ℕ → List ℕ → Type 0
-PicksEdges g i places left picked = Picks g.vertices (first_ends Number g i) places left picked
+PicksEdges g i places left picked = Picks g.vertices (first_ends put_number g i) places left picked
 
 -- a number that came, by what a row counts and keeps
 pub picks_at : (n v i : ℕ) (ps : Puts) (places left picked left' picked' : List ℕ) → v < n
@@ -147,16 +146,16 @@ picks_at n v i ps places left picked left' picked' below p left_is picked_is =
 
 -- both ends of an edge came
 pub picks_both : (g : GraphOf) (i : ℕ) (e : Edge) (places left picked : List ℕ) → IsEdgeAt g i e → is_loop e ≡ false
-    → Picks g.vertices ((first_ends Number g i ++ (e.u - 1, i) ∷ []) ++ (e.v - 1, i) ∷ []) places left picked
+    → Picks g.vertices ((first_ends put_number g i ++ (e.u - 1, i) ∷ []) ++ (e.v - 1, i) ∷ []) places left picked
     → PicksEdges g (i + 1) places left picked
 picks_both g i e places left picked at apart p =
-    subst (λ ps. Picks g.vertices ps places left picked) (two_more Number g i e at apart) p
+    subst (λ ps. Picks g.vertices ps places left picked) (two_more put_number g i e at apart) p
 
 -- a loop puts nothing
 pub picks_loop : (g : GraphOf) (i : ℕ) (e : Edge) (places left picked : List ℕ) → IsEdgeAt g i e → is_loop e ≡ true
     → PicksEdges g i places left picked → PicksEdges g (i + 1) places left picked
 picks_loop g i e places left picked at loop p =
-    subst (λ ps. Picks g.vertices ps places left picked) (loop_more Number g i e at loop) p
+    subst (λ ps. Picks g.vertices ps places left picked) (loop_more put_number g i e at loop) p
 
 -- once all edges came, each vertex has the edge at its place
 pub picks_all : (g : GraphOf) (i : ℕ) (places left picked : List ℕ) → All (IsEdge g.vertices) g.edges
@@ -167,9 +166,9 @@ picks_all g i places left picked edges all p =
       each = λ w x vertex place within.
           let first = vertex.first in
           let back : w - 1 + 1 ≡ w = omega (arith, first) in
-          let row : put_into (w - 1) (first_ends Number g i) ≡ edges_at g w =
-          ap (λ es. put_into (w - 1) (ends_from Number 0 es)) (take_all i g.edges all)
-          ∙ row_stands Number g (w - 1) edges ∙ numbers_by g (w - 1 + 1) ∙ ap (edges_at g) back in
+          let row : put_into (w - 1) (first_ends put_number g i) ≡ edges_at g w =
+          ap (λ es. put_into (w - 1) (ends_from put_number 0 es)) (take_all i g.edges all)
+          ∙ row_stands put_number g (w - 1) edges ∙ numbers_by g (w - 1 + 1) ∙ ap (edges_at g) back in
           p.picked_is (w - 1) x (row_there g.vertices w vertex) place (subst (λ xs. x < length xs) (sym row) within)
           ∙ ap (λ xs. get_or xs x 0) row;
     }

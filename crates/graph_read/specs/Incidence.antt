@@ -1,9 +1,9 @@
 -- Which edges stand at a vertex.
-use Rattle.std.specs.Prelude.{◌≡◌, ℕ, ◌+◌, ◌-◌, ◌<◌, Bool, ◌&&◌, ◌||◌, not, ◌==◌, if◌then◌else◌, List, [], length, map, filter, slice_index, slice_index_or}
+use Rattle.std.specs.Prelude.{◌≡◌, ℕ, ◌+◌, ◌-◌, ◌*◌, ◌<◌, Bool, ◌&&◌, ◌||◌, not, ◌==◌, if◌then◌else◌, List, [], length, map, filter, slice_index, slice_index_or}
 use Rattle.std.specs.List.{enumerate_from, range_with_len}
 use Rattle.graph_read.specs.declared.edge.Edge.{Edge}
 use Rattle.graph_read.specs.declared.put.Put.{Put}
-use Rattle.graph_read.specs.declared.put.Put.TheVariants.{Number, OtherEnd, Weight}
+use Rattle.graph_read.specs.declared.put.Put.TheVariants.{Dart, OtherEnd, Weight}
 use Rattle.graph_read.specs.Graphs.{GraphOf, IsVertex, edge_at}
 
 -- both ends of the edge are one vertex
@@ -30,18 +30,33 @@ edges_at g w = map (λ p. p.0) (listed_edges g w)
 abbrev pub neighbours_of : GraphOf → ℕ → List ℕ
 neighbours_of g w = map (λ i. other_end (edge_at g i) w) (edges_at g w)
 
--- what edge i puts into the row of a vertex at which it stands
-abbrev pub put_of : Put → ℕ → Edge → ℕ → ℕ
-put_of Number i e w = i
-put_of OtherEnd i e w = other_end e w
-put_of Weight i e w = e.weight
+-- The darts (half-edges) of edge i are its two ends: 2 i at its end v, and 2 i + 1 at its end u. The one at this end of it:
+abbrev pub dart_at : ℕ → Edge → ℕ → ℕ
+dart_at i e w = 2 * i + (if e.v == w then 0 else 1)
+
+-- what an edge puts into the row of a vertex at which it stands: by the number of the edge, the edge and the vertex
+abbrev pub Putting : Type 0
+Putting = ℕ → Edge → ℕ → ℕ
+
+abbrev pub put_of : Put → Putting
+put_of Dart = dart_at
+put_of OtherEnd = λ i e w. other_end e w
+put_of Weight = λ i e w. e.weight
+
+-- the number of the edge
+abbrev pub put_number : Putting
+put_number i e w = i
 
 -- what the edges at a vertex put into its row
-abbrev pub row_by : Put → GraphOf → ℕ → List ℕ
-row_by put g w = map (λ i. put_of put i (edge_at g i) w) (edges_at g w)
+abbrev pub row_by : Putting → GraphOf → ℕ → List ℕ
+row_by put g w = map (λ i. put i (edge_at g i) w) (edges_at g w)
+
+-- the darts at a vertex, loops aside, in the order of the graph
+abbrev pub darts_at : GraphOf → ℕ → List ℕ
+darts_at g = row_by dart_at g
 
 -- what the edges at each vertex put there, from vertex 1 on
-abbrev pub rows_by : Put → GraphOf → List (List ℕ)
+abbrev pub rows_by : Putting → GraphOf → List (List ℕ)
 rows_by put g = map (row_by put g) (range_with_len 1 g.vertices)
 
 -- how many edges stand at each vertex, loops aside

@@ -1,6 +1,6 @@
 //! Rows of numbers that edges put there, one for each vertex.
 ghost use Rattle.std.specs.Prelude.{◌≡◌, ◌≤◌, ◌^◌, length, replicate, IfOk};
-ghost use Rattle.graph_read.specs.Incidence.{degrees_of, rows_by};
+ghost use Rattle.graph_read.specs.Incidence.{degrees_of, put_of, rows_by};
 
 use crate::Graph;
 use crate::put::Put;
@@ -10,7 +10,7 @@ use std::alloc::{AllocError, Global};
 /// For each vertex, from vertex 1 on, what the edges at it that aren't loops put there, in the
 /// order of the graph. One pass over the edges counts, and one puts.
 pub fn rows_of(alloc: Global, graph: &Graph, put: Put) -> Result<FlatRows, AllocError>
-    ensures { IfOk result (λ rows. rows.rows ≡ rows_by put graph.now) }
+    ensures { IfOk result (λ rows. rows.rows ≡ rows_by (put_of put) graph.now) }
 {
     put_rows(alloc, graph, degrees(alloc, graph)?, put)
 }
@@ -24,7 +24,7 @@ pub fn put_rows(
 ) -> Result<FlatRows, AllocError>
     requires degrees { degrees.items ≡ degrees_of graph.now }
     requires few { length degrees.items ≤ 2 ^ 22 }
-    ensures { IfOk result (λ rows. rows.rows ≡ rows_by put graph.now) }
+    ensures { IfOk result (λ rows. rows.rows ≡ rows_by (put_of put) graph.now) }
 {
     let mut rows = FlatRows::with_rooms(alloc, degrees)?;
     for i in 0..graph.edges() {

@@ -1,6 +1,6 @@
-ghost use Rattle.std.specs.Prelude.{◌≡◌, ◌<◌, length, All, IfOk};
+ghost use Rattle.std.specs.Prelude.{◌≡◌, IfOk};
 ghost use Rattle.graph_read.specs.Graphs.{IsVertex};
-ghost use Rattle.graph_read.specs.Incidence.{edges_at};
+ghost use Rattle.graph_read.specs.Incidence.{darts_at};
 
 use crate::Graph;
 use crate::end_rows::rows_of;
@@ -9,26 +9,27 @@ use pop_rows::FlatRows;
 use std::alloc::{AllocError, Global};
 use std::marker::Model;
 
-/// A graph with, for each of its vertices, the edges at it that aren't loops, by their numbers,
-/// from 0, rising. Contracts see the graph.
+/// A graph with, for each of its vertices, the edges at it that aren't loops, by their darts there
+/// (half-edges: 2 i is edge i, from 0, at its end v, and 2 i + 1 the same at its end u), rising. So
+/// it is known at which end of an edge a vertex stands, and no edge is looked up for it. Contracts
+/// see the graph.
 #[derive(Drop)]
 pub struct Incidence<'g> {
     graph: &'g Graph,
-    // The edges at vertex w stand in row w - 1.
+    // The darts at vertex w stand in row w - 1.
     rows: FlatRows,
 }
 
 impl<'g> Model for Incidence<'g> {
     ghost use Rattle.std.specs.Prelude.{◌≡◌};
     ghost use Rattle.graph_read.specs.Graphs.{GraphOf};
-    ghost use Rattle.graph_read.specs.Incidence.{rows_by};
-    ghost use Rattle.graph_read.specs.declared.put.Put.TheVariants.{Number};
+    ghost use Rattle.graph_read.specs.Incidence.{dart_at, rows_by};
 
     ghost Value = { GraphOf };
 
     ghost view = { λ a. a.graph.now };
 
-    ghost invariant = { λ a. a.rows.rows ≡ rows_by Number a.graph.now };
+    ghost invariant = { λ a. a.rows.rows ≡ rows_by dart_at a.graph.now };
 }
 
 impl<'g> Incidence<'g> {
@@ -36,7 +37,7 @@ impl<'g> Incidence<'g> {
     pub fn of(alloc: Global, graph: &'g Graph) -> Result<Incidence<'g>, AllocError>
         ensures { IfOk result (λ incidence. incidence ≡ graph.now) }
     {
-        let rows = rows_of(alloc, graph, Put::Number)?;
+        let rows = rows_of(alloc, graph, Put::Dart)?;
         Ok(Incidence { graph, rows })
     }
 
@@ -47,11 +48,10 @@ impl<'g> Incidence<'g> {
         self.graph
     }
 
-    /// The edges at a vertex, which counts from 1.
+    /// The darts at a vertex, which counts from 1.
     pub fn at(&self, vertex: u32) -> &[u32]
         requires { IsVertex self.now.vertices vertex }
-        ensures edges { result.now ≡ edges_at self.now vertex }
-        ensures known { All (λ i. i < length self.now.edges) result.now }
+        ensures { result.now ≡ darts_at self.now vertex }
     {
         self.rows.row(vertex - 1)
     }

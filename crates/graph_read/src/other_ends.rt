@@ -1,6 +1,6 @@
 ghost use Rattle.std.specs.Prelude.{◌≡◌, ◌≤◌, ◌^◌, length, OnOk, IfOk};
 ghost use Rattle.graph_read.specs.Graphs.{IsVertex};
-ghost use Rattle.graph_read.specs.Incidence.{degrees_of, edges_at, neighbours_of, rows_by};
+ghost use Rattle.graph_read.specs.Incidence.{degrees_of, edges_at, neighbours_of, put_of, rows_by};
 ghost use Rattle.graph_read.specs.declared.put.Put.TheVariants.{Weight};
 
 use crate::end_rows::{put_rows, rows_of};
@@ -22,14 +22,14 @@ pub struct OtherEnds<'g> {
 impl<'g> Model for OtherEnds<'g> {
     ghost use Rattle.std.specs.Prelude.{◌≡◌};
     ghost use Rattle.graph_read.specs.Graphs.{GraphOf};
-    ghost use Rattle.graph_read.specs.Incidence.{rows_by};
+    ghost use Rattle.graph_read.specs.Incidence.{put_of, rows_by};
     ghost use Rattle.graph_read.specs.declared.put.Put.TheVariants.{OtherEnd};
 
     ghost Value = { GraphOf };
 
     ghost view = { λ a. a.graph.now };
 
-    ghost invariant = { λ a. a.rows.rows ≡ rows_by OtherEnd a.graph.now };
+    ghost invariant = { λ a. a.rows.rows ≡ rows_by (put_of OtherEnd) a.graph.now };
 }
 
 impl<'g> OtherEnds<'g> {
@@ -58,7 +58,7 @@ impl<'g> OtherEnds<'g> {
 
     /// For each vertex, from vertex 1 on, the weights of these edges: one pass over the edges.
     pub fn weights(&self, alloc: Global) -> Result<FlatRows, AllocError>
-        ensures { IfOk result (λ weights. weights.rows ≡ rows_by Weight self.now) }
+        ensures { IfOk result (λ weights. weights.rows ≡ rows_by (put_of Weight) self.now) }
     {
         put_rows(alloc, self.graph, self.degrees(alloc)?, Put::Weight)
     }

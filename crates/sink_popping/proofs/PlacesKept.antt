@@ -1,6 +1,6 @@
 -- Where each vertex has an event, that of vertex w stands at place w - 1.
-use Rattle.std.proofs.Common.{◌≡◌, ℕ, zero, suc, ◌+◌, ◌<◌, List, ◌∷◌, length, map, get_or, Option, Some, None, sym, ap, ◌∙◌, arith}
-use Rattle.std.specs.List.{range_with_len}
+use Rattle.std.proofs.Common.{◌≡◌, ℕ, zero, suc, ◌+◌, ◌-◌, ◌<◌, ◌≤◌, List, length, get_or, Option, Some, None, refl, sym, ap, ◌∙◌, arith}
+use Rattle.std.specs.Prelude.{SomeIff}
 use Rattle.std.proofs.lemmas.List.FromFn.{get_or-map-range_with_len, length-map-range_with_len}
 use Rattle.std.proofs.lemmas.Option.{none-some, same_Some}
 use Rattle.pop_model.specs.Popping.{Cube}
@@ -43,3 +43,14 @@ each_are rows n size numbers = record { each = λ w place within. by w place wit
               let same : w ≡ place = omega (arith, number, is) in
               at ∙ ap (λ (k : ℕ). Some k) same,
         )
+
+-- the vertex before a vertex is its place
+pub before_is : (n w : ℕ) (found : Option ℕ) → w < length (places_kept (Each n)) → SomeIff found (1 ≤ w) (w - 1)
+    → found ≡ get_or (places_kept (Each n)) w None
+before_is n zero None within none = refl
+before_is n zero (Some place) within found = absurd (omega (arith, found.0))
+before_is n (suc w) None within none = absurd (none (omega arith))
+before_is n (suc w) (Some place) within found =
+    let count = each_count n in
+    let same : place ≡ w = omega (arith, found.1) in
+    ap (λ (k : ℕ). Some k) same ∙ sym (each_at n w (omega (arith, count, within)))

@@ -1,9 +1,9 @@
 -- The cube of a vertex without a loop: the pairs of the edges at it are a cube where there is one, and it is the only
 -- one that has just these edges. Two vertices have different cubes, since an edge doesn't point to both its ends.
-use Rattle.std.proofs.Common.{inl, inr, ◌≡◌, ◌≢◌, ℕ, ◌+◌, ◌<◌, ◌≤◌, Bool, true, false, not, ◌&&◌, ◌==◌, cond, [], ◌∷◌, ◌++◌, length, take, get_or, Some, slice_get, refl, sym, ap, ap₂, subst, ◌∙◌, arith, Contains, slice_index, eq-eqb, ne_eqb, eqb-true}
+use Rattle.std.proofs.Common.{inl, inr, ◌≡◌, ◌≢◌, ℕ, ◌+◌, ◌*◌, ◌/◌, ◌%◌, ◌<◌, ◌≤◌, Bool, true, false, not, ◌&&◌, ◌==◌, cond, List, length, map, get_or, Some, slice_get, refl, sym, ap, ap₂, subst, ◌∙◌, arith, Contains, slice_index, eq-eqb, ne_eqb, eqb-true}
 use Rattle.std.specs.List.Sorted.{IsStrictlyIncreasing}
 use Rattle.std.proofs.lemmas.Bool.{cases_eq, and_parts, and_from, or_cases, false≢true, not_from_false, false_from_ne_true}
-use Rattle.std.proofs.lemmas.List.{length-map, get_or-map, take_more}
+use Rattle.std.proofs.lemmas.List.{length-map, get_or-map, ext_get_or}
 use Rattle.std.proofs.lemmas.List.Elements.{Contains-get_or}
 use Rattle.std.proofs.lemmas.List.Folds.{Any-from_list_any, list_any_at}
 use Rattle.std.proofs.lemmas.Option.{same_Some, slice_get_within, slice_get-get_or, get_or_from_slice_get}
@@ -11,10 +11,10 @@ use Rattle.pop_model.specs.Popping.{Cube, IsCube, variables}
 use Rattle.pop_model.proofs.Members.{variable_at}
 use Rattle.pop_model.proofs.Rising.{same_rising}
 use Rattle.graph_read.specs.declared.edge.Edge.{Edge}
-use Rattle.graph_read.specs.Graphs.{GraphOf, IsVertex}
-use Rattle.graph_read.specs.Incidence.{is_loop, touches, listed_edges, edges_at}
+use Rattle.graph_read.specs.Graphs.{GraphOf, IsVertex, edge_at}
+use Rattle.graph_read.specs.Incidence.{is_loop, touches, listed_edges, edges_at, dart_at, darts_at}
 use Rattle.sink_popping.specs.Sinks.{pointing_to, PointsTo, has_loop, HasSink, IsIsolated}
-use Rattle.sink_popping.specs.SinkCubes.{pairs_at}
+use Rattle.sink_popping.specs.SinkCubes.{pair_of, pairs_at}
 use Rattle.graph_read.proofs.Numbering.{contains_map, contains_map_from, numbered_are, has_numbered, numbered_rise, length-numbered}
 
 -- ---- edges and their ends
@@ -112,25 +112,37 @@ listed_at g w k within =
     ap (slice_get g.edges) (get_or-map (λ (p : ℕ × Edge). p.0) (listed_edges g w) k (0, no_edge) 0 inside)
     ∙ (numbered_are (λ e. touches e w && not (is_loop e)) g.edges k (0, no_edge) inside).0
 
--- its pair comes next
-pub pairs_more : (g : GraphOf) (w k : ℕ) (edge : Edge) → k < length (edges_at g w)
-    → edge ≡ get_or g.edges (get_or (edges_at g w) k 0) edge
-    → take k (pairs_at g w) ++ (get_or (edges_at g w) k 0, pointing_to edge w) ∷ [] ≡ take (k + 1) (pairs_at g w)
-pairs_more g w k edge within read =
+-- an edge and a value are the pair of a dart
+pair_is : (i x : ℕ) → x < 2 → pair_of (2 * i + x) ≡ (i, x)
+pair_is i x two =
+    let half : (2 * i + x) / 2 ≡ i = omega (arith, two) in
+    let rest : (2 * i + x) % 2 ≡ x = omega (arith, two) in
+    ap₂ (λ (a b : ℕ). (a, b)) half rest
+
+-- the pairs at a vertex are those of the darts there
+pub pairs_of_darts : (g : GraphOf) (w : ℕ) → map pair_of (darts_at g w) ≡ pairs_at g w
+pairs_of_darts g w =
+    let number : ℕ × Edge → ℕ = λ p. p.0 in
     let pair : ℕ × Edge → ℕ × ℕ = λ p. (p.0, pointing_to p.1 w) in
+    let dart : ℕ → ℕ = λ i. dart_at i (edge_at g i) w in
+    let edges : List ℕ = edges_at g w in
+    let size : length (map pair_of (darts_at g w)) ≡ length edges =
+    length-map (darts_at g w) pair_of ∙ length-map edges dart in
+    ext_get_or (0, 0) (map pair_of (darts_at g w)) (pairs_at g w) (size ∙ sym (length-pairs_at g w))
+    (λ k below.
+    let within : k < length edges = omega (arith, size, below) in
     let listed : ℕ × Edge = get_or (listed_edges g w) k (0, no_edge) in
-    let size = length-map (listed_edges g w) (λ (p : ℕ × Edge). p.0) in
-    let inside : k < length (listed_edges g w) = omega (arith, size, within) in
-    let number : listed.0 ≡ get_or (edges_at g w) k 0 =
-    sym (get_or-map (λ (p : ℕ × Edge). p.0) (listed_edges g w) k (0, no_edge) 0 inside) in
-    let same : listed.1 ≡ edge =
-    sym (get_or_from_slice_get g.edges (get_or (edges_at g w) k 0) listed.1 edge (listed_at g w k within))
-    ∙ sym read in
-    let here : get_or (pairs_at g w) k (0, 0) ≡ (get_or (edges_at g w) k 0, pointing_to edge w) =
-    get_or-map pair (listed_edges g w) k (0, no_edge) (0, 0) inside
-    ∙ ap₂ (λ (i : ℕ) (e : Edge). (i, pointing_to e w)) number same in
-    sym (take_more (pairs_at g w) k (0, 0) (omega (arith, within, length-pairs_at g w))
-    ∙ ap (λ (p : ℕ × ℕ). take k (pairs_at g w) ++ p ∷ []) here)
+    let few = length-map (listed_edges g w) number in
+    let inside : k < length (listed_edges g w) = omega (arith, few, within) in
+    let i : ℕ = get_or edges k 0 in
+    let number_is : i ≡ listed.0 = get_or-map number (listed_edges g w) k (0, no_edge) 0 inside in
+    let edge_is : edge_at g i ≡ listed.1 =
+    get_or_from_slice_get g.edges i listed.1 no_edge (listed_at g w k within) in
+    get_or-map pair_of (darts_at g w) k 0 (0, 0) (omega (arith, length-map edges dart, within))
+    ∙ ap pair_of (get_or-map dart edges k 0 0 within)
+    ∙ pair_is i (pointing_to (edge_at g i) w) (pointing_small (edge_at g i) w)
+    ∙ ap₂ (λ (n : ℕ) (e : Edge). (n, pointing_to e w)) number_is edge_is
+    ∙ sym (get_or-map pair (listed_edges g w) k (0, no_edge) (0, 0) inside))
 
 -- where there is an edge, the pairs are a cube
 pub pairs_are_cube : (g : GraphOf) (w : ℕ) → 0 < length (edges_at g w) → IsCube (pairs_at g w)

@@ -1,11 +1,15 @@
 -- The events of single vertices, as they are made.
-use Rattle.std.specs.Prelude.{◌≡◌, ℕ, ◌+◌, ◌<◌, Bool, true, false, List, length, map, slice_index_or, Option, None, Some, Result, Ok, Err, ⊤}
+use Rattle.std.specs.Prelude.{◌≡◌, ℕ, ◌+◌, ◌/◌, ◌%◌, ◌<◌, Bool, true, false, List, length, map, slice_index_or, Option, None, Some, Result, Ok, Err, ⊤}
 use Rattle.pop_model.specs.Popping.{Cube}
 use Rattle.graph_read.specs.Graphs.{GraphOf}
 use Rattle.graph_read.specs.Incidence.{listed_edges}
 use Rattle.sink_popping.specs.declared.sink_fault.SinkFault.{SinkFault}
 use Rattle.sink_popping.specs.declared.sink_fault.SinkFault.TheVariants.{Isolated, OutOfMemory}
 use Rattle.sink_popping.specs.Sinks.{pointing_to, has_loop, HasSink, IsIsolated}
+
+-- the pair of a dart: its edge, and the value at which that points to where the dart is
+abbrev pub pair_of : ℕ → ℕ × ℕ
+pair_of dart = (dart / 2, dart % 2)
 
 -- the edges at a vertex that aren't loops, each with the value at which it points there
 abbrev pub pairs_at : GraphOf → ℕ → Cube

@@ -62,9 +62,8 @@ fn sink_at(
     if loops[w as usize] {
         return Ok(None);
     }
-    let edges = incidence.at(w);
-    if edges.is_empty() {
+    if incidence.at(w).is_empty() {
         return Err(SinkFault::Isolated(w));
     }
-    Ok(Some(sink_cube(alloc, incidence.graph(), w, edges)?))
+    Ok(Some(sink_cube(alloc, incidence, w)?))
 }

@@ -40,7 +40,7 @@ fn sink_index(alloc: Global, graph: &Graph, events: &Events) -> Result<Index, Al
     ensures index { IfOk result (IsIndex events.now) }
     ensures count { IfOk result (λ index. length index ≡ length graph.now.edges) }
 {
-    let places = Places::of(alloc, events, graph.vertices())?;
+    let places = Places::of_events(alloc, events, graph.vertices())?;
     let count = graph.edges() as usize;
     let mut rows = RowList::with_room(alloc, count, 2 * count)?;
     for i in 0..graph.edges() {

@@ -34,7 +34,7 @@ impl Model for Places {
 impl Places {
     /// The places of the events of so many vertices. Where each vertex has one, they are known
     /// without a list, which would be read in no order.
-    pub fn of(alloc: Global, events: &Events, vertices: u32) -> Result<Places, AllocError>
+    pub fn of_events(alloc: Global, events: &Events, vertices: u32) -> Result<Places, AllocError>
         requires { All (λ r. r.0 ≤ vertices) events.now }
         ensures count { IfOk result (λ places. length places ≡ vertices + 1) }
         ensures places { IfOk result (ArePlaces events.now (length events.now)) }

@@ -1,44 +1,32 @@
-ghost use Rattle.std.specs.Prelude.{◌≡◌, ◌<◌, length, IfOk};
+ghost use Rattle.std.specs.Prelude.{◌≡◌, ◌<◌, length, map, IfOk};
+ghost use Rattle.graph_read.specs.Graphs.{IsVertex};
 ghost use Rattle.graph_read.specs.Incidence.{edges_at};
-ghost use Rattle.sink_popping.specs.Sinks.{pointing_to};
-ghost use Rattle.sink_popping.specs.SinkCubes.{pairs_at};
+ghost use Rattle.sink_popping.specs.SinkCubes.{pair_of, pairs_at};
 
-use graph_read::{Edge, Graph};
+use graph_read::Incidence;
 use pop_instance::Cube;
 use std::alloc::{AllocError, Global};
 
-// The value at which an edge points to an end of it.
-fn value_to(edge: Edge, w: u32) -> u32
-    ensures { result ≡ pointing_to edge w }
+// The pairs of darts.
+fn pairs_of(alloc: Global, darts: &[u32]) -> Result<Vec<(u32, u32)>, AllocError>
+    ensures { IfOk result (λ pairs. pairs.items ≡ map pair_of darts.now) }
 {
-    if edge.v == w { 0 } else { 1 }
-}
-
-// The edges at a vertex, each with the value at which it points there.
-fn pairs_to(
-    alloc: Global,
-    graph: &Graph,
-    w: u32,
-    edges: &[u32],
-) -> Result<Vec<(u32, u32)>, AllocError>
-    requires { edges.now ≡ edges_at graph.now w }
-    ensures { IfOk result (λ pairs. pairs.items ≡ pairs_at graph.now w) }
-{
-    let mut pairs = Vec::with_capacity(alloc, edges.len())?;
-    for i in edges {
-        pairs.push((*i, value_to(graph.edge(*i), w)))?;
+    let mut pairs = Vec::with_capacity(alloc, darts.len())?;
+    for dart in darts {
+        pairs.push((*dart / 2, *dart % 2))?;
     }
     Ok(pairs)
 }
 
-/// The cube of a vertex, from the edges at it, of which there is one.
-pub fn sink_cube(alloc: Global, graph: &Graph, w: u32, edges: &[u32]) -> Result<Cube, AllocError>
-    requires edges { edges.now ≡ edges_at graph.now w }
-    requires some { 0 < length edges.now }
-    ensures { IfOk result (λ cube. cube ≡ pairs_at graph.now w) }
+/// The cube of a vertex at which some edge stands that isn't a loop: each such edge, with the value
+/// at which it points there.
+pub fn sink_cube(alloc: Global, incidence: &Incidence, w: u32) -> Result<Cube, AllocError>
+    requires vertex { IsVertex incidence.now.vertices w }
+    requires some { 0 < length (edges_at incidence.now w) }
+    ensures { IfOk result (λ cube. cube ≡ pairs_at incidence.now w) }
 {
     // Read for its contract, which says how many edges there are at most.
-    let _edges = graph.edges();
-    let pairs = pairs_to(alloc, graph, w, edges)?;
+    let _edges = incidence.graph().edges();
+    let pairs = pairs_of(alloc, incidence.at(w))?;
     Ok(Cube::new(pairs).unwrap())
 }

@@ -3,7 +3,7 @@ use Rattle.std.proofs.lemmas.List.FromFn.{length-map-range_with_len}
 use Rattle.pop_stacks.specs.Rows.{AreShort}
 use Rattle.pop_model.specs.Names.{vertex_of}
 use Rattle.graph_read.specs.declared.put.Put.TheVariants.{Weight}
-use Rattle.graph_read.specs.Incidence.{at_vertex, row_by, rows_by}
+use Rattle.graph_read.specs.Incidence.{at_vertex, put_of, row_by, rows_by}
 use Rattle.graph_read.proofs.IncidenceLemmas.{at_vertex-rows_by}
 use Rattle.cycle_popping.specs.Trees.{weights_at}
 use Rattle.cycle_popping.proofs.TreeRows.{vertex_of_is, tree_weights, rows_more, rows_whole}
@@ -17,7 +17,7 @@ row-requires c =
     omega (
       arith,
       ap length c.in_ok-weights.ensures,
-      length-map-range_with_len (row_by Weight g) 1 g.vertices,
+      length-map-range_with_len (row_by (put_of Weight) g) 1 g.vertices,
       c.vertex_of.ensures,
       named.vertex.first,
       named.vertex.last,
@@ -32,8 +32,8 @@ loop-v-preserved c =
     (omega (arith, c.vertices-count.ensures.count, c.loop-v-test.true)) in
     let row : c.row.result.now ≡ weights_at g root v = c.row.ensures
     ∙ ap (λ rows. at_vertex rows c.vertex_of.result) c.in_ok-weights.ensures
-    ∙ ap (at_vertex (rows_by Weight g)) c.vertex_of.ensures
-    ∙ at_vertex-rows_by Weight g (vertex_of root v) named.vertex in
+    ∙ ap (at_vertex (rows_by (put_of Weight) g)) c.vertex_of.ensures
+    ∙ at_vertex-rows_by (put_of Weight) g (vertex_of root v) named.vertex in
     c.in_ok-push_row.ensures.added
     ∙ rows_more (weights_at g root) v c.loop-v.rows c.row.result.now c.loop-v.invariant row
 

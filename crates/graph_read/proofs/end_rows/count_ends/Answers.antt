@@ -1,7 +1,6 @@
 use Rattle.std.proofs.Common.{◌≡◌, ◌+◌, false, true, arith, rules, sym, subst}
 use Rattle.pop_rows.proofs.Puts.{CountPuts}
-use Rattle.graph_read.specs.Incidence.{is_loop}
-use Rattle.graph_read.specs.declared.put.Put.TheVariants.{Number}
+use Rattle.graph_read.specs.Incidence.{is_loop, put_number}
 use Rattle.graph_read.proofs.IncidenceRows.{IsEdgeAt, count_small, count_small_still, counts_all, counts_from, counts_loop, counts_to, first_ends}
 use Rattle.graph_read.proofs.end_rows.count_ends.Goals as goal
 use Rattle.graph_read.proofs.end_rows.count_ends.Goals.{then-not-is_loop, else-not-is_loop}
@@ -39,7 +38,7 @@ loop-i-preserved c =
     elim c.if-not-is_loop.branch [
       | then-not-is_loop w ↦
           (let apart : is_loop c.edge-edge.result ≡ false = search rules in
-          subst (CountPuts c.args.graph.now.vertices (first_ends Number c.args.graph.now (c.loop-i.i + 1)))
+          subst (CountPuts c.args.graph.now.vertices (first_ends put_number c.args.graph.now (c.loop-i.i + 1)))
           (sym w.degrees-is)
           (counts_to c.args.graph.now c.loop-i.i c.edge-edge.result w.count_at.new.rooms
           w.count_at-then-not-is_loop.new.rooms at apart
@@ -48,7 +47,7 @@ loop-i-preserved c =
           w.count_at-then-not-is_loop.ensures))
       | else-not-is_loop w ↦
           (let loop : is_loop c.edge-edge.result ≡ true = search rules in
-          subst (CountPuts c.args.graph.now.vertices (first_ends Number c.args.graph.now (c.loop-i.i + 1)))
+          subst (CountPuts c.args.graph.now.vertices (first_ends put_number c.args.graph.now (c.loop-i.i + 1)))
           (sym w.degrees-is)
           (counts_loop c.args.graph.now c.loop-i.i c.edge-edge.result c.loop-i.degrees at loop c.loop-i.invariant))
     ]

@@ -1,12 +1,12 @@
 use Rattle.std.proofs.Common.{◌≡◌, ◌+◌, ◌-◌, false, true, arith, rules, sym, ap, subst, ◌∙◌}
 use Rattle.pop_rows.specs.FlatRows.{push_at}
-use Rattle.graph_read.specs.Incidence.{is_loop}
+use Rattle.graph_read.specs.Incidence.{is_loop, put_of, Putting}
 use Rattle.graph_read.proofs.IncidenceRows.{IsEdgeAt, HoldsEdges, holds_all, holds_edge, holds_from, holds_loop, holds_no_edge, room_from, room_to}
 use Rattle.graph_read.proofs.end_rows.put_rows.Goals as goal
 use Rattle.graph_read.proofs.end_rows.put_rows.Goals.{then-not-is_loop, else-not-is_loop}
 
 pub loop-i-init : goal.loop-i-init
-loop-i-init c = holds_no_edge c.args.put c.args.graph.now c.in_ok-rows.rows c.args.degrees.items
+loop-i-init c = holds_no_edge (put_of c.args.put) c.args.graph.now c.in_ok-rows.rows c.args.degrees.items
     c.edges-i-end.ensures.graph.edges_join c.requires.degrees c.in_ok-rows.ensures.rooms
     c.in_ok-rows.ensures.empty
 
@@ -17,7 +17,7 @@ push-requires c =
       is = c.edge-edge.ensures.edge;
       edge = c.edge-edge.ensures.joins;
     } in
-    room_from c.args.put c.args.graph.now c.loop-i.i c.edge-edge.result c.loop-i.rows at (search rules)
+    room_from (put_of c.args.put) c.args.graph.now c.loop-i.i c.edge-edge.result c.loop-i.rows at (search rules)
     c.loop-i.invariant
 
 pub push-requires-then-not-is_loop : goal.push-requires-then-not-is_loop
@@ -31,12 +31,12 @@ push-requires-then-not-is_loop c =
       edge = c.edge-edge.ensures.joins;
     } in
     let first = c.push.ensures.rows ∙ ap (push_at c.loop-i.rows.rows (e.u - 1)) c.of.ensures in
-    room_to c.args.put g i e c.push.new.self at (search rules)
-    (holds_from c.args.put g i e c.loop-i.rows c.push.new.self at c.loop-i.invariant first c.push.ensures.rooms)
+    room_to (put_of c.args.put) g i e c.push.new.self at (search rules)
+    (holds_from (put_of c.args.put) g i e c.loop-i.rows c.push.new.self at c.loop-i.invariant first c.push.ensures.rooms)
 
 pub loop-i-preserved : goal.loop-i-preserved
 loop-i-preserved c =
-    let put = c.args.put in
+    let put : Putting = put_of c.args.put in
     let g = c.args.graph.now in
     let i = c.loop-i.i in
     let e = c.edge-edge.result in
@@ -65,5 +65,5 @@ loop-i-preserved c =
 
 pub returns : goal.returns
 returns c =
-    holds_all c.args.put c.args.graph.now c.loop-i.i c.loop-i.rows c.edges-i-end.ensures.graph.edges_join
+    holds_all (put_of c.args.put) c.args.graph.now c.loop-i.i c.loop-i.rows c.edges-i-end.ensures.graph.edges_join
     (omega (arith, c.loop-i-test.false, c.edges-i-end.ensures.count)) c.loop-i.invariant

@@ -1,6 +1,5 @@
 use Rattle.std.proofs.Common.{◌≡◌, ◌+◌, ◌∷◌, [], ◌++◌, ◌-◌, false, true, arith, rules, sym, subst}
-use Rattle.graph_read.specs.Incidence.{is_loop}
-use Rattle.graph_read.specs.declared.put.Put.TheVariants.{Number}
+use Rattle.graph_read.specs.Incidence.{is_loop, put_number}
 use Rattle.graph_read.proofs.IncidenceRows.{IsEdgeAt, first_ends, row_there}
 use Rattle.graph_read.proofs.PickedEdges.{PicksEdges, picks_all, picks_at, picks_both, picks_loop, picks_none}
 use Rattle.graph_read.proofs.picks.pick_edges.Goals as goal
@@ -22,7 +21,7 @@ loop-i-preserved c =
     elim c.if-not-is_loop.branch [
       | then-not-is_loop w ↦
           (let apart : is_loop e ≡ false = search rules in
-          let ps = first_ends Number g i in
+          let ps = first_ends put_number g i in
           let first = w.pick_at.new in
           let second = w.pick_at-then-not-is_loop.new in
           let half = picks_at g.vertices (e.u - 1) i ps c.args.left.now c.loop-i.left c.loop-i.picked

@@ -1,4 +1,4 @@
-use Rattle.std.proofs.Common.{◌+◌, ℕ, length, sym, ap, ◌∙◌, subst, arith, Ok, Err}
+use Rattle.std.proofs.Common.{◌+◌, ℕ, length, sym, ap, ◌∙◌, subst, arith, Ok}
 use Rattle.std.proofs.lemmas.Result.{err_from_is_err_and}
 use Rattle.pop_instance.specs.Events.{FitVariables}
 use Rattle.graph_read.specs.Graphs.{GraphOf}

@@ -1,5 +1,4 @@
 use Rattle.std.proofs.Common.{ℕ, subst}
-use Rattle.std.specs.Result.{OnOk}
 use Rattle.graph_read.specs.Graphs.{GraphOf}
 use Rattle.sink_popping.specs.Sinks.{IsIsolated}
 use Rattle.sink_popping.proofs.index.indexed_sinks.Goals as goal

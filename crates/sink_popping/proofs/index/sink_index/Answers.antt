@@ -6,8 +6,8 @@ use Rattle.sink_popping.specs.SinkPlaces.{places_at}
 use Rattle.sink_popping.proofs.SinkRows.{numbers_within, rows_are_index}
 use Rattle.sink_popping.proofs.index.sink_index.Goals as goal
 
-pub of-requires : goal.of-requires
-of-requires c =
+pub of_events-requires : goal.of_events-requires
+of_events-requires c =
     subst (λ n. All (λ r. r.0 ≤ n) c.args.events.now) (sym c.vertices.ensures.count)
     (numbers_within c.args.graph.now c.args.events.now c.requires.sinks)
 
@@ -24,5 +24,8 @@ returns-clause-index c =
       omega (arith, from, c.in_ok-places.ensures.count, c.vertices.ensures.count),
       omega (arith, to, c.in_ok-places.ensures.count, c.vertices.ensures.count),
     ) in
-    subst (IsIndex c.args.events.now) (sym (c.of.ensures ∙ c.loop-i.invariant ∙ ap (map (places_at places)) all))
+    let rows = c.of.ensures ∙ c.loop-i.invariant
+    ∙ ap (λ ps. map (places_at ps) (take c.loop-i.i g.edges)) c.places.view_is
+    ∙ ap (map (places_at places)) all in
+    subst (IsIndex c.args.events.now) (sym rows)
     (rows_are_index g c.args.events.now c.requires.sinks places c.in_ok-places.ensures.places ends)
