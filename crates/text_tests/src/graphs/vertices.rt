@@ -1,4 +1,4 @@
-//! What stands at the vertices of a graph: the numbers of the edges, where they lead, and what they
+//! What stands at the vertices of a graph: the darts of the edges, where they lead, and what they
 //! weigh.
 ghost use Rattle.graph_read.specs.Graphs.{IsVertex};
 
@@ -11,28 +11,28 @@ use std::alloc::Global;
 use std::process::Abort;
 
 // What stands at the vertices of the text by hand, of which edge 0 is a loop at 2, edges 1 and 3
-// join 1 and 2, and edge 2 joins 3 and 1: the numbers of the edges, where they lead, and what they
-// weigh. Worked by hand.
-static NUMBERS: [&[u32]; 3] = [&[1, 2, 3], &[1, 3], &[2]];
+// lead from 1 to 2, and edge 2 leads from 3 to 1: the darts of the edges, where they lead, and what
+// they weigh. Worked by hand.
+static DARTS: [&[u32]; 3] = [&[3, 4, 7], &[2, 6], &[5]];
 
 static ENDS: [&[u32]; 3] = [&[2, 3, 2], &[1, 1], &[1]];
 
 static WEIGHTS: [&[u32]; 3] = [&[5, 1, 1], &[5, 1], &[1]];
 
-// Compares the numbers of the edges at each vertex.
-fn have_numbers(rt: &impl Abort, incidence: &Incidence) {
+// Compares the darts at each vertex.
+fn have_darts(rt: &impl Abort, incidence: &Incidence) {
     assert!(rt; incidence.graph().vertices() == 3);
     for v in 0..3 {
-        let are_there = incidence.at(v + 1) == NUMBERS[v as usize];
-        is_so(rt, are_there, "edges at vertex", v as u64 + 1);
+        let are_there = incidence.at(v + 1) == DARTS[v as usize];
+        is_so(rt, are_there, "darts at vertex", v as u64 + 1);
     }
 }
 
 #[test]
-fn each_vertex_has_its_edges_but_for_loops(rt: HostRuntime) {
+fn each_vertex_has_the_darts_there_but_for_loops(rt: HostRuntime) {
     let graph = graph(&rt, rt.alloc(), BY_HAND);
     let incidence = Incidence::of(rt.alloc(), &graph).expect(&rt, "memory");
-    have_numbers(&rt, &incidence);
+    have_darts(&rt, &incidence);
 }
 
 // Compares where the edges at a vertex lead.
