@@ -1,7 +1,7 @@
 -- What is kept of entries after the values that a mark says took a line.
-use Rattle.std.proofs.Common.{◌≡◌, ◌<◌, ◌+◌, ◌-◌, ◌*◌, ◌/◌, ◌%◌, ◌^◌, ◌∙◌, ℕ, zero, suc, List, [], ◌∷◌, length, Option, Some, None, false, ltb, cond, arith, refl, sym, ap, subst, inl, inr}
+use Rattle.std.proofs.Common.{◌≡◌, ◌<◌, ◌+◌, ◌-◌, ◌*◌, ◌/◌, ◌%◌, ◌^◌, ◌∙◌, ℕ, zero, suc, List, [], ◌∷◌, length, Option, Some, None, false, ltb, cond, arith, get_or, refl, sym, ap, subst, inl, inr}
 use Rattle.std.proofs.lemmas.Bool.{cases_Bool, eqb-true, eqb-false, ne_eqb, eq-eqb, ltb-true, cond-true, cond-false}
-use Rattle.std.proofs.lemmas.Option.{cond_some, none-some, same_Some}
+use Rattle.std.proofs.lemmas.Option.{cond_some, none-some, same_Some, slice_get_read}
 use Rattle.std.specs.Prelude.{◌==◌, slice_get, slice_index, slice_set}
 use Rattle.std.specs.Option.{option_and_then, option_map}
 use Rattle.pop_model.specs.Stacks.{StackTable, value_at, domain_of}
@@ -103,3 +103,11 @@ line_written at own lines v u line within is =
           ap (option_and_then at) (unwritten lines v u line (eqb-false u v other))
           ∙ sym (cond-false (u == v) own rest other)
     ]
+
+-- what a line that was looked up keeps of an entry, by the place at which it is
+pub kept_by_line : {L : Type 0} (lines : List L) (v : ℕ) (line : L) (mark : L → ℕ) (at : L → ℕ → ℕ) (k place x : ℕ)
+    → v < length lines → line ≡ get_or lines v line → place_in (mark line) k ≡ Some place → x ≡ at line place
+    → Some x ≡ option_and_then (λ l. kept_in (mark l) (at l) k) (slice_get lines v)
+kept_by_line lines v line mark at k place x within read there is =
+    ap Some is ∙ sym (ap (option_map (at line)) there)
+    ∙ sym (ap (option_and_then (λ l. kept_in (mark l) (at l) k)) (slice_get_read lines (length lines) v line refl within read))

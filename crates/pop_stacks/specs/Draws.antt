@@ -2,6 +2,7 @@
 use Rattle.std.specs.Prelude.{◌≡◌, ℕ, ◌+◌, ◌-◌, ◌*◌, ◌^◌, ◌<◌, ◌≤◌, ltb, if◌then◌else◌, List, [], ◌∷◌, ⊤, All, length, slice_index}
 use Rattle.pop_model.specs.Stacks.{scaled, weighted}
 use Rattle.pop_stacks.specs.Rows.{AreShort}
+use Rattle.pop_stacks.specs.KeptValues.{AreBelow}
 
 -- what running sums add, one after another
 abbrev pub differences : ℕ → List ℕ → List ℕ
@@ -44,6 +45,13 @@ pub record IsFirstAbove (sums : List ℕ) (m place : ℕ) : Type 0 where
 abbrev pub AreFirstAbove : List ℕ → List ℕ → ℕ → List ℕ → Type 0
 AreFirstAbove sums numbers n values = (i : ℕ) → i < n
     → IsFirstAbove sums (slice_index numbers i) (slice_index values i)
+
+-- at most 256 sums, which rise, the last of them above each of the first n numbers
+pub record MayPass (sums : List ℕ) (n : ℕ) (numbers : List ℕ) : Type 0 where
+  pub some : 0 < length sums
+  pub small : length sums ≤ 256
+  pub rising : RisesFrom 0 sums
+  pub above : AreBelow (slice_index sums (length sums - 1)) n numbers
 
 -- a place, moved past this sum where the sum is not above m
 abbrev pub past : ℕ → ℕ → ℕ → ℕ

@@ -1,5 +1,6 @@
-ghost use Rattle.std.specs.Prelude.{◌≡◌};
+ghost use Rattle.std.specs.Prelude.{◌≡◌, slice_get};
 ghost use Rattle.std.specs.Int.{bit_at};
+ghost use Rattle.std.specs.Option.{option_and_then};
 ghost use Rattle.pop_stacks.specs.KeptValues.{kept_in};
 
 use crate::mark::{NOTHING, place_of};
@@ -20,12 +21,14 @@ pub const EMPTY: BitLine = BitLine {
 };
 
 impl BitLine {
-    /// The value of entry k, where it is kept.
+    /// The value of entry k of variable v, where its line keeps it.
     #[inline]
-    pub fn value(&self, k: u32) -> Option<u32>
-        ensures { result ≡ kept_in self.now.mark (bit_at self.now.bits) k }
+    pub fn value_in(lines: &[BitLine], v: u32, k: u32) -> Option<u32>
+        ensures { result ≡
+            option_and_then (λ l. kept_in l.mark (bit_at l.bits) k) (slice_get lines.now v) }
     {
-        let place = place_of(self.mark, k)?;
-        Some((self.bits >> place) & 1)
+        let line = lines.get(v as usize)?;
+        let place = place_of(line.mark, k)?;
+        Some((line.bits >> place) & 1)
     }
 }

@@ -1,4 +1,5 @@
-ghost use Rattle.std.specs.Prelude.{◌≡◌, ◌<◌, ◌≤◌, ℕ, slice_index};
+ghost use Rattle.std.specs.Prelude.{◌≡◌, ◌<◌, ◌≤◌, ℕ, slice_get, slice_index};
+ghost use Rattle.std.specs.Option.{option_and_then};
 ghost use Rattle.pop_stacks.specs.KeptValues.{kept_in};
 
 use crate::mark::{NOTHING, place_of};
@@ -31,12 +32,14 @@ impl ByteLine {
         ByteLine { mark, values }
     }
 
-    /// The value of entry k, where it is kept.
+    /// The value of entry k of variable v, where its line keeps it.
     #[inline]
-    pub fn value(&self, k: u32) -> Option<u32>
-        ensures { result ≡ kept_in self.now.mark (slice_index self.now.values) k }
+    pub fn value_in(lines: &[ByteLine], v: u32, k: u32) -> Option<u32>
+        ensures { result ≡
+            option_and_then (λ l. kept_in l.mark (slice_index l.values) k) (slice_get lines.now v) }
     {
-        let place = place_of(self.mark, k)?;
-        Some(self.values[place as usize] as u32)
+        let line = lines.get(v as usize)?;
+        let place = place_of(line.mark, k)?;
+        Some(line.values[place as usize] as u32)
     }
 }

@@ -2,7 +2,7 @@
 // all of them in a loop of constant length, and but for halving none has a branch that depends on the
 // words. The words of the first entry stand at a place of the words that were read.
 ghost use Rattle.std.specs.Prelude.{◌≡◌, ◌<◌, ◌≤◌, ◌+◌, ◌-◌, ◌*◌, ℕ, [], ◌∷◌, length, slice_index};
-ghost use Rattle.pop_stacks.specs.Draws.{differences, past, RisesFrom, AreDrawn, AreScaled, AreFirstAbove};
+ghost use Rattle.pop_stacks.specs.Draws.{differences, past, RisesFrom, AreDrawn, AreScaled, AreFirstAbove, MayPass};
 ghost use Rattle.pop_stacks.specs.KeptValues.{AreBelow};
 
 use crate::drawing::{first_above, scale};
@@ -66,10 +66,7 @@ fn pass<const N: usize>(sum: u32, numbers: &[u32; N], places: &[u8; N]) -> [u8; 
 
 // The place of the first sum above each number, by passing the sums before it.
 fn pass_all<const N: usize>(sums: &[u32], numbers: &[u32; N]) -> [u8; N]
-    requires some { 0 < length sums.now }
-    requires small { length sums.now ≤ 256 }
-    requires rising { RisesFrom 0 sums.now }
-    requires above { AreBelow (slice_index sums.now (length sums.now - 1)) N numbers.now }
+    requires { MayPass sums.now N numbers.now }
     ensures { AreFirstAbove sums.now numbers.now N result }
 {
     let mut places = [0; N];
@@ -81,10 +78,7 @@ fn pass_all<const N: usize>(sums: &[u32], numbers: &[u32; N]) -> [u8; N]
 
 // The place of the first sum above each number, by halving.
 fn halve_all<const N: usize>(sums: &[u32], numbers: &[u32; N]) -> [u8; N]
-    requires some { 0 < length sums.now }
-    requires small { length sums.now ≤ 256 }
-    requires rising { RisesFrom 0 sums.now }
-    requires above { AreBelow (slice_index sums.now (length sums.now - 1)) N numbers.now }
+    requires { MayPass sums.now N numbers.now }
     ensures { AreFirstAbove sums.now numbers.now N result }
 {
     let mut places = [0; N];

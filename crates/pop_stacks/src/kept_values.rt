@@ -54,9 +54,9 @@ impl KeptValues {
     {
         match self {
             KeptValues::Nothing => None,
-            KeptValues::Bits(lines) => lines.get(v as usize)?.value(k),
-            KeptValues::Quads(lines) => lines.get(v as usize)?.value(k),
-            KeptValues::Bytes(lines) => lines.get(v as usize)?.value(k),
+            KeptValues::Bits(lines) => BitLine::value_in(lines, v, k),
+            KeptValues::Quads(lines) => QuadLine::value_in(lines, v, k),
+            KeptValues::Bytes(lines) => ByteLine::value_in(lines, v, k),
         }
     }
 

@@ -1,4 +1,5 @@
-ghost use Rattle.std.specs.Prelude.{◌≡◌};
+ghost use Rattle.std.specs.Prelude.{◌≡◌, slice_get};
+ghost use Rattle.std.specs.Option.{option_and_then};
 ghost use Rattle.pop_stacks.specs.KeptValues.{kept_in, two_bits_at};
 
 use crate::mark::{NOTHING, place_of};
@@ -22,12 +23,14 @@ pub const EMPTY: QuadLine = QuadLine {
 };
 
 impl QuadLine {
-    /// The value of entry k, where it is kept.
+    /// The value of entry k of variable v, where its line keeps it.
     #[inline]
-    pub fn value(&self, k: u32) -> Option<u32>
-        ensures { result ≡ kept_in self.now.mark (two_bits_at self.now.low self.now.high) k }
+    pub fn value_in(lines: &[QuadLine], v: u32, k: u32) -> Option<u32>
+        ensures { result ≡
+            option_and_then (λ l. kept_in l.mark (two_bits_at l.low l.high) k) (slice_get lines.now v) }
     {
-        let place = place_of(self.mark, k)?;
-        Some(((self.low >> place) & 1) + 2 * ((self.high >> place) & 1))
+        let line = lines.get(v as usize)?;
+        let place = place_of(line.mark, k)?;
+        Some(((line.low >> place) & 1) + 2 * ((line.high >> place) & 1))
     }
 }

@@ -48,13 +48,15 @@ impl Reader {
     }
 
     /// A reader of these stacks that keeps for each variable the values of the group of 32 entries
-    /// that was looked at last. Its memory is linear in the number of variables.
+    /// that was looked at last; before that the eight of its first block are kept, until an entry
+    /// behind them is looked at. Its memory is linear in the number of variables.
     pub fn keeping(alloc: Global, stacks: &Stacks) -> Result<Reader, AllocError>
         ensures { IfOk result (Belongs stacks.now) }
     {
+        let kept = stacks.room_for_values(alloc)?;
         Ok(Reader {
             stream: stacks.stream(),
-            kept: stacks.room_for_values(alloc)?,
+            kept,
             made_of: Snapshot::of(stacks),
         })
     }

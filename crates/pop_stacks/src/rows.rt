@@ -1,4 +1,4 @@
-ghost use Rattle.std.specs.Prelude.{◌≡◌, ◌<◌, ◌^◌, ℕ, List, length, map, replicate, All, OnOk, IfOk, IfErr};
+ghost use Rattle.std.specs.Prelude.{◌≡◌, ◌<◌, ◌^◌, ℕ, List, length, map, replicate, All, OnOk, IfOk, IfErr, IfNone, IfSome};
 ghost use Rattle.pop_model.specs.Stacks.{row_of};
 ghost use Rattle.pop_model.specs.Places.{IsLeast};
 ghost use Rattle.pop_rows.specs.PrefixSums.{running, IsTooHeavy, AreLight};
@@ -97,12 +97,22 @@ impl Rows {
     pub fn copy(&self, alloc: Global) -> Result<Rows, AllocError>
         ensures { IfOk result (λ rows. rows ≡ self.now) }
     {
-        let kept = match &self.kept {
-            KeptRows::Nested(rows) => KeptRows::Nested(copy_lists(alloc, rows)?),
-            KeptRows::Flat(rows) => KeptRows::Flat(rows.copy(alloc)?),
-            KeptRows::Front(rows) => KeptRows::Front(rows.copy(alloc)?),
-        };
-        Ok(Rows { kept })
+        match &self.kept {
+            KeptRows::Nested(rows) => {
+                let rows = copy_lists(alloc, rows)?;
+                Ok(Rows::of(rows))
+            }
+            KeptRows::Flat(rows) => {
+                let rows = rows.copy(alloc)?;
+                Ok(Rows::flat(rows))
+            }
+            KeptRows::Front(rows) => {
+                let rows = rows.copy(alloc)?;
+                Ok(Rows {
+                    kept: KeptRows::Front(rows),
+                })
+            }
+        }
     }
 
     // The running sums of each row, made in its place; else the least row whose sum passes 32 bits.
@@ -111,11 +121,30 @@ impl Rows {
         ensures light { OnOk result (AreLight self) }
         ensures heavy { IfErr result (IsLeast (IsTooHeavy self)) }
     {
-        let Rows { kept } = self;
-        match kept {
-            KeptRows::Nested(rows) => nested_sums(rows),
-            KeptRows::Flat(rows) => flat_sums(rows),
-            KeptRows::Front(rows) => front_sums(rows),
+        let Rows { mut kept } = self;
+        if let Some(v) = kept.accumulate() {
+            drop(kept);
+            return Err(v);
+        }
+        Ok(Rows { kept })
+    }
+}
+
+impl KeptRows {
+    ghost use Rattle.pop_stacks.specs.KeptRows.{rows_of};
+
+    // Puts running sums in the place of each row; the least row whose sum passes 32 bits, where there
+    // is one, and then the rows are of no more use.
+    fn accumulate(&mut self) -> Option<u32>
+        requires { AreShort (rows_of self.old) }
+        ensures sums { IfNone result (rows_of self.new ≡ map (running 0) (rows_of self.old)) }
+        ensures light { IfNone result (AreLight (rows_of self.old)) }
+        ensures heavy { IfSome result (IsLeast (IsTooHeavy (rows_of self.old))) }
+    {
+        match self {
+            KeptRows::Nested(rows) => accumulate_rows(rows),
+            KeptRows::Flat(rows) => rows.accumulate(),
+            KeptRows::Front(rows) => rows.accumulate(),
         }
     }
 }
@@ -129,48 +158,4 @@ fn copy_lists(alloc: Global, rows: &[Vec<u32>]) -> Result<Vec<Vec<u32>>, AllocEr
         lists.push(Vec::from_slice(alloc, &rows[v])?)?;
     }
     Ok(lists)
-}
-
-// The sums of rows that have an array each.
-fn nested_sums(rows: Vec<Vec<u32>>) -> Result<Rows, u32>
-    requires { AreShort (lists_of rows.items) }
-    ensures made { IfOk result (λ sums. sums ≡ map (running 0) (lists_of rows.items)) }
-    ensures light { OnOk result (AreLight (lists_of rows.items)) }
-    ensures heavy { IfErr result (IsLeast (IsTooHeavy (lists_of rows.items))) }
-{
-    let mut rows = rows;
-    match accumulate_rows(&mut rows) {
-        Some(v) => Err(v),
-        None => Ok(Rows::of(rows)),
-    }
-}
-
-// The sums of rows that lie in one array.
-fn flat_sums(rows: RowList) -> Result<Rows, u32>
-    requires { AreShort rows }
-    ensures made { IfOk result (λ sums. sums ≡ map (running 0) rows) }
-    ensures light { OnOk result (AreLight rows) }
-    ensures heavy { IfErr result (IsLeast (IsTooHeavy rows)) }
-{
-    let mut rows = rows;
-    match rows.accumulate() {
-        Some(v) => Err(v),
-        None => Ok(Rows::flat(rows)),
-    }
-}
-
-// The sums of rows that are fronts of one list.
-fn front_sums(rows: Fronts) -> Result<Rows, u32>
-    requires { AreShort rows }
-    ensures made { IfOk result (λ sums. sums ≡ map (running 0) rows) }
-    ensures light { OnOk result (AreLight rows) }
-    ensures heavy { IfErr result (IsLeast (IsTooHeavy rows)) }
-{
-    let mut rows = rows;
-    match rows.accumulate() {
-        Some(v) => Err(v),
-        None => Ok(Rows {
-            kept: KeptRows::Front(rows),
-        }),
-    }
 }

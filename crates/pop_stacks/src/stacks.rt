@@ -57,9 +57,16 @@ impl Stacks {
         // The first cause in the order of `StackFault`, at its least place.
         ensures cause { IfErr result (IsCause (origin_of spec height) weights) }
     {
-        spec.check(&weights, height)?;
+        if let Err(fault) = spec.check(&weights, height) {
+            drop(spec);
+            drop(weights);
+            return Err(fault);
+        }
         match Sums::of(weights) {
-            Err(v) => Err(StackFault::WeightSum(v)),
+            Err(v) => {
+                drop(spec);
+                Err(StackFault::WeightSum(v))
+            }
             Ok(sums) => Ok(Stacks {
                 spec,
                 sample: 0,
@@ -74,15 +81,16 @@ impl Stacks {
         requires keyed { IsKeyed self.now.origin }
         ensures { IfOk result (λ stacks. stacks ≡ stacks_for j self.now) }
     {
-        match &self.spec {
-            StackSpec::Key(key) => Ok(Stacks {
-                spec: StackSpec::Key(*key),
-                sample: j,
-                sums: self.sums.copy(alloc)?,
-                height: self.height,
-            }),
-            StackSpec::Given(_) => unreachable!(),
-        }
+        let StackSpec::Key(key) = &self.spec else {
+            unreachable!();
+        };
+        let sums = self.sums.copy(alloc)?;
+        Ok(Stacks {
+            spec: StackSpec::Key(*key),
+            sample: j,
+            sums,
+            height: self.height,
+        })
     }
 
     /// Gives each variable this height, which is at least the present one. It takes no memory, and

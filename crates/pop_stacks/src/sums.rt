@@ -69,11 +69,17 @@ impl Sums {
     pub fn copy(&self, alloc: Global) -> Result<Sums, AllocError>
         ensures { IfOk result (λ sums. sums ≡ self.now) }
     {
-        let kept = match &self.kept {
-            KeptSums::Pairs(count) => KeptSums::Pairs(*count),
-            KeptSums::Rows(rows) => KeptSums::Rows(rows.copy(alloc)?),
-        };
-        Ok(Sums { kept })
+        match &self.kept {
+            KeptSums::Pairs(count) => Ok(Sums {
+                kept: KeptSums::Pairs(*count),
+            }),
+            KeptSums::Rows(rows) => {
+                let rows = rows.copy(alloc)?;
+                Ok(Sums {
+                    kept: KeptSums::Rows(rows),
+                })
+            }
+        }
     }
 
     /// How many variables there are.

@@ -13,4 +13,4 @@ invariant_of-result c =
     subst (λ spec. IsTable (sample_table inside.sample spec inside.height inside.sums)) c.in-Key.is c.self.invariant.0 in
     let new : IsTable (sample_table c.args.j (Key key) inside.height inside.sums) =
     record { count = old.count; heights = old.heights; entries = old.entries } in
-    (subst (λ sums. IsTable (sample_table c.args.j (Key key) inside.height sums)) (sym c.in_ok-copy-in-Key.ensures) new, tt)
+    (subst (λ sums. IsTable (sample_table c.args.j (Key key) inside.height sums)) (sym c.in_ok-sums.ensures) new, tt)
