@@ -43,6 +43,8 @@ impl Instance {
         let _count = stacks.count();
         let _units = family.units();
         if !family.fits(&stacks) {
+            drop(stacks);
+            drop(family);
             return None;
         }
         Some(Instance { stacks, family })
@@ -64,8 +66,13 @@ impl Instance {
         let _units = self.units();
         let stacks = self.stacks.for_sample(alloc, j)?;
         let _count = stacks.count();
-        let family = self.family.copy(alloc)?;
-        Ok(Instance { stacks, family })
+        match self.family.copy(alloc) {
+            Ok(family) => Ok(Instance { stacks, family }),
+            Err(error) => {
+                drop(stacks);
+                Err(error)
+            }
+        }
     }
 
     /// Gives each variable this height, which is at least the present one. It takes no memory, and

@@ -1,10 +1,9 @@
 ghost use Rattle.std.specs.Prelude.{◌≡◌, ◌<◌, ◌^◌, [], length, slice_index_or, All, IfOk};
 ghost use Rattle.pop_model.specs.Cycles.{head_of};
-ghost use Rattle.pop_instance.specs.Arrows.{heads_of};
 ghost use Rattle.pop_instance.specs.KeptHeads.{heads_kept};
 
 use crate::shifted_rows::ShiftedRows;
-use pop_rows::RowList;
+use pop_rows::{RowList, copy_lists};
 use std::alloc::{AllocError, Global};
 
 // How the heads of all variables are kept.
@@ -23,11 +22,20 @@ impl KeptHeads {
     pub(crate) fn copy(&self, alloc: Global) -> Result<KeptHeads, AllocError>
         ensures { IfOk result (λ kept. heads_kept kept ≡ heads_kept self.now) }
     {
-        Ok(match self {
-            KeptHeads::Nested(rows) => KeptHeads::Nested(copy_lists(alloc, rows)?),
-            KeptHeads::Flat(rows) => KeptHeads::Flat(rows.copy(alloc)?),
-            KeptHeads::Shifted(rows) => KeptHeads::Shifted(rows.copy(alloc)?),
-        })
+        match self {
+            KeptHeads::Nested(rows) => {
+                let rows = copy_lists(alloc, rows)?;
+                Ok(KeptHeads::Nested(rows))
+            }
+            KeptHeads::Flat(rows) => {
+                let rows = rows.copy(alloc)?;
+                Ok(KeptHeads::Flat(rows))
+            }
+            KeptHeads::Shifted(rows) => {
+                let rows = rows.copy(alloc)?;
+                Ok(KeptHeads::Shifted(rows))
+            }
+        }
     }
 
     // The same heads, by their patterns where they lie in one array and have few.
@@ -37,10 +45,17 @@ impl KeptHeads {
         let KeptHeads::Flat(rows) = &self else {
             return Ok(self);
         };
-        Ok(match ShiftedRows::of(alloc, rows)? {
-            Some(rows) => KeptHeads::Shifted(rows),
-            None => self,
-        })
+        match ShiftedRows::of(alloc, rows) {
+            Ok(None) => Ok(self),
+            Ok(Some(rows)) => {
+                drop(self);
+                Ok(KeptHeads::Shifted(rows))
+            }
+            Err(error) => {
+                drop(self);
+                Err(error)
+            }
+        }
     }
 
     // How many variables there are.
@@ -89,15 +104,4 @@ impl KeptHeads {
             }
         }
     }
-}
-
-// Equal lists.
-fn copy_lists(alloc: Global, rows: &[Vec<Option<u32>>]) -> Result<Vec<Vec<Option<u32>>>, AllocError>
-    ensures { IfOk result (λ lists. heads_of lists.items ≡ heads_of rows.now) }
-{
-    let mut lists = Vec::with_capacity(alloc, rows.len())?;
-    for v in 0..rows.len() {
-        lists.push(Vec::from_slice(alloc, &rows[v])?)?;
-    }
-    Ok(lists)
 }

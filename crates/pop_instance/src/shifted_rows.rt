@@ -1,7 +1,7 @@
-ghost use Rattle.std.specs.Prelude.{◌≡◌, ◌<◌, ◌^◌, length, slice_index, IfOk, IfSome, OnOk};
+ghost use Rattle.std.specs.Prelude.{◌≡◌, ◌<◌, ◌^◌, [], length, slice_index, IfOk, IfSome, OnOk};
 ghost use Rattle.std.specs.Bool.{OnTrue};
 ghost use Rattle.pop_rows.specs.FlatRows.{row_at};
-ghost use Rattle.pop_instance.specs.ShiftedRows.{shifted, IsKind, StaysIn};
+ghost use Rattle.pop_instance.specs.ShiftedRows.{shifted, shifted_rows, AreKinds, IsKind, StaysIn};
 
 use pop_rows::RowList;
 use std::alloc::{AllocError, Global};
@@ -36,13 +36,10 @@ impl ShiftedRows {
     {
         let mut kinds = Vec::with_capacity(alloc, rows.count() as usize)?;
         let mut patterns = RowList::with_room(alloc, 0, 0)?;
-        for v in 0..rows.count() {
-            let Some(kind) = kind_in(alloc, &mut patterns, rows.row(v), v)? else {
-                return Ok(None);
-            };
-            kinds.push(kind)?;
+        if add_kinds(alloc, rows, &mut kinds, &mut patterns)? {
+            return Ok(Some(ShiftedRows { kinds, patterns }));
         }
-        Ok(Some(ShiftedRows { kinds, patterns }))
+        Ok(None)
     }
 
     /// Equal rows.
@@ -91,6 +88,28 @@ impl ShiftedRows {
     {
         self.patterns.row(u32::from(self.kinds[v as usize]))
     }
+}
+
+// Adds the kind of each row, to none so far, and the patterns that aren't there yet; false where a
+// kind doesn't fit a byte.
+fn add_kinds(
+    alloc: Global,
+    rows: &RowList,
+    kinds: &mut Vec<u8>,
+    patterns: &mut RowList,
+) -> Result<bool, AllocError>
+    requires none { kinds.old.items ≡ [] }
+    ensures few { IfOk result (λ all. OnTrue all (AreKinds kinds.new.items patterns.new)) }
+    ensures rows { IfOk result
+        (λ all. OnTrue all (shifted_rows kinds.new.items patterns.new ≡ rows.now)) }
+{
+    for v in 0..rows.count() {
+        let Some(kind) = kind_in(alloc, patterns, rows.row(v), v)? else {
+            return Ok(false);
+        };
+        kinds.push(kind)?;
+    }
+    Ok(true)
 }
 
 // The kind of row v among the patterns, where its own is added if it isn't there; none where its

@@ -3,3 +3,4 @@ pub mod Layout
 pub mod RowList
 pub mod Fronts
 pub mod PrefixSums
+pub mod Lists

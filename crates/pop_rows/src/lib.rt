@@ -7,6 +7,7 @@
 mod counting;
 mod flat_rows;
 mod fronts;
+mod lists;
 mod parts;
 mod prefix_sums;
 mod row_list;
@@ -14,5 +15,6 @@ mod row_list;
 pub use counting::count_at;
 pub use flat_rows::FlatRows;
 pub use fronts::Fronts;
+pub use lists::copy_lists;
 pub use prefix_sums::accumulate;
 pub use row_list::RowList;

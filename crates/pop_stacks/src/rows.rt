@@ -5,7 +5,7 @@ ghost use Rattle.pop_rows.specs.PrefixSums.{running, IsTooHeavy, AreLight};
 ghost use Rattle.pop_stacks.specs.Rows.{lists_of, AreShort};
 
 use crate::prefix_sums::accumulate_rows;
-use pop_rows::{Fronts, RowList};
+use pop_rows::{Fronts, RowList, copy_lists};
 use std::alloc::{AllocError, Global};
 use std::marker::Model;
 
@@ -147,15 +147,4 @@ impl KeptRows {
             KeptRows::Front(rows) => rows.accumulate(),
         }
     }
-}
-
-// Equal lists.
-fn copy_lists(alloc: Global, rows: &[Vec<u32>]) -> Result<Vec<Vec<u32>>, AllocError>
-    ensures { IfOk result (λ lists. lists_of lists.items ≡ lists_of rows.now) }
-{
-    let mut lists = Vec::with_capacity(alloc, rows.len())?;
-    for v in 0..rows.len() {
-        lists.push(Vec::from_slice(alloc, &rows[v])?)?;
-    }
-    Ok(lists)
 }

@@ -2,7 +2,7 @@ use Rattle.std.proofs.Common.{ℕ, List, length, ap, sym, subst, arith}
 use Rattle.std.proofs.lemmas.List.{length_push}
 use Rattle.pop_instance.specs.ShiftedRows.{IsKind}
 use Rattle.pop_instance.proofs.ShiftedRowsLemmas.{HaveKinds, kinds_more, rows_by_kinds, kinds_known}
-use Rattle.pop_instance.proofs.shifted_rows.ShiftedRows.of.Goals as goal
+use Rattle.pop_instance.proofs.shifted_rows.add_kinds.Goals as goal
 
 pub loop-v-preserved : goal.loop-v-preserved
 loop-v-preserved c =
@@ -20,14 +20,14 @@ loop-v-preserved c =
           c.loop-v.invariant.size (subst (λ row. IsKind v row new kind) c.row.ensures.row here));
     }
 
-pub invariant_of-result : goal.invariant_of-result
-invariant_of-result c =
+pub returns-clause-few : goal.returns-clause-few
+returns-clause-few c =
     kinds_known c.args.rows.now c.loop-v.kinds.items c.loop-v.patterns
     (omega (arith, c.loop-v.invariant.size, c.loop-v.auto.v-end, c.count-v-end.type_inv))
     c.loop-v.invariant.have
 
-pub returns : goal.returns
-returns c =
+pub returns-clause-rows : goal.returns-clause-rows
+returns-clause-rows c =
     rows_by_kinds c.args.rows.now c.loop-v.kinds.items c.loop-v.patterns
     (omega (arith, c.loop-v.invariant.size, c.loop-v.auto.v-end, c.loop-v-test.false, c.count-v-end.ensures))
     c.loop-v.invariant.have
