@@ -118,12 +118,22 @@ impl Arrows {
     }
 }
 
+// Whether a head is the root or below the count.
+fn is_below(head: Option<u32>, count: u32) -> bool
+    ensures { IsTrue result ↔ IfSome head (λ w. w < count) }
+{
+    match head {
+        None => true,
+        Some(w) => w < count,
+    }
+}
+
 // Whether each head of a row is the root or below the count.
 fn are_below(row: &[Option<u32>], count: u32) -> bool
     ensures { IsTrue result ↔ All (λ head. IfSome head (λ w. w < count)) row.now }
 {
     for head in row {
-        if head.is_some_and(|w| w >= count) {
+        if !is_below(*head, count) {
             return false;
         }
     }

@@ -46,12 +46,16 @@ impl Values {
         ensures values { IfOk result (AreValuesAt stacks.now cursors.now) }
         ensures reader { reader.new ≡ reader.old }
     {
-        let kept = if stacks.have_at_most(256) {
-            KeptNumbers::Bytes(bytes_at(alloc, stacks, reader, cursors)?)
-        } else {
-            KeptNumbers::Words(words_at(alloc, stacks, reader, cursors)?)
-        };
-        Ok(Values { kept })
+        if stacks.have_at_most(256) {
+            let bytes = bytes_at(alloc, stacks, reader, cursors)?;
+            return Ok(Values {
+                kept: KeptNumbers::Bytes(bytes),
+            });
+        }
+        let words = words_at(alloc, stacks, reader, cursors)?;
+        Ok(Values {
+            kept: KeptNumbers::Words(words),
+        })
     }
 
     /// The same by several readers, in whose order blocks of the variables are looked up, about as
@@ -69,13 +73,17 @@ impl Values {
         requires belong { All (Belongs stacks.now) readers.old }
         ensures values { IfOk result (AreValuesAt stacks.now cursors.now) }
     {
+        if stacks.have_at_most(256) {
+            let bytes = bytes_by(alloc, stacks, readers, cursors)?;
+            return Ok(Values {
+                kept: KeptNumbers::Bytes(bytes),
+            });
+        }
         let last = readers.len() - 1;
-        let kept = if stacks.have_at_most(256) {
-            KeptNumbers::Bytes(bytes_by(alloc, stacks, readers, cursors)?)
-        } else {
-            KeptNumbers::Words(words_at(alloc, stacks, &mut readers[last], cursors)?)
-        };
-        Ok(Values { kept })
+        let words = words_at(alloc, stacks, &mut readers[last], cursors)?;
+        Ok(Values {
+            kept: KeptNumbers::Words(words),
+        })
     }
 
     /// The value of a variable.
