@@ -10,7 +10,9 @@ use Rattle.std.proofs.lemmas.Map.Made.{length-le_from_is_member}
 use Rattle.pop_words.specs.declared.command.Command.{Command}
 use Rattle.pop_words.specs.declared.field.Field.{Field}
 use Rattle.pop_words.specs.declared.job.Job.{Job}
+use Rattle.pop_words.specs.declared.setting.Setting.{Setting}
 use Rattle.pop_words.specs.Options.{NamedOption, options, value_of, default_job}
+use Rattle.pop_words.specs.Settings.{sets}
 use Rattle.pop_words.specs.Reading.{behind, same_name, option_next, read_on, read_from}
 use Rattle.pop_words.proofs.ListTests.{some_at, some_from}
 use Rattle.pop_words.proofs.TableFacts.{same_name_is, same_name_laws}
@@ -143,29 +145,7 @@ pub next_option_is : (command : Command) (before slice : List NamedOption) (name
 next_option_is command before slice name word found a b is = ap (λ l. option_next command l word) (sym a)
     ∙ ap (option_next command slice) (sym b) ∙ sym is
 
--- where nothing was set, the word is no value
-pub no_value : (f : Field) (job : Job) (bytes word : List ℕ) (found : Option Job) → bytes ≡ word
-    → found ≡ option_map (λ g. g job) (value_of f bytes) → found ≡ None → value_of f word ≡ None
-no_value f job bytes word found same is none = ap (value_of f) (sym same)
-    ∙ unset (value_of f bytes) (sym is ∙ none)
-  where
-    unset : (value : Option (Job → Job)) → option_map (λ g. g job) value ≡ None → value ≡ None
-    unset None none = refl
-    unset (Some set) none = absurd (cc)
-
--- what a value sets
-pub record Sets (f : Field) (word : List ℕ) (job new : Job) : Type 0 where
-  pub set : Job → Job
-  pub value : value_of f word ≡ Some set
-  pub sets : set job ≡ new
-
--- where something was set, the word is a value, and it set that
-pub has_value : (f : Field) (job new : Job) (bytes word : List ℕ) (found : Option Job) → bytes ≡ word
-    → found ≡ option_map (λ g. g job) (value_of f bytes) → found ≡ Some new → Sets f word job new
-has_value f job new bytes word found same is some = sets (value_of f bytes) (ap (value_of f) (sym same))
-    (sym is ∙ some)
-  where
-    sets : (value : Option (Job → Job)) → value_of f word ≡ value → option_map (λ g. g job) value ≡ Some new
-        → Sets f word job new
-    sets None of some = absurd (cc)
-    sets (Some set) of some = record { set = set; value = of; sets = cc }
+-- the value that was read is that of the word
+pub value_is : (f : Field) (bytes word : List ℕ) (read : Option Setting) → bytes ≡ word
+    → option_map sets read ≡ value_of f bytes → value_of f word ≡ option_map sets read
+value_is f bytes word read same is = ap (value_of f) (sym same) ∙ sym is

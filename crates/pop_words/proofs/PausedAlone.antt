@@ -16,6 +16,7 @@ use Rattle.pop_words.specs.Values.{number_between, rows_in, key_in}
 use Rattle.pop_words.specs.Options.{NamedOption, options, value_of, default_job}
 use Rattle.pop_words.specs.CommandLines.{Choice, options_of, AreOptions, Asks, set_option, job_from}
 use Rattle.pop_words.specs.Reading.{allows, excludes}
+use Rattle.pop_words.specs.Laws.{PausedAlone}
 use Rattle.pop_words.proofs.ListTests.{all_at}
 use Rattle.pop_words.proofs.TableFacts.{allows_to}
 use Rattle.pop_words.proofs.ChosenOptions.{are_listed}
@@ -146,13 +147,7 @@ abbrev that_stops : Job → Option ℕ → Job
 that_stops job pops = record job { pops = pops }
 
 -- a run that may stop before its end is asked for with its stacks, their height and a root alone
-pub paused_alone : (words : List (List ℕ)) (job : Job) → Asks words job → (pops : ℕ) → job.pops ≡ Some pops
-    → job ≡ record (default_job job.command) {
-      stacks = job.stacks;
-      height = job.height;
-      pops = Some pops;
-      root = job.root;
-    }
+pub paused_alone : PausedAlone
 paused_alone words job asks pops stops =
     let stands = (asked_set words job asks).3 (ap is_some stops) in
     let same : others job ≡ others (default_job asks.command) =

@@ -1,11 +1,12 @@
 -- Worked values of the grammar, so that a wrong row of the table doesn't check.
-use Rattle.std.proofs.Common.{ℕ, true, false, List, [], ◌∷◌, None, Some, codes, replicate}
+use Rattle.std.proofs.Common.{◌≡◌, ℕ, true, false, List, [], ◌∷◌, None, Some, codes, replicate, refl}
 use Rattle.hex.proofs.OnLiterals.{hex_on_literals}
 use Rattle.pop_stacks.specs.declared.stack_spec.StackSpec.TheVariants.{Given, Key}
 use Rattle.pop_words.specs.declared.board_kind.BoardKind.TheVariants.{Lock, Words}
 use Rattle.pop_words.specs.declared.command.Command.{Command}
 use Rattle.pop_words.specs.declared.command.Command.TheVariants.{Formula, Orient, Tree, Resample, Check, Make, Rounds, Replay, Resume}
 use Rattle.pop_words.specs.declared.job.Job.{Job}
+use Rattle.pop_words.specs.Options.{default_job}
 use Rattle.pop_words.specs.CommandLines.{Asks, IsBadPlace}
 use Rattle.pop_words.proofs.ReadingLemmas.{reading_is}
 
@@ -17,22 +18,18 @@ zeros = codes "0000000000000000000000000000000000000000000000000000000000000000"
 
 -- the job of a command that tells no log, with no option
 abbrev plain : Command → Job
-plain command =
-    record {
-      command = command;
-      stacks = Key (replicate 32 0);
-      height = 1048576;
-      grow = None;
-      count = None;
-      pops = None;
-      workers = 1;
-      board = Words;
-      root = 1;
-      log = false;
-      witness = None;
-      reports = record { totals = false; heights = false; layers = false };
-      size = 0;
-    }
+plain command = record (default_job command) { log = false }
+
+-- where no option says otherwise, 2^20 entries a stack come from a key of zeros, and one worker pops on claim words
+default_numbers : (c : Command) → ((plain c).stacks ≡ Key (replicate 32 0)) × ((plain c).height ≡ 1048576)
+    × ((plain c).workers ≡ 1) × ((plain c).board ≡ Words) × ((plain c).root ≡ 1) × ((plain c).size ≡ 0)
+default_numbers c = (refl, refl, refl, refl, refl, refl)
+
+-- and nothing is asked for beside one sample
+default_requests : (c : Command) → ((plain c).command ≡ c) × ((plain c).grow ≡ None) × ((plain c).count ≡ None)
+    × ((plain c).pops ≡ None) × ((plain c).witness ≡ None)
+    × ((plain c).reports ≡ record { totals = false; heights = false; layers = false })
+default_requests c = (refl, refl, refl, refl, refl, refl)
 
 -- `formula` alone is a job with no option
 formula_alone : Asks (codes "formula" ∷ []) (plain Formula)

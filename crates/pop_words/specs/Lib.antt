@@ -2,4 +2,5 @@ pub mod Values
 pub mod Options
 pub mod CommandLines
 pub mod Reading
+pub mod Settings
 pub mod Laws

@@ -94,8 +94,12 @@ reading [] = Err 1
 reading (word ∷ rest) =
     read_on 1 (command_named word) (λ command. read_from command [] (default_job command) 1 rest)
 
+-- the fault is what is to be found, or want of memory
+abbrev pub IsFault : Result Job ℕ → WordFault → Type 0
+IsFault wanted (Usage place) = wanted ≡ Err place
+IsFault wanted OutOfMemory = ⊤
+
 -- the result is what is to be read, or want of memory
 abbrev pub IsRead : Result Job ℕ → Result Job WordFault → Type 0
 IsRead wanted (Ok job) = wanted ≡ Ok job
-IsRead wanted (Err (Usage place)) = wanted ≡ Err place
-IsRead wanted (Err OutOfMemory) = ⊤
+IsRead wanted (Err fault) = IsFault wanted fault

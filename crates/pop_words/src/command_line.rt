@@ -1,18 +1,25 @@
 // A command line, read word by word.
-ghost use Rattle.std.specs.Prelude.{◌+◌, ◌<◌, map, length, string_bytes, IfOk, IfErr};
+ghost use Rattle.std.specs.Prelude.{◌≡◌, ◌+◌, ◌<◌, map, length, string_bytes, Ok, IfOk, IfErr, OnOk};
 ghost use Rattle.pop_words.specs.CommandLines.{Asks, IsWordFault};
-ghost use Rattle.pop_words.specs.Reading.{behind, IsRead};
+ghost use Rattle.pop_words.specs.Options.{default_job};
+ghost use Rattle.pop_words.specs.Reading.{behind, IsFault, IsRead};
 
 use crate::option::{are_complete, next_option};
 use crate::{Command, Job, WordFault};
 use std::alloc::Global;
 
-// Reads the options behind the command word.
-fn read_options(alloc: Global, command: Command, words: &[String]) -> Result<Job, WordFault>
-    requires { 0 < length words.now }
-    ensures { IsRead (behind command (map string_bytes words.now)) result }
+// Reads the options behind the command word, and sets what they say.
+fn set_options(
+    alloc: Global,
+    command: Command,
+    words: &[String],
+    job: &mut Job,
+) -> Result<(), WordFault>
+    requires words { 0 < length words.now }
+    requires job { job.old ≡ default_job command }
+    ensures job { OnOk result (behind command (map string_bytes words.now) ≡ Ok job.new) }
+    ensures fault { IfErr result (IsFault (behind command (map string_bytes words.now))) }
 {
-    let mut job = Job::of(command);
     let mut chosen = Vec::new(alloc);
     let mut place = 1;
     while place < words.len() {
@@ -22,17 +29,32 @@ fn read_options(alloc: Global, command: Command, words: &[String]) -> Result<Job
         if place + 1 == words.len() {
             return Err(WordFault::Usage(place as u32 + 2));
         }
-        job = match option.field.set(alloc, job, words[place + 1].as_bytes())? {
-            Some(job) => job,
+        match option.field.value(alloc, words[place + 1].as_bytes())? {
+            Some(setting) => job.set(setting),
             None => return Err(WordFault::Usage(place as u32 + 2)),
-        };
+        }
         chosen.push(option)?;
         place += 2;
     }
     if are_complete(command, &chosen) {
-        Ok(job)
+        Ok(())
     } else {
         Err(WordFault::Usage(place as u32 + 1))
+    }
+}
+
+// The job of a command with the options behind it.
+fn read_options(alloc: Global, command: Command, words: &[String]) -> Result<Job, WordFault>
+    requires { 0 < length words.now }
+    ensures { IsRead (behind command (map string_bytes words.now)) result }
+{
+    let mut job = Job::of(command);
+    match set_options(alloc, command, words, &mut job) {
+        Ok(()) => Ok(job),
+        Err(fault) => {
+            drop(job);
+            Err(fault)
+        }
     }
 }
 

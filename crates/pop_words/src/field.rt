@@ -1,8 +1,9 @@
 // The fields of the job that options set, each by values of one grammar.
 ghost use Rattle.std.specs.Prelude.{◌≡◌, option_map, IfOk};
 ghost use Rattle.pop_words.specs.Options.{value_of};
+ghost use Rattle.pop_words.specs.Settings.{sets};
 
-use crate::Job;
+use crate::setting::Setting;
 use crate::value::{board_in, key_in, number_between, pair_in, reports_in, rows_in, switch_in};
 use pop_stacks::StackSpec;
 use std::alloc::{AllocError, Global};
@@ -41,37 +42,33 @@ pub enum Field {
 }
 
 impl Field {
-    /// The job with the field set by a word; None where the word is no value of it.
-    pub fn set(self, alloc: Global, job: Job, word: &[u8]) -> Result<Option<Job>, AllocError>
-        ensures { IfOk result (λ set. set ≡ option_map (λ f. f job) (value_of self word.now)) }
+    /// What a word sets as the value of the field; None where it is no value of it.
+    pub fn value(self, alloc: Global, word: &[u8]) -> Result<Option<Setting>, AllocError>
+        ensures { IfOk result (λ read. option_map sets read ≡ value_of self word.now) }
     {
-        Ok(match self {
+        match self {
             Field::Stacks => {
-                rows_in(alloc, word)?.map(|rows| job.with_stacks(StackSpec::Given(rows)))
+                let rows = rows_in(alloc, word)?;
+                Ok(rows.map(|rows| Setting::Stacks(StackSpec::Given(rows))))
             }
             Field::Key => match key_in(word) {
-                Some(key) => Some(job.with_stacks(StackSpec::Key(key))),
-                None => None,
+                Some(key) => Ok(Some(Setting::Stacks(StackSpec::Key(key)))),
+                None => Ok(None),
             },
-            Field::Board => board_in(word).map(move |board| Job { board, ..job }),
-            Field::Log => switch_in(word).map(move |log| Job { log, ..job }),
-            Field::Witness => pair_in(alloc, word)?.map(move |pair| Job {
-                witness: Some(pair),
-                ..job
-            }),
-            Field::Reports => reports_in(word).map(move |reports| Job { reports, ..job }),
-            Field::Height => number_between(1, MAX_HEIGHT, word).map(move |height| Job {
-                height,
-                ..job
-            }),
-            Field::Grow => number_between(1, MAX_HEIGHT, word).map(move |last| job.with_grow(last)),
-            Field::Count => number_between(1, MAX_COUNT, word).map(move |n| job.with_count(n)),
-            Field::Pops => number_between(1, MAX_POPS, word).map(move |n| job.with_pops(n)),
-            Field::Workers => {
-                number_between(1, MAX_WORKERS, word).map(move |workers| Job { workers, ..job })
+            Field::Height => Ok(number_between(1, MAX_HEIGHT, word).map(Setting::Height)),
+            Field::Grow => Ok(number_between(1, MAX_HEIGHT, word).map(Setting::Grow)),
+            Field::Count => Ok(number_between(1, MAX_COUNT, word).map(Setting::Count)),
+            Field::Pops => Ok(number_between(1, MAX_POPS, word).map(Setting::Pops)),
+            Field::Workers => Ok(number_between(1, MAX_WORKERS, word).map(Setting::Workers)),
+            Field::Board => Ok(board_in(word).map(Setting::Board)),
+            Field::Log => Ok(switch_in(word).map(Setting::Log)),
+            Field::Root => Ok(number_between(1, u32::MAX, word).map(Setting::Root)),
+            Field::Witness => {
+                let pair = pair_in(alloc, word)?;
+                Ok(pair.map(Setting::Witness))
             }
-            Field::Root => number_between(1, u32::MAX, word).map(move |root| Job { root, ..job }),
-            Field::Size => number_between(1, MAX_SIZE, word).map(move |size| Job { size, ..job }),
-        })
+            Field::Reports => Ok(reports_in(word).map(Setting::Reports)),
+            Field::Size => Ok(number_between(1, MAX_SIZE, word).map(Setting::Size)),
+        }
     }
 }

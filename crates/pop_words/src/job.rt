@@ -1,6 +1,7 @@
 // What the words ask for.
-ghost use Rattle.std.specs.Prelude.{◌≡◌, Some};
+ghost use Rattle.std.specs.Prelude.{◌≡◌};
 
+use crate::setting::Setting;
 use crate::{BoardKind, Command, Reports};
 use pop_stacks::StackSpec;
 
@@ -44,6 +45,7 @@ pub struct Job {
 
 impl Job {
     ghost use Rattle.pop_words.specs.Options.{default_job};
+    ghost use Rattle.pop_words.specs.Settings.{sets};
 
     // The job of a command with no option.
     pub(crate) fn of(command: Command) -> Job
@@ -66,40 +68,23 @@ impl Job {
         }
     }
 
-    // The job with stacks of this origin.
-    pub(crate) fn with_stacks(self, stacks: StackSpec) -> Job
-        ensures { result ≡ record self { stacks = stacks } }
+    // Sets what a value sets.
+    pub(crate) fn set(&mut self, setting: Setting)
+        ensures { self.new ≡ sets setting self.old }
     {
-        Job { stacks, ..self }
-    }
-
-    // The job with keyed stacks that grow up to this height.
-    pub(crate) fn with_grow(self, last: u32) -> Job
-        ensures { result ≡ record self { grow = Some last } }
-    {
-        Job {
-            grow: Some(last),
-            ..self
-        }
-    }
-
-    // The job that draws so many samples.
-    pub(crate) fn with_count(self, count: u32) -> Job
-        ensures { result ≡ record self { count = Some count } }
-    {
-        Job {
-            count: Some(count),
-            ..self
-        }
-    }
-
-    // The job whose run stops after so many pops.
-    pub(crate) fn with_pops(self, pops: u32) -> Job
-        ensures { result ≡ record self { pops = Some pops } }
-    {
-        Job {
-            pops: Some(pops),
-            ..self
+        match setting {
+            Setting::Stacks(stacks) => self.stacks = stacks,
+            Setting::Height(height) => self.height = height,
+            Setting::Grow(last) => self.grow = Some(last),
+            Setting::Count(count) => self.count = Some(count),
+            Setting::Pops(pops) => self.pops = Some(pops),
+            Setting::Workers(workers) => self.workers = workers,
+            Setting::Board(board) => self.board = board,
+            Setting::Log(log) => self.log = log,
+            Setting::Root(root) => self.root = root,
+            Setting::Witness(pair) => self.witness = Some(pair),
+            Setting::Reports(reports) => self.reports = reports,
+            Setting::Size(size) => self.size = size,
         }
     }
 }

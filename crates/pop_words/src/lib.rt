@@ -11,6 +11,7 @@ mod job;
 pub mod laws;
 mod option;
 mod reports;
+mod setting;
 mod value;
 
 pub use board_kind::BoardKind;

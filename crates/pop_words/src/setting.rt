@@ -1,0 +1,20 @@
+// What the values of options set in the job.
+use crate::{BoardKind, Reports};
+use pop_stacks::StackSpec;
+
+/// A value that was read, and what it sets.
+#[derive(Drop)]
+pub enum Setting {
+    Stacks(StackSpec),
+    Height(u32),
+    Grow(u32),
+    Count(u32),
+    Pops(u32),
+    Workers(u32),
+    Board(BoardKind),
+    Log(bool),
+    Root(u32),
+    Witness((u32, u32)),
+    Reports(Reports),
+    Size(u32),
+}
