@@ -1,13 +1,12 @@
 ghost use Rattle.std.specs.Prelude.{IfOk};
 ghost use Rattle.pop_model.specs.Stacks.{IsKeyed};
 ghost use Rattle.pop_model.specs.Extremal.{IsExtremal};
-ghost use Rattle.pop_instance.specs.Index.{IsFamilyIndex};
 ghost use Rattle.pop_batch.specs.Batches.{IsSampleEnd, AreEnds};
 
 use crate::Ends;
-use confluence_core::{End, Indexed, Keep};
-use pop_instance::{Index, Instance};
-use pop_stacks::Reader;
+use crate::samples::Samples;
+use confluence_core::End;
+use pop_instance::Instance;
 use rayon::prelude::*;
 use std::alloc::{AllocError, Global};
 use std::thread::Threads;
@@ -25,7 +24,9 @@ pub fn batch<R: Threads + Sync>(
     requires extremal { IsExtremal instance.now.family }
     ensures ends { IfOk result (AreEnds instance.now count) }
 {
-    let ends = run_all(rt, alloc, instance, count)?;
+    let samples = Samples::of(alloc, instance)?;
+    let ends = run_each(rt, alloc, &samples, count)?;
+    drop(samples);
     Ok(Ends::of(ends))
 }
 
@@ -36,86 +37,39 @@ pub fn batch_alone(alloc: Global, instance: &Instance, count: u32) -> Result<End
     requires extremal { IsExtremal instance.now.family }
     ensures ends { IfOk result (AreEnds instance.now count) }
 {
-    let index = instance.index(alloc)?;
-    let ends = run_in_turn(alloc, instance, &index, count)?;
+    let samples = Samples::of(alloc, instance)?;
+    let ends = run_in_turn(alloc, &samples, count)?;
+    drop(samples);
     Ok(Ends::of(ends))
 }
 
-// The ends of so many samples.
-fn run_all<R: Threads + Sync>(
-    rt: &R,
-    alloc: Global,
-    instance: &Instance,
-    count: u32,
-) -> Result<Vec<End>, AllocError>
-    requires keyed { IsKeyed instance.now.stacks.origin }
-    requires extremal { IsExtremal instance.now.family }
-    ensures { IfOk result (λ ends. AreEnds instance.now count ends.items) }
-{
-    let index = instance.index(alloc)?;
-    run_each(rt, alloc, instance, &index, count)
-}
-
-// The end of sample j, by the index of the family.
-fn run_sample(
-    alloc: Global,
-    instance: &Instance,
-    index: &Option<Index>,
-    j: u32,
-) -> Result<End, AllocError>
-    requires index { IsFamilyIndex instance.now.family index.now }
-    requires keyed { IsKeyed instance.now.stacks.origin }
-    requires extremal { IsExtremal instance.now.family }
-    ensures { IfOk result (IsSampleEnd instance.now j) }
-{
-    let stacks = instance.stacks().for_sample(alloc, j)?;
-    let mut reader = Reader::keeping(alloc, &stacks)?;
-    let sample = Indexed::of(instance, index).for_sample(&stacks, j);
-    let opening = sample.opening(alloc, Keep::Nothing)?;
-    Ok(sample.run(alloc, &mut reader, opening)?.end)
-}
-
-// The ends of so many samples, by the index of the family.
+// The ends of so many samples, each by a thread that has time.
 fn run_each<R: Threads + Sync>(
     rt: &R,
     alloc: Global,
-    instance: &Instance,
-    index: &Option<Index>,
+    samples: &Samples,
     count: u32,
 ) -> Result<Vec<End>, AllocError>
-    requires index { IsFamilyIndex instance.now.family index.now }
-    requires keyed { IsKeyed instance.now.stacks.origin }
-    requires extremal { IsExtremal instance.now.family }
-    ensures { IfOk result (λ ends. AreEnds instance.now count ends.items) }
+    ensures { IfOk result (λ ends. AreEnds samples.now count ends.items) }
 {
     (0..count)
         .into_par_iter()
         .with_min_len(1)
         .map(
             |j: u32| -> Result<End, AllocError>
-                requires { IsFamilyIndex instance.now.family index.now
-                    × IsKeyed instance.now.stacks.origin × IsExtremal instance.now.family }
-                ensures { IfOk result (IsSampleEnd instance.entry.now j) }
-            { run_sample(alloc, instance, index, j) },
+                ensures { IfOk result (IsSampleEnd samples.entry.now j) }
+            { samples.run(alloc, j) },
         )
         .collect::<Result<Vec<End>, AllocError>>(rt, alloc)?
 }
 
 // The same, run one after another.
-fn run_in_turn(
-    alloc: Global,
-    instance: &Instance,
-    index: &Option<Index>,
-    count: u32,
-) -> Result<Vec<End>, AllocError>
-    requires index { IsFamilyIndex instance.now.family index.now }
-    requires keyed { IsKeyed instance.now.stacks.origin }
-    requires extremal { IsExtremal instance.now.family }
-    ensures { IfOk result (λ ends. AreEnds instance.now count ends.items) }
+fn run_in_turn(alloc: Global, samples: &Samples, count: u32) -> Result<Vec<End>, AllocError>
+    ensures { IfOk result (λ ends. AreEnds samples.now count ends.items) }
 {
     let mut ends = Vec::with_capacity(alloc, count as usize)?;
     for j in 0..count {
-        ends.push(run_sample(alloc, instance, index, j)?)?;
+        ends.push(samples.run(alloc, j)?)?;
     }
     Ok(ends)
 }

@@ -8,6 +8,7 @@
 mod batches;
 mod ends;
 pub mod laws;
+mod samples;
 
 pub use batches::{batch, batch_alone};
 pub use ends::Ends;

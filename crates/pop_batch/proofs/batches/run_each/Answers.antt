@@ -11,4 +11,4 @@ returns g c =
     let whole : c.args.count - 0 ≡ c.args.count = omega arith in
     let chain = rw (c.map.ensures.base, c.with_min_len.ensures.base, c.map.ensures.f) at done.1 in
     let numbers = chain.1 ∙ (λ i. nat_range (ends.0 i) (ends.1 i)) ∙ ap (range_with_len 0) whole in
-    batch_ends c.args.instance.now c.args.count chain.0 done.0 c.in_ok-collect.field-0 numbers chain.2 done.2
+    batch_ends c.args.samples.now c.args.count chain.0 done.0 c.in_ok-collect.field-0 numbers chain.2 done.2

@@ -5,11 +5,11 @@ use Rattle.pop_batch.proofs.batches.run_in_turn.Goals as goal
 
 pub loop-j-init : goal.loop-j-init
 loop-j-init c =
-    subst (AreEnds c.args.instance.now 0) (sym c.in_ok-ends.ensures.items) (no_ends c.args.instance.now)
+    subst (AreEnds c.args.samples.now 0) (sym c.in_ok-ends.ensures.items) (no_ends c.args.samples.now)
 
 pub loop-j-preserved : goal.loop-j-preserved
 loop-j-preserved c =
-    let i = c.args.instance.now in
+    let i = c.args.samples.now in
     subst (AreEnds i (c.loop-j.j + 1)) (sym c.in_ok-push.ensures.items)
-    (one_more i c.loop-j.j c.loop-j.ends.items c.in_ok-run_sample.field-0 c.loop-j.invariant
-    c.in_ok-run_sample.ensures)
+    (one_more i c.loop-j.j c.loop-j.ends.items c.in_ok-run.field-0 c.loop-j.invariant
+    c.in_ok-run.ensures)
