@@ -30,11 +30,11 @@ edges_at g w = map (λ p. p.0) (listed_edges g w)
 abbrev pub neighbours_of : GraphOf → ℕ → List ℕ
 neighbours_of g w = map (λ i. other_end (edge_at g i) w) (edges_at g w)
 
--- The darts (half-edges) of edge i are its two ends: 2 i at its end v, and 2 i + 1 at its end u. The one at this end of it:
+-- the dart (half-edge) of edge i at an end of it: 2 i at its end v, and 2 i + 1 at its end u
 abbrev pub dart_at : ℕ → Edge → ℕ → ℕ
 dart_at i e w = 2 * i + (if e.v == w then 0 else 1)
 
--- what an edge puts into the row of a vertex at which it stands: by the number of the edge, the edge and the vertex
+-- what an edge puts into the row of a vertex at which it stands, by its number, itself and the vertex
 abbrev pub Putting : Type 0
 Putting = ℕ → Edge → ℕ → ℕ
 
