@@ -1,8 +1,8 @@
 -- Records that are layered as they stand are their own layered log: each has its layer behind those before it, and layer
 -- and unit rise, so sorting moves none.
-use Rattle.std.proofs.Common.{inl, inr, ◌≡◌, ℕ, zero, suc, ◌+◌, ◌<◌, ◌≤◌, true, false, List, [], ◌∷◌, ◌++◌, map, zip, length, get_or, refl, sym, ap, subst, ◌∙◌, arith, is_lt}
+use Rattle.std.proofs.Common.{inl, inr, ◌≡◌, ℕ, zero, suc, ◌+◌, ◌<◌, false, List, [], ◌∷◌, ◌++◌, map, zip, get_or, refl, sym, ap, subst, ◌∙◌, arith, is_lt}
 use Rattle.std.specs.Ordering.{nat_cmp, ordering_then}
-use Rattle.std.specs.List.Sorted.{IsPermutation, IsSorted, IsSortedBy, IsStable}
+use Rattle.std.specs.List.Sorted.{IsPermutation, IsSorted, IsStable}
 use Rattle.std.proofs.lemmas.Cmp.{ranked, by_ranked}
 use Rattle.std.proofs.lemmas.List.Sorted.{IsPermutation-refl}
 use Rattle.pop_log.specs.Layers.{Placed, LayersBehind}

@@ -1,5 +1,5 @@
 -- The events of a family under their units: two events of one unit share a variable.
-use Rattle.std.proofs.Common.{◌≡◌, ℕ, [], get_or, slice_get, sym, ap, subst, ◌∙◌, Contains}
+use Rattle.std.proofs.Common.{◌≡◌, ℕ, get_or, slice_get, sym, ap, subst, ◌∙◌, Contains}
 use Rattle.std.proofs.lemmas.List.Elements.{Contains-get_or}
 use Rattle.std.proofs.lemmas.Option.{same_Some}
 use Rattle.pop_model.specs.Popping.{Cube, IsCube}
