@@ -3,15 +3,11 @@
 -- a line given is the text's, and at the end the whole decides. Here that is brought into the words of the answer.
 use Rattle.std.proofs.Common.{◌≡◌, inl, inr, ℕ, ◌+◌, List, [], ◌∷◌, ◌++◌, Option, None, Some, Result, Ok, Err, refl, sym, ap, ◌∙◌, append_assoc, append-nil}
 use Rattle.std.proofs.lemmas.Bool.{cases_Bool}
-use Rattle.std.specs.Io.KnownBytes.{IsAtEnd}
 use Rattle.pop_edge.specs.declared.refusal.ReadRefusal.{ReadRefusal}
 use Rattle.pop_edge.specs.declared.refusal.ReadRefusal.TheVariants.{Malformed, Count, EmptyClause, Limit, ReadFault, OutOfMemory}
-use Rattle.pop_edge.specs.declared.next.Next.TheVariants.{End}
-use Rattle.pop_edge.specs.LineState.{LineState, IsNext, fresh}
-use Rattle.pop_edge.specs.Refusals.{or_else, at_line, first_refusal}
-use Rattle.pop_edge.specs.Judging.{told_lines}
-use Rattle.pop_edge.proofs.RefusalsLemmas.{IsOfLine, MayBeOfLine, first_refusal-append, or_else_front, or_else_is, at_line_is, first_refusal_is}
-use Rattle.pop_edge.proofs.JudgedLines.{IsInOrder, IsReading, IsWhole, whole_text}
+use Rattle.pop_edge.specs.Refusals.{MayBeOfLine, or_else, at_line, first_refusal}
+use Rattle.pop_edge.specs.Judging.{HasTakenAll, IsInOrder, IsWhole}
+use Rattle.pop_edge.proofs.RefusalsLemmas.{first_refusal-append, or_else_front, or_else_is, at_line_is, first_refusal_is}
 use Rattle.pop_edge.proofs.AnsweredLines.{Allows}
 use Rattle.dimacs_read.specs.declared.reader.Reader.{Reader}
 use Rattle.dimacs_read.specs.declared.token.Token.{Token}
@@ -71,35 +67,23 @@ pub knows_clean : (r : Reader) (lines : List (ℕ × List (List ℕ))) → Knows
 knows_clean r [] k = refl
 knows_clean r (x ∷ xs) k = k.clean
 
--- the refusal of a line of the text is what the reader is to answer
-of_line : (text : List ℕ) (e : ReadRefusal) → IsOfLine e → cnf_refusal text ≡ Some e → AnswersCnf text (Err e)
-of_line text (Malformed line code) kind h = h
-of_line text (Limit limit line) kind h = h
-of_line text (Count d f) kind h = absurd kind
-of_line text (EmptyClause n) kind h = absurd kind
-of_line text ReadFault kind h = tt
-of_line text OutOfMemory kind h = tt
-
--- and so are a fault of the source and want of memory
+-- the refusal of a line of the text is what the reader is to answer, and so are a fault of the source and want of memory
 pub cnf_allows : (text : List ℕ) → Allows cnf text (λ e. AnswersCnf text (Err e))
-cnf_allows text = record { refusal = of_line text; fault = tt; memory = tt }
+cnf_allows text = record { malformed = λ line code h. h; limit = λ kind line h. h; fault = tt; memory = tt }
 
 -- at the end of the source the whole is answered
-pub answers_whole : (r : Reader) (s t : LineState) (l m n : Option (List ℕ)) (line : ℕ)
-    (result : Result Cnf ReadRefusal)
-    (text : List ℕ) → IsReading cnf (Knows r) l m s → IsNext s (fresh t) m n (Ok End) → line ≡ t.number + 1
-    → ((lines : List (ℕ × List (List ℕ))) → Knows r lines → Finishes line lines result) → IsAtEnd n → l ≡ Some text
-    → AnswersCnf text result
-answers_whole r s t l m n line result text i next place finish end is =
-    by result (finish (told_lines cnf i.lines) i.knows)
+pub answers_whole : (r : Reader) (left : Option (List ℕ)) (line : ℕ) (result : Result Cnf ReadRefusal) (text : List ℕ)
+    → HasTakenAll cnf (Knows r) left line → ((lines : List (ℕ × List (List ℕ))) → Knows r lines → Finishes line lines result)
+    → left ≡ Some text → AnswersCnf text result
+answers_whole r left line result text taken finish is = by result (finish taken.lines taken.knows)
   where
-    whole : IsWhole cnf text i.lines line
-    whole = whole_text cnf (Knows r) s t l m n line text (knows_clean r) i next place end is
+    whole : IsWhole cnf text taken.lines line
+    whole = taken.whole text is
 
-    formula : cnf_of text ≡ formula_in (told_lines cnf i.lines)
-    formula = ap (λ ls. formula_in (told_lines cnf ls)) whole.all
+    formula : cnf_of text ≡ formula_in taken.lines
+    formula = ap formula_in whole.all
 
-    by : (x : Result Cnf ReadRefusal) → Finishes line (told_lines cnf i.lines) x → AnswersCnf text x
+    by : (x : Result Cnf ReadRefusal) → Finishes line taken.lines x → AnswersCnf text x
     by (Ok f) h = (whole.refusal ∙ h.0, h.1 ∙ sym formula, h.2)
     by (Err (EmptyClause k)) h = (whole.refusal ∙ h.0, (h.1.0, h.1.1, ap first_empty formula ∙ h.1.2))
     by (Err OutOfMemory) h = tt

@@ -15,8 +15,8 @@ use Rattle.dimacs_read.specs.declared.header.Header.{Header}
 use Rattle.dimacs_read.specs.declared.token.Token.{Token}
 use Rattle.dimacs_read.specs.Tokens.{token_of}
 use Rattle.dimacs_read.specs.CnfText.{cnf, token_fault, body, is_passed_over, variables_in, header_fault, line_refusal}
-use Rattle.dimacs_read.specs.Reading.{placed, Holds, TakesWords, TakesMore, TakesLine, Knows, HasHeader}
-use Rattle.pop_edge.specs.Judging.{told}
+use Rattle.dimacs_read.specs.Reading.{placed, Holds, TakesWords, TakesMore, Knows, HasHeader}
+use Rattle.pop_edge.specs.Judging.{TakesLine, told}
 use Rattle.pop_edge.proofs.RefusalsLemmas.{items, first_refusal-append, or_else_none}
 
 -- the words of lines, under the lines' numbers
@@ -131,7 +131,7 @@ known_more : (a b : Reader) (h : ℕ × List (List ℕ)) (others : Lines) (heade
     (result : Result (Unit {0}) ReadRefusal) → HasHeader a h others → a.header ≡ Some header → b.header ≡ a.header
     → a.ended ≡ false → b.ended ≡ false → ends (number, words_of line) ≡ false
     → TakesWords b.clauses header.variables number line (items (body others)) result
-    → TakesLine b (h ∷ others ++ (number, words_of line) ∷ []) result
+    → TakesLine cnf (Knows b) (h ∷ others ++ (number, words_of line) ∷ []) result
 known_more a b h others header number line result k is same open' ended plain_line takes = by result takes
   where
     x : ℕ × List (List ℕ)
@@ -157,7 +157,7 @@ known_more a b h others header number line result k is same open' ended plain_li
         ∙ ap (λ v. first_refusal (token_fault v) (items (body others)) (placed number line)) variables
 
     by : (r : Result (Unit {0}) ReadRefusal) → TakesWords b.clauses header.variables number line (items (body others)) r
-        → TakesLine b (h ∷ others ++ (number, words_of line) ∷ []) r
+        → TakesLine cnf (Knows b) (h ∷ others ++ (number, words_of line) ∷ []) r
     by (Ok u) t =
         record {
           fields = k.fields;
@@ -173,7 +173,7 @@ known_more a b h others header number line result k is same open' ended plain_li
 pub takes_line : (a b : Reader) (lines : Lines) (header : Header) (number first : ℕ) (line : List ℕ)
     (result : Result (Unit {0}) ReadRefusal) → Knows a lines → a.header ≡ Some header → b.header ≡ a.header
     → (bytes : List ℕ) × (others : List (List ℕ)) × (words_of line ≡ (first ∷ bytes) ∷ others) → first ≢ 99
-    → TakesMore a b header number first line result → TakesLine b (lines ++ told cnf number (words_of line)) result
+    → TakesMore a b header number first line result → TakesLine cnf (Knows b) (lines ++ told cnf number (words_of line)) result
 takes_line a b [] header number first line result k is same words other takes = absurd (none_some (sym k.is ∙ is))
   where
     none_some : ◌≡◌ {A = Option Header} None (Some header) → ⊥
@@ -182,8 +182,8 @@ takes_line a b (h ∷ others) header number first line result k is same words ot
     let counts : is_passed_over (words_of line) ≡ false = ap is_passed_over words.2 ∙ ne_eqb first 99 other in
     let here : told cnf number (words_of line) ≡ (number, words_of line) ∷ [] = rw counts refl in
     let begins : begins_with 37 (words_of line) ≡ nat_eq first 37 = ap (begins_with 37) words.2 in
-    subst (λ ls. TakesLine b (h ∷ others ++ ls) result) (sym here) (elim takes [
-      | inl t ↦ subst (TakesLine b (h ∷ others ++ (number, words_of line) ∷ [])) (sym t.3)
+    subst (λ ls. TakesLine cnf (Knows b) (h ∷ others ++ ls) result) (sym here) (elim takes [
+      | inl t ↦ subst (TakesLine cnf (Knows b) (h ∷ others ++ (number, words_of line) ∷ [])) (sym t.3)
           (known_still a b h (number, words_of line) others k same t.2 t.0
           (elim t.1 [ inl e ↦ inl e | inr e ↦ inr (begins ∙ eq-eqb first 37 e) ]))
       | inr t ↦ known_more a b h others header number line result k is same t.1 t.0 (begins ∙ ne_eqb first 37 t.2)

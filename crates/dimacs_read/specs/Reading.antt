@@ -126,12 +126,6 @@ abbrev pub Knows : Reader → List (ℕ × List (List ℕ)) → Type 0
 Knows r [] = HasNoHeader r
 Knows r (header ∷ others) = HasHeader r header others
 
--- a line more is known, or it is refused
-abbrev pub TakesLine : Reader → List (ℕ × List (List ℕ)) → Result (Unit {0}) ReadRefusal → Type 0
-TakesLine new lines (Ok _) = Knows new lines
-TakesLine new lines (Err refusal) =
-    (refusal ≡ OutOfMemory) ⊎ (line_refusal lines ≡ Some refusal)
-
 -- within the limits
 pub record IsWithin (c : Clauses) : Type 0 where
   pub few : length c.ends.items ≤ 2 ^ 22

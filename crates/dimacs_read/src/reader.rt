@@ -1,14 +1,11 @@
-ghost use Rattle.std.specs.Prelude.{◌≡◌, ◌++◌, ℕ, List, []};
-ghost use Rattle.pop_edge.specs.Words.{words_of};
-ghost use Rattle.pop_edge.specs.Judging.{told};
-ghost use Rattle.dimacs_read.specs.CnfText.{cnf};
-ghost use Rattle.dimacs_read.specs.Reading.{IsWithin, Knows, TakesLine, TakesMore};
+ghost use Rattle.std.specs.Prelude.{◌≡◌, ℕ, List, []};
+ghost use Rattle.dimacs_read.specs.Reading.{IsWithin, Knows, TakesMore};
 
 use crate::Formula;
 use crate::clauses::Clauses;
 use crate::finish::finish_clauses;
 use crate::header::{Header, first_byte, read_header};
-use pop_edge::ReadRefusal;
+use pop_edge::{LineReader, ReadRefusal};
 use std::alloc::Global;
 
 const COMMENT: u8 = b'c';
@@ -81,14 +78,19 @@ impl Reader {
         }
         self.clauses.take_words(header.variables, number, line)
     }
+}
 
-    /// Takes a line, or refuses it.
-    pub fn take_line(&mut self, number: u64, line: &[u8]) -> Result<(), ReadRefusal>
-        requires { IsWithin self.old.clauses }
-        ensures within { IsWithin self.new.clauses }
-        ensures line { (lines : List (ℕ × List (List ℕ))) → Knows self.old lines
-            → TakesLine self.new (lines ++ told cnf number (words_of line.now)) result }
-    {
+impl LineReader for Reader {
+    ghost use Rattle.dimacs_read.specs.CnfText.{cnf};
+    ghost use Rattle.dimacs_read.specs.Reading.{IsWithin, Knows};
+
+    ghost judgement = { cnf };
+
+    ghost is_sound = { λ r. IsWithin r.clauses };
+
+    ghost knows = { Knows };
+
+    fn take_line(&mut self, number: u64, line: &[u8]) -> Result<(), ReadRefusal> {
         match first_byte(line) {
             None => Ok(()),
             Some(first) => {

@@ -2,15 +2,11 @@
 -- The grammar judges in the order of the text, so what pop_edge proves of every such grammar holds of it: the refusal
 -- of a line given is the text's, and at the end the whole decides. Here that is brought into the words of the answer.
 use Rattle.std.proofs.Common.{◌≡◌, ℕ, ◌+◌, List, [], ◌∷◌, ◌++◌, Option, None, Some, Result, Ok, Err, sym, ap, ◌∙◌}
-use Rattle.std.specs.Io.KnownBytes.{IsAtEnd}
 use Rattle.pop_edge.specs.declared.refusal.ReadRefusal.{ReadRefusal}
 use Rattle.pop_edge.specs.declared.refusal.ReadRefusal.TheVariants.{Malformed, Count, EmptyClause, Limit, ReadFault, OutOfMemory}
-use Rattle.pop_edge.specs.declared.next.Next.TheVariants.{End}
-use Rattle.pop_edge.specs.LineState.{LineState, IsNext, fresh}
-use Rattle.pop_edge.specs.Refusals.{or_else, at_line, first_refusal}
-use Rattle.pop_edge.specs.Judging.{told_lines}
-use Rattle.pop_edge.proofs.RefusalsLemmas.{IsOfLine, MayBeOfLine, first_refusal-append, or_else_front, or_else_is, at_line_is, first_refusal_is}
-use Rattle.pop_edge.proofs.JudgedLines.{IsInOrder, IsReading, IsWhole, whole_text}
+use Rattle.pop_edge.specs.Refusals.{MayBeOfLine, or_else, at_line, first_refusal}
+use Rattle.pop_edge.specs.Judging.{HasTakenAll, IsInOrder, IsWhole}
+use Rattle.pop_edge.proofs.RefusalsLemmas.{first_refusal-append, or_else_front, or_else_is, at_line_is, first_refusal_is}
 use Rattle.pop_edge.proofs.AnsweredLines.{Allows}
 use Rattle.graph_read.specs.declared.reader.Reader.{Reader}
 use Rattle.graph_read.specs.Graphs.{GraphOf}
@@ -41,35 +37,23 @@ graph_in_order = record { front = front_refusal; kinds = line_kinds }
 pub knows_clean : (r : Reader) (lines : List (ℕ × List (List ℕ))) → Knows r lines → line_refusal lines ≡ None
 knows_clean r lines k = k.clean
 
--- the refusal of a line of the text is what the reader is to answer
-of_line : (text : List ℕ) (e : ReadRefusal) → IsOfLine e → graph_refusal text ≡ Some e → AnswersGraph text (Err e)
-of_line text (Malformed line code) kind h = h
-of_line text (Limit limit line) kind h = h
-of_line text (Count d f) kind h = absurd kind
-of_line text (EmptyClause n) kind h = absurd kind
-of_line text ReadFault kind h = tt
-of_line text OutOfMemory kind h = tt
-
--- and so are a fault of the source and want of memory
+-- the refusal of a line of the text is what the reader is to answer, and so are a fault of the source and want of memory
 pub graph_allows : (text : List ℕ) → Allows graph text (λ e. AnswersGraph text (Err e))
-graph_allows text = record { refusal = of_line text; fault = tt; memory = tt }
+graph_allows text = record { malformed = λ line code h. h; limit = λ kind line h. h; fault = tt; memory = tt }
 
 -- at the end of the source the whole is answered
-pub answers_whole : (r : Reader) (s t : LineState) (l m n : Option (List ℕ)) (line : ℕ)
-    (result : Result GraphOf ReadRefusal) (text : List ℕ) → IsReading graph (Knows r) l m s
-    → IsNext s (fresh t) m n (Ok End) → line ≡ t.number + 1
-    → ((lines : List (ℕ × List (List ℕ))) → Knows r lines → Finishes line lines result) → IsAtEnd n → l ≡ Some text
-    → AnswersGraph text result
-answers_whole r s t l m n line result text i next place finish end is =
-    by result (finish (told_lines graph i.lines) i.knows)
+pub answers_whole : (r : Reader) (left : Option (List ℕ)) (line : ℕ) (result : Result GraphOf ReadRefusal) (text : List ℕ)
+    → HasTakenAll graph (Knows r) left line → ((lines : List (ℕ × List (List ℕ))) → Knows r lines → Finishes line lines result)
+    → left ≡ Some text → AnswersGraph text result
+answers_whole r left line result text taken finish is = by result (finish taken.lines taken.knows)
   where
-    whole : IsWhole graph text i.lines line
-    whole = whole_text graph (Knows r) s t l m n line text (knows_clean r) i next place end is
+    whole : IsWhole graph text taken.lines line
+    whole = taken.whole text is
 
-    spelled : graph_of text ≡ graph_in (told_lines graph i.lines)
-    spelled = ap (λ ls. graph_in (told_lines graph ls)) whole.all
+    spelled : graph_of text ≡ graph_in taken.lines
+    spelled = ap graph_in whole.all
 
-    by : (x : Result GraphOf ReadRefusal) → Finishes line (told_lines graph i.lines) x → AnswersGraph text x
+    by : (x : Result GraphOf ReadRefusal) → Finishes line taken.lines x → AnswersGraph text x
     by (Ok g) h = (whole.refusal ∙ h.0, h.1 ∙ sym spelled)
     by (Err ReadFault) h = absurd h
     by (Err OutOfMemory) h = tt

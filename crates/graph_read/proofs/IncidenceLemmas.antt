@@ -3,7 +3,7 @@ use Rattle.std.proofs.Common.{◌≡◌, ℕ, ◌+◌, ◌-◌, ◌<◌, Bool, t
 use Rattle.std.specs.List.{enumerate_from}
 use Rattle.std.proofs.lemmas.List.{map-append, map-id, take_more, length-take-le}
 use Rattle.std.proofs.lemmas.List.Elements.{filter-append}
-use Rattle.std.proofs.lemmas.List.FromFn.{get_or-map-range_with_len}
+use Rattle.std.proofs.lemmas.List.FromFn.{get_or-map-range_with_len, length-map-range_with_len}
 use Rattle.pop_edge.proofs.JudgedLines.{enumerate-append}
 use Rattle.graph_read.specs.declared.edge.Edge.{Edge}
 use Rattle.graph_read.specs.Graphs.{GraphOf, IsVertex}
@@ -50,6 +50,19 @@ pub at_vertex-rows_by : (put : Putting) (g : GraphOf) (w : ℕ) → IsVertex g.v
 at_vertex-rows_by put g w v =
     get_or-map-range_with_len (row_by put g) 1 g.vertices (w - 1) w (let none : List ℕ = [] in none)
     (omega (arith, v.first, v.last)) (omega (arith, v.first))
+
+-- and there is a row for each vertex
+pub has_row : (put : Putting) (g inside : GraphOf) (rows : List (List ℕ)) (w : ℕ) → rows ≡ rows_by put inside → inside ≡ g
+    → IsVertex g.vertices w → w - 1 < length rows
+has_row put g inside rows w are is v =
+    omega (
+      arith,
+      ap length are,
+      length-map-range_with_len (row_by put inside) 1 inside.vertices,
+      ap (λ f. f.vertices) is,
+      v.first,
+      v.last,
+    )
 
 -- their numbers themselves
 pub numbers_by : (g : GraphOf) (w : ℕ) → row_by put_number g w ≡ edges_at g w

@@ -44,6 +44,11 @@ pub record IsEdgeAt (g : GraphOf) (i : ℕ) (e : Edge) : Type 0 where
   pub is : e ≡ get_or g.edges i e
   pub edge : IsEdge g.vertices e
 
+-- the edge of a turn of a loop over the edges
+pub edge_here : (g : GraphOf) (i count : ℕ) (e : Edge) → i < count → count ≡ length g.edges → e ≡ get_or g.edges i e
+    → IsEdge g.vertices e → IsEdgeAt g i e
+edge_here g i count e below all is joins = record { within = omega arith; is = is; edge = joins }
+
 -- what the first i edges put into rows
 abbrev pub first_ends : Putting → GraphOf → ℕ → Puts
 first_ends put g i = ends_from put 0 (take i g.edges)

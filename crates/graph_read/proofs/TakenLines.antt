@@ -9,12 +9,12 @@ use Rattle.std.proofs.lemmas.List.Elements.{filter_map-append}
 use Rattle.pop_edge.specs.declared.refusal.ReadRefusal.{ReadRefusal}
 use Rattle.pop_edge.specs.Refusals.{or_else, at_line, first_refusal}
 use Rattle.pop_edge.specs.Refusals.Fault.{Passes}
-use Rattle.pop_edge.specs.Judging.{told}
+use Rattle.pop_edge.specs.Judging.{TakesLine, told}
 use Rattle.pop_edge.proofs.RefusalsLemmas.{items, first_refusal-append, or_else-nothing, or_else_none}
 use Rattle.graph_read.specs.declared.reader.Reader.{Reader}
 use Rattle.graph_read.specs.Graphs.{GraphOf}
 use Rattle.graph_read.specs.GraphText.{graph, is_passed_over, header_fault, vertices_in, edge_in, fault_of, edge_fault, edges_in, line_refusal, graph_in}
-use Rattle.graph_read.specs.Reading.{AddsLine, Knows, TakesLine}
+use Rattle.graph_read.specs.Reading.{AddsLine, Knows}
 use Rattle.graph_read.proofs.EdgeLines.{AreEdgeLines, edges_are}
 
 -- lines by their words, each under its number
@@ -41,10 +41,10 @@ refusal_more header x others clean =
 -- the edge of a line is known with the others, or the line is refused
 pub takes_edge : (a b : Reader) (lines : Lines) (number : ℕ) (words : List (List ℕ)) (g h : GraphOf)
     (result : Result (Unit {0}) ReadRefusal) → Knows a lines → a.graph ≡ Some g → is_passed_over words ≡ false
-    → AddsLine g h number words result → b.graph ≡ Some h → TakesLine b (lines ++ told graph number words) result
+    → AddsLine g h number words result → b.graph ≡ Some h → TakesLine graph (Knows b) (lines ++ told graph number words) result
 takes_edge a b [] number words g h result k some counts adds is = absurd (let e = sym k.graph ∙ some in cc)
 takes_edge a b (header ∷ others) number words g h result k some counts adds is =
-    subst (λ ls. TakesLine b ls result) (sym (told_line (header ∷ others) number words counts)) (by result adds)
+    subst (λ ls. TakesLine graph (Knows b) ls result) (sym (told_line (header ∷ others) number words counts)) (by result adds)
   where
     n : ℕ
     n = vertices_in header.1
@@ -66,7 +66,7 @@ takes_edge a b (header ∷ others) number words g h result k some counts adds is
         ∙ ap₂ (λ m s. at_line number (fault_of (edge_in m words) s)) (ap (λ f. f.vertices) (sym same)) size
 
     by : (r : Result (Unit {0}) ReadRefusal) → AddsLine g h number words r
-        → TakesLine b (header ∷ others ++ (number, words) ∷ []) r
+        → TakesLine graph (Knows b) (header ∷ others ++ (number, words) ∷ []) r
     by (Err e) adds = elim adds [ inl memory ↦ inl memory | inr bad ↦ inr (refusal ∙ bad) ]
     by (Ok u) adds =
         let here : edge_in (vertices_in header.1) words ≡ Ok adds.edge =

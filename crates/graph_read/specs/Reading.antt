@@ -65,12 +65,6 @@ pub record Knows (r : Reader) (lines : List (ℕ × List (List ℕ))) : Type 0 w
   pub graph : r.graph ≡ graph_so_far lines
   pub clean : line_refusal lines ≡ None
 
--- a line more is known, or it is refused
-abbrev pub TakesLine : Reader → List (ℕ × List (List ℕ)) → Result (Unit {0}) ReadRefusal → Type 0
-TakesLine new lines (Ok _) = Knows new lines
-TakesLine new lines (Err refusal) =
-    (refusal ≡ OutOfMemory) ⊎ (line_refusal lines ≡ Some refusal)
-
 -- the graph of lines without a refusal, or what stands against the whole
 abbrev pub Finishes : ℕ → List (ℕ × List (List ℕ)) → Result GraphOf ReadRefusal → Type 0
 Finishes line lines (Ok g) = (whole_refusal line lines ≡ None) × (g ≡ graph_in lines)

@@ -6,7 +6,7 @@ ghost use Rattle.graph_read.specs.GraphText.{AnswersGraph, HasNoBadLine};
 
 use crate::Graph;
 use crate::reader::Reader;
-use pop_edge::{Lines, Next, ReadRefusal, Source};
+use pop_edge::{ReadRefusal, Source, read_lines};
 use std::alloc::Global;
 
 /// Reads a graph, to the end of the source.
@@ -33,10 +33,7 @@ pub fn read_graph<S: Source>(alloc: Global, source: &mut S) -> Result<Graph, Rea
     ensures no_bad_line { result ≡ Err ReadFault → (taken : List ℕ)
         × Consumes (S.left source.old) (S.left source.new) taken × HasNoBadLine taken }
 {
-    let mut lines = Lines::new(alloc)?;
     let mut reader = Reader::new(alloc);
-    while let Next::Line = lines.next(source)? {
-        reader.take_line(lines.number(), lines.line())?;
-    }
-    reader.finish(lines.number() + 1)
+    let line = read_lines(alloc, source, &mut reader)?;
+    reader.finish(line)
 }

@@ -1,13 +1,12 @@
-ghost use Rattle.std.specs.Prelude.{◌≡◌, ◌<◌, ◌++◌, ◌∷◌, ℕ, List, [], length};
+ghost use Rattle.std.specs.Prelude.{◌≡◌, ◌<◌, ◌∷◌, ℕ, List, [], length};
 ghost use Rattle.pop_edge.specs.Words.{words_of};
-ghost use Rattle.pop_edge.specs.Judging.{told};
-ghost use Rattle.graph_read.specs.GraphText.{graph, is_passed_over};
+ghost use Rattle.graph_read.specs.GraphText.{is_passed_over};
 ghost use Rattle.graph_read.specs.Reading.{AddsLine};
 
 use crate::Graph;
 use crate::edge_line::read_edge;
 use crate::header::read_header;
-use pop_edge::{ReadRefusal, next_word};
+use pop_edge::{LineReader, ReadRefusal, next_word};
 use std::alloc::Global;
 
 const COMMENT: u8 = b'c';
@@ -24,7 +23,7 @@ pub struct Reader {
 }
 
 impl Reader {
-    ghost use Rattle.graph_read.specs.Reading.{Finishes, Knows, TakesLine};
+    ghost use Rattle.graph_read.specs.Reading.{Finishes, Knows};
 
     /// No line yet.
     pub fn new(alloc: Global) -> Reader
@@ -33,11 +32,27 @@ impl Reader {
         Reader { alloc, graph: None }
     }
 
-    /// Takes a line, or refuses it.
-    pub fn take_line(&mut self, number: u64, line: &[u8]) -> Result<(), ReadRefusal>
-        ensures { (lines : List (ℕ × List (List ℕ))) → Knows self.old lines
-            → TakesLine self.new (lines ++ told graph number (words_of line.now)) result }
+    /// The graph of the lines. A missing header is refused at the line given.
+    pub fn finish(self, line: u64) -> Result<Graph, ReadRefusal>
+        ensures { (lines : List (ℕ × List (List ℕ))) → Knows self lines
+            → Finishes line lines result }
     {
+        self.graph.ok_or(ReadRefusal::Malformed(line, 11))
+    }
+}
+
+impl LineReader for Reader {
+    ghost use Rattle.std.specs.Prelude.{⊤};
+    ghost use Rattle.graph_read.specs.GraphText.{graph};
+    ghost use Rattle.graph_read.specs.Reading.{Knows};
+
+    ghost judgement = { graph };
+
+    ghost is_sound = { λ _. ⊤ };
+
+    ghost knows = { Knows };
+
+    fn take_line(&mut self, number: u64, line: &[u8]) -> Result<(), ReadRefusal> {
         let Some((word, rest)) = next_word(line) else {
             return Ok(());
         };
@@ -52,14 +67,6 @@ impl Reader {
             }
             Some(graph) => add_line(graph, number, word, rest),
         }
-    }
-
-    /// The graph of the lines. A missing header is refused at the line given.
-    pub fn finish(self, line: u64) -> Result<Graph, ReadRefusal>
-        ensures { (lines : List (ℕ × List (List ℕ))) → Knows self lines
-            → Finishes line lines result }
-    {
-        self.graph.ok_or(ReadRefusal::Malformed(line, 11))
     }
 }
 

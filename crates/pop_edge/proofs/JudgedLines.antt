@@ -16,9 +16,8 @@ use Rattle.pop_edge.specs.declared.next.Next.TheVariants.{Line, End}
 use Rattle.pop_edge.specs.Lines.{lines_of, ended_lines, judged_lines, text_limit}
 use Rattle.pop_edge.specs.Words.{words_of}
 use Rattle.pop_edge.specs.LineState.{LineState, opening, Follows, IsNext, fresh}
-use Rattle.pop_edge.specs.Refusals.{or_else, length_refusal}
-use Rattle.pop_edge.specs.Judging.{Judgement, IsUnrefused, told, told_lines, text_refusal}
-use Rattle.pop_edge.proofs.RefusalsLemmas.{IsOfLine, MayBeOfLine}
+use Rattle.pop_edge.specs.Refusals.{IsOfLine, MayBeOfLine, or_else, length_refusal}
+use Rattle.pop_edge.specs.Judging.{Judgement, IsInOrder, IsUnrefused, IsWhole, told, told_lines, text_refusal}
 use Rattle.pop_edge.proofs.GivenLines.{follows_start, follows_line, all_given, past_limit, at_fault, judged_front, IsFront, IsAll, IsPast}
 
 -- places, of a list behind another
@@ -123,13 +122,6 @@ of_judged j text e h =
     ap (λ a. or_else a (or_else (length_refusal text)
     (j.of_whole (length (lines_of text) + 1) (told_lines j (lines_of text))))) h
 
--- a grammar judges in the order of the text, by codes and limits
-pub record IsInOrder (j : Judgement) : Type 0 where
-  -- a refusal among the first lines is the refusal of all
-  pub front : (xs ys : List (ℕ × List (List ℕ))) (e : ReadRefusal) → j.of_lines xs ≡ Some e
-      → j.of_lines (xs ++ ys) ≡ Some e
-  pub kinds : (xs : List (ℕ × List (List ℕ))) → MayBeOfLine (j.of_lines xs)
-
 -- the refusal is that of any text that the source had
 pub record IsRefused (j : Judgement) (left : Option (List ℕ)) (e : ReadRefusal) : Type 0 where
   pub kind : IsOfLine e
@@ -233,16 +225,11 @@ fault_next j Knows s t l m n clean i next = (
   },
 )
 
--- at the end the whole decides: the lines given are the text's, and the line behind them has the next number
-pub record IsWhole (j : Judgement) (text : List ℕ) (lines : List (List ℕ)) (line : ℕ) : Type 0 where
-  pub all : lines_of text ≡ lines
-  pub refusal : text_refusal j text ≡ j.of_whole line (told_lines j lines)
-
 -- once the end is answered, the whole text decides
 pub whole_text : (j : Judgement) (Knows : List (ℕ × List (List ℕ)) → Type 0) (s t : LineState) (l m n : Option (List ℕ))
     (line : ℕ) (text : List ℕ) → ((lines : List (ℕ × List (List ℕ))) → Knows lines → j.of_lines lines ≡ None)
     → (i : IsReading j Knows l m s) → IsNext s (fresh t) m n (Ok End) → line ≡ t.number + 1 → IsAtEnd n → l ≡ Some text
-    → IsWhole j text i.lines line
+    → IsWhole j text (told_lines j i.lines) line
 whole_text j Knows s t l m n line text clean i next place end is =
     let g : IsAll (i.bytes ++ next.taken) i.lines = all_given s (fresh t) m n i.bytes i.lines i.follows next in
     let all = given l n (i.bytes ++ next.taken) text
@@ -259,7 +246,7 @@ whole_text j Knows s t l m n line text clean i next place end is =
     ap (λ ls. j.of_lines (told_lines j ls)) judged ∙ clean (told_lines j i.lines) i.knows in
     let size : length_refusal text ≡ None = rw short refl in
     record {
-      all = lines;
+      all = ap (told_lines j) lines;
       refusal =
           ap₂ (λ a b. or_else a
           (or_else b (j.of_whole (length (lines_of text) + 1) (told_lines j (lines_of text))))) none size

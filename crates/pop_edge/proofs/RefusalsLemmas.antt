@@ -2,7 +2,7 @@
 use Rattle.std.proofs.Common.{◌≡◌, ℕ, Bool, true, false, cond, List, [], ◌∷◌, ◌++◌, map, Option, None, Some, refl, sym, ap, ◌∙◌, append_assoc, append-nil}
 use Rattle.pop_edge.specs.declared.refusal.ReadRefusal.{ReadRefusal}
 use Rattle.pop_edge.specs.declared.refusal.ReadRefusal.TheVariants.{Malformed, Limit}
-use Rattle.pop_edge.specs.Refusals.{Fault, or_else, at_line, first_refusal}
+use Rattle.pop_edge.specs.Refusals.{Fault, IsOfLine, MayBeOfLine, or_else, at_line, first_refusal}
 use Rattle.pop_edge.specs.Refusals.Fault.{Code, Passes}
 
 -- the items without the numbers of their lines
@@ -62,17 +62,6 @@ chosen_some false a f h = absurd (cc)
 pub chosen_else : (t : Bool) (f : Fault) (a : Option Fault) → cond t (Some f) a ≡ None → (t ≡ false) × (a ≡ None)
 chosen_else true f a h = absurd (cc)
 chosen_else false f a h = (refl, h)
-
--- the refusal of a line: a code or a limit
-abbrev pub IsOfLine : ReadRefusal → Type 0
-IsOfLine (Malformed line code) = Unit {0}
-IsOfLine (Limit kind line) = Unit {0}
-IsOfLine _ = ⊥
-
--- the refusal of a line, or none
-abbrev pub MayBeOfLine : Option ReadRefusal → Type 0
-MayBeOfLine None = Unit {0}
-MayBeOfLine (Some e) = IsOfLine e
 
 -- what one fault refuses is of a line
 pub at_line_is : (n : ℕ) (fault : Option Fault) → MayBeOfLine (at_line n fault)

@@ -1,9 +1,10 @@
 -- How a text is judged by its lines, whatever the grammar.
-use Rattle.std.specs.Prelude.{◌≡◌, ◌≤◌, ℕ, ◌+◌, Bool, not, if◌then◌else◌, List, [], ◌∷◌, length, filter, Option, None}
+use Rattle.std.specs.Prelude.{◌≡◌, ◌⊎◌, ◌≤◌, ℕ, ◌+◌, Bool, not, if◌then◌else◌, List, [], ◌∷◌, ◌++◌, length, filter, Option, None, Some, Result, Ok, Err}
 use Rattle.pop_edge.specs.declared.refusal.ReadRefusal.{ReadRefusal}
+use Rattle.pop_edge.specs.declared.refusal.ReadRefusal.TheVariants.{OutOfMemory, ReadFault}
 use Rattle.pop_edge.specs.Lines.{lines_of, ended_lines, judged_lines, text_limit}
 use Rattle.pop_edge.specs.Words.{numbered_words}
-use Rattle.pop_edge.specs.Refusals.{or_else, length_refusal}
+use Rattle.pop_edge.specs.Refusals.{IsOfLine, MayBeOfLine, or_else, length_refusal}
 
 -- how a grammar judges lines, given by their words
 pub record Judgement : Type 0 where
@@ -33,3 +34,37 @@ text_refusal j text =
 pub record IsUnrefused (j : Judgement) (taken : List ℕ) : Type 0 where
   pub short : length taken ≤ text_limit
   pub clean : j.of_lines (told_lines j (ended_lines taken)) ≡ None
+
+-- a grammar judges in the order of the text, by codes and limits
+pub record IsInOrder (j : Judgement) : Type 0 where
+  -- a refusal among the first lines is the refusal of all
+  pub front : (xs ys : List (ℕ × List (List ℕ))) (e : ReadRefusal) → j.of_lines xs ≡ Some e
+      → j.of_lines (xs ++ ys) ≡ Some e
+  pub kinds : (xs : List (ℕ × List (List ℕ))) → MayBeOfLine (j.of_lines xs)
+
+-- the last of these lines is known with those before it, or it is refused
+abbrev pub TakesLine : Judgement → (List (ℕ × List (List ℕ)) → Type 0)
+    → List (ℕ × List (List ℕ)) → Result (Unit {0}) ReadRefusal → Type 0
+TakesLine j Knows lines (Ok _) = Knows lines
+TakesLine j Knows lines (Err refusal) =
+    (refusal ≡ OutOfMemory) ⊎ (j.of_lines lines ≡ Some refusal)
+
+-- what a text may be answered before all its lines were taken: a fault of the source, want of
+-- memory, or the text's refusal
+abbrev pub StopsEarly : Judgement → List ℕ → ReadRefusal → Type 0
+StopsEarly j text e =
+    (e ≡ ReadFault) ⊎ ((e ≡ OutOfMemory) ⊎ (IsOfLine e × (text_refusal j text ≡ Some e)))
+
+-- these are the lines of the text that aren't passed over, and the whole of them decides; the line
+-- behind its last has this number
+pub record IsWhole (j : Judgement) (text : List ℕ) (lines : List (ℕ × List (List ℕ))) (line : ℕ)
+    : Type 0 where
+  pub all : told_lines j (lines_of text) ≡ lines
+  pub refusal : text_refusal j text ≡ j.of_whole line lines
+
+-- the lines of all that was left are known
+pub record HasTakenAll (j : Judgement) (Knows : List (ℕ × List (List ℕ)) → Type 0)
+    (left : Option (List ℕ)) (line : ℕ) : Type 0 where
+  pub lines : List (ℕ × List (List ℕ))
+  pub knows : Knows lines
+  pub whole : (text : List ℕ) → left ≡ Some text → IsWhole j text lines line

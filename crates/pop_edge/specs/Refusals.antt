@@ -38,3 +38,14 @@ abbrev pub length_refusal : List ℕ → Option ReadRefusal
 length_refusal text =
     if nat_lt text_limit (length text) then Some (Limit 1 (length (judged_lines text) + 1))
     else None
+
+-- the refusal of a line: a code or a limit
+abbrev pub IsOfLine : ReadRefusal → Type 0
+IsOfLine (Malformed line code) = Unit {0}
+IsOfLine (Limit kind line) = Unit {0}
+IsOfLine _ = ⊥
+
+-- the refusal of a line, or none
+abbrev pub MayBeOfLine : Option ReadRefusal → Type 0
+MayBeOfLine None = Unit {0}
+MayBeOfLine (Some e) = IsOfLine e

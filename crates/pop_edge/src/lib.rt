@@ -5,6 +5,7 @@
 
 mod failed;
 mod headers;
+mod line_reader;
 mod lines;
 mod mem_sink;
 mod mem_source;
@@ -21,6 +22,7 @@ mod words;
 
 pub use failed::Failed;
 pub use headers::{MAX_VARIABLES, next_header};
+pub use line_reader::{LineReader, read_lines};
 pub use lines::Lines;
 pub use mem_sink::MemSink;
 pub use mem_source::MemSource;

@@ -7,8 +7,7 @@ returns-in-None c =
     (record {
       moved = c.sort_unstable.ensures.permutation;
       order = c.sort_unstable.ensures.sorted;
-      filtered =
-          c.dedup.ensures.filtered;
+      filtered = c.dedup.ensures.filtered;
     })
     c.in-None.ensures
 
@@ -19,7 +18,6 @@ returns-in-Some c =
     (record {
       moved = c.sort_unstable.ensures.permutation;
       order = c.sort_unstable.ensures.sorted;
-      filtered =
-          c.dedup.ensures.filtered;
+      filtered = c.dedup.ensures.filtered;
     })
     c.in-Some.ensures c.len-count.ensures.cube

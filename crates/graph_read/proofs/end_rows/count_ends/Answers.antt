@@ -1,7 +1,7 @@
 use Rattle.std.proofs.Common.{◌≡◌, ◌+◌, false, true, arith, rules, sym, subst}
 use Rattle.pop_rows.proofs.Puts.{CountPuts}
 use Rattle.graph_read.specs.Incidence.{is_loop, put_number}
-use Rattle.graph_read.proofs.IncidenceRows.{IsEdgeAt, count_small, count_small_still, counts_all, counts_from, counts_loop, counts_to, first_ends}
+use Rattle.graph_read.proofs.IncidenceRows.{edge_here, count_small, count_small_still, counts_all, counts_from, counts_loop, counts_to, first_ends}
 use Rattle.graph_read.proofs.end_rows.count_ends.Goals as goal
 use Rattle.graph_read.proofs.end_rows.count_ends.Goals.{then-not-is_loop, else-not-is_loop}
 
@@ -15,11 +15,8 @@ count_at-requires-clause-few c =
 
 pub count_at-requires-then-not-is_loop-clause-few : goal.count_at-requires-then-not-is_loop-clause-few
 count_at-requires-then-not-is_loop-clause-few c =
-    let at : IsEdgeAt c.args.graph.now c.loop-i.i c.edge-edge.result = record {
-      within = omega (arith, c.loop-i-test.true, c.edges-i-end.ensures.count);
-      is = c.edge-edge.ensures.edge;
-      edge = c.edge-edge.ensures.joins;
-    } in
+    let at = edge_here c.args.graph.now c.loop-i.i c.edges-i-end.result c.edge-edge.result c.loop-i-test.true
+    c.edges-i-end.ensures.count c.edge-edge.ensures.edge c.edge-edge.ensures.joins in
     omega (
       arith,
       count_small_still c.args.graph.now c.loop-i.i c.edge-edge.result c.count_at.new.rooms at
@@ -30,11 +27,8 @@ count_at-requires-then-not-is_loop-clause-few c =
 
 pub loop-i-preserved : goal.loop-i-preserved
 loop-i-preserved c =
-    let at : IsEdgeAt c.args.graph.now c.loop-i.i c.edge-edge.result = record {
-      within = omega (arith, c.loop-i-test.true, c.edges-i-end.ensures.count);
-      is = c.edge-edge.ensures.edge;
-      edge = c.edge-edge.ensures.joins;
-    } in
+    let at = edge_here c.args.graph.now c.loop-i.i c.edges-i-end.result c.edge-edge.result c.loop-i-test.true
+    c.edges-i-end.ensures.count c.edge-edge.ensures.edge c.edge-edge.ensures.joins in
     elim c.if-not-is_loop.branch [
       | then-not-is_loop w ↦
           (let apart : is_loop c.edge-edge.result ≡ false = search rules in

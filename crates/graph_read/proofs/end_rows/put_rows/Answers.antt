@@ -1,7 +1,7 @@
 use Rattle.std.proofs.Common.{◌≡◌, ◌+◌, ◌-◌, false, true, arith, rules, sym, ap, subst, ◌∙◌}
 use Rattle.pop_rows.specs.FlatRows.{push_at}
 use Rattle.graph_read.specs.Incidence.{is_loop, put_of, Putting}
-use Rattle.graph_read.proofs.IncidenceRows.{IsEdgeAt, HoldsEdges, holds_all, holds_edge, holds_from, holds_loop, holds_no_edge, room_from, room_to}
+use Rattle.graph_read.proofs.IncidenceRows.{edge_here, HoldsEdges, holds_all, holds_edge, holds_from, holds_loop, holds_no_edge, room_from, room_to}
 use Rattle.graph_read.proofs.end_rows.put_rows.Goals as goal
 use Rattle.graph_read.proofs.end_rows.put_rows.Goals.{then-not-is_loop, else-not-is_loop}
 
@@ -12,11 +12,8 @@ loop-i-init c = holds_no_edge (put_of c.args.put) c.args.graph.now c.in_ok-rows.
 
 pub push-requires : goal.push-requires
 push-requires c =
-    let at : IsEdgeAt c.args.graph.now c.loop-i.i c.edge-edge.result = record {
-      within = omega (arith, c.loop-i-test.true, c.edges-i-end.ensures.count);
-      is = c.edge-edge.ensures.edge;
-      edge = c.edge-edge.ensures.joins;
-    } in
+    let at = edge_here c.args.graph.now c.loop-i.i c.edges-i-end.result c.edge-edge.result c.loop-i-test.true
+    c.edges-i-end.ensures.count c.edge-edge.ensures.edge c.edge-edge.ensures.joins in
     room_from (put_of c.args.put) c.args.graph.now c.loop-i.i c.edge-edge.result c.loop-i.rows at (search rules)
     c.loop-i.invariant
 
@@ -25,11 +22,8 @@ push-requires-then-not-is_loop c =
     let g = c.args.graph.now in
     let i = c.loop-i.i in
     let e = c.edge-edge.result in
-    let at : IsEdgeAt g i e = record {
-      within = omega (arith, c.loop-i-test.true, c.edges-i-end.ensures.count);
-      is = c.edge-edge.ensures.edge;
-      edge = c.edge-edge.ensures.joins;
-    } in
+    let at = edge_here c.args.graph.now c.loop-i.i c.edges-i-end.result c.edge-edge.result c.loop-i-test.true
+    c.edges-i-end.ensures.count c.edge-edge.ensures.edge c.edge-edge.ensures.joins in
     let first = c.push.ensures.rows ∙ ap (push_at c.loop-i.rows.rows (e.u - 1)) c.of.ensures in
     room_to (put_of c.args.put) g i e c.push.new.self at (search rules)
     (holds_from (put_of c.args.put) g i e c.loop-i.rows c.push.new.self at c.loop-i.invariant first c.push.ensures.rooms)
@@ -40,11 +34,8 @@ loop-i-preserved c =
     let g = c.args.graph.now in
     let i = c.loop-i.i in
     let e = c.edge-edge.result in
-    let at : IsEdgeAt g i e = record {
-      within = omega (arith, c.loop-i-test.true, c.edges-i-end.ensures.count);
-      is = c.edge-edge.ensures.edge;
-      edge = c.edge-edge.ensures.joins;
-    } in
+    let at = edge_here c.args.graph.now c.loop-i.i c.edges-i-end.result c.edge-edge.result c.loop-i-test.true
+    c.edges-i-end.ensures.count c.edge-edge.ensures.edge c.edge-edge.ensures.joins in
     elim c.if-not-is_loop.branch [
       | then-not-is_loop w ↦
           (let apart : is_loop e ≡ false = search rules in

@@ -1,6 +1,6 @@
 use Rattle.std.proofs.Common.{◌≡◌, ◌+◌, ◌∷◌, [], ◌++◌, ◌-◌, false, true, arith, rules, sym, subst}
 use Rattle.graph_read.specs.Incidence.{is_loop, put_number}
-use Rattle.graph_read.proofs.IncidenceRows.{IsEdgeAt, first_ends, row_there}
+use Rattle.graph_read.proofs.IncidenceRows.{edge_here, first_ends, row_there}
 use Rattle.graph_read.proofs.PickedEdges.{PicksEdges, picks_all, picks_at, picks_both, picks_loop, picks_none}
 use Rattle.graph_read.proofs.picks.pick_edges.Goals as goal
 use Rattle.graph_read.proofs.picks.pick_edges.Goals.{then-not-is_loop, else-not-is_loop}
@@ -10,14 +10,11 @@ loop-i-init c = picks_none c.args.graph.now.vertices c.args.left.now c.args.pick
 
 pub loop-i-preserved : goal.loop-i-preserved
 loop-i-preserved c =
+    let at = edge_here c.args.graph.now c.loop-i.i c.edges-i-end.result c.edge-edge.result c.loop-i-test.true
+    c.edges-i-end.ensures.count c.edge-edge.ensures.edge c.edge-edge.ensures.joins in
     let g = c.args.graph.now in
     let i = c.loop-i.i in
     let e = c.edge-edge.result in
-    let at : IsEdgeAt g i e = record {
-      within = omega (arith, c.loop-i-test.true, c.edges-i-end.ensures.count);
-      is = c.edge-edge.ensures.edge;
-      edge = c.edge-edge.ensures.joins;
-    } in
     elim c.if-not-is_loop.branch [
       | then-not-is_loop w ↦
           (let apart : is_loop e ≡ false = search rules in

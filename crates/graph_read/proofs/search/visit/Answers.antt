@@ -6,36 +6,19 @@ use Rattle.graph_read.specs.Search.{IsMet}
 use Rattle.graph_read.proofs.VisitedEdges.{neighbour_vertex, visits_all, visits_more}
 use Rattle.graph_read.proofs.search.visit.Goals as goal
 
-pub meet-requires-clause-first : goal.meet-requires-clause-first
-meet-requires-clause-first c =
+pub meet-requires : goal.meet-requires
+meet-requires c =
     let g = c.args.ends.now in
     let list : c.at-w-items.result.now ≡ neighbours_of g c.args.vertex = c.at-w-items.ensures in
     let here = ap (λ xs. get_or xs c.loop-w.w-index 0) list in
-    let graph = subst IsGraph c.graph.ensures c.edges-edges.ensures.graph in
     let within : c.loop-w.w-index < length (neighbours_of g c.args.vertex) =
     omega (arith, c.loop-w-test.true, ap length list) in
-    omega (
-      arith,
-      here,
-      (neighbour_vertex g c.args.vertex c.loop-w.w-index graph within).first,
-    )
-
-pub meet-requires-clause-last : goal.meet-requires-clause-last
-meet-requires-clause-last c =
-    let g = c.args.ends.now in
-    let list : c.at-w-items.result.now ≡ neighbours_of g c.args.vertex = c.at-w-items.ensures in
-    let here = ap (λ xs. get_or xs c.loop-w.w-index 0) list in
-    let graph = subst IsGraph c.graph.ensures c.edges-edges.ensures.graph in
-    let within : c.loop-w.w-index < length (neighbours_of g c.args.vertex) =
-    omega (arith, c.loop-w-test.true, ap length list) in
-    let size = c.loop-w.invariant.goes.size in
-    omega (
-      arith,
-      here,
-      size,
-      c.requires.size,
-      (neighbour_vertex g c.args.vertex c.loop-w.w-index graph within).last,
-    )
+    let met = neighbour_vertex g c.args.vertex c.loop-w.w-index (subst IsGraph c.graph.ensures c.edges-edges.ensures.graph)
+    within in
+    record {
+      first = omega (arith, here, met.first);
+      last = omega (arith, here, c.loop-w.invariant.goes.size, c.requires.size, met.last);
+    }
 
 pub loop-w-preserved : goal.loop-w-preserved
 loop-w-preserved c =

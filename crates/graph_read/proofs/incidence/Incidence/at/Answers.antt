@@ -1,21 +1,13 @@
-use Rattle.std.proofs.Common.{length, sym, ap, subst, ◌∙◌, arith}
-use Rattle.std.proofs.lemmas.List.FromFn.{length-map-range_with_len}
+use Rattle.std.proofs.Common.{sym, ap, subst, ◌∙◌}
 use Rattle.graph_read.specs.Graphs.{IsVertex}
-use Rattle.graph_read.specs.Incidence.{at_vertex, dart_at, darts_at, row_by}
-use Rattle.graph_read.proofs.IncidenceLemmas.{at_vertex-rows_by}
+use Rattle.graph_read.specs.Incidence.{at_vertex, dart_at, darts_at}
+use Rattle.graph_read.proofs.IncidenceLemmas.{at_vertex-rows_by, has_row}
 use Rattle.graph_read.proofs.incidence.Incidence.at.Goals as goal
 
 pub row-requires : goal.row-requires
 row-requires c =
-    let g = c.self.inside.graph.now in
-    omega (
-      arith,
-      ap length c.self.invariant,
-      length-map-range_with_len (row_by dart_at g) 1 g.vertices,
-      ap (λ g. g.vertices) c.self.view_is,
-      c.requires.first,
-      c.requires.last,
-    )
+    has_row dart_at c.args.self.now c.self.inside.graph.now c.self.inside.rows.rows c.args.vertex c.self.invariant
+    c.self.view_is c.requires
 
 pub returns : goal.returns
 returns c =

@@ -1,22 +1,14 @@
 use Rattle.std.proofs.Common.{length, sym, ap, subst, ◌∙◌, arith}
-use Rattle.std.proofs.lemmas.List.FromFn.{length-map-range_with_len}
 use Rattle.graph_read.specs.declared.put.Put.TheVariants.{OtherEnd}
 use Rattle.graph_read.specs.Graphs.{IsVertex}
-use Rattle.graph_read.specs.Incidence.{neighbours_of, at_vertex, put_of, row_by}
-use Rattle.graph_read.proofs.IncidenceLemmas.{at_vertex-rows_by}
+use Rattle.graph_read.specs.Incidence.{neighbours_of, at_vertex, put_of}
+use Rattle.graph_read.proofs.IncidenceLemmas.{at_vertex-rows_by, has_row}
 use Rattle.graph_read.proofs.other_ends.OtherEnds.at.Goals as goal
 
 pub row-requires : goal.row-requires
 row-requires c =
-    let g = c.self.inside.graph.now in
-    omega (
-      arith,
-      ap length c.self.invariant,
-      length-map-range_with_len (row_by (put_of OtherEnd) g) 1 g.vertices,
-      ap (λ g. g.vertices) c.self.view_is,
-      c.requires.first,
-      c.requires.last,
-    )
+    has_row (put_of OtherEnd) c.args.self.now c.self.inside.graph.now c.self.inside.rows.rows c.args.vertex c.self.invariant
+    c.self.view_is c.requires
 
 pub returns : goal.returns
 returns c =

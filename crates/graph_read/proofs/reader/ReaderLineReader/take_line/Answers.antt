@@ -1,10 +1,10 @@
 use Rattle.std.proofs.Common.{◌∷◌, sym, refl}
 use Rattle.pop_edge.specs.Words.{words_of}
 use Rattle.graph_read.proofs.TakenLines.{takes_edge}
-use Rattle.graph_read.proofs.reader.Reader.take_line.Goals as goal
+use Rattle.graph_read.proofs.reader.ReaderLineReader.take_line.Goals as goal
 
-pub returns-in-Some-graph : goal.returns-in-Some-graph
-returns-in-Some-graph c = λ lines knows.
+pub returns-in-Some-graph-clause-line : goal.returns-in-Some-graph-clause-line
+returns-in-Some-graph-clause-line c = λ lines knows.
     let behind = words_of c.in-Some.rest.now in
     rw c.in-Some.ensures.0
     (takes_edge c.args.self.now _ lines c.args.number (c.in-Some.word.now ∷ behind) c.in-Some-graph.graph

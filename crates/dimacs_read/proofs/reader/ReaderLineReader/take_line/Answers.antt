@@ -1,5 +1,5 @@
 use Rattle.dimacs_read.proofs.TakenLines.{takes_line}
-use Rattle.dimacs_read.proofs.reader.Reader.take_line.Goals as goal
+use Rattle.dimacs_read.proofs.reader.ReaderLineReader.take_line.Goals as goal
 
 pub returns-in-Some-header-clause-line : goal.returns-in-Some-header-clause-line
 returns-in-Some-header-clause-line c = λ lines knows.
