@@ -1,4 +1,4 @@
-ghost use Rattle.std.specs.Prelude.{◌≡◌, ◌<◌, ◌^◌, ◌↔◌, [], length, slice_index_or, All, IsTrue, IfSome, IfOk, MatchOption};
+ghost use Rattle.std.specs.Prelude.{◌≡◌, ◌<◌, ◌≤◌, ◌^◌, ◌↔◌, [], length, slice_index_or, All, IsTrue, IfSome, IfOk, MatchOption};
 ghost use Rattle.pop_model.specs.Cycles.{AreArrows, head_of};
 ghost use Rattle.pop_instance.specs.Arrows.{
   heads_of,
@@ -161,11 +161,23 @@ fn are_rows(rows: &[Vec<Option<u32>>]) -> bool
     true
 }
 
+// Whether no number of a row is greater than the count.
+fn are_at_most(row: &[u32], count: u32) -> bool
+    ensures { IsTrue result ↔ All (λ x. x ≤ count) row.now }
+{
+    for x in row {
+        if *x > count {
+            return false;
+        }
+    }
+    true
+}
+
 // Whether a row has a slot, and no number of it is greater than the count.
 fn is_number_row(row: &[u32], count: u32) -> bool
     ensures { IsTrue result ↔ IsNumberRow count row.now }
 {
-    !row.is_empty() && row.iter().all(|x| *x <= count)
+    !row.is_empty() && are_at_most(row, count)
 }
 
 // Whether each row has a slot, and no number is greater than the number of rows.

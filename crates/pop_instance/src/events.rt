@@ -104,7 +104,8 @@ fn copy_rows(alloc: Global, rows: &[(u32, Cube)]) -> Result<Vec<(u32, Cube)>, Al
     let mut copies = Vec::with_capacity(alloc, rows.len())?;
     for place in 0..rows.len() {
         let (number, cube) = &rows[place];
-        copies.push((*number, cube.copy(alloc)?))?;
+        let copy = cube.copy(alloc)?;
+        copies.push((*number, copy))?;
     }
     Ok(copies)
 }

@@ -2,8 +2,13 @@ use Rattle.std.proofs.Common.{◌≡◌, ◌<◌, ℕ, [], length, subst, arith}
 use Rattle.pop_model.specs.Popping.{Cube, NamesBelow}
 use Rattle.pop_instance.specs.Events.{cube_at}
 use Rattle.pop_instance.specs.Index.{IsPut}
-use Rattle.pop_instance.proofs.FilledRows.{filled_room, filled_more, filled_index}
+use Rattle.pop_instance.proofs.FilledRows.{filled_none, filled_room, filled_more, filled_index}
 use Rattle.pop_instance.proofs.index.Index.build.Goals as goal
+
+pub loop-place-init : goal.loop-place-init
+loop-place-init c =
+    filled_none c.args.events.now c.args.count c.in_ok-tally.field-0.items c.in_ok-rows.rows c.in_ok-tally.ensures
+    c.in_ok-rows.ensures.rooms c.in_ok-rows.ensures.empty
 
 pub push_at_each-requires-clause-known : goal.push_at_each-requires-clause-known
 push_at_each-requires-clause-known c =
