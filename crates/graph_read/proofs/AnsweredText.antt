@@ -1,7 +1,7 @@
 -- What the lines of a text say of the whole is what the reader answers.
 -- The grammar judges in the order of the text, so what pop_edge proves of every such grammar holds of it: the refusal
 -- of a line given is the text's, and at the end the whole decides. Here that is brought into the words of the answer.
-use Rattle.std.proofs.Common.{◌≡◌, ℕ, ◌+◌, List, [], ◌∷◌, ◌++◌, Option, None, Some, Result, Ok, Err, sym, ap, ◌∙◌}
+use Rattle.std.proofs.Common.{◌≡◌, ℕ, List, [], ◌∷◌, ◌++◌, Option, None, Some, Result, Ok, Err, sym, ap, ◌∙◌}
 use Rattle.pop_edge.specs.declared.refusal.ReadRefusal.{ReadRefusal}
 use Rattle.pop_edge.specs.declared.refusal.ReadRefusal.TheVariants.{Malformed, Count, EmptyClause, Limit, ReadFault, OutOfMemory}
 use Rattle.pop_edge.specs.Refusals.{MayBeOfLine, or_else, at_line, first_refusal}
@@ -10,7 +10,7 @@ use Rattle.pop_edge.proofs.RefusalsLemmas.{first_refusal-append, or_else_front, 
 use Rattle.pop_edge.proofs.AnsweredLines.{Allows}
 use Rattle.graph_read.specs.declared.reader.Reader.{Reader}
 use Rattle.graph_read.specs.Graphs.{GraphOf}
-use Rattle.graph_read.specs.GraphText.{AnswersGraph, graph, graph_in, graph_of, graph_refusal, header_fault, edge_fault, line_refusal, vertices_in}
+use Rattle.graph_read.specs.GraphText.{AnswersGraph, graph, graph_in, graph_of, header_fault, edge_fault, line_refusal, vertices_in}
 use Rattle.graph_read.specs.Reading.{Finishes, Knows}
 
 -- a refusal among the first lines is the refusal of all

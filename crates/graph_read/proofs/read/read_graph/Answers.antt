@@ -1,6 +1,4 @@
-use Rattle.std.proofs.Common.{◌≡◌, Result, Err, ap, subst, sym}
-use Rattle.pop_edge.specs.declared.refusal.ReadRefusal.{ReadRefusal}
-use Rattle.pop_edge.specs.declared.refusal.ReadRefusal.TheVariants.{ReadFault}
+use Rattle.std.proofs.Common.{Err, subst, sym}
 use Rattle.pop_edge.proofs.AnsweredLines.{early_allowed, passed_on}
 use Rattle.graph_read.specs.GraphText.{AnswersGraph, graph}
 use Rattle.graph_read.proofs.AnsweredText.{answers_whole, graph_allows, graph_in_order, knows_clean}

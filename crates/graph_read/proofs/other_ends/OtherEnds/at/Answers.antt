@@ -1,4 +1,4 @@
-use Rattle.std.proofs.Common.{length, sym, ap, subst, ◌∙◌, arith}
+use Rattle.std.proofs.Common.{sym, ap, subst, ◌∙◌}
 use Rattle.graph_read.specs.declared.put.Put.TheVariants.{OtherEnd}
 use Rattle.graph_read.specs.Graphs.{IsVertex}
 use Rattle.graph_read.specs.Incidence.{neighbours_of, at_vertex, put_of}
