@@ -71,6 +71,7 @@ fn is_worked_case(rt: &impl Abort, arrows: &Arrows) {
 fn is_packed_case(rt: &impl Abort, alloc: Global, arrows: Arrows) {
     let packed = arrows.packed(alloc).expect(rt, "memory");
     is_worked_case(rt, &packed);
+    drop(packed);
 }
 
 // Compares arrows that were made, and the same packed, with those of the case.
@@ -116,6 +117,7 @@ fn packed_fall(rt: &impl Abort, alloc: Global, count: u32) {
     let arrows = Arrows::flat(falling(rt, alloc, count)).expect(rt, "arrows");
     let packed = arrows.packed(alloc).expect(rt, "memory");
     fall(rt, &packed, count);
+    drop(packed);
 }
 
 // A byte tells 256 variables apart that lead as far as no other.
@@ -133,7 +135,10 @@ static BAD_HEADS: [&[&[Option<u32>]]; 2] = [&[&[Some(0)], &[]], &[&[Some(1), Non
 
 // Whether numbers make no arrows.
 fn are_no_arrows(rt: &impl Abort, alloc: Global, table: &[&[u32]]) -> bool {
-    Arrows::flat(numbers(rt, alloc, table)).is_none()
+    let made = Arrows::flat(numbers(rt, alloc, table));
+    let are_none = made.is_none();
+    drop(made);
+    are_none
 }
 
 #[test]
@@ -146,7 +151,10 @@ fn no_slot_and_a_number_past_the_root_are_refused(rt: HostRuntime) {
 
 // Whether heads make no arrows.
 fn make_no_arrows(rt: &impl Abort, alloc: Global, table: &[&[Option<u32>]]) -> bool {
-    Arrows::new(heads(rt, alloc, table)).is_none()
+    let made = Arrows::new(heads(rt, alloc, table));
+    let are_none = made.is_none();
+    drop(made);
+    are_none
 }
 
 #[test]

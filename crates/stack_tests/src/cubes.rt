@@ -18,8 +18,9 @@ static PAIRS: [(&[(u32, u32)], bool, &str); 5] = [
 fn make_a_cube(rt: &impl Abort, alloc: Global, pairs: &[(u32, u32)], make: bool, name: &str) {
     assert!(rt; pairs.len() < 9);
     let pairs = Vec::from_slice(alloc, pairs).expect(rt, "memory");
-    let is_made = Cube::new(pairs).is_some();
-    is_so(rt, is_made == make, name, 0);
+    let cube = Cube::new(pairs);
+    is_so(rt, cube.is_some() == make, name, 0);
+    drop(cube);
 }
 
 #[test]
@@ -50,6 +51,7 @@ fn gives_pairs(rt: &impl Abort, alloc: Global, cube: Cube, pairs: &[(u32, u32)])
     has_pairs(rt, &cube, pairs);
     let taken = cube.into_pairs(alloc).expect(rt, "memory");
     is_so(rt, taken.as_slice() == pairs, "pairs of a cube", 0);
+    drop(taken);
 }
 
 // Takes a cube's pairs out into a list, and makes the cube of this list.
@@ -82,6 +84,8 @@ fn has_a_copy(rt: &impl Abort, alloc: Global, pairs: &[(u32, u32)]) {
     let cube = cube_of(rt, alloc, pairs);
     let copy = cube.copy(alloc).expect(rt, "memory");
     is_copy(rt, &copy, &cube, pairs);
+    drop(copy);
+    drop(cube);
 }
 
 // Compares a copy with the cube, and with its pairs.
@@ -94,7 +98,10 @@ fn is_copy(rt: &impl Abort, copy: &Cube, cube: &Cube, pairs: &[(u32, u32)]) {
 fn is_less(rt: &impl Abort, alloc: Global, low: &[(u32, u32)], high: &[(u32, u32)]) -> bool {
     let low = cube_of(rt, alloc, low);
     let high = cube_of(rt, alloc, high);
-    low < high
+    let is_less = low < high;
+    drop(low);
+    drop(high);
+    is_less
 }
 
 // Pairs of which each are less than those behind them, where one begins with the other or not.
@@ -123,7 +130,10 @@ fn share_a_variable(
 ) -> bool {
     let first = cube_of(rt, alloc, pairs);
     let other = cube_of(rt, alloc, others);
-    first.shares(&other)
+    let share = first.shares(&other);
+    drop(first);
+    drop(other);
+    share
 }
 
 // Two cubes, and whether they share a variable.

@@ -29,6 +29,7 @@ fn occurs(rt: &impl Abort, stacks: &Stacks, cursors: &Cursors, cube: &Cube, want
     let mut reader = Reader::new(stacks);
     let occurs = cursors.occurs(stacks, &mut reader, cube);
     let poppable = cursors.poppable(stacks, &mut reader, cube);
+    drop(reader);
     let is_want = occurs == want && poppable == want;
     is_so(rt, is_want, "the cube at its entries", 0);
 }
@@ -69,6 +70,8 @@ fn pops(rt: &impl Abort, alloc: Global, stacks: &Stacks, cube: &Cube)
     let cursors = popped(rt, alloc, &start, cube);
     occurs_at(rt, stacks, &start, cube, 0, true);
     occurs_at(rt, stacks, &cursors, cube, 1, false);
+    drop(start);
+    drop(cursors);
 }
 
 // Two variables with the entries 0, 1 each. Pops the cube of value 0 of both.
@@ -77,4 +80,6 @@ fn a_pop_moves_each_variable_of_the_event(rt: HostRuntime) {
     let stacks = made(&rt, stacks(rt.alloc(), &[&[0, 1], &[0, 1]]), "stacks");
     let cube = cube(&rt, rt.alloc());
     pops(&rt, rt.alloc(), &stacks, &cube);
+    drop(cube);
+    drop(stacks);
 }

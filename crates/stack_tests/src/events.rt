@@ -50,6 +50,7 @@ fn are_gathered(rt: &impl Abort, family: &Family, want: &[(u32, (u32, u32))]) {
 fn gather(rt: &impl Abort, alloc: Global, table: &[EventRow], want: &[(u32, (u32, u32))]) {
     let family = listed(rt, alloc, table);
     are_gathered(rt, &family, want);
+    drop(family);
 }
 
 #[test]

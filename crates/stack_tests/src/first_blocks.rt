@@ -43,6 +43,7 @@ fn compare_from_each(rt: &impl Abort, alloc: Global, stacks: &Stacks) {
         let mut keeping = Reader::keeping(alloc, stacks).expect(rt, "memory");
         compare(rt, stacks, &mut keeping, v, 3);
         compare_all(rt, stacks, &mut keeping);
+        drop(keeping);
     }
 }
 
@@ -52,6 +53,7 @@ fn compare_last(rt: &impl Abort, alloc: Global, stacks: &Stacks)
 {
     let last = stacks.for_sample(alloc, u32::MAX).expect(rt, "memory");
     compare_from_each(rt, alloc, &last);
+    drop(last);
 }
 
 // Compares entries of this many variables, of sample 0 and of the last sample.
@@ -62,6 +64,7 @@ fn compare_samples(rt: &impl Abort, alloc: Global, count: u32)
     let stacks = Stacks::new(spec, Weights::pairs(count), 64).expect(rt, "stacks");
     compare_from_each(rt, alloc, &stacks);
     compare_last(rt, alloc, &stacks);
+    drop(stacks);
 }
 
 // The last variables are one, two, three and four of their four.
@@ -102,6 +105,7 @@ fn compare_weighted(rt: &impl Abort, alloc: Global, table: &[&[u32]]) {
     let weights = weights(rt, alloc, table);
     let stacks = Stacks::new(StackSpec::Key([5; 32]), weights, 64).expect(rt, "stacks");
     compare_from_each(rt, alloc, &stacks);
+    drop(stacks);
 }
 
 #[test]

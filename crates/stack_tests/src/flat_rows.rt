@@ -22,6 +22,7 @@ fn rows_have_what_was_pushed_to_them_in_order(rt: HostRuntime) {
     rows.push(3, 9);
     rows.push(0, 6);
     are_rows(&rt, &rows, &[&[5, 6], &[], &[7], &[9]]);
+    drop(rows);
 }
 
 #[test]
@@ -30,4 +31,5 @@ fn rooms_past_32_bits_find_no_memory(rt: HostRuntime) {
     let rooms = Vec::from_slice(alloc, &[1 << 31, 1 << 31]).expect(&rt, "memory");
     let made = FlatRows::with_rooms(alloc, rooms);
     assert!(&rt; made.is_err(), "rooms past 32 bits");
+    drop(made);
 }

@@ -25,4 +25,5 @@ fn rows_of_ones_sum_to_their_places(rt: HostRuntime) {
     let heavy = rows.accumulate();
     assert!(&rt; heavy.is_none(), "a sum past 32 bits");
     are_rows(&rt, &rows, &[&[1, 2], &[], &[1, 2, 3], &[1]]);
+    drop(rows);
 }

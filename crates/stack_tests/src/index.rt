@@ -27,7 +27,9 @@ fn index(rt: &impl Abort, alloc: Global, family: &Family) -> Index
 {
     let spec = StackSpec::Key([0; 32]);
     let stacks = Stacks::new(spec, Weights::pairs(4), 1).expect(rt, "stacks");
-    build(rt, alloc, &stacks, family)
+    let index = build(rt, alloc, &stacks, family);
+    drop(stacks);
+    index
 }
 
 // Compares the places of each of four variables.
@@ -50,4 +52,6 @@ fn each_variable_has_the_places_that_name_it(rt: HostRuntime) {
     let family = listed(&rt, rt.alloc(), &ROWS);
     let index = index(&rt, rt.alloc(), &family);
     has_places(&rt, &index, &[&[0, 2], &[2], &[0, 1], &[]]);
+    drop(index);
+    drop(family);
 }

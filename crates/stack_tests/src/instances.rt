@@ -37,6 +37,7 @@ fn has_event(rt: &impl Abort, alloc: Global, instance: &Instance, last: (u32, u3
         "event of value",
         last.1,
     );
+    drop(cube);
 }
 
 // Compares the events of an instance with value 1 of variables 0 and 1.
@@ -50,12 +51,14 @@ fn has_its_event(rt: &impl Abort, alloc: Global, instance: &Instance) {
 fn an_instance_has_the_events_of_its_family(rt: HostRuntime) {
     let listed = listed(&rt, rt.alloc());
     has_its_event(&rt, rt.alloc(), &listed);
+    drop(listed);
 }
 
 // Tells that there is no instance with this pair in its event.
 fn is_not_made(rt: &impl Abort, alloc: Global, last: (u32, u32)) {
-    let is_made = instance(rt, alloc, last).is_some();
-    is_so(rt, !is_made, "no instance with variable", last.0);
+    let made = instance(rt, alloc, last);
+    is_so(rt, made.is_none(), "no instance with variable", last.0);
+    drop(made);
 }
 
 // Value 2 of variable 1, and variable 2.
@@ -100,22 +103,26 @@ fn has_index(rt: &impl Abort, alloc: Global, instance: &Instance) {
     let index = instance.index(alloc).expect(rt, "memory");
     let index = index.expect(rt, "an index");
     have_the_first_place(rt, events, &index);
+    drop(index);
 }
 
 #[test]
 fn listed_events_have_an_index(rt: HostRuntime) {
     let listed = listed(&rt, rt.alloc());
     has_index(&rt, rt.alloc(), &listed);
+    drop(listed);
 }
 
 // Tells that an instance has no index.
 fn has_no_index(rt: &impl Abort, alloc: Global, instance: &Instance) {
     let index = instance.index(alloc).expect(rt, "memory");
     is_so(rt, index.is_none(), "no index of cycles", 0);
+    drop(index);
 }
 
 #[test]
 fn cycles_have_no_index(rt: HostRuntime) {
     let cycles = loops(&rt, rt.alloc());
     has_no_index(&rt, rt.alloc(), &cycles);
+    drop(cycles);
 }

@@ -40,6 +40,7 @@ pub fn look(rt: &impl Abort, stacks: &Stacks, reader: &mut Reader, v: u32, k: u3
 pub fn look_afresh(rt: &impl Abort, stacks: &Stacks, v: u32, k: u32, value: u32) {
     let mut reader = Reader::new(stacks);
     look(rt, stacks, &mut reader, v, k, value);
+    drop(reader);
 }
 
 // Looks at entries of variable 0 in this order; `values` are the values of the first ones, and those
@@ -73,6 +74,7 @@ static ORDER: [u32; 20] = [0, 1, 2, 3, 4, 5, 6, 7, 7, 6, 5, 4, 3, 2, 1, 0, 40, 3
 fn read(rt: &impl Abort, alloc: Global, stacks: &Stacks, keeps: bool, values: &[u32]) {
     let mut reader = reader_of(rt, alloc, stacks, keeps);
     look_along(rt, stacks, &mut reader, &ORDER, values);
+    drop(reader);
 }
 
 // Compares the first entries of variable 0, by a reader of each kind.
@@ -85,6 +87,7 @@ fn read_by_both(rt: &impl Abort, alloc: Global, stacks: &Stacks, values: &[u32])
 fn has_values(rt: &impl Abort, alloc: Global, weights: Weights, values: &[u32]) {
     let stacks = Stacks::new(StackSpec::Key([0; 32]), weights, 64).expect(rt, "stacks");
     read_by_both(rt, alloc, &stacks, values);
+    drop(stacks);
 }
 
 // Weights of variable 0, and the values of its entries 0 to 7. The numbers of these entries are the
@@ -170,6 +173,7 @@ fn looks_beside_others(rt: &impl Abort, stacks: &Stacks, reader: &mut Reader)
 fn read_beside(rt: &impl Abort, alloc: Global, stacks: &Stacks, keeps: bool) {
     let mut reader = reader_of(rt, alloc, stacks, keeps);
     looks_beside_others(rt, stacks, &mut reader);
+    drop(reader);
 }
 
 #[test]
@@ -182,6 +186,7 @@ fn a_look_at_another_variable_changes_no_answer(rt: HostRuntime) {
     }
     read_beside(&rt, rt.alloc(), &stacks, false);
     read_beside(&rt, rt.alloc(), &stacks, true);
+    drop(stacks);
 }
 
 /// Compares an entry as a reader that keeps values gives it with the answer of a fresh reader.
@@ -215,6 +220,7 @@ fn compare_kept(rt: &impl Abort, alloc: Global, stacks: &Stacks, height: u32)
     assert!(rt; count > 0);
     let mut keeping = Reader::keeping(alloc, stacks).expect(rt, "memory");
     compare_in_jumps(rt, stacks, &mut keeping, count, height);
+    drop(keeping);
 }
 
 // Compares entries under these weights at a height.
@@ -223,6 +229,7 @@ fn compare_under(rt: &impl Abort, alloc: Global, weights: Weights, height: u32)
 {
     let stacks = Stacks::new(StackSpec::Key([3; 32]), weights, height).expect(rt, "stacks");
     compare_kept(rt, alloc, &stacks, height);
+    drop(stacks);
 }
 
 // Rows of weights: a variable has up to two values, up to four, or more.
@@ -260,6 +267,7 @@ fn read_rows(rt: &impl Abort, alloc: Global, stacks: &Stacks, keeps: bool) {
     let mut reader = reader_of(rt, alloc, stacks, keeps);
     look_along(rt, stacks, &mut reader, &[2, 0, 1], &[0, 2, 1]);
     look(rt, stacks, &mut reader, 1, 0, 1);
+    drop(reader);
 }
 
 // Compares the number of entries of a variable, and of its values.
@@ -286,6 +294,7 @@ fn given_rows_are_read_as_they_stand(rt: HostRuntime) {
     has_room(&rt, &stacks, 1, 1, 2);
     read_rows(&rt, alloc, &stacks, false);
     read_rows(&rt, alloc, &stacks, true);
+    drop(stacks);
 }
 
 // RFC 8439, A.1, vector 5: the key of zeros, and a nonce whose last word is 2^25. As a stream
@@ -297,7 +306,9 @@ fn each_sample_has_streams_of_its_own(rt: HostRuntime) {
     let spec = StackSpec::Key([0; 32]);
     let first = Stacks::new(spec, Weights::pairs(1), 64).expect(&rt, "stacks");
     let stacks = first.for_sample(alloc, 1 << 25).expect(&rt, "memory");
+    drop(first);
     read_by_both(&rt, alloc, &stacks, &[0, 1, 1, 1, 1, 1, 0, 0]);
+    drop(stacks);
 }
 
 // The values are those of the first test, under the key of zeros.
@@ -310,4 +321,6 @@ fn a_reader_goes_on_when_its_stacks_are_raised(rt: HostRuntime) {
     stacks.raise(64);
     has_room(&rt, &stacks, 0, 64, 2);
     look_along(&rt, &stacks, &mut reader, &ORDER, &VALUES);
+    drop(reader);
+    drop(stacks);
 }

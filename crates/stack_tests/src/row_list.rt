@@ -29,6 +29,7 @@ static ROWS: [&[u32]; 5] = [&[5, 6], &[], &[], &[7], &[8, 8, 9]];
 fn rows_come_back_in_order_with_empty_ones_between(rt: HostRuntime) {
     let rows = list(&rt, rt.alloc(), (3, 4), &ROWS);
     are_rows(&rt, &rows, &ROWS);
+    drop(rows);
 }
 
 // Sums up rows, and compares the first one past 32 bits.
@@ -44,6 +45,7 @@ fn running_sums_start_anew_in_each_row(rt: HostRuntime) {
     let mut rows = list(&rt, rt.alloc(), (4, 6), &LIGHT);
     sums_up_to(&rt, &mut rows, None);
     are_rows(&rt, &rows, &[&[3, 4, 6], &[], &[u32::MAX], &[5, 5]]);
+    drop(rows);
 }
 
 static HEAVY: [&[u32]; 3] = [&[u32::MAX], &[1, u32::MAX], &[u32::MAX, 1]];
@@ -52,4 +54,5 @@ static HEAVY: [&[u32]; 3] = [&[u32::MAX], &[1, u32::MAX], &[u32::MAX, 1]];
 fn the_least_row_past_32_bits_is_named(rt: HostRuntime) {
     let mut rows = list(&rt, rt.alloc(), (3, 5), &HEAVY);
     sums_up_to(&rt, &mut rows, Some(1));
+    drop(rows);
 }

@@ -11,16 +11,9 @@ use std::alloc::Global;
 use std::process::Abort;
 use test_instances::{EventRow, event_rows, family};
 
-/// These rows, fewer than nine, of fewer than nine numbers.
+/// These rows.
 pub fn rows(rt: &impl Abort, alloc: Global, table: &[&[u32]]) -> Rows {
-    let mut rows = Vec::new(alloc);
-    for row in table {
-        assert!(rt; row.len() < 9);
-        let row = Vec::from_slice(alloc, row).expect(rt, "memory");
-        rows.push(row).expect(rt, "memory");
-    }
-    assert!(rt; rows.len() < 9);
-    Rows::of(rows)
+    made(rt, test_instances::rows(alloc, table), "rows")
 }
 
 /// Whether there is a weight, and none is 0.

@@ -12,15 +12,24 @@ use std::alloc::Global;
 use std::process::Abort;
 use test_instances::stacks;
 
+// Adds a reader of the stacks.
+fn push_reader(rt: &impl Abort, stacks: &Stacks, readers: &mut Vec<Reader>)
+    requires { All (Belongs stacks.now) readers.old.items }
+    ensures some { 0 < length readers.new.items }
+    ensures belong { All (Belongs stacks.now) readers.new.items }
+{
+    readers.push(Reader::new(stacks)).expect(rt, "memory");
+}
+
 // So many readers of the stacks, one at least.
 fn readers_of(rt: &impl Abort, alloc: Global, stacks: &Stacks, count: u32) -> Vec<Reader>
     ensures some { 0 < length result.items }
     ensures belong { All (Belongs stacks.now) result.items }
 {
     let mut readers = Vec::new(alloc);
-    readers.push(Reader::new(stacks)).expect(rt, "memory");
+    push_reader(rt, stacks, &mut readers);
     for _ in 1..count {
-        readers.push(Reader::new(stacks)).expect(rt, "memory");
+        push_reader(rt, stacks, &mut readers);
     }
     readers
 }
@@ -40,7 +49,10 @@ fn value_by(
 {
     let mut readers = readers_of(rt, alloc, stacks, count);
     let values = Values::at_by(alloc, stacks, &mut readers, cursors).expect(rt, "memory");
-    values.get(v)
+    drop(readers);
+    let value = values.get(v);
+    drop(values);
+    value
 }
 
 // Compares the value of a variable at its first entry, by so many readers.
@@ -49,6 +61,7 @@ fn has_value(rt: &impl Abort, alloc: Global, stacks: &Stacks, count: u32, v: u32
     let are_there = v < stacks.count() && are_within(stacks, &zeros);
     assert!(rt; are_there);
     let found = value_by(rt, alloc, stacks, &zeros, count, v);
+    drop(zeros);
     same(rt, found, want, "value by so many readers", count);
 }
 
@@ -61,4 +74,5 @@ fn as_many_readers_as_there_are_see_one_value(rt: HostRuntime) {
         has_value(&rt, rt.alloc(), &stacks, count, 0, 0);
         has_value(&rt, rt.alloc(), &stacks, count, 1, 1);
     }
+    drop(stacks);
 }

@@ -37,6 +37,7 @@ fn stacks(rt: &impl Abort, alloc: Global, first: u32) -> Stacks {
 fn is_value(rt: &impl Abort, alloc: Global, k: u32, first: u32, value: u32) {
     let stacks = stacks(rt, alloc, first);
     look_afresh(rt, &stacks, 0, k, value);
+    drop(stacks);
 }
 
 // What comes of the two words of an entry, scaled by that sum, by hand: the high word, or one less

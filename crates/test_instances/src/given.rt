@@ -2,9 +2,8 @@ use pop_stacks::{Rows, StackSpec, Stacks, Weights};
 use std::alloc::Global;
 use std::test::Fail;
 
-/// The stacks of these rows of entries, of variables with two values each: fewer than 9999 rows, of
-/// fewer than 1000 entries.
-pub fn stacks(alloc: Global, table: &[&[u32]]) -> Result<Stacks, Fail> {
+/// These rows: fewer than 9999, of fewer than 1000 numbers.
+pub fn rows(alloc: Global, table: &[&[u32]]) -> Result<Rows, Fail> {
     let mut rows = Vec::new(alloc);
     for row in table {
         if row.len() >= 1000 {
@@ -15,7 +14,12 @@ pub fn stacks(alloc: Global, table: &[&[u32]]) -> Result<Stacks, Fail> {
     if rows.len() >= 9999 {
         return Err(Fail::new("too many rows"));
     }
-    let rows = Rows::of(rows);
+    Ok(Rows::of(rows))
+}
+
+/// The stacks of these rows of entries, of variables with two values each.
+pub fn stacks(alloc: Global, table: &[&[u32]]) -> Result<Stacks, Fail> {
+    let rows = rows(alloc, table)?;
     let weights = Weights::pairs(rows.count());
     Ok(Stacks::new(StackSpec::Given(rows), weights, 1)?)
 }

@@ -2,8 +2,8 @@ use Rattle.std.proofs.Common.{length, ap, arith}
 use Rattle.pop_model.proofs.ValuesLemmas.{length-values_at}
 use Rattle.stack_tests.proofs.values.value_by.Goals as goal
 
-pub get-requires : goal.get-requires
-get-requires g c =
+pub get-value-requires : goal.get-value-requires
+get-value-requires g c =
     let known = rw c.expect-values.ensures at c.at_by.ensures in
     let are = known.values.are in
     let same = ap length are in

@@ -1,10 +1,10 @@
 use Rattle.std.proofs.Common.{ℕ, ◌<◌, ◌^◌, List, length, Vec, Global, arith}
 use Rattle.std.proofs.lemmas.List.{length-map}
 use Rattle.std.proofs.lemmas.List.Elements.{All-map}
-use Rattle.test_instances.proofs.given.stacks.Goals as goal
+use Rattle.test_instances.proofs.given.rows.Goals as goal
 
-pub of-rows-requires : goal.of-rows-requires
-of-rows-requires c =
+pub of-requires : goal.of-requires
+of-requires c =
     let rows = c.loop-row.rows.items in
     let items : Vec ℕ Global → List ℕ = λ v. v.items in
     let size = length-map rows items in

@@ -1,5 +1,5 @@
 use Rattle.std.proofs.Common.{◌<◌, ◌^◌, length, All}
-use Rattle.test_instances.proofs.given.stacks.Given as goal
+use Rattle.test_instances.proofs.given.rows.Given as goal
 
 -- the rows so far are short
 abbrev pub invariant-loop-row : goal.invariant-loop-row
