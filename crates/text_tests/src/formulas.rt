@@ -1,8 +1,9 @@
 //! Formulas and their events.
-ghost use Rattle.std.specs.Prelude.{◌≡◌, IfOk, None};
+ghost use Rattle.std.specs.Prelude.{◌≡◌, None};
 ghost use Rattle.dimacs_read.specs.Cnf.{first_empty};
 
-use crate::comparing::{Event, are_events, is_so, is_so_in_pieces};
+use crate::comparing::{Event, are_events, is_so};
+use crate::refusals::{Grammar, are_refused, is_refused};
 use crate::sources::{PIECES, source};
 use dimacs_read::{Formula, read_formula};
 use pop_edge::ReadRefusal;
@@ -10,18 +11,14 @@ use pop_instance::Events;
 use std::alloc::Global;
 use std::process::Abort;
 
-// What is read of a text in pieces of so many bytes, where the read of this number fails.
-fn read(
-    rt: &impl Abort,
-    alloc: Global,
-    text: &[u8],
-    piece: usize,
-    failing: u64,
-) -> Result<Formula, ReadRefusal>
-    ensures { IfOk result (λ formula. first_empty formula ≡ None) }
+// The formula of a text in pieces of so many bytes.
+fn formula(rt: &impl Abort, alloc: Global, text: &[u8], piece: usize) -> Formula
+    ensures { first_empty result ≡ None }
 {
-    let mut source = source(rt, alloc, text, piece, failing);
-    read_formula(alloc, &mut source)
+    let mut source = source(rt, alloc, text, piece, 0);
+    let formula = read_formula(alloc, &mut source).expect(rt, "a formula");
+    drop(source);
+    formula
 }
 
 // A text with a comment within a clause, and a last clause that `%` closes.
@@ -31,13 +28,14 @@ static CLAUSES: [&[i32]; 2] = [&[1, -2], &[2, 3]];
 
 // Compares what is read of that text in pieces of so many bytes.
 fn is_read_by_hand(rt: &impl Abort, alloc: Global, piece: usize) {
-    let formula = read(rt, alloc, BY_HAND, piece, 0).expect(rt, "a formula");
+    let formula = formula(rt, alloc, BY_HAND, piece);
     assert!(rt; formula.variables() == 3);
     assert!(rt; formula.clauses() == 2);
     for i in 0..2 {
         let is_clause = formula.clause(i) == CLAUSES[i as usize];
         is_so(rt, is_clause, "clause", i as u64);
     }
+    drop(formula);
 }
 
 #[test]
@@ -45,19 +43,6 @@ fn a_formula_is_the_same_whatever_the_pieces(rt: HostRuntime) {
     for piece in PIECES.iter() {
         is_read_by_hand(&rt, rt.alloc(), *piece);
     }
-}
-
-// Compares why a text in pieces of so many bytes is refused, where the read of this number fails.
-fn is_refused(
-    rt: &impl Abort,
-    alloc: Global,
-    text: &[u8],
-    piece: usize,
-    failing: u64,
-    want: ReadRefusal,
-) {
-    let found = read(rt, alloc, text, piece, failing).err();
-    is_so_in_pieces(rt, found == Some(want), piece, failing);
 }
 
 // Worked by hand from the grammar.
@@ -73,18 +58,9 @@ static REFUSED: [(&[u8], ReadRefusal); 9] = [
     (b"p cnf 1 2\n1 0\n0\n", ReadRefusal::EmptyClause(2)),
 ];
 
-// Compares why a text is refused in pieces of each size.
-fn is_refused_in_pieces(rt: &impl Abort, alloc: Global, text: &[u8], want: ReadRefusal) {
-    for piece in PIECES.iter() {
-        is_refused(rt, alloc, text, *piece, 0, want);
-    }
-}
-
 #[test]
 fn a_bad_text_is_refused_whatever_the_pieces(rt: HostRuntime) {
-    for (text, want) in REFUSED.iter() {
-        is_refused_in_pieces(&rt, rt.alloc(), text, *want);
-    }
+    are_refused(&rt, rt.alloc(), Grammar::Formula, &REFUSED);
 }
 
 // Texts of which the second line is read by the second read, in pieces of 10.
@@ -96,7 +72,7 @@ static FAULTS: [(&[u8], ReadRefusal); 2] = [
 #[test]
 fn a_fault_comes_behind_the_lines_before_it(rt: HostRuntime) {
     for (text, want) in FAULTS.iter() {
-        is_refused(&rt, rt.alloc(), text, 10, 2, *want);
+        is_refused(&rt, rt.alloc(), Grammar::Formula, text, 10, 2, *want);
     }
 }
 
@@ -108,12 +84,15 @@ static EVENTS: [Event; 2] = [(1, &[(0, 1), (1, 0)]), (4, &[(1, 1), (2, 0)])];
 
 // The events of a text.
 fn events_of(rt: &impl Abort, alloc: Global, text: &[u8]) -> Events {
-    let formula = read(rt, alloc, text, 4096, 0).expect(rt, "a formula");
-    formula.events(alloc).expect(rt, "events")
+    let formula = formula(rt, alloc, text, 4096);
+    let events = formula.events(alloc).expect(rt, "events");
+    drop(formula);
+    events
 }
 
 #[test]
 fn events_falsify_their_clauses(rt: HostRuntime) {
     let events = events_of(&rt, rt.alloc(), FOUR_CLAUSES);
     are_events(&rt, &events, &EVENTS);
+    drop(events);
 }

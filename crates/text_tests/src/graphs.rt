@@ -1,7 +1,8 @@
 //! Graphs that are read of texts, and the texts that are refused.
-use crate::comparing::{is_so, is_so_in_pieces};
-use crate::sources::{PIECES, graph, source};
-use graph_read::{Edge, Graph, read_graph};
+use crate::comparing::is_so;
+use crate::refusals::{Grammar, are_refused, is_refused};
+use crate::sources::{PIECES, graph, graph_in_pieces};
+use graph_read::{Edge, Graph};
 use pop_edge::ReadRefusal;
 use std::alloc::Global;
 use std::process::Abort;
@@ -23,18 +24,6 @@ fn are_edges(rt: &impl Abort, graph: &Graph, want: &[Joined]) {
     }
 }
 
-// What is read of a text in pieces of so many bytes, where the read of this number fails.
-fn read(
-    rt: &impl Abort,
-    alloc: Global,
-    text: &[u8],
-    piece: usize,
-    failing: u64,
-) -> Result<Graph, ReadRefusal> {
-    let mut source = source(rt, alloc, text, piece, failing);
-    read_graph(alloc, &mut source)
-}
-
 // A loop, parallel edges, lines that are passed over, and a last line without its end.
 static BY_HAND: &[u8] = b"c by hand\np edge 3 9\n\ne 2 2\nn 1 7\ne 1 2 5\r\ne\t3  1\ncol\ne 1 2";
 
@@ -42,9 +31,10 @@ static BY_HAND_EDGES: [Joined; 4] = [(2, 2, 1), (1, 2, 5), (3, 1, 1), (1, 2, 1)]
 
 // Compares what is read of that text in pieces of so many bytes.
 fn is_read_by_hand(rt: &impl Abort, alloc: Global, piece: usize) {
-    let graph = read(rt, alloc, BY_HAND, piece, 0).expect(rt, "a graph");
+    let graph = graph_in_pieces(rt, alloc, BY_HAND, piece, 0);
     assert!(rt; graph.vertices() == 3);
     are_edges(rt, &graph, &BY_HAND_EDGES);
+    drop(graph);
 }
 
 #[test]
@@ -52,19 +42,6 @@ fn a_graph_is_the_same_whatever_the_pieces(rt: HostRuntime) {
     for piece in PIECES.iter() {
         is_read_by_hand(&rt, rt.alloc(), *piece);
     }
-}
-
-// Compares why a text in pieces of so many bytes is refused, where the read of this number fails.
-fn is_refused(
-    rt: &impl Abort,
-    alloc: Global,
-    text: &[u8],
-    piece: usize,
-    failing: u64,
-    want: ReadRefusal,
-) {
-    let found = read(rt, alloc, text, piece, failing).err();
-    is_so_in_pieces(rt, found == Some(want), piece, failing);
 }
 
 // Worked by hand from the grammar.
@@ -85,24 +62,16 @@ static REFUSED: [(&[u8], ReadRefusal); 11] = [
     (b"p col 2 1\n%\n", ReadRefusal::Malformed(2, 15)),
 ];
 
-// Compares why a text is refused in pieces of each size.
-fn is_refused_in_pieces(rt: &impl Abort, alloc: Global, text: &[u8], want: ReadRefusal) {
-    for piece in PIECES.iter() {
-        is_refused(rt, alloc, text, *piece, 0, want);
-    }
-}
-
 #[test]
 fn a_bad_text_is_refused_whatever_the_pieces(rt: HostRuntime) {
-    for (text, want) in REFUSED.iter() {
-        is_refused_in_pieces(&rt, rt.alloc(), text, *want);
-    }
+    are_refused(&rt, rt.alloc(), Grammar::Graph, &REFUSED);
 }
 
 // Compares the edges of a text.
 fn has_edges(rt: &impl Abort, alloc: Global, text: &[u8], want: &[Joined]) {
     let graph = graph(rt, alloc, text);
     are_edges(rt, &graph, want);
+    drop(graph);
 }
 
 // Texts of one edge. Worked by hand from the grammar: a number has up to ten digits, and is below
@@ -137,7 +106,7 @@ static BAD_EDGE: [(&[u8], u32); 6] = [
 fn a_bad_edge_is_refused_at_its_line(rt: HostRuntime) {
     for (text, code) in BAD_EDGE.iter() {
         let want = ReadRefusal::Malformed(2, *code);
-        is_refused(&rt, rt.alloc(), text, 4096, 0, want);
+        is_refused(&rt, rt.alloc(), Grammar::Graph, text, 4096, 0, want);
     }
 }
 
@@ -151,7 +120,7 @@ fn a_fault_comes_behind_the_lines_before_it(rt: HostRuntime) {
         } else {
             ReadRefusal::Malformed(2, 13)
         };
-        is_refused(&rt, rt.alloc(), text, 1, fault, want);
+        is_refused(&rt, rt.alloc(), Grammar::Graph, text, 1, fault, want);
     }
 }
 
@@ -160,14 +129,23 @@ static GOOD: &[u8] = b"p edge 2 1\ne 1 2\n";
 
 // Compares how many edges are read of that text, where read 19 would fail.
 fn is_read_in_18(rt: &impl Abort, alloc: Global) {
-    let graph = read(rt, alloc, GOOD, 1, 19).expect(rt, "a graph");
+    let graph = graph_in_pieces(rt, alloc, GOOD, 1, 19);
     assert!(rt; graph.edges() == 1);
+    drop(graph);
 }
 
 #[test]
 fn a_good_text_with_a_fault_is_not_read(rt: HostRuntime) {
     for fault in 1..19 {
-        is_refused(&rt, rt.alloc(), GOOD, 1, fault, ReadRefusal::ReadFault);
+        is_refused(
+            &rt,
+            rt.alloc(),
+            Grammar::Graph,
+            GOOD,
+            1,
+            fault,
+            ReadRefusal::ReadFault,
+        );
     }
     is_read_in_18(&rt, rt.alloc());
 }

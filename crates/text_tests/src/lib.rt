@@ -13,6 +13,8 @@ mod graphs;
 #[cfg(test)]
 mod lines;
 #[cfg(test)]
+mod refusals;
+#[cfg(test)]
 mod sinks;
 #[cfg(test)]
 mod sources;

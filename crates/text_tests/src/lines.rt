@@ -46,7 +46,10 @@ fn is_cut(rt: &impl Abort, alloc: Global, case: &Case) {
     let mut lines = Lines::new(alloc).expect(rt, "memory");
     let all = joined(rt, alloc, &mut lines, &mut source);
     is_so_in_pieces(rt, all.as_slice() == case.lines, case.piece, case.failing);
+    drop(all);
     let (first, second) = (lines.next(&mut source), lines.next(&mut source));
+    drop(lines);
+    drop(source);
     let is_after = first == case.after && second == case.after;
     is_so_in_pieces(rt, is_after, case.piece, case.failing);
 }
@@ -125,7 +128,9 @@ fn fails_behind(rt: &impl Abort, alloc: Global, text: &[u8], failing: u64, ends:
     let mut lines = Lines::new(alloc).expect(rt, "memory");
     come(rt, &mut lines, &mut source, 1, Ok(Next::Line));
     come(rt, &mut lines, &mut source, ends, Ok(Next::End));
+    drop(lines);
     let read = source.read(&mut [0; 4]);
+    drop(source);
     assert!(rt; read == Err(Failed));
 }
 
@@ -190,12 +195,14 @@ fn a_sink_holds_what_there_is_room_for(rt: HostRuntime) {
     let mut whole = sink(&rt, rt.alloc(), 0);
     puts(&rt, &mut whole, b"s SAMPLE\n", Ok(()), b"s SAMPLE\n");
     puts(&rt, &mut whole, b"x", Err(Failed), b"s SAMPLE\n");
+    drop(whole);
 }
 
 #[test]
 fn a_sink_that_fails_holds_a_front_of_the_bytes(rt: HostRuntime) {
     let mut failing = sink(&rt, rt.alloc(), 2);
     puts(&rt, &mut failing, b"s SAMPLE\n", Err(Failed), b"s SA");
+    drop(failing);
 }
 
 /// Fails once and then gives a byte at a time.
@@ -228,6 +235,7 @@ fn an_error_of_a_reader_is_a_fault(rt: HostRuntime) {
     let mut source = StdSource::new(Stutter { failed: false });
     reads(&rt, &mut source, Err(Failed));
     let byte = reads(&rt, &mut source, Ok(1));
+    drop(source);
     assert!(&rt; byte == b'x');
 }
 
@@ -265,4 +273,5 @@ fn errors_of_a_writer_are_faults(rt: HostRuntime) {
     writes(&rt, &mut sink, Ok(1));
     writes(&rt, &mut sink, Err(Failed));
     writes(&rt, &mut sink, Err(Failed));
+    drop(sink);
 }

@@ -12,13 +12,16 @@ use std::process::Abort;
 // The events of the graph of a text.
 fn sinks_of(rt: &impl Abort, alloc: Global, text: &[u8]) -> Result<Events, SinkFault> {
     let graph = graph(rt, alloc, text);
-    sinks(alloc, &graph)
+    let events = sinks(alloc, &graph);
+    drop(graph);
+    events
 }
 
 // Compares the events of the graph of a text.
 fn has_sinks(rt: &impl Abort, alloc: Global, text: &[u8], want: &[Event]) {
     let events = sinks_of(rt, alloc, text).expect(rt, "events");
     are_events(rt, &events, want);
+    drop(events);
 }
 
 // Worked by hand: value 0 points from the first vertex of an edge to the second.
@@ -55,10 +58,9 @@ fn each_vertex_without_a_loop_is_an_event(rt: HostRuntime) {
 fn index_of(rt: &impl Abort, alloc: Global, graph: &Graph) -> Index
     ensures { length result ≡ length graph.now.edges }
 {
-    match indexed_sinks(alloc, graph) {
-        Ok((_, index)) => index,
-        Err(_) => panic!(rt; "no events"),
-    }
+    let (events, index) = indexed_sinks(alloc, graph).expect(rt, "events");
+    drop(events);
+    index
 }
 
 // Compares an index over so many edges: of each edge the places.
@@ -81,6 +83,8 @@ fn has_index(rt: &impl Abort, alloc: Global, text: &[u8], want: &[&[u32]]) {
     let graph = graph(rt, alloc, text);
     let index = index_of(rt, alloc, &graph);
     is_index(rt, &index, graph.edges(), want);
+    drop(index);
+    drop(graph);
 }
 
 // Worked by hand: places count the vertices without a loop, from 0.

@@ -20,8 +20,22 @@ pub fn source(
     MemSource::new(bytes, piece.max(1), failing)
 }
 
+/// The graph of a text that comes in pieces of so many bytes, where the read of this number would
+/// fail; 0 is none.
+pub fn graph_in_pieces(
+    rt: &impl Abort,
+    alloc: Global,
+    text: &[u8],
+    piece: usize,
+    failing: u64,
+) -> Graph {
+    let mut source = source(rt, alloc, text, piece, failing);
+    let graph = read_graph(alloc, &mut source).expect(rt, "a graph");
+    drop(source);
+    graph
+}
+
 /// The graph of a text.
 pub fn graph(rt: &impl Abort, alloc: Global, text: &[u8]) -> Graph {
-    let mut source = source(rt, alloc, text, 4096, 0);
-    read_graph(alloc, &mut source).expect(rt, "a graph")
+    graph_in_pieces(rt, alloc, text, 4096, 0)
 }

@@ -10,10 +10,11 @@ use crate::sources::graph;
 use confluence_core::{End, Stuck, run_first};
 use cycle_popping::{arrow_weights, arrows, run_walks};
 use graph_read::{Graph, first_cut_off};
-use pop_instance::{Arrows, Cursors, Family, Instance};
+use pop_instance::{Arrows, Family, Instance};
 use pop_stacks::{Reader, Rows, StackSpec, Stacks};
 use std::alloc::Global;
 use std::process::Abort;
+use test_instances::{has_cursors, rows};
 
 mod draws;
 mod grids;
@@ -81,7 +82,9 @@ fn trees(
     let graph = graph(rt, alloc, text);
     expect_joined(rt, alloc, &graph, root);
     let stacks = stacks_of(rt, alloc, &graph, root, spec, height);
-    trees_of(rt, alloc, &graph, root, stacks)
+    let instance = trees_of(rt, alloc, &graph, root, stacks);
+    drop(graph);
+    instance
 }
 
 // What an end is to be: its cursors, its pops and the units of its stuck cycles.
@@ -99,21 +102,12 @@ fn are_stuck(rt: &impl Abort, stuck: &Stuck, units: &[u32]) {
     }
 }
 
-// Compares the cursors of so many variables.
-fn are_cursors(rt: &impl Abort, cursors: &Cursors, count: u32, want: &[u32])
-    requires { count ≡ length cursors.now }
-{
-    assert!(rt; want.len() == count as usize);
-    for v in 0..count {
-        is_so(rt, cursors.get(v) == want[v as usize], "variable", v as u64);
-    }
-}
-
 // Compares an end over so many variables.
 fn is_end(rt: &impl Abort, end: &End, count: u32, want: &Want)
     requires { count ≡ length end.now.cursors }
 {
-    are_cursors(rt, &end.cursors, count, want.cursors);
+    let are_there = has_cursors(&end.cursors, count, want.cursors);
+    is_so(rt, are_there, "cursors of variables below", count as u64);
     same(rt, end.pops, want.pops, "pops");
     are_stuck(rt, &end.stuck, want.stuck);
 }
@@ -124,12 +118,14 @@ fn walks_end(rt: &impl Abort, alloc: Global, instance: &Instance, want: &Want)
 {
     let end = run_walks(alloc, instance).expect(rt, "memory");
     is_end(rt, &end, instance.stacks().count(), want);
+    drop(end);
 }
 
 // Compares the end of the one-thread run.
 fn first_ends(rt: &impl Abort, alloc: Global, instance: &Instance, want: &Want) {
     let end = run_first(alloc, instance).expect(rt, "memory");
     is_end(rt, &end, instance.stacks().count(), want);
+    drop(end);
 }
 
 // Compares the ends of the walks and of the one-thread run.
@@ -140,16 +136,12 @@ fn ends_with(rt: &impl Abort, alloc: Global, instance: &Instance, want: &Want)
     first_ends(rt, alloc, instance, want);
 }
 
-// These rows of entries.
-fn given(rt: &impl Abort, alloc: Global, table: &[&[u32]]) -> StackSpec {
-    let mut rows = Vec::new(alloc);
-    for row in table {
-        assert!(rt; row.len() < 9);
-        let row = Vec::from_slice(alloc, row).expect(rt, "memory");
-        rows.push(row).expect(rt, "memory");
+// The rows of a table.
+fn rows_of(rt: &impl Abort, alloc: Global, table: &[&[u32]]) -> Rows {
+    match rows(alloc, table) {
+        Ok(rows) => rows,
+        Err(_) => panic!(rt; "no rows"),
     }
-    assert!(rt; rows.len() < 9);
-    StackSpec::Given(Rows::of(rows))
 }
 
 // A graph, the rows of entries over its arrows to vertex 1, and what the end is to be.
@@ -163,14 +155,15 @@ struct Case {
 fn case_trees(rt: &impl Abort, alloc: Global, case: &Case) -> Instance
     ensures { AreCycles result.family }
 {
-    let spec = given(rt, alloc, case.rows);
-    trees(rt, alloc, case.text, 1, spec, 1)
+    let rows = rows_of(rt, alloc, case.rows);
+    trees(rt, alloc, case.text, 1, StackSpec::Given(rows), 1)
 }
 
 // Compares the ends of the runs of a case.
 fn case_ends(rt: &impl Abort, alloc: Global, case: &Case) {
     let instance = case_trees(rt, alloc, case);
     ends_with(rt, alloc, &instance, &case.want);
+    drop(instance);
 }
 
 const TRIANGLE: &[u8] = b"p edge 3 3\ne 1 2\ne 2 3\ne 1 3\n";
@@ -230,7 +223,9 @@ fn first_value(rt: &impl Abort, stacks: &Stacks, v: u32) -> u32
     let height = stacks.height(v);
     assert!(rt; 0 < height);
     let mut reader = Reader::new(stacks);
-    reader.entry(stacks, v, 0)
+    let value = reader.entry(stacks, v, 0);
+    drop(reader);
+    value
 }
 
 // Compares stacks of one variable, of two values and height 9, whose first value is 0.
@@ -264,4 +259,5 @@ fn parallel_edges_are_slots_and_loops_are_none(rt: HostRuntime) {
     let alloc = rt.alloc();
     let instance = trees(&rt, alloc, PARALLEL_EDGES, 1, StackSpec::Key([0; 32]), 9);
     root_at_once(&rt, alloc, &instance);
+    drop(instance);
 }

@@ -12,7 +12,9 @@ fn cut_off_by_ends(rt: &impl Abort, alloc: Global, graph: &Graph, root: u32) -> 
     requires { IsVertex graph.now.vertices root }
 {
     let ends = OtherEnds::of(alloc, graph).expect(rt, "memory");
-    ends.first_cut_off(alloc, root).expect(rt, "memory")
+    let found = ends.first_cut_off(alloc, root).expect(rt, "memory");
+    drop(ends);
+    found
 }
 
 /// Compares the first vertex that is cut off from a root.
@@ -29,6 +31,7 @@ pub fn is_cut_off(rt: &impl Abort, alloc: Global, graph: &Graph, root: u32, want
 fn cuts_off(rt: &impl Abort, alloc: Global, text: &[u8], root: u32, want: Option<u32>) {
     let graph = graph(rt, alloc, text);
     is_cut_off(rt, alloc, &graph, root, want);
+    drop(graph);
 }
 
 // Worked by hand: edges lead both ways, and a loop leads nowhere.

@@ -44,12 +44,14 @@ fn is_grid(
 fn a_grid_joins_each_vertex_to_the_right_and_below(rt: HostRuntime) {
     let graph = Graph::grid(rt.alloc(), 3).expect(&rt, "memory");
     is_grid(&rt, rt.alloc(), &graph, 9, 5, &GRID);
+    drop(graph);
 }
 
 #[test]
 fn a_grid_of_one_vertex_has_no_edge(rt: HostRuntime) {
     let graph = Graph::grid(rt.alloc(), 1).expect(&rt, "memory");
     is_grid(&rt, rt.alloc(), &graph, 1, 1, &[]);
+    drop(graph);
 }
 
 // Compares where edges lead from a vertex of a grid.
@@ -75,4 +77,5 @@ fn lead_in_grids(rt: &impl Abort, neighbours: &mut Vec<u32>) {
 fn a_vertex_of_a_grid_has_up_to_four_neighbours(rt: HostRuntime) {
     let mut neighbours = Vec::new(rt.alloc());
     lead_in_grids(&rt, &mut neighbours);
+    drop(neighbours);
 }

@@ -33,6 +33,8 @@ fn each_vertex_has_the_darts_there_but_for_loops(rt: HostRuntime) {
     let graph = graph(&rt, rt.alloc(), BY_HAND);
     let incidence = Incidence::of(rt.alloc(), &graph).expect(&rt, "memory");
     have_darts(&rt, &incidence);
+    drop(incidence);
+    drop(graph);
 }
 
 // Compares where the edges at a vertex lead.
@@ -60,6 +62,9 @@ fn each_vertex_has_the_other_ends_of_its_edges(rt: HostRuntime) {
     let ends = OtherEnds::of(rt.alloc(), &graph).expect(&rt, "memory");
     let mut neighbours = Vec::new(rt.alloc());
     all_lead(&rt, &ends, &mut neighbours);
+    drop(neighbours);
+    drop(ends);
+    drop(graph);
 }
 
 // Compares the weights of the edges at each vertex.
@@ -74,14 +79,18 @@ fn weigh(rt: &impl Abort, weights: &FlatRows) {
 // The weights of the edges at each vertex.
 fn weights_of(rt: &impl Abort, alloc: Global, graph: &Graph) -> FlatRows {
     let ends = OtherEnds::of(alloc, graph).expect(rt, "memory");
-    ends.weights(alloc).expect(rt, "memory")
+    let weights = ends.weights(alloc).expect(rt, "memory");
+    drop(ends);
+    weights
 }
 
 #[test]
 fn each_vertex_has_the_weights_of_its_edges(rt: HostRuntime) {
     let graph = graph(&rt, rt.alloc(), BY_HAND);
     let weights = weights_of(&rt, rt.alloc(), &graph);
+    drop(graph);
     weigh(&rt, &weights);
+    drop(weights);
 }
 
 // At vertex 1 the second, at vertex 2 the second, and at vertex 3 the first; and the edges there.
@@ -95,10 +104,12 @@ fn stand_at_places(rt: &impl Abort, alloc: Global, graph: &Graph) {
     let places = Vec::from_slice(alloc, &PLACES).expect(rt, "memory");
     let edges = edges_at_places(alloc, graph, places).expect(rt, "memory");
     assert!(rt; edges.as_slice() == AT_PLACES.as_slice());
+    drop(edges);
 }
 
 #[test]
 fn an_edge_is_found_by_its_place_at_a_vertex(rt: HostRuntime) {
     let graph = graph(&rt, rt.alloc(), BY_HAND);
     stand_at_places(&rt, rt.alloc(), &graph);
+    drop(graph);
 }

@@ -3,18 +3,7 @@ ghost use Rattle.std.specs.Prelude.{◌<◌, ◌^◌};
 
 use std::alloc::Global;
 use std::process::Abort;
-
-// The next pseudo-random number below a bound: the high bits of a linear congruential step with
-// Knuth's numbers for MMIX.
-fn below(state: &mut u64, bound: u32) -> u32
-    requires { 0 < bound }
-    ensures { result < bound }
-{
-    *state = state
-        .wrapping_mul(6364136223846793005)
-        .wrapping_add(1442695040888963407);
-    (*state >> 33) as u32 % bound
-}
+use test_instances::below;
 
 // The ends of edge i, from 0. The first edges join vertex i + 2 to a vertex before it, so that each
 // is joined to vertex 1; the ends of the others are any vertices.

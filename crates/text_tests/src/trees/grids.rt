@@ -41,6 +41,7 @@ static HEADS: [&[Option<u32>]; 3] = [&[None, Some(2)], &[None, Some(2)], &[Some(
 fn the_arrows_of_a_grid_lead_to_neighbours(rt: HostRuntime) {
     let arrows = grid_arrows(rt.alloc(), 2).expect(&rt, "memory");
     lead(&rt, &arrows, &HEADS);
+    drop(arrows);
 }
 
 // Compares the slots of a variable with those of the same variable of others.
@@ -74,6 +75,8 @@ fn has_arrows_of(rt: &impl Abort, alloc: Global, graph: &Graph, side: u32)
     let made = grid_arrows(alloc, side).expect(rt, "memory");
     let want = arrows(alloc, graph, 1).expect(rt, "memory");
     same_arrows(rt, &made, &want);
+    drop(made);
+    drop(want);
 }
 
 // Compares how many values a variable has over two stacks, and its first value.
@@ -127,6 +130,8 @@ fn has_weights_of(rt: &impl Abort, alloc: Global, graph: &Graph, side: u32)
     let made = stacks_of_side(rt, alloc, side);
     let want = stacks_of_graph(rt, alloc, graph);
     same_values(rt, &made, &want);
+    drop(made);
+    drop(want);
 }
 
 // Compares what is made from a side with what comes of the grid's graph.
@@ -137,6 +142,7 @@ fn is_as_of_graph(rt: &impl Abort, alloc: Global, side: u32)
     expect_joined(rt, alloc, &graph, 1);
     has_arrows_of(rt, alloc, &graph, side);
     has_weights_of(rt, alloc, &graph, side);
+    drop(graph);
 }
 
 #[test]

@@ -12,21 +12,7 @@ use pop_instance::{Arrows, Cursors, Family, Instance};
 use pop_stacks::{Reader, StackSpec, Stacks};
 use std::alloc::Global;
 use std::process::Abort;
-
-// Compares the cursors of so many variables, of graph i.
-fn same_cursors(rt: &impl Abort, found: &Cursors, want: &Cursors, count: u32, i: u32)
-    requires found { count ≡ length found.now }
-    requires want { count ≡ length want.now }
-{
-    for v in 0..count {
-        is_so(
-            rt,
-            found.get(v) == want.get(v),
-            "cursors of graph",
-            i as u64,
-        );
-    }
-}
+use test_instances::are_cursors_alike;
 
 // Compares the units and the events of the stuck cycles of graph i.
 fn same_stuck(rt: &impl Abort, found: &Stuck, want: &Stuck, i: u32) {
@@ -45,7 +31,8 @@ fn end_alike(rt: &impl Abort, found: &End, want: &End, count: u32, i: u32)
     requires want { count ≡ length want.now.cursors }
 {
     is_so(rt, found.pops == want.pops, "pops of graph", i as u64);
-    same_cursors(rt, &found.cursors, &want.cursors, count, i);
+    let are_alike = are_cursors_alike(&found.cursors, &want.cursors, count);
+    is_so(rt, are_alike, "cursors of graph", i as u64);
     same_stuck(rt, &found.stuck, &want.stuck, i);
 }
 
@@ -55,7 +42,9 @@ fn head_at(rt: &impl Abort, stacks: &Stacks, arrows: &Arrows, v: u32, k: u32) ->
     requires arrows { v < length arrows.now }
 {
     assert!(rt; k < stacks.height(v));
-    let slot = Reader::new(stacks).entry(stacks, v, k);
+    let mut reader = Reader::new(stacks);
+    let slot = reader.entry(stacks, v, k);
+    drop(reader);
     assert!(rt; slot < arrows.slots(v));
     arrows.head(v, slot)
 }
@@ -130,6 +119,7 @@ fn zeros_end_alike(rt: &impl Abort, alloc: Global, instance: &Instance, want: &E
     let run = run_from_zeros(alloc, instance, Keep::Log).expect(rt, "memory");
     has_records(rt, &run, i);
     end_alike(rt, &run.end, want, instance.stacks().count(), i);
+    drop(run);
 }
 
 // Compares the walks with an end of graph i.
@@ -139,6 +129,7 @@ fn walks_end_alike(rt: &impl Abort, alloc: Global, instance: &Instance, want: &E
 {
     let end = run_walks(alloc, instance).expect(rt, "memory");
     end_alike(rt, &end, want, instance.stacks().count(), i);
+    drop(end);
 }
 
 // The arrows of so many vertices but the root, of graph i, lead from each to the root.
@@ -176,6 +167,7 @@ fn is_stuck(
     }
     let heads = current_heads(rt, alloc, instance, end);
     are_tree(rt, &heads, vertices, i);
+    drop(heads);
     false
 }
 
@@ -196,7 +188,9 @@ fn runs_exhausted(
     is_so(rt, height > 1 || first.pops == 0, "pops of graph", i as u64);
     zeros_end_alike(rt, alloc, instance, &first, i);
     walks_end_alike(rt, alloc, instance, &first, i);
-    is_stuck(rt, alloc, instance, &first, vertices, i)
+    let stuck = is_stuck(rt, alloc, instance, &first, vertices, i);
+    drop(first);
+    stuck
 }
 
 // The instance of the trees of a graph, as they are drawn.
@@ -215,7 +209,10 @@ fn is_drawn_exhausted(rt: &impl Abort, alloc: Global, state: &mut u64, i: u32) -
     let text = connected(rt, alloc, state, vertices);
     let draw = drawn(state, vertices, i);
     let instance = drawn_trees(rt, alloc, text.as_str(), draw);
-    runs_exhausted(rt, alloc, &instance, vertices, draw.height, i)
+    drop(text);
+    let exhausted = runs_exhausted(rt, alloc, &instance, vertices, draw.height, i);
+    drop(instance);
+    exhausted
 }
 
 #[test]

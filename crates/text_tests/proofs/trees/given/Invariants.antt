@@ -1,6 +1,0 @@
-use Rattle.std.proofs.Common.{◌<◌, ◌^◌, length, All}
-use Rattle.text_tests.proofs.trees.given.Given as goal
-
--- none of the rows so far is long
-abbrev pub invariant-loop-row : goal.invariant-loop-row
-invariant-loop-row g l = All (λ row. length row.items < 2 ^ 31) l.rows.items
