@@ -1,5 +1,5 @@
 -- Where each edge has weight 1, the weights of a variable's slots are as many ones.
-use Rattle.std.proofs.Common.{◌≡◌, ℕ, suc, ◌-◌, ◌<◌, ◌^◌, List, [], ◌∷◌, length, map, get_or, replicate, refl, sym, ap₂, arith, All}
+use Rattle.std.proofs.Common.{◌≡◌, ◌∙◌, ℕ, suc, ◌-◌, ◌<◌, ◌≤◌, ◌^◌, List, [], ◌∷◌, length, map, get_or, replicate, refl, sym, ap, ap₂, arith, All}
 use Rattle.std.specs.List.{range_with_len}
 use Rattle.std.proofs.lemmas.List.Elements.{All-map, All-weaker}
 use Rattle.pop_model.specs.Names.{vertex_of}
@@ -8,6 +8,7 @@ use Rattle.graph_read.specs.Incidence.{edges_at}
 use Rattle.cycle_popping.specs.Trees.{weights_at, weights_of_tree}
 use Rattle.graph_read.proofs.KnownEdges.{edges_known, edges_few}
 use Rattle.cycle_popping.proofs.HeadNumbers.{map_twice}
+use Rattle.cycle_popping.proofs.TreeRows.{rows_whole}
 
 -- how many slots a variable has
 abbrev pub slots_at : GraphOf → ℕ → ℕ → ℕ
@@ -37,3 +38,11 @@ pub slots_short : (g : GraphOf) (root n : ℕ) → IsGraph g
     → All (λ slots. slots < 2 ^ 31) (map (slots_at g root) (range_with_len 0 n))
 slots_short g root n is = All-map (λ slots. slots < 2 ^ 31) (slots_at g root) (range_with_len 0 n) (λ k d less.
     let few = edges_few g (vertex_of root (get_or (range_with_len 0 n) k d)) in omega (arith, few, is.edges_fit))
+
+-- ones for the slots of all variables are the weights of the tree
+pub ones_are : (g : GraphOf) (root v count : ℕ) (lengths : List ℕ) (ones : List (List ℕ))
+    → All (λ e. e.weight ≡ 1) g.edges → lengths ≡ map (slots_at g root) (range_with_len 0 v) → count ≡ g.vertices
+    → v ≤ count - 1 → count - 1 ≤ v → ones ≡ map (λ n. replicate n 1) lengths → ones ≡ weights_of_tree g root
+ones_are g root v count lengths ones weigh slots is low high made =
+    made ∙ ap (map (λ n. replicate n 1)) (rows_whole (slots_at g root) g.vertices v count lengths slots is low high)
+    ∙ ones_back g root weigh

@@ -1,10 +1,9 @@
-use Rattle.std.proofs.Common.{◌≡◌, ◌-◌, ◌<◌, ◌^◌, ℕ, All, length, map, replicate, sym, ap, subst, ◌∙◌, arith}
+use Rattle.std.proofs.Common.{◌≡◌, ◌-◌, ◌<◌, ◌^◌, ℕ, All, length, sym, ap, subst, ◌∙◌, arith}
 use Rattle.std.proofs.lemmas.List.FromFn.{length-map-range_with_len}
 use Rattle.graph_read.specs.Graphs.{IsVertex}
 use Rattle.graph_read.specs.Incidence.{edges_at}
-use Rattle.cycle_popping.specs.Trees.{weights_of_tree}
 use Rattle.cycle_popping.proofs.TreeRows.{vertex_of_is, tree_weights, rows_more, rows_whole}
-use Rattle.cycle_popping.proofs.OneWeights.{slots_at, ones_back, slots_short}
+use Rattle.cycle_popping.proofs.OneWeights.{slots_at, ones_are, slots_short}
 use Rattle.cycle_popping.proofs.weights.ones_of.Goals as goal
 
 pub degree-requires : goal.degree-requires
@@ -45,31 +44,25 @@ ones-requires-clause-short g c =
 pub of-requires-clause-some : goal.of-requires-clause-some
 of-requires-clause-some g c =
     let f = g.A.Adjacency.of_graph c.args.adjacency.now in
-    let slots = rows_whole (slots_at f c.args.root) f.vertices c.loop-v.v
-    c.vertices-count.result c.loop-v.lengths.items c.loop-v.invariant
-    c.vertices-count.ensures.count c.loop-v.auto.v-end c.loop-v-test.false in
-    let are : c.in_ok-ones.ones ≡ weights_of_tree f c.args.root = c.in_ok-ones.ensures
-    ∙ ap (map (λ n. replicate n 1)) slots ∙ ones_back f c.args.root c.requires.ones in
+    let are = ones_are f c.args.root c.loop-v.v c.vertices-count.result c.loop-v.lengths.items c.in_ok-ones.ones
+    c.requires.ones c.loop-v.invariant c.vertices-count.ensures.count c.loop-v.auto.v-end c.loop-v-test.false
+    c.in_ok-ones.ensures in
     subst (All (λ row. 0 < length row)) (sym are)
     (tree_weights f c.args.root c.vertices-count.ensures.graph c.requires.root c.requires.joined).some
 
 pub of-requires-clause-positive : goal.of-requires-clause-positive
 of-requires-clause-positive g c =
     let f = g.A.Adjacency.of_graph c.args.adjacency.now in
-    let slots = rows_whole (slots_at f c.args.root) f.vertices c.loop-v.v
-    c.vertices-count.result c.loop-v.lengths.items c.loop-v.invariant
-    c.vertices-count.ensures.count c.loop-v.auto.v-end c.loop-v-test.false in
-    let are : c.in_ok-ones.ones ≡ weights_of_tree f c.args.root = c.in_ok-ones.ensures
-    ∙ ap (map (λ n. replicate n 1)) slots ∙ ones_back f c.args.root c.requires.ones in
+    let are = ones_are f c.args.root c.loop-v.v c.vertices-count.result c.loop-v.lengths.items c.in_ok-ones.ones
+    c.requires.ones c.loop-v.invariant c.vertices-count.ensures.count c.loop-v.auto.v-end c.loop-v-test.false
+    c.in_ok-ones.ensures in
     subst (All (All (λ weight. 0 < weight))) (sym are)
     (tree_weights f c.args.root c.vertices-count.ensures.graph c.requires.root c.requires.joined).positive
 
 pub returns : goal.returns
 returns g c =
     let f = g.A.Adjacency.of_graph c.args.adjacency.now in
-    let slots = rows_whole (slots_at f c.args.root) f.vertices c.loop-v.v
-    c.vertices-count.result c.loop-v.lengths.items c.loop-v.invariant
-    c.vertices-count.ensures.count c.loop-v.auto.v-end c.loop-v-test.false in
-    let are : c.in_ok-ones.ones ≡ weights_of_tree f c.args.root = c.in_ok-ones.ensures
-    ∙ ap (map (λ n. replicate n 1)) slots ∙ ones_back f c.args.root c.requires.ones in
+    let are = ones_are f c.args.root c.loop-v.v c.vertices-count.result c.loop-v.lengths.items c.in_ok-ones.ones
+    c.requires.ones c.loop-v.invariant c.vertices-count.ensures.count c.loop-v.auto.v-end c.loop-v-test.false
+    c.in_ok-ones.ensures in
     c.of.ensures ∙ are
