@@ -30,7 +30,19 @@ pub const NONE: Refill = Refill {
     words: [0; 64],
 };
 
-// Reads four words more, to this place of a list of words.
+// Reads a word more, to this place of a list of words.
+#[inline(always)]
+fn read_word(rng: &mut ChaCha20Rng, words: &mut [u32; 64], at: usize)
+    requires room { at < 64 }
+    requires place { rng.old.word_pos + 1 < 2 ^ 68 }
+    requires read { AreRead rng.old at words.old }
+    ensures read { AreRead rng.new (at + 1) words.new }
+    ensures place { rng.new ≡ record rng.old { word_pos = rng.old.word_pos + 1 } }
+{
+    words[at] = rng.next_word();
+}
+
+// Reads four words more.
 #[inline(always)]
 fn read_four(rng: &mut ChaCha20Rng, words: &mut [u32; 64], at: usize)
     requires room { at + 4 ≤ 64 }
@@ -39,10 +51,10 @@ fn read_four(rng: &mut ChaCha20Rng, words: &mut [u32; 64], at: usize)
     ensures read { AreRead rng.new (at + 4) words.new }
     ensures place { rng.new ≡ record rng.old { word_pos = rng.old.word_pos + 4 } }
 {
-    words[at] = rng.next_word();
-    words[at + 1] = rng.next_word();
-    words[at + 2] = rng.next_word();
-    words[at + 3] = rng.next_word();
+    read_word(rng, words, at);
+    read_word(rng, words, at + 1);
+    read_word(rng, words, at + 2);
+    read_word(rng, words, at + 3);
 }
 
 // Reads sixteen words more, a block.

@@ -1,6 +1,6 @@
 -- The words that are read are those of four streams, so the values that are kept of a variable are of
 -- its own first block, and the entry that is drawn is one of them.
-use Rattle.std.proofs.Common.{◌≡◌, ◌-◌, ◌%◌, ◌^◌, ◌∙◌, sym, subst, arith, rules}
+use Rattle.std.proofs.Common.{◌≡◌, ◌-◌, ◌%◌, ◌^◌, ◌∙◌, refl, sym, subst, arith}
 use Rattle.pop_model.specs.Stacks.{stream_of}
 use Rattle.pop_stacks.specs.Words.{AreFirstWords}
 use Rattle.pop_stacks.specs.KeptValues.{KeepsValues, keeps}
@@ -10,7 +10,16 @@ use Rattle.pop_stacks.proofs.stacks.Stacks.begin.Goals as goal
 use Rattle.pop_stacks.proofs.stacks.Stacks.begin.Goals.{then-can_begin, else-can_begin}
 
 pub keep-requires : goal.keep-requires
-keep-requires c = (omega arith, (search rules, (search rules, (λ k i at. (block_entry k i at).1, omega arith))))
+keep-requires c = (
+  omega arith,
+  (
+    c.if-can_begin.ensures refl,
+    (
+      λ i within. omega (arith, (c.draw_many-values.ensures i within).1, c.slots-domain.ensures),
+      (λ k i at. (block_entry k i at).1, omega arith),
+    ),
+  ),
+)
 
 pub loop-u-preserved : goal.loop-u-preserved
 loop-u-preserved c =

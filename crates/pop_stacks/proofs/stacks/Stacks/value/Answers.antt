@@ -1,4 +1,4 @@
-use Rattle.std.proofs.Common.{◌/◌, ◌%◌, ◌+◌, ◌*◌, ◌∙◌, arith, rules, ap, subst}
+use Rattle.std.proofs.Common.{◌/◌, ◌%◌, ◌+◌, ◌*◌, ◌∙◌, arith, ap, refl, subst}
 use Rattle.rand_chacha.specs.ChaCha.{word_at}
 use Rattle.pop_stacks.specs.Words.{AreWordsOf}
 use Rattle.pop_stacks.specs.KeptValues.{AreValuesOf}
@@ -20,9 +20,9 @@ pub keep-requires : goal.keep-requires
 keep-requires c = (
   omega arith,
   (
-    search rules,
+    c.if-can_keep.ensures.0 refl,
     (
-      search rules,
+      λ i within. omega (arith, (c.draw_many-values.ensures i within).1, c.slots-domain.ensures),
       (λ k i at. (group_entry (c.args.k / 32) k i (omega arith) at).1, omega arith),
     ),
   ),
