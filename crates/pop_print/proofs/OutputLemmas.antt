@@ -1,7 +1,8 @@
 -- The lines of an end, one member after another.
-use Rattle.std.proofs.Common.{◌≡◌, ℕ, ◌+◌, ◌<◌, ◌≤◌, List, [], ◌∷◌, ◌++◌, length, take, get_or, slice_index, codes, sym, ap, ◌∙◌, arith, append_assoc, zero-add}
+use Rattle.std.proofs.Common.{◌≡◌, ℕ, ◌+◌, ◌<◌, ◌≤◌, List, [], ◌∷◌, ◌++◌, length, take, get_or, slice_index, codes, Result, OnOk, sym, ap, ◌∙◌, arith, append_assoc, zero-add}
 use Rattle.std.specs.List.{enumerate_from}
 use Rattle.std.proofs.lemmas.List.{take_all, get_or-map, length-map}
+use Rattle.std.proofs.lemmas.Result.{on_ok_weaker}
 use Rattle.std.proofs.lemmas.List.FromFn.{get_or-enumerate_from, length-enumerate_from}
 use Rattle.pop_model.specs.Families.{Event, Family}
 use Rattle.pop_model.specs.Popping.{values_at}
@@ -54,7 +55,7 @@ literal_more values v x before out new below value printed pushed =
     ∙ ap (λ l. codes "v" ++ l) (sym more))
 
 -- the whole line of an assignment
-pub assignment_whole : (values : List ℕ) (n : ℕ) (before out new : List ℕ) → length values ≤ n
+assignment_whole : (values : List ℕ) (n : ℕ) (before out new : List ℕ) → length values ≤ n
     → out ≡ before ++ (codes "v" ++ spaced (take n (literals_of values))) → new ≡ out ++ codes " 0\n"
     → new ≡ before ++ assignment_line values
 assignment_whole values n before out new all printed pushed =
@@ -64,6 +65,13 @@ assignment_whole values n before out new all printed pushed =
     pushed ∙ ap (λ l. l ++ codes " 0\n") (printed ∙ ap (λ l. before ++ (codes "v" ++ spaced l)) whole)
     ∙ append_assoc before text (codes " 0\n") ∙ ap (λ l. before ++ l)
     (sym (append_assoc text (codes " 0") (codes "\n")))
+
+-- it is told where there is the memory for it
+pub assignment_told : {X E : Type 0} (pushed : Result X E) (values : List ℕ) (n : ℕ) (before out new : List ℕ)
+    → length values ≤ n → out ≡ before ++ (codes "v" ++ spaced (take n (literals_of values)))
+    → OnOk pushed (new ≡ out ++ codes " 0\n") → OnOk pushed (new ≡ before ++ assignment_line values)
+assignment_told pushed values n before out new all printed =
+    on_ok_weaker pushed (assignment_whole values n before out new all printed)
 
 -- what is found where some event occurs
 pub found_some : (facts : Facts) (family : Family) (values : List ℕ) (stuck : List Event) (before out new : List ℕ)

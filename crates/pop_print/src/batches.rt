@@ -5,8 +5,9 @@ ghost use Rattle.pop_print.specs.Ends.{AreFactsOf};
 ghost use Rattle.pop_print.specs.Batches.{numbered_text, batch_text};
 
 use crate::Facts;
+use crate::full_end::FullEnd;
 use crate::line::push_line;
-use crate::printing::{push_full, room_for};
+use crate::printing::room_for;
 use confluence_core::End;
 use pop_batch::Ends;
 use pop_instance::Instance;
@@ -30,7 +31,12 @@ fn push_numbered(
     // Read for its contract, which says that the units, and so all names, fit their type.
     let _units = instance.units();
     push_line(out, b"sample ", u64::from(j))?;
-    push_full(alloc, out, facts, instance, end)
+    FullEnd {
+        facts,
+        instance,
+        end,
+    }
+    .push(alloc, out)
 }
 
 // About how many bytes the text of so many ends has, as that of one.

@@ -7,6 +7,7 @@ mod assignment;
 mod batches;
 mod counts;
 mod facts;
+mod full_end;
 pub mod laws;
 mod line;
 mod orientation;

@@ -1,13 +1,13 @@
 ghost use Rattle.std.specs.Prelude.{◌≡◌, ◌++◌, [], OnOk, IfOk};
 ghost use Rattle.pop_model.specs.Stacks.{variables_of};
-ghost use Rattle.pop_print.specs.Ends.{AreFactsOf, IsToldInFull, IsAtEnd, IsPrintable};
-ghost use Rattle.pop_print.specs.Output.{found_lines, used_line, pops_line, end_text};
+ghost use Rattle.pop_print.specs.Ends.{AreFactsOf, IsToldInFull, IsAtEnd};
+ghost use Rattle.pop_print.specs.Output.{end_text};
 
 use crate::Facts;
 use crate::counts::push_used;
+use crate::full_end::FullEnd;
 use crate::line::push_line;
 use crate::sample::push_sample;
-use crate::stuck::push_stuck;
 use crate::summary::push_summary;
 use confluence_core::End;
 use itoa::Buffer;
@@ -15,48 +15,6 @@ use pop_instance::Instance;
 use pop_text::Output;
 use std::alloc::{AllocError, Global};
 use std::snapshot::Snapshot;
-
-// What was found: the sample, or the events that occur.
-fn push_findings(
-    alloc: Global,
-    out: &mut Output,
-    facts: &Facts,
-    instance: &Instance,
-    end: &End,
-) -> Result<(), AllocError>
-    requires facts { AreFactsOf facts.now instance.now }
-    requires end { IsPrintable instance.now end.now.cursors end.now.stuck end.now.values }
-    ensures { OnOk result (out.new ≡ out.old
-        ++ found_lines facts.now instance.now.family end.now.values end.now.stuck) }
-{
-    if end.stuck.len() == 0 {
-        out.push(b"s SAMPLE\n")?;
-        push_sample(alloc, out, facts, Snapshot::of(instance), end)
-    } else {
-        out.push(b"s EXHAUSTED\n")?;
-        push_stuck(out, facts, instance.family(), &end.stuck)
-    }
-}
-
-/// The text of an end in full: what was found, the cursors, the number of pops. The entries of the
-/// instance don't matter, since the end has the values.
-pub(crate) fn push_full(
-    alloc: Global,
-    out: &mut Output,
-    facts: &Facts,
-    instance: &Instance,
-    end: &End,
-) -> Result<(), AllocError>
-    requires facts { AreFactsOf facts.now instance.now }
-    requires end { IsPrintable instance.now end.now.cursors end.now.stuck end.now.values }
-    ensures { OnOk result (out.new ≡ out.old
-        ++ (found_lines facts.now instance.now.family end.now.values end.now.stuck
-        ++ used_line end.now.cursors ++ pops_line end.now.pops)) }
-{
-    push_findings(alloc, out, facts, instance, end)?;
-    push_used(out, &end.cursors, instance.stacks().count())?;
-    push_line(out, b"pops ", end.pops)
-}
 
 // The text of an end: of a made grid the summary, and else in full.
 fn push_text(
@@ -76,7 +34,12 @@ fn push_text(
     match facts {
         Facts::Made(side) => push_summary(out, *side, instance, end),
         Facts::Formula(_) | Facts::Orient(_) | Facts::Tree(_, _) => {
-            push_full(alloc, out, facts, instance, end)
+            FullEnd {
+                facts,
+                instance,
+                end,
+            }
+            .push(alloc, out)
         }
     }
 }

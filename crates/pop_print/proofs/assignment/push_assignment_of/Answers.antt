@@ -1,6 +1,5 @@
 use Rattle.std.proofs.Common.{refl, slice_index, arith}
-use Rattle.std.proofs.lemmas.Result.{on_ok_weaker}
-use Rattle.pop_print.proofs.OutputLemmas.{literal_more, assignment_whole}
+use Rattle.pop_print.proofs.OutputLemmas.{literal_more, assignment_told}
 use Rattle.pop_print.proofs.assignment.push_assignment_of.Goals as goal
 
 pub loop-v-preserved : goal.loop-v-preserved
@@ -11,7 +10,5 @@ loop-v-preserved c =
 
 pub returns : goal.returns
 returns c =
-    on_ok_weaker c.push-2.result
-    (assignment_whole c.args.values.now c.loop-v.v c.args.out.now c.loop-v.out c.push-2.new.self
-    (omega arith) c.loop-v.invariant)
-    c.push-2.ensures
+    assignment_told c.push-2.result c.args.values.now c.loop-v.v c.args.out.now c.loop-v.out c.push-2.new.self
+    (omega arith) c.loop-v.invariant c.push-2.ensures
