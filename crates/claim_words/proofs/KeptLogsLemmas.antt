@@ -2,6 +2,7 @@
 use Rattle.std.proofs.Common.{◌≡◌, ℕ, zero, suc, ◌+◌, ◌<◌, ◌≤◌, List, [], ◌∷◌, ◌++◌, length, take, drop, get_or, refl, sym, ap, ap₂, ◌∙◌, arith}
 use Rattle.std.proofs.lemmas.List.{nil_from_length}
 use Rattle.pop_model.specs.Logs.{LogRecord}
+use Rattle.claim_words.specs.Machine.{Use}
 use Rattle.claim_words.specs.KeptLogs.{Head, record_of, many_uses, tickets_of}
 use Rattle.claim_words.proofs.Totals.{total-append}
 
@@ -145,3 +146,29 @@ loose-both hs gs us vs h g none empty =
     let fits : many_uses (hs ++ gs) ≤ length (us ++ vs) = omega arith in
     let d = length-drop (many_uses (hs ++ gs)) (us ++ vs) fits in
     (fits, omega arith)
+
+-- Two lists of heads end to end, and two of uses, where no use was loose.
+module _ (hs gs : List Head) (us vs : List Use) (heads old_heads : List Head) (uses old_uses : List Use)
+    (kept_heads : old_heads ≡ hs) (put_heads : heads ≡ old_heads ++ gs) (kept_uses : old_uses ≡ us)
+    (put_uses : uses ≡ old_uses ++ vs) (h : many_uses hs ≤ length us) (none : length (drop (many_uses hs) us) ≡ 0)
+  where
+    -- the heads are both
+    heads_are : heads ≡ hs ++ gs
+    heads_are = put_heads ∙ ap (λ (l : List Head). l ++ gs) kept_heads
+
+    -- so are the uses
+    uses_are : uses ≡ us ++ vs
+    uses_are = put_uses ∙ ap (λ (l : List Use). l ++ vs) kept_uses
+
+    -- the tickets are both
+    pub tickets-joined : tickets_of heads uses ≡ tickets_of hs us ++ tickets_of gs vs
+    tickets-joined = ap₂ tickets_of heads_are uses_are ∙ tickets-both hs gs us vs h none
+
+    -- the heads have no more than all uses, and none is loose
+    pub loose-joined : many_uses gs ≤ length vs → length (drop (many_uses gs) vs) ≡ 0
+        → (many_uses heads ≤ length uses) × (length (drop (many_uses heads) uses) ≡ 0)
+    loose-joined g empty =
+        let both = loose-both hs gs us vs h g none empty in (
+          omega (arith, both.0, ap many_uses heads_are, ap length uses_are),
+          ap₂ (λ (hs : List Head) (us : List Use). length (drop (many_uses hs) us)) heads_are uses_are ∙ both.1,
+        )

@@ -1,6 +1,7 @@
 pub mod Bits
 pub mod Totals
 pub mod HeldLemmas
+pub mod PassHolds
 pub mod SumsBelow
 pub mod Memberships
 pub mod Histories

@@ -4,24 +4,50 @@ use mathlib.Core.Logic.{dite}
 use native.Mathlib.Decide.{ℕ_discrete}
 use mathlib.Core.Option.{some, some-injective}
 use lib.ListN.{get_elem?}
-use lib.Seq.{set-get_or}
 use Rattle.atomic_table.specs.Table.{State, Me, keeps, Allows, Splits, Joins}
-use Rattle.atomic_table.proofs.Lists.{at_set, set_else, set_again, at_longer, at_snoc}
+use Rattle.atomic_table.proofs.Lists.{at_set, set_else, at_longer, at_snoc}
 use Rattle.claim_words.specs.declared.view.View.{View}
 use Rattle.claim_words.specs.declared.opening.Opening.{Opening}
+use Rattle.claim_words.specs.Words.{claimed_bit, settled_bit}
+use Rattle.claim_words.specs.Openings.{count}
 use Rattle.claim_words.specs.Maps.{total, is_at, In, times}
 use Rattle.claim_words.specs.Steps.{Drawn, spent, cut_left, cut_right, united}
-use Rattle.claim_words.specs.Machine.{IsFoundAt, IsSettledAt, Agrees, Member, Tracks, Sound}
+use Rattle.claim_words.specs.Machine.{word, IsFoundAt, IsSettledAt, Agrees, Member, History, Tracks, Marked, Sound}
 use Rattle.claim_words.proofs.Memberships.{none_in, in_append}
 use Rattle.claim_words.proofs.Histories.{same_history, same_marks, tracks_set, member_set}
 use Rattle.claim_words.proofs.Totals.{total-append, total-set, each-append, term_le}
-use Rattle.claim_words.proofs.WordMoves.{share_kept}
+use Rattle.claim_words.proofs.WordMoves.{share_kept, loaded}
 
 module _ {S : Type 0} (k : Opening) (s : State S View) (o : Sound k s) (id : ℕ) (d : View)
     (me : get_elem? s.views id ≡ some d) (live : d.opening ≡ Some k) where
   -- the state once the views are these
   abbrev after : List View → State S View
   after vs = record { words = s.words; homes = s.homes; views = vs }
+
+  -- the rule holds with other views, where what it says of them does
+  with_views : (vs : List View) → total (λ (x : View). x.share) vs ≡ 64
+      → ((v : ℕ) → v < count k
+      → total (λ (x : View). times v x.held) vs + settled_bit (word k s.words v) ≡ claimed_bit (word k s.words v))
+      → ((j : ℕ) (x : View) → get_elem? vs j ≡ some x → Agrees k s.words x) → History k (after vs)
+      → ((v : ℕ) → v < count k
+      → settled_bit (word k s.words v) ≤ total (λ (x : View). times v x.settled) vs)
+      → Marked k (after vs) → Sound k (after vs)
+  with_views vs shares held_once agree history known marked = record {
+    wide = o.wide;
+    formed = o.formed;
+    heights = o.heights;
+    narrow = o.narrow;
+    shares = shares;
+    held_once = held_once;
+    agree = agree;
+    history = history;
+    leads = o.leads;
+    known = known;
+    unsettled = o.unsettled;
+    marked = marked;
+    counted = o.counted;
+    fits = o.fits;
+  }
 
   -- the views after a split
   abbrev cut : ℕ → List View
@@ -77,29 +103,17 @@ module _ {S : Type 0} (k : Opening) (s : State S View) (o : Sound k s) (id : ℕ
   split part low high =
       let l : View = cut_left d part in let r : View = cut_right d part in
       let sums = cut_sums part in
-      record {
-        wide = o.wide;
-        formed = o.formed;
-        heights = o.heights;
-        narrow = o.narrow;
-        leads = o.leads;
-        counted = o.counted;
-        fits = o.fits;
-        unsettled = o.unsettled;
-        marked = same_marks k s (after (cut part)) o.marked (λ u h. refl)
-            (λ u h. omega (arith, sums (λ (x : View). times u x.due)))
-            (λ u q. let z = tracks_set k s s.words id d l me refl refl u q in
-            (z.0, z.1, at_longer (set s.views id l) (r ∷ []) z.0 z.1 z.2, z.3))
-            (λ g. omega (arith, sums (λ (x : View). total g x.changes)));
-        known = λ u h. omega (arith, sums (λ (x : View). times u x.settled), o.known u h);
-        shares = omega (arith, sums (λ (x : View). x.share), o.shares);
-        held_once = λ u h. omega (arith, sums (λ (x : View). times u x.held), o.held_once u h);
-        agree = cut_agrees part low high;
-        history = same_history k s (after (cut part)) o.history refl
-            (λ u h. omega (arith, sums (λ (x : View). times u x.due)))
-            (λ g. omega (arith, sums (λ (x : View). total g x.mine)))
-            (cut_member part);
-      }
+      with_views (cut part) (omega (arith, sums (λ (x : View). x.share), o.shares))
+      (λ u h. omega (arith, sums (λ (x : View). times u x.held), o.held_once u h)) (cut_agrees part low high)
+      (same_history k s (after (cut part)) o.history refl
+      (λ u h. omega (arith, sums (λ (x : View). times u x.due)))
+      (λ g. omega (arith, sums (λ (x : View). total g x.mine))) (cut_member part))
+      (λ u h. omega (arith, sums (λ (x : View). times u x.settled), o.known u h))
+      (same_marks k s (after (cut part)) o.marked (λ u h. refl)
+      (λ u h. omega (arith, sums (λ (x : View). times u x.due)))
+      (λ u q. let z = tracks_set k s s.words id d l me refl refl u q in
+      (z.0, z.1, at_longer (set s.views id l) (r ∷ []) z.0 z.1 z.2, z.3))
+      (λ g. omega (arith, sums (λ (x : View). total g x.changes))))
 
   module _ (other : ℕ) (e : View) (idle : e.held ≡ []) (free : (e.taken ≡ []) × (e.owed ≡ [])) (apart : other ≢ id)
       (them : get_elem? (set s.views id (united d e)) other ≡ some e) where
@@ -176,31 +190,20 @@ module _ {S : Type 0} (k : Opening) (s : State S View) (o : Sound k s) (id : ℕ
     joined : Sound k (after joined_views)
     joined =
         let b = o.agree other e there in
-        record {
-          wide = o.wide;
-          formed = o.formed;
-          heights = o.heights;
-          narrow = o.narrow;
-          leads = o.leads;
-          counted = o.counted;
-          fits = o.fits;
-          unsettled = o.unsettled;
-          marked = same_marks k s (after joined_views) o.marked (λ u h. refl)
-              (λ u h. omega (arith, join_sums (λ x. times u x.due), b.due u, ap (times u) idle)) join_tracks
-              (λ g. omega (arith, join_sums (λ x. total g x.changes), total-append g d.changes e.changes));
-          known = λ u h. omega (
-            arith,
-            join_sums (λ x. times u x.settled),
-            total-append (is_at u) d.settled e.settled,
-            o.known u h,
-          );
-          shares = omega (arith, join_sums (λ x. x.share), o.shares);
-          held_once = λ u h. omega (arith, join_sums (λ x. times u x.held), o.held_once u h, ap (times u) idle);
-          agree = join_agrees;
-          history = same_history k s (after joined_views) o.history refl
-              (λ u h. omega (arith, join_sums (λ x. times u x.due), b.due u, ap (times u) idle))
-              (λ g. omega (arith, join_sums (λ x. total g x.mine), total-append g d.mine e.mine)) join_member;
-        }
+        with_views joined_views (omega (arith, join_sums (λ x. x.share), o.shares))
+        (λ u h. omega (arith, join_sums (λ x. times u x.held), o.held_once u h, ap (times u) idle)) join_agrees
+        (same_history k s (after joined_views) o.history refl
+        (λ u h. omega (arith, join_sums (λ x. times u x.due), b.due u, ap (times u) idle))
+        (λ g. omega (arith, join_sums (λ x. total g x.mine), total-append g d.mine e.mine)) join_member)
+        (λ u h. omega (
+          arith,
+          join_sums (λ x. times u x.settled),
+          total-append (is_at u) d.settled e.settled,
+          o.known u h,
+        ))
+        (same_marks k s (after joined_views) o.marked (λ u h. refl)
+        (λ u h. omega (arith, join_sums (λ x. times u x.due), b.due u, ap (times u) idle)) join_tracks
+        (λ g. omega (arith, join_sums (λ x. total g x.changes), total-append g d.changes e.changes)))
 
 -- a pass may give away a part of its share
 pub splits : {S : Type 0} (k : Opening) (id : ℕ) (d : View) (part : ℕ) → d.opening ≡ Some k → 1 ≤ part
@@ -221,9 +224,6 @@ refutes k slots id m i s o _ me small =
       m.0,
       keeps,
       tt,
-      subst (λ (ws : List ℕ). Sound k (record { words = ws; homes = s.homes; views = set s.views id m.0 }))
-          (sym (set-get_or s.words i 0))
-          (subst (λ (vs : List View). Sound k (record { words = s.words; homes = s.homes; views = vs }))
-          (sym (set_again s.views id m.0 me)) o),
+      loaded k s o id i m.0 me,
       (refl, omega (arith, o.shares)),
     )

@@ -1,13 +1,12 @@
 -- A load tells that a board started from a cursor for each variable.
-use Rattle.std.proofs.Common.{◌≡◌, ℕ, List, Option, Some, None, set, sym, refl, ap, ◌∙◌, subst, length}
-use lib.Seq.{set-get_or}
+use Rattle.std.proofs.Common.{◌≡◌, ℕ, Option, Some, None, sym, refl, ap, ◌∙◌, subst, length}
 use Rattle.atomic_table.specs.Table.{Me, keeps, Allows}
-use Rattle.atomic_table.proofs.Lists.{set_again}
 use Rattle.claim_words.specs.declared.view.View.{View}
 use Rattle.claim_words.specs.declared.opening.Opening.{Opening}
 use Rattle.claim_words.specs.Openings.{count}
 use Rattle.claim_words.specs.Machine.{Sound}
 use Rattle.claim_words.specs.Starts.{IsCounted}
+use Rattle.claim_words.proofs.WordMoves.{loaded}
 
 -- what is there, or else k
 abbrev opening_or : Opening → Option Opening → Opening
@@ -27,9 +26,6 @@ tells_start k slots id m i live s o _ me small = (
   m.0,
   keeps,
   tt,
-  subst (λ (ws : List ℕ). Sound k (record { words = ws; homes = s.homes; views = set s.views id m.0 }))
-      (sym (set-get_or s.words i 0))
-      (subst (λ (vs : List View). Sound k (record { words = s.words; homes = s.homes; views = vs }))
-      (sym (set_again s.views id m.0 me)) o),
+  loaded k s o id i m.0 me,
   (refl, counted_there k m.0.opening live o.counted),
 )

@@ -6,8 +6,9 @@
 use Rattle.std.proofs.Common.{◌≡◌, ℕ, ◌+◌, ◌<◌, ◌≤◌, ◌≢◌, ◌⊎◌, List, get_or, set, sym, refl, ap, ◌∙◌, subst, inl, inr, ⊎_elim, arith, length-set, get_or-set_other, Some, None, length}
 use mathlib.Core.Option.{some}
 use lib.ListN.{get_elem?}
+use lib.Seq.{set-get_or}
 use Rattle.atomic_table.specs.Table.{State}
-use Rattle.atomic_table.proofs.Lists.{at_set, set_here}
+use Rattle.atomic_table.proofs.Lists.{at_set, set_here, set_again}
 use Rattle.std.proofs.lemmas.Option.{none-some}
 use Rattle.claim_words.specs.declared.view.View.{View}
 use Rattle.claim_words.specs.declared.opening.Opening.{Opening}
@@ -72,6 +73,15 @@ agree_moves k ws v n d within grows quiet keep a =
     }
 
 module _ {S : Type 0} (k : Opening) (s : State S View) (o : Sound k s) where
+  -- a load writes what stands there
+  pub loaded : (id i : ℕ) (d : View) → get_elem? s.views id ≡ some d
+      → Sound k (record { words = set s.words i (get_or s.words i 0); homes = s.homes; views = set s.views id d })
+  loaded id i d me =
+      subst (λ (ws : List ℕ). Sound k (record { words = ws; homes = s.homes; views = set s.views id d }))
+      (sym (set-get_or s.words i 0))
+      (subst (λ (vs : List View). Sound k (record { words = s.words; homes = s.homes; views = vs }))
+      (sym (set_again s.views id d me)) o)
+
   -- the word of a variable is one of the board's
   pub within : (v : ℕ) → v < count k → 1 + v < length s.words
   within v h = omega (arith, o.wide)

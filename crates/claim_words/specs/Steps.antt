@@ -20,23 +20,6 @@ abbrev pub record_held : ℕ → Cube → Pairs → LogRecord
 record_held u cube held =
     record { event = record { unit = u; cube = cube }; entries = map (λ p. look p.0 held) cube }
 
--- the view of the first pass
-abbrev pub fresh : Opening → View
-fresh k = record {
-  opening = Some k;
-  share = 64;
-  moves = 0;
-  held = [];
-  found = [];
-  seen = [];
-  settled = [];
-  taken = [];
-  owed = [];
-  changes = [];
-  due = [];
-  mine = [];
-}
-
 -- the view of a pass that has ended
 abbrev pub spent : View
 spent = record {
@@ -53,6 +36,10 @@ spent = record {
   due = [];
   mine = [];
 }
+
+-- the view of the first pass
+abbrev pub fresh : Opening → View
+fresh k = record spent { opening = Some k; share = 64 }
 
 -- a claim that found the word free, or else maybe settled
 abbrev pub claim_with : Bool → Bool → View → ℕ → ℕ → View
@@ -140,18 +127,13 @@ cleared_by d u = record d { taken = taken_out u d.taken }
 abbrev pub cut_left : View → ℕ → View
 cut_left d part = record d { share = d.share - part; moves = d.moves + 1 }
 
--- what a split gives away
+-- what a split gives away: the new pass knows what was found, and what is settled
 abbrev pub cut_right : View → ℕ → View
-cut_right d part = record d {
+cut_right d part = record spent {
+  opening = d.opening;
   share = part;
-  moves = 0;
-  held = [];
-  seen = [];
-  taken = [];
-  owed = [];
-  changes = [];
-  due = [];
-  mine = [];
+  found = d.found;
+  settled = d.settled;
 }
 
 -- two passes are one

@@ -65,7 +65,10 @@ impl<'i> Board<'i> {
         let marks = marks_in(instance);
         let words = opening_words(alloc, from, count, marks)?;
         let opening = Opening::of(instance, from);
-        let (table, seat) = Table::of_words(alloc, &words, &opening)?;
+        let made = Table::of_words(alloc, &words, &opening);
+        drop(words);
+        drop(opening);
+        let (table, seat) = made?;
         let board = Board {
             instance,
             table,
@@ -117,12 +120,12 @@ fn opening_words(
     ensures { IfOk result (λ words. words.items ≡ (0 ∷ from.now) ++ replicate marks 1) }
 {
     let mut words = Vec::with_capacity(alloc, 1 + count as usize + marks as usize)?;
-    words.push(0)?;
+    words.push_reserved(0);
     for v in 0..count {
-        words.push(from.get(v) as u64)?;
+        words.push_reserved(from.get(v) as u64);
     }
     for unit in 0..marks {
-        words.push(MARKED)?;
+        words.push_reserved(MARKED);
     }
     Ok(words)
 }

@@ -56,10 +56,12 @@ impl<'i> Board<'i> {
         } = self;
         let Pass {
             seat,
-            held: _,
+            held,
             share: _,
-            log: _,
+            log,
         } = pass;
+        drop(held);
+        drop(log);
         let Room {
             cursors,
             unset,

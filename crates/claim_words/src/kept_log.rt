@@ -123,6 +123,8 @@ impl KeptLog {
         } = other;
         move_all(&mut self.heads, &mut heads);
         move_all(&mut self.uses, &mut uses);
+        drop(heads);
+        drop(uses);
         Ok(())
     }
 
@@ -131,17 +133,28 @@ impl KeptLog {
         ensures { IfOk result (λ tickets. tickets ≡ self.now.tickets) }
     {
         let mut tickets = Tickets::new(alloc);
+        if let Err(failed) = self.put_tickets(&mut tickets, alloc) {
+            drop(tickets);
+            return Err(failed);
+        }
+        Ok(tickets)
+    }
+
+    // Puts them into an empty list.
+    fn put_tickets(&self, tickets: &mut Tickets, alloc: Global) -> Result<(), AllocError>
+        requires { tickets.old ≡ [] }
+        ensures { IfOk result (λ _. tickets.new ≡ self.now.tickets) }
+    {
         let mut at = 0;
         for head in &self.heads {
             let end = at + head.2 as usize;
-            let popped = made_record(alloc, head.1, &self.uses[at..end])?;
             tickets.push(Ticketed {
                 ticket: head.0,
-                popped,
+                popped: made_record(alloc, head.1, &self.uses[at..end])?,
             })?;
             at = end;
         }
-        Ok(tickets)
+        Ok(())
     }
 }
 
@@ -151,12 +164,15 @@ fn made_record(alloc: Global, unit: u32, uses: &[(u32, u32, u32)]) -> Result<Rec
     requires short { length uses.now < 2 ^ 31 }
     ensures { IfOk result (λ popped. popped ≡ record_of unit uses.now) }
 {
-    let pairs = pairs_of(alloc, uses)?;
     let entries = entries_of(alloc, uses)?;
-    let Some(cube) = Cube::new(pairs) else {
-        unreachable!()
+    let pairs = match pairs_of(alloc, uses) {
+        Ok(pairs) => pairs,
+        Err(failed) => {
+            drop(entries);
+            return Err(failed);
+        }
     };
-    Ok(Record::new(unit, cube, entries))
+    Ok(Record::new(unit, Cube::of(pairs), entries))
 }
 
 // Their pairs of variable and value.

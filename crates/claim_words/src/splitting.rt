@@ -1,11 +1,12 @@
 //! Passes that are split and joined again.
-ghost use Rattle.std.specs.Prelude.{◌≡◌, ◌<◌, ◌≤◌, false, IsOk, OnOk, IfErr};
+ghost use Rattle.std.specs.Prelude.{◌≡◌, ◌<◌, ◌≤◌, length, false, IsOk, OnOk, IfErr};
 ghost use Rattle.confluence_core.specs.Kept.{keeps_log};
 ghost use Rattle.claim_words.specs.Steps.{cut_left, cut_right, united};
 
 use crate::logging::{first_log, unite};
 use crate::plays::{Cut, Portion, ShareStep, Unite};
-use crate::{Board, Pass};
+use crate::{Board, Pass, View};
+use atomic_table::Seat;
 use std::alloc::AllocError;
 use std::marker::Brand;
 
@@ -13,6 +14,7 @@ impl<'i> Board<'i> {
     ghost use Rattle.claim_words.specs.Passes.{
       IsOf,
       IsIdle,
+      IsSeat,
       SameRoom,
       view,
       spare,
@@ -32,21 +34,7 @@ impl<'i> Board<'i> {
         ensures room { SameRoom pass.old pass.new }
         ensures made_room { (spare result ≡ 0) × (log_spare result ≡ 0) }
     {
-        self.cut::<Brand>(pass, share)
-    }
-
-    // Splits a pass, where the share was picked.
-    fn cut<W: Portion>(&self, pass: &mut Pass, share: u32) -> Pass
-        requires pass { IsOf self.now pass.old }
-        requires share { (1 ≤ share) × (share < (view pass.old).share) × (share ≡ W.part) }
-        ensures pass { IsOf self.now pass.new }
-        ensures made { IsOf self.now result }
-        ensures step { view pass.new ≡ cut_left (view pass.old) share }
-        ensures made_step { view result ≡ cut_right (view pass.old) share }
-        ensures room { SameRoom pass.old pass.new }
-        ensures made_room { (spare result ≡ 0) × (log_spare result ≡ 0) }
-    {
-        let seat = self.table.shared.split_seat::<Cut<W>>(&mut pass.seat);
+        let seat = self.cut::<Brand>(&mut pass.seat, share);
         pass.share -= share;
         Pass {
             seat,
@@ -54,6 +42,18 @@ impl<'i> Board<'i> {
             share,
             log: first_log(self.alloc, self.keep),
         }
+    }
+
+    // Splits a seat, where the share was picked.
+    fn cut<W: Portion>(&self, seat: &mut Seat<(), View>, share: u32) -> Seat<(), View>
+        requires seat { IsSeat self.now seat.old }
+        requires share { (1 ≤ share) × (share < seat.old.me.0.share) × (share ≡ W.part) }
+        ensures seat { IsSeat self.now seat.new × (seat.new.me.1 ≡ seat.old.me.1) }
+        ensures view { seat.new.me.0 ≡ cut_left seat.old.me.0 share }
+        ensures made { IsSeat self.now result × (length result.me.1 ≡ 0) }
+        ensures made_view { result.me.0 ≡ cut_right seat.old.me.0 share }
+    {
+        self.table.shared.split_seat::<Cut<W>>(seat)
     }
 
     /// Takes in another pass of this board, which is idle and ends. Memory is taken only where a
@@ -84,6 +84,7 @@ impl<'i> Board<'i> {
             };
             return Err((other, failed));
         }
+        drop(held);
         let both = pass.share + share;
         self.table.shared.join_seat::<Unite>(&mut pass.seat, seat);
         // No run comes here, since the shares of all passes sum to 64.

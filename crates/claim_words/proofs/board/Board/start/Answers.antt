@@ -5,8 +5,8 @@ use Rattle.claim_words.specs.Openings.{marks, marks_in}
 use Rattle.claim_words.proofs.StartMeetsRule.{opens, starts}
 use Rattle.claim_words.proofs.board.Board.start.Goals as goal
 
-pub of_words-requires : goal.of_words-requires
-of_words-requires c =
+pub of_words-made-requires : goal.of_words-made-requires
+of_words-made-requires c =
     let k = c.of-opening.result in
     let i = c.args.instance.now in
     let from = c.args.from.now in

@@ -3,7 +3,7 @@ use Rattle.pop_model.specs.Popping.{IsCube}
 use Rattle.claim_words.specs.Maps.{Each}
 use Rattle.claim_words.specs.KeptLogs.{Head, IsWhole}
 use Rattle.claim_words.proofs.KeptLogsLemmas.{Left, left-turn}
-use Rattle.claim_words.proofs.kept_log.KeptLog.tickets.Goals as goal
+use Rattle.claim_words.proofs.kept_log.KeptLog.put_tickets.Goals as goal
 
 pub made_record-requires-clause-cube : goal.made_record-requires-clause-cube
 made_record-requires-clause-cube c =

@@ -2,7 +2,7 @@ use Rattle.std.proofs.Common.{◌≡◌, ◌+◌, ◌≤◌, ◌++◌, length, d
 use Rattle.claim_words.specs.Maps.{Each}
 use Rattle.claim_words.specs.KeptLogs.{IsWhole, tickets_of, many_uses}
 use Rattle.claim_words.proofs.KeptLogsLemmas.{Left}
-use Rattle.claim_words.proofs.kept_log.KeptLog.tickets.Given as goal
+use Rattle.claim_words.proofs.kept_log.KeptLog.put_tickets.Given as goal
 
 -- those made so far, and those that are left
 abbrev pub invariant-loop-head : goal.invariant-loop-head
