@@ -1,20 +1,19 @@
 -- The least variable at its last entry, among the first variables of a cube. As the variables rise, the first that is
 -- found stays the least.
-use Rattle.std.proofs.Common.{◌≡◌, ◌⊎◌, ℕ, ◌+◌, ◌<◌, ◌^◌, true, [], ◌∷◌, ◌++◌, take, slice_get, Some, None, Option, MatchOption, sym, ap, ◌∙◌, subst, inl, inr, ⊎_elim, arith}
+use Rattle.std.proofs.Common.{◌≡◌, ◌⊎◌, ℕ, ◌+◌, ◌<◌, ◌^◌, true, [], ◌∷◌, ◌++◌, take, Some, None, Option, MatchOption, sym, ap, ◌∙◌, subst, inl, inr, ⊎_elim, arith}
 use Rattle.std.specs.Option.{option_or}
 use Rattle.pop_model.specs.Stacks.{height_of}
-use Rattle.pop_model.specs.Popping.{Cube, IsCube, names}
+use Rattle.pop_model.specs.Popping.{Cube, names}
 use Rattle.pop_model.specs.Instances.{Instance}
 use Rattle.pop_model.specs.Places.{IsLeast}
 use Rattle.claim_words.specs.declared.view.View.{View}
 use Rattle.claim_words.specs.Words.{cursor_in}
 use Rattle.claim_words.specs.Maps.{Each}
-use Rattle.claim_words.specs.Steps.{claimed_by}
 use Rattle.claim_words.proofs.Totals.{each-map, each-append, each-both}
 use Rattle.claim_words.proofs.Memberships.{each_in_list}
-use Rattle.event_finders.specs.UnitLooks.{found_at, ClaimsFirst, HasValue, HasMore, IsAtLast}
+use Rattle.event_finders.specs.UnitLooks.{found_at, HasValue, HasMore, IsAtLast}
 use Rattle.event_finders.proofs.CubePrefixes.{take_push, before_place, named_in, names_front, names_last, names_back}
-use Rattle.event_finders.proofs.UnitClaimsGrow.{found_here, found_other, other_held, still_more}
+use Rattle.event_finders.proofs.UnitClaimsGrow.{NextClaim, found_here, found_other, other_held, still_more}
 
 -- the least variable of the cube at its last entry, with its cursor; none where each has an entry behind
 abbrev pub LastSo : Instance → View → Cube → Option (ℕ × ℕ) → Type 0
@@ -33,8 +32,7 @@ more_not_last i e l v more last =
     let here : HasMore i e (v, t.0) = each_in_list (HasMore i e) l more (v, t.0) t.1 in
     omega (arith, here, last.1)
 
-module _ (i : Instance) (d m e : View) (cube : Cube) (is : IsCube cube) (n : ℕ) (p : ℕ × ℕ)
-    (at : slice_get cube n ≡ Some p) (first : ClaimsFirst d m cube n n) (w : ℕ) (to : e ≡ claimed_by m p.0 w)
+module _ {d m e : View} {cube : Cube} {n : ℕ} {p : ℕ × ℕ} {w : ℕ} (s : NextClaim d m e cube n p w) (i : Instance)
     (free : w < 2 ^ 63) (values : Each (HasValue i d m) (take n cube)) where
   -- the first pairs
   abbrev front : Cube
@@ -42,15 +40,15 @@ module _ (i : Instance) (d m e : View) (cube : Cube) (is : IsCube cube) (n : ℕ
 
   -- the cursor of the next variable
   here : found_at e p.0 ≡ cursor_in w
-  here = found_here d m e cube is n p at first w to free
+  here = found_here s free
 
   -- a variable of the first pairs keeps the cursor that was found
   same_front : (v : ℕ) → names front v ≡ true → found_at e v ≡ found_at m v
   same_front v named =
       let t = named_in front v named in
       let has : HasValue i d m (v, t.0) = each_in_list (HasValue i d m) front values (v, t.0) t.1 in
-      found_other d m e cube is n p at first w to free v
-      (other_held d m e cube is n p at first w to free v has.0.once)
+      found_other s free v
+      (other_held s free v has.0.once)
 
   -- a variable at its last entry is the next, or was so before
   last_back : (v : ℕ) → IsAtLast i e (front ++ p ∷ []) v → IsAtLast i m front v ⊎ (p.0 ≡ v)
@@ -61,7 +59,7 @@ module _ (i : Instance) (d m e : View) (cube : Cube) (is : IsCube cube) (n : ℕ
   -- the entries behind those before
   more_front : Each (HasMore i m) front → Each (HasMore i e) front
   more_front more = each-map (λ q. HasValue i d m q × HasMore i m q) (HasMore i e)
-      (still_more d m e cube is n p at first w to free i) front
+      (still_more s free i) front
       (each-both (HasValue i d m) (HasMore i m) front values more)
 
   -- what is known of the first pairs and one more
@@ -82,7 +80,7 @@ module _ (i : Instance) (d m e : View) (cube : Cube) (is : IsCube cube) (n : ℕ
   last_push (Some r) new so other =
       let named : names front r.0 ≡ true = so.0.holds.0 in
       let t = named_in front r.0 named in
-      let below : r.0 < p.0 = before_place cube n p (r.0, t.0) is.rising at t.1 in
+      let below : r.0 < p.0 = before_place cube n p (r.0, t.0) s.is.rising s.at t.1 in
       let found : found_at e r.0 ≡ found_at m r.0 = same_front r.0 named in
       let least : IsLeast (IsAtLast i e (front ++ p ∷ [])) r.0 = record {
         holds = (names_front front p r.0 named, omega (arith, found, so.0.holds.1));
@@ -95,4 +93,4 @@ module _ (i : Instance) (d m e : View) (cube : Cube) (is : IsCube cube) (n : ℕ
   pub last_next : (old new : Option (ℕ × ℕ)) → LastSo i m (take n cube) old → LastHere i p.0 (cursor_in w) new
       → LastSo i e (take (n + 1) cube) (option_or old new)
   last_next old new so here =
-      subst (λ (l : Cube). LastSo i e l (option_or old new)) (sym (take_push cube n p at)) (last_push old new so here)
+      subst (λ (l : Cube). LastSo i e l (option_or old new)) (sym (take_push cube n p s.at)) (last_push old new so here)

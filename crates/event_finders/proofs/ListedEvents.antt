@@ -44,3 +44,10 @@ listed_event i rows u is family known =
       event = event;
       below = event_below i (record { unit = u; cube = cube_at rows u }) is.fits event;
     }
+
+-- it is the event of the unit
+pub unit_event : (i : Instance) (rows : List (ℕ × Cube)) (u : ℕ) (cube : Cube) → IsInstance i → i.family ≡ Listed rows
+    → u < units_of i.family → cube ≡ cube_at rows u → IsEvent i.family (record { unit = u; cube = cube })
+unit_event i rows u cube is family known at =
+    subst (λ (x : Cube). IsEvent i.family (record { unit = u; cube = x })) (sym at)
+    (listed_event i rows u is family known).event

@@ -37,11 +37,17 @@ look_front v (p ∷ ps) m h = dite (ℕ_discrete p.0 v)
     (λ e. look-hit v p (ps ++ m) e ∙ sym (look-hit v p ps e))
     (λ ne. look-miss v p (ps ++ m) ne ∙ look_front v ps m (omega (arith, is_at-no v p ne)) ∙ sym (look-miss v p ps ne))
 
-module _ (d m e : View) (cube : Cube) (is : IsCube cube) (n : ℕ) (p : ℕ × ℕ) (at : slice_get cube n ≡ Some p)
-    (first : ClaimsFirst d m cube n n) (w : ℕ) (to : e ≡ claimed_by m p.0 w) where
+-- The next claim of an event: m is the view before it, e the one after it, which finds w at the variable of the pair p.
+pub record NextClaim (d m e : View) (cube : Cube) (n : ℕ) (p : ℕ × ℕ) (w : ℕ) : Type 0 where
+  pub is : IsCube cube
+  pub at : slice_get cube n ≡ Some p
+  pub first : ClaimsFirst d m cube n n
+  pub to : e ≡ claimed_by m p.0 w
+
+module _ {d m e : View} {cube : Cube} {n : ℕ} {p : ℕ × ℕ} {w : ℕ} (s : NextClaim d m e cube n p w) where
   -- seen has the entry at its end
   seen_next : e.seen ≡ d.seen ++ (gained d m ++ (word_of p.0, w) ∷ [])
-  seen_next = ap (λ (x : View). x.seen) to ∙ ap (λ (l : Pairs). l ++ (word_of p.0, w) ∷ []) first.grows
+  seen_next = ap (λ (x : View). x.seen) s.to ∙ ap (λ (l : Pairs). l ++ (word_of p.0, w) ∷ []) s.first.grows
       ∙ append_assoc d.seen (gained d m) ((word_of p.0, w) ∷ [])
 
   -- so this is what seen gained
@@ -57,29 +63,29 @@ module _ (d m e : View) (cube : Cube) (is : IsCube cube) (n : ℕ) (p : ℕ × �
   -- nothing else changed
   same_next : SameElse d e
   same_next = record {
-    opening = ap (λ (x : View). x.opening) to ∙ first.same.opening;
-    share = ap (λ (x : View). x.share) to ∙ first.same.share;
-    moves = ap (λ (x : View). x.moves) to ∙ first.same.moves;
-    taken = ap (λ (x : View). x.taken) to ∙ first.same.taken;
-    owed = ap (λ (x : View). x.owed) to ∙ first.same.owed;
-    changes = ap (λ (x : View). x.changes) to ∙ first.same.changes;
-    mine = ap (λ (x : View). x.mine) to ∙ first.same.mine;
+    opening = ap (λ (x : View). x.opening) s.to ∙ s.first.same.opening;
+    share = ap (λ (x : View). x.share) s.to ∙ s.first.same.share;
+    moves = ap (λ (x : View). x.moves) s.to ∙ s.first.same.moves;
+    taken = ap (λ (x : View). x.taken) s.to ∙ s.first.same.taken;
+    owed = ap (λ (x : View). x.owed) s.to ∙ s.first.same.owed;
+    changes = ap (λ (x : View). x.changes) s.to ∙ s.first.same.changes;
+    mine = ap (λ (x : View). x.mine) s.to ∙ s.first.same.mine;
   }
 
   -- the variables of the first pairs and one more
   variables_next : variables (take (n + 1) cube) ≡ variables (take n cube) ++ p.0 ∷ []
-  variables_next = ap variables (take_push cube n p at) ∙ variables-push (take n cube) p
+  variables_next = ap variables (take_push cube n p s.at) ∙ variables-push (take n cube) p
 
   -- the words of seen are theirs
   words_next : variables (gained d e) ≡ map word_of (variables (take (n + 1) cube))
   words_next = ap variables gained_next ∙ variables-push (gained d m) (word_of p.0, w)
-      ∙ ap (λ (l : List ℕ). l ++ word_of p.0 ∷ []) first.words
+      ∙ ap (λ (l : List ℕ). l ++ word_of p.0 ∷ []) s.first.words
       ∙ sym (map_push word_of (variables (take n cube)) p.0) ∙ ap (map word_of) (sym variables_next)
 
   -- the variable was not held before
   pub new_here : times p.0 m.held ≡ 0
-  new_here = sym (times-variables p.0 m.held) ∙ ap (times_in p.0) first.held
-      ∙ times-variables p.0 (take n cube) ∙ none_yet cube n p is.rising at
+  new_here = sym (times-variables p.0 m.held) ∙ ap (times_in p.0) s.first.held
+      ∙ times-variables p.0 (take n cube) ∙ none_yet cube n p s.is.rising s.at
 
   -- after a claim that was refused
   pub refused_next : 2 ^ 63 ≤ w → ClaimsFirst d e cube (n + 1) n
@@ -87,17 +93,17 @@ module _ (d m e : View) (cube : Cube) (is : IsCube cube) (n : ℕ) (p : ℕ × �
     same = same_next;
     grows = seen_next ∙ ap (λ (l : Pairs). d.seen ++ l) (sym gained_next);
     words = words_next;
-    held = ap variables (held_still m e p.0 w to taken) ∙ first.held;
+    held = ap variables (held_still m e p.0 w s.to taken) ∙ s.first.held;
   }
 
   module _ (free : w < 2 ^ 63) where
     -- what is held
     held_next : e.held ≡ m.held ++ (p.0, cursor_in w) ∷ []
-    held_next = held_after m e p.0 w to free
+    held_next = held_after m e p.0 w s.to free
 
     -- what was found
     found_next : e.found ≡ (p.0, cursor_in w) ∷ m.found
-    found_next = found_after m e p.0 w to free
+    found_next = found_after m e p.0 w s.to free
 
     -- after a claim that was granted
     pub granted_next : ClaimsFirst d e cube (n + 1) (n + 1)
@@ -106,7 +112,7 @@ module _ (d m e : View) (cube : Cube) (is : IsCube cube) (n : ℕ) (p : ℕ × �
       grows = seen_next ∙ ap (λ (l : Pairs). d.seen ++ l) (sym gained_next);
       words = words_next;
       held = ap variables held_next ∙ variables-push m.held (p.0, cursor_in w)
-          ∙ ap (λ (l : List ℕ). l ++ p.0 ∷ []) first.held ∙ sym variables_next;
+          ∙ ap (λ (l : List ℕ). l ++ p.0 ∷ []) s.first.held ∙ sym variables_next;
     }
 
     -- the cursor of the word was found
@@ -127,8 +133,8 @@ module _ (d m e : View) (cube : Cube) (is : IsCube cube) (n : ℕ) (p : ℕ × �
       claimed = (w, entered, (free, found_here));
       known = omega (arith, ap (times p.0) found_next, is_at-yes p.0 (p.0, cursor_in w) refl);
       vector = λ k live sole.
-          let told = tells k (first.same.opening ∙ live) (first.same.share ∙ sole) in
-          found_here ∙ told.1 ∙ ap (λ mine. cursor (vector k mine) p.0) first.same.mine;
+          let told = tells k (s.first.same.opening ∙ live) (s.first.same.share ∙ sole) in
+          found_here ∙ told.1 ∙ ap (λ mine. cursor (vector k mine) p.0) s.first.same.mine;
     }
 
     -- another variable has the cursor that was found before
@@ -181,6 +187,6 @@ module _ (d m e : View) (cube : Cube) (is : IsCube cube) (n : ℕ) (p : ℕ × �
         → Each (HasValue i d m) (take n cube) → Each (HasValue i d e) (take (n + 1) cube)
     values_next i tells value old =
         let here : HasValue i d e p = (has_claimed tells, ap (value_at i.stacks p.0) found_here ∙ value) in
-        subst (Each (HasValue i d e)) (sym (take_push cube n p at))
+        subst (Each (HasValue i d e)) (sym (take_push cube n p s.at))
         (each-append (HasValue i d e) (take n cube) (p ∷ [])
         (each-map (HasValue i d m) (HasValue i d e) (still_valued i) (take n cube) old) (here, tt))

@@ -192,16 +192,10 @@ module _ (k : Opening) (i : Instance) (a e f : View) (u : ℕ) (cube : Cube) (sa
       omega (arith, more, high, at_vector v has sole, last.1)
 
 -- a mark that is not 1 is 0
-zero_of : (w : ℕ) → w ≤ 1 → false ≡ (w == 1) → w ≡ 0
+pub zero_of : (w : ℕ) → w ≤ 1 → false ≡ (w == 1) → w ≡ 0
 zero_of w small other = dite (ℕ_discrete w 1)
     (λ one. let hit : (w == 1) ≡ true = eq-eqb w 1 one in absurd (cc))
     (λ ne. omega arith)
-
--- what a take that found no mark did
-pub idle_changes : (d r e : View) (u : ℕ) → r ≡ d → Takes r u e false → e.changes ≡ d.changes ++ (u, 0, 0) ∷ []
-idle_changes d r e u room took =
-    ap (λ (x : View). x.changes) took.1 ∙ ap (λ (x : View). x.changes ++ (u, took.0, 0) ∷ []) room
-    ∙ ap (λ (w : ℕ). d.changes ++ (u, w, 0) ∷ []) (zero_of took.0 took.2 took.3)
 
 -- where an idle sole pass finds no mark, the event isn't poppable
 pub idle_sole : (k : Opening) (d r e : View) (u : ℕ) → r ≡ d → Takes r u e false → d.opening ≡ Some k → d.taken ≡ []

@@ -1,5 +1,5 @@
 -- What a claim of a variable does to the parts of a view that a walk looks at.
-use Rattle.std.proofs.Common.{inr, Bool, ◌≡◌, ◌≢◌, ℕ, ◌<◌, true, false, [], ◌∷◌, ◌++◌, Some, cond, sym, ap, subst, ◌∙◌, arith}
+use Rattle.std.proofs.Common.{inr, Bool, ◌≡◌, ◌≢◌, ℕ, ◌<◌, true, false, [], ◌∷◌, ◌++◌, length, Some, cond, sym, ap, subst, ◌∙◌, arith}
 use Rattle.pop_model.specs.Popping.{variables}
 use Rattle.claim_words.specs.Words.{cursor_in, is_settled}
 use Rattle.claim_words.specs.Maps.{Pairs, In, times_in}
@@ -7,12 +7,17 @@ use Rattle.claim_words.specs.Openings.{height}
 use Rattle.claim_words.specs.Answers.{Claims}
 use Rattle.claim_words.specs.declared.opening.Opening.{Opening}
 use Rattle.claim_words.specs.declared.view.View.{View}
+use Rattle.claim_words.specs.declared.pass.Pass.{Pass}
+use Rattle.claim_words.specs.Passes.{view}
+use Rattle.claim_words.specs.Tells.{SoleKnows}
+use Rattle.confluence_core.specs.CycleTables.{CycleTable}
 use Rattle.claim_words.specs.declared.claim.Claim.{Claim}
 use Rattle.claim_words.specs.declared.claim.Claim.TheVariants.{Mine, Busy as Refused}
 use Rattle.claim_words.proofs.ClaimKeepsRule.{held_after}
 use Rattle.claim_words.proofs.HeldLemmas.{times-variables}
 use Rattle.event_finders.specs.Walks.{IsBusy}
-use Rattle.event_finders.specs.WalkSteps.{Same}
+use Rattle.event_finders.specs.Trails.{Trail, Stands}
+use Rattle.event_finders.specs.WalkSteps.{IsWalking, HasSpare, Same}
 
 -- what was in a list is in it where a member may have come in
 known_more : (b : Bool) (p x : ℕ × ℕ) (l : Pairs) → In p l → In p (cond b (x ∷ l) l)
@@ -53,3 +58,9 @@ module _ (d : View) (v : ℕ) (e : View) where
   -- and the word that it found is claimed
   pub refused_busy : (w : ℕ) → Claims d v e (Refused w) → IsBusy w
   refused_busy w is = subst IsBusy (sym is.2.2) (is.2.0, is.2.1)
+
+-- a walk that stands somewhere, with room to go on, walks on
+pub walks_on : {k : Opening} {pass next : Pass} {g : CycleTable} {old t : Trail} → IsWalking k pass g old
+    → Stands k (view next) t → HasSpare next t → 0 < length t.path → SoleKnows (view next) → IsWalking k next g t
+walks_on is stands spare some sole =
+    record { table = is.table; stands = stands; spare = spare; some = some; sole = sole }

@@ -1,10 +1,12 @@
 -- What a try at a unit sees: one mark, and the words of some first variables of its event. All are different words.
-use Rattle.std.proofs.Common.{◌≡◌, ◌==◌, ℕ, zero, suc, ◌+◌, ◌-◌, ◌<◌, ◌≤◌, true, List, [], ◌∷◌, ◌++◌, take, drop, length, map, refl, sym, ap, ◌∙◌, subst, inl, inr, arith, append_assoc}
+use Rattle.std.proofs.Common.{◌≡◌, ◌==◌, ℕ, zero, suc, ◌+◌, ◌-◌, ◌<◌, ◌≤◌, true, List, Some, [], ◌∷◌, ◌++◌, take, drop, length, map, refl, sym, ap, ◌∙◌, subst, inl, inr, arith, append_assoc}
 use mathlib.Core.Logic.{dite}
 use native.Mathlib.Decide.{ℕ_discrete}
 use Rattle.std.proofs.lemmas.List.{drop_at}
 use Rattle.std.proofs.lemmas.List.Elements.{All-head, All-tail}
 use Rattle.pop_model.specs.Popping.{Cube, IsCube, NamesBelow, variables}
+use Rattle.pop_model.specs.Instances.{Instance}
+use Rattle.claim_words.specs.declared.opening.Opening.{Opening}
 use Rattle.claim_words.specs.declared.view.View.{View}
 use Rattle.claim_words.specs.declared.claim.Claim.{Claim}
 use Rattle.claim_words.specs.Words.{word_of, mark_of}
@@ -16,8 +18,10 @@ use Rattle.claim_words.specs.Answers.{Takes}
 use Rattle.claim_words.proofs.Totals.{is_at-yes, is_at-no}
 use Rattle.claim_words.proofs.HeldLemmas.{one-miss, once, times-variables}
 use Rattle.event_finders.specs.Gains.{gained, SeesWithin, Entered}
+use Rattle.event_finders.specs.UnitConditions.{IsListedEvent}
 use Rattle.event_finders.specs.UnitLooks.{ClaimsFirst}
 use Rattle.event_finders.proofs.CubePrefixes.{times-take}
+use Rattle.event_finders.proofs.ListedEvents.{below_count}
 use Rattle.event_finders.proofs.VariableWords.{words_le}
 
 -- no word stands among those of the first variables of a cube twice
@@ -45,12 +49,18 @@ no_mark (p ∷ ps) count below (suc n) i high =
 
 -- A try so far: d is the view before the call, r the one with room, a the one once the mark of u was taken, and e the
 -- one after the claims of the first n variables of the cube, of which the first m are held.
-pub record Started (d r a e : View) (u : ℕ) (cube : Cube) (n m : ℕ) : Type 0 where
+pub record Started (k : Opening) (i : Instance) (d r a e : View) (u : ℕ) (cube : Cube) (n m : ℕ) : Type 0 where
+  pub same : k.instance.value ≡ i
+  pub live : d.opening ≡ Some k
+  pub idle : (d.held ≡ []) × (d.taken ≡ []) × (d.owed ≡ [])
+  pub event : IsListedEvent i u cube
+  pub is : IsCube cube
   pub room : r ≡ d
   pub took : Takes r u a true
   pub first : ClaimsFirst a e cube n m
 
-module _ {d r a e : View} {u : ℕ} {cube : Cube} {n m : ℕ} (s : Started d r a e u cube n m) where
+module _ {k : Opening} {i : Instance} {d r a e : View} {u : ℕ} {cube : Cube} {n m : ℕ}
+    (s : Started k i d r a e u cube n m) where
   -- the word of the mark
   abbrev mark : ℕ
   mark = mark_of (count_in d.opening) u
@@ -96,23 +106,23 @@ module _ {d r a e : View} {u : ℕ} {cube : Cube} {n m : ℕ} (s : Started d r a
     entered_all v answer x = (x.0, subst (In (word_of v, x.0)) (sym gained_all) (inr x.1), x.2)
 
     -- each word has one entry at most
-    pub sees_once : IsCube cube → NamesBelow cube (count_in d.opening) → SeesWithin 1 d f
-    sees_once is below = record {
+    pub sees_once : SeesWithin 1 d f
+    sees_once = record {
       added = gained d f;
       seen = seen ∙ seen_all ∙ ap (λ (l : Pairs). d.seen ++ l) (sym gained_all);
-      within = λ i. dite (ℕ_discrete mark i)
+      within = λ j. dite (ℕ_discrete mark j)
           (λ here. omega (
             arith,
-            ap (times i) gained_all,
-            is_at-yes i (mark, 1) here,
-            sym (times-variables i (gained a e)) ∙ ap (times_in i) s.first.words,
-            no_mark cube (count_in d.opening) below n i (omega (arith, here)),
+            ap (times j) gained_all,
+            is_at-yes j (mark, 1) here,
+            sym (times-variables j (gained a e)) ∙ ap (times_in j) s.first.words,
+            no_mark cube (count_in d.opening) (below_count k i d u cube s.same s.live s.event) n j (omega (arith, here)),
           ))
           (λ ne. omega (
             arith,
-            ap (times i) gained_all,
-            is_at-no i (mark, 1) ne,
-            sym (times-variables i (gained a e)) ∙ ap (times_in i) s.first.words,
-            words_once cube is n i,
+            ap (times j) gained_all,
+            is_at-no j (mark, 1) ne,
+            sym (times-variables j (gained a e)) ∙ ap (times_in j) s.first.words,
+            words_once cube s.is n j,
           ));
     }

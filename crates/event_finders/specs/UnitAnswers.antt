@@ -15,7 +15,7 @@ use Rattle.claim_words.specs.Openings.{count_in}
 use Rattle.claim_words.specs.Changes.{Change}
 use Rattle.claim_words.specs.Steps.{Drawn, record_held, sharing}
 use Rattle.claim_words.specs.Tells.{SoleKnows, NonePoppable}
-use Rattle.event_finders.specs.Gains.{gained, Entered}
+use Rattle.event_finders.specs.Gains.{gained, SeesWithin, Entered}
 use Rattle.event_finders.specs.OwedMarks.{SetsJust}
 use Rattle.event_finders.specs.UnitLooks.{found_at, HasMore, IsAtLast}
 use Rattle.event_finders.specs.declared.tried.Tried.{Tried}
@@ -109,3 +109,16 @@ SoleLearns k e u (Cleared v c) = e.share ≡ 64 → NonePoppable k e u
 SoleLearns k e u (Stuck v c) = e.share ≡ 64 → NonePoppable k e u
 SoleLearns k e u Idle = e.share ≡ 64 → NonePoppable k e u
 SoleLearns k e u answer = ⊤
+
+-- all that a try at the event of this cube comes to: the pass is idle again, and what the answer says
+-- of the event, of marks and of records
+pub record Tries (k : Opening) (i : Instance) (d e : View) (u : ℕ) (cube : Cube) (answer : Tried) : Type 0 where
+  pub idle : (e.held ≡ []) × (e.taken ≡ []) × (e.owed ≡ [])
+  pub share : e.share ≡ d.share
+  pub moves : e.moves ≡ d.moves
+  pub seen : SeesWithin 1 d e
+  pub records : KeepsRecords d e answer
+  pub mark : FindsMark d e u answer
+  pub marks : ChangesMarks i d e u cube answer
+  pub says : Says i d e u cube answer
+  pub sole : SoleLearns k e u answer

@@ -73,9 +73,9 @@ UnitLooks i d cube e Poppable = ClaimsFirst d e cube (length cube) (length cube)
     × Each (HasValue i d e) cube × Each (HasMore i e) cube
 UnitLooks i d cube e (AtLast v c) = ClaimsFirst d e cube (length cube) (length cube)
     × Each (HasValue i d e) cube × IsLeast (IsAtLast i e cube) v × (found_at e v ≡ c)
-UnitLooks i d cube e (UnitDiffers j c) = (p : ℕ × ℕ) × (slice_get cube j ≡ Some p)
+UnitLooks i d cube e (UnitDiffers j v c) = (x : ℕ) × (slice_get cube j ≡ Some (v, x))
     × ClaimsFirst d e cube (j + 1) (j + 1)
-    × HasClaimed d e p.0 × (found_at e p.0 ≡ c) × (value_at i.stacks p.0 c ≢ p.1)
-UnitLooks i d cube e (UnitBusy j w) = (p : ℕ × ℕ) × (slice_get cube j ≡ Some p)
+    × HasClaimed d e v × (found_at e v ≡ c) × (value_at i.stacks v c ≢ x)
+UnitLooks i d cube e (UnitBusy j v w) = (x : ℕ) × (slice_get cube j ≡ Some (v, x))
     × ClaimsFirst d e cube (j + 1) j
-    × Entered (gained d e) p.0 (Refused w) × (d.share ≢ 64)
+    × Entered (gained d e) v (Refused w) × (d.share ≢ 64)

@@ -1,18 +1,20 @@
 -- The parts of a walk.
-use Rattle.std.specs.Prelude.{◌≡◌, ◌≢◌, ⊤, ℕ, zero, suc, ◌+◌, ◌<◌, ◌≤◌, List, [], ◌∷◌, ◌++◌, length, map, take, slice_index}
+use Rattle.std.specs.Prelude.{◌≡◌, ◌≢◌, ⊤, ℕ, zero, suc, ◌+◌, ◌-◌, ◌<◌, ◌≤◌, List, [], ◌∷◌, ◌++◌, length, map, take, slice_index}
+use Rattle.std.specs.List.{slice_range}
 use Rattle.pop_model.specs.Stacks.{value_at}
-use Rattle.pop_model.specs.Popping.{variables}
+use Rattle.pop_model.specs.Popping.{Cube, variables}
 use Rattle.pop_model.specs.Families.{IsEvent}
 use Rattle.pop_model.specs.Families.Family.{Cycles}
 use Rattle.pop_model.specs.Instances.{IsInstance}
 use Rattle.pop_model.specs.Logs.{LogRecord}
 use Rattle.confluence_core.specs.CycleTables.{CycleTable}
+use Rattle.confluence_core.specs.Loops.{IsCubeOf}
 use Rattle.claim_words.specs.Words.{word_of}
 use Rattle.claim_words.specs.Maps.{Pairs, In, times, times_in, look}
 use Rattle.claim_words.specs.Steps.{Drawn}
 use Rattle.claim_words.specs.Conditions.{MaySettle}
 use Rattle.claim_words.specs.Tells.{SoleKnows}
-use Rattle.claim_words.specs.Passes.{spare}
+use Rattle.claim_words.specs.Passes.{view, spare}
 use Rattle.claim_words.specs.Answers.{Answers}
 use Rattle.claim_words.specs.declared.opening.Opening.{Opening}
 use Rattle.claim_words.specs.declared.view.View.{View}
@@ -38,6 +40,14 @@ pub record IsTableOf (k : Opening) (t : CycleTable) : Type 0 where
 -- the pass has room to claim all variables that the path lacks
 abbrev pub HasSpare : Pass → Trail → Type 0
 HasSpare pass t = t.count ≤ spare pass + length t.path
+
+-- The pass walks on this path along the board's arrows: it isn't empty, and there is room to go on.
+pub record IsWalking (k : Opening) (pass : Pass) (g : CycleTable) (t : Trail) : Type 0 where
+  pub table : IsTableOf k g
+  pub stands : Stands k (view pass) t
+  pub spare : HasSpare pass t
+  pub some : 0 < length t.path
+  pub sole : SoleKnows (view pass)
 
 -- what claims, releases and settling keep
 pub record Same (d e : View) : Type 0 where
@@ -79,21 +89,17 @@ Stops k e path (Back place) =
 Stops k e path (Met v w) = Goes k (last_of path) v × IsBusy w × (e.share ≢ 64)
 
 -- the path is longer by one
-pub record Grows (k : Opening) (e : View) (old new : Trail) : Type 0 where
-  pub stands : Stands k e new
+pub record Grows (old new : Trail) : Type 0 where
   pub longer : length new.path ≡ suc (length old.path)
   pub begins : stand new.path 0 ≡ stand old.path 0
 
 -- the walk stopped where it stood
 pub record Rest (k : Opening) (e : View) (old new : Trail) (stop : Stop) : Type 0 where
-  pub stands : Stands k e new
   pub same : new ≡ old
   pub why : Stops k e new.path stop
 
 -- the walk went on and stopped
 pub record Followed (k : Opening) (e : View) (old new : Trail) (stop : Stop) : Type 0 where
-  pub stands : Stands k e new
-  pub some : 0 < length new.path
   pub begins : stand new.path 0 ≡ stand old.path 0
   pub why : Stops k e new.path stop
 
@@ -115,6 +121,20 @@ laid t = laid_out (λ v. look v t.path) t.count
 -- a variable and the slot at its cursor
 abbrev pub slot_pair : CycleTable → ℕ × ℕ → ℕ × ℕ
 slot_pair t e = (e.0, value_at t.stacks e.0 e.1)
+
+-- a board's arrows lead along a path on which some pass stands, and from its end back to the place
+pub record LeadsBack (g : CycleTable) (t : Trail) (place : ℕ) : Type 0 where
+  pub board : Opening
+  pub holder : View
+  pub table : IsTableOf board g
+  pub stands : Stands board holder t
+  pub within : place < length t.path
+  pub closes : Goes board (last_of t.path) (slice_index (variables t.path) place)
+
+-- the cube has just the variables that stand on the path from the place on, each with its slot
+abbrev pub IsLoopCube : CycleTable → Trail → ℕ → Cube → Type 0
+IsLoopCube g t place cube =
+    IsCubeOf g (laid t) (slice_range (variables t.path) place (length t.path - 1 + 1)) cube
 
 -- The cycle from a place of the path on was popped. What stands before it stays as it was.
 pub record PopsLoop (k : Opening) (d e : View) (path : Pairs) (place t : ℕ) : Type 0 where

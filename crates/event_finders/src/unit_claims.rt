@@ -87,8 +87,8 @@ pub(crate) fn claim_unit(
         let (v, value) = cube.pair(i);
         match look_at(board, pass, instance, reader, v, value) {
             Look::Fits(cursor) => last = last.or(at_last(instance.stacks(), v, cursor)),
-            Look::Differs(cursor) => return UnitLook::Differs(i, cursor),
-            Look::Busy(word) => return UnitLook::Busy(i, word),
+            Look::Differs(cursor) => return UnitLook::Differs(i, v, cursor),
+            Look::Busy(word) => return UnitLook::Busy(i, v, word),
         }
     }
     match last {

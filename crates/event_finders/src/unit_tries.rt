@@ -7,7 +7,7 @@ ghost use Rattle.claim_words.specs.Maps.{In};
 ghost use Rattle.claim_words.specs.Passes.{IsOf, IsIdle, view, count_of, instance_of, opening_of};
 ghost use Rattle.event_finders.specs.Gains.{gained, SeesWithin};
 ghost use Rattle.event_finders.specs.UnitConditions.{Indexes, IsListedEvent};
-ghost use Rattle.event_finders.specs.UnitAnswers.{IsTried, Says, KeepsRecords, FindsMark, SoleLearns, ChangesMarks, LeavesMarks};
+ghost use Rattle.event_finders.specs.UnitAnswers.{IsTried, Tries, KeepsRecords, FindsMark, SoleLearns, LeavesMarks};
 ghost use Rattle.event_finders.specs.declared.tried.Tried.TheVariants.{Idle};
 
 use crate::Tried;
@@ -92,18 +92,9 @@ fn try_event(
     requires event { IsListedEvent instance.now event.now.unit event.now.cube.now }
     requires belongs { Belongs instance.now.stacks reader.old }
     ensures pass { IsOf board.now pass.new }
-    ensures idle { IsIdle pass.new }
-    ensures share { (view pass.new).share ≡ (view pass.old).share }
-    ensures moves { (view pass.new).moves ≡ (view pass.old).moves }
-    ensures seen { SeesWithin 1 (view pass.old) (view pass.new) }
+    ensures tries { Tries (opening_of board.now) instance.now (view pass.old) (view pass.new)
+        event.now.unit event.now.cube.now result }
     ensures reader { reader.new ≡ reader.old }
-    ensures says { Says instance.now (view pass.old) (view pass.new) event.now.unit
-        event.now.cube.now result }
-    ensures mark { FindsMark (view pass.old) (view pass.new) event.now.unit result }
-    ensures marks { ChangesMarks instance.now (view pass.old) (view pass.new) event.now.unit
-        event.now.cube.now result }
-    ensures records { KeepsRecords (view pass.old) (view pass.new) result }
-    ensures sole { SoleLearns (opening_of board.now) (view pass.new) event.now.unit result }
 {
     let ListedEvent { unit, cube } = *event;
     let len = cube.len();
@@ -125,14 +116,12 @@ fn try_event(
             release_first(board, pass, cube, len);
             Tried::Stuck(v, cursor)
         }
-        UnitLook::Differs(place, cursor) => {
-            let (v, _) = cube.pair(place);
+        UnitLook::Differs(place, v, cursor) => {
             board.clear(pass, unit, v);
             release_first(board, pass, cube, place + 1);
             Tried::Cleared(v, cursor)
         }
-        UnitLook::Busy(place, word) => {
-            let (v, _) = cube.pair(place);
+        UnitLook::Busy(place, v, word) => {
             board.mark(pass, unit);
             release_first(board, pass, cube, place);
             Tried::Busy(v, word)

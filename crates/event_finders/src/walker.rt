@@ -112,6 +112,7 @@ impl Walker {
         requires { 0 < length self.old.path }
         ensures path { self.old.path ≡ self.new.path ++ result ∷ [] }
         ensures count { self.new.count ≡ self.old.count }
+        ensures shorter { length self.old.path ≡ length self.new.path + 1 }
         ensures trail { IsTrail self.new.count self.new.path }
     {
         let Some(last) = self.path.pop() else {

@@ -1,5 +1,6 @@
 //! The parts of a walk. What the pass holds is the path.
-ghost use Rattle.std.specs.Prelude.{◌≡◌, ◌≤◌, ◌<◌, ◌+◌, ◌-◌, ◌^◌, ◌++◌, ◌∷◌, [], ℕ, List, length, map, take, slice_index, All, OnOk, MatchResult, MatchOption};
+ghost use Rattle.std.specs.Prelude.{◌≡◌, ◌≤◌, ◌<◌, ◌+◌, ◌-◌, ◌^◌, ◌++◌, ◌∷◌, [], ℕ, List, length, map, take, slice_index, All, IfOk, OnOk, MatchResult, MatchOption};
+ghost use Rattle.std.specs.List.Sorted.{IsPermutation, IsNonDecreasingBy};
 ghost use Rattle.pop_model.specs.Stacks.{height_of};
 ghost use Rattle.pop_model.specs.Popping.{variables};
 ghost use Rattle.pop_stacks.specs.Readers.{Belongs};
@@ -11,7 +12,7 @@ ghost use Rattle.claim_words.specs.Passes.{IsOf, view, spare, opening_of};
 ghost use Rattle.claim_words.specs.declared.view.View.{View};
 ghost use Rattle.event_finders.specs.Trails.{stand, last_of, IsTrail, Goes, Stands};
 ghost use Rattle.event_finders.specs.Walks.{Traced};
-ghost use Rattle.event_finders.specs.WalkSteps.{IsTableOf, HasSpare, Same, Puts, Enters, SeesMore, SeesLast, Grows, Rest, Followed, Stopped, PopsLoop, slot_pair};
+ghost use Rattle.event_finders.specs.WalkSteps.{IsWalking, HasSpare, LeadsBack, IsLoopCube, Same, Puts, Enters, SeesMore, SeesLast, Grows, Rest, Followed, Stopped, PopsLoop, slot_pair};
 
 use crate::walker::Walker;
 use claim_words::{Board, Claim, Pass};
@@ -65,17 +66,12 @@ fn step(
     walker: &mut Walker,
 ) -> Option<Stop>
     requires pass { IsOf board.now pass.old }
-    requires table { IsTableOf (opening_of board.now) current.now }
     requires belongs { Belongs current.now.stacks reader.old }
-    requires stands { Stands (opening_of board.now) (view pass.old) walker.old }
-    requires spare { HasSpare pass.old walker.old }
-    requires some { 0 < length walker.old.path }
-    requires sole { SoleKnows (view pass.old) }
+    requires walking { IsWalking (opening_of board.now) pass.old current.now walker.old }
     ensures pass { IsOf board.now pass.new }
-    ensures spare { HasSpare pass.new walker.new }
+    ensures walking { IsWalking (opening_of board.now) pass.new current.now walker.new }
     ensures same { Same (view pass.old) (view pass.new) }
-    ensures step { MatchOption result
-        (Grows (opening_of board.now) (view pass.new) walker.old walker.new)
+    ensures step { MatchOption result (Grows walker.old walker.new)
         (Rest (opening_of board.now) (view pass.new) walker.old walker.new) }
     ensures seen { MatchOption result
         (SeesMore (view pass.old) (view pass.new) walker.old.path walker.new.path)
@@ -83,7 +79,6 @@ fn step(
     ensures traced { (n : ℕ) (d : View) → Traced n d (view pass.old) walker.old.path
         → MatchOption result (Traced n d (view pass.new) walker.new.path)
         (Stopped n d (view pass.new) walker.new.path) }
-    ensures sole { SoleKnows (view pass.new) }
     ensures reader { reader.new ≡ reader.old }
 {
     let (v, cursor) = walker.last();
@@ -112,21 +107,16 @@ pub(crate) fn follow(
     walker: &mut Walker,
 ) -> Stop
     requires pass { IsOf board.now pass.old }
-    requires table { IsTableOf (opening_of board.now) current.now }
     requires belongs { Belongs current.now.stacks reader.old }
-    requires stands { Stands (opening_of board.now) (view pass.old) walker.old }
-    requires spare { HasSpare pass.old walker.old }
-    requires some { 0 < length walker.old.path }
-    requires sole { SoleKnows (view pass.old) }
+    requires walking { IsWalking (opening_of board.now) pass.old current.now walker.old }
     ensures pass { IsOf board.now pass.new }
-    ensures spare { HasSpare pass.new walker.new }
+    ensures walking { IsWalking (opening_of board.now) pass.new current.now walker.new }
     ensures same { Same (view pass.old) (view pass.new) }
     ensures followed { Followed (opening_of board.now) (view pass.new) walker.old walker.new
         result }
     ensures seen { SeesLast (view pass.old) (view pass.new) walker.old.path }
     ensures traced { (n : ℕ) (d : View) → Traced n d (view pass.old) walker.old.path
         → Stopped n d (view pass.new) walker.new.path result }
-    ensures sole { SoleKnows (view pass.new) }
     ensures reader { reader.new ≡ reader.old }
 {
     loop {
@@ -163,10 +153,7 @@ pub(crate) fn settle_all(
     walker: &mut Walker,
 )
     requires pass { IsOf board.now pass.old }
-    requires table { IsTableOf (opening_of board.now) current.now }
-    requires stands { Stands (opening_of board.now) (view pass.old) walker.old }
-    requires spare { HasSpare pass.old walker.old }
-    requires some { 0 < length walker.old.path }
+    requires walking { IsWalking (opening_of board.now) pass.old current.now walker.old }
     requires may { MaySettle (opening_of board.now) (view pass.old) (last_of walker.old.path).0 }
     ensures pass { IsOf board.now pass.new }
     ensures view { view pass.new ≡ record (view pass.old) {
@@ -204,8 +191,36 @@ fn put_pairs(
     Ok(())
 }
 
-// Pops the cycle of the variables from a place on. Its pairs are put together in the walker's list,
-// so that it takes memory for a kept log alone.
+// Sorts pairs by their variables.
+fn sort_pairs(pairs: &mut Vec<(u32, u32)>)
+    ensures same { IsPermutation pairs.old.items pairs.new.items }
+    ensures rising { IsNonDecreasingBy (λ p. p.0) pairs.new.items }
+{
+    pairs.sort_unstable_by_key(|pair| pair.0);
+}
+
+// The cube of the cycle of the variables from a place on. Its pairs are put together in the walker's
+// list, which the walker doesn't have until the cube is given back (`Walker::keep_pairs_of`).
+fn loop_cube(
+    current: &CurrentArrows,
+    reader: &mut Reader,
+    walker: &mut Walker,
+    place: usize,
+) -> Result<Cube, AllocError>
+    requires back { LeadsBack current.now walker.old place }
+    requires belongs { Belongs current.now.stacks reader.old }
+    ensures cube { IfOk result (IsLoopCube current.now walker.old place) }
+    ensures walker { walker.new ≡ walker.old }
+    ensures reader { reader.new ≡ reader.old }
+{
+    let mut pairs = walker.take_pairs();
+    put_pairs(&mut pairs, current, reader, walker.tail(place))?;
+    sort_pairs(&mut pairs);
+    Ok(Cube::of(pairs))
+}
+
+// Pops the cycle of the variables from a place on. It takes memory for a kept log alone, since the
+// walker has room for the pairs.
 pub(crate) fn pop_loop(
     board: &Board,
     pass: &mut Pass,
@@ -215,14 +230,11 @@ pub(crate) fn pop_loop(
     place: usize,
 ) -> Result<u64, AllocError>
     requires pass { IsOf board.now pass.old }
-    requires table { IsTableOf (opening_of board.now) current.now }
     requires belongs { Belongs current.now.stacks reader.old }
-    requires stands { Stands (opening_of board.now) (view pass.old) walker.old }
-    requires spare { HasSpare pass.old walker.old }
+    requires walking { IsWalking (opening_of board.now) pass.old current.now walker.old }
     requires place { place < length walker.old.path }
     requires closes { Goes (opening_of board.now) (last_of walker.old.path)
         (slice_index (variables walker.old.path) place) }
-    requires sole { SoleKnows (view pass.old) }
     ensures pass { IsOf board.now pass.new }
     ensures popped { MatchResult result
         (PopsLoop (opening_of board.now) (view pass.old) (view pass.new) walker.old.path place)
@@ -232,10 +244,7 @@ pub(crate) fn pop_loop(
     ensures walker { walker.new ≡ walker.old }
     ensures reader { reader.new ≡ reader.old }
 {
-    let mut pairs = walker.take_pairs();
-    put_pairs(&mut pairs, current, reader, walker.tail(place))?;
-    pairs.sort_unstable_by_key(|pair| pair.0);
-    let cube = Cube::of(pairs);
+    let cube = loop_cube(current, reader, walker, place)?;
     if let Err(failed) = board.reserve(pass, cube.len()) {
         walker.keep_pairs_of(cube);
         return Err(failed);

@@ -10,7 +10,7 @@ ghost use Rattle.claim_words.specs.declared.view.View.{View};
 ghost use Rattle.event_finders.specs.Gains.{SeesWithin, Stays};
 ghost use Rattle.event_finders.specs.Trails.{Stands, resting};
 ghost use Rattle.event_finders.specs.Walks.{KeepsKnown, Traced, PopsCycles, IsWalkAnswer};
-ghost use Rattle.event_finders.specs.WalkSteps.{IsTableOf, HasSpare, SeesLast, Rounds, RoundsOn};
+ghost use Rattle.event_finders.specs.WalkSteps.{IsWalking, HasSpare, SeesLast, Rounds, RoundsOn};
 
 use crate::walker::Walker;
 use crate::walking::{Stop, claim_on, follow, move_on, pop_loop, release_to, settle_all};
@@ -144,12 +144,8 @@ fn go_round(
     walker: &mut Walker,
 ) -> Round
     requires pass { IsOf board.now pass.old }
-    requires table { IsTableOf (opening_of board.now) current.now }
     requires belongs { Belongs current.now.stacks reader.old }
-    requires stands { Stands (opening_of board.now) (view pass.old) walker.old }
-    requires spare { HasSpare pass.old walker.old }
-    requires some { 0 < length walker.old.path }
-    requires sole { SoleKnows (view pass.old) }
+    requires walking { IsWalking (opening_of board.now) pass.old current.now walker.old }
     ensures pass { IsOf board.now pass.new }
     ensures stays { Stays (view pass.old) (view pass.new) }
     ensures settled { KeepsKnown (view pass.old) (view pass.new) }

@@ -1,38 +1,48 @@
-use Rattle.std.proofs.Common.{rules, ap, sym, subst, ◌≡◌, List, ℕ}
-use Rattle.pop_model.specs.Popping.{Cube}
-use Rattle.pop_model.specs.Families.{IsEvent}
-use Rattle.pop_model.specs.Families.Family.{Listed}
+use Rattle.std.proofs.Common.{rules, ap}
 use Rattle.claim_words.specs.Openings.{count_in}
 use Rattle.claim_words.specs.Passes.{view, count_of}
 use Rattle.event_finders.proofs.IdleExactly.{idle_exactly}
-use Rattle.event_finders.proofs.ListedEvents.{listed_event}
+use Rattle.event_finders.proofs.ListedEvents.{unit_event}
 use Rattle.event_finders.proofs.unit_tries.try_unit.Goals as goal
 
 pub returns-clause-answer : goal.returns-clause-answer
-returns-clause-answer c =
-    let rows : List (ℕ × Cube) = c.in-Listed.events in
-    let family : c.args.instance.now.family ≡ Listed rows = search rules in
-    let event = listed_event c.args.instance.now rows c.args.unit c.units-units.ensures.instance family
-    c.requires.known in (
-      c.cube.result.now,
-      subst (λ (x : Cube). IsEvent c.args.instance.now.family (record { unit = c.args.unit; cube = x }))
-          (sym c.cube.ensures) event.event,
-      c.try_event.ensures.says,
-    )
+returns-clause-answer c = (
+  c.cube.result.now,
+  unit_event c.args.instance.now c.in-Listed.events c.args.unit c.cube.result.now c.units-units.ensures.instance
+      (search rules) c.requires.known c.cube.ensures,
+  c.try_event.ensures.tries.says,
+)
 
 pub returns-clause-marks : goal.returns-clause-marks
-returns-clause-marks c =
-    let rows : List (ℕ × Cube) = c.in-Listed.events in
-    let family : c.args.instance.now.family ≡ Listed rows = search rules in
-    let event = listed_event c.args.instance.now rows c.args.unit c.units-units.ensures.instance family
-    c.requires.known in (
-      c.cube.result.now,
-      subst (λ (x : Cube). IsEvent c.args.instance.now.family (record { unit = c.args.unit; cube = x }))
-          (sym c.cube.ensures) event.event,
-      c.try_event.ensures.marks,
-    )
+returns-clause-marks c = (
+  c.cube.result.now,
+  unit_event c.args.instance.now c.in-Listed.events c.args.unit c.cube.result.now c.units-units.ensures.instance
+      (search rules) c.requires.known c.cube.ensures,
+  c.try_event.ensures.tries.marks,
+)
 
 pub returns-clause-unmarked : goal.returns-clause-unmarked
 returns-clause-unmarked c =
-    idle_exactly (view c.args.pass.now) (view c.try_event.new.pass) c.args.unit c.try_event.ensures.seen
-    (count_of c.args.board.now) (ap count_in c.requires.pass.0.1) c.try_event.result c.try_event.ensures.mark
+    idle_exactly (view c.args.pass.now) (view c.try_event.new.pass) c.args.unit c.try_event.ensures.tries.seen
+    (count_of c.args.board.now) (ap count_in c.requires.pass.0.1) c.try_event.result c.try_event.ensures.tries.mark
+
+pub returns-clause-idle : goal.returns-clause-idle
+returns-clause-idle c = c.try_event.ensures.tries.idle
+
+pub returns-clause-share : goal.returns-clause-share
+returns-clause-share c = c.try_event.ensures.tries.share
+
+pub returns-clause-moves : goal.returns-clause-moves
+returns-clause-moves c = c.try_event.ensures.tries.moves
+
+pub returns-clause-seen : goal.returns-clause-seen
+returns-clause-seen c = c.try_event.ensures.tries.seen
+
+pub returns-clause-records : goal.returns-clause-records
+returns-clause-records c = c.try_event.ensures.tries.records
+
+pub returns-clause-mark : goal.returns-clause-mark
+returns-clause-mark c = c.try_event.ensures.tries.mark
+
+pub returns-clause-sole : goal.returns-clause-sole
+returns-clause-sole c = c.try_event.ensures.tries.sole

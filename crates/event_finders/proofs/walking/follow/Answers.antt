@@ -1,4 +1,4 @@
-use Rattle.std.proofs.Common.{rules, arith}
+use Rattle.std.proofs.Common.{rules}
 use Rattle.claim_words.specs.Passes.{view}
 use Rattle.event_finders.proofs.WalkGains.{same_then}
 use Rattle.event_finders.proofs.WalkSeen.{last_then, more_then}
@@ -15,16 +15,13 @@ loop-stop-preserved c =
     let e = c.in_default.ensures in
     record {
       pass = e.pass;
-      spare = e.spare;
+      walking = e.walking;
       same = same_then _ _ _ i.same e.same;
-      stands = e.step.stands;
-      some = omega (arith, e.step.longer);
       begins = search rules;
       reader = search rules;
       traced = λ n d t. e.traced n d (i.traced n d t);
       seen = more_then (view c.args.pass.now) (view c.loop-stop.pass) (view c.step.new.pass) c.args.walker.now.path
           c.loop-stop.walker.path c.step.new.walker.path i.seen e.seen;
-      sole = e.sole;
     }
 
 pub returns-in-Some-clause-same : goal.returns-in-Some-clause-same

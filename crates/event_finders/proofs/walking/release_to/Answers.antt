@@ -2,7 +2,6 @@ use Rattle.std.proofs.Common.{arith, ◌≡◌, ◌<◌, ℕ, length, take, ap, 
 use Rattle.claim_words.specs.declared.view.View.{View}
 use Rattle.claim_words.specs.Passes.{view}
 use Rattle.event_finders.specs.Trails.{Trail}
-use Rattle.event_finders.proofs.TrailLemmas.{longer}
 use Rattle.event_finders.proofs.TrailReleases.{released_none, released_next, released_once}
 use Rattle.event_finders.proofs.walking.release_to.Goals as goal
 
@@ -21,26 +20,15 @@ release-requires-clause-held c =
     released_once _ _ (view c.loop-walker.pass) _ c.loop-walker.walker c.pop-v.new.self c.pop-v.result i e.path e.count
     c.len.ensures.trail
 
-pub loop-walker-smaller : goal.loop-walker-smaller
-loop-walker-smaller c =
-    let e = c.pop-v.ensures in
-    omega (
-      arith,
-      longer c.loop-walker.walker.count c.loop-walker.walker.path c.pop-v.new.self.path c.pop-v.result e.path
-          c.len.ensures.trail,
-    )
-
 pub loop-walker-preserved : goal.loop-walker-preserved
 loop-walker-preserved c =
     let i = c.loop-walker.invariant in
     let e = c.pop-v.ensures in
     let more : c.args.keep < c.len.result = c.loop-walker-test.true in
-    let one = longer c.loop-walker.walker.count c.loop-walker.walker.path c.pop-v.new.self.path c.pop-v.result e.path
-    c.len.ensures.trail in
     record {
       pass = c.release.ensures.pass;
-      spare = omega (arith, i.spare, one, e.count, c.release.ensures.spare);
-      keep = omega (arith, more, c.len.ensures.len, one);
+      spare = omega (arith, i.spare, e.shorter, e.count, c.release.ensures.spare);
+      keep = omega (arith, more, c.len.ensures.len, e.shorter);
       released = released_next _ _ _ _ c.loop-walker.walker c.pop-v.new.self c.pop-v.result i.released e.path e.count
           c.len.ensures.trail c.release.ensures.step;
     }

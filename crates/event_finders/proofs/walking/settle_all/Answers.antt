@@ -5,15 +5,14 @@ use Rattle.claim_words.specs.Openings.{is_listed}
 use Rattle.claim_words.specs.declared.view.View.{View}
 use Rattle.claim_words.specs.Passes.{view, opening_of}
 use Rattle.event_finders.specs.Trails.{Trail}
-use Rattle.event_finders.proofs.TrailLemmas.{longer}
 use Rattle.event_finders.proofs.TrailReleases.{settled_none, settled_next, settling_once, settling_may}
 use Rattle.event_finders.proofs.walking.settle_all.Goals as goal
 
 pub loop-walker-init : goal.loop-walker-init
 loop-walker-init c = record {
   pass = c.requires.pass;
-  spare = c.requires.spare;
-  settled = settled_none (opening_of c.args.board.now) _ _ c.requires.stands c.requires.may;
+  spare = c.requires.walking.spare;
+  settled = settled_none (opening_of c.args.board.now) _ _ c.requires.walking.stands c.requires.may;
   sole = λ less. absurd (omega (arith, less));
   shorter = omega arith;
 }
@@ -26,7 +25,7 @@ settle-requires-clause-held c =
     c.pop-v.result i e.path e.count c.len.ensures.trail
 
 pub settle-requires-clause-cycles : goal.settle-requires-clause-cycles
-settle-requires-clause-cycles c = ap is_listed c.requires.table.family
+settle-requires-clause-cycles c = ap is_listed c.requires.walking.table.family
 
 pub settle-requires-clause-may : goal.settle-requires-clause-may
 settle-requires-clause-may c =
@@ -35,28 +34,17 @@ settle-requires-clause-may c =
     settling_may (opening_of c.args.board.now) _ _ (view c.loop-walker.pass) _ c.loop-walker.walker c.pop-v.new.self
     c.pop-v.result i e.path e.count c.len.ensures.trail
 
-pub loop-walker-smaller : goal.loop-walker-smaller
-loop-walker-smaller c =
-    let e = c.pop-v.ensures in
-    omega (
-      arith,
-      longer c.loop-walker.walker.count c.loop-walker.walker.path c.pop-v.new.self.path c.pop-v.result e.path
-          c.len.ensures.trail,
-    )
-
 pub loop-walker-preserved : goal.loop-walker-preserved
 loop-walker-preserved c =
     let i = c.loop-walker.invariant in
     let e = c.pop-v.ensures in
-    let one = longer c.loop-walker.walker.count c.loop-walker.walker.path c.pop-v.new.self.path c.pop-v.result e.path
-    c.len.ensures.trail in
     record {
       pass = c.settle.ensures.pass;
-      spare = omega (arith, i.spare, one, e.count, c.settle.ensures.spare);
+      spare = omega (arith, i.spare, e.shorter, e.count, c.settle.ensures.spare);
       settled = settled_next (opening_of c.args.board.now) _ _ _ _ c.loop-walker.walker c.pop-v.new.self c.pop-v.result
           i.settled e.path e.count c.len.ensures.trail c.settle.ensures.step;
       sole = λ _. c.settle.ensures.sole;
-      shorter = omega (arith, i.shorter, one);
+      shorter = omega (arith, i.shorter, e.shorter);
     }
 
 pub returns-clause-view : goal.returns-clause-view
@@ -80,4 +68,4 @@ returns-clause-walker c =
 pub returns-clause-sole : goal.returns-clause-sole
 returns-clause-sole c =
     let i = c.loop-walker.invariant in
-    i.sole (omega (arith, c.loop-walker-test.false, c.len.ensures.len, c.requires.some))
+    i.sole (omega (arith, c.loop-walker-test.false, c.len.ensures.len, c.requires.walking.some))

@@ -11,6 +11,8 @@ use Rattle.claim_words.specs.declared.view.View.{View}
 use Rattle.event_finders.specs.Trails.{Trail}
 use Rattle.event_finders.specs.Walks.{Traced, TracedTo}
 use Rattle.event_finders.specs.WalkSteps.{SeesMore}
+use Rattle.event_finders.proofs.TrailLemmas.{long_push}
+use Rattle.event_finders.proofs.WalkClaims.{walks_on}
 use Rattle.event_finders.proofs.WalkTraces.{trace_claim, trace_more, trace_to}
 use Rattle.event_finders.proofs.TrailArrows.{rests_last, rests_root, rests_known, last_head}
 use Rattle.event_finders.proofs.WalkSeen.{last_none, last_one, more_one}
@@ -26,11 +28,10 @@ returns-then-not-has_next_at-clause-step c =
     (λ more. absurd (false≢true
     (sym c.if-not-has_next_at.true ∙ c.has_next_at.ensures.1 (omega (arith, more))))) in
     let top : height k e.0 ≤ e.1 + 1 =
-    subst (λ (s : StackTable). height_of s e.0 ≤ e.1 + 1) (sym c.requires.table.stacks) low in
+    subst (λ (s : StackTable). height_of s e.0 ≤ e.1 + 1) (sym c.requires.walking.table.stacks) low in
     record {
-      stands = c.requires.stands;
       same = refl;
-      why = rests_last k _ t e c.requires.stands c.requires.some c.last-v.ensures.last top;
+      why = rests_last k _ t e c.requires.walking.stands c.requires.walking.some c.last-v.ensures.last top;
     }
 
 pub returns-in_default-clause-step : goal.returns-in_default-clause-step
@@ -39,24 +40,23 @@ returns-in_default-clause-step c =
     let t = c.args.walker.now in
     let e : ℕ × ℕ = c.last-v.result in
     let head : head_at k e.0 e.1 ≡ None =
-    last_head k _ t e c.requires.stands c.requires.some c.last-v.ensures.last c.args.current.now c.requires.table
+    last_head k _ t e c.requires.walking.stands c.requires.walking.some c.last-v.ensures.last c.args.current.now c.requires.walking.table
     ∙ sym c.head_at.ensures.head ∙ c.in_default.is in
     record {
-      stands = c.requires.stands;
       same = refl;
-      why = rests_root k _ t e c.requires.stands c.requires.some c.last-v.ensures.last head;
+      why = rests_root k _ t e c.requires.walking.stands c.requires.walking.some c.last-v.ensures.last head;
     }
 
 pub returns-then-not-has_next_at-clause-seen : goal.returns-then-not-has_next_at-clause-seen
 returns-then-not-has_next_at-clause-seen c =
-    last_none (view c.args.pass.now) c.args.walker.now.path c.requires.stands.trail.once
+    last_none (view c.args.pass.now) c.args.walker.now.path c.requires.walking.stands.trail.once
 
 pub returns-in_default-clause-seen : goal.returns-in_default-clause-seen
-returns-in_default-clause-seen c = last_none (view c.args.pass.now) c.args.walker.now.path c.requires.stands.trail.once
+returns-in_default-clause-seen c = last_none (view c.args.pass.now) c.args.walker.now.path c.requires.walking.stands.trail.once
 
 pub returns-in-Some-place-clause-seen : goal.returns-in-Some-place-clause-seen
 returns-in-Some-place-clause-seen c =
-    last_none (view c.args.pass.now) c.args.walker.now.path c.requires.stands.trail.once
+    last_none (view c.args.pass.now) c.args.walker.now.path c.requires.walking.stands.trail.once
 
 pub returns-in-Mine-clause-seen : goal.returns-in-Mine-clause-seen
 returns-in-Mine-clause-seen c =
@@ -76,6 +76,24 @@ returns-in-Mine-clause-traced c n from t =
     subst (λ (x : Trail). Traced n from e x.path) (sym c.in-Mine.ensures.puts)
     (trace_claim n from d e old.path (c.in-Some.w, c.in-Mine.field-0) m.0 t m.1 m.2.0 m.2.1)
 
+pub returns-in-Mine-clause-walking : goal.returns-in-Mine-clause-walking
+returns-in-Mine-clause-walking c =
+    walks_on c.requires.walking c.claim_on.ensures.stands c.claim_on.ensures.spare
+    (omega (arith, ap (λ (t : Trail). length t.path) c.in-Mine.ensures.puts, long_push c.args.walker.now.path (c.in-Some.w, c.in-Mine.field-0)))
+    c.claim_on.ensures.sole
+
+pub returns-in-Settled-clause-walking : goal.returns-in-Settled-clause-walking
+returns-in-Settled-clause-walking c =
+    walks_on c.requires.walking c.claim_on.ensures.stands c.claim_on.ensures.spare
+    (omega (arith, ap (λ (t : Trail). length t.path) c.in-Settled.ensures.puts.0, c.requires.walking.some))
+    c.claim_on.ensures.sole
+
+pub returns-in-Busy-clause-walking : goal.returns-in-Busy-clause-walking
+returns-in-Busy-clause-walking c =
+    walks_on c.requires.walking c.claim_on.ensures.stands c.claim_on.ensures.spare
+    (omega (arith, ap (λ (t : Trail). length t.path) c.in-Busy.ensures.puts.0, c.requires.walking.some))
+    c.claim_on.ensures.sole
+
 pub returns-in-Settled-clause-step : goal.returns-in-Settled-clause-step
 returns-in-Settled-clause-step c =
     let k = opening_of c.args.board.now in
@@ -84,12 +102,11 @@ returns-in-Settled-clause-step c =
     let e : ℕ × ℕ = c.last-v.result in
     let p = c.in-Settled.ensures.puts in
     let head : head_at k e.0 e.1 ≡ Some c.in-Some.w =
-    last_head k _ t e c.requires.stands c.requires.some c.last-v.ensures.last c.args.current.now c.requires.table
+    last_head k _ t e c.requires.walking.stands c.requires.walking.some c.last-v.ensures.last c.args.current.now c.requires.walking.table
     ∙ sym c.head_at.ensures.head ∙ c.in-Some.is in
-    let some : 0 < length u.path = subst (λ (x : Trail). 0 < length x.path) (sym p.0) c.requires.some in
+    let some : 0 < length u.path = subst (λ (x : Trail). 0 < length x.path) (sym p.0) c.requires.walking.some in
     let last = c.last-v.ensures.last ∙ ap (λ (x : Trail). get_or x.path (length x.path - 1) (0, 0)) (sym p.0) in
     record {
-      stands = c.claim_on.ensures.stands;
       same = p.0;
       why = rests_known k _ u e c.claim_on.ensures.stands some last c.in-Some.w c.in-Settled.field-0 head p.1;
     }
@@ -99,7 +116,7 @@ returns-in-Settled-clause-seen c =
     let m = c.in-Settled.ensures.seen in
     let fresh : times_in c.in-Some.w (variables c.args.walker.now.path) ≡ 0 = search rules in
     last_one (view c.args.pass.now) (view c.claim_on.new.pass) c.args.walker.now.path c.in-Some.w m.0
-    c.requires.stands.trail.once fresh m.1
+    c.requires.walking.stands.trail.once fresh m.1
 
 pub returns-in-Settled-clause-traced : goal.returns-in-Settled-clause-traced
 returns-in-Settled-clause-traced c n from t =
@@ -113,7 +130,7 @@ returns-in-Busy-clause-seen c =
     let m = c.in-Busy.ensures.seen in
     let fresh : times_in c.in-Some.w (variables c.args.walker.now.path) ≡ 0 = search rules in
     last_one (view c.args.pass.now) (view c.claim_on.new.pass) c.args.walker.now.path c.in-Some.w m.0
-    c.requires.stands.trail.once fresh m.1
+    c.requires.walking.stands.trail.once fresh m.1
 
 pub returns-in-Busy-clause-traced : goal.returns-in-Busy-clause-traced
 returns-in-Busy-clause-traced c n from t =

@@ -21,9 +21,9 @@ returns-in-Ok-clause-spare c =
     let f = c.in-Back.ensures.followed in
     let p = c.in-Ok.ensures.popped in
     let cut = c.release_to.ensures.walker in
-    let to = path_on k d e t c.in-Back.place c.in-Ok.ticket _ f.stands f.why.0 f.why.1 p c.pop_loop.new.walker
+    let to = path_on k d e t c.in-Back.place c.in-Ok.ticket _ c.follow.ensures.walking.stands f.why.0 f.why.1 p c.pop_loop.new.walker
     c.release_to.new.walker c.move_on.new.walker c.pop_loop.ensures.walker cut c.move_on.ensures.walker in
-    let long = long_on k d e t c.in-Back.place c.in-Ok.ticket _ f.stands f.why.0 f.why.1 p
+    let long = long_on k d e t c.in-Back.place c.in-Ok.ticket _ c.follow.ensures.walking.stands f.why.0 f.why.1 p
     (view c.release_to.new.pass) c.release_to.ensures.view c.move_on.new.walker to c.move_on.ensures.trail in
     let same = ap (λ (x : Trail). take (c.in-Back.place + 1) x.path) c.pop_loop.ensures.walker in
     omega (
@@ -48,21 +48,21 @@ returns-in-Ok-clause-round c =
     let f = c.in-Back.ensures.followed in
     let place : ℕ = c.in-Back.place in
     let p = c.in-Ok.ensures.popped in
-    let to = path_on k d e t place c.in-Ok.ticket _ f.stands f.why.0 f.why.1 p c.pop_loop.new.walker
+    let to = path_on k d e t place c.in-Ok.ticket _ c.follow.ensures.walking.stands f.why.0 f.why.1 p c.pop_loop.new.walker
     c.release_to.new.walker u c.pop_loop.ensures.walker c.release_to.ensures.walker c.move_on.ensures.walker in
     let g_is : g ≡ record e { held = take (place + 1) e.held } = c.release_to.ensures.view in
     let trail = c.move_on.ensures.trail in (
       p.popped,
       gains_one k (view c.args.pass.now) d e g t.path place c.in-Ok.ticket c.follow.ensures.same.mine p
           (ap (λ (v : View). v.mine) g_is),
-      stands_on k d e t place c.in-Ok.ticket _ f.stands f.why.0 f.why.1 p g g_is u to trail,
-      some_on k d e t place c.in-Ok.ticket _ f.stands f.why.0 f.why.1 p g g_is u to trail,
-      begins_on k d e t place c.in-Ok.ticket _ f.stands f.why.0 f.why.1 p g g_is u to trail
+      stands_on k d e t place c.in-Ok.ticket _ c.follow.ensures.walking.stands f.why.0 f.why.1 p g g_is u to trail,
+      some_on k d e t place c.in-Ok.ticket _ c.follow.ensures.walking.stands f.why.0 f.why.1 p g g_is u to trail,
+      begins_on k d e t place c.in-Ok.ticket _ c.follow.ensures.walking.stands f.why.0 f.why.1 p g g_is u to trail
           ∙ sym (stand_variable t.path 0) ∙ ap (λ (x : ℕ × ℕ). x.0) f.begins ∙ stand_variable c.args.walker.now.path 0,
       subst SoleKnows (sym g_is) c.pop_loop.ensures.sole,
       λ n first traced. record {
         path = t.path;
-        led = f.stands.led;
+        led = c.follow.ensures.walking.stands.led;
         begins = sym (stand_variable t.path 0) ∙ ap (λ (x : ℕ × ℕ). x.0) f.begins
             ∙ stand_variable c.args.walker.now.path 0;
         traced = trace_same n first d g t.path (c.in-Back.ensures.traced n first traced)
@@ -84,7 +84,7 @@ returns-in-Ok-clause-traced c n from traced =
     let f = c.in-Back.ensures.followed in
     let place : ℕ = c.in-Back.place in
     let p = c.in-Ok.ensures.popped in
-    let to = path_on k d e t place c.in-Ok.ticket _ f.stands f.why.0 f.why.1 p c.pop_loop.new.walker
+    let to = path_on k d e t place c.in-Ok.ticket _ c.follow.ensures.walking.stands f.why.0 f.why.1 p c.pop_loop.new.walker
     c.release_to.new.walker c.move_on.new.walker c.pop_loop.ensures.walker c.release_to.ensures.walker
     c.move_on.ensures.walker in
     subst (λ (x : Trail). Traced (n + 1) from g x.path) (sym to)
@@ -100,11 +100,11 @@ returns-in-Busy-clause-round c =
           (ap (λ (v : View). v.mine) to ∙ c.follow.ensures.same.mine),
       ap (λ (v : View). v.held) to,
       ap (λ (t : Trail). t.path) path,
-      ap (λ (t : Trail). t.count) path ∙ f.stands.counts ∙ sym c.requires.stands.counts,
+      ap (λ (t : Trail). t.count) path ∙ c.follow.ensures.walking.stands.counts ∙ sym c.requires.walking.stands.counts,
       (
         f.why.1,
         (λ sole. f.why.2 (sym (ap (λ (v : View). v.share) to) ∙ sole)),
-        subst SoleKnows (sym to) c.follow.ensures.sole,
+        subst SoleKnows (sym to) c.follow.ensures.walking.sole,
       ),
     )
 
@@ -114,8 +114,8 @@ returns-in-Busy-clause-traced c n from traced =
     let t : Trail = c.follow.new.walker in
     record {
       path = t.path;
-      led = f.stands.led;
-      some = f.some;
+      led = c.follow.ensures.walking.stands.led;
+      some = c.follow.ensures.walking.some;
       begins =
           sym (stand_variable t.path 0) ∙ ap (λ (x : ℕ × ℕ). x.0) f.begins
           ∙ stand_variable c.args.walker.now.path 0;
