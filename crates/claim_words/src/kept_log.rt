@@ -165,14 +165,26 @@ fn made_record(alloc: Global, unit: u32, uses: &[(u32, u32, u32)]) -> Result<Rec
     ensures { IfOk result (λ popped. popped ≡ record_of unit uses.now) }
 {
     let entries = entries_of(alloc, uses)?;
-    let pairs = match pairs_of(alloc, uses) {
-        Ok(pairs) => pairs,
+    match cube_of(alloc, uses) {
+        Ok(cube) => Ok(Record::new(unit, cube, entries)),
         Err(failed) => {
             drop(entries);
-            return Err(failed);
+            Err(failed)
         }
+    }
+}
+
+// The cube of their pairs.
+fn cube_of(alloc: Global, uses: &[(u32, u32, u32)]) -> Result<Cube, AllocError>
+    requires cube { IsCube (pairs_in uses.now) }
+    requires short { length uses.now < 2 ^ 31 }
+    ensures { IfOk result (λ cube. cube ≡ pairs_in uses.now) }
+{
+    let pairs = pairs_of(alloc, uses)?;
+    let Some(cube) = Cube::new(pairs) else {
+        unreachable!()
     };
-    Ok(Record::new(unit, Cube::of(pairs), entries))
+    Ok(cube)
 }
 
 // Their pairs of variable and value.
