@@ -1,9 +1,9 @@
 -- A step of the code, by what it reads: where the walk goes on, or that it is over. The walk w has put its variable onto
 -- its path, which gave n; a cycle that the path of n closes is popped or noted.
-use Rattle.std.proofs.Common.{inl, inr, ◌≡◌, ℕ, zero, suc, ◌+◌, ◌<◌, Bool, cond, List, length, get_or, set, Some, refl, sym, ap, subst, ◌∙◌, arith, get_or-set_same, get_or-set_other, length-set, ne_eqb}
+use Rattle.std.proofs.Common.{inl, inr, ◌≡◌, ℕ, zero, suc, ◌+◌, ◌<◌, Bool, true, false, cond, List, length, get_or, set, Some, refl, sym, ap, subst, ◌∙◌, arith, get_or-set_same, get_or-set_other, length-set, ne_eqb}
 use Rattle.std.specs.Bool.{MatchBool}
 use Rattle.std.specs.List.{slice_range}
-use Rattle.std.proofs.lemmas.Bool.{cases_eq}
+use Rattle.std.proofs.lemmas.Bool.{cases_eq, MatchBool-at_true, MatchBool-at_false}
 use Rattle.pop_model.specs.Stacks.{value_at}
 use Rattle.pop_model.specs.Popping.{Cube, HasNext, cursor, pop}
 use Rattle.pop_model.proofs.Room.{left_from}
@@ -11,8 +11,9 @@ use Rattle.std.proofs.lemmas.List.Elements.{Contains-push_cases}
 use Rattle.confluence_core.specs.CycleTables.{CycleTable, current_head}
 use Rattle.confluence_core.specs.Walks.{settled, cycle_event, IsSettled, IsMet, AreSized, IsPath, GoesOn, Closes}
 use Rattle.confluence_core.specs.LoopErasedWalks.{StaySettled, HasPath, IsSized, HasDone, Walks, begun_at}
-use Rattle.confluence_core.specs.Steps.{RunsOn, Extends, Pops, Notes, PopsOrNotes, GoesTo, Ends, with_pop, with_stuck}
+use Rattle.confluence_core.specs.Steps.{RunsOn, LeadsTo, Extends, Pops, Notes, Closed, PopsOrNotes, GoesTo, Ends, with_pop, with_stuck}
 use Rattle.confluence_core.specs.declared.walk.Walk.{Walk}
+use Rattle.confluence_core.specs.declared.steps.Step.TheVariants.{On, Back, Rests}
 use Rattle.confluence_core.proofs.PathsLemmas.{room_for_more, pushed, pushed_here, pushed_stay, pushed_before, few}
 use Rattle.confluence_core.proofs.ClosedLoops.{IsClosed, loop_of}
 use Rattle.confluence_core.proofs.DoneVariables.{done_same, done_rests, done_stuck, last_popped}
@@ -94,6 +95,21 @@ module _ (t : CycleTable) (c marks path : List ℕ) (depth v : ℕ) (sized : Are
     back = ap (current_head t c) (pushed_here t c marks path depth v sized is) ∙ leads ∙ ap (λ u. Some u) (sym at);
   }
 
+-- a cycle was popped, and the walk goes on from the place where it closed
+pub record GoesBack (old new : Walk) (place : ℕ) : Type 0 where
+  pub within : place < length new.path.items
+  pub next : GoesTo old (record new { depth = place; at = get_or new.path.items place 0 })
+  pub runs : RunsOn old.current old.walked new.walked
+  pub stay : StaySettled old new
+  pub current : new.current ≡ old.current
+
+-- a cycle was noted, and the walk is over
+pub record EndsBack (old new : Walk) : Type 0 where
+  pub next : Ends old new
+  pub runs : RunsOn old.current old.walked new.walked
+  pub stay : StaySettled old new
+  pub current : new.current ≡ old.current
+
 module _ (w n : Walk) (walks : Walks w) (ext : Extends w n) where
   -- the walk with the new marks and the new path
   abbrev pub went : Walk
@@ -136,9 +152,9 @@ module _ (w n : Walk) (walks : Walks w) (ext : Extends w n) where
       ∙ begun_pushed w (let room = went_room in omega (arith, room, walks.sized.places_are))
 
   -- the walk goes on
-  pub advances_on : (v : ℕ) → GoesOn w.current w.walked.cursors n.marks.items n.path.items (suc w.depth) v
+  goes_further : (v : ℕ) → GoesOn w.current w.walked.cursors n.marks.items n.path.items (suc w.depth) v
       → GoesTo w (record went { depth = w.depth + 1; at = v })
-  advances_on v goes_on =
+  goes_further v goes_on =
       let one : suc w.depth ≡ w.depth + 1 = omega arith in
       let room = went_room in
       let next : Walk = record went { depth = w.depth + 1; at = v } in
@@ -154,16 +170,21 @@ module _ (w n : Walk) (walks : Walks w) (ext : Extends w n) where
         nearer = omega arith;
       }
 
+  pub advances_on : (v : ℕ) → LeadsTo n (On v) → GoesTo w (record n { depth = n.depth + 1; at = v })
+  advances_on v leads =
+      subst (λ (x : Walk). GoesTo w (record x { depth = x.depth + 1; at = v })) (sym ext.others)
+      (goes_further v (subst (λ (x : Walk). LeadsTo x (On v)) ext.others leads))
+
   -- the walk is over where all is settled
-  pub advances_rests : HasPath went (suc w.depth)
+  is_over : HasPath went (suc w.depth)
       × ((v : ℕ) → current_head w.current w.walked.cursors (get_or n.path.items w.depth 0) ≡ Some v
       → IsSettled n.marks.items v)
       → Ends w went
-  advances_rests (trail, rests) = record {
+  is_over (trail, settled_next) = record {
     over = record {
       sized = went_sized;
       trail = trail;
-      done = done_rests w.current w.walked.cursors n.marks.items n.path.items w.depth w.walked.stuck trail rests
+      done = done_rests w.current w.walked.cursors n.marks.items n.path.items w.depth w.walked.stuck trail settled_next
           went_done;
       last = walks.last;
       room = walks.room;
@@ -171,8 +192,14 @@ module _ (w n : Walk) (walks : Walks w) (ext : Extends w n) where
     begun = went_begun;
   }
 
-  module _ (place : ℕ)
-      (closes : Closes w.current w.walked.cursors n.marks.items n.path.items w.depth place) where
+  pub advances_rests : LeadsTo n Rests → Ends w n
+  advances_rests leads =
+      subst (Ends w) (sym ext.others) (is_over (subst (λ (x : Walk). LeadsTo x Rests) ext.others leads))
+
+  module _ (place : ℕ) (leads : LeadsTo n (Back place)) where
+    closes : Closes w.current w.walked.cursors n.marks.items n.path.items w.depth place
+    closes = subst (λ (x : Walk). LeadsTo x (Back place)) ext.others leads
+
     -- the cycle that the path closes
     abbrev pub went_cycle : Cube
     went_cycle = loop_of w.current w.walked.cursors n.path.items w.depth place
@@ -234,47 +261,54 @@ module _ (w n : Walk) (walks : Walks w) (ext : Extends w n) where
         runs_popped w.current w.walked (with_pop w.walked went_cycle) went_cycle few (went_loop.cycle, refl)
         (record { occurs = cube_occurs w.current w.walked.cursors _ went_cycle went_loop.cube; next = next }) refl
 
-    module _ (m : Walk) where
+    module _ (m : Walk) (popped : Bool) (by : PopsOrNotes n m (slice_range n.path.items place (n.depth + 1)) popped) where
       -- what was done with the cycle
-      pub closed_by : (popped : Bool) → PopsOrNotes n m (slice_range n.path.items place (n.depth + 1)) popped
-          → MatchBool popped (Pops went m went_cycle) (Notes went m went_cycle)
-      closed_by popped by =
-          subst (λ (x : Walk). PopsOrNotes x m (slice_range x.path.items place (x.depth + 1)) popped) ext.others by went_cycle
-          went_loop.cube
+      closed_by : MatchBool popped (Pops w.current w.walked m.walked went_cycle)
+          (Notes w.current w.walked m.walked went_cycle)
+      closed_by =
+          subst (λ (x : Walk). Closed x.current x.walked m.walked (slice_range x.path.items place (x.depth + 1)) popped)
+          ext.others by.closed went_cycle went_loop.cube
 
-      -- it was popped: the walk goes on from where it closed
-      pub pops_goes_to : Pops went m went_cycle
-          → GoesTo w (record m { depth = place; at = get_or m.path.items place 0 })
-      pops_goes_to pops =
-          subst (λ (x : Walk). GoesTo w (record x { depth = place; at = get_or x.path.items place 0 })) (sym pops.popped)
-          (advances_popped pops.few pops.next)
+      -- all else stays as the step left it
+      others : m ≡ record went { walked = m.walked }
+      others = by.others ∙ ap (λ (x : Walk). record x { walked = m.walked }) ext.others
 
-      -- the pop is legal
-      pub pops_runs : Pops went m went_cycle → RunsOn w.current w.walked m.walked
-      pops_runs pops =
-          subst (λ (x : Walk). RunsOn w.current w.walked x.walked) (sym pops.popped) (popped_runs pops.few pops.next)
+      -- it was popped, which is legal, and the walk goes on from where it closed
+      pub goes_back : popped ≡ true → GoesBack w m place
+      goes_back was =
+          let pops : Pops w.current w.walked m.walked went_cycle = MatchBool-at_true _ _ was closed_by in
+          let is : m ≡ record went { walked = with_pop w.walked went_cycle } =
+          others ∙ ap (λ x. record went { walked = x }) pops.popped in
+          let room = went_room in
+          let order = closes.order in
+          let sized = went_sized in
+          record {
+            within = omega (
+              arith,
+              room,
+              order,
+              sized.places_are,
+              ap (λ (x : Walk). length x.path.items) is,
+            );
+            next =
+                subst (λ (x : Walk). GoesTo w (record x { depth = place; at = get_or x.path.items place 0 }))
+                (sym is) (advances_popped pops.few pops.next);
+            runs =
+                subst (λ (x : Walk). RunsOn w.current w.walked x.walked) (sym is)
+                (popped_runs pops.few pops.next);
+            stay = subst (StaySettled w) (sym is) went_stay;
+            current = ap (λ (x : Walk). x.current) is;
+          }
 
-      -- settled variables stay so
-      pub pops_keeps : Pops went m went_cycle → StaySettled w m
-      pops_keeps pops = subst (StaySettled w) (sym pops.popped) went_stay
-
-      -- on the same arrows
-      pub pops_current : Pops went m went_cycle → m.current ≡ w.current
-      pops_current pops = ap (λ (x : Walk). x.current) pops.popped
-
-      -- it was noted: the walk is over
-      pub notes_ends : Notes went m went_cycle → Ends w m
-      notes_ends notes = subst (Ends w) (sym notes.noted) (advances_noted notes.last)
-
-      -- with no pop
-      pub notes_runs : Notes went m went_cycle → RunsOn w.current w.walked m.walked
-      notes_runs notes =
-          runs_noted w.current w.walked m.walked went_cycle (ap (λ (x : Walk). x.walked) notes.noted)
-
-      -- settled variables stay so
-      pub notes_keeps : Notes went m went_cycle → StaySettled w m
-      notes_keeps notes = subst (StaySettled w) (sym notes.noted) went_stay
-
-      -- on the same arrows
-      pub notes_current : Notes went m went_cycle → m.current ≡ w.current
-      notes_current notes = ap (λ (x : Walk). x.current) notes.noted
+      -- it was noted, with no pop, and the walk is over
+      pub ends_back : popped ≡ false → EndsBack w m
+      ends_back was =
+          let notes : Notes w.current w.walked m.walked went_cycle = MatchBool-at_false _ _ was closed_by in
+          let is : m ≡ record went { walked = with_stuck w.walked went_cycle } =
+          others ∙ ap (λ x. record went { walked = x }) notes.noted in
+          record {
+            next = subst (Ends w) (sym is) (advances_noted notes.last);
+            runs = runs_noted w.current w.walked m.walked went_cycle notes.noted;
+            stay = subst (StaySettled w) (sym is) went_stay;
+            current = ap (λ (x : Walk). x.current) is;
+          }

@@ -1,15 +1,21 @@
 -- Walks that go on: what walks have left so far leads on to what they leave in the end.
-use Rattle.std.proofs.Common.{◌≡◌, ◌<◌, ◌≤◌, [], length, refl, sym, ap, subst, ◌∙◌, arith}
+use Rattle.std.proofs.Common.{◌≡◌, ◌<◌, ◌≤◌, ℕ, List, [], cond, ltb, length, refl, sym, ap, subst, ◌∙◌, arith}
+use Rattle.std.specs.List.{range_with_len}
+use Rattle.std.proofs.lemmas.Bool.{ltb-true}
 use Rattle.std.proofs.lemmas.List.{nil_from_length}
+use Rattle.pop_model.specs.Stacks.{variables_of}
 use Rattle.pop_model.specs.Popping.{Cube, IsPoppable}
 use Rattle.pop_model.specs.Families.{IsEvent}
 use Rattle.pop_model.specs.Logs.{replay}
+use Rattle.pop_model.specs.Runs.{IsEnd}
 use Rattle.confluence_core.specs.Records.{record_at}
-use Rattle.confluence_core.specs.CycleTables.{CycleTable, cycles}
+use Rattle.confluence_core.specs.CycleTables.{CycleTable, AreCursors, cycles}
+use Rattle.confluence_core.specs.Stretches.{GoesOn}
 use Rattle.confluence_core.specs.Walks.{cycle_event}
 use Rattle.confluence_core.specs.Steps.{RunsOn, reached_by, with_pop, with_stuck}
 use Rattle.confluence_core.specs.declared.walked.Walked.{Walked}
-use Rattle.confluence_core.proofs.Reaching.{leads_none, leads_pop, leads_then}
+use Rattle.confluence_core.proofs.Reaching.{leads_none, leads_pop, leads_then, leads_for}
+use Rattle.confluence_core.proofs.Suspects.{none_or_all}
 
 -- nothing is popped
 pub runs_none : (t : CycleTable) (w : Walked) → RunsOn t w w
@@ -54,3 +60,22 @@ runs_nowhere t old new none limit runs =
     let most : new.pops ≤ new.limit = runs.most (omega (arith, none)) in
     let short : length runs.leads.log ≡ 0 = omega (arith, runs.leads.pops_are, most, runs.limit_is, limit) in
     runs.leads.cursors_are ∙ ap (replay old.cursors) (nil_from_length runs.leads.log short)
+
+-- a run whose walks pop no more, or have come to an end, has gone on: it suspects each variable, or none
+pub runs_go_on : (t : CycleTable) (old left : Walked) (us suspects : List ℕ) → length t.heads ≡ variables_of t.stacks
+    → RunsOn t old left → AreCursors t left.cursors → (left.pops < left.limit → IsEnd (cycles t) left.cursors)
+    → suspects ≡ cond (ltb left.pops left.limit) [] (range_with_len 0 (length t.heads))
+    → GoesOn (cycles t) (record (reached_by old) { suspects = us }) (record (reached_by left) { suspects = suspects })
+runs_go_on t old left us suspects fits runs are end is =
+    let i = cycles t in
+    let known = none_or_all i left.cursors suspects (ltb left.pops left.limit)
+    (λ few. end (ltb-true left.pops left.limit few)) is in
+    record {
+      leads = leads_for i (reached_by old) (reached_by left) us suspects runs.leads;
+      can = record {
+        count = sym (are.count ∙ fits);
+        within = are.within;
+        units = known.0;
+        suspects = known.1;
+      };
+    }

@@ -1,6 +1,6 @@
 -- Walks as a whole: each begins at a variable that isn't settled and settles what it met; where every variable is settled
 -- those that were noted are all that occur.
-use Rattle.std.proofs.Common.{inl, inr, ◌≡◌, ℕ, suc, ◌+◌, ◌<◌, List, [], length, take, get_or, replicate, refl, sym, ap, subst, ◌∙◌, arith, Contains}
+use Rattle.std.proofs.Common.{inl, inr, ◌≡◌, ℕ, suc, ◌+◌, ◌<◌, List, [], length, get_or, replicate, refl, sym, ap, subst, ◌∙◌, arith, Contains}
 use Rattle.std.specs.List.Sorted.{IsPermutation, IsNonDecreasingBy}
 use Rattle.std.proofs.lemmas.List.{length-replicate, get_or-replicate, get_or_past}
 use Rattle.std.proofs.lemmas.List.Sorted.{Contains-permutation, IsPermutation-sym}
@@ -14,8 +14,7 @@ use Rattle.pop_model.proofs.CycleFamily.{first_named}
 use Rattle.pop_model.proofs.TreeEnd.{find, stays_at, head_within}
 use Rattle.confluence_core.specs.CycleTables.{CycleTable, cycles}
 use Rattle.confluence_core.specs.Walks.{settled, IsSettled, IsMet, AreDone, HasRoom}
-use Rattle.confluence_core.specs.LoopErasedWalks.{IsSized, Stands, Walks, IsOver, begun_at}
-use Rattle.confluence_core.specs.Loops.{Marks}
+use Rattle.confluence_core.specs.LoopErasedWalks.{IsSized, Stands, Walks, IsOver, SettlesPath, begun_at}
 use Rattle.confluence_core.specs.Steps.{Ends}
 use Rattle.confluence_core.specs.declared.walk.Walk.{Walk}
 use Rattle.confluence_core.proofs.SortedKeys.{rises_sorted}
@@ -76,10 +75,8 @@ walk_settles w new over is size are = subst Stands (sym is) (record {
   room = over.room;
 })
 
--- a walk that is over, once the variables of its path are marked as settled
-module _ (old w m : Walk) (ends : Ends old w) (is : m ≡ record w { marks = m.marks })
-    (marked : Marks (take (w.depth + 1) w.path.items) (length (take (w.depth + 1) w.path.items)) settled w.marks.items
-    m.marks.items) where
+-- a walk that is over, once the variables of its path are settled
+module _ (old w m : Walk) (ends : Ends old w) (settles : SettlesPath w m) where
   -- so the first places of the path are
   front_marked : MarksFront w.path.items (suc w.depth) settled w.marks.items m.marks.items
   front_marked =
@@ -87,11 +84,11 @@ module _ (old w m : Walk) (ends : Ends old w) (is : m ≡ record w { marks = m.m
       let fits = path_fits w.current w.walked.cursors w.marks.items w.path.items (suc w.depth) ends.over.trail in
       subst (λ k. MarksFront w.path.items k settled w.marks.items m.marks.items) one
       (marks_front w.path.items (w.depth + 1) settled w.marks.items m.marks.items
-      (omega (arith, fits, ends.over.sized.places_are)) marked)
+      (omega (arith, fits, ends.over.sized.places_are)) settles.marks)
 
   -- what holds between two walks holds again
   pub ended_stands : Stands m
-  ended_stands = walk_settles w m ends.over is marked.count front_marked
+  ended_stands = walk_settles w m ends.over settles.others settles.marks.count front_marked
 
   -- the variable where the walk began is settled
   pub ended_settles : IsSettled m.marks.items (begun_at old)

@@ -6,6 +6,7 @@ pub mod Records
 pub mod Kept
 pub mod Suspects
 pub mod Stretches
+pub mod Waiting
 pub mod Indexes
 pub mod Runs
 pub mod CycleTables

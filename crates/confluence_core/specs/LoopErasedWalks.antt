@@ -1,7 +1,8 @@
 -- A loop-erased walk along the current arrows (Wilson 1996; Propp and Wilson 1998).
-use Rattle.std.specs.Prelude.{ℕ, suc, ◌+◌, ◌-◌, ◌*◌, ◌==◌, if◌then◌else◌, length, slice_index}
+use Rattle.std.specs.Prelude.{◌≡◌, ℕ, suc, ◌+◌, ◌-◌, ◌*◌, ◌==◌, if◌then◌else◌, List, length, take, slice_index}
 use Rattle.pop_model.proofs.Room.{left_from}
-use Rattle.confluence_core.specs.Walks.{IsSettled, IsMet, AreDone, AreSized, IsPath, GoesOn, HasRoom, AreLast}
+use Rattle.confluence_core.specs.Loops.{Marks}
+use Rattle.confluence_core.specs.Walks.{settled, IsSettled, IsMet, AreDone, AreSized, IsPath, GoesOn, HasRoom, AreLast}
 use Rattle.confluence_core.specs.declared.walk.Walk.{Walk}
 
 -- a settled variable stays so
@@ -43,6 +44,15 @@ pub record IsOver (w : Walk) : Type 0 where
       w.walked.stuck
   pub last : AreLast w.current w.walked
   pub room : HasRoom w.current w.walked
+
+-- the variables that the walk met, once it is over
+abbrev pub met : Walk → List ℕ
+met w = take (w.depth + 1) w.path.items
+
+-- these are settled
+pub record SettlesPath (old new : Walk) : Type 0 where
+  pub marks : Marks (met old) (length (met old)) settled old.marks.items new.marks.items
+  pub others : new ≡ record old { marks = new.marks }
 
 -- the variable from which the walk began
 abbrev pub begun_at : Walk → ℕ

@@ -43,22 +43,25 @@ abbrev pub with_stuck : Walked → Cube → Walked
 with_stuck w e = record w { stuck = w.stuck ++ cycle_event e ∷ [] }
 
 -- the cycle was popped
-pub record Pops (old new : Walk) (e : Cube) : Type 0 where
-  pub few : old.walked.pops < old.walked.limit
-  pub next : HasNext old.current.stacks old.walked.cursors e
-  pub popped : new ≡ record old { walked = with_pop old.walked e }
+pub record Pops (t : CycleTable) (old new : Walked) (e : Cube) : Type 0 where
+  pub few : old.pops < old.limit
+  pub next : HasNext t.stacks old.cursors e
+  pub popped : new ≡ with_pop old e
 
 -- the cycle can't be popped, or the limit is reached; so it was noted
-pub record Notes (old new : Walk) (e : Cube) : Type 0 where
-  pub last : old.walked.pops < old.walked.limit
-      → HasNext old.current.stacks old.walked.cursors e → ⊥
-  pub noted : new ≡ record old { walked = with_stuck old.walked e }
+pub record Notes (t : CycleTable) (old new : Walked) (e : Cube) : Type 0 where
+  pub last : old.pops < old.limit → HasNext t.stacks old.cursors e → ⊥
+  pub noted : new ≡ with_stuck old e
 
 -- the cycle of these variables was popped or noted
-abbrev pub PopsOrNotes : Walk → Walk → List ℕ → Bool → Type 0
-PopsOrNotes old new members popped =
-    (e : Cube) → IsCubeOf old.current old.walked.cursors members e
-    → MatchBool popped (Pops old new e) (Notes old new e)
+abbrev pub Closed : CycleTable → Walked → Walked → List ℕ → Bool → Type 0
+Closed t old new members popped = (e : Cube) → IsCubeOf t old.cursors members e
+    → MatchBool popped (Pops t old new e) (Notes t old new e)
+
+-- so it was on the walk's arrows, and all else stays
+pub record PopsOrNotes (old new : Walk) (members : List ℕ) (popped : Bool) : Type 0 where
+  pub closed : Closed old.current old.walked new.walked members popped
+  pub others : new ≡ record old { walked = new.walked }
 
 -- how far walks have come
 abbrev pub reached_by : Walked → Reached

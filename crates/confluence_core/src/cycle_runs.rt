@@ -1,5 +1,4 @@
-ghost use Rattle.std.specs.Prelude.{◌≡◌, ◌<◌, ◌≤◌, ◌^◌, [], IfOk, length, if◌then◌else◌};
-ghost use Rattle.std.specs.List.{range_with_len};
+ghost use Rattle.std.specs.Prelude.{◌≡◌, ◌<◌, ◌≤◌, ◌^◌, [], IfOk, length};
 ghost use Rattle.pop_model.specs.Stacks.{variables_of};
 ghost use Rattle.pop_model.specs.Popping.{AreWithin};
 ghost use Rattle.pop_model.specs.Families.Family.{Cycles as CycleEvents};
@@ -9,9 +8,9 @@ ghost use Rattle.pop_stacks.specs.Readers.{Belongs};
 ghost use Rattle.confluence_core.specs.Stretches.{HasCome, GoesOn};
 
 use crate::current_arrows::CurrentArrows;
-use crate::walk::Walk;
+use crate::walk::left_by_walks;
 use crate::walked::Walked;
-use crate::{Reached, Stuck, Units};
+use crate::{Reached, Stuck};
 use pop_instance::{Arrows, Cursors};
 use pop_stacks::{Reader, Stacks};
 use std::alloc::{AllocError, Global};
@@ -55,21 +54,9 @@ pub(crate) fn pop_cycles(
         log,
         stuck: Stuck::new(alloc),
     };
-    let mut walk = Walk::new(alloc, current, walked)?;
-    walk.settle_all(alloc, reader)?;
-    let Walked {
-        cursors,
-        pops,
-        log,
-        ..
-    } = walk.into_walked();
-    let suspects = suspects_at(alloc, pops < limit, arrows.count())?;
-    Ok(Reached {
-        cursors,
-        pops,
-        log,
-        suspects,
-    })
+    let left = left_by_walks(alloc, current, reader, walked)?;
+    let reached = left.into_reached(alloc, arrows.count())?;
+    Ok(reached)
 }
 
 /// The cycles that occur at any cursors, by rising unit: a walk that pops nothing notes them. Its
@@ -91,24 +78,14 @@ pub(crate) fn occurring_cycles(
 {
     let current = CurrentArrows::of(stacks, arrows);
     let _count = current.count();
+    let copy = cursors.copy(alloc)?;
     let walked = Walked {
-        cursors: cursors.copy(alloc)?,
+        cursors: copy,
         pops: 0,
         limit: 0,
         log: None,
         stuck: Stuck::new(alloc),
     };
-    let mut walk = Walk::new(alloc, current, walked)?;
-    walk.settle_all(alloc, reader)?;
-    Ok(walk.into_walked().stuck)
-}
-
-// No unit at an end, and else all of so many.
-fn suspects_at(alloc: Global, is_end: bool, units: u32) -> Result<Units, AllocError>
-    ensures { IfOk result (λ suspects. suspects ≡ (if is_end then [] else range_with_len 0 units)) }
-{
-    if is_end {
-        return Ok(Units::new(alloc));
-    }
-    Units::all(alloc, units)
+    let left = left_by_walks(alloc, current, reader, walked)?;
+    Ok(left.into_stuck())
 }

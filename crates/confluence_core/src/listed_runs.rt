@@ -5,6 +5,7 @@ ghost use Rattle.pop_model.specs.Instances.{IsInstance};
 ghost use Rattle.pop_stacks.specs.Readers.{Belongs};
 ghost use Rattle.pop_instance.specs.Index.{IsIndex};
 ghost use Rattle.confluence_core.specs.Records.{record_at};
+ghost use Rattle.confluence_core.specs.Waiting.{PopsListed};
 ghost use Rattle.confluence_core.specs.Stretches.{HasCome, GoesOn, with_more};
 
 use crate::indexed::IndexedEvents;
@@ -38,28 +39,71 @@ pub(crate) fn pop_listed(
     ensures few { IfOk result (λ new. new.pops < 2 ^ 63) }
     ensures reader { reader.new ≡ reader.old }
 {
+    let mut reached = reached;
+    let mut work = match WorkList::of(alloc, listed.events.count(), reached.suspects.as_slice()) {
+        Ok(work) => work,
+        Err(error) => {
+            drop(reached);
+            return Err(error);
+        }
+    };
+    match pop_waiting(
+        alloc,
+        stacks,
+        listed,
+        reader,
+        &mut reached,
+        &mut work,
+        limit,
+    ) {
+        Ok(()) => {
+            reached.suspects = work.into_units();
+            Ok(reached)
+        }
+        Err(error) => {
+            drop(work);
+            drop(reached);
+            Err(error)
+        }
+    }
+}
+
+// Pops the events that wait in a work list, which the index feeds, to an end or to so many pops.
+fn pop_waiting(
+    alloc: Global,
+    stacks: &Stacks,
+    listed: IndexedEvents,
+    reader: &mut Reader,
+    reached: &mut Reached,
+    work: &mut WorkList,
+    limit: u64,
+) -> Result<(), AllocError>
+    requires instance { IsInstance
+        (record { stacks = stacks.now; family = ListedEvents listed.events.now }) }
+    requires index { IsIndex listed.events.now listed.index.now }
+    requires belongs { Belongs stacks.now reader.old }
+    requires waits { PopsListed stacks.now listed.events.now limit reached.old reached.old work.old }
+    ensures popped { OnOk result (PopsListed stacks.now listed.entry.events.now limit
+        reached.old reached.new work.new) }
+    ensures end { OnOk result (reached.new.pops < limit → work.new.list ≡ []) }
+    ensures reader { reader.new ≡ reader.old }
+{
     let IndexedEvents { events, index } = listed;
-    let Reached {
-        mut cursors,
-        mut pops,
-        mut log,
-        suspects,
-    } = reached;
-    let mut work = WorkList::new(alloc, events.count())?;
-    work.add_all(suspects.as_slice())?;
-    while let Some(place) = next_below(stacks, events, reader, &cursors, &mut work, pops < limit) {
+    'pops: while let Some(place) = next_below(
+        stacks,
+        events,
+        reader,
+        &reached.cursors,
+        work,
+        reached.pops < limit,
+    ) {
         let cube = events.cube(place);
-        keep_record(alloc, &mut log, place, cube, &cursors)?;
-        cursors.pop(cube);
-        pops += 1;
+        keep_record(alloc, &mut reached.log, place, cube, &reached.cursors)?;
+        reached.cursors.pop(cube);
+        reached.pops += 1;
         work.add_sharing(index, cube)?;
     }
-    Ok(Reached {
-        cursors,
-        pops,
-        log,
-        suspects: work.into_units(),
-    })
+    Ok(())
 }
 
 // Adds the record of an event that is popped at these cursors, where the log is kept.

@@ -24,6 +24,29 @@ pub(crate) fn have_next(current: &CurrentArrows, cursors: &Cursors, members: &[u
     true
 }
 
+// These variables with their current slots, by rising variable: the pairs of their cube.
+fn sorted_pairs(
+    alloc: Global,
+    current: &CurrentArrows,
+    reader: &mut Reader,
+    cursors: &Cursors,
+    members: &[u32],
+) -> Result<Vec<(u32, u32)>, AllocError>
+    requires members { AreMembers current.now members.now }
+    requires cursors { AreCursors current.now cursors.now }
+    requires belongs { Belongs current.now.stacks reader.old }
+    ensures cube { IfOk result (λ pairs. IsCubeOf current.now cursors.now members.now pairs.items) }
+    ensures each { IfOk result (λ pairs. length pairs.items ≡ length members.now) }
+    ensures reader { reader.new ≡ reader.old }
+{
+    let mut pairs = Vec::with_capacity(alloc, members.len())?;
+    for v in members {
+        pairs.push((*v, current.slot(reader, cursors, *v)))?;
+    }
+    pairs.sort_unstable_by_key(|pair| pair.0);
+    Ok(pairs)
+}
+
 /// The cube of these variables, each with its current slot. They are at least one and below 2^31,
 /// and no two are alike.
 pub fn cube_of(
@@ -40,11 +63,7 @@ pub fn cube_of(
     ensures cube { IfOk result (IsCubeOf current.now cursors.now members.now) }
     ensures reader { reader.new ≡ reader.old }
 {
-    let mut pairs = Vec::with_capacity(alloc, members.len())?;
-    for v in members {
-        pairs.push((*v, current.slot(reader, cursors, *v)))?;
-    }
-    pairs.sort_unstable_by_key(|pair| pair.0);
+    let pairs = sorted_pairs(alloc, current, reader, cursors, members)?;
     let Some(cube) = Cube::new(pairs) else {
         unreachable!()
     };

@@ -1,15 +1,12 @@
 ghost use Rattle.std.specs.Prelude.{◌≡◌, suc, ◌<◌, ◌↔◌, length, All, IfOk, OnOk, IsTrue, slice_range, ◌+◌};
 ghost use Rattle.pop_stacks.specs.Readers.{Belongs};
 ghost use Rattle.confluence_core.specs.CycleTables.{AreCursors};
-ghost use Rattle.confluence_core.specs.Loops.{HaveNext};
 ghost use Rattle.confluence_core.specs.Walks.{IsPlaceOf, Closes, HasRoom};
 ghost use Rattle.confluence_core.specs.LoopErasedWalks.{StaySettled, IsSized, HasPath, Walks};
 ghost use Rattle.confluence_core.specs.Steps.{LeadsTo, Extends, RunsOn, PopsOrNotes, Advances};
 
 use crate::current_arrows::CurrentArrows;
-use crate::loops::have_next;
 use crate::walk::Walk;
-use crate::walked::Walked;
 use pop_stacks::Reader;
 use std::alloc::{AllocError, Global};
 
@@ -25,17 +22,6 @@ enum Step {
     Back(usize),
     // To the root or to a settled variable.
     Rests,
-}
-
-// Whether the cycle of these variables is to be popped: each has an entry behind its cursor, and
-// the limit isn't reached.
-fn is_to_pop(current: &CurrentArrows, walked: &Walked, members: &[u32]) -> bool
-    requires known { All (λ v. v < length current.now.heads) members.now }
-    requires cursors { AreCursors current.now walked.now.cursors }
-    ensures { IsTrue result ↔ ((walked.now.pops < walked.now.limit)
-        × HaveNext current.now walked.now.cursors members.now) }
-{
-    walked.pops < walked.limit && have_next(current, &walked.cursors, members)
 }
 
 impl<'a> Walk<'a> {
@@ -100,12 +86,8 @@ impl<'a> Walk<'a> {
         ensures reader { reader.new ≡ reader.old }
     {
         let members = &self.path[place..self.depth + 1];
-        if !is_to_pop(&self.current, &self.walked, members) {
-            self.walked.note(alloc, &self.current, reader, members)?;
-            return Ok(false);
-        }
-        self.walked.pop(alloc, &self.current, reader, members)?;
-        Ok(true)
+        self.walked
+            .pop_or_note(alloc, &self.current, reader, members)
     }
 
     /// Goes a step of a walk, and answers whether it goes on. A cycle that closes is popped, and

@@ -1,9 +1,9 @@
-ghost use Rattle.std.specs.Prelude.{◌≡◌, ◌<◌, [], IfOk, OnOk, length};
+ghost use Rattle.std.specs.Prelude.{◌≡◌, ◌<◌, [], IfOk, OnOk, length, replicate};
 ghost use Rattle.pop_model.specs.Runs.{IsEnd, IsStuckList};
 ghost use Rattle.pop_stacks.specs.Readers.{Belongs};
 ghost use Rattle.confluence_core.specs.CycleTables.{cycles, AreCursors};
 ghost use Rattle.confluence_core.specs.Walks.{HasRoom, IsSettled};
-ghost use Rattle.confluence_core.specs.LoopErasedWalks.{Stands, StaySettled};
+ghost use Rattle.confluence_core.specs.LoopErasedWalks.{Stands, StaySettled, IsOver, SettlesPath};
 ghost use Rattle.confluence_core.specs.Steps.{RunsOn};
 
 use crate::current_arrows::CurrentArrows;
@@ -45,14 +45,28 @@ impl<'a> Walk<'a> {
         ensures walked { IfOk result (λ walk. walk.walked ≡ walked) }
     {
         let count = current.count() as usize;
-        Ok(Walk {
-            current,
-            walked,
-            marks: vec![in alloc; 0; count]?,
-            path: vec![in alloc; 0; count]?,
-            depth: 0,
-            at: 0,
-        })
+        match zeros_twice(alloc, count) {
+            Ok((marks, path)) => Ok(Walk {
+                current,
+                walked,
+                marks,
+                path,
+                depth: 0,
+                at: 0,
+            }),
+            Err(error) => {
+                drop(walked);
+                Err(error)
+            }
+        }
+    }
+
+    // Settles the variables of the path, where the walk is over.
+    fn settle_path(&mut self)
+        requires over { IsOver self.old }
+        ensures { SettlesPath self.old self.new }
+    {
+        mark_all(&mut self.marks, &self.path[..self.depth + 1], SETTLED);
     }
 
     // Walks from a variable until it is settled.
@@ -73,7 +87,7 @@ impl<'a> Walk<'a> {
         self.depth = 0;
         self.at = start;
         'walk: while self.advance(alloc, reader)? {}
-        mark_all(&mut self.marks, &self.path[..self.depth + 1], SETTLED);
+        self.settle_path();
         Ok(())
     }
 
@@ -113,5 +127,45 @@ impl<'a> Walk<'a> {
             at: _,
         } = self;
         walked
+    }
+}
+
+// So many zeros, twice.
+fn zeros_twice(alloc: Global, count: usize) -> Result<(Vec<u32>, Vec<u32>), AllocError>
+    ensures first { IfOk result (λ both. both.0.items ≡ replicate count 0) }
+    ensures second { IfOk result (λ both. both.1.items ≡ replicate count 0) }
+{
+    let first = vec![in alloc; 0; count]?;
+    let second = vec![in alloc; 0; count]?;
+    Ok((first, second))
+}
+
+/// What walks leave from here on, at the limit or an end.
+pub(crate) fn left_by_walks(
+    alloc: Global,
+    current: CurrentArrows,
+    reader: &mut Reader,
+    walked: Walked,
+) -> Result<Walked, AllocError>
+    requires cursors { AreCursors current walked.cursors }
+    requires none_stuck { walked.stuck ≡ [] }
+    requires room { HasRoom current walked }
+    requires belongs { Belongs current.stacks reader.old }
+    ensures runs { IfOk result (RunsOn current.entry walked) }
+    ensures cursors { IfOk result (λ left. AreCursors current.entry left.cursors) }
+    ensures end { IfOk result (λ left. left.pops < left.limit
+        → IsEnd (cycles current.entry) left.cursors) }
+    ensures room { IfOk result (HasRoom current.entry) }
+    ensures stuck_list { IfOk result (λ left.
+        IsStuckList (cycles current.entry) left.cursors left.stuck) }
+    ensures reader { reader.new ≡ reader.old }
+{
+    let mut walk = Walk::new(alloc, current, walked)?;
+    match walk.settle_all(alloc, reader) {
+        Ok(()) => Ok(walk.into_walked()),
+        Err(error) => {
+            drop(walk);
+            Err(error)
+        }
     }
 }

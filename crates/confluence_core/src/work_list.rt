@@ -1,4 +1,4 @@
-ghost use Rattle.std.specs.Prelude.{◌≡◌, ◌<◌, ◌∷◌, [], length, OnOk, IfOk, MatchOption, All, ℕ, slice_index_or};
+ghost use Rattle.std.specs.Prelude.{◌≡◌, ◌<◌, ◌∷◌, [], length, OnOk, IfOk, MatchOption, All, Contains, ℕ, slice_index_or};
 ghost use Rattle.pop_model.specs.Popping.{NamesBelow};
 ghost use Rattle.confluence_core.specs.WorkList.{Gains, Gives, GainsSharing};
 
@@ -35,6 +35,22 @@ impl WorkList {
             waiting: Vec::new(alloc),
             marks: vec![in alloc; false; units as usize]?,
         })
+    }
+
+    /// A list for so many units, in which these wait.
+    pub fn of(alloc: Global, units: u32, waiting: &[u32]) -> Result<WorkList, AllocError>
+        requires known { All (λ u. u < units) waiting.now }
+        ensures units { IfOk result (λ work. work.units ≡ units) }
+        ensures waits { IfOk result (λ work. All (Contains work.list) waiting.now) }
+    {
+        let mut work = WorkList::new(alloc, units)?;
+        match work.add_all(waiting) {
+            Ok(()) => Ok(work),
+            Err(error) => {
+                drop(work);
+                Err(error)
+            }
+        }
     }
 
     /// Takes a unit out of the list.

@@ -1,12 +1,23 @@
-use Rattle.std.proofs.Common.{inl, inr, rules, ◌≡◌, ◌+◌, ◌<◌, Some, None, length, get_or, set, sym, subst, ◌∙◌, arith, length-set}
+use Rattle.std.proofs.Common.{inl, inr, rules, ℕ, ◌≡◌, ◌+◌, ◌<◌, Some, None, length, get_or, set, sym, subst, ◌∙◌, arith, length-set}
 use Rattle.std.proofs.lemmas.List.{get_or_default}
 use Rattle.std.proofs.lemmas.Option.{none-some, same_Some}
 use Rattle.confluence_core.specs.CycleTables.{current_head}
 use Rattle.confluence_core.specs.Walks.{IsSettled}
+use Rattle.confluence_core.specs.LoopErasedWalks.{Walks}
+use Rattle.confluence_core.specs.declared.walk.Walk.{Walk}
 use Rattle.confluence_core.proofs.PathsLemmas.{room_for_more}
 use Rattle.confluence_core.proofs.Advancing.{step_path, step_rests, step_on, step_back, step_below}
 use Rattle.confluence_core.proofs.WalkSteps.{sized_same}
 use Rattle.confluence_core.proofs.walk.Walk.extend.Goals as goal
+
+-- the mark that is read, of a variable to which the new arrow leads
+mark_at : (w : Walk) → Walks w → (v m : ℕ) → current_head w.current w.walked.cursors w.at ≡ Some v
+    → m ≡ get_or (set w.marks.items w.at (w.depth + 1)) v m → m ≡ get_or (set w.marks.items w.at (w.depth + 1)) v 0
+mark_at w walks v m leads read =
+    let below = step_below w.current w.walked.cursors w.marks.items w.path.items w.depth w.at walks.sized walks.goes_on
+    v leads in
+    read ∙ get_or_default (set w.marks.items w.at (w.depth + 1)) v m 0
+    (omega (arith, below, walks.sized.marks_are, length-set w.marks.items w.at (w.depth + 1)))
 
 pub index_mut-requires : goal.index_mut-requires
 index_mut-requires c =
@@ -41,12 +52,8 @@ pub returns-then-mark-clause-leads : goal.returns-then-mark-clause-leads
 returns-then-mark-clause-leads c =
     let w = c.args.self.now in
     let leads : current_head w.current w.walked.cursors w.at ≡ Some c.in-Some.w = sym c.head.ensures.head ∙ c.in-Some.is in
-    let below = step_below w.current w.walked.cursors w.marks.items w.path.items w.depth w.at c.requires.walks.sized
-    c.requires.walks.goes_on c.in-Some.w leads in
     let marks = set w.marks.items w.at (w.depth + 1) in
-    let read : c.index-mark.result.now ≡ get_or marks c.in-Some.w 0 =
-    c.index-mark.ensures ∙ get_or_default marks c.in-Some.w c.index-mark.result.now 0
-    (omega (arith, below, c.requires.walks.sized.marks_are, length-set w.marks.items w.at (w.depth + 1))) in
+    let read = mark_at w c.requires.walks c.in-Some.w c.index-mark.result.now leads c.index-mark.ensures in
     step_rests w.current w.walked.cursors w.marks.items w.path.items w.depth w.at c.requires.walks.sized
     c.requires.walks.goes_on
     (λ v on. subst (IsSettled marks) (same_Some c.in-Some.w v (sym leads ∙ on)) (sym read ∙ c.if-mark.true))
@@ -82,12 +89,8 @@ pub returns-in-None-clause-leads : goal.returns-in-None-clause-leads
 returns-in-None-clause-leads c =
     let w = c.args.self.now in
     let leads : current_head w.current w.walked.cursors w.at ≡ Some c.in-Some.w = sym c.head.ensures.head ∙ c.in-Some.is in
-    let below = step_below w.current w.walked.cursors w.marks.items w.path.items w.depth w.at c.requires.walks.sized
-    c.requires.walks.goes_on c.in-Some.w leads in
     let marks = set w.marks.items w.at (w.depth + 1) in
-    let read : c.index-mark.result.now ≡ get_or marks c.in-Some.w 0 =
-    c.index-mark.ensures ∙ get_or_default marks c.in-Some.w c.index-mark.result.now 0
-    (omega (arith, below, c.requires.walks.sized.marks_are, length-set w.marks.items w.at (w.depth + 1))) in
+    let read = mark_at w c.requires.walks c.in-Some.w c.index-mark.result.now leads c.index-mark.ensures in
     step_on w.current w.walked.cursors w.marks.items w.path.items w.depth w.at c.requires.walks.sized
     c.requires.walks.goes_on c.in-Some.w leads (λ met. elim met [
       | inl at ↦ c.if-mark.false (read ∙ at)

@@ -1,6 +1,6 @@
 use Rattle.std.proofs.Common.{◌≡◌, map, take}
 use Rattle.confluence_core.proofs.LoopCubes.{pair_of}
-use Rattle.confluence_core.proofs.loops.cube_of.Given as goal
+use Rattle.confluence_core.proofs.loops.sorted_pairs.Given as goal
 
 -- the pairs of the variables before here
 abbrev pub invariant-loop-v : goal.invariant-loop-v
