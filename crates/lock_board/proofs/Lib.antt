@@ -1,3 +1,2 @@
-pub mod EventLemmas
 pub mod BookLemmas
 pub mod FoundEvents

@@ -2,21 +2,23 @@ use Rattle.std.proofs.Common.{◌++◌, ◌∷◌, [], ap, ◌∙◌, sym, subst
 use Rattle.pop_model.specs.Popping.{IsPoppable}
 use Rattle.pop_model.specs.Instances.{IsInstance}
 use Rattle.lock_board.specs.Books.{Progress}
-use Rattle.lock_board.proofs.EventLemmas.{event_known}
+use Rattle.confluence_core.proofs.EventVariables.{event_known}
 use Rattle.lock_board.proofs.BookLemmas.{book_pop}
 use Rattle.lock_board.proofs.book.Book.pop.Goals as goal
 
 pub at-requires : goal.at-requires
 at-requires g c = record {
-  known = event_known g.N.Site.instance (record { unit = c.args.unit; cube = c.args.cube.now }) c.self.inside.cursors
-      (subst IsInstance c.self.invariant.0 c.units-units.ensures.instance) c.requires.event
-      c.self.invariant.1.count;
+  known =
+      let is = subst IsInstance c.self.invariant.0 c.units-units.ensures.instance in
+      event_known g.N.Site.instance (record { unit = c.args.unit; cube = c.args.cube.now }) c.self.inside.cursors
+      is.fits c.requires.event c.self.invariant.1.count;
 }
 
 pub pop-requires-clause-known : goal.pop-requires-clause-known
 pop-requires-clause-known g c =
-    event_known g.N.Site.instance (record { unit = c.args.unit; cube = c.args.cube.now }) c.self.inside.cursors
-    (subst IsInstance c.self.invariant.0 c.units-units.ensures.instance) c.requires.event c.self.invariant.1.count
+    let is = subst IsInstance c.self.invariant.0 c.units-units.ensures.instance in
+    event_known g.N.Site.instance (record { unit = c.args.unit; cube = c.args.cube.now }) c.self.inside.cursors is.fits
+    c.requires.event c.self.invariant.1.count
 
 pub invariant_of-self-2 : goal.invariant_of-self-2
 invariant_of-self-2 g c =
