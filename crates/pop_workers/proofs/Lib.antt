@@ -4,6 +4,9 @@ mod OneMerged
 mod ClosedBoards
 mod JoinedStretches
 mod ToldRuns
+-- The tools and the readers of workers
+mod KeptTools
+mod ServedReaders
 -- Rounds of a sole pass over all units
 mod Rounds
 -- What the answers of finders say

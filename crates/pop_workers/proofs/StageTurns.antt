@@ -70,6 +70,13 @@ pub record AreMade (last : ℕ) (i : Instance) (keeps : Bool) (j : Instance) (le
   pub reached : IsReached j (start_of i) keeps left
   pub end : IsStageEnd j left stuck
 
+-- stages that lead so far were made
+pub have_made : (last : ℕ) (i : Instance) (keeps : Bool) (j : Instance) (left : Reached) (stuck : List Event)
+    → StagesLead last i keeps j left stuck → IsKeyed i.stacks.origin → j ≡ instance_raised (height j) i → height j ≤ last
+    → IsReached j (start_of i) keeps left → IsStageEnd j left stuck → AreMade last i keeps j left stuck
+have_made last i keeps j left stuck staged keyed raised low reached end =
+    record { staged = staged; keyed = keyed; raised = (height j, low, raised); reached = reached; end = end }
+
 -- the first stage was made
 pub first_made : (last : ℕ) (i : Instance) (keeps : Bool) (opening reached : Reached) (stuck : List Event)
     → IsKeyed i.stacks.origin → ((v : ℕ) → height_of i.stacks v ≤ last) → IsReached i (start_of i) keeps opening

@@ -5,6 +5,6 @@ use Rattle.pop_workers.specs.declared.makers.Makers.TheVariants.{One, Claimed, L
 
 -- the instance that they were made for
 abbrev pub made_for : {R G : Type 0} → Makers R G → Instance
-made_for (One gated) = gated.alone
+made_for (One gate alone) = alone
 made_for (Claimed claimed) = claimed
 made_for (Locked locked) = locked.alone

@@ -60,7 +60,10 @@ pub fn sample_grown<R: Threads + Wait + Sync, G: Gate + Sync>(
 {
     let crew = Workers { rt, gate, workers };
     let mut makers = Makers::of(alloc, instance, crew, claimed)?;
-    let end = all_stages(alloc, instance, &mut makers, last, keep)?;
+    let Ok(end) = all_stages(alloc, instance, &mut makers, last, keep) else {
+        drop(makers);
+        return Err(AllocError);
+    };
     makers.tell(alloc, instance, end)
 }
 

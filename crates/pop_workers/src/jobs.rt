@@ -1,9 +1,8 @@
 //! The workers beside the caller, each with a pass and hints of its own.
 ghost use Rattle.std.specs.Prelude.{◌≡◌, ◌+◌, ◌<◌, length, All, IfOk, OnOk, IfSome};
-ghost use Rattle.pop_model.specs.Families.{units_of};
 ghost use Rattle.pop_stacks.specs.Readers.{Belongs};
-ghost use Rattle.claim_words.specs.Passes.{IsOf, IsIdle, IsHelper, view, instance_of};
-ghost use Rattle.pop_workers.specs.Attempts.{IsIndexed};
+ghost use Rattle.claim_words.specs.Passes.{IsHelper, view, instance_of};
+ghost use Rattle.pop_workers.specs.AtWork.{IsSharedOn, IsIdleOn};
 
 use crate::Gate;
 use crate::shared::Shared;
@@ -34,11 +33,9 @@ pub(crate) fn hand_out<W: Range>(
     pass: &mut Pass,
     deques: Vec<Own<W>>,
 ) -> Result<Vec<Job<W>>, AllocError>
-    requires pass { IsOf board.now pass.old }
-    requires idle { IsIdle pass.old }
+    requires pass { IsIdleOn board.now pass.old }
     requires share { length deques.items < (view pass.old).share }
-    ensures pass { IsOf board.now pass.new }
-    ensures idle { IsIdle pass.new }
+    ensures pass { IsIdleOn board.now pass.new }
     ensures passes { IfOk result (λ jobs. All (λ job. IsHelper board.now job.0) jobs.items) }
     ensures len { IfOk result (λ jobs. length jobs.items ≡ length deques.items) }
     ensures share { IfOk result
@@ -53,11 +50,9 @@ pub(crate) fn hand_out<W: Range>(
 
 // A job for this deque. Its pass is split from the caller's, with share 1.
 fn job_for<W: Range>(board: &Board, pass: &mut Pass, own: Own<W>) -> Job<W>
-    requires pass { IsOf board.now pass.old }
-    requires idle { IsIdle pass.old }
+    requires pass { IsIdleOn board.now pass.old }
     requires share { 1 < (view pass.old).share }
-    ensures pass { IsOf board.now pass.new }
-    ensures idle { IsIdle pass.new }
+    ensures pass { IsIdleOn board.now pass.new }
     ensures helper { IsHelper board.now result.0 }
     ensures share { (view pass.new).share + 1 ≡ (view pass.old).share }
 {
@@ -72,9 +67,7 @@ pub(crate) fn work_beside<'i, 'x, W: Range + Sync + Send, R: Threads + Sync, G: 
     jobs: &mut [Job<W>],
     gate: &G,
 )
-    requires board { instance_of board.now ≡ shared.now.instance.now }
-    requires index { IsIndexed shared.now.instance.now shared.now.index.now }
-    requires range { units_of shared.now.instance.now.family ≡ W.units }
+    requires shared { IsSharedOn W.units board.now shared.now }
     requires passes { All (λ job. IsHelper board.now job.0) jobs.old }
     requires len { length jobs.old < length shared.now.all.items }
     requires few { length jobs.old < 64 }
@@ -89,9 +82,7 @@ pub(crate) fn work_beside<'i, 'x, W: Range + Sync + Send, R: Threads + Sync, G: 
         jobs,
         most,
         &|place: usize, job: &mut Job<W>|
-            requires board { instance_of board.now ≡ shared.now.instance.now }
-            requires index { IsIndexed shared.now.instance.now shared.now.index.now }
-            requires range { units_of shared.now.instance.now.family ≡ W.units }
+            requires shared { IsSharedOn W.units board.now shared.now }
             requires pass { IsHelper board.now job.now.0 }
             requires place { place + 1 < length shared.now.all.items }
             requires few { place < 64 }
@@ -111,9 +102,7 @@ fn do_job<W: Range, G: Gate>(
     worker: u32,
     gate: &G,
 )
-    requires board { instance_of board.now ≡ shared.now.instance.now }
-    requires index { IsIndexed shared.now.instance.now shared.now.index.now }
-    requires range { units_of shared.now.instance.now.family ≡ W.units }
+    requires shared { IsSharedOn W.units board.now shared.now }
     requires pass { IsHelper board.now job.old.0 }
     requires worker { worker < length shared.now.all.items }
     ensures pass { IsHelper board.now job.new.0 }
@@ -135,13 +124,11 @@ pub(crate) fn take_back<W: Range>(
     pass: &mut Pass,
     jobs: Vec<Job<W>>,
 ) -> Result<Vec<Reader>, AllocError>
-    requires pass { IsOf board.now pass.old }
-    requires idle { IsIdle pass.old }
+    requires pass { IsIdleOn board.now pass.old }
     requires passes { All (λ job. IsHelper board.now job.0) jobs.items }
     requires readers { All (λ job.
         IfSome job.2 (Belongs (instance_of board.now).stacks)) jobs.items }
-    ensures pass { IsOf board.now pass.new }
-    ensures idle { IsIdle pass.new }
+    ensures pass { IsIdleOn board.now pass.new }
     ensures share { OnOk result
         ((view pass.new).share ≡ (view pass.old).share + length jobs.items) }
     ensures readers { IfOk result (λ readers.
@@ -161,11 +148,9 @@ pub(crate) fn take_back<W: Range>(
 
 // Takes a pass in again.
 fn take_one(board: &Board, pass: &mut Pass, other: Pass) -> Result<(), AllocError>
-    requires pass { IsOf board.now pass.old }
-    requires idle { IsIdle pass.old }
+    requires pass { IsIdleOn board.now pass.old }
     requires helper { IsHelper board.now other }
-    ensures pass { IsOf board.now pass.new }
-    ensures idle { IsIdle pass.new }
+    ensures pass { IsIdleOn board.now pass.new }
     ensures share { OnOk result ((view pass.new).share ≡ (view pass.old).share + 1) }
 {
     match board.rejoin(pass, other) {

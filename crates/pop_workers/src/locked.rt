@@ -3,7 +3,6 @@ ghost use Rattle.pop_model.specs.Stacks.{variables_of};
 ghost use Rattle.pop_model.specs.Popping.{AreWithin};
 ghost use Rattle.pop_model.specs.Instances.{IsInstance};
 ghost use Rattle.confluence_core.specs.Kept.{keeps_log};
-ghost use Rattle.pop_instance.specs.Index.{IsFamilyIndex};
 ghost use Rattle.confluence_core.specs.Indexes.{Serves};
 ghost use Rattle.confluence_core.specs.Runs.{IsRunOf};
 ghost use Rattle.confluence_core.specs.Stretches.{GoesOn, HasCome, IsReached};
@@ -14,7 +13,7 @@ use crate::workers::Workers;
 use crate::{Gate, Outcome};
 use confluence_core::{Alone, Keep, Reached, Units};
 use lock_board::{Book, Site};
-use pop_instance::{Cursors, Index, Instance};
+use pop_instance::{Cursors, Instance};
 use std::alloc::{AllocError, Global};
 use std::marker::Brand;
 use std::sync::{Mutex, Wait};
@@ -49,64 +48,47 @@ pub fn sample_locked<R: Threads + Wait + Sync, G: Gate + Sync>(
     let start = from.copy(alloc)?;
     let opening = Reached::starting(alloc, instance, start, keep)?;
     let crew = Workers { rt, gate, workers };
-    Makers::of(alloc, instance, crew, false)?.run(alloc, instance, opening)
+    let Ok(makers) = Makers::of(alloc, instance, crew, false) else {
+        drop(opening);
+        return Err(AllocError);
+    };
+    makers.run(alloc, instance, opening)
 }
 
-/// Several workers, who share a book under a lock. What they leave, the calling thread pops.
+/// Several workers, who share a book under a lock. What they leave, the calling thread pops alone.
 #[derive(Drop)]
 pub struct Locked<'c, R, G> {
-    crew: Workers<'c, R, G>,
+    pub crew: Workers<'c, R, G>,
     pub alone: Alone,
 }
 
-impl<'c, R, G> Locked<'c, R, G> {
-    /// The workers for an instance, with the index of its family.
-    pub fn with(
-        alloc: Global,
-        instance: &Instance,
-        index: Option<Index>,
-        crew: Workers<'c, R, G>,
-    ) -> Result<Locked<'c, R, G>, AllocError>
-        requires index { IsFamilyIndex instance.now.family index }
-        ensures { IfOk result (λ locked. locked.alone ≡ instance.now) }
-    {
-        let alone = Alone::with(alloc, instance, index)?;
-        Ok(Locked { crew, alone })
-    }
-}
-
-impl<'c, R: Threads + Wait + Sync, G: Gate + Sync> Locked<'c, R, G> {
-    /// Goes on with a run to an end. After an error nothing is left of the run.
-    pub fn finish(
-        &mut self,
-        alloc: Global,
-        instance: &Instance,
-        reached: Reached,
-    ) -> Result<Reached, AllocError>
-        requires serves { Serves instance.now self.old.alone }
-        requires reached { HasCome instance.now reached }
-        ensures on { IfOk result (GoesOn instance.now reached) }
-        ensures end { IfOk result (λ new. new.suspects ≡ []) }
-        ensures made_for { self.new.alone ≡ self.old.alone }
-    {
-        let Workers { rt, gate, workers } = self.crew;
-        let (from, keep) = (&reached.cursors, reached.keep());
-        let more = work_together::<Brand, R, G>(rt, alloc, instance, from, workers, keep, gate)?;
-        let joined = reached.join(more)?;
-        self.alone.finish(alloc, instance, joined)
-    }
+/// Goes on with a run to an end. After an error nothing is left of the run.
+pub(crate) fn finish_locked<R: Threads + Wait + Sync, G: Gate + Sync>(
+    alloc: Global,
+    locked: &mut Locked<R, G>,
+    instance: &Instance,
+    reached: Reached,
+) -> Result<Reached, AllocError>
+    requires serves { Serves instance.now locked.old.alone }
+    requires reached { HasCome instance.now reached }
+    ensures on { IfOk result (GoesOn instance.now reached) }
+    ensures end { IfOk result (λ new. new.suspects ≡ []) }
+    ensures made_for { locked.new.alone ≡ locked.old.alone }
+{
+    let (from, keep) = (&reached.cursors, reached.keep());
+    let more = work_together::<Brand, R, G>(alloc, &locked.crew, instance, from, keep)?;
+    let joined = reached.join(more)?;
+    locked.alone.finish(alloc, instance, joined)
 }
 
 // How far workers come on a book that they share, and that opens from these cursors, with every unit
 // a suspect.
 fn work_together<N: Site + Send + Sync, R: Threads + Wait + Sync, G: Gate + Sync>(
-    rt: &R,
     alloc: Global,
+    crew: &Workers<R, G>,
     instance: &Instance,
     from: &Cursors,
-    workers: u32,
     keep: Keep,
-    gate: &G,
 ) -> Result<Reached, AllocError>
     requires site { instance.now ≡ N.instance }
     requires start { from.now ≡ N.start }
@@ -115,11 +97,29 @@ fn work_together<N: Site + Send + Sync, R: Threads + Wait + Sync, G: Gate + Sync
     ensures instance { IsInstance instance.now }
     ensures reached { IfOk result (IsReached instance.now from.now (keeps_log keep)) }
 {
-    let units = instance.units();
+    let _units = instance.units();
     let board = Mutex::new(Book::<N>::start_at(alloc, instance, from)?);
-    let shared = &board;
-    // A worker that finds no memory has left the book as it was before its attempt.
-    let _ended = thread::map_indices(
+    let worked = attempt_all(alloc, crew, instance, &board);
+    let book = board.into_inner();
+    if worked.is_err() {
+        drop(book);
+        return Err(AllocError);
+    }
+    left_in(alloc, instance, book, keep)
+}
+
+// The work of all workers on a book. One that finds no memory has left the book as it was before its
+// attempt.
+fn attempt_all<N: Site + Send + Sync, R: Threads + Wait + Sync, G: Gate + Sync>(
+    alloc: Global,
+    crew: &Workers<R, G>,
+    instance: &Instance,
+    board: &Mutex<Book<N>>,
+) -> Result<(), AllocError>
+    requires site { instance.now ≡ N.instance }
+{
+    let Workers { rt, gate, workers } = *crew;
+    let ended = thread::map_indices(
         rt,
         alloc,
         workers as usize,
@@ -130,10 +130,25 @@ fn work_together<N: Site + Send + Sync, R: Threads + Wait + Sync, G: Gate + Sync
                 number: number as u32,
                 workers,
             };
-            attempt_in_turns(rt, alloc, instance, shared, worker, gate)
+            attempt_in_turns(rt, alloc, instance, board, worker, gate)
         },
     )?;
-    let (cursors, log) = board.into_inner().into_parts();
+    drop(ended);
+    Ok(())
+}
+
+// How far a run has come by the pops of a book, with every unit a suspect.
+fn left_in<N: Site>(
+    alloc: Global,
+    instance: &Instance,
+    book: Book<N>,
+    keep: Keep,
+) -> Result<Reached, AllocError>
+    requires site { instance.now ≡ N.instance }
+    ensures { IfOk result (IsReached instance.now N.start (keeps_log keep)) }
+{
+    let units = instance.units();
+    let (cursors, log) = book.into_parts();
     let suspects = Units::all(alloc, units)?;
     Ok(Reached {
         cursors,

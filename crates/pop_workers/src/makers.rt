@@ -1,6 +1,7 @@
 ghost use Rattle.std.specs.Prelude.{◌≡◌, ◌<◌, ◌≤◌, [], ℕ, Bool, List, length, IfOk};
 ghost use Rattle.pop_model.specs.Stacks.{variables_of};
 ghost use Rattle.pop_model.specs.Popping.{AreWithin, AreValuesAt};
+ghost use Rattle.pop_model.specs.Instances.{Instance as ModelInstance};
 ghost use Rattle.pop_model.specs.Runs.{IsStuckList};
 ghost use Rattle.pop_instance.specs.Index.{IsFamilyIndex};
 ghost use Rattle.confluence_core.specs.Indexes.{Serves};
@@ -10,11 +11,10 @@ ghost use Rattle.pop_workers.specs.MadeFor.{made_for};
 ghost use Rattle.pop_workers.specs.Stages.{IsStageEnd};
 
 use crate::claimed::Claimed;
-use crate::gated::Gated;
-use crate::locked::Locked;
+use crate::locked::{Locked, finish_locked};
 use crate::workers::Workers;
 use crate::{Gate, Outcome};
-use confluence_core::{Reached, Stuck};
+use confluence_core::{Alone, Reached, Stuck};
 use pop_instance::{Cursors, Index, Instance, Values};
 use std::alloc::{AllocError, Global};
 use std::sync::Wait;
@@ -24,8 +24,11 @@ use std::thread::Threads;
 /// at each height, so also once its stacks are raised.
 #[derive(Drop)]
 pub enum Makers<'c, R, G> {
-    One(Gated<'c, G>),
+    /// One worker, the caller: behind the gate, and with no board.
+    One(&'c G, Alone),
+    /// Several, who claim words of a board.
     Claimed(Claimed<'c, R, G>),
+    /// Several, who share a book under a lock.
     Locked(Locked<'c, R, G>),
 }
 
@@ -59,13 +62,14 @@ impl<'c, R: Threads + Wait + Sync, G: Gate + Sync> Makers<'c, R, G> {
         requires most { crew.workers ≤ 64 }
         ensures { IfOk result (λ makers. made_for makers ≡ instance.now) }
     {
-        if crew.workers == 1 {
-            return Ok(Makers::One(Gated::with(alloc, instance, index, crew.gate)?));
-        }
-        if claimed {
+        if claimed && crew.workers > 1 {
             return Ok(Makers::Claimed(Claimed::with(alloc, instance, index, crew)?));
         }
-        Ok(Makers::Locked(Locked::with(alloc, instance, index, crew)?))
+        let alone = Alone::with(alloc, instance, index)?;
+        if crew.workers == 1 {
+            return Ok(Makers::One(crew.gate, alone));
+        }
+        Ok(Makers::Locked(Locked { crew, alone }))
     }
 
     /// Goes on with a run to an end. After an error nothing is left of the run.
@@ -82,9 +86,12 @@ impl<'c, R: Threads + Wait + Sync, G: Gate + Sync> Makers<'c, R, G> {
         ensures made_for { made_for self.new ≡ made_for self.old }
     {
         match self {
-            Makers::One(gated) => gated.finish(alloc, instance, reached),
-            Makers::Claimed(claimed) => claimed.finish(alloc, instance, reached),
-            Makers::Locked(locked) => locked.finish(alloc, instance, reached),
+            Makers::One(gate, alone) => {
+                gate.at(0, 0);
+                alone.finish(alloc, instance, reached)
+            }
+            Makers::Claimed(claimed) => claimed.finish(instance, reached),
+            Makers::Locked(locked) => finish_locked(alloc, locked, instance, reached),
         }
     }
 
@@ -101,8 +108,8 @@ impl<'c, R: Threads + Wait + Sync, G: Gate + Sync> Makers<'c, R, G> {
         ensures made_for { made_for self.new ≡ made_for self.old }
     {
         match self {
-            Makers::One(gated) => gated.alone.stuck(alloc, instance, reached),
-            Makers::Claimed(claimed) => claimed.stuck(alloc, instance, reached),
+            Makers::One(_, alone) => alone.stuck(alloc, instance, reached),
+            Makers::Claimed(claimed) => claimed.stuck(instance, reached),
             Makers::Locked(locked) => locked.alone.stuck(alloc, instance, reached),
         }
     }
@@ -120,9 +127,9 @@ impl<'c, R: Threads + Wait + Sync, G: Gate + Sync> Makers<'c, R, G> {
         ensures values { IfOk result (AreValuesAt instance.now.stacks cursors.now) }
     {
         match self {
-            Makers::One(mut gated) => gated.alone.values(alloc, instance, cursors),
-            Makers::Claimed(claimed) => claimed.values(alloc, instance, cursors),
-            Makers::Locked(mut locked) => locked.alone.values(alloc, instance, cursors),
+            Makers::One(_, alone) => values_by(alloc, alone, instance, cursors),
+            Makers::Claimed(claimed) => claimed.values(instance, cursors),
+            Makers::Locked(locked) => values_by(alloc, locked.alone, instance, cursors),
         }
     }
 
@@ -158,7 +165,10 @@ impl<'c, R: Threads + Wait + Sync, G: Gate + Sync> Makers<'c, R, G> {
             → IfOk result (IsRunOf instance.now start keeps) }
     {
         let mut makers = self;
-        let end = makers.stage(alloc, instance, reached)?;
+        let Ok(end) = makers.stage(alloc, instance, reached) else {
+            drop(makers);
+            return Err(AllocError);
+        };
         makers.tell(alloc, instance, end)
     }
 
@@ -175,8 +185,43 @@ impl<'c, R: Threads + Wait + Sync, G: Gate + Sync> Makers<'c, R, G> {
         ensures { IfOk result
             (λ run. IsTold instance.now end.0 run × (run.end.stuck ≡ end.1)) }
     {
-        let (reached, stuck) = end;
-        let values = self.values(alloc, instance, &reached.cursors)?;
-        Ok(reached.told(stuck, values))
+        let values = self.values(alloc, instance, &end.0.cursors);
+        told_with(end, values)
     }
+}
+
+/// Where a run has come and what is stuck there, as it is told with the values, where there was
+/// memory for them.
+pub(crate) fn told_with(
+    end: (Reached, Stuck),
+    values: Result<Values, AllocError>,
+) -> Result<Outcome, AllocError>
+    ensures { (i : ModelInstance) → IsStuckList i end.0.cursors end.1
+        → IfOk values (AreValuesAt i.stacks end.0.cursors)
+        → IfOk result (λ run. IsTold i end.0 run × (run.end.stuck ≡ end.1)) }
+{
+    let Ok(values) = values else {
+        drop(end);
+        return Err(AllocError);
+    };
+    let (reached, stuck) = end;
+    Ok(reached.told(stuck, values))
+}
+
+// The values that one thread looks up last.
+fn values_by(
+    alloc: Global,
+    alone: Alone,
+    instance: &Instance,
+    cursors: &Cursors,
+) -> Result<Values, AllocError>
+    requires serves { Serves instance.now alone }
+    requires count { variables_of instance.now.stacks ≡ length cursors.now }
+    requires within { AreWithin instance.now.stacks cursors.now }
+    ensures { IfOk result (AreValuesAt instance.now.stacks cursors.now) }
+{
+    let mut alone = alone;
+    let values = alone.values(alloc, instance, cursors);
+    drop(alone);
+    values
 }

@@ -1,10 +1,9 @@
-//! Rounds of a sole pass over all units, until one pops nothing.
-ghost use Rattle.std.specs.Prelude.{◌≡◌, ◌<◌, length, OnOk, IfOk};
-ghost use Rattle.pop_model.specs.Families.{units_of};
-ghost use Rattle.pop_model.specs.Runs.{IsEnd};
-ghost use Rattle.claim_words.specs.Passes.{IsOf, IsIdle, IsSole, view, instance_of, opening_of};
-ghost use Rattle.claim_words.specs.TicketLogs.{vector};
-ghost use Rattle.pop_workers.specs.Attempts.{IsIndexed, AreTools, IsRound};
+//! What a sole pass does to the end of a board: the work that is left, and rounds over all units
+//! until one pops nothing.
+ghost use Rattle.std.specs.Prelude.{OnOk, IfOk};
+ghost use Rattle.claim_words.specs.Passes.{view, opening_of};
+ghost use Rattle.pop_workers.specs.AtWork.{IsSharedOn, HasTools, KeepsTools, IsSoleOn, IsAtEnd};
+ghost use Rattle.pop_workers.specs.Attempts.{IsRound};
 
 use crate::NoGate;
 use crate::found::Found;
@@ -16,7 +15,8 @@ use claim_words::{Board, Pass};
 use std::alloc::AllocError;
 use worker_hints::{Own, Range};
 
-/// Brings a board to its end: rounds of a sole pass over all units, until one pops nothing.
+/// Brings a board to its end: the work at the hints that are left, and rounds of a sole pass over
+/// all units, until one pops nothing.
 pub(crate) fn round_off<W: Range>(
     board: &Board,
     pass: &mut Pass,
@@ -24,21 +24,14 @@ pub(crate) fn round_off<W: Range>(
     tools: &mut Tools,
     own: &mut Own<W>,
 ) -> Result<(), AllocError>
-    requires board { instance_of board.now ≡ shared.now.instance.now }
-    requires pass { IsOf board.now pass.old }
-    requires idle { IsIdle pass.old }
-    requires sole { IsSole pass.old }
-    requires index { IsIndexed shared.now.instance.now shared.now.index.now }
-    requires range { units_of shared.now.instance.now.family ≡ W.units }
-    requires tools { AreTools shared.now.instance.now tools.old.reader tools.old.walker }
-    requires worker { tools.old.worker < length shared.now.all.items }
-    ensures pass { IsOf board.now pass.new }
-    ensures idle { IsIdle pass.new }
-    ensures sole { IsSole pass.new }
-    ensures end { OnOk result
-        (IsEnd (instance_of board.now) (vector (opening_of board.now) (view pass.new).mine)) }
-    ensures tools { AreTools shared.now.instance.now tools.new.reader tools.new.walker }
+    requires shared { IsSharedOn W.units board.now shared.now }
+    requires pass { IsSoleOn board.now pass.old }
+    requires tools { HasTools shared.now tools.old }
+    ensures pass { IsSoleOn board.now pass.new }
+    ensures end { OnOk result (IsAtEnd board.now pass.new) }
+    ensures tools { KeepsTools shared.now.instance.now tools.old tools.new }
 {
+    work(board, pass, shared, tools, own, &NoGate)?;
     let _units = shared.instance.units();
     // A legal log from such a start is short, so the rounds end.
     board.look_at_start(pass);
@@ -58,21 +51,13 @@ fn pops_nothing<W: Range>(
     tools: &mut Tools,
     own: &mut Own<W>,
 ) -> Result<bool, AllocError>
-    requires board { instance_of board.now ≡ shared.now.instance.now }
-    requires pass { IsOf board.now pass.old }
-    requires idle { IsIdle pass.old }
-    requires sole { IsSole pass.old }
-    requires index { IsIndexed shared.now.instance.now shared.now.index.now }
-    requires range { units_of shared.now.instance.now.family ≡ W.units }
-    requires tools { AreTools shared.now.instance.now tools.old.reader tools.old.walker }
-    requires worker { tools.old.worker < length shared.now.all.items }
-    ensures pass { IsOf board.now pass.new }
-    ensures idle { IsIdle pass.new }
-    ensures sole { IsSole pass.new }
+    requires shared { IsSharedOn W.units board.now shared.now }
+    requires pass { IsSoleOn board.now pass.old }
+    requires tools { HasTools shared.now tools.old }
+    ensures pass { IsSoleOn board.now pass.new }
     ensures round { IfOk result
         (IsRound (opening_of board.now) (view pass.old) (view pass.new)) }
-    ensures tools { AreTools shared.now.instance.now tools.new.reader tools.new.walker }
-    ensures worker { tools.new.worker ≡ tools.old.worker }
+    ensures tools { KeepsTools shared.now.instance.now tools.old tools.new }
 {
     let mut nothing = true;
     for unit in 0..shared.instance.units() {

@@ -2,9 +2,10 @@
 ghost use Rattle.std.specs.Prelude.{◌≡◌, ℕ, ◌<◌, ◌≤◌, false, All, length};
 ghost use Rattle.pop_model.specs.Popping.{NamesBelow};
 ghost use Rattle.pop_model.specs.Families.{units_of};
-ghost use Rattle.claim_words.specs.Passes.{IsOf, IsIdle, view, instance_of, opening_of};
+ghost use Rattle.claim_words.specs.Passes.{view, instance_of, opening_of};
 ghost use Rattle.claim_words.specs.Openings.{is_listed};
 ghost use Rattle.event_finders.specs.UnitConditions.{Indexes};
+ghost use Rattle.pop_workers.specs.AtWork.{IsSharedOn, KeepsTools, IsIdleOn};
 ghost use Rattle.pop_workers.specs.Attempts.{IsIndexed, AreTools, Goes, FindsAlone, found_in};
 
 use crate::found::Found;
@@ -25,20 +26,16 @@ pub(crate) fn search<W: Range>(
     unit: u32,
     pops: u64,
 ) -> Found
-    requires board { instance_of board.now ≡ shared.now.instance.now }
-    requires pass { IsOf board.now pass.old }
-    requires idle { IsIdle pass.old }
-    requires index { IsIndexed shared.now.instance.now shared.now.index.now }
+    requires shared { IsSharedOn W.units board.now shared.now }
+    requires pass { IsIdleOn board.now pass.old }
     requires tools { AreTools shared.now.instance.now tools.old.reader tools.old.walker }
     requires known { unit < units_of shared.now.instance.now.family }
     requires pops { 1 ≤ pops }
-    ensures pass { IsOf board.now pass.new }
-    ensures idle { IsIdle pass.new }
+    ensures pass { IsIdleOn board.now pass.new }
     ensures goes { Goes (view pass.old) (view pass.new) }
     ensures alone { (view pass.old).share ≡ 64
         → FindsAlone (opening_of board.now) (view pass.old) (view pass.new) unit pops result }
-    ensures tools { AreTools shared.now.instance.now tools.new.reader tools.new.walker }
-    ensures worker { tools.new.worker ≡ tools.old.worker }
+    ensures tools { KeepsTools shared.now.instance.now tools.old tools.new }
 {
     match shared.index {
         Some(index) => search_unit(board, pass, shared.instance, index, tools, unit),
@@ -56,18 +53,15 @@ fn search_unit(
     unit: u32,
 ) -> Found
     requires board { instance_of board.now ≡ instance.now }
-    requires pass { IsOf board.now pass.old }
-    requires idle { IsIdle pass.old }
+    requires pass { IsIdleOn board.now pass.old }
     requires index { Indexes instance.now index.now }
     requires tools { AreTools instance.now tools.old.reader tools.old.walker }
     requires known { unit < units_of instance.now.family }
-    ensures pass { IsOf board.now pass.new }
-    ensures idle { IsIdle pass.new }
+    ensures pass { IsIdleOn board.now pass.new }
     ensures goes { Goes (view pass.old) (view pass.new) }
     ensures alone { (view pass.old).share ≡ 64 → (pops : ℕ)
         → FindsAlone (opening_of board.now) (view pass.old) (view pass.new) unit pops result }
-    ensures tools { AreTools instance.now tools.new.reader tools.new.walker }
-    ensures worker { tools.new.worker ≡ tools.old.worker }
+    ensures tools { KeepsTools instance.now tools.old tools.new }
 {
     found(try_unit(board, pass, instance, index, &mut tools.reader, unit))
 }
@@ -82,19 +76,16 @@ fn search_from(
     pops: u64,
 ) -> Found
     requires board { instance_of board.now ≡ instance.now }
-    requires pass { IsOf board.now pass.old }
-    requires idle { IsIdle pass.old }
+    requires pass { IsIdleOn board.now pass.old }
     requires cycles { is_listed instance.now.family ≡ false }
     requires tools { AreTools instance.now tools.old.reader tools.old.walker }
     requires known { start < units_of instance.now.family }
     requires pops { 1 ≤ pops }
-    ensures pass { IsOf board.now pass.new }
-    ensures idle { IsIdle pass.new }
+    ensures pass { IsIdleOn board.now pass.new }
     ensures goes { Goes (view pass.old) (view pass.new) }
     ensures alone { (view pass.old).share ≡ 64
         → FindsAlone (opening_of board.now) (view pass.old) (view pass.new) start pops result }
-    ensures tools { AreTools instance.now tools.new.reader tools.new.walker }
-    ensures worker { tools.new.worker ≡ tools.old.worker }
+    ensures tools { KeepsTools instance.now tools.old tools.new }
 {
     let _units = instance.units();
     let Some(walker) = &mut tools.walker else {

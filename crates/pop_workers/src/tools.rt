@@ -1,6 +1,6 @@
 ghost use Rattle.std.specs.Prelude.{◌≡◌, IfOk};
 ghost use Rattle.pop_stacks.specs.Readers.{Belongs};
-ghost use Rattle.pop_workers.specs.Attempts.{AreTools};
+ghost use Rattle.pop_workers.specs.Attempts.{AreTools, IsWalker};
 
 use event_finders::Walker;
 use pop_instance::{Family, Instance};
@@ -37,15 +37,25 @@ impl Tools {
         ensures tools { IfOk result (λ tools. AreTools instance.now tools.reader tools.walker) }
         ensures worker { IfOk result (λ tools. tools.worker ≡ worker) }
     {
-        let _units = instance.units();
-        let walker = match instance.family() {
-            Family::Listed(_) => None,
-            Family::Cycles(_) => Some(Walker::new(alloc, instance.stacks().count())?),
+        let Ok(walker) = walker_for(alloc, instance) else {
+            drop(reader);
+            return Err(AllocError);
         };
         Ok(Tools {
             worker,
             reader,
             walker,
         })
+    }
+}
+
+// A walker between walks, for a cycle family.
+fn walker_for(alloc: Global, instance: &Instance) -> Result<Option<Walker>, AllocError>
+    ensures { IfOk result (IsWalker instance.now) }
+{
+    let _units = instance.units();
+    match instance.family() {
+        Family::Listed(_) => Ok(None),
+        Family::Cycles(_) => Ok(Some(Walker::new(alloc, instance.stacks().count())?)),
     }
 }

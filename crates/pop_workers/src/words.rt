@@ -6,16 +6,16 @@ ghost use Rattle.pop_stacks.specs.Readers.{Belongs};
 ghost use Rattle.pop_instance.specs.Index.{IsFamilyIndex};
 ghost use Rattle.claim_words.specs.Passes.{IsOf, IsIdle, IsHelper, IsSole, view, instance_of, opening_of};
 ghost use Rattle.claim_words.specs.TicketLogs.{vector};
-ghost use Rattle.pop_workers.specs.Attempts.{IsIndexed, AreTools, Goes};
-ghost use Rattle.pop_workers.specs.Readers.{AreReadersOf};
+ghost use Rattle.pop_workers.specs.AtWork.{IsSharedOn, HasTools, KeepsTools, IsIdleOn, IsSoleOn, IsAtEnd};
+ghost use Rattle.pop_workers.specs.Attempts.{AreTools, Goes};
 
-use crate::jobs::{Jobs, hand_out, take_back, work_beside};
+use crate::Gate;
+use crate::jobs::{Job, Jobs, hand_out, take_back, work_beside};
 use crate::rounding::round_off;
 use crate::shared::Shared;
 use crate::tools::Tools;
 use crate::workers::Workers;
 use crate::working::work;
-use crate::{Gate, NoGate};
 use claim_words::{Board, Pass};
 use pop_instance::{Index, Instance};
 use pop_stacks::Reader;
@@ -55,66 +55,39 @@ pub fn work_claimed<'i, R: Threads + Sync, G: Gate + Sync>(
         (IsEnd instance.now (vector (opening_of board.now) (view pass.new).mine)) }
 {
     let index = instance.index(alloc)?;
-    let reader = Reader::keeping(alloc, instance.stacks())?;
+    let mut tools = Tools::of(alloc, instance, 0)?;
     let crew = Workers { rt, gate, workers };
-    let _kept = work_by(alloc, crew, board, pass, instance, &index, reader)?;
+    let others = work_by::<Brand, R, G>(alloc, crew, board, pass, instance, &index, &mut tools);
+    drop(tools);
+    drop(index);
+    drop(others?);
     Ok(())
 }
 
-/// The same, by the index of the family, and with the reader of worker 0. It comes back before those
-/// of the others, with what each of them keeps.
-pub(crate) fn work_by<'i, R: Threads + Sync, G: Gate + Sync>(
+/// The same, by the index of the family, with the tools of worker 0, and where the number of units
+/// was picked. The readers of the others come back, with what each of them keeps.
+pub(crate) fn work_by<'i, W: Range + Send + Sync, R: Threads + Sync, G: Gate + Sync>(
     alloc: Global,
     crew: Workers<R, G>,
     board: &Board<'i>,
     pass: &mut Pass,
     instance: &'i Instance,
     index: &Option<Index>,
-    reader: Reader,
+    tools: &mut Tools,
 ) -> Result<Vec<Reader>, AllocError>
     requires board { instance_of board.now ≡ instance.now }
-    requires pass { IsOf board.now pass.old }
-    requires idle { IsIdle pass.old }
-    requires sole { IsSole pass.old }
-    requires some { 0 < crew.workers }
-    requires most { crew.workers ≤ 64 }
-    requires index { IsFamilyIndex instance.now.family index.now }
-    requires belongs { Belongs instance.now.stacks reader }
-    ensures pass { IsOf board.now pass.new }
-    ensures idle { IsIdle pass.new }
-    ensures sole { OnOk result (IsSole pass.new) }
-    ensures end { OnOk result
-        (IsEnd instance.now (vector (opening_of board.now) (view pass.new).mine)) }
-    ensures readers { IfOk result (λ readers. AreReadersOf instance.now.stacks readers.items) }
-{
-    work_over::<Brand, R, G>(alloc, crew, board, pass, instance, index, reader)
-}
-
-// The same, where the number of units was picked.
-fn work_over<'i, W: Range + Send + Sync, R: Threads + Sync, G: Gate + Sync>(
-    alloc: Global,
-    crew: Workers<R, G>,
-    board: &Board<'i>,
-    pass: &mut Pass,
-    instance: &'i Instance,
-    index: &Option<Index>,
-    reader: Reader,
-) -> Result<Vec<Reader>, AllocError>
-    requires board { instance_of board.now ≡ instance.now }
-    requires pass { IsOf board.now pass.old }
-    requires idle { IsIdle pass.old }
-    requires sole { IsSole pass.old }
+    requires pass { IsSoleOn board.now pass.old }
     requires some { 0 < crew.workers }
     requires most { crew.workers ≤ 64 }
     requires range { units_of instance.now.family ≡ W.units }
     requires index { IsFamilyIndex instance.now.family index.now }
-    requires belongs { Belongs instance.now.stacks reader }
-    ensures pass { IsOf board.now pass.new }
-    ensures idle { IsIdle pass.new }
-    ensures sole { OnOk result (IsSole pass.new) }
-    ensures end { OnOk result
-        (IsEnd instance.now (vector (opening_of board.now) (view pass.new).mine)) }
-    ensures readers { IfOk result (λ readers. AreReadersOf instance.now.stacks readers.items) }
+    requires tools { AreTools instance.now tools.old.reader tools.old.walker }
+    requires first { tools.old.worker ≡ 0 }
+    ensures pass { IsIdleOn board.now pass.new }
+    ensures end { OnOk result (IsAtEnd board.now pass.new) }
+    ensures readers { IfOk result (λ others.
+        All (Belongs (instance_of board.now).stacks) others.items) }
+    ensures tools { KeepsTools instance.now tools.old tools.new }
 {
     let deques: Vec<Own<W>> = deal_all(alloc, crew.workers, instance.units())?;
     let shared = Shared {
@@ -123,7 +96,9 @@ fn work_over<'i, W: Range + Send + Sync, R: Threads + Sync, G: Gate + Sync>(
         index,
         all: for_others(alloc, &deques)?,
     };
-    work_with(crew, board, pass, &shared, deques, reader)
+    let others = work_with(crew, board, pass, &shared, tools, deques);
+    drop(shared);
+    others
 }
 
 // The same, with the deques of all workers.
@@ -132,33 +107,30 @@ fn work_with<'i, 'x, W: Range + Send + Sync, R: Threads + Sync, G: Gate + Sync>(
     board: &Board<'i>,
     pass: &mut Pass,
     shared: &Shared<'i, 'x, W>,
+    tools: &mut Tools,
     deques: Vec<Own<W>>,
-    reader: Reader,
 ) -> Result<Vec<Reader>, AllocError>
-    requires board { instance_of board.now ≡ shared.now.instance.now }
-    requires pass { IsOf board.now pass.old }
-    requires idle { IsIdle pass.old }
-    requires sole { IsSole pass.old }
-    requires index { IsIndexed shared.now.instance.now shared.now.index.now }
-    requires range { units_of shared.now.instance.now.family ≡ W.units }
+    requires shared { IsSharedOn W.units board.now shared.now }
+    requires pass { IsSoleOn board.now pass.old }
+    requires tools { HasTools shared.now tools.old }
     requires len { length deques.items ≡ length shared.now.all.items }
     requires some { 0 < length deques.items }
     requires most { length deques.items ≤ 64 }
-    requires belongs { Belongs shared.now.instance.now.stacks reader }
-    ensures pass { IsOf board.now pass.new }
-    ensures idle { IsIdle pass.new }
-    ensures sole { OnOk result (IsSole pass.new) }
-    ensures end { OnOk result
-        (IsEnd (instance_of board.now) (vector (opening_of board.now) (view pass.new).mine)) }
-    ensures readers { IfOk result
-        (λ readers. AreReadersOf shared.now.instance.now.stacks readers.items) }
+    ensures pass { IsIdleOn board.now pass.new }
+    ensures end { OnOk result (IsAtEnd board.now pass.new) }
+    ensures readers { IfOk result (λ others.
+        All (Belongs (instance_of board.now).stacks) others.items) }
+    ensures tools { KeepsTools shared.now.instance.now tools.old tools.new }
 {
     let mut deques = deques;
     let own = deques.remove(0);
-    let tools = Tools::with(shared.alloc, shared.instance, 0, reader)?;
     let others = hand_out(shared.alloc, board, pass, deques)?;
-    let (tools, jobs) = work_at_once(crew, board, pass, shared, tools, Jobs { own, others });
-    finish_alone(board, pass, shared, tools, jobs)
+    let mut jobs = Jobs { own, others };
+    work_at_once(crew, board, pass, shared, tools, &mut jobs);
+    let Jobs { mut own, others } = jobs;
+    let others = bring_in(board, pass, shared, tools, &mut own, others);
+    drop(own);
+    others
 }
 
 // The work of all workers, each up to where no deque has a hint: of the caller, with these tools, and
@@ -168,40 +140,30 @@ fn work_at_once<'i, 'x, W: Range + Send + Sync, R: Threads + Sync, G: Gate + Syn
     board: &Board<'i>,
     pass: &mut Pass,
     shared: &Shared<'i, 'x, W>,
-    tools: Tools,
-    jobs: Jobs<W>,
-) -> (Tools, Jobs<W>)
-    requires board { instance_of board.now ≡ shared.now.instance.now }
-    requires pass { IsOf board.now pass.old }
-    requires idle { IsIdle pass.old }
-    requires index { IsIndexed shared.now.instance.now shared.now.index.now }
-    requires range { units_of shared.now.instance.now.family ≡ W.units }
-    requires tools { AreTools shared.now.instance.now tools.reader tools.walker }
-    requires worker { tools.worker < length shared.now.all.items }
-    requires passes { All (λ job. IsHelper board.now job.0) jobs.others.items }
-    requires len { length jobs.others.items < length shared.now.all.items }
-    requires few { length jobs.others.items < 64 }
-    ensures pass { IsOf board.now pass.new }
-    ensures idle { IsIdle pass.new }
+    tools: &mut Tools,
+    jobs: &mut Jobs<W>,
+)
+    requires shared { IsSharedOn W.units board.now shared.now }
+    requires pass { IsIdleOn board.now pass.old }
+    requires tools { HasTools shared.now tools.old }
+    requires passes { All (λ job. IsHelper board.now job.0) jobs.old.others.items }
+    requires len { length jobs.old.others.items < length shared.now.all.items }
+    requires few { length jobs.old.others.items < 64 }
+    ensures pass { IsIdleOn board.now pass.new }
     ensures goes { Goes (view pass.old) (view pass.new) }
-    ensures tools { AreTools shared.now.instance.now result.0.reader result.0.walker }
-    ensures worker { result.0.worker ≡ tools.worker }
-    ensures passes { All (λ job. IsHelper board.now job.0) result.1.others.items }
+    ensures tools { KeepsTools shared.now.instance.now tools.old tools.new }
+    ensures passes { All (λ job. IsHelper board.now job.0) jobs.new.others.items }
     ensures readers { All (λ job.
-        IfSome job.2 (Belongs (instance_of board.now).stacks)) result.1.others.items }
-    ensures len { length result.1.others.items ≡ length jobs.others.items }
+        IfSome job.2 (Belongs (instance_of board.now).stacks)) jobs.new.others.items }
+    ensures len { length jobs.new.others.items ≡ length jobs.old.others.items }
 {
     let Workers { rt, gate, .. } = crew;
-    let mut tools = tools;
-    let mut jobs = jobs;
-    let Jobs { own, others } = &mut jobs;
+    let Jobs { own, others } = jobs;
     let _ = join_mut(
         rt,
-        &mut || work(board, pass, shared, &mut tools, own, gate),
+        &mut || work(board, pass, shared, tools, own, gate),
         &mut ||
-            requires board { instance_of board.now ≡ shared.now.instance.now }
-            requires index { IsIndexed shared.now.instance.now shared.now.index.now }
-            requires range { units_of shared.now.instance.now.family ≡ W.units }
+            requires shared { IsSharedOn W.units board.now shared.now }
             requires passes { All (λ job. IsHelper board.now job.0) others.now.items }
             requires len { length others.now.items < length shared.now.all.items }
             requires few { length others.now.items < 64 }
@@ -211,103 +173,34 @@ fn work_at_once<'i, 'x, W: Range + Send + Sync, R: Threads + Sync, G: Gate + Syn
             ensures len { length others.exit.now.items ≡ length others.entry.now.items }
         { work_beside(rt, board, shared, others, gate) },
     );
-    (tools, jobs)
 }
 
-// Takes the passes of the others in again, and brings the board to its end with these tools. Their
-// reader stands before those of the others.
-fn finish_alone<W: Range>(
-    board: &Board,
-    pass: &mut Pass,
-    shared: &Shared<W>,
-    tools: Tools,
-    jobs: Jobs<W>,
-) -> Result<Vec<Reader>, AllocError>
-    requires board { instance_of board.now ≡ shared.now.instance.now }
-    requires pass { IsOf board.now pass.old }
-    requires idle { IsIdle pass.old }
-    requires share { (view pass.old).share + length jobs.others.items ≡ 64 }
-    requires index { IsIndexed shared.now.instance.now shared.now.index.now }
-    requires range { units_of shared.now.instance.now.family ≡ W.units }
-    requires tools { AreTools shared.now.instance.now tools.reader tools.walker }
-    requires worker { tools.worker < length shared.now.all.items }
-    requires passes { All (λ job. IsHelper board.now job.0) jobs.others.items }
-    requires readers { All (λ job.
-        IfSome job.2 (Belongs (instance_of board.now).stacks)) jobs.others.items }
-    ensures pass { IsOf board.now pass.new }
-    ensures idle { IsIdle pass.new }
-    ensures sole { OnOk result (IsSole pass.new) }
-    ensures end { OnOk result
-        (IsEnd (instance_of board.now) (vector (opening_of board.now) (view pass.new).mine)) }
-    ensures readers { IfOk result
-        (λ readers. AreReadersOf shared.now.instance.now.stacks readers.items) }
-{
-    let mut tools = tools;
-    let mut readers = bring_in(board, pass, shared, &mut tools, jobs)?;
-    readers.insert(0, tools.reader)?;
-    Ok(readers)
-}
-
-// The same with tools that are lent. The readers of the others, with room for one more.
+// Takes the passes of the others in again, and brings the board to its end with these tools. The
+// readers of the others.
 fn bring_in<W: Range>(
     board: &Board,
     pass: &mut Pass,
     shared: &Shared<W>,
     tools: &mut Tools,
-    jobs: Jobs<W>,
-) -> Result<Vec<Reader>, AllocError>
-    requires board { instance_of board.now ≡ shared.now.instance.now }
-    requires pass { IsOf board.now pass.old }
-    requires idle { IsIdle pass.old }
-    requires share { (view pass.old).share + length jobs.others.items ≡ 64 }
-    requires index { IsIndexed shared.now.instance.now shared.now.index.now }
-    requires range { units_of shared.now.instance.now.family ≡ W.units }
-    requires tools { AreTools shared.now.instance.now tools.old.reader tools.old.walker }
-    requires worker { tools.old.worker < length shared.now.all.items }
-    requires passes { All (λ job. IsHelper board.now job.0) jobs.others.items }
-    requires readers { All (λ job.
-        IfSome job.2 (Belongs (instance_of board.now).stacks)) jobs.others.items }
-    ensures pass { IsOf board.now pass.new }
-    ensures idle { IsIdle pass.new }
-    ensures sole { OnOk result (IsSole pass.new) }
-    ensures end { OnOk result
-        (IsEnd (instance_of board.now) (vector (opening_of board.now) (view pass.new).mine)) }
-    ensures tools { AreTools shared.now.instance.now tools.new.reader tools.new.walker }
-    ensures readers { IfOk result
-        (λ readers. All (Belongs (instance_of board.now).stacks) readers.items) }
-{
-    let Jobs { own, others } = jobs;
-    let mut own = own;
-    let readers = take_back(shared.alloc, board, pass, others)?;
-    end_alone(board, pass, shared, tools, &mut own)?;
-    Ok(readers)
-}
-
-// The work of a sole pass, from the hints that are left to the end of the board.
-fn end_alone<W: Range>(
-    board: &Board,
-    pass: &mut Pass,
-    shared: &Shared<W>,
-    tools: &mut Tools,
     own: &mut Own<W>,
-) -> Result<(), AllocError>
-    requires board { instance_of board.now ≡ shared.now.instance.now }
-    requires pass { IsOf board.now pass.old }
-    requires idle { IsIdle pass.old }
-    requires sole { IsSole pass.old }
-    requires index { IsIndexed shared.now.instance.now shared.now.index.now }
-    requires range { units_of shared.now.instance.now.family ≡ W.units }
-    requires tools { AreTools shared.now.instance.now tools.old.reader tools.old.walker }
-    requires worker { tools.old.worker < length shared.now.all.items }
-    ensures pass { IsOf board.now pass.new }
-    ensures idle { IsIdle pass.new }
-    ensures sole { IsSole pass.new }
-    ensures end { OnOk result
-        (IsEnd (instance_of board.now) (vector (opening_of board.now) (view pass.new).mine)) }
-    ensures tools { AreTools shared.now.instance.now tools.new.reader tools.new.walker }
+    others: Vec<Job<W>>,
+) -> Result<Vec<Reader>, AllocError>
+    requires shared { IsSharedOn W.units board.now shared.now }
+    requires pass { IsIdleOn board.now pass.old }
+    requires share { (view pass.old).share + length others.items ≡ 64 }
+    requires tools { HasTools shared.now tools.old }
+    requires passes { All (λ job. IsHelper board.now job.0) others.items }
+    requires readers { All (λ job.
+        IfSome job.2 (Belongs (instance_of board.now).stacks)) others.items }
+    ensures pass { IsIdleOn board.now pass.new }
+    ensures end { OnOk result (IsAtEnd board.now pass.new) }
+    ensures readers { IfOk result (λ readers.
+        All (Belongs (instance_of board.now).stacks) readers.items) }
+    ensures tools { KeepsTools shared.now.instance.now tools.old tools.new }
 {
-    work(board, pass, shared, tools, own, &NoGate)?;
-    round_off(board, pass, shared, tools, own)
+    let readers = take_back(shared.alloc, board, pass, others)?;
+    round_off(board, pass, shared, tools, own)?;
+    Ok(readers)
 }
 
 // The deques of so many workers, with their first hints.

@@ -1,9 +1,9 @@
 //! The turns of a worker on a board of claim words.
-ghost use Rattle.std.specs.Prelude.{◌≡◌, ◌<◌, length, OnOk};
-ghost use Rattle.pop_model.specs.Families.{units_of};
-ghost use Rattle.claim_words.specs.Passes.{IsOf, IsIdle, view, instance_of, opening_of};
+ghost use Rattle.std.specs.Prelude.{◌≡◌, OnOk};
+ghost use Rattle.claim_words.specs.Passes.{view, opening_of};
 ghost use Rattle.claim_words.specs.TicketLogs.{IsLegalFrom};
-ghost use Rattle.pop_workers.specs.Attempts.{IsIndexed, AreTools, Goes};
+ghost use Rattle.pop_workers.specs.AtWork.{IsSharedOn, HasTools, KeepsTools, IsIdleOn};
+ghost use Rattle.pop_workers.specs.Attempts.{Goes};
 
 use crate::Gate;
 use crate::found::Found;
@@ -35,21 +35,15 @@ pub(crate) fn work<W: Range, G: Gate>(
     own: &mut Own<W>,
     gate: &G,
 ) -> Result<(), AllocError>
-    requires board { instance_of board.now ≡ shared.now.instance.now }
-    requires pass { IsOf board.now pass.old }
-    requires idle { IsIdle pass.old }
-    requires index { IsIndexed shared.now.instance.now shared.now.index.now }
-    requires range { units_of shared.now.instance.now.family ≡ W.units }
-    requires tools { AreTools shared.now.instance.now tools.old.reader tools.old.walker }
-    requires worker { tools.old.worker < length shared.now.all.items }
-    ensures pass { IsOf board.now pass.new }
-    ensures idle { IsIdle pass.new }
+    requires shared { IsSharedOn W.units board.now shared.now }
+    requires pass { IsIdleOn board.now pass.old }
+    requires tools { HasTools shared.now tools.old }
+    ensures pass { IsIdleOn board.now pass.new }
     ensures goes { Goes (view pass.old) (view pass.new) }
     ensures legal { (view pass.old).share ≡ 64 → OnOk result
         (IsLegalFrom (opening_of board.now) (view pass.old).mine
         → IsLegalFrom (opening_of board.now) (view pass.new).mine) }
-    ensures tools { AreTools shared.now.instance.now tools.new.reader tools.new.walker }
-    ensures worker { tools.new.worker ≡ tools.old.worker }
+    ensures tools { KeepsTools shared.now.instance.now tools.old tools.new }
 {
     let mut meetings = 0;
     let mut met = None;

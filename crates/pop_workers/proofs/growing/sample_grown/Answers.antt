@@ -1,12 +1,10 @@
 use Rattle.std.proofs.Common.{sym, subst}
 use Rattle.std.proofs.lemmas.Result.{IfOk-weaker}
-use Rattle.pop_model.specs.Instances.{Instance}
-use Rattle.confluence_core.specs.Kept.{keeps_log}
 use Rattle.confluence_core.specs.Indexes.{Serves}
 use Rattle.confluence_core.specs.declared.run.Run.{Run}
 use Rattle.confluence_core.proofs.Serving.{serves_itself}
-use Rattle.pop_workers.specs.Stages.{height, IsLast}
-use Rattle.pop_workers.proofs.StageTurns.{AreMade, run_at_last, stages_told}
+use Rattle.pop_workers.specs.Stages.{IsLast}
+use Rattle.pop_workers.proofs.StageTurns.{have_made, run_at_last, stages_told}
 use Rattle.pop_workers.proofs.growing.sample_grown.Goals as goal
 
 pub all_stages-requires-clause-serves : goal.all_stages-requires-clause-serves
@@ -17,47 +15,28 @@ pub tell-requires-clause-serves : goal.tell-requires-clause-serves
 tell-requires-clause-serves g c κs within = c.all_stages.ensures.serves
 
 pub tell-requires-clause-can : goal.tell-requires-clause-can
-tell-requires-clause-can g c κs within = c.in_ok-end.ensures.reached.can
+tell-requires-clause-can g c κs within = c.in-Ok.ensures.reached.can
 
 pub tell-requires-clause-stuck : goal.tell-requires-clause-stuck
-tell-requires-clause-stuck g c κs within = c.in_ok-end.ensures.end.stuck_list
+tell-requires-clause-stuck g c κs within = c.in-Ok.ensures.end.stuck_list
 
 pub returns-clause-run : goal.returns-clause-run
 returns-clause-run g c =
-    let i : Instance = c.args.instance.now in
-    let j : Instance = c.all_stages.new.instance in
-    let keeps = keeps_log c.args.keep in
-    let stages = c.in_ok-end.ensures in
-    let made : AreMade c.args.last i keeps j c.in_ok-end.end.0 c.in_ok-end.end.1 = record {
-      staged = stages.stages;
-      keyed = c.requires.keyed;
-      raised = (height j, c.all_stages.ensures.low, c.all_stages.ensures.raised);
-      reached = stages.reached;
-      end = stages.end;
-    } in
-    IfOk-weaker c.tell.result _ _
-    (λ (run : Run) told. run_at_last c.args.last i keeps j c.in_ok-end.end.0 c.in_ok-end.end.1 made run told.0 told.1
-    stages.last) c.tell.ensures
+    let end = c.in-Ok.ensures in
+    let made = have_made _ _ _ _ _ _ end.stages c.requires.keyed c.all_stages.ensures.raised c.all_stages.ensures.low
+    end.reached end.end in
+    IfOk-weaker c.tell.result _ _ (λ (run : Run) told. run_at_last _ _ _ _ _ _ made run told.0 told.1 end.last)
+    c.tell.ensures
 
 pub returns-clause-stages : goal.returns-clause-stages
 returns-clause-stages g c =
-    let i : Instance = c.args.instance.now in
-    let j : Instance = c.all_stages.new.instance in
-    let keeps = keeps_log c.args.keep in
-    let stages = c.in_ok-end.ensures in
-    let made : AreMade c.args.last i keeps j c.in_ok-end.end.0 c.in_ok-end.end.1 = record {
-      staged = stages.stages;
-      keyed = c.requires.keyed;
-      raised = (height j, c.all_stages.ensures.low, c.all_stages.ensures.raised);
-      reached = stages.reached;
-      end = stages.end;
-    } in
-    IfOk-weaker c.tell.result _ _
-    (λ (run : Run) told. stages_told c.args.last i keeps j c.in_ok-end.end.0 c.in_ok-end.end.1 made run told.0 told.1)
-    c.tell.ensures
+    let end = c.in-Ok.ensures in
+    let made = have_made _ _ _ _ _ _ end.stages c.requires.keyed c.all_stages.ensures.raised c.all_stages.ensures.low
+    end.reached end.end in
+    IfOk-weaker c.tell.result _ _ (λ (run : Run) told. stages_told _ _ _ _ _ _ made run told.0 told.1) c.tell.ensures
 
 pub returns-clause-last : goal.returns-clause-last
 returns-clause-last g c =
     IfOk-weaker c.tell.result _ _
-    (λ (run : Run) told. subst (IsLast c.args.last c.all_stages.new.instance) (sym told.1) c.in_ok-end.ensures.last)
+    (λ (run : Run) told. subst (IsLast c.args.last c.all_stages.new.instance) (sym told.1) c.in-Ok.ensures.last)
     c.tell.ensures

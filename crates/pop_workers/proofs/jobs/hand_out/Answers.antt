@@ -14,10 +14,9 @@ loop-own-preserved g c =
       tt,
       tt,
       c.job_for.ensures.pass,
-      c.job_for.ensures.idle,
-      omega (arith, more, share, inv.4),
-      omega (arith, more, gone, inv.5),
-      omega (arith, room, inv.6),
+      omega (arith, more, share, inv.3),
+      omega (arith, more, gone, inv.4),
+      omega (arith, room, inv.5),
       all_longer c.loop-own.jobs.items job c.push_reserved.new.self.items c.push_reserved.ensures.items
-          (λ j. IsHelper c.args.board.now j.0) inv.7 c.job_for.ensures.helper,
+          (λ j. IsHelper c.args.board.now j.0) inv.6 c.job_for.ensures.helper,
     )

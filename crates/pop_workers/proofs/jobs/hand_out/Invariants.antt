@@ -1,5 +1,6 @@
 use Rattle.std.proofs.Common.{◌≡◌, ◌+◌, ◌≤◌, length, All, vec_capacity}
-use Rattle.claim_words.specs.Passes.{IsOf, IsIdle, IsHelper, view}
+use Rattle.claim_words.specs.Passes.{IsHelper, view}
+use Rattle.pop_workers.specs.AtWork.{IsIdleOn}
 use Rattle.pop_workers.proofs.jobs.hand_out.Given as goal
 
 -- as many passes of share 1 were split off as deques were gone over, and there is room for all
@@ -7,7 +8,7 @@ abbrev pub invariant-loop-own : goal.invariant-loop-own
 invariant-loop-own g l =
     (goal.iterator-loop-own g).can_next l.own-iterator
     × (goal.iterator-loop-own g).is_finite l.own-iterator
-    × IsOf l.board l.pass × IsIdle l.pass
+    × IsIdleOn l.board l.pass
     × ((view l.pass).share + length l.jobs.items ≡ (view l.initial.pass).share)
     × (length l.jobs.items ≡ length l.yielded)
     × (length l.fn.deques.items ≤ vec_capacity l.jobs)

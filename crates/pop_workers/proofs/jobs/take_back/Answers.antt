@@ -15,12 +15,11 @@ loop-job-preserved g c =
     let left = c.pop.new.self.items in
     let items : c.loop-job.jobs.items ≡ left ++ job ∷ [] = c.in-Some.ensures.items in
     let longer = one_longer left job c.loop-job.jobs.items items in
-    let helpers = without_last (λ j. IsHelper c.args.board.now j.0) left job c.loop-job.jobs.items items inv.3 in
-    let kept = without_last (λ j. IfSome j.2 (Belongs s)) left job c.loop-job.jobs.items items inv.4 in
+    let helpers = without_last (λ j. IsHelper c.args.board.now j.0) left job c.loop-job.jobs.items items inv.2 in
+    let kept = without_last (λ j. IfSome j.2 (Belongs s)) left job c.loop-job.jobs.items items inv.3 in
     let share = c.in_ok-take_one.ensures.share in (
       c.take_one.ensures.pass,
-      c.take_one.ensures.idle,
-      omega (arith, share, longer, inv.2),
+      omega (arith, share, longer, inv.1),
       helpers.0,
       kept.0,
       elim c.match-reader-3.branch [
@@ -29,7 +28,7 @@ loop-job-preserved g c =
             subst (λ o. IfSome o (Belongs s)) w.in-Some-reader.is kept.1 in
             subst (λ (v : Vec Reader Global). All (Belongs s) v.items) (sym w.readers-is)
             (subst (All (Belongs s)) (sym w.in_ok-insert.ensures.items)
-            (All-cons (Belongs s) w.in-Some-reader.reader c.loop-job.readers.items belongs inv.5))
-        | in_default-reader w ↦ subst (λ (v : Vec Reader Global). All (Belongs s) v.items) (sym w.readers-is) inv.5
+            (All-cons (Belongs s) w.in-Some-reader.reader c.loop-job.readers.items belongs inv.4))
+        | in_default-reader w ↦ subst (λ (v : Vec Reader Global). All (Belongs s) v.items) (sym w.readers-is) inv.4
       ],
     )

@@ -1,6 +1,7 @@
 use Rattle.std.proofs.Common.{◌≡◌, ◌+◌, length, All, IfSome}
 use Rattle.pop_stacks.specs.Readers.{Belongs}
-use Rattle.claim_words.specs.Passes.{IsOf, IsIdle, IsHelper, view, instance_of}
+use Rattle.claim_words.specs.Passes.{IsHelper, view, instance_of}
+use Rattle.pop_workers.specs.AtWork.{IsIdleOn}
 use Rattle.pop_workers.proofs.jobs.take_back.Given as goal
 
 -- how many jobs are left
@@ -10,7 +11,7 @@ decreases-loop-job g l = length l.jobs.items
 -- the pass has one share more for each job that was taken; those that are left are helpers; readers are of the stacks
 abbrev pub invariant-loop-job : goal.invariant-loop-job
 invariant-loop-job g l =
-    IsOf l.board l.pass × IsIdle l.pass
+    IsIdleOn l.board l.pass
     × ((view l.pass).share + length l.jobs.items ≡ (view l.initial.pass).share + length l.initial.jobs.items)
     × All (λ job. IsHelper l.board job.0) l.jobs.items
     × All (λ job. IfSome job.2 (Belongs (instance_of l.board).stacks)) l.jobs.items

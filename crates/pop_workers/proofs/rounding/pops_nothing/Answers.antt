@@ -9,6 +9,6 @@ use Rattle.pop_workers.proofs.rounding.pops_nothing.Goals as goal
 pub returns-clause-round : goal.returns-clause-round
 returns-clause-round g c =
     let over : c.loop-unit.unit ≡ c.units-unit-end.result = search rules in
-    let all = over ∙ c.units-unit-end.ensures.units ∙ sym (ap (λ (i : Instance). units_of i.family) c.requires.board) in
+    let all = over ∙ c.units-unit-end.ensures.units ∙ sym (ap (λ (i : Instance). units_of i.family) c.requires.shared.instance) in
     round_ends (opening_of c.args.board.now) (view c.args.pass.now) (view c.loop-unit.pass) c.loop-unit.unit c.loop-unit.nothing
-    all c.loop-unit.invariant.3
+    all c.loop-unit.invariant.round

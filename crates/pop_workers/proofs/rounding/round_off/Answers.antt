@@ -11,4 +11,4 @@ loop-smaller g c =
     let round = subst (IsRound k (view c.loop.pass) (view c.pops_nothing.new.pass)) c.if-branch.false
     c.in_ok-pops_nothing.ensures.round in
     fewer_left k (view c.loop.pass) (view c.pops_nothing.new.pass)
-    (subst IsInstance (sym c.requires.board) c.loop.invariant.0) c.loop.invariant.1 round
+    (subst IsInstance (sym c.requires.shared.instance) c.loop.invariant.instance) c.loop.invariant.count round

@@ -6,19 +6,17 @@ use Rattle.confluence_core.specs.Kept.{keeps_log}
 use Rattle.confluence_core.specs.Stretches.{IsReached}
 use Rattle.lock_board.specs.Books.{Progress, IsBook}
 use Rattle.pop_workers.proofs.Books.{book_reached}
-use Rattle.pop_workers.proofs.locked.work_together.Goals as goal
+use Rattle.pop_workers.proofs.locked.left_in.Goals as goal
 
-pub returns-clause-reached : goal.returns-clause-reached
-returns-clause-reached g c =
+pub returns : goal.returns
+returns g c =
     let i : Instance = c.args.instance.now in
-    let start = c.args.from.now in
+    let start = g.N.Site.start in
     let keeps = keeps_log c.args.keep in
-    let left : Progress = c.into_inner.result in
+    let left : Progress = c.args.book in
     let suspects = c.in_ok-suspects.suspects in
     let parts = c.into_parts-cursors.ensures in
-    let book : IsBook i start left =
-    subst (λ s. IsBook i s left) (sym c.requires.start)
-    (subst (λ (x : Instance). IsBook x _ left) (sym c.requires.site) parts.book) in
+    let book : IsBook i start left = subst (λ (x : Instance). IsBook x start left) (sym c.requires.site) parts.book in
     subst (λ (cs : List ℕ). IsReached i start keeps (record {
       cursors = cs;
       pops = c.len.result;

@@ -3,7 +3,7 @@ use Rattle.confluence_core.specs.Kept.{keeps_log}
 use Rattle.confluence_core.specs.declared.reached.Reached.{Reached}
 use Rattle.confluence_core.proofs.Reaching.{come_can}
 use Rattle.pop_workers.proofs.JoinedStretches.{come_behind, fits, goes_behind}
-use Rattle.pop_workers.proofs.locked.Locked.finish.Goals as goal
+use Rattle.pop_workers.proofs.locked.finish_locked.Goals as goal
 
 pub work_together-requires-clause-count : goal.work_together-requires-clause-count
 work_together-requires-clause-count g c κs within = (come_can c.args.instance.now c.args.reached c.requires.reached).count

@@ -1,0 +1,44 @@
+-- What workers on a board of claim words work with, and what they leave.
+use Rattle.std.specs.Prelude.{◌≡◌, ◌<◌, ℕ, length}
+use Rattle.pop_model.specs.Families.{units_of}
+use Rattle.pop_model.specs.Instances.{Instance}
+use Rattle.pop_model.specs.Runs.{IsEnd}
+use Rattle.claim_words.specs.declared.board.Board.{Board}
+use Rattle.claim_words.specs.declared.pass.Pass.{Pass}
+use Rattle.claim_words.specs.Passes.{IsOf, IsIdle, IsSole, view, instance_of, opening_of}
+use Rattle.claim_words.specs.TicketLogs.{vector}
+use Rattle.pop_workers.specs.Attempts.{IsIndexed, AreTools}
+use Rattle.pop_workers.specs.declared.shared.Shared.{Shared}
+use Rattle.pop_workers.specs.declared.tools.Tools.{Tools}
+
+-- the workers share the instance of the board, with its index, and hints are its units
+pub record IsSharedOn {W : Type 0} (units : ℕ) (board : Board) (shared : Shared W) : Type 0 where
+  pub instance : instance_of board ≡ shared.instance.now
+  pub indexed : IsIndexed shared.instance.now shared.index.now
+  pub range : units_of shared.instance.now.family ≡ units
+
+-- one of the workers has tools for the instance that they share
+pub record HasTools {W : Type 0} (shared : Shared W) (tools : Tools) : Type 0 where
+  pub fit : AreTools shared.instance.now tools.reader tools.walker
+  pub known : tools.worker < length shared.all.items
+
+-- they are the tools of the same worker still, and fit the instance
+pub record KeepsTools (i : Instance) (old new : Tools) : Type 0 where
+  pub fit : AreTools i new.reader new.walker
+  pub same : new.worker ≡ old.worker
+
+-- an idle pass of the board
+pub record IsIdleOn (board : Board) (pass : Pass) : Type 0 where
+  pub of : IsOf board pass
+  pub idle : IsIdle pass
+
+-- an idle pass of the board, which has all shares
+pub record IsSoleOn (board : Board) (pass : Pass) : Type 0 where
+  pub of : IsOf board pass
+  pub idle : IsIdle pass
+  pub sole : IsSole pass
+
+-- the pass has all shares, and no event of the board is poppable where its pops led
+pub record IsAtEnd (board : Board) (pass : Pass) : Type 0 where
+  pub sole : IsSole pass
+  pub end : IsEnd (instance_of board) (vector (opening_of board) (view pass).mine)
