@@ -39,6 +39,7 @@ fn answers<N: Site>(
             .push(book.attempt(alloc, &mut reader, *unit))
             .expect(rt, "memory");
     }
+    drop(reader);
     answers
 }
 
@@ -179,14 +180,18 @@ fn heads(rt: &impl Abort, alloc: Global, count: u32, back: u32) -> Vec<[Option<u
 fn lasso_arrows(rt: &impl Abort, alloc: Global, count: u32, back: u32) -> Arrows {
     assert!(rt; count < 1000);
     let heads = heads(rt, alloc, count, back);
-    arrows(rt, alloc, &heads)
+    let arrows = arrows(rt, alloc, &heads);
+    drop(heads);
+    arrows
 }
 
 // Such variables, each with these entries.
 fn lasso(rt: &impl Abort, alloc: Global, count: u32, back: u32, entries: &[u32]) -> Instance {
     let arrows = lasso_arrows(rt, alloc, count, back);
     let rows = Vec::from_elem(alloc, entries, count as usize).expect(rt, "memory");
-    cycles(rt, alloc, &rows, arrows)
+    let lasso = cycles(rt, alloc, &rows, arrows);
+    drop(rows);
+    lasso
 }
 
 // The cycle is popped, and then the arrows lead to the root.

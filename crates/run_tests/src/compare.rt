@@ -1,7 +1,4 @@
-ghost use Rattle.std.specs.Prelude.{◌≡◌, length};
-
 use confluence_core::Stuck;
-use pop_instance::Cursors;
 use std::process::Abort;
 
 /// Compares two counts. Tests compare by this call and the next two, so that what tells of numbers
@@ -24,16 +21,6 @@ pub fn is_so(rt: &impl Abort, holds: bool, what: &str, place: u64) {
 pub fn same_of(rt: &impl Abort, found: u64, want: u64, what: &str, of: (u32, u32)) {
     let (one, other) = of;
     assert!(rt; found == want, "{what} {one}, {other}");
-}
-
-/// Compares the cursors of so many variables.
-pub fn are_cursors(rt: &impl Abort, cursors: &Cursors, count: u32, want: &[u32])
-    requires { count ≡ length cursors.now }
-{
-    assert!(rt; want.len() == count as usize);
-    for v in 0..count {
-        same_at(rt, cursors.get(v), want[v as usize], "variable", v as u64);
-    }
 }
 
 /// Compares the units of a stuck list.

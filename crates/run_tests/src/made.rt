@@ -31,6 +31,11 @@ pub fn events(rt: &impl Abort, alloc: Global, table: &[EventRow]) -> Family {
     family(rt, alloc, rows)
 }
 
+/// The family of a chain of so many events.
+pub fn chain(rt: &impl Abort, alloc: Global, links: u32) -> Family {
+    made(rt, test_instances::chain(alloc, links), "a chain")
+}
+
 /// The stacks of these rows of entries.
 pub fn stacks(rt: &impl Abort, alloc: Global, rows: &[&[u32]]) -> Stacks {
     made(rt, test_instances::stacks(alloc, rows), "stacks")

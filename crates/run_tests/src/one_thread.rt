@@ -1,13 +1,13 @@
 ghost use Rattle.std.specs.Prelude.{◌≡◌, length};
 ghost use Rattle.pop_model.specs.Stacks.{variables_of};
 
-use crate::compare::{are_cursors, are_stuck, is_so, same, same_at};
+use crate::compare::{are_stuck, is_so, same, same_at};
 use crate::made::listed;
-use confluence_core::{End, Keep, Log, Record, Stuck, run_first, run_from_zeros};
-use pop_instance::{Cursors, Instance};
+use confluence_core::{End, Keep, Log, Record, Run, Stuck, run_first, run_from_zeros};
+use pop_instance::Instance;
 use std::alloc::Global;
 use std::process::Abort;
-use test_instances::EventRow;
+use test_instances::{EventRow, are_cursors_alike, has_cursors};
 
 mod chains;
 mod log;
@@ -26,7 +26,8 @@ struct Want {
 fn is_end(rt: &impl Abort, end: &End, count: u32, want: &Want)
     requires { count ≡ length end.now.cursors }
 {
-    are_cursors(rt, &end.cursors, count, want.cursors);
+    let are_there = has_cursors(&end.cursors, count, want.cursors);
+    is_so(rt, are_there, "cursors of variables below", count as u64);
     same(rt, end.pops, want.pops, "pops");
     are_stuck(rt, &end.stuck, want.stuck);
 }
@@ -51,16 +52,6 @@ fn ends_with(rt: &impl Abort, alloc: Global, instance: &Instance, want: &Want) {
     run_ends_with(rt, alloc, instance, want);
 }
 
-// Compares the cursors of so many variables at two ends.
-fn cursors_alike(rt: &impl Abort, cursors: &Cursors, others: &Cursors, count: u32)
-    requires cursors { count ≡ length cursors.now }
-    requires others { count ≡ length others.now }
-{
-    for v in 0..count {
-        same_at(rt, cursors.get(v), others.get(v), "variable", v as u64);
-    }
-}
-
 // Compares the units of two stuck lists.
 fn stuck_alike(rt: &impl Abort, stuck: &Stuck, others: &Stuck) {
     let count = others.len();
@@ -75,7 +66,8 @@ fn ends_alike(rt: &impl Abort, end: &End, other: &End, count: u32)
     requires end { count ≡ length end.now.cursors }
     requires other { count ≡ length other.now.cursors }
 {
-    cursors_alike(rt, &end.cursors, &other.cursors, count);
+    let are_alike = are_cursors_alike(&end.cursors, &other.cursors, count);
+    is_so(rt, are_alike, "cursors of variables below", count as u64);
     same(rt, end.pops, other.pops, "pops");
     stuck_alike(rt, &end.stuck, &other.stuck);
 }
@@ -161,7 +153,9 @@ fn a_pop_moves_every_variable_of_the_event(rt: HostRuntime) {
 // The log that a run from zeros keeps, where it is asked for one.
 fn log_of(rt: &impl Abort, alloc: Global, instance: &Instance, keep: Keep) -> Option<Log> {
     let run = run_from_zeros(alloc, instance, keep).expect(rt, "memory");
-    run.log
+    let Run { end, log } = run;
+    drop(end);
+    log
 }
 
 // Whether a run keeps a log that is asked for none.

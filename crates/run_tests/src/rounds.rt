@@ -2,7 +2,7 @@ ghost use Rattle.std.specs.Prelude.{◌≡◌, length};
 ghost use Rattle.pop_model.specs.Stacks.{variables_of};
 ghost use Rattle.prs_rounds.specs.Units.{IsListed, IsIndexOf};
 
-use crate::compare::{are_cursors, are_stuck, same, same_at};
+use crate::compare::{are_stuck, is_so, same, same_at};
 use crate::made::listed;
 use confluence_core::Units;
 use instances::{index_of, many};
@@ -11,7 +11,7 @@ use prs_rounds::{RoundEnd, resampling_set, run_rounds, run_rounds_alone, violate
 use std::alloc::Global;
 use std::process::Abort;
 use std::thread::Threads;
-use test_instances::EventRow;
+use test_instances::{EventRow, has_cursors};
 
 mod counts;
 mod instances;
@@ -104,7 +104,8 @@ fn are_units(rt: &impl Abort, units: &Units, want: &[u32]) {
 fn is_end(rt: &impl Abort, count: u32, end: &RoundEnd, want: &Want)
     requires { count ≡ length end.now.cursors }
 {
-    are_cursors(rt, &end.cursors, count, want.cursors);
+    let are_there = has_cursors(&end.cursors, count, want.cursors);
+    is_so(rt, are_there, "cursors of variables below", count as u64);
     are_stuck(rt, &end.stuck, want.stuck);
     same(rt, end.rounds, want.rounds, "rounds");
     assert!(rt; end.short == want.short);

@@ -38,22 +38,17 @@ fn expect_extremal(rt: &impl Abort, alloc: Global, instance: &Instance)
     }
 }
 
-// The instance of so many variables of this height and the events of a table.
-fn of_events(
-    rt: &impl Abort,
-    alloc: Global,
-    count: u32,
-    height: u32,
-    table: &[EventRow],
-) -> Instance
+// The instance of these stacks and the events of a table.
+fn of_events(rt: &impl Abort, alloc: Global, stacks: Stacks, table: &[EventRow]) -> Instance
+    requires { IsKeyed stacks.origin }
     ensures { IsKeyed result.stacks.origin }
 {
     let family = events(rt, alloc, table);
-    let stacks = stacks(rt, count, height);
     Instance::new(stacks, family).expect(rt, "an instance")
 }
 
-/// The same, where no two events clash.
+/// The instance of so many variables of this height and the events of a table, no two of which
+/// clash.
 pub fn listed(
     rt: &impl Abort,
     alloc: Global,
@@ -64,7 +59,8 @@ pub fn listed(
     ensures keyed { IsKeyed result.stacks.origin }
     ensures extremal { IsExtremal result.family }
 {
-    let instance = of_events(rt, alloc, count, height, table);
+    let stacks = stacks(rt, count, height);
+    let instance = of_events(rt, alloc, stacks, table);
     expect_extremal(rt, alloc, &instance);
     instance
 }

@@ -1,40 +1,23 @@
 //! Chains of events: each shares a variable with the next, and excludes it there.
 use super::pops_and_stuck;
 use crate::compare::is_so;
-use crate::made::{cube, family, over_keyed};
-use pop_instance::{Cube, Instance};
+use crate::made::{chain, over_keyed};
+use pop_instance::Instance;
 use std::alloc::Global;
 use std::process::Abort;
 
-// The event that variables 2i and 2i + 1 have the value 0 and variable 2i + 2 has the value 1.
-fn link(rt: &impl Abort, alloc: Global, i: u32) -> Cube {
-    assert!(rt; i < 1000);
-    let pairs = [(2 * i, 0), (2 * i + 1, 0), (2 * i + 2, 1)];
-    cube(rt, alloc, &pairs)
-}
-
-// So many such events, in their order.
-fn links_of(rt: &impl Abort, alloc: Global, links: u32) -> Vec<(u32, Cube)> {
-    let mut rows = Vec::new(alloc);
-    for i in 0..links {
-        let link = link(rt, alloc, i);
-        rows.push((i + 1, link)).expect(rt, "memory");
-    }
-    rows
-}
-
 // The chain of so many links, with stacks of this height under a key of 32 such bytes.
-fn chain(rt: &impl Abort, alloc: Global, links: u32, key: u8, height: u32) -> Instance {
+fn chained(rt: &impl Abort, alloc: Global, links: u32, key: u8, height: u32) -> Instance {
     assert!(rt; links < 1000);
-    let family = family(rt, alloc, links_of(rt, alloc, links));
+    let family = chain(rt, alloc, links);
     over_keyed(rt, key, 2 * links + 1, height, family)
 }
 
 // Runs such a chain. Returns its pops and how many events are stuck.
 fn run_chain(rt: &impl Abort, alloc: Global, links: u32, key: u8, height: u32) -> (u64, u64) {
-    let chain = chain(rt, alloc, links, key, height);
-    let answer = pops_and_stuck(rt, alloc, &chain);
-    drop(chain);
+    let instance = chained(rt, alloc, links, key, height);
+    let answer = pops_and_stuck(rt, alloc, &instance);
+    drop(instance);
     answer
 }
 

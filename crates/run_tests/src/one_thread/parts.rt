@@ -36,9 +36,10 @@ fn run_to(rt: &impl Abort, alloc: Global, instance: &Instance, limit: u64) -> Ru
     let opening = Reached::opening(alloc, instance, Keep::Log).expect(rt, "memory");
     let mut alone = Alone::of(alloc, instance).expect(rt, "memory");
     let reached = alone.advance(alloc, instance, opening, limit);
-    alone
-        .tell(alloc, instance, reached.expect(rt, "memory"))
-        .expect(rt, "memory")
+    let reached = reached.expect(rt, "memory");
+    let run = alone.tell(alloc, instance, reached).expect(rt, "memory");
+    drop(alone);
+    run
 }
 
 // Whether an event is poppable at cursors.
@@ -158,7 +159,9 @@ fn run_by_index(rt: &impl Abort, alloc: Global, instance: &Instance) -> Run
     let mut alone = Alone::with(alloc, instance, index).expect(rt, "memory");
     let opening = Reached::opening(alloc, instance, Keep::Nothing).expect(rt, "memory");
     let reached = alone.finish(alloc, instance, opening).expect(rt, "memory");
-    alone.tell(alloc, instance, reached).expect(rt, "memory")
+    let run = alone.tell(alloc, instance, reached).expect(rt, "memory");
+    drop(alone);
+    run
 }
 
 // Compares its end.

@@ -43,7 +43,9 @@ fn ring_arrows(rt: &impl Abort, alloc: Global, count: u32, size: u32) -> Arrows 
     assert!(rt; 0 < size);
     assert!(rt; count < 1000);
     let heads = heads(rt, alloc, count, size);
-    arrows(rt, alloc, &heads)
+    let arrows = arrows(rt, alloc, &heads);
+    drop(heads);
+    arrows
 }
 
 // Rings: how many variables there are, and the size of a ring.

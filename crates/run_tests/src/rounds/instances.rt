@@ -26,7 +26,9 @@ fn entries(rt: &impl Abort, alloc: Global, count: u32) -> Vec<&'static [u32]> {
 // Their stacks.
 fn many_stacks(rt: &impl Abort, alloc: Global, count: u32) -> Stacks {
     let rows = entries(rt, alloc, count);
-    stacks(rt, alloc, &rows)
+    let stacks = stacks(rt, alloc, &rows);
+    drop(rows);
+    stacks
 }
 
 // For each of so many variables the event that it has the value 0.

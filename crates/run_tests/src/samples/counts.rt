@@ -75,6 +75,7 @@ fn as_many_rows_finish_with_each_sample(rt: HostRuntime) {
         let all = finishes(&rt, alloc, *which);
         finish_with_each(&rt, *which, &all, *rows);
         all_proportional(&rt, *which, &all, ANY);
+        drop(all);
     }
 }
 
@@ -91,6 +92,7 @@ fn as_many_rows_finish_with_each_sample_at_each_cursors(rt: HostRuntime) {
     for which in EXTREMAL.iter() {
         let all = finishes(&rt, alloc, *which);
         proportional_at_each(&rt, *which, &all);
+        drop(all);
     }
 }
 

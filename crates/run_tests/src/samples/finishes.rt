@@ -97,6 +97,7 @@ fn some_log_finishes_where_the_run_ends_with_nothing_stuck(rt: HostRuntime) {
     for which in EXTREMAL.iter() {
         let all = finishes(&rt, alloc, *which);
         all_finish_at_end(&rt, *which, &all);
+        drop(all);
     }
 }
 
@@ -182,6 +183,7 @@ fn every_sample_may_be_exchanged_for_the_one_at_an_end_and_nothing_else(rt: Host
     for which in EXTREMAL.iter() {
         let all = finishes(&rt, alloc, *which);
         try_all(&rt, *which, &all);
+        drop(all);
     }
 }
 
@@ -224,6 +226,7 @@ fn the_pops_hang_on_the_entries_below_the_end_alone(rt: HostRuntime) {
     for which in EXTREMAL.iter() {
         let all = finishes(&rt, alloc, *which);
         compare_all(&rt, *which, &all);
+        drop(all);
     }
 }
 
@@ -249,5 +252,6 @@ fn every_sample_is_reached_before_any_pop(rt: HostRuntime) {
     for which in EXTREMAL.iter() {
         let all = finishes(&rt, alloc, *which);
         end_at_once(&rt, *which, &all);
+        drop(all);
     }
 }

@@ -138,7 +138,9 @@ fn pairs(rt: &impl Abort, alloc: Global, names: u32, values: u32) -> Vec<(u32, u
 fn cube_of(rt: &impl Abort, alloc: Global, which: usize, e: usize) -> Cube {
     let (names, values) = event(rt, which, e);
     let pairs = pairs(rt, alloc, names, values);
-    cube(rt, alloc, &pairs)
+    let cube = cube(rt, alloc, &pairs);
+    drop(pairs);
+    cube
 }
 
 // Where the arrows of the path lead: variables 0, 1 and 2 in a row, with the root before and behind
