@@ -14,10 +14,9 @@ mod wanted;
 
 pub use answer::Answer;
 pub use by_command::made_of;
-pub use instances::of_events;
-pub use making::{Made, refuse_clash, stacks_for};
+pub use making::{Made, refuse_clash};
 pub use origin::{StackOrigin, copy_spec};
-pub use reading::{formula_of, graph_of};
+pub use reading::formula_of;
 pub use refusal::{Refusal, told_in_line, unlogged};
 pub use stop::Stop;
 pub use wanted::Wanted;
