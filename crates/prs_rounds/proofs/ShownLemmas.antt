@@ -184,18 +184,3 @@ pub values_are_at : (s : StackTable) (c values : List ℕ) → AreValues s c val
 values_are_at s c values are = ext_get_or 0 values (values_at s c) (are.count ∙ sym (length-values_at s c))
     (λ v h. let below : v < length c = omega (arith, h, are.count) in are.each v below
     ∙ sym (value-values_at s c v below))
-
--- the values are current, and the places those of all events that they show
-pub record IsSeen (s : StackTable) (rows : List (ℕ × Cube)) (c values found : List ℕ) : Type 0 where
-  pub values_are : AreValues s c values
-  pub found_is : found ≡ shown_places values rows
-
--- what is read of all variables, and found among all places, is seen
-pub seen_by : (s : StackTable) (rows : List (ℕ × Cube)) (c variables values shown places found : List ℕ)
-    → variables ≡ range_with_len 0 (length c) → length values ≡ length variables → AreRead s c variables 0 values
-    → found ≡ shown_among shown rows places → shown ≡ values → places ≡ range_with_len 0 (length rows)
-    → IsSeen s rows c values found
-seen_by s rows c variables values shown places found all size read is same every = record {
-  values_are = values_of_all s c variables values all size read;
-  found_is = found_again rows shown values places (range_with_len 0 (length rows)) found is same every;
-}

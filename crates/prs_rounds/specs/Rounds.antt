@@ -1,12 +1,13 @@
 -- The run by rounds: in each, every variable of the resampling set moves on by one entry.
 use Rattle.std.specs.Prelude.{◌≡◌, ℕ, zero, suc, ◌+◌, ◌<◌, ◌≤◌, List, length, Option, MatchOption}
-use Rattle.pop_model.specs.Stacks.{height_of}
-use Rattle.pop_model.specs.Popping.{cursor}
+use Rattle.pop_model.specs.Stacks.{variables_of, height_of}
+use Rattle.pop_model.specs.Popping.{AreWithin, cursor, values_at}
 use Rattle.pop_model.specs.Families.{Event}
 use Rattle.pop_model.specs.Instances.{Instance}
 use Rattle.pop_model.specs.Places.{IsLeast}
 use Rattle.pop_model.specs.Runs.{IsFinished, IsStuckList, start_of}
 use Rattle.prs_rounds.specs.Resampling.{IsResampledVariable}
+use Rattle.prs_rounds.specs.declared.round_end.RoundEnd.{RoundEnd}
 
 -- some event occurs, each variable of the resampling set has a next entry and moves on to it, and
 -- the others stay
@@ -34,3 +35,10 @@ pub record IsRoundsEnd (i : Instance) (cursors : List ℕ) (rounds : ℕ) (stuck
   pub run : Rounds i rounds (start_of i) cursors
   pub end : MatchOption short (IsFinished i cursors) (IsLeast (HasNoNext i cursors))
   pub stuck_list : IsStuckList i cursors stuck
+
+-- what a run by rounds leaves: its end, and the value of each variable there
+pub record LeavesEnd (i : Instance) (left : RoundEnd) : Type 0 where
+  pub end : IsRoundsEnd i left.cursors left.rounds left.stuck left.short
+  pub count : length left.cursors ≡ variables_of i.stacks
+  pub within : AreWithin i.stacks left.cursors
+  pub values : left.values.items ≡ values_at i.stacks left.cursors

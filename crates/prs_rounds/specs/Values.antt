@@ -17,6 +17,11 @@ abbrev pub AreRead : StackTable → List ℕ → List ℕ → ℕ → List ℕ �
 AreRead s c variables start values = (k : ℕ) → k < length values
     → slice_index values k ≡ current s c (slice_index variables (start + k))
 
+-- all of these variables are read
+pub record AreAllRead (s : StackTable) (c variables values : List ℕ) : Type 0 where
+  pub len : length values ≡ length variables
+  pub read : AreRead s c variables 0 values
+
 -- each variable of the cube has the value that it demands
 abbrev pub shows : List ℕ → Cube → Bool
 shows values e = list_all (λ p. slice_index values p.0 == p.1) e

@@ -1,8 +1,8 @@
+use crate::front::Front;
 use crate::looker::Looker;
 use crate::shown::is_shown;
-use crate::values::read_piece;
-use pop_instance::{Cursors, Events};
-use pop_stacks::Stacks;
+use crate::values::read_each;
+use pop_instance::Events;
 use std::alloc::{AllocError, Global};
 
 /// Looks on the calling thread alone, at one after another.
@@ -28,15 +28,7 @@ impl Looker for Alone {
         Ok(found)
     }
 
-    fn read(
-        &self,
-        alloc: Global,
-        stacks: &Stacks,
-        cursors: &Cursors,
-        variables: &[u32],
-    ) -> Result<Vec<u32>, AllocError> {
-        let mut values = vec![in alloc; 0; variables.len()]?;
-        read_piece(stacks, cursors, variables, 0, &mut values);
-        Ok(values)
+    fn read(&self, alloc: Global, at: Front, variables: &[u32]) -> Result<Vec<u32>, AllocError> {
+        Ok(read_each(alloc, at, variables)?)
     }
 }

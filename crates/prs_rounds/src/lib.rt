@@ -6,6 +6,7 @@
 #![tactic(auto)]
 
 mod alone;
+mod front;
 mod growth;
 pub mod laws;
 mod looker;

@@ -3,8 +3,8 @@ ghost use Rattle.pop_model.specs.Stacks.{variables_of};
 ghost use Rattle.pop_model.specs.Popping.{NamesBelow, AreWithin};
 ghost use Rattle.prs_rounds.specs.Values.{AreRead, shown_among};
 
-use pop_instance::{Cursors, Events};
-use pop_stacks::Stacks;
+use crate::front::Front;
+use pop_instance::Events;
 use std::alloc::{AllocError, Global};
 
 /// What looks at many variables or events: threads, or the calling thread alone.
@@ -26,19 +26,13 @@ pub(crate) trait Looker {
         ensures { IfOk result (λ found.
             found.items ≡ shown_among values.now events.now places.now) };
 
-    /// The values of these variables at their cursors.
-    fn read(
-        &self,
-        alloc: Global,
-        stacks: &Stacks,
-        cursors: &Cursors,
-        variables: &[u32],
-    ) -> Result<Vec<u32>, AllocError>
+    /// The values of these variables at a front.
+    fn read(&self, alloc: Global, at: Front, variables: &[u32]) -> Result<Vec<u32>, AllocError>
         requires can_look { can_look }
-        requires count { variables_of stacks.now ≡ length cursors.now }
-        requires within { AreWithin stacks.now cursors.now }
-        requires known { All (λ v. v < length cursors.now) variables.now }
+        requires count { variables_of at.stacks.now ≡ length at.cursors.now }
+        requires within { AreWithin at.stacks.now at.cursors.now }
+        requires known { All (λ v. v < length at.cursors.now) variables.now }
         ensures len { IfOk result (λ values. length values.items ≡ length variables.now) }
         ensures read { IfOk result (λ values.
-            AreRead stacks.now cursors.now variables.now 0 values.items) };
+            AreRead at.entry.stacks.now at.entry.cursors.now variables.now 0 values.items) };
 }

@@ -5,6 +5,7 @@ ghost use Rattle.confluence_core.specs.Loops.{Raises};
 ghost use Rattle.prs_rounds.specs.Moves.{IsLeastShort, Puts};
 ghost use Rattle.prs_rounds.specs.Values.{AreValues};
 
+use crate::front::Front;
 use crate::looker::Looker;
 use pop_instance::Cursors;
 use pop_stacks::Stacks;
@@ -91,7 +92,7 @@ pub(crate) fn refresh<L: Looker>(
         → Raises variables.now (length variables.now) c cursors.now
         → AreValues stacks.now cursors.now values.new.items) }
 {
-    let now = looker.read(alloc, stacks, cursors, variables)?;
+    let now = looker.read(alloc, Front { stacks, cursors }, variables)?;
     put(values, variables, &now);
     Ok(())
 }

@@ -1,8 +1,8 @@
+use crate::front::Front;
 use crate::looker::Looker;
 use crate::shown::occurring;
 use crate::values::read;
-use pop_instance::{Cursors, Events};
-use pop_stacks::Stacks;
+use pop_instance::Events;
 use std::alloc::{AllocError, Global};
 use std::thread::Threads;
 
@@ -27,13 +27,7 @@ impl<'a, R: Threads + Sync> Looker for OnThreads<'a, R> {
         occurring(self.rt, alloc, events, values, places)
     }
 
-    fn read(
-        &self,
-        alloc: Global,
-        stacks: &Stacks,
-        cursors: &Cursors,
-        variables: &[u32],
-    ) -> Result<Vec<u32>, AllocError> {
-        read(self.rt, alloc, stacks, cursors, variables)
+    fn read(&self, alloc: Global, at: Front, variables: &[u32]) -> Result<Vec<u32>, AllocError> {
+        read(self.rt, alloc, at, variables)
     }
 }

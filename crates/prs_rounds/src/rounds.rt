@@ -6,7 +6,7 @@ ghost use Rattle.pop_model.specs.Instances.{FitsStacks};
 ghost use Rattle.pop_model.specs.Runs.{IsStuckList};
 ghost use Rattle.pop_instance.specs.Events.{cube_at};
 ghost use Rattle.pop_instance.specs.Index.{IsIndex};
-ghost use Rattle.prs_rounds.specs.Rounds.{IsRoundsEnd};
+ghost use Rattle.prs_rounds.specs.Rounds.{IsRoundsEnd, LeavesEnd};
 ghost use Rattle.prs_rounds.specs.Units.{IsIndexOf};
 
 use crate::RoundEnd;
@@ -77,13 +77,7 @@ fn rounds_by<L: Looker>(
     requires can_look { L.can_look }
     requires index { IsIndexOf instance.now.family index.now }
     requires variables { length index.now ≡ variables_of instance.now.stacks }
-    ensures end { IfOk result
-        (λ end. IsRoundsEnd instance.now end.cursors end.rounds end.stuck end.short) }
-    ensures count { IfOk result
-        (λ end. length end.cursors ≡ variables_of instance.now.stacks) }
-    ensures within { IfOk result (λ end. AreWithin instance.now.stacks end.cursors) }
-    ensures values { IfOk result
-        (λ end. end.values.items ≡ values_at instance.now.stacks end.cursors) }
+    ensures { IfOk result (LeavesEnd instance.now) }
 {
     let _units = instance.units();
     match instance.family() {
@@ -136,13 +130,8 @@ fn rounds_of<L: Looker>(
     requires fits { All (λ r. FitsStacks stacks.now r.1) events.now }
     requires index { IsIndex events.now index.now }
     requires variables { length index.now ≡ variables_of stacks.now }
-    ensures end { IfOk result (λ end. IsRoundsEnd
-        (record { stacks = stacks.now; family = ListedEvents events.now })
-        end.cursors end.rounds end.stuck end.short) }
-    ensures count { IfOk result (λ end. length end.cursors ≡ variables_of stacks.now) }
-    ensures within { IfOk result (λ end. AreWithin stacks.now end.cursors) }
-    ensures values { IfOk result
-        (λ end. end.values.items ≡ values_at stacks.now end.cursors) }
+    ensures { IfOk result
+        (LeavesEnd (record { stacks = stacks.now; family = ListedEvents events.now })) }
 {
     let _table = stacks.count();
     let _events = events.count();

@@ -1,13 +1,14 @@
 ghost use Rattle.std.specs.Prelude.{◌≡◌, length, All, IfOk};
 ghost use Rattle.pop_model.specs.Stacks.{variables_of};
-ghost use Rattle.pop_model.specs.Popping.{AreWithin, values_at};
+ghost use Rattle.pop_model.specs.Popping.{AreWithin, NamesBelow, values_at};
 ghost use Rattle.pop_model.specs.Families.Family.{Listed as ListedEvents};
 ghost use Rattle.pop_model.specs.Instances.{FitsStacks};
 ghost use Rattle.prs_rounds.specs.Resampling.{OccursIn};
 ghost use Rattle.prs_rounds.specs.Units.{AreUnitsOf};
-ghost use Rattle.prs_rounds.specs.Values.{shown_places};
+ghost use Rattle.prs_rounds.specs.Values.{AreValues, shown_places};
 ghost use Rattle.prs_rounds.specs.Grown.{StartsAt};
 
+use crate::front::Front;
 use crate::looker::Looker;
 use crate::numbers::all_below;
 use pop_instance::{Cursors, Events};
@@ -21,6 +22,41 @@ pub(crate) struct Seen {
     pub values: Vec<u32>,
     /// The rising places of the events that occur.
     pub found: Vec<u32>,
+}
+
+// The current value of each variable.
+fn all_values<L: Looker>(
+    looker: &L,
+    alloc: Global,
+    stacks: &Stacks,
+    cursors: &Cursors,
+) -> Result<Vec<u32>, AllocError>
+    requires can_look { L.can_look }
+    requires count { variables_of stacks.now ≡ length cursors.now }
+    requires within { AreWithin stacks.now cursors.now }
+    ensures { IfOk result (λ values. AreValues stacks.now cursors.now values.items) }
+{
+    let variables = all_below(alloc, stacks.count())?;
+    let values = looker.read(alloc, Front { stacks, cursors }, &variables)?;
+    drop(variables);
+    Ok(values)
+}
+
+// The rising places of the events that the values show.
+fn all_shown<L: Looker>(
+    looker: &L,
+    alloc: Global,
+    events: &Events,
+    values: &[u32],
+) -> Result<Vec<u32>, AllocError>
+    requires can_look { L.can_look }
+    requires fits { All (λ r. NamesBelow r.1 (length values.now)) events.now }
+    ensures { IfOk result (λ found. found.items ≡ shown_places values.now events.now) }
+{
+    let places = all_below(alloc, events.count())?;
+    let found = looker.occurring(alloc, events, values, &places)?;
+    drop(places);
+    Ok(found)
 }
 
 /// The current values, and the rising places of the events that occur. Each variable and each event
@@ -44,9 +80,7 @@ pub(crate) fn see_all<L: Looker>(
     ensures starts { IfOk result (λ seen.
         StartsAt stacks.now events.now cursors.now seen.values.items seen.found.items) }
 {
-    let variables = all_below(alloc, stacks.count())?;
-    let values = looker.read(alloc, stacks, cursors, &variables)?;
-    let places = all_below(alloc, events.count())?;
-    let found = looker.occurring(alloc, events, &values, &places)?;
+    let values = all_values(looker, alloc, stacks, cursors)?;
+    let found = all_shown(looker, alloc, events, &values)?;
     Ok(Seen { values, found })
 }

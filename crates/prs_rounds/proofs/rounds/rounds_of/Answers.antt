@@ -1,10 +1,11 @@
 use Rattle.std.proofs.Common.{◌≡◌, ◌+◌, ◌<◌, ℕ, suc, List, [], Some, length, replicate, sym, ap, subst, ◌∙◌, arith}
 use Rattle.std.proofs.lemmas.List.{length-replicate}
 use Rattle.pop_model.specs.Stacks.{variables_of}
-use Rattle.pop_model.specs.Popping.{Occurs, values_at}
+use Rattle.pop_model.specs.Popping.{AreWithin, Occurs, values_at}
+use Rattle.pop_model.specs.Places.{IsLeast}
 use Rattle.pop_model.specs.Runs.{IsFinished, IsStuckList}
 use Rattle.confluence_core.proofs.Places.{listed, event_to}
-use Rattle.prs_rounds.specs.Rounds.{Rounds, IsRound}
+use Rattle.prs_rounds.specs.Rounds.{Rounds, HasNoNext, IsRound}
 use Rattle.prs_rounds.specs.States.{IsAt, Turns}
 use Rattle.prs_rounds.proofs.ShownLemmas.{values_are_at}
 use Rattle.prs_rounds.proofs.RoundsLemmas.{rounds_more}
@@ -56,8 +57,8 @@ rounds-preserved g c =
       room = omega (arith, falls, c.rounds.invariant.room);
     }
 
-pub returns-clause-end : goal.returns-clause-end
-returns-clause-end g c =
+pub returns : goal.returns
+returns g c =
     let s = c.args.stacks.now in
     let rows = c.args.events.now in
     let state = c.rounds.state in
@@ -73,24 +74,35 @@ returns-clause-end g c =
       exact = λ e. (λ has. absurd (omega (arith, has.1)), λ there. absurd (finished e there.0 there.1));
     } in
     record {
-      run = c.rounds.invariant.run;
-      end = finished;
-      stuck_list = subst (IsStuckList (listed s rows) state.cursors) (sym c.new.ensures) empty;
+      end = record {
+        run = c.rounds.invariant.run;
+        end = finished;
+        stuck_list = subst (IsStuckList (listed s rows) state.cursors) (sym c.new.ensures) empty;
+      };
+      count = sym c.rounds.invariant.at.count;
+      within = c.rounds.invariant.at.within;
+      values = values_are_at s state.cursors state.values.items starts.values_are;
     }
 
-pub returns-clause-values : goal.returns-clause-values
-returns-clause-values g c =
-    let state = c.rounds.state in
-    values_are_at c.args.stacks.now state.cursors state.values.items c.rounds.invariant.at.starts.values_are
-
-pub returns-in-Some-clause-values : goal.returns-in-Some-clause-values
-returns-in-Some-clause-values g c =
+pub returns-in-Some : goal.returns-in-Some
+returns-in-Some g c =
     let s = c.args.stacks.now in
     let rows = c.args.events.now in
     let old = c.rounds.state in
     let new = c.turn.new.state in
     let stayed : Turns s rows old new (Some c.in-Some.v) = subst
     (Turns s rows old new) c.in-Some.is c.in_ok-v.ensures in
-    ap (λ v. v.items) stayed.2
-    ∙ values_are_at s old.cursors old.values.items c.rounds.invariant.at.starts.values_are
-    ∙ ap (values_at s) (sym stayed.1)
+    let i = listed s rows in
+    record {
+      end = record {
+        run = subst (λ at. Rounds i c.rounds.rounds (replicate (variables_of s) 0) at) (sym stayed.1)
+            c.rounds.invariant.run;
+        end = subst (λ at. IsLeast (HasNoNext i at) c.in-Some.v) (sym stayed.1) stayed.0;
+        stuck_list = c.in_ok-stuck.ensures;
+      };
+      count = ap length stayed.1 ∙ sym c.rounds.invariant.at.count;
+      within = subst (AreWithin s) (sym stayed.1) c.rounds.invariant.at.within;
+      values = ap (λ v. v.items) stayed.2
+          ∙ values_are_at s old.cursors old.values.items c.rounds.invariant.at.starts.values_are
+          ∙ ap (values_at s) (sym stayed.1);
+    }

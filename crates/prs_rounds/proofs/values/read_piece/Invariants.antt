@@ -8,7 +8,7 @@ use Rattle.prs_rounds.proofs.values.read_piece.Given as goal
 abbrev pub invariant-loop-k : goal.invariant-loop-k
 invariant-loop-k l = record {
   len : length l.values ≡ length l.fn.values;
-  read : (j : ℕ) → j < l.k → slice_index l.values j ≡ current l.stacks l.cursors
+  read : (j : ℕ) → j < l.k → slice_index l.values j ≡ current l.at.stacks.now l.at.cursors.now
       (slice_index l.variables (l.start + j));
-  belongs : Belongs l.stacks l.reader;
+  belongs : Belongs l.at.stacks.now l.reader;
 }

@@ -1,10 +1,23 @@
-use Rattle.std.proofs.Common.{◌≡◌, ℕ, ◌++◌, ◌∷◌, [], Bool, List, cond, filter, take, get_or, sym, ap, ◌∙◌}
+use Rattle.std.proofs.Common.{◌≡◌, ℕ, ◌++◌, ◌∷◌, [], Bool, List, cond, filter, length, take, get_or, sym, ap, subst, ◌∙◌}
 use Rattle.std.proofs.lemmas.List.{append-nil}
 use Rattle.std.proofs.lemmas.List.Elements.{filter_more}
+use Rattle.pop_model.specs.Popping.{Cube, NamesBelow}
 use Rattle.pop_instance.specs.Events.{cube_at}
 use Rattle.prs_rounds.specs.Values.{shows}
 use Rattle.prs_rounds.proofs.alone.AloneLooker.occurring.Goals as goal
 use Rattle.prs_rounds.proofs.alone.AloneLooker.occurring.Goals.{then-is_shown+in_ok-push, else-is_shown}
+
+pub cube-requires : goal.cube-requires
+cube-requires c = c.requires.known c.loop-place.place-index 0 c.loop-place-test.true
+
+pub is_shown-requires : goal.is_shown-requires
+is_shown-requires c =
+    let k = c.loop-place.place-index in
+    let values = c.args.values.now in
+    record {
+      known = subst (λ (e : Cube). NamesBelow e (length values)) (sym c.cube.ensures)
+          (c.requires.fits (get_or c.args.places.now k 0) (0, []) (c.requires.known k 0 c.loop-place-test.true));
+    }
 
 -- one place more is found where the values show its event
 pub loop-place-preserved : goal.loop-place-preserved

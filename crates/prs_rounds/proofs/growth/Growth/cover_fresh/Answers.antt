@@ -1,10 +1,24 @@
-use Rattle.std.proofs.Common.{◌≡◌, ◌++◌, ◌∷◌, [], ℕ, List, true, refl, sym, ap, subst, ◌∙◌, arith, length, append_assoc, append-nil}
+use Rattle.std.proofs.Common.{◌≡◌, ◌++◌, ◌∷◌, [], ℕ, List, true, refl, sym, ap, subst, ◌∙◌, arith, length, append_assoc, append-nil, Vec, Global}
 use Rattle.pop_model.specs.Popping.{Cube, names}
 use Rattle.prs_rounds.specs.declared.growth.Growth.{Growth}
 use Rattle.pop_instance.specs.Events.{cube_at}
 use Rattle.prs_rounds.specs.Growth.{CoversMore, IsNamedBy}
 use Rattle.prs_rounds.proofs.CoveringLemmas.{covers_none, covers_both, named_split, named_left, named_right, listed_fewer}
 use Rattle.prs_rounds.proofs.growth.Growth.cover_fresh.Goals as goal
+
+-- which events are fresh has no part in what is covered
+covers_fewer : (Is : ℕ → Type 0) (old new : Growth) (fresh : Vec ℕ Global) → CoversMore Is old new
+    → CoversMore Is old (record new { fresh = fresh })
+covers_fewer Is old new fresh covers = record {
+  marks = covers.marks;
+  looked = covers.looked;
+  kept = covers.kept;
+  gained = covers.gained;
+  only = covers.only;
+  place = covers.place;
+  size = covers.size;
+  long = covers.long;
+}
 
 pub loop-u-init : goal.loop-u-init
 loop-u-init c = record {
@@ -24,16 +38,7 @@ loop-u-preserved c =
     let covers : CoversMore (λ v. names (cube_at rows u) v ≡ true) popped c.cover.new.self =
     subst (λ (e : Cube). CoversMore (λ v. names e v ≡ true) popped c.cover.new.self) c.cube.ensures
     c.in_ok-cover.ensures.covers in
-    let before : CoversMore (IsNamedBy rows old.done) c.args.self.now popped = record {
-      marks = old.covers.marks;
-      looked = old.covers.looked;
-      kept = old.covers.kept;
-      gained = old.covers.gained;
-      only = old.covers.only;
-      place = old.covers.place;
-      size = old.covers.size;
-      long = old.covers.long;
-    } in
+    let before = covers_fewer (IsNamedBy rows old.done) c.args.self.now c.loop-u.self c.pop.new.self old.covers in
     record {
       done = u ∷ old.done;
       parts = old.parts ∙ ap (λ (xs : List ℕ). xs ++ old.done) c.in-Some.ensures.items
@@ -60,16 +65,6 @@ returns-clause-covers c =
     let all : old.done ≡ c.args.self.now.fresh.items =
     sym (old.parts ∙ none_in_front c.loop-u.self.fresh.items old.done
     (omega (arith, c.in_default.ensures.cases.0, c.loop-u.self.fresh.ok))) in
-    let now : CoversMore (IsNamedBy rows old.done) c.args.self.now (record c.loop-u.self { fresh = c.pop.new.self }) =
-    record {
-      marks = old.covers.marks;
-      looked = old.covers.looked;
-      kept = old.covers.kept;
-      gained = old.covers.gained;
-      only = old.covers.only;
-      place = old.covers.place;
-      size = old.covers.size;
-      long = old.covers.long;
-    } in
+    let now = covers_fewer (IsNamedBy rows old.done) c.args.self.now c.loop-u.self c.pop.new.self old.covers in
     subst (λ (us : List ℕ). CoversMore (IsNamedBy rows us) c.args.self.now
     (record c.loop-u.self { fresh = c.pop.new.self })) all now

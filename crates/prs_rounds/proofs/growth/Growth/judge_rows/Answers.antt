@@ -30,27 +30,23 @@ read_variable n count g k v listed within read =
 pub judge_row-requires-clause-known : goal.judge_row-requires-clause-known
 judge_row-requires-clause-known c =
     let old = c.loop-k.invariant in
-    let within : c.loop-k.k < length c.loop-k.self.variables.items =
-    omega (arith, c.loop-k-test.true, c.len-k-end.ensures, ap (λ x. length x.items) old.judges.variables) in
     let v : ℕ = c.index-v.result.now in
     let read = read_variable (length c.args.events.now) (length c.args.values.now) c.loop-k.self c.loop-k.k v
-    old.listed within c.index-v.ensures in
-    let below = read.below in
+    old.listed (omega (arith, c.loop-k-test.true, c.len-k-end.ensures, ap (λ x. length x.items) old.judges.variables))
+    c.index-v.ensures in
     subst (All (λ u. u < length c.args.events.now)) (sym c.at.ensures)
-    (index_units c.args.events.now c.args.index.now c.requires.index v (omega (arith, below, c.requires.count)))
+    (index_units c.args.events.now c.args.index.now c.requires.index v (omega (arith, read.below, c.requires.count)))
 
 pub judge_row-requires-clause-meets : goal.judge_row-requires-clause-meets
 judge_row-requires-clause-meets c =
     let old = c.loop-k.invariant in
-    let within : c.loop-k.k < length c.loop-k.self.variables.items =
-    omega (arith, c.loop-k-test.true, c.len-k-end.ensures, ap (λ x. length x.items) old.judges.variables) in
     let v : ℕ = c.index-v.result.now in
     let read = read_variable (length c.args.events.now) (length c.args.values.now) c.loop-k.self c.loop-k.k v
-    old.listed within c.index-v.ensures in
-    let below = read.below in
+    old.listed (omega (arith, c.loop-k-test.true, c.len-k-end.ensures, ap (λ x. length x.items) old.judges.variables))
+    c.index-v.ensures in
     subst (All (λ u. Meets c.loop-k.self (cube_at c.args.events.now u))) (sym c.at.ensures)
     (row_meets c.args.events.now c.args.index.now c.loop-k.self c.requires.index v
-    (omega (arith, below, c.requires.count)) read.covered)
+    (omega (arith, read.below, c.requires.count)) read.covered)
 
 pub loop-k-preserved : goal.loop-k-preserved
 loop-k-preserved c =
