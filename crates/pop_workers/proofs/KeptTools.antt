@@ -1,5 +1,5 @@
 -- Tools that are kept.
-use Rattle.std.proofs.Common.{◌≡◌, ◌∙◌, arith}
+use Rattle.std.proofs.Common.{◌∙◌, arith}
 use Rattle.pop_model.specs.Instances.{Instance}
 use Rattle.pop_workers.specs.declared.shared.Shared.{Shared}
 use Rattle.pop_workers.specs.declared.tools.Tools.{Tools}

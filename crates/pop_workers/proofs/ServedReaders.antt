@@ -1,5 +1,5 @@
 -- Readers of the stacks of an instance, and of those that its makers were made for.
-use Rattle.std.proofs.Common.{◌≡◌, List, All, sym, ◌∙◌}
+use Rattle.std.proofs.Common.{List, All, sym, ◌∙◌}
 use Rattle.pop_model.specs.Stacks.{Origin}
 use Rattle.pop_model.specs.Stacks.Origin.{Given, Keyed}
 use Rattle.pop_model.specs.Instances.{Instance}

@@ -1,5 +1,6 @@
 //! The workers beside the caller, each with a pass and hints of its own.
 ghost use Rattle.std.specs.Prelude.{◌≡◌, ◌+◌, ◌<◌, length, All, IfOk, OnOk, IfSome};
+ghost use Rattle.pop_model.specs.Stacks.{StackTable};
 ghost use Rattle.pop_stacks.specs.Readers.{Belongs};
 ghost use Rattle.claim_words.specs.Passes.{IsHelper, view, instance_of};
 ghost use Rattle.pop_workers.specs.AtWork.{IsSharedOn, IsIdleOn};
@@ -116,8 +117,8 @@ fn do_job<W: Range, G: Gate>(
     job.2 = Some(tools.reader);
 }
 
-/// Takes the passes of all jobs in again, and their readers, by their workers, with room for one
-/// more. Where a log is kept, a pass wants memory too.
+/// Takes the passes of all jobs in again, and their readers, by their workers. Where a log is kept, a
+/// pass wants memory too.
 pub(crate) fn take_back<W: Range>(
     alloc: Global,
     board: &Board,
@@ -135,26 +136,49 @@ pub(crate) fn take_back<W: Range>(
         All (Belongs (instance_of board.now).stacks) readers.items) }
 {
     let mut jobs = jobs;
+    // Room for the caller's reader too.
     let mut readers = Vec::with_capacity(alloc, jobs.len() + 1)?;
     while let Some(job) = jobs.pop() {
-        let (other, _, reader) = job;
-        take_one(board, pass, other)?;
-        if let Some(reader) = reader {
-            readers.insert(0, reader)?;
-        }
+        let reader = take_one(board, pass, job)?;
+        put_before(&mut readers, reader)?;
     }
     Ok(readers)
 }
 
-// Takes a pass in again.
-fn take_one(board: &Board, pass: &mut Pass, other: Pass) -> Result<(), AllocError>
+// Takes the pass of a job in again. Its reader, where it has one.
+fn take_one<W: Range>(
+    board: &Board,
+    pass: &mut Pass,
+    job: Job<W>,
+) -> Result<Option<Reader>, AllocError>
     requires pass { IsIdleOn board.now pass.old }
-    requires helper { IsHelper board.now other }
+    requires helper { IsHelper board.now job.0 }
     ensures pass { IsIdleOn board.now pass.new }
     ensures share { OnOk result ((view pass.new).share ≡ (view pass.old).share + 1) }
+    ensures reader { IfOk result (λ reader. reader ≡ job.2) }
 {
+    let (other, own, reader) = job;
+    drop(own);
     match board.rejoin(pass, other) {
-        Ok(()) => Ok(()),
-        Err((_, failed)) => Err(failed),
+        Ok(()) => Ok(reader),
+        Err((other, failed)) => {
+            drop(other);
+            drop(reader);
+            Err(failed)
+        }
+    }
+}
+
+// A reader before others, where there is one.
+fn put_before(readers: &mut Vec<Reader>, reader: Option<Reader>) -> Result<(), AllocError>
+    ensures { (s : StackTable) → All (Belongs s) readers.old.items → IfSome reader (Belongs s)
+        → OnOk result (All (Belongs s) readers.new.items) }
+{
+    match reader {
+        Some(reader) => {
+            readers.insert(0, reader)?;
+            Ok(())
+        }
+        None => Ok(()),
     }
 }
