@@ -104,8 +104,7 @@ fn copy_rows(alloc: Global, rows: &[(u32, Cube)]) -> Result<Vec<(u32, Cube)>, Al
     let mut copies = Vec::with_capacity(alloc, rows.len())?;
     for place in 0..rows.len() {
         let (number, cube) = &rows[place];
-        let copy = cube.copy(alloc)?;
-        copies.push((*number, copy))?;
+        copies.push((*number, cube.copy(alloc)?))?;
     }
     Ok(copies)
 }
