@@ -1,8 +1,7 @@
 //! Comparisons. Tests compare by these calls, so that what tells of numbers that differ is proved
 //! once.
-ghost use Rattle.std.specs.Prelude.{◌≡◌, length};
+ghost use Rattle.std.specs.Prelude.{◌≡◌};
 
-use pop_instance::Cursors;
 use std::process::Abort;
 
 /// Compares two counts.
@@ -20,14 +19,4 @@ pub(crate) fn is_so(rt: &impl Abort, holds: bool, what: &str, place: u32) {
 /// Compares two numbers at a place.
 pub(crate) fn same_at(rt: &impl Abort, found: u32, want: u32, what: &str, place: u64) {
     assert!(rt; found == want, "{what} {place}");
-}
-
-/// Compares the cursors of so many variables.
-pub(crate) fn cursors_alike(rt: &impl Abort, cursors: &Cursors, others: &Cursors, count: u32)
-    requires cursors { count ≡ length cursors.now }
-    requires others { count ≡ length others.now }
-{
-    for v in 0..count {
-        same_at(rt, cursors.get(v), others.get(v), "variable", v as u64);
-    }
 }

@@ -1,22 +1,11 @@
-//! Pseudo-random numbers, and random arrows towards a root.
+//! Random arrows towards a root.
 ghost use Rattle.std.specs.Prelude.{◌<◌, ◌≤◌, ◌^◌, length, All};
 ghost use Rattle.pop_instance.specs.Arrows.{heads_of};
 
 use pop_instance::{Arrows, Family};
 use std::alloc::Global;
 use std::process::Abort;
-
-/// The next pseudo-random number below a bound: the high bits of a linear congruential step with
-/// Knuth's numbers for MMIX.
-pub(crate) fn below(state: &mut u64, bound: u32) -> u32
-    requires { 0 < bound }
-    ensures { result < bound }
-{
-    *state = state
-        .wrapping_mul(6364136223846793005)
-        .wrapping_add(1442695040888963407);
-    (*state >> 33) as u32 % bound
-}
+use test_instances::below;
 
 // The heads of so many variables. Each has an arrow to a variable before it or to the root, and one
 // to itself or a variable behind it.

@@ -37,7 +37,9 @@ pub(crate) fn started<'i>(
 {
     let _units = instance.units();
     let from = Cursors::zeros(alloc, instance.stacks().count()).expect(rt, "memory");
-    Board::start(alloc, instance, &from, keep).expect(rt, "memory")
+    let started = Board::start(alloc, instance, &from, keep).expect(rt, "memory");
+    drop(from);
+    started
 }
 
 /// Sets so many marks, which are all of the board.

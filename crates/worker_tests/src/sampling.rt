@@ -3,7 +3,7 @@ ghost use Rattle.std.specs.Prelude.{◌≡◌, ◌<◌, ◌≤◌, ℕ, length};
 ghost use Rattle.pop_model.specs.Stacks.{variables_of, height_of, IsKeyed};
 ghost use Rattle.pop_model.specs.Popping.{AreWithin};
 
-use crate::comparing::{cursors_alike, same};
+use crate::comparing::{is_so, same};
 use confluence_core::{End, Keep, run_first};
 use pop_instance::{Cursors, Family, Instance};
 use pop_stacks::{StackSpec, Stacks, Weights};
@@ -12,6 +12,7 @@ use std::alloc::Global;
 use std::process::Abort;
 use std::sync::Wait;
 use std::thread::Threads;
+use test_instances::are_cursors_alike;
 
 mod chains;
 mod heights;
@@ -86,7 +87,8 @@ fn is_alike(rt: &impl Abort, run: &Outcome, first: &End, count: u32)
     requires run { count ≡ length run.now.end.cursors }
     requires first { count ≡ length first.now.cursors }
 {
-    cursors_alike(rt, &run.end.cursors, &first.cursors, count);
+    let are_alike = are_cursors_alike(&run.end.cursors, &first.cursors, count);
+    is_so(rt, are_alike, "cursors of variables below", count);
     same(rt, run.end.pops, first.pops, "pops");
     same(rt, run.end.stuck.len(), first.stuck.len(), "stuck events");
     logs_each_pop(rt, run);

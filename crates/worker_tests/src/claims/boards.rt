@@ -5,7 +5,7 @@ ghost use Rattle.claim_words.specs.Passes.{IsOf, IsIdle, IsHelper, IsSole, view,
 
 use super::instances::{chain, tree};
 use super::working::work;
-use crate::comparing::{cursors_alike, same};
+use crate::comparing::{is_so, same};
 use crate::passes::{close, started};
 use claim_words::{Board, Closed, Pass};
 use confluence_core::{End, Keep, run_first};
@@ -14,6 +14,7 @@ use std::alloc::Global;
 use std::process::Abort;
 use std::thread;
 use std::thread::Threads;
+use test_instances::are_cursors_alike;
 
 // How many boards are tried, and how many threads work on each.
 const BOARDS: u32 = 1000;
@@ -144,7 +145,9 @@ fn ends_as<R: Threads + Abort + Sync>(rt: &R, alloc: Global, instance: &Instance
 {
     let closed = close_together(rt, alloc, instance);
     pops_alike(rt, &closed, end.pops);
-    cursors_alike(rt, &closed.cursors, &end.cursors, instance.stacks().count());
+    let count = instance.stacks().count();
+    let are_alike = are_cursors_alike(&closed.cursors, &end.cursors, count);
+    is_so(rt, are_alike, "cursors of variables below", count);
     drop(closed);
 }
 

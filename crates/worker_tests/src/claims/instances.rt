@@ -1,10 +1,10 @@
 //! Small random instances of both families.
-use crate::drawn::{arrows, below};
+use crate::drawn::arrows;
 use crate::made::made;
 use pop_instance::{Cube, Family, Instance};
 use std::alloc::Global;
 use std::process::Abort;
-use test_instances::{cube, family, keyed, over};
+use test_instances::{below, cube, family, keyed, over};
 
 // The event that variables 2i, 2i + 1 and 2i + 2 have these values.
 fn link(rt: &impl Abort, alloc: Global, i: u32, values: [u32; 3]) -> Cube {

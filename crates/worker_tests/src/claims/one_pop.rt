@@ -236,8 +236,15 @@ fn leaves_one_record(rt: &impl Abort, alloc: Global, instance: &Instance) {
     are_two_events(rt, instance);
     let closed = close_after_pop(rt, alloc, instance);
     is_after_one_pop(rt, &closed);
-    let tickets = closed.log.expect(rt, "a log");
-    make_one_record(rt, alloc, tickets);
+    let Closed {
+        cursors,
+        log,
+        suspects,
+        ..
+    } = closed;
+    drop(cursors);
+    drop(suspects);
+    make_one_record(rt, alloc, log.expect(rt, "a log"));
 }
 
 // Worked by hand.

@@ -51,14 +51,16 @@ fn walk(
     let count = instance.stacks().count();
     assert!(rt; start < count);
     let mut reader = Reader::new(instance.stacks());
-    match pops {
+    let answer = match pops {
         None => try_walk(board, pass, instance, &mut reader, walker, start),
         Some(pops) => {
             assert!(rt; pops >= 1);
             let stretch = Stretch { start, pops };
             walk_on(board, pass, instance, &mut reader, walker, stretch)
         }
-    }
+    };
+    drop(reader);
+    answer
 }
 
 // Makes walks in turn, and compares their answers.

@@ -4,52 +4,20 @@ ghost use Rattle.pop_model.specs.Stacks.{height_of, IsKeyed};
 
 use super::{ends_alike, greater, under_key};
 use crate::made::made;
-use pop_instance::{Cube, Family, Instance};
+use pop_instance::Instance;
 use std::alloc::Global;
 use std::process::Abort;
 use std::sync::Wait;
 use std::thread::Threads;
-use test_instances::{cube, family};
+use test_instances::chain;
 
-// The event that variables 2i and 2i + 1 have the value 0 and variable 2i + 2 has the value 1.
-fn link(rt: &impl Abort, alloc: Global, i: u32) -> Cube {
-    assert!(rt; i < 1000);
-    made(
-        rt,
-        cube(alloc, &[(2 * i, 0), (2 * i + 1, 0), (2 * i + 2, 1)]),
-    )
-}
-
-// So many such events, under their numbers.
-fn links_of(rt: &impl Abort, alloc: Global, links: u32) -> Vec<(u32, Cube)> {
-    let mut rows = Vec::new(alloc);
-    for i in 0..links {
-        let link = link(rt, alloc, i);
-        rows.push((i + 1, link)).expect(rt, "memory");
-    }
-    rows
-}
-
-// The chain of so many links.
-fn chain(rt: &impl Abort, alloc: Global, links: u32) -> Family {
-    assert!(rt; links < 1000);
-    let rows = links_of(rt, alloc, links);
-    made(rt, family(alloc, rows))
-}
-
-// Such a chain over stacks of this height under a key of 32 such bytes.
-pub(super) fn chain_under_key(
-    rt: &impl Abort,
-    alloc: Global,
-    links: u32,
-    key: u8,
-    height: u32,
-) -> Instance
+// The chain of so many links over stacks of this height under a key of 32 such bytes.
+pub(super) fn chained(rt: &impl Abort, alloc: Global, links: u32, key: u8, height: u32) -> Instance
     ensures keyed { IsKeyed result.stacks.origin }
     ensures height { (v : ℕ) → height_of result.stacks v ≡ height }
 {
     assert!(rt; links < 1000);
-    let chain = chain(rt, alloc, links);
+    let chain = made(rt, chain(alloc, links));
     under_key(rt, 2 * links + 1, key, height, chain)
 }
 
@@ -61,7 +29,7 @@ fn chain_ends_alike<R: Threads + Wait + Abort + Sync>(
     key: u8,
     height: u32,
 ) -> (u64, u64) {
-    let instance = chain_under_key(rt, alloc, links, key, height);
+    let instance = chained(rt, alloc, links, key, height);
     let answer = ends_alike(rt, alloc, &instance);
     drop(instance);
     answer

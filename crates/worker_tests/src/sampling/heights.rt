@@ -2,7 +2,7 @@
 ghost use Rattle.std.specs.Prelude.{◌≡◌, ◌<◌, ◌≤◌, ℕ, length};
 ghost use Rattle.pop_model.specs.Stacks.{variables_of, height_of, IsKeyed};
 
-use super::chains::chain_under_key;
+use super::chains::chained;
 use super::trees::tree_under_key;
 use super::{is_alike, under_key};
 use crate::comparing::same_at;
@@ -197,7 +197,8 @@ fn grows_as<R: Threads + Wait + Abort + Sync>(
 // The same on each board, for the event of value 1.
 fn one_value_grows<R: Threads + Wait + Abort + Sync>(rt: &R, alloc: Global, row: &Row) {
     for board in BOARDS.iter() {
-        let _run = grows_as(rt, alloc, &[1], row, *board);
+        let run = grows_as(rt, alloc, &[1], row, *board);
+        drop(run);
     }
 }
 
@@ -214,6 +215,7 @@ fn both_values_grow<R: Threads + Wait + Abort + Sync>(rt: &R, alloc: Global, row
     for board in BOARDS.iter() {
         let run = grows_as(rt, alloc, &[0, 1], row, *board);
         are_values(rt, &run);
+        drop(run);
     }
 }
 
@@ -230,10 +232,12 @@ fn is_legal(rt: &impl Abort, alloc: Global, instance: &Instance, run: &Outcome) 
     let Some(log) = &run.log else {
         panic!(rt; "no log");
     };
-    match replay(alloc, instance, log).expect(rt, "memory") {
-        Replay::Legal(_) => {}
-        Replay::NotLegal(_) => panic!(rt; "a log that isn't legal"),
-    }
+    let replayed = replay(alloc, instance, log).expect(rt, "memory");
+    assert!(rt;
+        matches!(replayed, Replay::Legal(_)),
+        "a log that isn't legal"
+    );
+    drop(replayed);
 }
 
 // Compares a run over so many variables with the one-thread run. Returns how many events are stuck.
@@ -287,7 +291,7 @@ fn of_kind(rt: &impl Abort, alloc: Global, kind: Kind, key: u8, height: u32) -> 
     ensures height { (v : ℕ) → height_of result.stacks v ≡ height }
 {
     match kind {
-        Kind::Chain => chain_under_key(rt, alloc, 20, key, height),
+        Kind::Chain => chained(rt, alloc, 20, key, height),
         Kind::Tree => tree_under_key(rt, alloc, &mut 2026, 70, key, height),
     }
 }

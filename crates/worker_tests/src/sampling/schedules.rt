@@ -73,6 +73,7 @@ fn held_run<R: Threads + Wait + Abort + Sync>(
     let gate = Holds::new(held, other);
     let outcome = sample(rt, alloc, instance, claimed, 2, &gate);
     let gave_up = gate.gave_up.load(SeqCst);
+    drop(gate);
     assert!(rt; !gave_up, "the other worker never came");
     outcome
 }
