@@ -2,10 +2,12 @@
 //! with two slots each.
 ghost use Rattle.pop_model.specs.Stacks.{IsKeyed};
 ghost use Rattle.pop_model.specs.Extremal.{IsExtremal};
+ghost use Rattle.pop_model.specs.Families.Family.{Listed};
+ghost use Rattle.pop_instance.specs.Index.{IsIndex};
 
 use crate::made::{arrows, events};
 use extremal_check::{Verdict, check};
-use pop_instance::{Family, Index, Instance};
+use pop_instance::{Events, Family, Index, Instance};
 use pop_stacks::{StackSpec, Stacks, Weights};
 use std::alloc::Global;
 use std::process::Abort;
@@ -21,6 +23,17 @@ fn stacks(rt: &impl Abort, count: u32, height: u32) -> Stacks
     Stacks::new(StackSpec::Key([0; 32]), Weights::pairs(count), height).expect(rt, "memory")
 }
 
+// Stops the test where two of these events clash.
+fn expect_no_clash(rt: &impl Abort, alloc: Global, events: &Events, index: &Index)
+    requires { IsIndex events.now index.now }
+    ensures { IsExtremal (Listed events.now) }
+{
+    match check(alloc, events, index).expect(rt, "memory") {
+        Verdict::Extremal => {}
+        Verdict::Clash(_, _) => panic!(rt; "events that don't clash"),
+    }
+}
+
 // Stops the test where two listed events of the instance clash.
 fn expect_extremal(rt: &impl Abort, alloc: Global, instance: &Instance)
     ensures { IsExtremal instance.now.family }
@@ -30,12 +43,8 @@ fn expect_extremal(rt: &impl Abort, alloc: Global, instance: &Instance)
         panic!(rt; "listed events");
     };
     let index = Index::build(alloc, events, instance.stacks().count()).expect(rt, "memory");
-    let verdict = check(alloc, events, &index).expect(rt, "memory");
+    expect_no_clash(rt, alloc, events, &index);
     drop(index);
-    match verdict {
-        Verdict::Extremal => {}
-        Verdict::Clash(_, _) => panic!(rt; "events that don't clash"),
-    }
 }
 
 // The instance of these stacks and the events of a table.
