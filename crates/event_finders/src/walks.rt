@@ -1,14 +1,13 @@
 //! Walks that claim along the arrows, and pop the cycles that they close: loop-erased walks (Wilson
 //! 1996; Propp and Wilson 1998) of several passes on one board.
-ghost use Rattle.std.specs.Prelude.{◌≡◌, ◌≤◌, ◌<◌, ◌+◌, length, false, ℕ, slice_index};
+ghost use Rattle.std.specs.Prelude.{◌≡◌, ◌≤◌, ◌<◌, ◌+◌, false, ℕ, slice_index};
 ghost use Rattle.pop_model.specs.Popping.{variables};
 ghost use Rattle.pop_stacks.specs.Readers.{Belongs};
 ghost use Rattle.claim_words.specs.Openings.{is_listed};
-ghost use Rattle.claim_words.specs.Tells.{SoleKnows};
 ghost use Rattle.claim_words.specs.Passes.{IsOf, IsIdle, view, count_of, opening_of, instance_of};
 ghost use Rattle.claim_words.specs.declared.view.View.{View};
 ghost use Rattle.event_finders.specs.Gains.{SeesWithin, Stays};
-ghost use Rattle.event_finders.specs.Trails.{Stands, resting};
+ghost use Rattle.event_finders.specs.Trails.{resting};
 ghost use Rattle.event_finders.specs.Walks.{KeepsKnown, Traced, PopsCycles, IsWalkAnswer};
 ghost use Rattle.event_finders.specs.WalkSteps.{IsWalking, HasSpare, SeesLast, Rounds, RoundsOn};
 
