@@ -1,11 +1,23 @@
-use Rattle.std.proofs.Common.{◌≡◌, length, refl, sym, ap, subst, ◌∙◌, arith}
+use Rattle.std.proofs.Common.{◌≡◌, ℕ, List, length, refl, sym, ap, subst, ◌∙◌, arith}
 use Rattle.pop_model.specs.Stacks.{StackTable, variables_of}
+use Rattle.pop_model.specs.Popping.{AreWithin}
 use Rattle.pop_model.specs.Runs.{IsStuckList}
-use Rattle.confluence_core.specs.CycleTables.{CycleTable, cycles}
+use Rattle.confluence_core.specs.CycleTables.{CycleTable, AreCursors, cycles}
 use Rattle.confluence_core.specs.declared.walked.Walked.{Walked}
 use Rattle.confluence_core.proofs.EventVariables.{pops_fit}
 use Rattle.confluence_core.proofs.Runnings.{runs_nowhere}
 use Rattle.confluence_core.proofs.cycle_runs.occurring_cycles.Goals as goal
+
+pub left_by_walks-requires-clause-cursors : goal.left_by_walks-requires-clause-cursors
+left_by_walks-requires-clause-cursors c =
+    let copy : List ℕ = c.in_ok-copy.copy in
+    let t : CycleTable = record { stacks = c.args.stacks.now; heads = c.args.arrows.now } in
+    let same : copy ≡ c.args.cursors.now = c.in_ok-copy.ensures in
+    let are : AreCursors t copy = record {
+      count = ap length same ∙ sym c.requires.count ∙ sym c.requires.fits.0;
+      within = subst (AreWithin c.args.stacks.now) (sym same) c.requires.within;
+    } in
+    subst (λ x. AreCursors x copy) (sym c.of-current.ensures) are
 
 pub left_by_walks-requires-clause-room : goal.left_by_walks-requires-clause-room
 left_by_walks-requires-clause-room c =

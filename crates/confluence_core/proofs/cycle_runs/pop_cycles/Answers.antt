@@ -8,9 +8,16 @@ use Rattle.confluence_core.specs.Steps.{RunsOn, reached_by}
 use Rattle.confluence_core.specs.Stretches.{GoesOn, HasCome}
 use Rattle.confluence_core.specs.declared.reached.Reached.{Reached}
 use Rattle.confluence_core.specs.declared.walked.Walked.{Walked}
-use Rattle.confluence_core.proofs.Reaching.{come_room}
+use Rattle.confluence_core.proofs.Reaching.{come_can, come_room}
 use Rattle.confluence_core.proofs.Runnings.{runs_go_on}
 use Rattle.confluence_core.proofs.cycle_runs.pop_cycles.Goals as goal
+
+pub left_by_walks-requires-clause-cursors : goal.left_by_walks-requires-clause-cursors
+left_by_walks-requires-clause-cursors c =
+    let t : CycleTable = record { stacks = c.args.stacks.now; heads = c.args.arrows.now } in
+    let can = come_can (cycles t) c.args.reached c.requires.reached in
+    subst (λ x. AreCursors x c.args.reached.cursors) (sym c.of-current.ensures)
+    (record { count = sym can.count ∙ sym c.requires.fits.0; within = can.within })
 
 pub left_by_walks-requires-clause-room : goal.left_by_walks-requires-clause-room
 left_by_walks-requires-clause-room c =

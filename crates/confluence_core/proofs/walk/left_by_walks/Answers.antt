@@ -1,10 +1,22 @@
 use Rattle.std.proofs.Common.{◌<◌, sym, subst}
 use Rattle.pop_model.specs.Runs.{IsEnd, IsStuckList}
-use Rattle.confluence_core.specs.CycleTables.{AreCursors, cycles}
+use Rattle.pop_stacks.specs.Readers.{Belongs}
+use Rattle.confluence_core.specs.CycleTables.{CycleTable, AreCursors, cycles}
 use Rattle.confluence_core.specs.Walks.{HasRoom}
 use Rattle.confluence_core.specs.Steps.{RunsOn}
 use Rattle.confluence_core.specs.declared.walked.Walked.{Walked}
 use Rattle.confluence_core.proofs.walk.left_by_walks.Goals as goal
+
+pub new-requires : goal.new-requires
+new-requires c =
+    record { cursors = c.requires.cursors; none_stuck = c.requires.none_stuck; room = c.requires.room }
+
+pub settle_all-requires : goal.settle_all-requires
+settle_all-requires c = record {
+  stands = c.in_ok-walk.ensures.stands;
+  belongs = subst (λ (t : CycleTable). Belongs t.stacks c.args.reader.now) (sym c.in_ok-walk.ensures.current)
+      c.requires.belongs;
+}
 
 pub returns-in-Ok : goal.returns-in-Ok
 returns-in-Ok c =
