@@ -1,4 +1,4 @@
-use Rattle.std.proofs.Common.{◌≡◌, List, ℕ, length, ap, ◌∙◌}
+use Rattle.std.proofs.Common.{length, ap, ◌∙◌}
 use Rattle.std.specs.List.{range_with_len}
 use Rattle.confluence_core.proofs.Suspects.{all_known}
 use Rattle.prs_rounds.proofs.ShownLemmas.{values_of_all}

@@ -12,6 +12,12 @@ use Rattle.prs_rounds.proofs.ShownLemmas.{found_again}
 use Rattle.prs_rounds.proofs.RoundsLemmas.{short_from, round_from, within_round, starts_next}
 use Rattle.prs_rounds.proofs.state.turn.Goals as goal
 
+pub grow-requires-clause-fits : goal.grow-requires-clause-fits
+grow-requires-clause-fits g c k d h k' d' h' =
+    let fit = (c.requires.fits k d h k' d' h').0 in
+    let values = c.requires.at.starts.values_are in
+    omega (arith, fit, values.count, c.requires.at.count, ap length c.deref.ensures.value)
+
 pub grow-requires-clause-known : goal.grow-requires-clause-known
 grow-requires-clause-known g c =
     let found = c.args.state.now.found.items in
