@@ -35,7 +35,7 @@ fn rows_come_back_in_order_with_empty_ones_between(rt: HostRuntime) {
 // Sums up rows, and compares the first one past 32 bits.
 fn sums_up_to(rt: &impl Abort, rows: &mut RowList, heavy: Option<u32>) {
     let found = rows.accumulate();
-    assert!(rt; found == heavy, "row {found:?} past 32 bits, not {heavy:?}");
+    assert!(rt; found == heavy, "the first row past 32 bits");
 }
 
 static LIGHT: [&[u32]; 4] = [&[3, 1, 2], &[], &[u32::MAX], &[5, 0]];
