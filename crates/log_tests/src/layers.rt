@@ -1,8 +1,5 @@
-ghost use Rattle.std.specs.Prelude.{All};
-ghost use Rattle.pop_model.specs.Popping.{NamesBelow};
-
 use crate::comparing::same_text;
-use crate::records::popped;
+use crate::records::log_of;
 use confluence_core::{Log, Record};
 use pop_instance::Cube;
 use pop_log::{layered, layers};
@@ -11,18 +8,6 @@ use std::process::Abort;
 
 // A pop: its unit and its variables.
 type Pop = (u32, &'static [u32]);
-
-// The log of these pops, whose variables are all below 4.
-fn log_of(rt: &impl Abort, alloc: Global, pops: &[Pop]) -> Log
-    ensures { All (λ r. NamesBelow r.event.cube 4) result }
-{
-    let mut log = Log::new(alloc);
-    for (unit, variables) in pops {
-        let popped = popped(rt, alloc, 4, *unit, variables);
-        log.push(popped).expect(rt, "memory");
-    }
-    log
-}
 
 // Adds the variables of a cube.
 fn push_variables(rt: &impl Abort, text: &mut String, cube: &Cube) {
@@ -50,22 +35,28 @@ fn shown(rt: &impl Abort, alloc: Global, log: &Log) -> String {
 
 // The layers of the records of pops.
 fn layers_of(rt: &impl Abort, alloc: Global, pops: &[Pop]) -> Vec<u64> {
-    let log = log_of(rt, alloc, pops);
-    layers(alloc, 4, &log).expect(rt, "memory")
+    let log = log_of(rt, alloc, 4, pops);
+    let found = layers(alloc, 4, &log).expect(rt, "memory");
+    drop(log);
+    found
 }
 
 // Compares the layers of the records of pops.
 fn has_layers(rt: &impl Abort, alloc: Global, pops: &[Pop], want: &[u64]) {
     let found = layers_of(rt, alloc, pops);
     assert!(rt; found.as_slice() == want, "layers {want:?}");
+    drop(found);
 }
 
 // Compares the unit and the variables of each record of pops in the layered order.
 fn stand(rt: &impl Abort, alloc: Global, pops: &[Pop], want: &str) {
-    let log = log_of(rt, alloc, pops);
-    let log = layered(alloc, 4, &log).expect(rt, "memory");
-    let text = shown(rt, alloc, &log);
+    let log = log_of(rt, alloc, 4, pops);
+    let layered = layered(alloc, 4, &log).expect(rt, "memory");
+    drop(log);
+    let text = shown(rt, alloc, &layered);
+    drop(layered);
     same_text(rt, text.as_bytes(), want);
+    drop(text);
 }
 
 // The pops of a log, the layers of its records, and these in the layered order, which were worked

@@ -42,10 +42,12 @@ fn records_stand_in_the_order_of_their_tickets(rt: HostRuntime) {
     push_three(&rt, rt.alloc(), &mut tickets);
     let log = merge(rt.alloc(), tickets).expect(&rt, "memory");
     has_units(&rt, &log, &[60, 50, 40]);
+    drop(log);
 }
 
 #[test]
 fn no_tickets_give_the_empty_log(rt: HostRuntime) {
     let log = merge(rt.alloc(), Tickets::new(rt.alloc())).expect(&rt, "memory");
     has_units(&rt, &log, &[]);
+    drop(log);
 }

@@ -10,7 +10,9 @@ use witness_trees::find_pop;
 fn place(rt: &impl Abort, alloc: Global, instance: &Instance, v: u32, k: u32) -> Option<u64> {
     let log = log_of_run(rt, alloc, instance);
     assert!(rt; v < instance.stacks().count());
-    find_pop(&log, v, k)
+    let place = find_pop(&log, v, k);
+    drop(log);
+    place
 }
 
 // The variables have the entries 0, 1, 1, 1 and 0, 0, 1.
@@ -35,4 +37,5 @@ fn are_places(rt: &impl Abort, alloc: Global, instance: &Instance) {
 fn a_pop_is_found_by_a_variable_and_its_entry(rt: HostRuntime) {
     let instance = of_events(&rt, rt.alloc(), &ROWS, &CLAUSES);
     are_places(&rt, rt.alloc(), &instance);
+    drop(instance);
 }

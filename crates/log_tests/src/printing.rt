@@ -39,14 +39,18 @@ fn text_of(
 // The text of the log of a run from zeros.
 fn text_of_run(rt: &impl Abort, alloc: Global, instance: &Instance, in_layers: bool) -> Vec<u8> {
     let log = log_of_run(rt, alloc, instance);
-    text_of(rt, alloc, instance, &log, in_layers)
+    let text = text_of(rt, alloc, instance, &log, in_layers);
+    drop(log);
+    text
 }
 
 // Compares the text of the log of a run from zeros.
 fn prints(rt: &impl Abort, alloc: Global, case: &Case) {
     let instance = of_events(rt, alloc, case.rows, case.events);
     let text = text_of_run(rt, alloc, &instance, case.in_layers);
+    drop(instance);
     same_text(rt, &text, case.text);
+    drop(text);
 }
 
 // The variables have the entries 0, 1, 1 and 0, 0, 1. The clauses `1 2` and `-1 2`, under the

@@ -84,7 +84,10 @@ fn answer(
 ) -> String {
     let mut answer = String::new(alloc);
     match read_log(alloc, instance, names, text) {
-        Ok(log) => push_records(rt, &mut answer, &log),
+        Ok(log) => {
+            push_records(rt, &mut answer, &log);
+            drop(log);
+        }
         Err(refusal) => push_refusal(rt, &mut answer, &refusal),
     }
     answer
@@ -102,6 +105,7 @@ fn is_answered(
     let found = answer(rt, alloc, instance, names, text);
     let size = text.len();
     assert!(rt; found.as_str() == want, "{size} bytes: {found}, not {want}");
+    drop(found);
 }
 
 // Compares the answers to texts with those that were worked by hand.
@@ -127,6 +131,7 @@ fn compare_listed(
 ) {
     let instance = of_events(rt, alloc, rows, events);
     compare(rt, alloc, &instance, Names::Plain, cases);
+    drop(instance);
 }
 
 #[test]
@@ -160,6 +165,7 @@ fn compare_trees(rt: &impl Abort, alloc: Global, instance: &Instance) {
 fn logs_of_trees_are_read_by_the_names_of_their_root(rt: HostRuntime) {
     let instance = of_arrows(&rt, rt.alloc(), &TREE_ROWS, &HEADS);
     compare_trees(&rt, rt.alloc(), &instance);
+    drop(instance);
 }
 
 // What is to be answered to so many bytes of a text.
@@ -185,4 +191,5 @@ fn compare_cuts(rt: &impl Abort, alloc: Global, instance: &Instance) {
 fn every_cut_of_a_text_is_refused_at_its_line(rt: HostRuntime) {
     let instance = of_events(&rt, rt.alloc(), &ONE_ROW, &ONE);
     compare_cuts(&rt, rt.alloc(), &instance);
+    drop(instance);
 }

@@ -1,8 +1,10 @@
+ghost use Rattle.std.specs.Prelude.{All};
 ghost use Rattle.pop_model.specs.Popping.{NamesBelow};
 
-use confluence_core::Record;
+use confluence_core::{Log, Record};
 use pop_instance::Cube;
 use std::alloc::Global;
+use std::convert::AsSlice;
 use std::process::Abort;
 
 // The pairs of these variables, all below the count, with value 0 each.
@@ -50,5 +52,19 @@ pub fn popped(rt: &impl Abort, alloc: Global, count: u32, unit: u32, variables: 
     ensures { NamesBelow result.event.cube count }
 {
     let entries = vec![in alloc; 0; variables.len()].expect(rt, "memory");
-    popped_with(rt, alloc, count, unit, variables, &entries)
+    let popped = popped_with(rt, alloc, count, unit, variables, &entries);
+    drop(entries);
+    popped
+}
+
+/// The log of pops, each of a unit and of variables below the count.
+pub fn log_of<V: AsSlice<u32>>(rt: &impl Abort, alloc: Global, count: u32, pops: &[(u32, V)]) -> Log
+    ensures { All (λ r. NamesBelow r.event.cube count) result }
+{
+    let mut log = Log::new(alloc);
+    for (unit, variables) in pops {
+        let popped = popped(rt, alloc, count, *unit, variables.as_slice());
+        log.push(popped).expect(rt, "memory");
+    }
+    log
 }

@@ -39,6 +39,7 @@ fn is_replay(
 ) {
     let log = log_of(rt, alloc, pops);
     let found = left_by(rt, alloc, instance, &log);
+    drop(log);
     assert!(rt; found == want, "{pops:?}: {found:?}, not {want:?}");
 }
 
@@ -80,6 +81,7 @@ static LOGS: [(&[(u32, u32, u32)], Result<u32, u64>); 9] = [
 fn a_log_is_legal_up_to_its_first_illegal_record(rt: HostRuntime) {
     let instance = of_events(&rt, rt.alloc(), &ROWS, &EVENTS);
     are_replays(&rt, rt.alloc(), &instance, &LOGS);
+    drop(instance);
 }
 
 // Variable 0 leads to itself by value 0 and to the root by value 1. It has the entries 0, 0, 1.
@@ -97,4 +99,5 @@ static RING_LOGS: [(&[(u32, u32, u32)], Result<u32, u64>); 2] = [
 fn cycles_are_replayed_under_their_least_variable(rt: HostRuntime) {
     let instance = of_arrows(&rt, rt.alloc(), &RING_ROWS, &RING_HEADS);
     are_replays(&rt, rt.alloc(), &instance, &RING_LOGS);
+    drop(instance);
 }

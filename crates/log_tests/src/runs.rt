@@ -2,7 +2,7 @@
 ghost use Rattle.pop_model.specs.Logs.{IsLegal};
 ghost use Rattle.pop_model.specs.Runs.{start_of};
 
-use confluence_core::{Keep, Log, run_from_zeros};
+use confluence_core::{Keep, Log, Run, run_from_zeros};
 use pop_instance::Instance;
 use std::alloc::Global;
 use std::process::Abort;
@@ -12,5 +12,7 @@ pub fn log_of_run(rt: &impl Abort, alloc: Global, instance: &Instance) -> Log
     ensures { IsLegal instance.now (start_of instance.now) result }
 {
     let run = run_from_zeros(alloc, instance, Keep::Log).expect(rt, "memory");
-    run.log.expect(rt, "a log")
+    let Run { end, log } = run;
+    drop(end);
+    log.expect(rt, "a log")
 }

@@ -1,7 +1,7 @@
 mod plain;
 
 use crate::comparing::same_text;
-use crate::records::popped;
+use crate::records::{log_of, popped};
 use confluence_core::Log;
 use std::alloc::Global;
 use std::process::Abort;
@@ -12,16 +12,6 @@ const COUNT: u32 = 7;
 
 // A pop: its unit and its variables.
 type Pop = (u32, &'static [u32]);
-
-// The log of these units and variables.
-fn log_of(rt: &impl Abort, alloc: Global, pops: &[Pop]) -> Log {
-    let mut log = Log::new(alloc);
-    for (unit, variables) in pops {
-        let popped = popped(rt, alloc, COUNT, *unit, variables);
-        log.push(popped).expect(rt, "memory");
-    }
-    log
-}
 
 // Compares the depths and units of a tree, in preorder.
 fn has_vertices(rt: &impl Abort, tree: &Tree, want: &[(u64, u32)], what: &str) {
@@ -42,10 +32,12 @@ struct Case {
 
 // Compares the tree of the record of a case.
 fn is_case(rt: &impl Abort, alloc: Global, case: &Case) {
-    let log = log_of(rt, alloc, case.pops);
+    let log = log_of(rt, alloc, COUNT, case.pops);
     assert!(rt; case.t < log.len(), "{}", case.what);
     let tree = tree(alloc, &log, case.t).expect(rt, "memory");
+    drop(log);
     has_vertices(rt, &tree, case.tree, case.what);
+    drop(tree);
 }
 
 // The events of the clauses `1 2 0`, `3 4 0` and `2 3 0`.
@@ -141,6 +133,7 @@ fn a_missing_pop_is_printed_with_its_entry_and_the_cursor(rt: HostRuntime) {
     for (name, entry, cursor, want) in MISSING.iter() {
         let text = print_missing(rt.alloc(), *name, *entry, *cursor).expect(&rt, "memory");
         same_text(&rt, &text, want);
+        drop(text);
     }
 }
 
@@ -167,5 +160,7 @@ fn pops_of_one_event_make_a_path(rt: HostRuntime) {
     let log = log_of_one(&rt, rt.alloc(), 1000);
     assert!(&rt; log.len() == 1000);
     let tree = tree(rt.alloc(), &log, 999).expect(&rt, "memory");
+    drop(log);
     is_path(&rt, &tree, 1000);
+    drop(tree);
 }

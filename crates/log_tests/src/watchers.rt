@@ -12,6 +12,7 @@ type Told = (&'static [u32], &'static [u32], &'static str);
 fn reports<W: Watch>(rt: &impl Abort, alloc: Global, watcher: &W, want: &str) {
     let text = watcher.report(alloc).expect(rt, "memory");
     same_text(rt, &text, want);
+    drop(text);
 }
 
 // Tells a watcher a pop.
@@ -24,6 +25,7 @@ fn tell<W: Watch>(
 ) {
     let popped = popped_with(rt, alloc, 8, 0, variables, entries);
     watcher.tell(&popped).expect(rt, "memory");
+    drop(popped);
 }
 
 // Compares what a watcher reports at first, and behind each pop that it is told.
@@ -95,4 +97,5 @@ static LAYERS: [Told; 6] = [
 fn layers_tell_the_greatest_and_the_variables_named(rt: HostRuntime) {
     let mut layers = Layers::new(rt.alloc()).expect(&rt, "memory");
     reports_each(&rt, rt.alloc(), &mut layers, "report layers 0 0\n", &LAYERS);
+    drop(layers);
 }

@@ -1,12 +1,11 @@
 // Comparison with a plain search: each record against each vertex, and the preorder by the paths
 // from the root.
-ghost use Rattle.std.specs.Prelude.{◌<◌};
-
 use super::COUNT;
-use crate::records::popped;
+use crate::records::log_of;
 use confluence_core::Log;
 use std::alloc::Global;
 use std::process::Abort;
+use test_instances::below;
 use witness_trees::{Tree, tree};
 
 // A vertex that was found by search: the variables of the labels from the root down to it, and its
@@ -86,27 +85,16 @@ fn search<'a>(rt: &impl Abort, alloc: Global, pops: &'a [(u32, Vec<u32>)]) -> Ve
     found
 }
 
-// A number below the bound, and the next state.
-fn draw(state: &mut u64, bound: u64) -> u64
-    requires { 0 < bound }
-    ensures { result < bound }
-{
-    *state = state
-        .wrapping_mul(6364136223846793005)
-        .wrapping_add(1442695040888963407);
-    (*state >> 33) % bound
-}
-
 // One to three of six variables, with a unit of their own.
 fn event(rt: &impl Abort, alloc: Global, state: &mut u64) -> (u32, Vec<u32>) {
-    let (a, b, c) = (draw(state, 6), draw(state, 6), draw(state, 6));
+    let (a, b, c) = (below(state, 6), below(state, 6), below(state, 6));
     let mut unit: u32 = 0;
     let mut variables = Vec::new(alloc);
     for v in 0..6 {
         unit = unit.wrapping_mul(2);
         if v == a || v == b || v == c {
             unit = unit.wrapping_add(1);
-            variables.push(v as u32).expect(rt, "memory");
+            variables.push(v).expect(rt, "memory");
         }
     }
     (unit, variables)
@@ -115,21 +103,11 @@ fn event(rt: &impl Abort, alloc: Global, state: &mut u64) -> (u32, Vec<u32>) {
 // One to twelve pops.
 fn draw_pops(rt: &impl Abort, alloc: Global, state: &mut u64) -> Vec<(u32, Vec<u32>)> {
     let mut pops = Vec::new(alloc);
-    for _ in 0..draw(state, 12) + 1 {
+    for _ in 0..below(state, 12) + 1 {
         let event = event(rt, alloc, state);
         pops.push(event).expect(rt, "memory");
     }
     pops
-}
-
-// Their log.
-fn logged(rt: &impl Abort, alloc: Global, pops: &[(u32, Vec<u32>)]) -> Log {
-    let mut log = Log::new(alloc);
-    for (unit, variables) in pops {
-        let popped = popped(rt, alloc, COUNT, *unit, variables);
-        log.push(popped).expect(rt, "memory");
-    }
-    log
 }
 
 // Compares a tree with what is found by search.
@@ -149,13 +127,16 @@ fn has_found(rt: &impl Abort, alloc: Global, log: &Log, want: &[Found]) {
     assert!(rt; 0 < count);
     let tree = tree(alloc, log, count - 1).expect(rt, "memory");
     is_found(rt, &tree, want);
+    drop(tree);
 }
 
 // Compares the tree of the last pop with what is found by search.
 fn agree(rt: &impl Abort, alloc: Global, pops: &[(u32, Vec<u32>)]) {
     let want = search(rt, alloc, pops);
-    let log = logged(rt, alloc, pops);
+    let log = log_of(rt, alloc, COUNT, pops);
     has_found(rt, alloc, &log, &want);
+    drop(log);
+    drop(want);
 }
 
 #[test]
@@ -165,5 +146,6 @@ fn trees_are_those_that_a_search_finds(rt: HostRuntime) {
     for _ in 0..400 {
         let pops = draw_pops(&rt, alloc, &mut state);
         agree(&rt, alloc, &pops);
+        drop(pops);
     }
 }

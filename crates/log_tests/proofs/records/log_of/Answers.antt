@@ -1,4 +1,4 @@
-use Rattle.log_tests.proofs.layers.log_of.Goals as goal
+use Rattle.log_tests.proofs.records.log_of.Goals as goal
 
 pub returns : goal.returns
 returns g c = c.loop-unit.invariant
