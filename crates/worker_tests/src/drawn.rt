@@ -19,7 +19,7 @@ fn heads(rt: &impl Abort, alloc: Global, state: &mut u64, count: u32) -> Vec<Vec
     for v in 0..count {
         let before = below(state, v + 1).checked_sub(1);
         let behind = v + below(state, count - v);
-        let row = vec![in alloc; before, Some(behind)].expect(rt, "memory");
+        let row = Vec::from_slice(alloc, &[before, Some(behind)]).expect(rt, "memory");
         heads.push(row).expect(rt, "memory");
     }
     heads
