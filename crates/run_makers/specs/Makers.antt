@@ -1,17 +1,27 @@
 -- What those who make runs are handed, and what they make.
-use Rattle.std.specs.Prelude.{◌≡◌, ℕ, Bool, List, Option}
-use Rattle.pop_model.specs.Instances.{Instance}
+use Rattle.std.specs.Prelude.{◌≡◌, ℕ, Bool, List, Option, Some}
+use Rattle.pop_model.specs.Instances.{Instance, instance_raised}
 use Rattle.pop_model.specs.Runs.{start_of}
 use Rattle.confluence_core.specs.declared.reached.Reached.{Reached}
 use Rattle.confluence_core.specs.declared.run.Run.{Run}
+use Rattle.confluence_core.specs.Kept.{keeps_log}
 use Rattle.confluence_core.specs.Runs.{IsRunOf, ended}
 use Rattle.confluence_core.specs.Stretches.{GoesOn, HasCome, IsReached}
-use Rattle.growing_instances.specs.Growing.{MayIndex}
+use Rattle.growing_instances.specs.Growing.{MayGrowTo, MayIndex}
+use Rattle.run_makers.specs.declared.stages.Stages.{Stages}
 
 -- a run of the instance from zeros to an end, and the instance that it was
 pub record IsRunTo (i : Instance) (keeps : Bool) (ran : Run × Instance) : Type 0 where
   pub instance : ran.1 ≡ i
   pub run : IsRunOf ran.1 (start_of ran.1) keeps ran.0
+
+-- the instance may grow to the last height
+abbrev pub MayGrow : Stages → Type 0
+MayGrow s = MayGrowTo (Some s.last) s.instance.stacks
+
+-- what is made in stages is a run at the last height
+abbrev pub IsRunInStages : Stages → Run × Instance → Type 0
+IsRunInStages s ran = IsRunTo (instance_raised s.last s.instance) (keeps_log s.keep) ran
 
 -- some run has come so far, and what is at hand is the index of the family, or nothing
 pub record MayGoOn (i : Instance) (at_hand : Option (List (List ℕ))) (so_far : Reached) : Type 0 where

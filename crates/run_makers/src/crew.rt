@@ -1,5 +1,6 @@
 //! Who works on the pops of a run.
-ghost use Rattle.std.specs.Prelude.{◌≡◌, ◌<◌, ◌≤◌};
+ghost use Rattle.std.specs.Prelude.{◌≡◌, ◌<◌, ◌≤◌, ◌↔◌, IsTrue};
+ghost use Rattle.pop_words.specs.declared.board_kind.BoardKind.TheVariants.{Words};
 
 use pop_words::BoardKind;
 use std::marker::Model;
@@ -43,10 +44,10 @@ impl Crew {
         self.workers
     }
 
-    /// On which board they meet.
-    pub fn board(self) -> BoardKind
-        ensures { result ≡ self.1 }
+    /// Whether they claim words of a board, and don't share a book under a lock.
+    pub fn claims(self) -> bool
+        ensures { IsTrue result ↔ (self.1 ≡ Words) }
     {
-        self.board
+        self.board == BoardKind::Words
     }
 }

@@ -8,12 +8,14 @@ mod crew;
 mod maker;
 mod on_threads;
 mod opening;
+mod stages;
 mod stretch;
 
 pub use alone::Alone;
 pub use by::By;
 pub use crew::Crew;
 pub use maker::Maker;
-pub use on_threads::OnThreads;
+pub use on_threads::{makers_of, run_in_stages};
 pub use opening::Opening;
+pub use stages::Stages;
 pub use stretch::Stretch;

@@ -2,10 +2,13 @@
 ghost use Rattle.std.specs.Prelude.{◌≡◌, List, Some, IfOk};
 ghost use Rattle.pop_model.specs.Stacks.{IsKeyed};
 ghost use Rattle.pop_model.specs.Extremal.{IsExtremal};
+ghost use Rattle.confluence_core.specs.declared.end.End.{End};
+ghost use Rattle.pop_batch.specs.Batches.{AreEnds};
 ghost use Rattle.pop_print.specs.Ends.{AreFactsOf};
 ghost use Rattle.pop_watch.specs.Telling.{Watcher};
 ghost use Rattle.told_runs.specs.Batches.{batch_status};
-ghost use Rattle.told_runs.specs.Outcomes.{AnswersBy};
+ghost use Rattle.told_runs.specs.Outcomes.{AnswersBy, Tells};
+ghost use Rattle.told_runs.specs.Outcomes.Outcome.{Batched};
 ghost use Rattle.told_runs.specs.Ends.{IsEndOf};
 
 use crate::asked::Asked;
@@ -13,6 +16,7 @@ use crate::call::Call;
 use growing_instances::GrowingInstance;
 use job_subjects::Answer;
 use pop_batch::Ends;
+use pop_instance::Instance;
 use pop_print::{Facts, text_of_batch};
 use run_makers::Maker;
 use std::alloc::AllocError;
@@ -22,6 +26,30 @@ fn status_of_batch(ends: &Ends) -> u8
     ensures { result ≡ batch_status ends.now }
 {
     if ends.some_stuck() { 1 } else { 0 }
+}
+
+// Runs so many samples of the instance, and tells the end of each.
+fn tell_batch<M: Maker>(
+    call: &Call<M>,
+    facts: &Facts,
+    instance: &Instance,
+    count: u32,
+) -> Result<Answer, AllocError>
+    requires maker { M.fits call.now.maker.now }
+    requires facts { AreFactsOf facts.now instance.now }
+    requires keyed { IsKeyed instance.now.stacks.origin }
+    requires extremal { IsExtremal instance.now.family }
+    ensures { IfOk result (λ a. (ends : List End) × AreEnds instance.now count ends
+        × Tells (Batched facts.now instance.now ends) a.status a.text.items) }
+{
+    let ends = call.maker.batch(call.alloc, instance, count)?;
+    let text = text_of_batch(call.alloc, facts, instance, &ends);
+    let status = status_of_batch(&ends);
+    drop(ends);
+    Ok(Answer {
+        status,
+        text: text?,
+    })
 }
 
 /// Runs as many samples of the instance as are asked for, at its last height, and tells the end of
@@ -42,10 +70,7 @@ pub fn batch_and_tell<M: Maker>(
         → AnswersBy (IsEndOf asked watchers facts.now growing) a.status a.text.items) }
 {
     let instance = growing.raised();
-    let ends = call.maker.batch(call.alloc, &instance, count)?;
-    let text = text_of_batch(call.alloc, facts, &instance, &ends)?;
-    Ok(Answer {
-        status: status_of_batch(&ends),
-        text,
-    })
+    let told = tell_batch(call, facts, &instance, count);
+    drop(instance);
+    told
 }

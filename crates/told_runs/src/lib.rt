@@ -18,4 +18,4 @@ pub use batching::batch_and_tell;
 pub use call::Call;
 pub use names::names_of;
 pub use rounding::round_and_tell;
-pub use running::{run_and_tell, tell_end};
+pub use running::{tell_end, tell_sampled};

@@ -31,8 +31,29 @@ fn index_of(alloc: Global, instance: &Instance) -> Result<Index, AllocError>
     }
 }
 
-/// Makes the rounds of an instance of a formula's events, and tells their end. They are made at the
-/// last height: they have one result there, which stages would only come to later.
+// Makes the rounds of an instance of a formula's events, and tells their end.
+fn tell_rounds<M: Maker>(call: &Call<M>, instance: &Instance) -> Result<Answer, AllocError>
+    requires maker { M.fits call.now.maker.now }
+    requires pairs { IsOfPairs (variables_of instance.now.stacks) instance.now }
+    ensures { IfOk result (λ a.
+        AnswersBy (IsRoundsEndOf (FormulaFacts (variables_of instance.now.stacks)) instance.now)
+        a.status a.text.items) }
+{
+    let index = index_of(call.alloc, instance)?;
+    let rounds = call.maker.rounds(call.alloc, instance, &index);
+    drop(index);
+    let end = rounds?;
+    let text = text_of_rounds(call.alloc, instance.stacks().count(), instance, &end);
+    let status = status_by(&end.stuck);
+    drop(end);
+    Ok(Answer {
+        status,
+        text: text?,
+    })
+}
+
+/// The same of an instance that grows. They are made at its last height: they have one result there,
+/// which stages would only come to later.
 pub fn round_and_tell<M: Maker>(
     call: &Call<M>,
     growing: GrowingInstance,
@@ -44,12 +65,7 @@ pub fn round_and_tell<M: Maker>(
         a.status a.text.items) }
 {
     let instance = growing.raised();
-    let index = index_of(call.alloc, &instance)?;
-    let end = call.maker.rounds(call.alloc, &instance, &index)?;
-    let variables = instance.stacks().count();
-    let text = text_of_rounds(call.alloc, variables, &instance, &end)?;
-    Ok(Answer {
-        status: status_by(&end.stuck),
-        text,
-    })
+    let told = tell_rounds(call, &instance);
+    drop(instance);
+    told
 }

@@ -5,6 +5,7 @@ ghost use Rattle.pop_model.specs.Extremal.{IsExtremal};
 ghost use Rattle.pop_model.specs.Logs.{LogRecord, IsLegal, replay};
 ghost use Rattle.pop_model.specs.Runs.{start_of};
 ghost use Rattle.confluence_core.specs.Runs.{IsRunOf};
+ghost use Rattle.pop_log.specs.Layered.{AreSorted};
 ghost use Rattle.pop_print.specs.Ends.{AreFactsOf};
 ghost use Rattle.told_runs.specs.Outcomes.{AnswersBy, end_status};
 ghost use Rattle.pop_watch.specs.Telling.{log_told};
@@ -20,13 +21,11 @@ use crate::reporting::report_log;
 use crate::sampled::tell_sample;
 use crate::witness::{LogText, witness_of};
 use confluence_core::{End, Log, Stuck};
-use growing_instances::GrowingInstance;
 use job_subjects::Answer;
 use pop_instance::{Cursors, Instance};
 use pop_log::{LayeredLog, Names};
 use pop_print::{Facts, text};
 use pop_workers::Outcome;
-use run_makers::{Maker, Opening};
 use std::alloc::{AllocError, Global};
 
 /// The status of a run by the events that occur at its end: 1 where there are any.
@@ -126,7 +125,9 @@ fn tell_in_layers<M>(
         return LogText::nothing(call.alloc);
     }
     let layered = placed.copy(call.alloc)?;
-    tell_records(call, instance, names, cursors, &layered, asked)
+    let told = tell_records(call, instance, names, cursors, &layered, asked);
+    drop(layered);
+    told
 }
 
 // A text, and behind it that of a layered log, where it is printed.
@@ -147,8 +148,36 @@ fn text_if(
     placed.print_behind(text, instance, names)
 }
 
-// A text, and behind it what is told of a log: its text in its layered order, the witness and the
-// reports, each where it is asked for.
+// A text, and behind it what is told of a layered log: its text, the witness and the reports, each
+// where it is asked for.
+fn text_of_layers<M>(
+    call: &mut Call<M>,
+    named: &Named,
+    cursors: &Cursors,
+    placed: &LayeredLog,
+    asked: Asked,
+    text: Vec<u8>,
+) -> Result<LogText, AllocError>
+    requires count { variables_of named.now.instance.now.stacks ≡ length cursors.now }
+    requires legal { IsLegal named.now.instance.now (start_of named.now.instance.now)
+        (records_of placed.now) }
+    requires leads { cursors.now
+        ≡ replay (start_of named.now.instance.now) (records_of placed.now) }
+    ensures { (log : List LogRecord) → AreSorted log placed.now
+        → IfOk result (λ t. GoesOn text.items (TellsLog asked
+        (map (λ b. (kind b, state b)) call.old.watchers.items) named.now.names.now
+        named.now.instance.now log t.missing) t.bytes.items) }
+{
+    let mut bytes = text_if(text, named.instance, named.names, placed, asked.log)?;
+    let told = tell_in_layers(call, named.instance, named.names, cursors, placed, asked)?;
+    bytes.extend_from_slice(&told.bytes)?;
+    Ok(LogText {
+        missing: told.missing,
+        bytes,
+    })
+}
+
+// The same of a log, which is put into layers.
 fn text_of_log<M>(
     call: &mut Call<M>,
     named: &Named,
@@ -168,40 +197,35 @@ fn text_of_log<M>(
     // Read for its contract, which says what holds of every instance.
     let _units = instance.units();
     let placed = LayeredLog::of(call.alloc, instance.stacks().count(), log)?;
-    let mut bytes = text_if(text, instance, named.names, &placed, asked.log)?;
-    let told = tell_in_layers(call, instance, named.names, cursors, &placed, asked)?;
-    bytes.extend_from_slice(&told.bytes)?;
-    Ok(LogText {
-        missing: told.missing,
-        bytes,
-    })
+    let told = text_of_layers(call, named, cursors, &placed, asked, text);
+    drop(placed);
+    told
 }
 
 // A text, and behind it what is told of a run behind its end. It kept its log where something of it
-// is asked for. The log is let go of.
+// is asked for.
 fn tell_run<M>(
     call: &mut Call<M>,
     named: &Named,
-    end: &End,
-    log: Option<Log>,
+    run: &Outcome,
     asked: Asked,
     text: Vec<u8>,
 ) -> Result<LogText, AllocError>
     requires { IsRunOf named.now.instance.now (start_of named.now.instance.now)
-        (asks_for_log asked) (record { end = end.now; log = log }) }
+        (asks_for_log asked) run.now }
     ensures run { IfOk result (λ t. GoesOn text.items (TellsRun asked
         (map (λ b. (kind b, state b)) call.old.watchers.items) named.now.names.now
-        named.now.instance.now end.now.cursors end.now.pops end.now.stuck t.missing)
+        named.now.instance.now run.now.end.cursors run.now.end.pops run.now.end.stuck t.missing)
         t.bytes.items) }
-    ensures kept { (kept : List LogRecord) → log ≡ Some kept
+    ensures kept { (kept : List LogRecord) → run.now.log ≡ Some kept
         → IfOk result (λ t. GoesOn text.items (TellsLog asked
         (map (λ b. (kind b, state b)) call.old.watchers.items) named.now.names.now
         named.now.instance.now kept t.missing) t.bytes.items) }
 {
     // Read for its contract, which says what holds of every instance.
     let _units = named.instance.units();
-    match log {
-        Some(log) => text_of_log(call, named, &end.cursors, &log, asked, text),
+    match &run.log {
+        Some(log) => text_of_log(call, named, &run.end.cursors, log, asked, text),
         None => Ok(LogText {
             missing: false,
             bytes: text,
@@ -214,12 +238,12 @@ pub fn tell_end<M>(
     call: &mut Call<M>,
     facts: &Facts,
     instance: &Instance,
-    run: Outcome,
+    run: &Outcome,
     asked: Asked,
 ) -> Result<Answer, AllocError>
     requires facts { AreFactsOf facts.now instance.now }
-    requires run { IsRunOf instance.now (start_of instance.now) (asks_for_log asked) run }
-    requires within { EndsWithin asked.pops run.end.pops }
+    requires run { IsRunOf instance.now (start_of instance.now) (asks_for_log asked) run.now }
+    requires within { EndsWithin asked.pops run.now.end.pops }
     ensures ended { asked.free ≡ false → asked.count ≡ None → IsExtremal instance.now.family
         → IfOk result (λ a. AnswersBy (IsEndOf asked
         (map (λ b. (kind b, state b)) call.old.watchers.items) facts.now instance.now)
@@ -227,55 +251,53 @@ pub fn tell_end<M>(
     ensures history { asked.free ≡ true → IfOk result (λ a. AnswersBy (IsHistoryOf asked
         (map (λ b. (kind b, state b)) call.old.watchers.items) facts.now instance.now)
         a.status a.text.items) }
-    ensures kept { asked.free ≡ true → (log : List LogRecord) → run.log ≡ Some log
+    ensures kept { asked.free ≡ true → (log : List LogRecord) → run.now.log ≡ Some log
         → IfOk result (λ a. AnswersBy (IsHistoryWith log asked
         (map (λ b. (kind b, state b)) call.old.watchers.items) facts.now instance.now)
         a.status a.text.items) }
 {
     // Read for its contract, which says what holds of every instance.
     let _units = instance.units();
-    let Outcome { end, log } = run;
-    let text = text(call.alloc, facts, instance, &end)?;
+    let text = text(call.alloc, facts, instance, &run.end)?;
     let names = names_of(facts);
     let named = Named {
         instance,
         names: &names,
     };
-    let told = tell_run(call, &named, &end, log, asked, text)?;
+    let told = tell_run(call, &named, run, asked, text)?;
     Ok(Answer {
-        status: status_with(&end, asked.free, told.missing),
+        status: status_with(&run.end, asked.free, told.missing),
         text: told.bytes,
     })
 }
 
-/// Runs the instance, and tells its end at its last height, and behind it what is asked for. Of an
-/// extremal instance the pops are made in an order of their own, since all orders end alike, and
-/// have one layered log.
-pub fn run_and_tell<M: Maker>(
+/// Tells the end of a run of the instance, and behind it what is asked for. Where the text wants
+/// nothing of the instance, that is let go of before.
+pub fn tell_sampled<M>(
     call: &mut Call<M>,
     facts: &Facts,
-    growing: GrowingInstance,
+    instance: Instance,
+    run: Outcome,
     asked: Asked,
 ) -> Result<Answer, AllocError>
-    requires maker { M.fits call.old.maker.now }
-    requires facts { AreFactsOf facts.now growing }
-    requires run_out { asked.pops ≡ None }
-    ensures ended { asked.free ≡ false → asked.count ≡ None → IsExtremal growing.family
+    requires facts { AreFactsOf facts.now instance }
+    requires run { IsRunOf instance (start_of instance) (asks_for_log asked) run }
+    requires within { EndsWithin asked.pops run.end.pops }
+    ensures ended { asked.free ≡ false → asked.count ≡ None → IsExtremal instance.family
         → IfOk result (λ a. AnswersBy (IsEndOf asked
-        (map (λ b. (kind b, state b)) call.old.watchers.items) facts.now growing)
+        (map (λ b. (kind b, state b)) call.old.watchers.items) facts.now instance)
         a.status a.text.items) }
     ensures history { asked.free ≡ true → IfOk result (λ a. AnswersBy (IsHistoryOf asked
-        (map (λ b. (kind b, state b)) call.old.watchers.items) facts.now growing)
+        (map (λ b. (kind b, state b)) call.old.watchers.items) facts.now instance)
         a.status a.text.items) }
 {
-    let (run, instance) = call.maker.run(Opening {
-        alloc: call.alloc,
-        crew: call.crew,
-        growing,
-        keep: asked.keep(),
-    })?;
     if run.log.is_none() && run.end.stuck.len() == 0 && facts.are_told_in_full() {
-        return tell_sample(call.alloc, facts, instance, &run.end, asked);
+        let told = tell_sample(call.alloc, facts, instance, &run.end, asked);
+        drop(run);
+        return told;
     }
-    tell_end(call, facts, &instance, run, asked)
+    let told = tell_end(call, facts, &instance, &run, asked);
+    drop(run);
+    drop(instance);
+    told
 }

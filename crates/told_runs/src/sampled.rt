@@ -29,7 +29,9 @@ fn let_go(instance: Instance) -> (Snapshot<Instance>, u32)
     // Read for its contract, which says what holds of every instance.
     let _units = instance.units();
     let count = instance.stacks().count();
-    (Snapshot::of(&instance), count)
+    let of = Snapshot::of(&instance);
+    drop(instance);
+    (of, count)
 }
 
 /// Tells the end of a run of the instance, which is let go of.

@@ -62,9 +62,11 @@ fn tell_tree(
         × (w.bytes.items ≡ tree_text names.now instance.now.family tree)) }
 {
     let tree = tree(alloc, log, t)?;
+    let text = print_tree(alloc, instance, names, &tree);
+    drop(tree);
     Ok(LogText {
         missing: false,
-        bytes: print_tree(alloc, instance, names, &tree)?,
+        bytes: text?,
     })
 }
 

@@ -1,5 +1,6 @@
 -- What is made of a text, and how its run ends, is what comes of the job that wants it made.
-use Rattle.std.proofs.Common.{inl, ◌≡◌, ◌≢◌, ℕ, true, false, List, refl, sym, ap, subst, ◌∙◌}
+use Rattle.std.proofs.Common.{inl, ◌≡◌, ◌≢◌, ℕ, true, false, List, Result, Ok, Err, IfOk, refl, sym, ap, subst, ◌∙◌}
+use Rattle.std.proofs.lemmas.Result.{IfOk-weaker}
 use Rattle.pop_model.specs.Stacks.{Origin, variables_of}
 use Rattle.pop_model.specs.Instances.{Instance}
 use Rattle.pop_words.specs.declared.command.Command.{Command}
@@ -9,13 +10,14 @@ use Rattle.pop_watch.specs.Telling.{Watcher}
 use Rattle.pop_print.specs.declared.facts.Facts.{Facts}
 use Rattle.pop_print.specs.declared.facts.Facts.TheVariants.{Formula as FormulaFacts}
 use Rattle.pop_print.specs.Ends.{AreFactsOf, IsOfPairs}
+use Rattle.job_subjects.specs.declared.answer.Answer.{Answer}
 use Rattle.job_subjects.specs.declared.wanted.Wanted.{Wanted}
 use Rattle.job_subjects.specs.Made.{IsMade}
 use Rattle.told_runs.specs.declared.asked.Asked.{Asked}
-use Rattle.told_runs.specs.Asking.{asked_by}
+use Rattle.told_runs.specs.Asking.{asked_by, has_free_order}
 use Rattle.told_runs.specs.Outcomes.{Outcome, AnswersBy}
 use Rattle.told_runs.specs.Ends.{IsEndOf, IsHistoryOf, IsRoundsEndOf}
-use Rattle.top_call.specs.Answers.{origin_for, wanted_by, EndsAs, ComesOf}
+use Rattle.top_call.specs.Answers.{wanted_by, EndsAs, ComesOf}
 use Rattle.top_call.proofs.Carrying.{answered}
 use Rattle.top_call.proofs.Lifting.{free_by}
 use Rattle.top_call.proofs.ReadCases.{run_comes}
@@ -39,22 +41,65 @@ ordered_end Resample ordered other asked ws facts i o end = absurd (ordered refl
 ordered_end Rounds ordered other asked ws facts i o end = absurd (other refl)
 ordered_end k ordered other asked ws facts i o end = end
 
--- so what tells the end, or the history where the order of pops is free
-pub told_comes : (k : Command) → k ≢ Rounds → (job : Job) (ws : List Watcher) (text : List ℕ) (facts : Facts)
-    (i : Instance) (asked : Asked) (status : ℕ) (out : List ℕ) → job.command ≡ k → asked ≡ asked_by job
-    → IsMade (wanted_by job) text facts i
+-- so what is told of an end comes of the job
+pub ended_comes : {E : Type 0} (job : Job) (ws : List Watcher) (text : List ℕ) (facts : Facts) (i : Instance)
+    (r : Result Answer E) → IsMade (wanted_by job) text facts i
+    → IfOk r (λ a. AnswersBy (EndsAs job.command (asked_by job) ws facts i) a.status a.text.items)
+    → IfOk r (λ a. AnswersBy (ComesOf job ws text) a.status a.text.items)
+ended_comes job ws text facts i r made =
+    IfOk-weaker r _ _ (λ a. answered (EndsAs job.command (asked_by job) ws facts i) (ComesOf job ws text) a.status
+    a.text.items (end_comes job job.command ws text facts i refl made))
+
+-- what tells the end, or the history where the order of pops is free, tells how the run of a command ends
+told_as : (k : Command) → k ≢ Rounds → (asked : Asked) (ws : List Watcher) (facts : Facts) (i : Instance) (status : ℕ)
+    (out : List ℕ) → asked.free ≡ has_free_order k
     → (asked.free ≡ false → AnswersBy (IsEndOf asked ws facts i) status out)
     → (asked.free ≡ true → AnswersBy (IsHistoryOf asked ws facts i) status out)
-    → AnswersBy (ComesOf job ws text) status out
-told_comes Resample other job ws text facts i asked status out is asks made ended history =
-    answered (IsHistoryOf (asked_by job) ws facts i) (ComesOf job ws text) status out
-    (end_comes job Resample ws text facts i is made)
-    (subst (λ a. AnswersBy (IsHistoryOf a ws facts i) status out) asks (history (free_by job asked Resample asks is)))
-told_comes Rounds other job ws text facts i asked status out is asks made ended history = absurd (other refl)
-told_comes k other job ws text facts i asked status out is asks made ended history =
-    answered (IsEndOf (asked_by job) ws facts i) (ComesOf job ws text) status out
-    (end_comes job k ws text facts i is made)
-    (subst (λ a. AnswersBy (IsEndOf a ws facts i) status out) asks (ended (free_by job asked k asks is)))
+    → AnswersBy (EndsAs k asked ws facts i) status out
+told_as Resample other asked ws facts i status out free ended history = history free
+told_as Rounds other asked ws facts i status out free ended history = absurd (other refl)
+told_as k other asked ws facts i status out free ended history = ended free
+
+pub ends_as : {E : Type 0} (job : Job) (ws : List Watcher) (facts : Facts) (i : Instance) (asked : Asked)
+    (r : Result Answer E) → job.command ≢ Rounds → asked ≡ asked_by job
+    → (asked.free ≡ false → IfOk r (λ a. AnswersBy (IsEndOf asked ws facts i) a.status a.text.items))
+    → (asked.free ≡ true → IfOk r (λ a. AnswersBy (IsHistoryOf asked ws facts i) a.status a.text.items))
+    → IfOk r (λ a. AnswersBy (EndsAs job.command (asked_by job) ws facts i) a.status a.text.items)
+ends_as job ws facts i asked (Ok a) other asks ended history =
+    subst (λ q. AnswersBy (EndsAs job.command q ws facts i) a.status a.text.items) asks
+    (told_as job.command other asked ws facts i a.status a.text.items (free_by job asked job.command asks refl) ended
+    history)
+ends_as job ws facts i asked (Err e) other asks ended history = tt
+
+-- so does what tells the batch, where the order of pops isn't free
+pub batch_ends_as : {E : Type 0} (job : Job) (ws : List Watcher) (facts : Facts) (i : Instance) (asked : Asked)
+    (r : Result Answer E) → job.command ≢ Resample → job.command ≢ Rounds → asked ≡ asked_by job
+    → IfOk r (λ a. AnswersBy (IsEndOf asked ws facts i) a.status a.text.items)
+    → IfOk r (λ a. AnswersBy (EndsAs job.command (asked_by job) ws facts i) a.status a.text.items)
+batch_ends_as job ws facts i asked r ordered other asks told =
+    IfOk-weaker r _ _ (λ a. answered (IsEndOf (asked_by job) ws facts i)
+    (EndsAs job.command (asked_by job) ws facts i) a.status a.text.items
+    (ordered_end job.command ordered other (asked_by job) ws facts i))
+    (subst (λ q. IfOk r (λ a. AnswersBy (IsEndOf q ws facts i) a.status a.text.items)) asks told)
+
+-- what is made for rounds has as many variables as the formula
+pub pairs_of : (facts : Facts) (i : Instance) (n : ℕ) → facts ≡ FormulaFacts n → AreFactsOf facts i
+    → IsOfPairs (variables_of i.stacks) i
+pairs_of facts i n same told =
+    let pairs : IsOfPairs n i = subst (λ t. AreFactsOf t i) same told in
+    subst (λ k. IsOfPairs k i) (sym pairs.count) pairs
+
+-- and what tells their end tells how the run of the command ends
+pub rounds_end_as : {E : Type 0} (job : Job) (ws : List Watcher) (facts : Facts) (i : Instance) (n : ℕ)
+    (r : Result Answer E) → job.command ≡ Rounds → facts ≡ FormulaFacts n → AreFactsOf facts i
+    → IfOk r (λ a. AnswersBy (IsRoundsEndOf (FormulaFacts (variables_of i.stacks)) i) a.status a.text.items)
+    → IfOk r (λ a. AnswersBy (EndsAs job.command (asked_by job) ws facts i) a.status a.text.items)
+rounds_end_as job ws facts i n r is same told ended =
+    let pairs : IsOfPairs n i = subst (λ t. AreFactsOf t i) same told in
+    let own : FormulaFacts (variables_of i.stacks) ≡ facts = ap FormulaFacts pairs.count ∙ sym same in
+    IfOk-weaker r _ _ (λ a. answered (IsRoundsEndOf facts i) (EndsAs job.command (asked_by job) ws facts i) a.status
+    a.text.items (λ o end. subst (λ k. EndsAs k (asked_by job) ws facts i o) (sym is) end))
+    (subst (λ t. IfOk r (λ a. AnswersBy (IsRoundsEndOf t i) a.status a.text.items)) own ended)
 
 -- what a job wants made, over stacks of an origin
 abbrev pub wanted_over : Job → Origin → Wanted
@@ -65,50 +110,3 @@ wanted_over job origin = record {
   root = job.root;
   side = job.size;
 }
-
--- that over the stacks that the job asks for is what it wants
-pub own_made : (job : Job) (text : List ℕ) (facts : Facts) (i : Instance) (origin : Origin) → origin ≡ origin_for job
-    → IsMade (wanted_over job origin) text facts i → IsMade (wanted_by job) text facts i
-own_made job text facts i origin from made = subst (λ s. IsMade (wanted_over job s) text facts i) from made
-
--- so what tells its run comes of the job
-pub sampled_comes : (job : Job) (ws : List Watcher) (text : List ℕ) (facts : Facts) (i : Instance) (origin : Origin)
-    (asked : Asked) (status : ℕ) (out : List ℕ) → job.command ≢ Rounds → origin ≡ origin_for job → asked ≡ asked_by job
-    → IsMade (wanted_over job origin) text facts i
-    → (asked.free ≡ false → AnswersBy (IsEndOf asked ws facts i) status out)
-    → (asked.free ≡ true → AnswersBy (IsHistoryOf asked ws facts i) status out)
-    → AnswersBy (ComesOf job ws text) status out
-sampled_comes job ws text facts i origin asked status out other from asks made =
-    told_comes job.command other job ws text facts i asked status out refl asks
-    (own_made job text facts i origin from made)
-
--- and what tells the batch, where the order of pops isn't free
-pub batch_comes : (job : Job) (ws : List Watcher) (text : List ℕ) (facts : Facts) (i : Instance) (origin : Origin)
-    (asked : Asked) (status : ℕ) (out : List ℕ) → job.command ≢ Resample → job.command ≢ Rounds → origin ≡ origin_for job
-    → asked ≡ asked_by job → IsMade (wanted_over job origin) text facts i
-    → AnswersBy (IsEndOf asked ws facts i) status out → AnswersBy (ComesOf job ws text) status out
-batch_comes job ws text facts i origin asked status out ordered other from asks made told =
-    answered (IsEndOf (asked_by job) ws facts i) (ComesOf job ws text) status out
-    (λ o end. end_comes job job.command ws text facts i refl (own_made job text facts i origin from made) o
-    (ordered_end job.command ordered other (asked_by job) ws facts i o end))
-    (subst (λ a. AnswersBy (IsEndOf a ws facts i) status out) asks told)
-
--- what is made for rounds has as many variables as the formula
-pub pairs_of : (facts : Facts) (i : Instance) (n : ℕ) → facts ≡ FormulaFacts n → AreFactsOf facts i
-    → IsOfPairs (variables_of i.stacks) i
-pairs_of facts i n same told =
-    let pairs : IsOfPairs n i = subst (λ t. AreFactsOf t i) same told in
-    subst (λ k. IsOfPairs k i) (sym pairs.count) pairs
-
--- and what tells their end comes of the job
-pub rounds_come : (job : Job) (ws : List Watcher) (text : List ℕ) (facts : Facts) (i : Instance) (origin : Origin) (n : ℕ)
-    (status : ℕ) (out : List ℕ) → job.command ≡ Rounds → origin ≡ origin_for job → facts ≡ FormulaFacts n
-    → AreFactsOf facts i → IsMade (wanted_over job origin) text facts i
-    → AnswersBy (IsRoundsEndOf (FormulaFacts (variables_of i.stacks)) i) status out
-    → AnswersBy (ComesOf job ws text) status out
-rounds_come job ws text facts i origin n status out is from same told made ended =
-    let pairs : IsOfPairs n i = subst (λ t. AreFactsOf t i) same told in
-    let own : FormulaFacts (variables_of i.stacks) ≡ facts = ap FormulaFacts pairs.count ∙ sym same in
-    answered (IsRoundsEndOf facts i) (ComesOf job ws text) status out
-    (end_comes job Rounds ws text facts i is (own_made job text facts i origin from made))
-    (subst (λ t. AnswersBy (IsRoundsEndOf t i) status out) own ended)

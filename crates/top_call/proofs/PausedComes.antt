@@ -32,7 +32,7 @@ use Rattle.top_call.specs.Answers.{wanted_by, ComesOf}
 use Rattle.job_subjects.specs.declared.answer.Answer.{Answer}
 use Rattle.top_call.proofs.Carrying.{answered}
 use Rattle.top_call.proofs.Lifting.{ordered_by}
-use Rattle.top_call.proofs.MadeComes.{told_comes}
+use Rattle.top_call.proofs.MadeComes.{ended_comes, ends_as}
 use Rattle.top_call.proofs.PauseWords.{paused_no_rounds}
 use Rattle.top_call.proofs.ReadCases.{run_comes}
 use Rattle.told_runs.proofs.ToldRuns.{placed_size}
@@ -134,9 +134,8 @@ pub ended_result : {E : Type 0} (job : Job) (ws : List Watcher) (text : List ℕ
     → IfOk r (λ a. AnswersBy (IsEndOf asked ws facts i) a.status a.text.items))
     → (asked.free ≡ true → IfOk r (λ a. AnswersBy (IsHistoryOf asked ws facts i) a.status a.text.items))
     → IfOk r (λ a. AnswersBy (ComesOf job ws text) a.status a.text.items)
-ended_result job ws text facts i asked (Ok a) made asks may extremal ended history =
-    told_comes job.command (paused_no_rounds job.command may.command) job ws text facts i asked a.status a.text.items refl
-    asks made
+ended_result job ws text facts i asked r made asks may extremal ended history =
+    ended_comes job ws text facts i r made
+    (ends_as job ws facts i asked r (paused_no_rounds job.command may.command) asks
     (λ free. ended free (ap (λ (q : Asked). q.count) asks ∙ may.once)
-    (extremal (ordered_by job asked asks free))) history
-ended_result job ws text facts i asked (Err e) made asks may extremal ended history = tt
+    (extremal (ordered_by job asked asks free))) history)

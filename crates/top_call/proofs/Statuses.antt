@@ -1,9 +1,10 @@
 -- Which statuses a text is answered by: each up to 6 but that of bad words. And no refusal is one of words.
 use Rattle.std.proofs.Common.{inl, inr, ◌≡◌, ◌⊎◌, ◌≤◌, ◌<◌, ℕ, true, false, List, [], ◌∷◌, Result, Ok, Err, refl, sym, subst, arith}
-use Rattle.std.proofs.lemmas.Bool.{cases_Bool}
 use Rattle.pop_model.specs.Families.{Event}
 use Rattle.pop_model.specs.Instances.{Instance}
 use Rattle.confluence_core.specs.declared.end.End.{End}
+use Rattle.pop_words.specs.declared.command.Command.{Command}
+use Rattle.pop_words.specs.declared.command.Command.TheVariants.{Resample, Rounds}
 use Rattle.pop_words.specs.declared.job.Job.{Job}
 use Rattle.pop_watch.specs.Telling.{Watcher}
 use Rattle.run_cert.specs.declared.look_kind.Look.{Look}
@@ -16,7 +17,6 @@ use Rattle.job_subjects.specs.Refusals.{refusal_status, IsPastWords}
 use Rattle.job_subjects.proofs.TextRefusals.{IsOfInput}
 use Rattle.pop_print.specs.declared.facts.Facts.{Facts}
 use Rattle.told_runs.specs.declared.asked.Asked.{Asked}
-use Rattle.told_runs.specs.Ends.{IsEndOf, IsHistoryOf}
 use Rattle.told_runs.specs.Batches.{batch_status}
 use Rattle.told_runs.specs.ReplayTexts.{look_status}
 use Rattle.told_runs.specs.Witnesses.{Witness}
@@ -25,7 +25,7 @@ use Rattle.told_runs.specs.Outcomes.{Outcome, AnswersBy, IsTextStatus, status_of
 use Rattle.told_runs.specs.Outcomes.Outcome.{Refused, Extremal, Ended, Resampled, Rounded, Batched, Paused, Replayed}
 use Rattle.told_runs.specs.Results.{IsResultOf, IsTextResult}
 use Rattle.top_call.specs.Resumes.{ByLine, IsResumed}
-use Rattle.top_call.specs.Answers.{ComesOf}
+use Rattle.top_call.specs.Answers.{ComesOf, EndsAs}
 use Rattle.top_call.proofs.BatchEnds.{batch_low}
 use Rattle.top_call.proofs.ByCommand.{line_input}
 
@@ -100,24 +100,18 @@ job_result job ws text (Ok a) (o, comes, tells) =
 job_result job ws text (Err r) (inl memory) = subst IsPastWords (sym memory) tt
 job_result job ws text (Err r) (inr comes) = past_words r (line_input job ws text r comes)
 
--- and what is told of a run of what is made
-pub run_status : (asked : Asked) (ws : List Watcher) (facts : Facts) (i : Instance) (status : ℕ) (out : List ℕ)
-    → (asked.free ≡ false → AnswersBy (IsEndOf asked ws facts i) status out)
-    → (asked.free ≡ true → AnswersBy (IsHistoryOf asked ws facts i) status out) → IsTextStatus status
-run_status asked ws facts i status out ended history = elim (cases_Bool asked.free) [
-  | inl free ↦
-      let (o, history_is, tells) = history free in
-      subst IsTextStatus (sym tells.status_is) (told_status (IsHistoryOf asked ws facts i) (λ r h. absurd h) o history_is)
-  | inr ordered ↦
-      let (o, end, tells) = ended ordered in
-      subst IsTextStatus (sym tells.status_is) (told_status (IsEndOf asked ws facts i) (λ r h. absurd h) o end)
-]
+-- and what is told of how the run of what is made ends: nothing of it is refused
+not_refused : (k : Command) (asked : Asked) (ws : List Watcher) (facts : Facts) (i : Instance) (r : Refusal)
+    → EndsAs k asked ws facts i (Refused r) → ⊥
+not_refused Resample asked ws facts i r h = h
+not_refused Rounds asked ws facts i r h = h
+not_refused k asked ws facts i r h = h
 
--- and of a batch
-pub end_status_of : (asked : Asked) (ws : List Watcher) (facts : Facts) (i : Instance) (status : ℕ) (out : List ℕ)
-    → AnswersBy (IsEndOf asked ws facts i) status out → IsTextStatus status
-end_status_of asked ws facts i status out (o, end, tells) =
-    subst IsTextStatus (sym tells.status_is) (told_status (IsEndOf asked ws facts i) (λ r h. absurd h) o end)
+pub ended_status : (k : Command) (asked : Asked) (ws : List Watcher) (facts : Facts) (i : Instance) (status : ℕ)
+    (out : List ℕ) → AnswersBy (EndsAs k asked ws facts i) status out → IsTextStatus status
+ended_status k asked ws facts i status out (o, end, tells) =
+    subst IsTextStatus (sym tells.status_is)
+    (told_status (EndsAs k asked ws facts i) (λ r h. absurd (not_refused k asked ws facts i r h)) o end)
 
 -- the status of a run that goes on
 pub resumed_status_is : (Line : ByLine) (ws : List Watcher) (cert : Certificate) (status : ℕ) (out : List ℕ)

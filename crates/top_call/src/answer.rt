@@ -18,8 +18,8 @@ use crate::checking::check;
 use crate::pausing::pause_or_tell;
 use crate::replaying::replay;
 use crate::resuming::resume;
-use crate::sampling::sample;
-use job_subjects::{Answer, Refusal, Stop};
+use crate::sampling::{made_for, sample_made};
+use job_subjects::{Answer, Made, Refusal, Stop};
 use pop_edge::Source;
 use pop_watch::Watch;
 use pop_words::{Command, Job, read_words};
@@ -31,38 +31,44 @@ use told_runs::Call;
 // and so does a certificate, which is replayed or resumed.
 fn answer_job<S: Source, M: Maker>(
     call: &mut Call<M>,
-    job: Job,
+    job: &Job,
     source: &mut S,
 ) -> Result<Answer, Refusal>
     requires maker { M.fits call.old.maker.now }
-    requires asked { IsAsked job }
-    ensures answer { (text : List ℕ) → (S.left source.old ≡ Some text) ⊎ (job.command ≡ Make)
+    requires asked { IsAsked job.now }
+    ensures answer { (text : List ℕ) → (S.left source.old ≡ Some text) ⊎ (job.now.command ≡ Make)
         → (IsErrOf result (Stopped ReadFault) → ⊥)
-        → IsResultOf (ComesBy job.command job (map (λ b. (
+        → IsResultOf (ComesBy job.now.command job.now (map (λ b. (
           (⟦<dyn Watch as Watch>⟧ b.vtable).kind b.value,
           (⟦<dyn Watch as Watch>⟧ b.vtable).state b.value,
         )) call.old.watchers.items)
         text) result }
     ensures status { IsTextResult result }
-    ensures unread { job.command ≡ Make → source.new ≡ source.old }
+    ensures unread { job.now.command ≡ Make → source.new ≡ source.old }
     ensures whole { IfOk result (λ a.
-        HasRun a.status → job.command ≢ Make → IsAtEnd (S.left source.new)) }
+        HasRun a.status → job.now.command ≢ Make → IsAtEnd (S.left source.new)) }
     ensures read_fault { IsErrOf result (Stopped ReadFault)
         → Rose (S.faults source.old) (S.faults source.new) }
     ensures no_bad_line { IsErrOf result (Stopped ReadFault) → (taken : List ℕ)
         × Consumes (S.left source.old) (S.left source.new) taken
-        × MayFailBehind job.pops job.command taken }
+        × MayFailBehind job.now.pops job.now.command taken }
     ensures read { IsJudged result
-        → WasReadWhole job.pops job.command (S.left source.old) (S.left source.new) }
+        → WasReadWhole job.now.pops job.now.command (S.left source.old) (S.left source.new) }
 {
     if let Some(pops) = job.pops {
-        return pause_or_tell(call, &job, pops, source);
+        return pause_or_tell(call, job, pops, source);
     }
     match job.command {
         Command::Replay => replay(call.alloc, source),
         Command::Resume => resume(call, source),
         Command::Check => check(call.alloc, source),
-        _ => sample(call, job, source),
+        _ => {
+            let made = made_for(call.alloc, job, source)?;
+            let Made { facts, instance } = made;
+            let told = sample_made(call, job, &facts, instance);
+            drop(facts);
+            Ok(told?)
+        }
     }
 }
 
@@ -113,7 +119,10 @@ pub fn answer_to<S: Source, M: Maker>(
         crew,
         watchers,
     };
-    match answer_job(&mut call, job, source) {
+    let answered = answer_job(&mut call, &job, source);
+    drop(call);
+    drop(job);
+    match answered {
         Ok(answer) => Ok(answer),
         Err(refusal) => refusal.told(alloc),
     }

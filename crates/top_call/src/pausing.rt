@@ -24,9 +24,10 @@ ghost use Rattle.top_call.specs.Whole.{WasRead};
 ghost use Rattle.job_subjects.specs.declared.refusal.Refusal.TheVariants.{Stopped};
 ghost use Rattle.job_subjects.specs.declared.stop.Stop.TheVariants.{ReadFault};
 
+use crate::sampling::made_for;
 use crate::whole::read_whole;
 use confluence_core::{End, Keep, Log};
-use job_subjects::{Answer, Made, Refusal, StackOrigin, Wanted, copy_spec, made_of};
+use job_subjects::{Answer, Made, Refusal};
 use pop_edge::{SliceSource, Source};
 use pop_instance::{Instance, Values};
 use pop_log::LayeredLog;
@@ -119,34 +120,11 @@ fn run_up_to<M>(
         _ => {
             let asked = Asked::of(job);
             let run = ended(call.alloc, instance, part, asked.keep())?;
-            tell_end(call, facts, instance, run, asked)
+            let told = tell_end(call, facts, instance, &run, asked);
+            drop(run);
+            told
         }
     }
-}
-
-// The same of what was made, at its last height.
-fn stop_and_tell<M>(
-    call: &mut Call<M>,
-    job: &Job,
-    pops: u32,
-    input: &[u8],
-    made: Made,
-) -> Result<Answer, AllocError>
-    requires pops { job.now.pops ≡ Some pops }
-    requires may { MayStop job.now }
-    requires short { length input.now ≤ text_limit }
-    requires made { IsMade (wanted_by job.now) input.now made.facts made.instance }
-    requires told { AreFactsOf made.facts made.instance }
-    requires extremal { job.now.command ≢ Resample → IsExtremal made.instance.family }
-    ensures { IfOk result (λ a. AnswersBy (ComesOf job.now
-        (map (λ b. (
-          (⟦<dyn Watch as Watch>⟧ b.vtable).kind b.value,
-          (⟦<dyn Watch as Watch>⟧ b.vtable).state b.value,
-        )) call.old.watchers.items) input.now) a.status a.text.items) }
-{
-    let Made { facts, instance } = made;
-    let instance = instance.raised();
-    run_up_to(call, job, pops, input, &facts, &instance)
 }
 
 // The answer to a job whose run stops after so many pops, on the bytes that were read.
@@ -166,18 +144,14 @@ fn judge_and_stop<M>(
     ensures status { IsTextResult result }
     ensures short { IfOk result (λ a. HasRun a.status → length input.now ≤ text_limit) }
 {
-    let spec = copy_spec(call.alloc, &job.stacks)?;
-    let origin = StackOrigin::new(spec, job.height, job.grow);
-    let wanted = Wanted {
-        command: job.command,
-        origin,
-        count: job.count,
-        root: job.root,
-        side: job.size,
-    };
     let mut source = SliceSource::new(input);
-    let made = made_of(call.alloc, wanted, &mut source)?;
-    Ok(stop_and_tell(call, job, pops, input, made)?)
+    let made = made_for(call.alloc, job, &mut source)?;
+    let Made { facts, instance } = made;
+    let instance = instance.raised();
+    let told = run_up_to(call, job, pops, input, &facts, &instance);
+    drop(instance);
+    drop(facts);
+    Ok(told?)
 }
 
 /// The answer to a job whose run stops after so many pops. The source is read whole before a byte

@@ -56,14 +56,26 @@ fn go_on<M: Maker>(call: &mut Call<M>, accepted: Accepted) -> Result<Answer, All
     let asked = Asked::of_line(command);
     let log = kept(reached.log, asked.keep());
     let so_far = Reached { log, ..reached };
-    let whole = call.maker.finish(Stretch {
+    let went_on = call.maker.finish(Stretch {
         alloc: call.alloc,
         crew: call.crew,
         instance: &instance,
         at_hand: None,
         reached: so_far,
-    })?;
-    tell_end(call, &facts, &instance, whole, asked)
+    });
+    let whole = match went_on {
+        Ok(whole) => whole,
+        Err(error) => {
+            drop(instance);
+            drop(facts);
+            return Err(error);
+        }
+    };
+    let told = tell_end(call, &facts, &instance, &whole, asked);
+    drop(whole);
+    drop(instance);
+    drop(facts);
+    told
 }
 
 /// Goes on with the run of the certificate that the source has to an end, and tells what the line

@@ -5,8 +5,7 @@ ghost use Rattle.pop_model.specs.Faults.{Rose};
 ghost use Rattle.pop_edge.specs.Devices.{AppendsFront};
 ghost use Rattle.pop_words.specs.CommandLines.{AreWords, Asks};
 ghost use Rattle.pop_words.specs.declared.job.Job.{Job};
-ghost use Rattle.confluence_core.specs.Kept.{keeps_log};
-ghost use Rattle.run_makers.specs.Makers.{IsRunTo, MayGoOn, IsBroughtOn};
+ghost use Rattle.run_makers.specs.Makers.{MayGrow, IsRunInStages, MayGoOn, IsBroughtOn};
 ghost use Rattle.job_subjects.specs.Refusals.{refusal_line};
 ghost use Rattle.job_subjects.specs.declared.refusal.Refusal.TheVariants.{Stopped};
 ghost use Rattle.job_subjects.specs.declared.stop.Stop.TheVariants.{ReadFault, OutOfMemory};
@@ -20,7 +19,7 @@ use pop_edge::{Sink, SliceSource, Source, put_all};
 use pop_instance::Instance;
 use pop_watch::Watch;
 use pop_workers::{Gate, Outcome};
-use run_makers::{Alone, By, OnThreads, Opening, Stretch};
+use run_makers::{Alone, By, Stages, Stretch, makers_of, run_in_stages};
 use std::alloc::{AllocError, Global};
 use std::sync::Wait;
 use std::thread::Threads;
@@ -141,17 +140,27 @@ pub fn run<S: Source, K: Sink, R: Threads + Wait + Sync, G: Gate + Sync>(
         → (IsBreak result → ⊥)
         → WasReadWhole job.pops job.command (S.left source.old) (S.left source.new) }
 {
-    let threads = OnThreads { rt, gate };
-    let make = |opening: Opening| -> Result<(Outcome, Instance), AllocError>
-        ensures { IfOk result (IsRunTo opening.growing (keeps_log opening.keep)) }
-    { threads.run(opening) };
+    let stages = |stages: Stages| -> Result<(Outcome, Instance), AllocError>
+        requires { MayGrow stages }
+        ensures { IfOk result (IsRunInStages stages) }
+    { run_in_stages(rt, gate, stages) };
     let finish = |stretch: Stretch| -> Result<Outcome, AllocError>
         requires { MayGoOn stretch.instance.now stretch.at_hand stretch.reached }
         ensures { IfOk result (IsBroughtOn stretch.entry.instance.now stretch.entry.reached) }
-    { threads.finish(stretch) };
+    {
+        let Stretch {
+            alloc,
+            crew,
+            instance,
+            at_hand,
+            reached,
+        } = stretch;
+        let makers = makers_of(rt, gate, alloc, crew, instance, at_hand)?;
+        makers.run(alloc, instance, reached)
+    };
     let by = By {
         rt,
-        run: &make,
+        stages: &stages,
         finish: &finish,
     };
     match answer_to(&by, alloc, words, watchers, source) {

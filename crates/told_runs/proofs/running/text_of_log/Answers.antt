@@ -1,4 +1,4 @@
-use Rattle.std.proofs.Common.{◌≡◌, List, ℕ, ◌++◌, All, refl, sym, ap, subst, ◌∙◌}
+use Rattle.std.proofs.Common.{◌≡◌, List, All, refl, sym, ap, subst, ◌∙◌}
 use Rattle.pop_model.specs.Stacks.{variables_of}
 use Rattle.pop_model.specs.Popping.{NamesBelow}
 use Rattle.pop_model.specs.Logs.{LogRecord, IsLegal, replay}
@@ -10,7 +10,6 @@ use Rattle.pop_log.proofs.LayeredPrinting.{records_below}
 use Rattle.pop_log.proofs.LayeredLaws.{layered_is_legal}
 use Rattle.pop_log.proofs.UnitEvents.{family_cubes}
 use Rattle.told_runs.specs.Tellings.{records_of}
-use Rattle.told_runs.proofs.ToldRuns.{told_behind}
 use Rattle.told_runs.proofs.running.text_of_log.Goals as goal
 
 -- the layered log is legal, with the same replay
@@ -30,26 +29,15 @@ of-requires g c =
     subst (λ n. All (λ (r : LogRecord). NamesBelow r.event.cube n) c.args.log.now) (sym count)
     (records_below i c.units-units.ensures.instance (start_of i) c.args.log.now c.requires.legal)
 
-pub text_if-requires : goal.text_if-requires
-text_if-requires g c =
+pub text_of_layers-told-requires-clause-legal : goal.text_of_layers-told-requires-clause-legal
+text_of_layers-told-requires-clause-legal g c =
     (in_order c.args.named.now.instance.now c.units-units.ensures.instance c.args.log.now c.in_ok-placed.placed c.requires.legal
     c.in_ok-placed.ensures).0
 
-pub tell_in_layers-requires-clause-legal : goal.tell_in_layers-requires-clause-legal
-tell_in_layers-requires-clause-legal g c =
-    (in_order c.args.named.now.instance.now c.units-units.ensures.instance c.args.log.now c.in_ok-placed.placed c.requires.legal
-    c.in_ok-placed.ensures).0
-
-pub tell_in_layers-requires-clause-leads : goal.tell_in_layers-requires-clause-leads
-tell_in_layers-requires-clause-leads g c =
+pub text_of_layers-told-requires-clause-leads : goal.text_of_layers-told-requires-clause-leads
+text_of_layers-told-requires-clause-leads g c =
     c.requires.leads ∙ sym (in_order c.args.named.now.instance.now c.units-units.ensures.instance c.args.log.now
     c.in_ok-placed.placed c.requires.legal c.in_ok-placed.ensures).1
 
 pub returns : goal.returns
-returns g c =
-    let named = c.args.named.now in
-    told_behind c.args.asked _ named.names.now named.instance.now c.args.log.now c.in_ok-placed.placed
-    c.in_ok-told.told.missing c.args.text.items c.in_ok-bytes.bytes.items c.in_ok-told.told.bytes.items _
-    c.in_ok-placed.ensures c.in_ok-bytes.ensures c.in_ok-told.ensures
-    (c.in_ok-extend_from_slice.ensures.items
-    ∙ ap (λ (l : List ℕ). c.in_ok-bytes.bytes.items ++ l) c.deref.ensures.value)
+returns g c = c.text_of_layers-told.ensures c.args.log.now c.in_ok-placed.ensures

@@ -45,64 +45,64 @@ returns-in-Err-clause-read g c job asks =
     (ap (λ r. Err r) c.from.ensures) c.in-Err.ensures.fault asks judged)
 
 -- the words ask for the job, so that what comes of it comes of them
-pub returns-in-Ok-answer_job-clause-answer : goal.returns-in-Ok-answer_job-clause-answer
-returns-in-Ok-answer_job-clause-answer g c text input =
+pub returns-in-Ok-answered-clause-answer : goal.returns-in-Ok-answered-clause-answer
+returns-in-Ok-answered-clause-answer g c text input =
     carried (ComesBy c.in-Ok.job.command c.in-Ok.job _ text) (IsOutcome (map string_bytes c.args.words.now) _ text)
-    (Ok c.in-Ok-answer_job.answer)
+    (Ok c.in-Ok-answered.answer)
     (of_words (map string_bytes c.args.words.now) c.in-Ok.job _ text c.in-Ok.ensures.job)
-    (c.in-Ok-answer_job.ensures.answer text
+    (c.in-Ok-answered.ensures.answer text
     (input_of_job (map string_bytes c.args.words.now) c.in-Ok.job _ text c.in-Ok.ensures.job input)
     (λ failed. absurd (cc)))
 
-pub returns-in-Ok-answer_job-clause-unread : goal.returns-in-Ok-answer_job-clause-unread
-returns-in-Ok-answer_job-clause-unread g c (inl outside) = absurd (outside (c.in-Ok.job, c.in-Ok.ensures.job))
-returns-in-Ok-answer_job-clause-unread g c (inr grid) =
-    c.in-Ok-answer_job.ensures.unread (grid_job (map string_bytes c.args.words.now) c.in-Ok.job c.in-Ok.ensures.job grid)
+pub returns-in-Ok-answered-clause-unread : goal.returns-in-Ok-answered-clause-unread
+returns-in-Ok-answered-clause-unread g c (inl outside) = absurd (outside (c.in-Ok.job, c.in-Ok.ensures.job))
+returns-in-Ok-answered-clause-unread g c (inr grid) =
+    c.in-Ok-answered.ensures.unread (grid_job (map string_bytes c.args.words.now) c.in-Ok.job c.in-Ok.ensures.job grid)
 
-pub returns-in-Ok-answer_job-clause-read : goal.returns-in-Ok-answer_job-clause-read
-returns-in-Ok-answer_job-clause-read g c job asks =
+pub returns-in-Ok-answered-clause-read : goal.returns-in-Ok-answered-clause-read
+returns-in-Ok-answered-clause-read g c job asks =
     subst (λ (j : Job). WasReadWhole j.pops j.command (g.S.Source.left c.args.source.now)
-    (g.S.Source.left c.answer_job.new.source))
+    (g.S.Source.left c.answer_job-answered.new.source))
     (same_job (map string_bytes c.args.words.now) c.in-Ok.job job c.in-Ok.ensures.job asks)
-    (c.in-Ok-answer_job.ensures.read tt)
+    (c.in-Ok-answered.ensures.read tt)
 
 -- a refusal of the job is told
-pub returns-clause-answer : goal.returns-clause-answer
-returns-clause-answer g c text input =
-    told_answer (IsOutcome (map string_bytes c.args.words.now) _ text) c.in-Err-answer_job.refusal
-    c.told-in-Err-answer_job.result c.told-in-Err-answer_job.ensures
+pub returns-in-Err-answered-clause-answer : goal.returns-in-Err-answered-clause-answer
+returns-in-Err-answered-clause-answer g c text input =
+    told_answer (IsOutcome (map string_bytes c.args.words.now) _ text) c.in-Err-answered.refusal
+    c.told-in-Err-answered.result c.told-in-Err-answered.ensures
     (λ read. carried (ComesBy c.in-Ok.job.command c.in-Ok.job _ text)
-    (IsOutcome (map string_bytes c.args.words.now) _ text) (Err c.in-Err-answer_job.refusal)
+    (IsOutcome (map string_bytes c.args.words.now) _ text) (Err c.in-Err-answered.refusal)
     (of_words (map string_bytes c.args.words.now) c.in-Ok.job _ text c.in-Ok.ensures.job)
-    (c.in-Err-answer_job.ensures.answer text
+    (c.in-Err-answered.ensures.answer text
     (input_of_job (map string_bytes c.args.words.now) c.in-Ok.job _ text c.in-Ok.ensures.job input)
     (λ failed. read (err_is _ _ failed))))
 
-pub returns-clause-usage : goal.returns-clause-usage
-returns-clause-usage g c =
-    told_usage (map string_bytes c.args.words.now) c.in-Err-answer_job.refusal c.told-in-Err-answer_job.result
-    (λ place is. absurd (job_past_words (Err c.in-Err-answer_job.refusal) place c.in-Err-answer_job.ensures.status
-    (ap (λ r. Err r) is))) c.told-in-Err-answer_job.ensures
+pub returns-in-Err-answered-clause-usage : goal.returns-in-Err-answered-clause-usage
+returns-in-Err-answered-clause-usage g c =
+    told_usage (map string_bytes c.args.words.now) c.in-Err-answered.refusal c.told-in-Err-answered.result
+    (λ place is. absurd (job_past_words (Err c.in-Err-answered.refusal) place c.in-Err-answered.ensures.status
+    (ap (λ r. Err r) is))) c.told-in-Err-answered.ensures
 
-pub returns-clause-unread : goal.returns-clause-unread
-returns-clause-unread g c (inl outside) = absurd (outside (c.in-Ok.job, c.in-Ok.ensures.job))
-returns-clause-unread g c (inr grid) =
-    c.in-Err-answer_job.ensures.unread (grid_job (map string_bytes c.args.words.now) c.in-Ok.job c.in-Ok.ensures.job grid)
+pub returns-in-Err-answered-clause-unread : goal.returns-in-Err-answered-clause-unread
+returns-in-Err-answered-clause-unread g c (inl outside) = absurd (outside (c.in-Ok.job, c.in-Ok.ensures.job))
+returns-in-Err-answered-clause-unread g c (inr grid) =
+    c.in-Err-answered.ensures.unread (grid_job (map string_bytes c.args.words.now) c.in-Ok.job c.in-Ok.ensures.job grid)
 
-pub returns-clause-whole : goal.returns-clause-whole
-returns-clause-whole g c =
-    told_high _ c.in-Err-answer_job.refusal c.told-in-Err-answer_job.result c.told-in-Err-answer_job.ensures
+pub returns-in-Err-answered-clause-whole : goal.returns-in-Err-answered-clause-whole
+returns-in-Err-answered-clause-whole g c =
+    told_high _ c.in-Err-answered.refusal c.told-in-Err-answered.result c.told-in-Err-answered.ensures
 
-pub returns-clause-read : goal.returns-clause-read
-returns-clause-read g c job asks =
-    told_judged _ c.in-Err-answer_job.refusal c.told-in-Err-answer_job.result c.told-in-Err-answer_job.ensures
+pub returns-in-Err-answered-clause-read : goal.returns-in-Err-answered-clause-read
+returns-in-Err-answered-clause-read g c job asks =
+    told_judged _ c.in-Err-answered.refusal c.told-in-Err-answered.result c.told-in-Err-answered.ensures
     (λ judged. subst (λ (j : Job). WasReadWhole j.pops j.command (g.S.Source.left c.args.source.now)
-    (g.S.Source.left c.answer_job.new.source))
+    (g.S.Source.left c.answer_job-answered.new.source))
     (same_job (map string_bytes c.args.words.now) c.in-Ok.job job c.in-Ok.ensures.job asks)
-    (c.in-Err-answer_job.ensures.read judged))
+    (c.in-Err-answered.ensures.read judged))
 
-pub answer_job-requires-clause-asked : goal.answer_job-requires-clause-asked
-answer_job-requires-clause-asked g c = (map string_bytes c.args.words.now, c.in-Ok.ensures.job)
+pub answer_job-answered-requires-clause-asked : goal.answer_job-answered-requires-clause-asked
+answer_job-answered-requires-clause-asked g c = (map string_bytes c.args.words.now, c.in-Ok.ensures.job)
 
 -- from 1 to 64 workers are asked for
 pub new-crew-requires-clause-one : goal.new-crew-requires-clause-one

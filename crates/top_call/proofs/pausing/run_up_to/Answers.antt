@@ -28,5 +28,5 @@ ended-requires g c =
 pub returns-in_ok-run-in_default : goal.returns-in_ok-run-in_default
 returns-in_ok-run-in_default g c =
     ended_result c.args.job.now _ c.args.input.now c.args.facts.now c.args.instance.now c.of-asked.result
-    c.tell_end.result c.requires.made c.of-asked.ensures c.requires.may c.requires.extremal
-    c.tell_end.ensures.ended c.tell_end.ensures.history
+    c.tell_end-told.result c.requires.made c.of-asked.ensures c.requires.may c.requires.extremal
+    c.tell_end-told.ensures.ended c.tell_end-told.ensures.history

@@ -14,17 +14,17 @@ returns-in_err-accepted-clause-answer g c text known failed =
     (λ is. failed (same_fault c.from_residual.result c.in_err-accepted.field-0.0 c.from_residual.ensures.1 is)))
 
 -- or its log is legal
-pub tell_accepted-requires : goal.tell_accepted-requires
-tell_accepted-requires g c =
+pub tell_accepted-told-requires : goal.tell_accepted-told-requires
+tell_accepted-told-requires g c =
     let (bytes, read, accepted) = c.in_ok-accepted.ensures.accepted in accepted.held.run.can
 
 pub returns-clause-answer : goal.returns-clause-answer
 returns-clause-answer g c text known failed =
     replay_result (g.S.Source.left c.args.source.now) (g.S.Source.left c.read_accepted.new.source) text
-    c.in_ok-accepted.accepted c.in_ok-tell_accepted.field-0.status c.in_ok-tell_accepted.field-0.text.items known
-    c.in_ok-accepted.ensures.accepted c.in_ok-tell_accepted.ensures
+    c.in_ok-accepted.accepted c.in_ok-told.field-0.status c.in_ok-told.field-0.text.items known
+    c.in_ok-accepted.ensures.accepted c.in_ok-told.ensures
 
 pub returns-clause-status : goal.returns-clause-status
 returns-clause-status g c =
-    let told = c.in_ok-tell_accepted.ensures in
+    let told = c.in_ok-told.ensures in
     subst IsTextStatus (sym told.status_is) (look_status_is told.look)

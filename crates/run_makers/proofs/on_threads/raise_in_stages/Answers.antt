@@ -5,7 +5,7 @@ use Rattle.confluence_core.specs.Kept.{keeps_log}
 use Rattle.confluence_core.specs.Runs.{IsRunOf}
 use Rattle.pop_workers.specs.Stages.{height}
 use Rattle.pop_workers.proofs.RaisedInstances.{raised_twice}
-use Rattle.run_makers.proofs.on_threads.OnThreads.run_in_stages.Goals as goal
+use Rattle.run_makers.proofs.on_threads.raise_in_stages.Goals as goal
 
 -- the instance has the last height, whatever that of the last stage was
 pub returns-clause-run : goal.returns-clause-run

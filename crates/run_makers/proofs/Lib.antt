@@ -1,0 +1,2 @@
+-- Lemmas of those who make runs.
+pub mod Brought
