@@ -4,8 +4,7 @@ mod OneMerged
 mod ClosedBoards
 mod JoinedStretches
 mod ToldRuns
--- The tools and the readers of workers
-mod KeptTools
+-- The readers of workers
 mod ServedReaders
 -- Rounds of a sole pass over all units
 mod Rounds
