@@ -38,11 +38,3 @@ pub held_still : (d e : View) (v w : ℕ) → e ≡ claimed_by d v w → 2 ^ 63 
 held_still d e v w to taken =
     ap (λ (x : View). x.held) to
     ∙ ap (λ b. cond b (d.held ++ (v, cursor_in w) ∷ []) d.held) (le-ltb w (2 ^ 63) taken)
-
--- the room of a log stays where its count does
-pub room_stays : (k : ℕ) (old new : Option KeptLog) → is_some new ≡ is_some old → spare_in new ≡ spare_in old
-    → HasRoom old k → HasRoom new k
-room_stays k None None kept same room = tt
-room_stays k None (Some l) kept same room = absurd (cc)
-room_stays k (Some l) None kept same room = tt
-room_stays k (Some l) (Some m) kept same room = omega (arith, same, room)

@@ -97,13 +97,6 @@ turn-head hs j d h = go hs j h ∙ ap (λ (i : ℕ). get_or hs j d ∷ drop i hs
     go (x ∷ xs) zero h = refl
     go (x ∷ xs) (suc i) h = go xs i (omega arith)
 
--- no ticket is left at the end
-pub heads-over : (hs : List Head) (j : ℕ) (us : List (ℕ × ℕ × ℕ)) → length hs ≤ j → tickets_of (drop j hs) us ≡ []
-heads-over [] zero us h = refl
-heads-over [] (suc j) us h = refl
-heads-over (x ∷ hs) zero us h = absurd (omega arith)
-heads-over (x ∷ hs) (suc j) us h = heads-over hs j us (omega arith)
-
 -- what is left of the tickets, from a head and a use on
 abbrev pub Left : List Head → List (ℕ × ℕ × ℕ) → ℕ → ℕ → List (ℕ × LogRecord)
 Left hs us j at = tickets_of (drop j hs) (drop at us)

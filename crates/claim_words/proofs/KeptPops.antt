@@ -136,20 +136,3 @@ sealed (Some l) (Some m) (Some n) mine e held t u h g s =
           (ap (record_of u) loose ∙ record_same u e held),
       ap length s.1,
     )
-
--- the tickets that are handed out are those of the pass, where a log is kept
-pub told_kept : (log : Option Kept) (told : Option (List (ℕ × LogRecord))) (keeps : Bool)
-    (mine : List (ℕ × LogRecord)) → is_some log ≡ keeps
-    → HasTickets log mine → IsTold log told → told ≡ cond keeps (Some mine) None
-told_kept None told true mine e h t = absurd (cc)
-told_kept None told false mine e h t = t
-told_kept (Some l) told true mine e h t = t ∙ ap Some h.0
-told_kept (Some l) told false mine e h t = absurd (cc)
-
--- a log with the same tickets has them too
-pub same_tickets : (a b : Option Kept) (mine : List (ℕ × LogRecord)) → HasTickets a mine → SameTickets a b
-    → HasTickets b mine
-same_tickets None None mine h s = h
-same_tickets None (Some m) mine h s = absurd s
-same_tickets (Some l) None mine h s = absurd s
-same_tickets (Some l) (Some m) mine h s = (s.0 ∙ h.0, ap length s.1 ∙ h.1)

@@ -62,24 +62,6 @@ comes_home heads e v cycle at =
     sym (follow_more step met.0 (length e) a v met.2) ∙ ap (λ k. follow step k a) swap
     ∙ follow_more step (length e) met.0 a a cycle.returns ∙ met.2
 
--- a way begins at its start
-pub way_begins : (t : CycleTable) (c : List ℕ) (low start : ℕ) → low ≤ start → start < length t.heads
-    → IsWay t c low start ([] ++ start ∷ [])
-way_begins t c low start from below = record {
-  some = omega arith;
-  first = refl;
-  leads = λ k less. absurd (omega arith);
-  away = λ k some less. absurd (omega arith);
-  above = λ k less. elim (cases_eq k 0) [
-    | inl none ↦ subst (λ n. low ≤ get_or (start ∷ []) n 0) (sym none) from
-    | inr some ↦ absurd (omega arith)
-  ];
-  below = λ k less. elim (cases_eq k 0) [
-    | inl none ↦ subst (λ n. get_or (start ∷ []) n 0 < length t.heads) (sym none) below
-    | inr some ↦ absurd (omega arith)
-  ];
-}
-
 -- where steps lead along a way
 pub way_follows : (t : CycleTable) (c : List ℕ) (low start : ℕ) (way : List ℕ) → IsWay t c low start way
     → (k : ℕ) → k < length way → follow (current_head t c) k start ≡ Some (get_or way k 0)

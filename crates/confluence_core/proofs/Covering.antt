@@ -30,13 +30,6 @@ pub covers_to : (s : StackTable) (c : List ℕ) (rows : List (ℕ × Cube)) (sus
 covers_to s c rows suspects covers e is pop =
     let at = event_to rows e is in covers e.unit at.within (subst (IsPoppable s c) (sym at.cube) pop)
 
--- what has gained a list that covers the poppable events covers them too
-pub covers_gained : (s : StackTable) (c : List ℕ) (rows : List (ℕ × Cube)) (list : List ℕ) (old new : Waiting)
-    → Covers s c rows list
-    → Gains old new list → Covers s c rows new.list
-covers_gained s c rows list old new covers gains place within pop =
-    All-contains (Contains new.list) list place gains.gained (covers place within pop)
-
 -- a place that is not poppable may go
 pub covers_rest : (s : StackTable) (c : List ℕ) (rows : List (ℕ × Cube)) (list : List ℕ) (place : ℕ)
     → Covers s c rows (list ++ place ∷ [])

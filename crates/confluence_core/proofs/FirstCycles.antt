@@ -35,28 +35,3 @@ first_is_poppable t c members e is cube =
         | inr more ↦ more
       ];
     })
-
-module _ (t : CycleTable) (c : List ℕ) (e : Cube) (instance : IsInstance (cycles t)) (are : AreCursors t c)
-    (first : IsFirstPoppable (cycles t) c (cycle_event e)) where
-  -- its variables have cursors
-  pub first_below : NamesBelow e (length c)
-  first_below = subst (NamesBelow e) (sym are.count) (cycle_names_below t.heads e first.event.0)
-
-  -- below the greatest
-  pub first_low : All (λ (p : ℕ × ℕ). cursor c p.0 < 2 ^ 31 - 1) e
-  first_low k d below =
-      let p : ℕ × ℕ = get_or e k d in
-      let next = first.poppable.next k d below in
-      let height = instance.table.heights p.0 in
-      omega (arith, next, height)
-
-  -- its pop takes from the room
-  pub first_falls : left_from t.stacks 0 (pop c e) < left_from t.stacks 0 c
-  first_falls = room_falls t.stacks c e first.event.0.cube first_below first.poppable.next
-
-  -- and leaves cursors below the heights
-  pub first_leaves : AreCursors t (pop c e)
-  first_leaves = record {
-    count = length-pop c e ∙ are.count;
-    within = within_pop t.stacks c e (sym instance.fits.0 ∙ sym are.count) first.poppable.next are.within;
-  }

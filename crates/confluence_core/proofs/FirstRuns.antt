@@ -18,16 +18,6 @@ pub record Completes (i : Instance) (c : List ℕ) (pops : ℕ) (log : List LogR
 abbrev pub CanComplete : Instance → List ℕ → ℕ → Type 0
 CanComplete i c pops = (log : List LogRecord) → IsFirstRun i c log → Completes i c pops log
 
--- at the start each run is whole
-pub complete_none : (i : Instance) (c : List ℕ) → c ≡ start_of i → CanComplete i c 0
-complete_none i c e log run = record {
-  whole = log;
-  run = subst (λ d. IsFirstRun i d log) e run;
-  end =
-      ap (λ d. replay d log) (sym e);
-  size = omega arith;
-}
-
 -- and so after one pop more of the first poppable event
 pub complete_more : (i : Instance) (c : List ℕ) (pops : ℕ) (e : Event) → IsFirstPoppable i c e → CanComplete i c pops
     → CanComplete i (pop c e.cube) (pops + 1)

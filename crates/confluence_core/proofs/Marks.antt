@@ -30,10 +30,6 @@ marked_more list marks unit within old = record {
   ];
 }
 
--- nothing is gained
-pub gains_none : (old : Waiting) → Gains old old []
-gains_none old = record { units = refl; kept = λ u has. has; gained = λ k d h. absurd (omega arith) }
-
 -- one unit more is gained
 pub gains_more : (a b c : Waiting) (xs : List ℕ) (i : ℕ) (x d : ℕ) → i < length xs → get_or xs i d ≡ x
     → Gains a b (take i xs) → Gains b c (x ∷ [])
@@ -46,10 +42,6 @@ gains_more a b c xs i x d within is old new = record {
       (All-weaker (Contains b.list) (Contains c.list) new.kept (take i xs) old.gained)
       (subst (Contains c.list) (sym is) (All-head (Contains c.list) x [] new.gained)));
 }
-
--- nothing is gained of no pair
-pub gains_sharing_none : (old : Waiting) (index : List (List ℕ)) → GainsSharing old old index []
-gains_sharing_none old index = record { units = refl; kept = λ u has. has; gained = λ k d h. absurd (omega arith) }
 
 -- the units of one pair more are gained
 pub gains_sharing_more : (a b c : Waiting) (index : List (List ℕ)) (e : Cube) (i : ℕ) (p : ℕ × ℕ)

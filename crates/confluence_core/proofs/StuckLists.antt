@@ -19,14 +19,6 @@ use Rattle.confluence_core.proofs.Places.{listed, event_at, event_from, event_to
 event_with : ℕ → Cube → Event
 event_with u x = record { unit = u; cube = x }
 
--- no event is below unit 0
-pub stuck_none : (s : StackTable) (c : List ℕ) (rows : List (ℕ × Cube)) → IsStuckBelow s c rows 0 []
-stuck_none s c rows = record {
-  rising = λ k h. absurd (omega arith);
-  below = λ k d h. absurd (omega arith);
-  exact = λ e. (λ h. absurd (omega (arith, h.1)), λ h. let none = h.before in absurd (omega (arith, none)));
-}
-
 module _ (s : StackTable) (c : List ℕ) (rows : List (ℕ × Cube)) (n : ℕ) (stuck : List Event)
     (old : IsStuckBelow s c rows n stuck) where
   -- what occurs below a unit occurs below the next
@@ -89,21 +81,6 @@ module _ (s : StackTable) (c : List ℕ) (rows : List (ℕ × Cube)) (n : ℕ) (
             absurd (none (subst (Occurs s c) (sym cube) h.occurs))
         | inr other ↦ (old.exact e).1 (earlier e h other)
       ]
-
--- where no event is poppable and each variable has a next entry, no event occurs
-pub stuck_nowhere : (s : StackTable) (c : List ℕ) (rows : List (ℕ × Cube)) → All (λ r. FitsStacks s r.1) rows
-    → NoneBefore s c rows (length rows) → AllHaveNext s c → IsStuckBelow s c rows (length rows) []
-stuck_nowhere s c rows fits end next = record {
-  rising = λ k h. absurd (omega arith);
-  below = λ k d h. absurd (omega arith);
-  exact = λ e. (λ h. absurd (omega (arith, h.1)), λ h. absurd (none e h));
-}
-  where
-    none : (e : Event) → OccursBelow s c rows (length rows) e → ⊥
-    none e h = end e.unit h.within (record {
-      occurs = subst (Occurs s c) (sym h.cube) h.occurs;
-      next = λ k p less. next _ (fits e.unit (0, []) h.within k p less).0;
-    })
 
 -- the events below all units are the stuck list
 pub stuck_list : (s : StackTable) (c : List ℕ) (rows : List (ℕ × Cube)) (stuck : List Event)

@@ -22,26 +22,6 @@ use Rattle.confluence_core.proofs.PathsLemmas.{at_place, path_fits}
 use Rattle.confluence_core.proofs.DoneVariables.{done_same}
 use Rattle.confluence_core.proofs.WalkSteps.{MarksFront, marks_front, sized_same}
 
--- a walk begins at a variable that isn't settled
-pub walk_begins : (w : Walk) (start : ℕ) → Stands w → start < length w.current.heads
-    → (get_or w.marks.items start 0 ≡ settled → ⊥) → Walks (record w { depth = 0; at = start })
-walk_begins w start stands below unsettled = record {
-  sized = stands.sized;
-  goes_on = record {
-    trail = record {
-      leads = λ k less. absurd (omega arith);
-      below = λ k less. absurd (omega arith);
-      marked = λ k less. absurd (omega arith);
-    };
-    fresh = λ met. elim met [ inl at ↦ unsettled at | inr (k, less, same) ↦ absurd (omega arith) ];
-    below = below;
-    last = λ d same. absurd (omega arith);
-  };
-  done = stands.done;
-  last = stands.last;
-  room = stands.room;
-}
-
 module _ (path : List ℕ) (depth : ℕ) (marks new : List ℕ) (are : MarksFront path (suc depth) settled marks new) where
   -- what was met is settled
   pub met_settled : (v : ℕ) → IsMet marks path (suc depth) v → IsSettled new v

@@ -148,17 +148,6 @@ module _ (g : GraphOf) (root : ℕ) (is : IsGraph g) (at : IsVertex g.vertices r
         (edges_at g (vertex_of root v)) (edges_known g (vertex_of root v))));
   }
 
-  -- no row is long
-  pub heads_short : All (λ row. length row < 2 ^ 31) (heads_of_tree g root)
-  heads_short = all_rows (λ row. length row < 2 ^ 31) (heads_at g root) (g.vertices - 1)
-      (λ v below. omega (
-        arith,
-        edges_few g (vertex_of root v),
-        is.edges_fit,
-        length-map (edges_at g (vertex_of root v))
-            (λ i. variable_of root (other_end (edge_at g i) (vertex_of root v))),
-      ))
-
 -- rows of the variables before here, and one more
 pub rows_more : {X : Type 0} (row : ℕ → X) (n : ℕ) (rows : List X) (x : X)
     → rows ≡ map row (range_with_len 0 n) → x ≡ row n → rows ++ x ∷ [] ≡ map row (range_with_len 0 (n + 1))

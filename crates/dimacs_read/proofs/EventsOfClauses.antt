@@ -43,19 +43,6 @@ rising_push xs n rising below k within =
           omega arith
     ]
 
--- no clause yet
-pub rows_start : (clauses : List (List ℤ)) (rows : List (ℕ × Cube)) → rows ≡ [] → AreRowsOf clauses 0 rows
-rows_start clauses rows none =
-    let size : length rows ≡ 0 = ap length none in
-    record {
-      rising = λ k within.
-          let numbers : length (map (λ (r : ℕ × Cube). r.0) rows) ≡ length rows =
-          length-map rows (λ (r : ℕ × Cube). r.0) in
-          absurd (omega arith);
-      few = omega arith;
-      exact = λ n e. (λ h. absurd (omega (arith, size, h.1)), λ h. absurd (omega (arith, h.0.2, h.1)));
-    }
-
 -- the clause of this number, from 1
 clause_is : (clauses : List (List ℤ)) (i n : ℕ) (e : Cube) (clause : List ℤ) → slice_get clauses i ≡ Some clause
     → n ≡ i + 1 → HasCube clauses n e → Falsifies clause e

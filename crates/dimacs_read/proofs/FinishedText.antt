@@ -103,12 +103,6 @@ empty_same literals n at (e ∷ ends) r =
           ∙ sym (ap (λ b. if b then Some n else empty_from (n + 1) e ends) t))
     ]
 
--- the search at its next end
-pub empty_step : (n at i : ℕ) (ends : List ℕ) → i < length ends
-    → empty_from n at (drop i ends)
-    ≡ (if at == get_or ends i 0 then Some n else empty_from (n + 1) (get_or ends i 0) (drop (i + 1) ends))
-empty_step n at i ends h = ap (empty_from n at) (drop_more ends i 0 h)
-
 -- the clauses by where they end
 pub clauses_by : (c : Clauses) (ends : List ℕ) (size : ℕ) (tokens : List (Option Token)) → Holds c tokens
     → size ≡ length c.literals.items → ends ≡ closed_ends size c.ends.items

@@ -165,11 +165,6 @@ pub fault_of_word : (a : Clauses) (tokens : List (Option Token)) (v : ℕ) (t : 
     → token_fault v tokens t ≡ word_fault v (length a.ends.items) (length a.literals.items) t
 fault_of_word a tokens v t h = fault_by_counts v tokens t ∙ ap₂ (λ m n. word_fault v m n t) h.ends h.literals
 
--- nothing is taken yet
-pub goes_start : (a : Clauses) (v line : ℕ) (bytes : List ℕ) (before : List (Option Token)) → Holds a before
-    → Goes a v line bytes bytes before
-goes_start a v line bytes before h = record { done = before; holds = h; all = refl; refusal = refl }
-
 -- a word more
 pub goes_on : (a b : Clauses) (v line : ℕ) (bytes rest word behind : List ℕ) (before : List (Option Token))
     → Goes a v line bytes rest before → words_of rest ≡ word ∷ words_of behind
@@ -186,25 +181,3 @@ goes_on a b v line bytes rest word behind before g cut fault add =
           ∙ ap (λ f. or_else (at_line line f)
           (first_refusal (token_fault v) (g.done ++ t ∷ []) (placed line behind))) none) ∙ g.refusal;
     }
-
--- no word is left
-pub goes_all : (a : Clauses) (v line : ℕ) (bytes rest : List ℕ) (before : List (Option Token))
-    → Goes a v line bytes rest before → words_of rest ≡ []
-    → (first_refusal (token_fault v) before (placed line bytes) ≡ None)
-    × Holds a (before ++ map token_of (words_of bytes))
-goes_all a v line bytes rest before g none = (
-  sym g.refusal ∙ ap (λ ws. first_refusal (token_fault v) g.done (map (λ w. (line, token_of w)) ws)) none,
-  subst (Holds a) (sym (append-nil g.done) ∙ ap (λ ws. g.done ++ map token_of ws) (sym none) ∙ g.all) g.holds,
-)
-
--- a bad word is the first
-pub goes_bad : (a : Clauses) (v line : ℕ) (bytes rest word behind : List ℕ) (before : List (Option Token))
-    (refusal : ReadRefusal) → Goes a v line bytes rest before → words_of rest ≡ word ∷ words_of behind
-    → at_line line (fault_in a v word) ≡ Some refusal
-    → first_refusal (token_fault v) before (placed line bytes) ≡ Some refusal
-goes_bad a v line bytes rest word behind before refusal g cut bad =
-    let t : Option Token = token_of word in
-    let here : at_line line (token_fault v g.done t) ≡ Some refusal =
-    ap (at_line line) (fault_of_word a g.done v t g.holds) ∙ bad in
-    sym g.refusal ∙ ap (λ ws. first_refusal (token_fault v) g.done (map (λ w. (line, token_of w)) ws)) cut
-    ∙ ap (λ f. or_else f (first_refusal (token_fault v) (g.done ++ t ∷ []) (placed line behind))) here

@@ -95,10 +95,6 @@ in_times v c l i = omega (arith, in_le (is_at v) (v, c) l i, is_at-yes v (v, c) 
 -- what stands last on the path of a pass
 module _ (k : Opening) (d : View) (t : Trail) (e : ℕ × ℕ) (is : Stands k d t) (some : 0 < length t.path)
     (e_is : e ≡ get_or t.path (length t.path - 1) (0, 0)) where
-  -- it is one of the board's variables, below its height
-  pub last_at : IsAt k e
-  last_at = subst (IsAt k) (sym e_is) (is.led.at (length t.path - 1) (omega arith))
-
   -- it is held at its cursor
   looked : look e.0 d.held ≡ e.1
   looked =

@@ -21,16 +21,6 @@ variable_is : (e : Cube) (k : ℕ) (p : ℕ × ℕ) → slice_get e k ≡ Some p
 variable_is e k p read =
     variable_at e k (slice_get_within e k p read) ∙ ap (λ (q : ℕ × ℕ). q.0) (get_or_from_slice_get e k p (0, 0) read)
 
--- before event i is tried with any, none that was tried clashes
-pub none_tried : (rows : List (ℕ × Cube)) (i : ℕ) (stamps : List ℕ) → AreStamped rows i stamps
-    → IsLeastTried rows i stamps (length rows)
-none_tried rows i stamps stamped = record {
-  stamped = record { count = stamped.count; stamp = λ j. let old = stamped.stamp j in omega (arith, old) };
-  within = omega arith;
-  clash = λ less. absurd (omega arith);
-  none_below = λ j fresh clash. let old = stamped.stamp j in absurd (omega (arith, old, fresh));
-}
-
 -- the stamp of another event stays, and the one of event j is new
 stamp_cases : (rows : List (ℕ × Cube)) (i j : ℕ) (stamps : List ℕ) → length stamps ≡ length rows → j < length rows
     → (k : ℕ) → ((k ≡ j) × (slice_index (set stamps j (i + 1)) k ≡ i + 1))

@@ -38,12 +38,6 @@ edges_few g w =
       length-numbered stands g.edges,
     )
 
--- the edge of that number, whatever the default at which it is read
-pub edge_is : (g : GraphOf) (i : ℕ) (edge : Edge) → i < length g.edges → edge ≡ get_or g.edges i edge → edge ≡ edge_at g i
-edge_is g i edge known is =
-    let none : Edge = record { u = 0; v = 0; weight = 0 } in
-    is ∙ get_or_default g.edges i edge none known
-
 -- the vertex of a variable is one of the graph
 pub vertex_is : (root n v : ℕ) → IsVertex n root → v + 1 < n → IsVertex n (vertex_of root v)
 vertex_is root n v is below = let from = is.first in let to = is.last in by (ltb (v + 1) root)

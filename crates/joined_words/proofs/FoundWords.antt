@@ -77,9 +77,3 @@ front_ended bytes words start at front within zero =
       words_are = record { joined = joined; plain = plain };
       word_is = λ k from to. absurd (omega (arith, from, to));
     }
-
--- where nothing is left, the bytes are those of the words
-pub all_joined : (bytes : List ℕ) (words : List (List ℕ)) (start at : ℕ) → IsFront bytes words start at
-    → length bytes ≤ start → AreJoined bytes words
-all_joined bytes words start at front all =
-    subst (λ bs. AreJoined bs words) (take_all start bytes all) front.words_are

@@ -13,12 +13,6 @@ use Rattle.confluence_core.specs.Stretches.{LeadsOn, before_pops}
 use Rattle.confluence_core.proofs.Reaching.{leads_none, leads_then}
 use Rattle.lock_board.specs.Books.{Progress, IsBook, reached_in}
 
--- the book before any pop
-pub book_opening : (i : Instance) (start : List ℕ) → variables_of i.stacks ≡ length start → AreWithin i.stacks start
-    → IsBook i start (record { cursors = start; log = [] })
-book_opening i start count within =
-    record { leads = leads_none i start 0 (Some []) [] []; count = count; within = within }
-
 -- the pop of an event whose record is put behind the log
 pub book_pop : (i : Instance) (start : List ℕ) (b new : Progress) (e : Event) → IsBook i start b → IsEvent i.family e
     → IsPoppable i.stacks b.cursors e.cube → new.log ≡ b.log ++ record_at e.unit e.cube b.cursors ∷ []

@@ -10,20 +10,6 @@ use Rattle.pop_edge.specs.declared.next.Next.TheVariants.{Line, End}
 use Rattle.pop_edge.specs.declared.refusal.ReadRefusal.TheVariants.{Limit, ReadFault}
 use Rattle.pop_edge.proofs.LinesLemmas.{take_front, lines_closed, ended_closed, closed-append, AreLines-append, ended_only, one_line}
 
--- no byte was taken, and no line given
-pub follows_start : Follows opening [] []
-follows_start =
-    record {
-      taken = refl;
-      number = refl;
-      stands =
-          inl (record {
-            lines_are = tt;
-            front =
-                sym (take_all text_limit (let none : List ℕ = [] in none) (omega arith));
-          });
-    }
-
 -- what is at hand behind the lines given
 hand : (s : LineState) (bytes more : List ℕ) (lines : List (List ℕ)) → s.taken ≡ length bytes
     → closed lines ++ s.rest ≡ take text_limit bytes → closed lines ++ at_hand s more ≡ take text_limit (bytes ++ more)

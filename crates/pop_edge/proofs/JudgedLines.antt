@@ -18,7 +18,7 @@ use Rattle.pop_edge.specs.Words.{words_of}
 use Rattle.pop_edge.specs.LineState.{LineState, opening, Follows, IsNext, fresh}
 use Rattle.pop_edge.specs.Refusals.{IsOfLine, MayBeOfLine, or_else, length_refusal}
 use Rattle.pop_edge.specs.Judging.{Judgement, IsInOrder, IsUnrefused, IsWhole, told, told_lines, text_refusal}
-use Rattle.pop_edge.proofs.GivenLines.{follows_start, follows_line, all_given, past_limit, at_fault, judged_front, IsFront, IsAll, IsPast}
+use Rattle.pop_edge.proofs.GivenLines.{follows_line, all_given, past_limit, at_fault, judged_front, IsFront, IsAll, IsPast}
 
 -- places, of a list behind another
 pub enumerate-append : {X : Type 0} (n : ℕ) (xs ys : List X)
@@ -82,18 +82,6 @@ given : (l n : Option (List ℕ)) (bytes text : List ℕ) → Consumes l n bytes
 given None n bytes text c e = absurd (cc)
 given (Some x) None bytes text c e = absurd c
 given (Some x) (Some y) bytes text c e = let same : x ≡ text = cc in (y, refl, sym same ∙ c)
-
--- nothing is read yet
-pub reading_start : (j : Judgement) (Knows : List (ℕ × List (List ℕ)) → Type 0) (s : LineState) (left : Option (List ℕ))
-    → Knows [] → s ≡ opening → IsReading j Knows left left s
-reading_start j Knows s left k e =
-    record {
-      bytes = [];
-      lines = [];
-      consumed = Consumes-nil left;
-      follows = subst (λ t. Follows t [] []) (sym e) follows_start;
-      knows = k;
-    }
 
 -- a line more
 pub reading_line : (j : Judgement) (Knows Knows' : List (ℕ × List (List ℕ)) → Type 0) (s t : LineState)

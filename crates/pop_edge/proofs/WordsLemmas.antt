@@ -119,9 +119,3 @@ skipped bs n at =
 pub with_head : (word : List ℕ) → 0 < length word → word ≡ get_or word 0 0 ∷ drop 1 word
 with_head [] h = absurd (omega arith)
 with_head (b ∷ bs) h = refl
-
--- the first byte of a line that isn't a blank is that of its first word
-pub begins_with-word : (b : ℕ) (word : List ℕ) (words : List (List ℕ)) → 0 < length word
-    → begins_with b (word ∷ words) ≡ nat_eq (get_or word 0 0) b
-begins_with-word b [] words h = absurd (omega arith)
-begins_with-word b (x ∷ xs) words h = refl

@@ -39,10 +39,6 @@ sorted_in_turn rows sorted i j d less inside =
     sorted_far (λ r q. is_lt (row_cmp r q)) (ranks_by row_total (λ (r : ℕ × Cube). r)) rows sorted i j d (omega arith)
     inside
 
--- where the cubes are equal, the numbers decide
-not_less : (o : Ordering) → is_lt (ordering_then Equal o) ≡ false → is_lt o ≡ false
-not_less o h = h
-
 -- of one cube the one in front has no greater number
 pub in_turn_number : (r q : ℕ × Cube) → InTurn r q → r.1 ≡ q.1 → r.0 ≤ q.0
 in_turn_number r q turn same =

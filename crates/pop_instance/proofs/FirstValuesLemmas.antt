@@ -6,10 +6,6 @@ use Rattle.pop_model.specs.Popping.{cursor, values_at, AreValuesAt}
 use Rattle.pop_model.proofs.ValuesLemmas.{length-values_at, values_more, values_below}
 use Rattle.pop_instance.specs.FirstValues.{AreFirstValues}
 
--- no values are those of no variables
-pub first_none : (s : StackTable) (c : List ℕ) → AreFirstValues s c []
-first_none s c = record { are = refl; within = λ v below. absurd (omega (arith, below)) }
-
 -- the value of the next variable is added
 pub first_more : (s : StackTable) (c old new : List ℕ) (x v : ℕ) → v < length c → length old ≡ v
     → AreFirstValues s c old → new ≡ old ++ x ∷ [] → x ≡ value_at s v (cursor c v) → x < domain_of s v

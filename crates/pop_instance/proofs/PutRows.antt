@@ -10,10 +10,6 @@ use Rattle.pop_rows.specs.FlatRows.{row_at, push_at}
 use Rattle.pop_instance.specs.Index.{IsPut}
 use Rattle.pop_instance.proofs.Raising.{unnamed_before}
 
--- no pair
-pub put_none : (place : ℕ) (rows : List (List ℕ)) → IsPut [] place rows rows
-put_none place rows = record { count_is = refl; each = λ v below. refl }
-
 -- the row of a variable before its pair
 pub row_before : (e : Cube) (i : ℕ) (p : ℕ × ℕ) (place : ℕ) (old rows : List (List ℕ))
     → IsStrictlyIncreasing (variables e) → slice_get e i ≡ Some p → p.0 < length old → IsPut (take i e) place old rows
@@ -51,8 +47,3 @@ put_more e i p place old rows rising at below put =
                 ∙ ap (λ b. cond b (Row (row_at old v)) (row_at old v)) (sym named)
           ];
     }
-
--- all pairs
-pub put_whole : (e : Cube) (i place : ℕ) (old rows : List (List ℕ)) → length e ≤ i → IsPut (take i e) place old rows
-    → IsPut e place old rows
-put_whole e i place old rows far put = subst (λ f. IsPut f place old rows) (take_all i e far) put

@@ -15,39 +15,7 @@ use Rattle.pop_instance.specs.ShiftedRows.{shifted, shifted_rows, AreKinds, IsKi
 pub shifted_back : (v x : ℕ) → v < 2 ^ 32 → x < 2 ^ 32 → (v + (x + (2 ^ 32 - v)) % 2 ^ 32) % 2 ^ 32 ≡ x
 shifted_back v x few small = omega arith
 
--- a shifted number
-pub number_shifted : (v : ℕ) (pattern : List ℕ) (i : ℕ) → i < length pattern
-    → get_or (shifted v pattern) i 0 ≡ (v + get_or pattern i 0) % 2 ^ 32
-number_shifted v pattern i within = get_or-map (λ x. (v + x) % 2 ^ 32) pattern i 0 0 within
-
--- there are as many
-pub length_shifted : (v : ℕ) (pattern : List ℕ) → length (shifted v pattern) ≡ length pattern
-length_shifted v pattern = length-map pattern (λ x. (v + x) % 2 ^ 32)
-
--- a row has a pattern where each of its numbers does
-pub shifted_same : (v : ℕ) (pattern row : List ℕ) → length pattern ≡ length row
-    → ((k : ℕ) → k < length row → (v + get_or pattern k 0) % 2 ^ 32 ≡ get_or row k 0) → shifted v pattern ≡ row
-shifted_same v pattern row size each =
-    same_number_lists (shifted v pattern) row (length_shifted v pattern ∙ size) (λ k inside.
-    let within : k < length pattern = omega (arith, inside, length_shifted v pattern) in
-    number_shifted v pattern k within ∙ each k (omega (arith, within, size)))
-
 -- ---- patterns
-
--- a pattern that is added takes none away
-pub stays_pushed : (old : List (List ℕ)) (pattern : List ℕ) → StaysIn old (old ++ pattern ∷ [])
-stays_pushed old pattern v row kind is = let known = is.known in record {
-  known = omega (arith, known, length_push old pattern);
-  is = ap (shifted v) (get_or_append_left old (pattern ∷ []) [] kind known) ∙ is.is;
-}
-
--- and is the last one
-pub kind_pushed : (v : ℕ) (row pattern : List ℕ) (old : List (List ℕ)) → shifted v pattern ≡ row
-    → IsKind v row (old ++ pattern ∷ []) (length old)
-kind_pushed v row pattern old is = record {
-  known = omega (arith, length_push old pattern);
-  is = ap (shifted v) (get_or_push old pattern [] (length old) refl) ∙ is;
-}
 
 -- ---- rows
 

@@ -23,14 +23,6 @@ pub no_front : (front l : List ℕ) → ((rest : List ℕ) → l ≡ front ++ re
     → l ≡ front ++ line (decimal n) → ⊥
 no_front front l none n small is = none (line (decimal n)) is
 
--- nor does one that goes on with no number
-pub no_count : (front l text : List ℕ) → l ≡ front ++ text
-    → ((n : ℕ) (rest : List ℕ) → BeginsWith (2 ^ 64) text n rest → ⊥)
-    → (n : ℕ) → n < 2 ^ 64 → l ≡ front ++ line (decimal n) → ⊥
-no_count front l text is none n small same =
-    let after : text ≡ decimal n ++ 10 ∷ [] = append_cancel_left front text (decimal n ++ 10 ∷ []) (sym is ∙ same) in
-    none n (10 ∷ []) (record { small = small; ends = sign 10 (inl (omega arith)); text_is = after })
-
 -- nor one that goes on behind its number
 pub no_count_end : (front l text rest : List ℕ) (m : ℕ) → l ≡ front ++ text → BeginsWith (2 ^ 64) text m rest
     → (rest ≡ 10 ∷ [] → ⊥) → (n : ℕ) → n < 2 ^ 64 → l ≡ front ++ line (decimal n) → ⊥
@@ -39,12 +31,6 @@ no_count_end front l text rest m is begins no_end n small same =
     let cut = number_cut m n rest (10 ∷ []) begins.small small begins.ends (sign 10 (inl (omega arith)))
     (sym begins.text_is ∙ after) in
     no_end cut.1
-
--- a line that is the first one of neither version
-pub no_head_of : (l : List ℕ) → ((n : ℕ) → n < 2 ^ 64 → l ≡ head_line n → ⊥)
-    → ((n : ℕ) → n < 2 ^ 64 → l ≡ layered_head n → ⊥) → (v : LogVersion) (n : ℕ) → n < 2 ^ 64 → l ≡ head_of v n → ⊥
-no_head_of l none none' Ordered n small is = none n small is
-no_head_of l none none' Layered n small is = none' n small is
 
 -- counts behind one front are the same
 one_count : (m n : ℕ) → m < 2 ^ 64 → n < 2 ^ 64 → decimal m ++ 10 ∷ [] ≡ decimal n ++ 10 ∷ [] → m ≡ n

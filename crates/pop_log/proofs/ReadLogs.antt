@@ -105,17 +105,6 @@ as_many names i version text s said all legal =
     let five = ap length all.said_are in
     omega (arith, one, two, three, four, five)
 
--- a record isn't legal
-pub illegal_read : (names : Names) (i : Instance) (version : LogVersion) (text : List ℕ) (s : Progress) (said : List ℕ)
-    → HasReadLines names i version text s said → s.stopped ≡ true → IsIllegalAt names i text (length s.log)
-illegal_read names i version text s said all stopped =
-    record {
-      version = version;
-      ws = all.ws;
-      lines = all.lines;
-      first = subst (HasRead names i (map (λ (w : Written). w.1) all.ws) s.log) stopped all.read;
-    }
-
 module _ (names : Names) (i : Instance) (text : List ℕ) (s : Progress) (said : List ℕ) where
   -- what was written is printed of the log
   read_printed : (version : LogVersion) (all : HasReadLines names i version text s said) → s.stopped ≡ false

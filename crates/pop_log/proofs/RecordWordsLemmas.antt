@@ -47,34 +47,6 @@ words_agree Layered l y z words others a b =
     (sign 32 (inl (omega arith))) even in
     (cut.0, tail_same 32 32 words others cut.1)
 
--- the words are a part of the line
-pub words_shorter : (version : LogVersion) (l : List ℕ) (y : ℕ) (words : List ℕ) → HasWords version l y words
-    → length words ≤ length l
-words_shorter Ordered l y words has =
-    let long = ap length has.1 in
-    let sum = length-append (codes "pop ") words in
-    omega (arith, long, sum)
-words_shorter Layered l y words has =
-    let long = ap length has.line_is in
-    let sum = length-append (codes "pop ") (decimal y ++ 32 ∷ words) in
-    let more = length-append (decimal y) (32 ∷ words) in
-    omega (arith, long, sum, more)
-
--- the layer is cut
-pub says_from : (l text behind rest : List ℕ) (y : ℕ) → l ≡ codes "pop " ++ text → BeginsWith (2 ^ 64) text y behind
-    → 0 < y → behind ≡ 32 ∷ rest → SaysLayer l y rest
-says_from l text behind rest y is begins some space =
-    record {
-      some = some;
-      small = begins.small;
-      line_is = is ∙ ap (λ t. codes "pop " ++ t) (begins.text_is ∙ ap (λ b. decimal y ++ b) space);
-    }
-
--- a line that doesn't begin with `pop ` says none
-pub says_front : (l : List ℕ) → ((text : List ℕ) → l ≡ codes "pop " ++ text → ⊥) → (y : ℕ) (rest : List ℕ)
-    → SaysLayer l y rest → ⊥
-says_front l none y rest says = none (decimal y ++ 32 ∷ rest) says.line_is
-
 -- what a line that says a layer begins with
 says_begins : (l text : List ℕ) → l ≡ codes "pop " ++ text → (y : ℕ) (rest : List ℕ) → SaysLayer l y rest
     → BeginsWith (2 ^ 64) text y (32 ∷ rest)
@@ -84,12 +56,6 @@ says_begins l text is y rest says =
       ends = sign 32 (inl (omega arith));
       text_is = append_cancel_left (codes "pop ") text (decimal y ++ 32 ∷ rest) (sym is ∙ says.line_is);
     }
-
--- nor does one that goes on with no number
-pub no_number : (l text : List ℕ) → l ≡ codes "pop " ++ text
-    → ((n : ℕ) (rest : List ℕ) → BeginsWith (2 ^ 64) text n rest → ⊥) → (y : ℕ) (rest : List ℕ)
-    → SaysLayer l y rest → ⊥
-no_number l text is none y rest says = none y (32 ∷ rest) (says_begins l text is y rest says)
 
 -- the layer of a line is the number behind `pop `
 same_number : (l text : List ℕ) (n : ℕ) (behind : List ℕ) → l ≡ codes "pop " ++ text → BeginsWith (2 ^ 64) text n behind

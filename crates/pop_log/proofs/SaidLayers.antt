@@ -43,10 +43,6 @@ pub record IsLayeredTo (log : List LogRecord) (ys said : List ℕ) (i : ℕ) : T
   pub in_layers : AreInLayers [] (take i (zip log said))
   pub same : take i (zip log said) ≡ take i (zip log ys)
 
--- at the start nothing is to be shown
-pub layered_none : (log : List LogRecord) (ys said : List ℕ) → AreLayers log ys → IsLayeredTo log ys said 0
-layered_none log ys said are = record { layers = are; in_layers = tt; same = refl }
-
 module _ (log : List LogRecord) (ys said : List ℕ) (i : ℕ) (to : IsLayeredTo log ys said i) (r : LogRecord)
     (y z : ℕ) (at : slice_get log i ≡ Some r) (own : slice_get ys i ≡ Some y) (is_said : slice_get said i ≡ Some z) where
   -- the record with the layer that is said, at its place

@@ -22,14 +22,6 @@ pub share_to : (e f : Cube) → Share e f → share e f ≡ true
 share_to e f (v, x, y, here, there) =
     list_any-from_Any (λ (p : ℕ × ℕ). names f p.0) e (here.0, (v, x), here.1, here.2, names_it f (v, y) there)
 
--- they share a variable or they don't
-pub cases_share : (e f : Cube) → Share e f ⊎ (Share e f → ⊥)
-cases_share e f =
-    (elim (share e f) as (λ b. share e f ≡ b → Share e f ⊎ (Share e f → ⊥)) [
-      | true ↦ λ test. inl (share_from e f test)
-      | false ↦ λ test. inr (λ h. let yes' = share_to e f h in absurd (cc))
-    ]) refl
-
 -- where one cube shares a variable with another, so does the other with it
 pub Share-sym : (e f : Cube) → Share e f → Share f e
 Share-sym e f (v, x, y, here, there) = (v, y, x, there, here)

@@ -44,10 +44,6 @@ pub record PlacedBelow (n root v : ℕ) (values places : List ℕ) : Type 0 wher
   pub count : length places ≡ n
   pub each : (u : ℕ) → u < v → get_or places (vertex_of root u - 1) 0 ≡ get_or values u 0 + 1
 
--- before the first variable
-pub placed_none : (n root : ℕ) (values : List ℕ) → PlacedBelow n root 0 values (replicate n 0)
-placed_none n root values = record { count = length-replicate n 0; each = λ u less. absurd (omega (arith, less)) }
-
 -- with a variable more
 pub placed_more : (n root v w x : ℕ) (values places : List ℕ) → IsVertex n root → v + 1 < n → w ≡ vertex_of root v
     → x ≡ get_or values v 0 → PlacedBelow n root v values places

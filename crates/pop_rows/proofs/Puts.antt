@@ -55,10 +55,6 @@ pub record CountPuts (n : ℕ) (puts : List (ℕ × ℕ)) (rooms : List ℕ) : T
   pub size : length rooms ≡ n
   pub each : (v : ℕ) → v < n → get_or rooms v 0 ≡ length (put_into v puts)
 
--- nothing came
-pub counts_none : (n : ℕ) → CountPuts n [] (replicate n 0)
-counts_none n = record { size = length-replicate n 0; each = λ v below. get_or-replicate n v 0 0 below }
-
 -- a number more came
 pub counts_more : (n v x : ℕ) (puts : List (ℕ × ℕ)) (rooms : List ℕ) → v < n → CountPuts n puts rooms
     → CountPuts n (puts ++ (v, x) ∷ []) (set rooms v (get_or rooms v 0 + 1))

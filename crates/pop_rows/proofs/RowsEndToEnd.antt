@@ -26,16 +26,6 @@ pub row_there : (starts items : List ℕ) (rows : List (List ℕ)) (v : ℕ) →
     → v < length rows → v + 1 < length starts
 row_there starts items rows v are below = omega (arith, below, length-rows_between starts items, ap length are)
 
--- no rows
-pub none_laid : AreEndToEnd (0 ∷ []) []
-none_laid = record {
-  some = omega arith;
-  few = omega arith;
-  short = omega arith;
-  rising = λ v below. absurd (omega arith);
-  last = omega arith;
-}
-
 module _ (starts items : List ℕ) (laid : AreEndToEnd starts items) where
   -- starts rise, by so many places
   starts_rise : (v k : ℕ) → v + k < length starts → get_or starts v 0 ≤ get_or starts (v + k) 0

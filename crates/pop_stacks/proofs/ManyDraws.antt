@@ -70,22 +70,6 @@ pass_turn sums n m place rising within passed =
           }
     ]
 
--- the end, where m is below the last sum
-pub passed_all : (sums : List ℕ) (m place : ℕ) → 0 < length sums → m < get_or sums (length sums - 1) 0
-    → IsPassed sums (length sums - 1) m place → IsFirstAbove sums m place
-passed_all sums m place some below passed =
-    let reached = passed.reached in
-    record {
-      within = omega arith;
-      above = elim (cases_lt place (length sums - 1)) [
-        | inl before ↦ passed.above before
-        | inr after ↦
-            let here : length sums - 1 ≡ place = omega arith in
-            subst (λ k. m < get_or sums k 0) here below
-      ];
-      least = passed.least;
-    }
-
 -- no place has moved yet
 pub none_passed : (sums : List ℕ) (m place : ℕ) → place ≡ 0 → IsPassed sums 0 m place
 none_passed sums m place start = record {

@@ -40,14 +40,6 @@ pub record ArePut (s now : List ℕ) (e : Cube) (y : ℕ) : Type 0 where
   pub size : length now ≡ length s
   pub each : (k : ℕ) → k < length s → get_or now k 0 ≡ put_so_far s e y k
 
--- no variable yet
-pub put_none : (s : List ℕ) (y : ℕ) → ArePut s s [] y
-put_none s y = record { size = refl; each = each }
-  where
-    each : (k : ℕ) → k < length s → get_or s k 0 ≡ put_so_far s [] y k
-    each zero within = refl
-    each (suc v) within = refl
-
 -- one variable more
 pub put_more : (s now : List ℕ) (e : Cube) (y i v x : ℕ) → i < length e → get_or e i (v, x) ≡ (v, x)
     → v + 1 < length s → ArePut s now (take i e) y → ArePut s (set now (v + 1) y) (take (i + 1) e) y

@@ -1,5 +1,4 @@
 mod Counted
-mod Digits
 mod UpToLast
 mod LayerSteps
 mod Vectors

@@ -13,14 +13,6 @@ in_front front read = option_map (λ ys. front ++ ys) read
 pub record HasRead {X Y : Type 0} (f : X → Option Y) (parts : List X) (n : ℕ) (front : List Y) : Type 0 where
   pub whole : all_some f parts ≡ in_front front (all_some f (drop n parts))
 
--- before the first part nothing is read
-pub none_read : {X Y : Type 0} (f : X → Option Y) (parts : List X) → HasRead f parts 0 []
-none_read f parts = record { whole = same (all_some f parts) }
-  where
-    same : {Y : Type 0} (read : Option (List Y)) → read ≡ in_front [] read
-    same None = refl
-    same (Some ys) = refl
-
 -- the front, before a part and what is read behind it
 step : {Y : Type 0} (front : List Y) (y : Y) (read : Option (List Y))
     → in_front front (cons_some (Some y) read) ≡ in_front (front ++ y ∷ []) read

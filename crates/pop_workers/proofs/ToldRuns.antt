@@ -29,14 +29,6 @@ pub is_told : (i : Instance) (reached : Reached) (stuck : List Event) (values : 
 is_told i reached stuck values run is list at =
     subst (IsTold i reached) (sym is) (record { are = refl; stuck_list = list; values = at })
 
--- and is a run from where it began
-pub told_gone : (i : Instance) (start : List ℕ) (keeps : Bool) (opening ended : Reached) (stuck : List Event)
-    (values : List ℕ) (run : Run) → IsReached i start keeps opening → GoesOn i opening ended → ended.suspects ≡ []
-    → IsStuckList i ended.cursors stuck → AreValuesAt i.stacks ended.cursors values
-    → run ≡ told_as ended stuck values → IsRunOf i start keeps run
-told_gone i start keeps opening ended stuck values run opens on none list at is =
-    gone_run i start keeps opening ended run opens on none (is_told i ended stuck values run is list at)
-
 -- and is where the run went on to
 pub told_on : (i : Instance) (opening left : Reached) (stuck : List Event) (values : List ℕ) (run : Run)
     → GoesOn i opening left → left.suspects ≡ [] → run ≡ told_as left stuck values → GoesOn i opening (ended run)

@@ -111,12 +111,6 @@ first_bad bytes l rest cut none =
     head_bad (lines_with_ends bytes) 1 (bad_line MayBeCommand command_line (λ c. StacksBegin (has_root c)) command_same
     (λ c may. stacks_live (has_root c)) Formula formula_may bytes l rest cut none)
 
--- a refusal of the lines behind it is early
-pub is_early : (rooted : Bool) (rest : List ℕ) (refusal : CertRefusal) → IsBadLine (StacksBegin rooted) rest refusal
-    → IsEarly refusal
-is_early rooted rest (Malformed place code) bad = bad.2
-is_early rooted rest OutOfMemory bad = tt
-
 -- and is that of all lines, a line later
 pub later_bad : (bytes l rest : List ℕ) (c : Command) (refusal new : CertRefusal) → bytes ≡ l ++ rest
     → LinesOf bytes l rest → MayBeCommand c → l ≡ command_line c → IsBadLine (StacksBegin (has_root c)) rest refusal
@@ -161,15 +155,3 @@ cut_short bytes c s h t has few = record {
   few = few;
   line_is = has.count;
 }
-
--- the certificate was read
-pub cert_read : (bytes : List ℕ) (c : Command) (s : StackSpec) (h : ℕ) (t : Tail) (input log_text : List ℕ)
-    → HasHead bytes c s h t → t.rest.now ≡ input ++ log_text → length input ≡ t.size
-    → IsCertOf bytes (cert_made (head_made c s h t.root (length input)) input log_text)
-cert_read bytes c s h t input log_text has rest size =
-    let head = subst (λ n. IsHead (head_made c s h t.root n)) (sym size) has.head in
-    record {
-      is = record { head = head; size = refl };
-      text_is = has.bytes_are
-          ∙ ap₂ (λ (m : ℕ) (x : List ℕ). concat (head_lines (head_made c s h t.root m)) ++ x) (sym size) rest;
-    }

@@ -45,23 +45,3 @@ joined_more sign f xs k d old out mid new within so_far signed pushed =
     count f [] (suc k) within = absurd (omega (arith, within))
     count f (x ∷ xs) zero within = refl
     count f (x ∷ xs) (suc k) within = ap suc (count f xs k (omega (arith, within)))
-
--- rows with what stands before the first
-pub rows_are : (rows : List (List ℕ))
-    → rows_text rows ≡ cond (ltb 0 (length rows)) (32 ∷ []) [] ++ join_with_byte 59 (map row_text rows)
-rows_are [] = refl
-rows_are (row ∷ rows) =
-    ap (λ b. cond b (32 ∷ []) [] ++ join_with_byte 59 (map row_text (row ∷ rows)))
-    (sym (lt-ltb 0 (length (row ∷ rows)) (omega arith)))
-
--- the parts of a certificate as they are written one behind another
-pub parts_joined : (c : List ℕ) (ss rs : List (List ℕ)) (n x y : List ℕ)
-    → ((((c ++ concat ss) ++ concat rs) ++ n) ++ x) ++ y ≡ concat (c ∷ ss ++ (rs ++ n ∷ [])) ++ (x ++ y)
-parts_joined c ss rs n x y =
-    let last : concat (rs ++ n ∷ []) ≡ concat rs ++ n =
-    concat-append rs (n ∷ []) ∙ ap (λ l. concat rs ++ l) (append-nil n) in
-    let whole : concat (c ∷ ss ++ (rs ++ n ∷ [])) ≡ c ++ (concat ss ++ (concat rs ++ n)) =
-    ap (λ l. c ++ l) (concat-append ss (rs ++ n ∷ []) ∙ ap (λ l. concat ss ++ l) last) in
-    append_assoc (((c ++ concat ss) ++ concat rs) ++ n) x y
-    ∙ ap (λ l. l ++ (x ++ y)) (append_assoc (c ++ concat ss) (concat rs) n ∙ append_assoc c (concat ss) (concat rs ++ n)
-    ∙ sym whole)
