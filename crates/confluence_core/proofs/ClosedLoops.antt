@@ -6,7 +6,7 @@ use Rattle.std.proofs.lemmas.List.{get_or-take, get_or-drop, get_or_default, len
 use Rattle.pop_model.specs.Popping.{Cube, names}
 use Rattle.pop_model.specs.Cycles.{IsCycle, demand}
 use Rattle.pop_model.proofs.Following.{demand_named, named_demand, rising_demand, demand_contains}
-use Rattle.pop_model.proofs.Loops.{loop_cube, Distinct, loop_only, loop_has}
+use Rattle.pop_model.proofs.Loops.{loop_cube, Distinct, StandsIn, loop_only, loop_has}
 use Rattle.pop_model.proofs.MadeCycles.{IsLoop, loop_is_cycle}
 use Rattle.confluence_core.specs.CycleTables.{CycleTable, current_slot, current_head}
 use Rattle.confluence_core.specs.Loops.{AreMembers, IsCubeOf}
@@ -47,116 +47,92 @@ pub record ClosesLoop (t : CycleTable) (c path : List ℕ) (depth place : ℕ) :
   pub back : current_head t c (get_or path depth 0) ≡ Some (get_or path place 0)
 
 -- so do they where a path closes
-pub closes_loop : (t : CycleTable) (c marks path : List ℕ) (depth place : ℕ) → Closes t c marks path depth place
+pub closes_loop : {t : CycleTable} {c marks path : List ℕ} {depth place : ℕ} → Closes t c marks path depth place
     → ClosesLoop t c path depth place
-closes_loop t c marks path depth place is = record {
+closes_loop is = record {
   order = is.order;
   below = λ k from within. is.trail.below k (omega arith);
-  distinct = λ j k from less within.
-      path_distinct t c marks path (suc depth) is.trail j k (omega arith) less (omega arith);
+  distinct = λ j k from less within. path_distinct is.trail j k (omega arith) less (omega arith);
   leads = λ k from less. is.trail.leads k (omega arith);
   back = is.back;
 }
 
-loop_distinct : (t : CycleTable) (c path : List ℕ) (depth place : ℕ) → ClosesLoop t c path depth place
-    → Distinct (at_place path) place (suc (depth - place))
-loop_distinct t c path depth place is a b from less below =
-    let order = is.order in is.distinct a b from less (omega arith)
+module _ (t : CycleTable) (c path : List ℕ) (depth place : ℕ) (within : depth < length path)
+    (is : ClosesLoop t c path depth place) where
+  loop_distinct : Distinct (at_place path) place (suc (depth - place))
+  loop_distinct a b from less below = let order = is.order in is.distinct a b from less (omega arith)
 
-loop_leads : (t : CycleTable) (c path : List ℕ) (depth place : ℕ) → ClosesLoop t c path depth place
-    → IsLoop t.heads (current_slot t c) (at_place path) place (depth - place)
-loop_leads t c path depth place is =
-    let order = is.order in
-    let last : depth ≡ place + (depth - place) = omega arith in
-    record {
-      distinct = loop_distinct t c path depth place is;
-      leads = λ k from less. is.leads k from (omega arith);
-      closes = subst (λ n. current_head t c (get_or path n 0) ≡ Some (get_or path place 0)) last is.back;
-    }
+  loop_leads : IsLoop t.heads (current_slot t c) (at_place path) place (depth - place)
+  loop_leads =
+      let order = is.order in
+      let last : depth ≡ place + (depth - place) = omega arith in
+      record {
+        distinct = loop_distinct;
+        leads = λ k from less. is.leads k from (omega arith);
+        closes = subst (λ n. current_head t c (get_or path n 0) ≡ Some (get_or path place 0)) last is.back;
+      }
 
--- each of its variables has its current slot there
-loop_demands : (t : CycleTable) (c path : List ℕ) (depth place : ℕ) → ClosesLoop t c path depth place
-    → (k : ℕ) → place ≤ k → k ≤ depth
-    → demand (loop_of t c path depth place) (get_or path k 0) ≡ Some (current_slot t c (get_or path k 0))
-loop_demands t c path depth place is k from below =
-    loop_has (current_slot t c) (at_place path) place (suc (depth - place))
-    (loop_distinct t c path depth place is) k from (omega arith)
+  -- each of its variables has its current slot there
+  loop_demands : (k : ℕ) → place ≤ k → k ≤ depth
+      → demand (loop_of t c path depth place) (get_or path k 0) ≡ Some (current_slot t c (get_or path k 0))
+  loop_demands k from below =
+      loop_has (current_slot t c) (at_place path) place (suc (depth - place)) loop_distinct k from (omega arith)
 
--- and it has no others
-record StandsAt (t : CycleTable) (c path : List ℕ) (depth place v x : ℕ) : Type 0 where
-  at : ℕ
-  from : place ≤ at
-  below : at ≤ depth
-  is : get_or path at 0 ≡ v
-  value : current_slot t c v ≡ x
+  -- and it has no others
+  loop_demanded : (v x : ℕ) → demand (loop_of t c path depth place) v ≡ Some x
+      → StandsIn (current_slot t c) (at_place path) place (suc (depth - place)) v x
+  loop_demanded = loop_only (current_slot t c) (at_place path) place (suc (depth - place)) loop_distinct
 
-loop_demanded : (t : CycleTable) (c path : List ℕ) (depth place : ℕ) → ClosesLoop t c path depth place
-    → (v x : ℕ) → demand (loop_of t c path depth place) v ≡ Some x → StandsAt t c path depth place v x
-loop_demanded t c path depth place is v x demanded =
-    let order = is.order in
-    let stands = loop_only (current_slot t c) (at_place path) place (suc (depth - place))
-    (loop_distinct t c path depth place is) v x demanded in
-    record {
-      at = stands.place;
-      from = stands.from;
-      below = omega (arith, stands.below);
-      is = stands.is;
-      value = sym stands.value;
-    }
-
--- such variables are a loop
-pub closed : (t : CycleTable) (c path : List ℕ) (depth place : ℕ) → depth < length path
-    → ClosesLoop t c path depth place → IsClosed t c path depth place (loop_of t c path depth place)
-closed t c path depth place within is =
-    let e = loop_of t c path depth place in
-    let order = is.order in
-    let end : depth + 1 ≤ length path = omega arith in
-    let members : List ℕ = slice_range path place (depth + 1) in
-    let size : length members ≡ depth + 1 - place = range_length path place (depth + 1) end in
-    let at : (k : ℕ) → k < length members → get_or members k 0 ≡ get_or path (place + k) 0 =
-    λ k less. range_at path place (depth + 1) k (omega (arith, size)) in
-    let cycle : IsCycle t.heads e =
-    loop_is_cycle t.heads (current_slot t c) (at_place path) place (depth - place)
-    (loop_leads t c path depth place is) in
-    let on_path : (v : ℕ) → Contains members v → (k : ℕ) × (place ≤ k) × (k ≤ depth) × (get_or path k 0 ≡ v) =
-    λ v has. let there = place_of members v has in
-    (place + there.0, omega arith, omega (arith, size, there.1), sym (at there.0 there.1) ∙ there.2) in
-    let member : (k : ℕ) → place ≤ k → k ≤ depth → Contains members (get_or path k 0) =
-    λ k from below. let less : k - place < length members = omega (arith, size) in
-    let sum : place + (k - place) ≡ k = omega arith in
-    subst (Contains members) (at (k - place) less ∙ ap (at_place path) sum) (member_at members (k - place) less) in
-    record {
-      members = record {
-        some = omega (arith, size);
-        known = λ k d less. subst (λ u. u < length t.heads)
-            (sym (get_or_default members k d 0 less ∙ at k less)) (is.below (place + k) (omega arith)
-            (omega (arith, size)));
-        differ = λ i j d less below same.
-            is.distinct (place + i) (place + j) (omega arith) (omega arith) (omega (arith, size))
-            (sym (get_or_default members i d 0 (omega arith) ∙ at i (omega arith)) ∙ same
-            ∙ get_or_default members j d 0 below ∙ at j below);
-      };
-      short = omega (arith, size);
-      cube = record {
-        cube = cycle.cube;
-        exact = λ v x. (
-          λ has.
-              let stands = loop_demanded t c path depth place is v x
-              (rising_demand e v x cycle.cube.rising has) in
-              (subst (Contains members) stands.is (member stands.at stands.from stands.below), stands.value),
-          λ both.
-              let there = on_path v both.0 in
-              let demanded : demand e v ≡ Some (current_slot t c v) =
-              subst (λ u. demand e u ≡ Some (current_slot t c u)) there.3
-              (loop_demands t c path depth place is there.0 there.1 there.2) in
-              demand_contains e v x (demanded ∙ ap (λ y. Some y) both.1),
-        );
-      };
-      cycle = cycle;
-      on = λ k from below. demand_named e (get_or path k 0) (current_slot t c (get_or path k 0))
-          (loop_demands t c path depth place is k from below);
-      on_only = λ v there.
-          let x = named_demand e v there in
-          let stands = loop_demanded t c path depth place is v x.0 x.1 in
-          (stands.at, stands.from, stands.below, stands.is);
-    }
+  -- such variables are a loop
+  pub closed : IsClosed t c path depth place (loop_of t c path depth place)
+  closed =
+      let e = loop_of t c path depth place in
+      let order = is.order in
+      let members : List ℕ = slice_range path place (depth + 1) in
+      let size : length members ≡ depth + 1 - place = range_length path place (depth + 1) (omega arith) in
+      let at : (k : ℕ) → k < length members → get_or members k 0 ≡ get_or path (place + k) 0 =
+      λ k less. range_at path place (depth + 1) k (omega (arith, size)) in
+      let cycle : IsCycle t.heads e =
+      loop_is_cycle t.heads (current_slot t c) (at_place path) place (depth - place) loop_leads in
+      let member : (k : ℕ) → place ≤ k → k ≤ depth → Contains members (get_or path k 0) =
+      λ k from below. let less : k - place < length members = omega (arith, size) in
+      let sum : place + (k - place) ≡ k = omega arith in
+      subst (Contains members) (at (k - place) less ∙ ap (at_place path) sum) (member_at members (k - place) less) in
+      record {
+        members = record {
+          some = omega (arith, size);
+          known = λ k d less. subst (λ u. u < length t.heads)
+              (sym (get_or_default members k d 0 less ∙ at k less)) (is.below (place + k) (omega arith)
+              (omega (arith, size)));
+          differ = λ i j d less below same.
+              is.distinct (place + i) (place + j) (omega arith) (omega arith) (omega (arith, size))
+              (sym (get_or_default members i d 0 (omega arith) ∙ at i (omega arith)) ∙ same
+              ∙ get_or_default members j d 0 below ∙ at j below);
+        };
+        short = omega (arith, size);
+        cube = record {
+          cube = cycle.cube;
+          exact = λ v x. (
+            λ has.
+                let stands = loop_demanded v x (rising_demand e v x cycle.cube.rising has) in (
+                  subst (Contains members) stands.is
+                      (member stands.place stands.from (omega (arith, stands.below))),
+                  sym stands.value,
+                ),
+            λ both.
+                let there = place_of members v both.0 in
+                let is_at = sym (at there.0 there.1) ∙ there.2 in
+                let demanded : demand e v ≡ Some (current_slot t c v) =
+                subst (λ u. demand e u ≡ Some (current_slot t c u)) is_at
+                (loop_demands (place + there.0) (omega arith) (omega (arith, size, there.1))) in
+                demand_contains e v x (demanded ∙ ap (λ y. Some y) both.1),
+          );
+        };
+        cycle = cycle;
+        on = λ k from below.
+            demand_named e (get_or path k 0) (current_slot t c (get_or path k 0)) (loop_demands k from below);
+        on_only = λ v there.
+            let x = named_demand e v there in
+            let stands = loop_demanded v x.0 x.1 in
+            (stands.place, stands.from, omega (arith, stands.below), stands.is);
+      }

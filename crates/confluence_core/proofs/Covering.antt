@@ -12,35 +12,23 @@ use Rattle.pop_model.specs.Families.{AreEvents}
 use Rattle.pop_model.proofs.Diamond.{Apart, apart_from, named, names_it, poppable_before}
 use Rattle.pop_instance.specs.Events.{cube_at}
 use Rattle.pop_instance.specs.Index.{IsIndex}
-use Rattle.confluence_core.specs.Suspects.{MissesNone}
 use Rattle.confluence_core.specs.Search.{IsPoppableAt, Covers, IsNextPlace}
-use Rattle.confluence_core.specs.WorkList.{Waiting, Gains, GainsSharing}
-use Rattle.confluence_core.proofs.Places.{listed, event_at, event_from, event_to}
-
--- suspects that miss no poppable event cover them
-pub covers_from : (s : StackTable) (c : List ℕ) (rows : List (ℕ × Cube)) (suspects : List ℕ)
-    → MissesNone (listed s rows) c suspects
-    → Covers s c rows suspects
-covers_from s c rows suspects none place within pop =
-    none (event_at rows place) (event_from rows (event_at rows place) within refl) pop
-
--- and what covers them misses none
-pub covers_to : (s : StackTable) (c : List ℕ) (rows : List (ℕ × Cube)) (suspects : List ℕ) → Covers s c rows suspects
-    → MissesNone (listed s rows) c suspects
-covers_to s c rows suspects covers e is pop =
-    let at = event_to rows e is in covers e.unit at.within (subst (IsPoppable s c) (sym at.cube) pop)
+use Rattle.confluence_core.specs.WorkList.{Waiting, GainsSharing}
+use Rattle.confluence_core.proofs.Places.{event_at, event_from, event_to}
 
 -- a place that is not poppable may go
 pub covers_rest : (s : StackTable) (c : List ℕ) (rows : List (ℕ × Cube)) (list : List ℕ) (place : ℕ)
     → Covers s c rows (list ++ place ∷ [])
     → (IsPoppableAt s c rows place → ⊥) → Covers s c rows list
-covers_rest s c rows list place covers not q within pop =
-    elim (Contains-push_cases list place q (covers q within pop)) [
+covers_rest s c rows list place covers not e is pop =
+    elim (Contains-push_cases list place e.unit (covers e is pop)) [
       | inl before ↦ before
-      | inr is ↦ absurd (not (subst (IsPoppableAt s c rows) (sym is) pop))
+      | inr here ↦
+          let cube : e.cube ≡ cube_at rows place = sym (event_to rows e is).cube ∙ ap (cube_at rows) (sym here) in
+          absurd (not (subst (IsPoppable s c) cube pop))
     ]
 
-module _ (s : StackTable) (c : List ℕ) (rows : List (ℕ × Cube)) (index : List (List ℕ)) (place : ℕ) (old new : Waiting)
+module _ {s : StackTable} {c : List ℕ} {rows : List (ℕ × Cube)} {index : List (List ℕ)} (place : ℕ) {old new : Waiting}
     (are : AreEvents rows) (indexed : IsIndex rows index) (next : IsNextPlace s c rows old.list place)
     (gains : GainsSharing old new index (cube_at rows place)) where
   -- an event that shares a variable is put into the list
@@ -76,7 +64,8 @@ module _ (s : StackTable) (c : List ℕ) (rows : List (ℕ × Cube)) (index : Li
       let e : Cube = cube_at rows place in
       let f : Cube = cube_at rows q in
       let apart : Apart e f = apart_from e f (λ v is. let x = named f v is in unnamed f none (v, x.0) x.1) in
-      elim (Contains-push_cases old.list place q (next.others q within (poppable_before s c e f apart after))) [
+      elim (Contains-push_cases old.list place q (next.others (event_at rows q)
+      (event_from rows (event_at rows q) within refl) (poppable_before s c e f apart after))) [
         | inl before ↦ gains.kept q before
         | inr is ↦
             let p : ℕ × ℕ = get_or f 0 (0, 0) in
@@ -87,7 +76,10 @@ module _ (s : StackTable) (c : List ℕ) (rows : List (ℕ × Cube)) (index : Li
 
   -- the list covers the events that are poppable after the pop
   pub covers_pop : Covers s (pop c (cube_at rows place)) rows new.list
-  covers_pop q within after = elim (cases_Bool (list_any (λ p. names (cube_at rows place) p.0) (cube_at rows q))) [
-    | inl shares ↦ covers_sharing q within shares
-    | inr none ↦ covers_apart q within none after
-  ]
+  covers_pop e is after =
+      let at = event_to rows e is in
+      let there = subst (IsPoppable s (pop c (cube_at rows place))) (sym at.cube) after in
+      elim (cases_Bool (list_any (λ p. names (cube_at rows place) p.0) (cube_at rows e.unit))) [
+        | inl shares ↦ covers_sharing e.unit at.within shares
+        | inr none ↦ covers_apart e.unit at.within none there
+      ]

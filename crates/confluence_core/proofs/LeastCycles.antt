@@ -2,7 +2,6 @@
 use Rattle.std.proofs.Common.{◌≡◌, ℕ, ◌≤◌, true, List, length, sym, subst, ◌∙◌, arith}
 use Rattle.pop_model.specs.Popping.{Cube, Occurs, names}
 use Rattle.pop_model.specs.Cycles.{IsCycle, first_of}
-use Rattle.pop_model.specs.Families.{Event}
 use Rattle.pop_model.proofs.CycleFamily.{first_named, same_cycle, Agree}
 use Rattle.pop_model.proofs.Loops.{path_short}
 use Rattle.pop_model.proofs.TreeEnd.{occurs_demand}
@@ -15,9 +14,6 @@ pub members_short : (t : CycleTable) (members : List ℕ) → AreMembers t membe
 members_short t members are =
     path_short (at_place members) 0 (length members) (length t.heads)
     (λ j k from less below. are.differ j k 0 less (omega arith)) (λ k from less. are.known k 0 (omega arith))
-
-unfoldable pub event_with : ℕ → Cube → Event
-event_with u e = record { unit = u; cube = e }
 
 -- cycles that occur and have one least variable are one
 pub one_cycle : (t : CycleTable) (c : List ℕ) (e f : Cube) → IsCycle t.heads e → IsCycle t.heads f → Occurs t.stacks c e

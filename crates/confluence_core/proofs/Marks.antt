@@ -1,5 +1,5 @@
 -- A work list with a mark for each unit that waits.
-use Rattle.std.proofs.Common.{inl, inr, ◌≡◌, ◌≢◌, ℕ, ◌+◌, ◌<◌, Bool, true, List, [], ◌∷◌, ◌++◌, length, take, set, get_or, Some, slice_get, refl, sym, ap, subst, ◌∙◌, arith, All, Contains, get_or-set_other}
+use Rattle.std.proofs.Common.{inl, inr, ◌≡◌, ◌≢◌, ℕ, ◌+◌, ◌<◌, Bool, true, List, [], ◌∷◌, ◌++◌, length, take, set, get_or, Some, slice_get, sym, ap, subst, ◌∙◌, arith, All, Contains, get_or-set_other}
 use Rattle.std.proofs.lemmas.Bool.{cases_eq, cases_lt}
 use Rattle.std.proofs.lemmas.List.{length-set, take_more}
 use Rattle.std.proofs.lemmas.List.Elements.{All-push, All-weaker, All-head, Contains-push, Contains-append_left}
@@ -31,16 +31,15 @@ marked_more list marks unit within old = record {
 }
 
 -- one unit more is gained
-pub gains_more : (a b c : Waiting) (xs : List ℕ) (i : ℕ) (x d : ℕ) → i < length xs → get_or xs i d ≡ x
-    → Gains a b (take i xs) → Gains b c (x ∷ [])
-    → Gains a c (take (i + 1) xs)
-gains_more a b c xs i x d within is old new = record {
+pub gains_more : {a b c : Waiting} (xs : List ℕ) (i d : ℕ) → i < length xs → Gains a b (take i xs)
+    → Gains b c (get_or xs i d ∷ []) → Gains a c (take (i + 1) xs)
+gains_more {b = b} {c} xs i d within old new = record {
   units = new.units ∙ old.units;
   kept = λ u has. new.kept u (old.kept u has);
   gained = subst (All (Contains c.list)) (sym (take_more xs i d within))
       (All-push (Contains c.list) (take i xs) (get_or xs i d)
       (All-weaker (Contains b.list) (Contains c.list) new.kept (take i xs) old.gained)
-      (subst (Contains c.list) (sym is) (All-head (Contains c.list) x [] new.gained)));
+      (All-head (Contains c.list) (get_or xs i d) [] new.gained));
 }
 
 -- the units of one pair more are gained

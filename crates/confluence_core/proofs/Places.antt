@@ -11,7 +11,7 @@ use Rattle.pop_model.specs.Logs.{IsLegalAt}
 use Rattle.pop_model.specs.Runs.{IsEnd, IsFirstPoppable}
 use Rattle.pop_instance.specs.Events.{cube_at}
 use Rattle.confluence_core.specs.Records.{record_at}
-use Rattle.confluence_core.specs.Search.{NoneBefore, IsFirstPlace}
+use Rattle.confluence_core.specs.Search.{NoneBefore}
 
 -- the instance of listed events
 abbrev pub listed : StackTable → List (ℕ × Cube) → Instance
@@ -47,15 +47,15 @@ end_from s c rows none e is pop =
     let at = event_to rows e is in none e.unit at.within (subst (IsPoppable s c) (sym at.cube) pop)
 
 -- the event at the first place that is poppable is the first poppable one
-pub first_from : (s : StackTable) (c : List ℕ) (rows : List (ℕ × Cube)) (place : ℕ) → IsFirstPlace s c rows place
+pub first_from : (s : StackTable) (c : List ℕ) (rows : List (ℕ × Cube)) (place : ℕ) → place < length rows
+    → IsPoppable s c (cube_at rows place) → NoneBefore s c rows place
     → IsFirstPoppable (listed s rows) c (event_at rows place)
-first_from s c rows place first = record {
-  event = event_from rows (event_at rows place) first.within refl;
-  poppable = first.least.holds;
+first_from s c rows place within poppable none = record {
+  event = event_from rows (event_at rows place) within refl;
+  poppable = poppable;
   least = λ f is pop. elim (cases_lt f.unit place) [
     | inl before ↦
-        let at = event_to rows f is in
-        absurd (first.least.none_before f.unit before (subst (IsPoppable s c) (sym at.cube) pop))
+        let at = event_to rows f is in absurd (none f.unit before (subst (IsPoppable s c) (sym at.cube) pop))
     | inr after ↦ after
   ];
 }

@@ -5,7 +5,7 @@ use Rattle.std.proofs.lemmas.List.{append-nil, append_assoc, length-append}
 use Rattle.std.specs.List.{range_with_len}
 use Rattle.std.specs.Option.{is_some}
 use Rattle.pop_model.specs.Stacks.{StackTable, variables_of, Extends}
-use Rattle.pop_model.specs.Popping.{Cube, Occurs, NamesBelow, AreWithin, AreValuesAt, cursor, pop}
+use Rattle.pop_model.specs.Popping.{Cube, Occurs, NamesBelow, AreWithin, cursor, pop}
 use Rattle.pop_model.specs.Families.{Event, Family, units_of}
 use Rattle.pop_model.specs.Families.Family.{Listed, Cycles}
 use Rattle.pop_model.specs.Instances.{Instance, IsInstance}
@@ -16,7 +16,7 @@ use Rattle.pop_model.proofs.FirstRun.{first_run}
 use Rattle.pop_model.proofs.Replays.{length-replay, start_count, start_within}
 use Rattle.pop_model.proofs.Room.{left_from}
 use Rattle.pop_model.proofs.TallerStacks.{legal_extends}
-use Rattle.confluence_core.specs.Runs.{IsRunOf, ended}
+use Rattle.confluence_core.specs.Runs.{IsRunOf}
 use Rattle.confluence_core.specs.Stretches.{LeadsOn, CanGoOn, GoesOn, IsReached, HasCome, IsTold, before_pops, both_logs, joined, with_more}
 use Rattle.confluence_core.specs.Suspects.{IsSuspected, MissesNone}
 use Rattle.confluence_core.specs.declared.reached.Reached.{Reached}
@@ -148,9 +148,9 @@ reached_opening i keeps zeros suspects instance are all =
     (reached_starting i keeps (start_of i) suspects (start_count i) (start_within i instance) all)
 
 -- the pops made and those to come fit a count
-pub reached_room : (i : Instance) (start : List ℕ) (keeps : Bool) (reached : Reached) → IsInstance i
-    → IsReached i start keeps reached → reached.pops + left_from i.stacks 0 reached.cursors < 2 ^ 62
-reached_room i start keeps reached instance is =
+pub come_room : (i : Instance) (reached : Reached) → IsInstance i → HasCome i reached
+    → reached.pops + left_from i.stacks 0 reached.cursors < 2 ^ 62
+come_room i reached instance (start, keeps, is) =
     let log = is.leads.log in
     let count : variables_of i.stacks ≡ length start =
     is.can.count ∙ ap length is.leads.cursors_are ∙ length-replay start log in
@@ -158,10 +158,6 @@ reached_room i start keeps reached instance is =
     let fits = pops_fit i.stacks start instance.table count in
     let same = ap (left_from i.stacks 0) is.leads.cursors_are in
     omega (arith, room, fits, same, is.leads.pops_are)
-
-pub come_room : (i : Instance) (reached : Reached) → IsInstance i → HasCome i reached
-    → reached.pops + left_from i.stacks 0 reached.cursors < 2 ^ 62
-come_room i reached instance (start, keeps, is) = reached_room i start keeps reached instance is
 
 -- a run that has come so far can go on
 pub come_can : (i : Instance) (reached : Reached) → HasCome i reached → CanGoOn i reached
@@ -212,21 +208,16 @@ first_end_of i start keeps reached stuck is end list extremal zeros =
 pub told_run : (i : Instance) (start : List ℕ) (keeps : Bool) (reached : Reached) (run : Run)
     → IsReached i start keeps reached → reached.suspects ≡ [] → IsTold i reached run → IsRunOf i start keeps run
 told_run i start keeps reached run is none told =
-    let end = unsuspected_end i reached.cursors reached.suspects none is.can.suspects in
     let here : Reached = record reached { suspects = [] } in
-    let at : ended run ≡ here = ap ended told.are in
-    let reached' : IsReached i start keeps here =
+    let there : IsReached i start keeps here =
     subst (λ us. IsReached i start keeps (record reached { suspects = us })) none is in
-    let there : IsReached i start keeps (ended run) = subst (IsReached i start keeps) (sym at) reached' in
-    let cursors : run.end.cursors ≡ reached.cursors = ap (λ (r : Reached). r.cursors) at in
-    let list : IsStuckList i run.end.cursors run.end.stuck =
-    subst (λ c. IsStuckList i c run.end.stuck) (sym cursors) told.stuck_list in
-    record {
+    let end = unsuspected_end i reached.cursors reached.suspects none is.can.suspects in
+    subst (IsRunOf i start keeps) (sym told.are) (record {
       reached = there;
-      stuck_list = list;
-      values = subst (λ c. AreValuesAt i.stacks c run.end.values) (sym cursors) told.values;
-      first = first_end_of i start keeps (ended run) run.end.stuck there (subst (IsEnd i) (sym cursors) end) list;
-    }
+      stuck_list = told.stuck_list;
+      values = told.values;
+      first = first_end_of i start keeps here run.end.stuck there end told.stuck_list;
+    })
 
 -- what is told of a run that went on from where it had come to an end
 pub gone_run : (i : Instance) (start : List ℕ) (keeps : Bool) (reached new : Reached) (run : Run)

@@ -3,7 +3,7 @@ use Rattle.std.proofs.Common.{◌≡◌, ℕ, ◌<◌, Bool, true, false, cond, 
 use Rattle.std.specs.List.{range_with_len}
 use Rattle.std.proofs.lemmas.List.FromFn.{length-range_with_len, get_or-range_with_len}
 use Rattle.std.proofs.lemmas.List.{length-map, get_or-map}
-use Rattle.std.proofs.lemmas.List.Elements.{All-nil, Contains-get_or}
+use Rattle.std.proofs.lemmas.List.Elements.{All-nil, All-map, Contains-get_or}
 use Rattle.std.proofs.lemmas.Option.{slice_get_within}
 use Rattle.pop_model.specs.Popping.{names}
 use Rattle.pop_model.specs.Runs.{IsEnd, IsStuckList}
@@ -23,36 +23,6 @@ all_known n suspects are = rw are (λ k d less.
     let at = get_or-range_with_len 0 n k d below in
     omega (arith, at))
 
--- each event has its unit there
-all_suspected : (family : Family) (suspects : List ℕ) → ((u : ℕ) → u < units_of family → Contains suspects u)
-    → (e : Event) → IsEvent family e → IsSuspected family suspects e
-all_suspected (Listed rows) suspects all e (number, is) = all e.unit (slice_get_within rows e.unit (number, e.cube) is)
-all_suspected (Cycles heads) suspects all e (cycle, unit) =
-    let a = first_of e.cube in
-    let there = first_named e.cube cycle.cube in
-    (a, there, all a (cycle_below heads e.cube a cycle there))
-
--- all units miss none
-pub all_miss_none : (i : Instance) (c suspects : List ℕ) → suspects ≡ range_with_len 0 (units_of i.family)
-    → MissesNone i c suspects
-all_miss_none i c suspects are e is poppable =
-    all_suspected i.family suspects (λ u below. rw are (in_range (units_of i.family) u below)) e is
-
--- the unit of one of these events is among theirs, so that it is suspected
-pub unit_suspected : (family : Family) (stuck : List Event) (e : Event) → IsEvent family e → Contains stuck e
-    → IsSuspected family (map (λ e. e.unit) stuck) e
-unit_suspected family stuck e is (k, below, at) = suspected family is (
-  k,
-  omega (arith, below, length-map stuck (λ (x : Event). x.unit)),
-  get_or-map (λ (x : Event). x.unit) stuck k e e.unit below ∙ ap (λ (x : Event). x.unit) at,
-)
-  where
-    suspected : (family : Family) → IsEvent family e → Contains (map (λ (x : Event). x.unit) stuck) e.unit
-        → IsSuspected family (map (λ (x : Event). x.unit) stuck) e
-    suspected (Listed rows) is among = among
-    suspected (Cycles heads) is among =
-        (e.unit, subst (λ v. names e.cube v ≡ true) (sym is.1) (first_named e.cube is.0.cube), among)
-
 -- the unit of an event
 pub unit_below : (family : Family) (e : Event) → IsEvent family e → e.unit < units_of family
 unit_below (Listed rows) e (number, at) = slice_get_within rows e.unit (number, e.cube) at
@@ -60,17 +30,34 @@ unit_below (Cycles heads) e (cycle, unit) =
     subst (λ n. n < length heads) (sym unit)
     (cycle_below heads e.cube (first_of e.cube) cycle (first_named e.cube cycle.cube))
 
+-- an event is suspected where its unit is
+suspected_unit : (family : Family) (suspects : List ℕ) (e : Event) → IsEvent family e → Contains suspects e.unit
+    → IsSuspected family suspects e
+suspected_unit (Listed rows) suspects e is has = has
+suspected_unit (Cycles heads) suspects e is has =
+    (e.unit, subst (λ v. names e.cube v ≡ true) (sym is.1) (first_named e.cube is.0.cube), has)
+
+-- all units miss none
+pub all_miss_none : (i : Instance) (c suspects : List ℕ) → suspects ≡ range_with_len 0 (units_of i.family)
+    → MissesNone i c suspects
+all_miss_none i c suspects are e is poppable =
+    suspected_unit i.family suspects e is
+    (rw are (in_range (units_of i.family) e.unit (unit_below i.family e is)))
+
+-- the unit of one of these events is among theirs, so that it is suspected
+pub unit_suspected : (family : Family) (stuck : List Event) (e : Event) → IsEvent family e → Contains stuck e
+    → IsSuspected family (map (λ e. e.unit) stuck) e
+unit_suspected family stuck e is (k, below, at) = suspected_unit family (map (λ (x : Event). x.unit) stuck) e is (
+  k,
+  omega (arith, below, length-map stuck (λ (x : Event). x.unit)),
+  get_or-map (λ (x : Event). x.unit) stuck k e e.unit below ∙ ap (λ (x : Event). x.unit) at,
+)
+
 -- the units of what occurs are units
 pub unit_known : (i : Instance) (c : List ℕ) (stuck : List Event) → IsStuckList i c stuck
     → All (λ u. u < units_of i.family) (map (λ e. e.unit) stuck)
-unit_known i c stuck list k d below =
-    let inside : k < length stuck = omega (arith, below, length-map stuck (λ (x : Event). x.unit)) in
-    let none : Event = record { unit = d; cube = [] } in
-    let e : Event = get_or stuck k none in
-    let known = unit_below i.family e ((list.exact e).0 (Contains-get_or stuck k none inside)).0 in
-    let at : get_or (map (λ (x : Event). x.unit) stuck) k d ≡ e.unit =
-    get_or-map (λ (x : Event). x.unit) stuck k none d inside in
-    omega (arith, known, at)
+unit_known i c stuck list = All-map (λ u. u < units_of i.family) (λ (e : Event). e.unit) stuck (λ k d below.
+    unit_below i.family (get_or stuck k d) ((list.exact (get_or stuck k d)).0 (Contains-get_or stuck k d below)).0)
 
 -- no unit at an end, and else all
 pub none_or_all : (i : Instance) (c suspects : List ℕ) (is_end : Bool) → (is_end ≡ true → IsEnd i c)

@@ -1,31 +1,33 @@
 -- Walks as a whole: each begins at a variable that isn't settled and settles what it met; where every variable is settled
 -- those that were noted are all that occur.
-use Rattle.std.proofs.Common.{inl, inr, ◌≡◌, ℕ, suc, ◌+◌, ◌<◌, List, [], length, get_or, replicate, refl, sym, ap, subst, ◌∙◌, arith, Contains}
+use Rattle.std.proofs.Common.{inl, inr, ◌≡◌, ℕ, ◌<◌, List, [], length, get_or, replicate, refl, sym, ap, subst, ◌∙◌, arith, Contains}
 use Rattle.std.specs.List.Sorted.{IsPermutation, IsNonDecreasingBy}
 use Rattle.std.proofs.lemmas.List.{length-replicate, get_or-replicate, get_or_past}
 use Rattle.std.proofs.lemmas.List.Sorted.{Contains-permutation, IsPermutation-sym}
 use Rattle.std.proofs.lemmas.Bool.{cases_lt}
 use Rattle.pop_model.specs.Stacks.{value_at}
-use Rattle.pop_model.specs.Popping.{Cube, HasNext, cursor}
+use Rattle.pop_model.specs.Popping.{Occurs, HasNext, cursor}
 use Rattle.pop_model.specs.Families.{Event, IsEvent}
 use Rattle.pop_model.specs.Cycles.{first_of}
 use Rattle.pop_model.specs.Runs.{IsEnd, IsStuckList}
 use Rattle.pop_model.proofs.CycleFamily.{first_named}
 use Rattle.pop_model.proofs.TreeEnd.{find, stays_at, head_within}
+use Rattle.confluence_core.specs.Stuck.{event_of}
 use Rattle.confluence_core.specs.CycleTables.{CycleTable, cycles}
+use Rattle.confluence_core.specs.Loops.{Marks}
 use Rattle.confluence_core.specs.Walks.{settled, IsSettled, IsMet, AreDone, HasRoom}
-use Rattle.confluence_core.specs.LoopErasedWalks.{IsSized, Stands, Walks, IsOver, SettlesPath, begun_at}
+use Rattle.confluence_core.specs.LoopErasedWalks.{IsSized, Stands, SettlesPath, begun_at}
 use Rattle.confluence_core.specs.Steps.{Ends}
 use Rattle.confluence_core.specs.declared.walk.Walk.{Walk}
 use Rattle.confluence_core.proofs.SortedKeys.{rises_sorted}
-use Rattle.confluence_core.proofs.PathsLemmas.{at_place, path_fits}
+use Rattle.confluence_core.proofs.PathsLemmas.{at_place}
 use Rattle.confluence_core.proofs.DoneVariables.{done_same}
-use Rattle.confluence_core.proofs.WalkSteps.{MarksFront, marks_front, sized_same}
+use Rattle.confluence_core.proofs.WalkSteps.{sized_same}
 
-module _ (path : List ℕ) (depth : ℕ) (marks new : List ℕ) (are : MarksFront path (suc depth) settled marks new) where
+module _ {path : List ℕ} {n : ℕ} {marks new : List ℕ} (are : Marks path n settled marks new) where
   -- what was met is settled
-  pub met_settled : (v : ℕ) → IsMet marks path (suc depth) v → IsSettled new v
-  met_settled v met = elim (find (at_place path) v (suc depth)) [
+  met_settled : (v : ℕ) → IsMet marks path n v → IsSettled new v
+  met_settled v met = elim (find (at_place path) v n) [
     | inl (k, less, same) ↦ subst (IsSettled new) same (are.marked k less)
     | inr none ↦ elim met [
       | inl at ↦ are.kept v none ∙ at
@@ -34,51 +36,30 @@ module _ (path : List ℕ) (depth : ℕ) (marks new : List ℕ) (are : MarksFron
   ]
 
   -- and nothing else
-  pub settled_met : (v : ℕ) → IsSettled new v → IsMet marks path (suc depth) v
-  settled_met v at = elim (find (at_place path) v (suc depth)) [
+  settled_met : (v : ℕ) → IsSettled new v → IsMet marks path n v
+  settled_met v at = elim (find (at_place path) v n) [
     | inl on ↦ inr on
     | inr none ↦ inl (sym (are.kept v none) ∙ at)
   ]
 
--- what a walk that is over met is settled
-pub walk_settles : (w new : Walk) → IsOver w → new ≡ record w { marks = new.marks }
-    → length new.marks.items ≡ length w.marks.items
-    → MarksFront w.path.items (suc w.depth) settled w.marks.items new.marks.items → Stands new
-walk_settles w new over is size are = subst Stands (sym is) (record {
-  sized = sized_same w.current w.walked.cursors w.marks.items w.path.items new.marks.items w.path.items size refl
-      over.sized;
-  done = done_same w.current w.walked.cursors (IsMet w.marks.items w.path.items (suc w.depth))
-      (IsSettled new.marks.items) w.walked.stuck
-      (met_settled w.path.items w.depth w.marks.items new.marks.items are)
-      (settled_met w.path.items w.depth w.marks.items new.marks.items are) over.done;
-  last = over.last;
-  room = over.room;
-})
-
 -- a walk that is over, once the variables of its path are settled
-module _ (old w m : Walk) (ends : Ends old w) (settles : SettlesPath w m) where
-  -- so the first places of the path are
-  front_marked : MarksFront w.path.items (suc w.depth) settled w.marks.items m.marks.items
-  front_marked =
-      let one : w.depth + 1 ≡ suc w.depth = omega arith in
-      let fits = path_fits w.current w.walked.cursors w.marks.items w.path.items (suc w.depth) ends.over.trail in
-      subst (λ k. MarksFront w.path.items k settled w.marks.items m.marks.items) one
-      (marks_front w.path.items (w.depth + 1) settled w.marks.items m.marks.items
-      (omega (arith, fits, ends.over.sized.places_are)) settles.marks)
-
+module _ {old w m : Walk} (ends : Ends old w) (settles : SettlesPath w m) where
   -- what holds between two walks holds again
   pub ended_stands : Stands m
-  ended_stands = walk_settles w m ends.over settles.others settles.marks.count front_marked
+  ended_stands = subst Stands (sym settles.others) (record {
+    sized = sized_same settles.marks.count refl ends.over.sized;
+    done = done_same (met_settled settles.marks) (settled_met settles.marks) ends.over.done;
+    last = ends.over.last;
+    room = ends.over.room;
+  })
 
   -- the variable where the walk began is settled
   pub ended_settles : IsSettled m.marks.items (begun_at old)
-  ended_settles =
-      met_settled w.path.items w.depth w.marks.items m.marks.items front_marked (begun_at old)
-      (inr (0, omega arith, ends.begun))
+  ended_settles = met_settled settles.marks (begun_at old) (inr (0, omega arith, ends.begun))
 
   -- and all that were settled before
   pub ended_keeps : (v : ℕ) → IsSettled w.marks.items v → IsSettled m.marks.items v
-  ended_keeps v at = met_settled w.path.items w.depth w.marks.items m.marks.items front_marked v (inl at)
+  ended_keeps v at = met_settled settles.marks v (inl at)
 
 -- so many zeros
 zeros : ℕ → List ℕ
@@ -94,47 +75,37 @@ zeros_at n v = elim (cases_lt v n) [
 ]
 
 -- before the first walk no variable has a mark, and none is done
-pub walks_begin : (w : Walk) (n : ℕ) → IsSized w → w.marks.items ≡ replicate n 0 → w.walked.stuck ≡ []
+pub walks_begin : {w : Walk} (n : ℕ) → IsSized w → w.marks.items ≡ replicate n 0 → w.walked.stuck ≡ []
     → HasRoom w.current w.walked → Stands w
 unfolding zeros
-walks_begin w n sized are none room =
-    let unmarked : (v : ℕ) → get_or w.marks.items v 0 ≡ 0 = λ v. ap (λ xs. get_or xs v 0) are ∙ zeros_at n v in
-    let unsettled : (v : ℕ) → IsSettled w.marks.items v → ⊥ =
-    λ v at. let big : settled ≡ 0 = sym at ∙ unmarked v in absurd (omega arith) in
+walks_begin {w} n sized are none room =
+    let unsettled : (v : ℕ) → IsSettled w.marks.items v → ⊥ = λ v at.
+    let big : settled ≡ 0 = sym at ∙ ap (λ xs. get_or xs v 0) are ∙ zeros_at n v in
+    absurd (omega arith) in
+    let size = ap length none in
+    let unnoted : (e : Event) → Contains w.walked.stuck e → ⊥ = λ e has. absurd (omega (arith, size, has.1)) in
     record {
       sized = sized;
       done = record {
         closed = λ v w at. absurd (unsettled v at);
         found = λ v e at. absurd (unsettled v at);
-        are_stuck = λ e has. absurd (let no : Contains [] e = subst (λ xs. Contains xs e) none has in omega (
-          arith,
-          no.1,
-        ));
-        differ = λ i j d less below. let size = ap length none in absurd (omega (arith, size));
+        are_stuck = λ e has. absurd (unnoted e has);
+        differ = λ i j d less below. absurd (omega (arith, size));
       };
-      last = λ few e has. absurd (let no : Contains [] e = subst (λ xs. Contains xs e) none has in omega (
-        arith,
-        no.1,
-      ));
+      last = λ few e has. absurd (unnoted e has);
       room = room;
     }
 
--- the event of a unit and a cube
-event_with : ℕ → Cube → Event
-event_with u e = record { unit = u; cube = e }
-
-module _ (t : CycleTable) (c marks : List ℕ) (stuck : List Event) (done : AreDone t c (IsSettled marks) stuck)
-    (all : (v : ℕ) → v < length t.heads → IsSettled marks v) where
+module _ {t : CycleTable} {c : List ℕ} (marks : List ℕ) {stuck : List Event}
+    (done : AreDone t c (IsSettled marks) stuck) (all : (v : ℕ) → v < length t.heads → IsSettled marks v) where
   -- each cycle that occurs is noted
-  noted : (e : Event) → IsEvent (cycles t).family e → Rattle.pop_model.specs.Popping.Occurs t.stacks c e.cube
-      → Contains stuck e
-  unfolding event_with
+  noted : (e : Event) → IsEvent (cycles t).family e → Occurs t.stacks c e.cube → Contains stuck e
   noted e is occurs =
       let a = first_of e.cube in
       let there = first_named e.cube is.0.cube in
       let on = stays_at t.heads t.stacks c e.cube a is.0 occurs there in
       let below = head_within t.heads a (value_at t.stacks a (cursor c a)) on.next on.leads in
-      subst (Contains stuck) (ap (λ u. event_with u e.cube) (sym is.1))
+      subst (Contains stuck) (ap (λ u. event_of (u, e.cube)) (sym is.1))
       (done.found a e.cube (all a below) is.0 there occurs)
 
   -- so none can be popped, where no noted one can

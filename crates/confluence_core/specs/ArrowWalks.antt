@@ -38,7 +38,6 @@ IsFoundAt t c start found =
 -- the arrows lead along the list from the start, to which they don't come again, and to no variable
 -- below the bound
 pub record IsWay (t : CycleTable) (c : List ℕ) (low start : ℕ) (way : List ℕ) : Type 0 where
-  pub some : 0 < length way
   pub first : slice_index way 0 ≡ start
   pub leads : (k : ℕ) → suc k < length way
       → current_head t c (slice_index way k) ≡ Some (slice_index way (suc k))

@@ -1,5 +1,5 @@
 -- Cycles by their least variables, which are their units.
-use Rattle.std.specs.Prelude.{◌≡◌, ℕ, ◌<◌, List}
+use Rattle.std.specs.Prelude.{◌≡◌, ℕ, List}
 use Rattle.pop_model.specs.Popping.{Cube, IsPoppable}
 use Rattle.pop_model.specs.Cycles.{IsCycle, first_of}
 use Rattle.confluence_core.specs.CycleTables.{CycleTable}
@@ -16,9 +16,3 @@ pub record IsPoppableWalk (t : CycleTable) (c : List ℕ) (start : ℕ)
     (members : List ℕ) : Type 0 where
   pub walk : IsClosedWalk t c start start members
   pub next : HaveNext t c members
-
--- the variables are those of the poppable cycle of least unit
-pub record IsFirstWalk (t : CycleTable) (c : List ℕ) (members : List ℕ) : Type 0 where
-  pub start : ℕ
-  pub poppable : IsPoppableWalk t c start members
-  pub none_before : (v : ℕ) → v < start → IsQuietAt t c v

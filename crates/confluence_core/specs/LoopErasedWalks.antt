@@ -1,5 +1,5 @@
 -- A loop-erased walk along the current arrows (Wilson 1996; Propp and Wilson 1998).
-use Rattle.std.specs.Prelude.{◌≡◌, ℕ, suc, ◌+◌, ◌-◌, ◌*◌, ◌==◌, if◌then◌else◌, List, length, take, slice_index}
+use Rattle.std.specs.Prelude.{◌≡◌, ℕ, ◌+◌, ◌-◌, ◌*◌, ◌==◌, if◌then◌else◌, length, slice_index}
 use Rattle.pop_model.proofs.Room.{left_from}
 use Rattle.confluence_core.specs.Loops.{Marks}
 use Rattle.confluence_core.specs.Walks.{settled, IsSettled, IsMet, AreDone, AreSized, IsPath, GoesOn, HasRoom, AreLast}
@@ -39,19 +39,15 @@ pub record Walks (w : Walk) : Type 0 where
 -- the walk is over: what it met is done
 pub record IsOver (w : Walk) : Type 0 where
   pub sized : IsSized w
-  pub trail : HasPath w (suc w.depth)
-  pub done : AreDone w.current w.walked.cursors (IsMet w.marks.items w.path.items (suc w.depth))
+  pub trail : HasPath w (w.depth + 1)
+  pub done : AreDone w.current w.walked.cursors (IsMet w.marks.items w.path.items (w.depth + 1))
       w.walked.stuck
   pub last : AreLast w.current w.walked
   pub room : HasRoom w.current w.walked
 
--- the variables that the walk met, once it is over
-abbrev pub met : Walk → List ℕ
-met w = take (w.depth + 1) w.path.items
-
--- these are settled
+-- the variables that the walk met, once it is over, are settled
 pub record SettlesPath (old new : Walk) : Type 0 where
-  pub marks : Marks (met old) (length (met old)) settled old.marks.items new.marks.items
+  pub marks : Marks old.path.items (old.depth + 1) settled old.marks.items new.marks.items
   pub others : new ≡ record old { marks = new.marks }
 
 -- the variable from which the walk began

@@ -1,11 +1,10 @@
 -- Runs to their ends.
-use Rattle.std.specs.Prelude.{◌≡◌, ℕ, Bool, [], List, length, MatchBool}
+use Rattle.std.specs.Prelude.{◌≡◌, ℕ, Bool, [], List, length}
 use Rattle.pop_model.specs.Stacks.{StackTable, variables_of}
-use Rattle.pop_model.specs.Popping.{AreWithin, AreValuesAt, pop}
-use Rattle.pop_model.specs.Families.{Event}
+use Rattle.pop_model.specs.Popping.{AreWithin, AreValuesAt}
 use Rattle.pop_model.specs.Instances.{Instance}
 use Rattle.pop_model.specs.Extremal.{IsExtremal}
-use Rattle.pop_model.specs.Runs.{IsEnd, IsFirstPoppable, IsStuckList, IsFirstEnd, start_of}
+use Rattle.pop_model.specs.Runs.{IsStuckList, IsFirstEnd, start_of}
 use Rattle.confluence_core.specs.Stretches.{IsReached}
 use Rattle.confluence_core.specs.declared.end.End.{End}
 use Rattle.confluence_core.specs.declared.reached.Reached.{Reached}
@@ -17,16 +16,6 @@ pub record IsEndOver (s : StackTable) (end : End) : Type 0 where
   pub count : variables_of s ≡ length end.cursors
   pub within : AreWithin s end.cursors
   pub values : AreValuesAt s end.cursors end.values
-
--- the poppable event of least unit was popped
-pub record FirstPopped (i : Instance) (old new : List ℕ) : Type 0 where
-  pub event : Event
-  pub first : IsFirstPoppable i old event
-  pub popped : new ≡ pop old event.cube
-
--- it was popped, or there is none
-abbrev pub PopsFirst : Instance → List ℕ → List ℕ → Bool → Type 0
-PopsFirst i old new popped = MatchBool popped (FirstPopped i old new) (IsEnd i old × (new ≡ old))
 
 -- where a run has come that leaves this: it suspects no unit
 abbrev pub ended : Run → Reached

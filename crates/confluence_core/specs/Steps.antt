@@ -1,5 +1,5 @@
 -- What a step of a walk leaves, and what popping a cycle does to what the walks have left so far.
-use Rattle.std.specs.Prelude.{◌≡◌, ℕ, suc, ◌+◌, ◌<◌, ◌≤◌, ◌++◌, ◌∷◌, [], List, Bool, MatchBool, slice_index, slice_set, Some}
+use Rattle.std.specs.Prelude.{◌≡◌, ℕ, ◌+◌, ◌<◌, ◌≤◌, ◌++◌, ◌∷◌, [], List, Bool, MatchBool, slice_index, slice_set, Some}
 use Rattle.pop_model.specs.Popping.{Cube, HasNext, pop}
 use Rattle.pop_model.specs.Cycles.{first_of}
 use Rattle.confluence_core.specs.Records.{record_at}
@@ -16,9 +16,9 @@ use Rattle.confluence_core.specs.declared.steps.Step.TheVariants.{On, Back, Rest
 
 -- where the last arrow of the path leads: on, back to the path, or to where all is settled
 abbrev pub LeadsTo : Walk → Step → Type 0
-LeadsTo w (On v) = GoesOn w.current w.walked.cursors w.marks.items w.path.items (suc w.depth) v
+LeadsTo w (On v) = GoesOn w.current w.walked.cursors w.marks.items w.path.items (w.depth + 1) v
 LeadsTo w (Back place) = Closes w.current w.walked.cursors w.marks.items w.path.items w.depth place
-LeadsTo w Rests = HasPath w (suc w.depth)
+LeadsTo w Rests = HasPath w (w.depth + 1)
     × ((v : ℕ) → current_head w.current w.walked.cursors (slice_index w.path.items w.depth) ≡ Some v
     → IsSettled w.marks.items v)
 
@@ -57,11 +57,6 @@ pub record Notes (t : CycleTable) (old new : Walked) (e : Cube) : Type 0 where
 abbrev pub Closed : CycleTable → Walked → Walked → List ℕ → Bool → Type 0
 Closed t old new members popped = (e : Cube) → IsCubeOf t old.cursors members e
     → MatchBool popped (Pops t old new e) (Notes t old new e)
-
--- so it was on the walk's arrows, and all else stays
-pub record PopsOrNotes (old new : Walk) (members : List ℕ) (popped : Bool) : Type 0 where
-  pub closed : Closed old.current old.walked new.walked members popped
-  pub others : new ≡ record old { walked = new.walked }
 
 -- how far walks have come
 abbrev pub reached_by : Walked → Reached

@@ -74,7 +74,7 @@ pub record GoesOn (t : CycleTable) (c marks path : List ℕ) (depth v : ℕ) : T
 
 -- the last arrow of the path leads back to a place of it: from there on it is a loop
 pub record Closes (t : CycleTable) (c marks path : List ℕ) (depth place : ℕ) : Type 0 where
-  pub trail : IsPath t c marks path (suc depth)
+  pub trail : IsPath t c marks path (depth + 1)
   pub order : place ≤ depth
   pub back : current_head t c (slice_index path depth) ≡ Some (slice_index path place)
 

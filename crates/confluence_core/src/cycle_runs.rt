@@ -1,4 +1,5 @@
-ghost use Rattle.std.specs.Prelude.{◌≡◌, ◌<◌, ◌≤◌, ◌^◌, [], IfOk, length};
+ghost use Rattle.std.specs.Prelude.{◌≡◌, ◌<◌, ◌≤◌, ◌^◌, [], IfOk, length, if◌then◌else◌};
+ghost use Rattle.std.specs.List.{range_with_len};
 ghost use Rattle.pop_model.specs.Stacks.{variables_of};
 ghost use Rattle.pop_model.specs.Popping.{AreWithin};
 ghost use Rattle.pop_model.specs.Families.Family.{Cycles as CycleEvents};
@@ -10,7 +11,7 @@ ghost use Rattle.confluence_core.specs.Stretches.{HasCome, GoesOn};
 use crate::current_arrows::CurrentArrows;
 use crate::walk::left_by_walks;
 use crate::walked::Walked;
-use crate::{Reached, Stuck};
+use crate::{Reached, Stuck, Units};
 use pop_instance::{Arrows, Cursors};
 use pop_stacks::{Reader, Stacks};
 use std::alloc::{AllocError, Global};
@@ -39,24 +40,34 @@ pub(crate) fn pop_cycles(
 {
     let current = CurrentArrows::of(stacks, arrows);
     let _count = current.count();
-    let Reached {
-        cursors,
-        pops,
-        log,
-        suspects,
-    } = reached;
     // Walks meet all variables, and have the memory of the list.
-    drop(suspects);
+    drop(reached.suspects);
     let walked = Walked {
-        cursors,
-        pops,
+        cursors: reached.cursors,
+        pops: reached.pops,
         limit,
-        log,
+        log: reached.log,
         stuck: Stuck::new(alloc),
     };
     let left = left_by_walks(alloc, current, reader, walked)?;
-    let reached = left.into_reached(alloc, arrows.count())?;
-    Ok(reached)
+    drop(left.stuck);
+    let suspects = suspects_at(alloc, left.pops < left.limit, arrows.count())?;
+    Ok(Reached {
+        cursors: left.cursors,
+        pops: left.pops,
+        log: left.log,
+        suspects,
+    })
+}
+
+// No unit at an end, and else all of so many.
+fn suspects_at(alloc: Global, is_end: bool, units: u32) -> Result<Units, AllocError>
+    ensures { IfOk result (λ suspects. suspects ≡ (if is_end then [] else range_with_len 0 units)) }
+{
+    if is_end {
+        return Ok(Units::new(alloc));
+    }
+    Units::all(alloc, units)
 }
 
 /// The cycles that occur at any cursors, by rising unit: a walk that pops nothing notes them. Its
@@ -87,5 +98,5 @@ pub(crate) fn occurring_cycles(
         stuck: Stuck::new(alloc),
     };
     let left = left_by_walks(alloc, current, reader, walked)?;
-    Ok(left.into_stuck())
+    Ok(left.stuck)
 }

@@ -1,16 +1,20 @@
 //! Cycles by their definition: the current arrows are followed from each variable in turn.
 ghost use Rattle.std.specs.Prelude.{◌≡◌, ◌<◌, length, IfOk, MatchOption};
+ghost use Rattle.pop_model.specs.Stacks.{variables_of};
+ghost use Rattle.pop_model.specs.Popping.{AreWithin};
+ghost use Rattle.pop_model.specs.Families.Family.{Cycles as CycleEvents};
+ghost use Rattle.pop_model.specs.Instances.{FamilyFits};
 ghost use Rattle.pop_model.specs.Runs.{IsEnd, IsFirstPoppable};
 ghost use Rattle.pop_stacks.specs.Readers.{Belongs};
-ghost use Rattle.confluence_core.specs.CycleTables.{cycles, AreCursors};
-ghost use Rattle.confluence_core.specs.Walks.{cycle_event};
-ghost use Rattle.confluence_core.specs.LeastVariables.{IsQuietAt, IsPoppableWalk, IsFirstWalk};
+ghost use Rattle.confluence_core.specs.CycleTables.{AreCursors};
+ghost use Rattle.confluence_core.specs.LeastVariables.{IsQuietAt, IsPoppableWalk};
+ghost use Rattle.confluence_core.specs.Stuck.{event_of};
 
 use crate::closed_walks::closed_walk;
 use crate::current_arrows::CurrentArrows;
 use crate::loops::{cube_of, have_next};
-use pop_instance::{Cube, Cursors};
-use pop_stacks::Reader;
+use pop_instance::{Arrows, Cube, Cursors};
+use pop_stacks::{Reader, Stacks};
 use std::alloc::{AllocError, Global};
 
 // The variables of the poppable cycle that has this least variable, if there is one.
@@ -38,44 +42,32 @@ fn poppable_from(
     Ok(Some(members))
 }
 
-// The variables of the poppable cycle of least unit, in the order of its arrows, if there is one.
-fn first_walk(
-    alloc: Global,
-    current: &CurrentArrows,
-    reader: &mut Reader,
-    cursors: &Cursors,
-) -> Result<Option<Vec<u32>>, AllocError>
-    requires cursors { AreCursors current.now cursors.now }
-    requires belongs { Belongs current.now.stacks reader.old }
-    ensures first { IfOk result (λ found. MatchOption found (IsEnd (cycles current.now) cursors.now)
-        (λ members. IsFirstWalk current.now cursors.now members.items)) }
-    ensures reader { reader.new ≡ reader.old }
-{
-    for v in 0..current.count() {
-        if let Some(members) = poppable_from(alloc, current, reader, cursors, v)? {
-            return Ok(Some(members));
-        }
-    }
-    Ok(None)
-}
-
-/// The poppable cycle of least unit, if there is one. It takes time up to the square of the
+/// The poppable cycle of least unit under it, if there is one. It takes time up to the square of the
 /// variables.
 pub(crate) fn first_poppable_cycle(
     alloc: Global,
-    current: &CurrentArrows,
+    stacks: &Stacks,
+    arrows: &Arrows,
     reader: &mut Reader,
     cursors: &Cursors,
-) -> Result<Option<Cube>, AllocError>
-    requires cursors { AreCursors current.now cursors.now }
-    requires belongs { Belongs current.now.stacks reader.old }
-    ensures first { IfOk result (λ found. MatchOption found (IsEnd (cycles current.now) cursors.now)
-        (λ cube. IsFirstPoppable (cycles current.now) cursors.now (cycle_event cube))) }
+) -> Result<Option<(u32, Cube)>, AllocError>
+    requires fits { FamilyFits stacks.now (CycleEvents arrows.now) }
+    requires count { variables_of stacks.now ≡ length cursors.now }
+    requires within { AreWithin stacks.now cursors.now }
+    requires belongs { Belongs stacks.now reader.old }
+    ensures first { IfOk result (λ found. MatchOption found
+        (IsEnd (record { stacks = stacks.now; family = CycleEvents arrows.now }) cursors.now)
+        (λ e. IsFirstPoppable (record { stacks = stacks.now; family = CycleEvents arrows.now })
+        cursors.now (event_of e))) }
     ensures reader { reader.new ≡ reader.old }
 {
-    let _count = current.count();
-    let Some(members) = first_walk(alloc, current, reader, cursors)? else {
-        return Ok(None);
-    };
-    Ok(Some(cube_of(alloc, current, reader, cursors, &members)?))
+    let current = CurrentArrows::of(stacks, arrows);
+    for v in 0..current.count() {
+        if let Some(members) = poppable_from(alloc, &current, reader, cursors, v)? {
+            let cube = cube_of(alloc, &current, reader, cursors, &members)?;
+            let (unit, _) = cube.pair(0);
+            return Ok(Some((unit, cube)));
+        }
+    }
+    Ok(None)
 }

@@ -40,14 +40,8 @@ pub(crate) fn pop_listed(
     ensures reader { reader.new ≡ reader.old }
 {
     let mut reached = reached;
-    let mut work = match WorkList::of(alloc, listed.events.count(), reached.suspects.as_slice()) {
-        Ok(work) => work,
-        Err(error) => {
-            drop(reached);
-            return Err(error);
-        }
-    };
-    match pop_waiting(
+    let mut work = WorkList::of(alloc, listed.events.count(), reached.suspects.as_slice())?;
+    pop_waiting(
         alloc,
         stacks,
         listed,
@@ -55,17 +49,9 @@ pub(crate) fn pop_listed(
         &mut reached,
         &mut work,
         limit,
-    ) {
-        Ok(()) => {
-            reached.suspects = work.into_units();
-            Ok(reached)
-        }
-        Err(error) => {
-            drop(work);
-            drop(reached);
-            Err(error)
-        }
-    }
+    )?;
+    reached.suspects = work.into_units();
+    Ok(reached)
 }
 
 // Pops the events that wait in a work list, which the index feeds, to an end or to so many pops.

@@ -1,102 +1,49 @@
 ghost use Rattle.std.specs.Prelude.{◌≡◌, ◌<◌, ◌↔◌, [], length, All, IfOk, IsTrue, MatchOption};
 ghost use Rattle.pop_model.specs.Stacks.{variables_of};
 ghost use Rattle.pop_model.specs.Popping.{AreWithin};
-ghost use Rattle.pop_model.specs.Instances.{FitsStacks};
+ghost use Rattle.pop_model.specs.Families.Family.{Listed as ListedEvents};
+ghost use Rattle.pop_model.specs.Instances.{FamilyFits, FitsStacks};
+ghost use Rattle.pop_model.specs.Runs.{IsEnd, IsFirstPoppable, IsStuckList};
 ghost use Rattle.pop_stacks.specs.Readers.{Belongs};
-ghost use Rattle.confluence_core.specs.Search.{
-  NoneBefore,
-  IsFirstPlace,
-  IsStuckBelow,
-  Covers,
-  IsNextPlace,
-  AllHaveNext,
-};
+ghost use Rattle.confluence_core.specs.Search.{Covers, IsNextPlace, AllHaveNext};
+ghost use Rattle.confluence_core.specs.Stuck.{event_of};
 
 use crate::Stuck;
 use crate::work_list::WorkList;
-use pop_instance::{Cursors, Events};
+use pop_instance::{Cube, Cursors, Events};
 use pop_stacks::{Reader, Stacks};
 use std::alloc::{AllocError, Global};
 
-// The place of the first poppable event.
+// The first poppable event, under its unit.
 pub(crate) fn first_poppable_listed(
-    stacks: &Stacks,
-    events: &Events,
-    reader: &mut Reader,
-    cursors: &Cursors,
-) -> Option<u32>
-    requires fits { All (λ r. FitsStacks stacks.now r.1) events.now }
-    requires count { variables_of stacks.now ≡ length cursors.now }
-    requires within { AreWithin stacks.now cursors.now }
-    requires belongs { Belongs stacks.now reader.old }
-    ensures first { MatchOption result
-        (NoneBefore stacks.now cursors.now events.now (length events.now))
-        (IsFirstPlace stacks.now cursors.now events.now) }
-    ensures reader { reader.new ≡ reader.old }
-{
-    for place in 0..events.count() {
-        if cursors.poppable(stacks, reader, events.cube(place)) {
-            return Some(place);
-        }
-    }
-    None
-}
-
-// The place of a poppable event, taken out of the work list with those before it that are none.
-pub(crate) fn next_poppable(
-    stacks: &Stacks,
-    events: &Events,
-    reader: &mut Reader,
-    cursors: &Cursors,
-    work: &mut WorkList,
-) -> Option<u32>
-    requires fits { All (λ r. FitsStacks stacks.now r.1) events.now }
-    requires count { variables_of stacks.now ≡ length cursors.now }
-    requires within { AreWithin stacks.now cursors.now }
-    requires belongs { Belongs stacks.now reader.old }
-    requires units { work.old.units ≡ length events.now }
-    requires covers { Covers stacks.now cursors.now events.now work.old.list }
-    ensures next { MatchOption result
-        ((work.new.list ≡ []) × Covers stacks.now cursors.now events.now work.new.list)
-        (IsNextPlace stacks.now cursors.now events.now work.new.list) }
-    ensures units { work.new.units ≡ work.old.units }
-    ensures reader { reader.new ≡ reader.old }
-{
-    while let Some(unit) = work.take() {
-        if cursors.poppable(stacks, reader, events.cube(unit)) {
-            return Some(unit);
-        }
-    }
-    None
-}
-
-// The events that occur, by rising unit.
-pub(crate) fn occurring_listed(
     alloc: Global,
     stacks: &Stacks,
     events: &Events,
     reader: &mut Reader,
     cursors: &Cursors,
-) -> Result<Stuck, AllocError>
-    requires fits { All (λ r. FitsStacks stacks.now r.1) events.now }
+) -> Result<Option<(u32, Cube)>, AllocError>
+    requires fits { FamilyFits stacks.now (ListedEvents events.now) }
     requires count { variables_of stacks.now ≡ length cursors.now }
     requires within { AreWithin stacks.now cursors.now }
     requires belongs { Belongs stacks.now reader.old }
-    ensures stuck { IfOk result
-        (IsStuckBelow stacks.now cursors.now events.now (length events.now)) }
+    ensures first { IfOk result (λ found. MatchOption found
+        (IsEnd (record { stacks = stacks.now; family = ListedEvents events.now }) cursors.now)
+        (λ e. IsFirstPoppable (record { stacks = stacks.now; family = ListedEvents events.now })
+        cursors.now (event_of e))) }
     ensures reader { reader.new ≡ reader.old }
 {
-    let mut stuck = Stuck::new(alloc);
-    for unit in 0..events.count() {
-        let cube = events.cube(unit);
-        if cursors.occurs(stacks, reader, cube) {
-            stuck.push(unit, cube.copy(alloc)?)?;
+    for place in 0..events.count() {
+        let cube = events.cube(place);
+        if cursors.poppable(stacks, reader, cube) {
+            let copy = cube.copy(alloc)?;
+            return Ok(Some((place, copy)));
         }
     }
-    Ok(stuck)
+    Ok(None)
 }
 
-// The place of an event that is popped next, if the limit isn't reached and there is one.
+// The place of an event that is popped next, if the limit isn't reached and there is one: taken out
+// of the work list with those before it that aren't poppable.
 pub(crate) fn next_below(
     stacks: &Stacks,
     events: &Events,
@@ -119,11 +66,41 @@ pub(crate) fn next_below(
     ensures units { work.new.units ≡ work.old.units }
     ensures reader { reader.new ≡ reader.old }
 {
-    if is_below {
-        next_poppable(stacks, events, reader, cursors, work)
-    } else {
-        None
+    if !is_below {
+        return None;
     }
+    while let Some(unit) = work.take() {
+        if cursors.poppable(stacks, reader, events.cube(unit)) {
+            return Some(unit);
+        }
+    }
+    None
+}
+
+// The events that occur, by rising unit.
+pub(crate) fn occurring_listed(
+    alloc: Global,
+    stacks: &Stacks,
+    events: &Events,
+    reader: &mut Reader,
+    cursors: &Cursors,
+) -> Result<Stuck, AllocError>
+    requires fits { FamilyFits stacks.now (ListedEvents events.now) }
+    requires count { variables_of stacks.now ≡ length cursors.now }
+    requires within { AreWithin stacks.now cursors.now }
+    requires belongs { Belongs stacks.now reader.old }
+    ensures stuck_list { IfOk result (IsStuckList
+        (record { stacks = stacks.now; family = ListedEvents events.now }) cursors.now) }
+    ensures reader { reader.new ≡ reader.old }
+{
+    let mut stuck = Stuck::new(alloc);
+    for unit in 0..events.count() {
+        let cube = events.cube(unit);
+        if cursors.occurs(stacks, reader, cube) {
+            stuck.push(unit, cube.copy(alloc)?)?;
+        }
+    }
+    Ok(stuck)
 }
 
 /// Whether each variable has an entry behind its cursor.

@@ -2,20 +2,17 @@
 ghost use Rattle.std.specs.Prelude.{◌≡◌, length, IfOk, MatchOption};
 ghost use Rattle.pop_model.specs.Stacks.{variables_of};
 ghost use Rattle.pop_model.specs.Popping.{AreWithin};
-ghost use Rattle.pop_model.specs.Families.Family.{Listed as ListedEvents, Cycles as CycleEvents};
-ghost use Rattle.pop_model.specs.Instances.{FamilyFits};
 ghost use Rattle.pop_model.specs.Runs.{IsEnd, IsFirstPoppable, IsStuckList};
 ghost use Rattle.pop_stacks.specs.Readers.{Belongs};
 ghost use Rattle.confluence_core.specs.Stretches.{CanGoOn};
 ghost use Rattle.confluence_core.specs.Stuck.{event_of};
 
-use crate::current_arrows::CurrentArrows;
 use crate::cycle_runs::occurring_cycles;
 use crate::cycle_search::first_poppable_cycle;
 use crate::listed_search::{all_have_next, first_poppable_listed, occurring_listed};
 use crate::{Reached, Stuck};
-use pop_instance::{Arrows, Cube, Cursors, Events, Family, Instance};
-use pop_stacks::{Reader, Stacks};
+use pop_instance::{Cube, Cursors, Family, Instance};
+use pop_stacks::Reader;
 use std::alloc::{AllocError, Global};
 
 /// The poppable event of least unit at cursors that are below the heights, under its unit. Listed
@@ -37,60 +34,9 @@ pub fn first_poppable(
     let _units = instance.units();
     let stacks = instance.stacks();
     match instance.family() {
-        Family::Listed(events) => first_listed(alloc, stacks, events, reader, cursors),
-        Family::Cycles(arrows) => first_cycle(alloc, stacks, arrows, reader, cursors),
+        Family::Listed(events) => first_poppable_listed(alloc, stacks, events, reader, cursors),
+        Family::Cycles(arrows) => first_poppable_cycle(alloc, stacks, arrows, reader, cursors),
     }
-}
-
-// The first poppable event of listed ones.
-fn first_listed(
-    alloc: Global,
-    stacks: &Stacks,
-    events: &Events,
-    reader: &mut Reader,
-    cursors: &Cursors,
-) -> Result<Option<(u32, Cube)>, AllocError>
-    requires fits { FamilyFits stacks.now (ListedEvents events.now) }
-    requires count { variables_of stacks.now ≡ length cursors.now }
-    requires within { AreWithin stacks.now cursors.now }
-    requires belongs { Belongs stacks.now reader.old }
-    ensures first { IfOk result (λ found. MatchOption found
-        (IsEnd (record { stacks = stacks.now; family = ListedEvents events.now }) cursors.now)
-        (λ e. IsFirstPoppable (record { stacks = stacks.now; family = ListedEvents events.now })
-        cursors.now (event_of e))) }
-    ensures reader { reader.new ≡ reader.old }
-{
-    let Some(place) = first_poppable_listed(stacks, events, reader, cursors) else {
-        return Ok(None);
-    };
-    let cube = events.cube(place).copy(alloc)?;
-    Ok(Some((place, cube)))
-}
-
-// The first poppable cycle.
-fn first_cycle(
-    alloc: Global,
-    stacks: &Stacks,
-    arrows: &Arrows,
-    reader: &mut Reader,
-    cursors: &Cursors,
-) -> Result<Option<(u32, Cube)>, AllocError>
-    requires fits { FamilyFits stacks.now (CycleEvents arrows.now) }
-    requires count { variables_of stacks.now ≡ length cursors.now }
-    requires within { AreWithin stacks.now cursors.now }
-    requires belongs { Belongs stacks.now reader.old }
-    ensures first { IfOk result (λ found. MatchOption found
-        (IsEnd (record { stacks = stacks.now; family = CycleEvents arrows.now }) cursors.now)
-        (λ e. IsFirstPoppable (record { stacks = stacks.now; family = CycleEvents arrows.now })
-        cursors.now (event_of e))) }
-    ensures reader { reader.new ≡ reader.old }
-{
-    let current = CurrentArrows::of(stacks, arrows);
-    let Some(cube) = first_poppable_cycle(alloc, &current, reader, cursors)? else {
-        return Ok(None);
-    };
-    let (unit, _) = cube.pair(0);
-    Ok(Some((unit, cube)))
 }
 
 /// Every event that occurs at cursors that are below the heights, by rising unit. Each listed event

@@ -1,11 +1,10 @@
-ghost use Rattle.std.specs.Prelude.{◌≡◌, ◌<◌, ℕ, Bool, List, length, All, IfOk, OnOk};
+ghost use Rattle.std.specs.Prelude.{◌≡◌, ◌<◌, ℕ, Bool, List, length, All, IfOk};
 ghost use Rattle.pop_model.specs.Stacks.{variables_of};
 ghost use Rattle.pop_model.specs.Popping.{AreWithin};
 ghost use Rattle.pop_model.specs.Families.{units_of};
 ghost use Rattle.pop_model.specs.Runs.{IsFirstEnd, start_of};
 ghost use Rattle.confluence_core.specs.Kept.{keeps_log};
-ghost use Rattle.pop_stacks.specs.Readers.{Belongs};
-ghost use Rattle.confluence_core.specs.Runs.{IsEndOver, IsRunOf, MissesNone, PopsFirst};
+ghost use Rattle.confluence_core.specs.Runs.{IsEndOver, IsRunOf, MissesNone};
 ghost use Rattle.confluence_core.specs.Stretches.{IsReached, HasCome};
 
 use crate::looks::{first_poppable, occurring};
@@ -13,30 +12,6 @@ use crate::{End, Indexed, Keep, Reached, Run, Units};
 use pop_instance::{Cursors, Instance, Values};
 use pop_stacks::Reader;
 use std::alloc::{AllocError, Global};
-
-// Pops the poppable event of least unit, and answers whether there was one.
-fn pop_first(
-    alloc: Global,
-    instance: &Instance,
-    reader: &mut Reader,
-    cursors: &mut Cursors,
-) -> Result<bool, AllocError>
-    requires count { variables_of instance.now.stacks ≡ length cursors.old }
-    requires within { AreWithin instance.now.stacks cursors.old }
-    requires belongs { Belongs instance.now.stacks reader.old }
-    ensures first { IfOk result (PopsFirst instance.now cursors.old cursors.new) }
-    ensures count { OnOk result (variables_of instance.now.stacks ≡ length cursors.new) }
-    ensures within { OnOk result (AreWithin instance.now.stacks cursors.new) }
-    ensures reader { reader.new ≡ reader.old }
-{
-    let _units = instance.units();
-    let Some((_, cube)) = first_poppable(alloc, instance, reader, cursors)? else {
-        return Ok(false);
-    };
-    cursors.pop(&cube);
-    drop(cube);
-    Ok(true)
-}
 
 /// The one-thread run: from zeros it pops the poppable event of least unit until there is none. It
 /// is slow, since each pop looks for that event anew.
@@ -49,7 +24,9 @@ pub fn run_first(alloc: Global, instance: &Instance) -> Result<End, AllocError>
     let mut reader = Reader::new(stacks);
     let mut cursors = Cursors::zeros(alloc, stacks.count())?;
     let mut pops: u64 = 0;
-    'pops: while pop_first(alloc, instance, &mut reader, &mut cursors)? {
+    'pops: while let Some((_, cube)) = first_poppable(alloc, instance, &mut reader, &cursors)? {
+        cursors.pop(&cube);
+        drop(cube);
         pops += 1;
     }
     let stuck = occurring(alloc, instance, &mut reader, &cursors)?;

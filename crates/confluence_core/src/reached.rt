@@ -101,19 +101,13 @@ impl Reached {
           log = self.log;
         } }
     {
-        let Reached {
-            cursors,
-            pops,
-            log,
-            ..
-        } = self;
         let end = End {
-            cursors,
-            pops,
+            cursors: self.cursors,
+            pops: self.pops,
             stuck,
             values,
         };
-        Run { end, log }
+        Run { end, log: self.log }
     }
 }
 

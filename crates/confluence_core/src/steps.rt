@@ -1,9 +1,9 @@
-ghost use Rattle.std.specs.Prelude.{◌≡◌, suc, ◌<◌, ◌↔◌, length, All, IfOk, OnOk, IsTrue, slice_range, ◌+◌};
+ghost use Rattle.std.specs.Prelude.{◌≡◌, ◌<◌, ◌↔◌, length, All, IfOk, OnOk, IsTrue, ◌+◌};
 ghost use Rattle.pop_stacks.specs.Readers.{Belongs};
 ghost use Rattle.confluence_core.specs.CycleTables.{AreCursors};
-ghost use Rattle.confluence_core.specs.Walks.{IsPlaceOf, Closes, HasRoom};
+ghost use Rattle.confluence_core.specs.Walks.{IsPlaceOf};
 ghost use Rattle.confluence_core.specs.LoopErasedWalks.{StaySettled, IsSized, HasPath, Walks};
-ghost use Rattle.confluence_core.specs.Steps.{LeadsTo, Extends, RunsOn, PopsOrNotes, Advances};
+ghost use Rattle.confluence_core.specs.Steps.{LeadsTo, Extends, RunsOn, Advances};
 
 use crate::current_arrows::CurrentArrows;
 use crate::walk::Walk;
@@ -28,9 +28,9 @@ impl<'a> Walk<'a> {
     // Where a variable stands on the path: only where its mark says so, and it stands there.
     fn place_of(&self, variable: u32) -> Option<usize>
         requires sized { IsSized self.now }
-        requires trail { HasPath self.now (suc self.now.depth) }
+        requires trail { HasPath self.now (self.now.depth + 1) }
         requires known { variable < length self.now.current.heads }
-        ensures { IsPlaceOf self.now.path.items (suc self.now.depth) variable result }
+        ensures { IsPlaceOf self.now.path.items (self.now.depth + 1) variable result }
     {
         let mark = self.marks[variable as usize] as usize;
         if mark == 0 || mark - 1 > self.depth {
@@ -68,28 +68,6 @@ impl<'a> Walk<'a> {
         }
     }
 
-    // Pops the cycle that the path closes from a place on; or notes it, where one of its variables
-    // is at its last entry or the limit is reached. Whether it was popped.
-    fn close(
-        &mut self,
-        alloc: Global,
-        reader: &mut Reader,
-        place: usize,
-    ) -> Result<bool, AllocError>
-        requires sized { IsSized self.old }
-        requires closes { Closes self.old.current self.old.walked.cursors self.old.marks.items
-            self.old.path.items self.old.depth place }
-        requires room { HasRoom self.old.current self.old.walked }
-        requires belongs { Belongs self.old.current.stacks reader.old }
-        ensures closed { IfOk result (PopsOrNotes self.old self.new
-            (slice_range self.old.path.items place (self.old.depth + 1))) }
-        ensures reader { reader.new ≡ reader.old }
-    {
-        let members = &self.path[place..self.depth + 1];
-        self.walked
-            .pop_or_note(alloc, &self.current, reader, members)
-    }
-
     /// Goes a step of a walk, and answers whether it goes on. A cycle that closes is popped, and
     /// the walk goes on from where it closed; one that can't be popped ends the walk.
     pub fn advance(&mut self, alloc: Global, reader: &mut Reader) -> Result<bool, AllocError>
@@ -109,7 +87,11 @@ impl<'a> Walk<'a> {
             }
             Step::Rests => Ok(false),
             Step::Back(place) => {
-                if !self.close(alloc, reader, place)? {
+                let members = &self.path[place..self.depth + 1];
+                let is_popped = self
+                    .walked
+                    .pop_or_note(alloc, &self.current, reader, members)?;
+                if !is_popped {
                     return Ok(false);
                 }
                 self.at = self.path[place];

@@ -3,7 +3,7 @@ ghost use Rattle.pop_model.specs.Runs.{IsEnd, IsStuckList};
 ghost use Rattle.pop_stacks.specs.Readers.{Belongs};
 ghost use Rattle.confluence_core.specs.CycleTables.{cycles, AreCursors};
 ghost use Rattle.confluence_core.specs.Walks.{HasRoom, IsSettled};
-ghost use Rattle.confluence_core.specs.LoopErasedWalks.{Stands, StaySettled, IsOver, SettlesPath};
+ghost use Rattle.confluence_core.specs.LoopErasedWalks.{Stands, StaySettled};
 ghost use Rattle.confluence_core.specs.Steps.{RunsOn};
 
 use crate::current_arrows::CurrentArrows;
@@ -45,31 +45,18 @@ impl<'a> Walk<'a> {
         ensures walked { IfOk result (λ walk. walk.walked ≡ walked) }
     {
         let count = current.count() as usize;
-        match zeros_twice(alloc, count) {
-            Ok((marks, path)) => Ok(Walk {
-                current,
-                walked,
-                marks,
-                path,
-                depth: 0,
-                at: 0,
-            }),
-            Err(error) => {
-                drop(walked);
-                Err(error)
-            }
-        }
+        let (marks, path) = zeros_twice(alloc, count)?;
+        Ok(Walk {
+            current,
+            walked,
+            marks,
+            path,
+            depth: 0,
+            at: 0,
+        })
     }
 
-    // Settles the variables of the path, where the walk is over.
-    fn settle_path(&mut self)
-        requires over { IsOver self.old }
-        ensures { SettlesPath self.old self.new }
-    {
-        mark_all(&mut self.marks, &self.path[..self.depth + 1], SETTLED);
-    }
-
-    // Walks from a variable until it is settled.
+    // Walks from a variable until it is settled, and settles what was met.
     fn settle(&mut self, alloc: Global, reader: &mut Reader, start: u32) -> Result<(), AllocError>
         requires stands { Stands self.old }
         requires known { start < length self.old.current.heads }
@@ -87,46 +74,8 @@ impl<'a> Walk<'a> {
         self.depth = 0;
         self.at = start;
         'walk: while self.advance(alloc, reader)? {}
-        self.settle_path();
+        mark_all(&mut self.marks, &self.path[..self.depth + 1], SETTLED);
         Ok(())
-    }
-
-    /// Walks from each variable in turn, until no cycle can be popped or the limit is reached, and
-    /// lists the cycles that occur then. Each walk looks at an entry once more than it pops cycles
-    /// there, so the time is linear in the variables, their entries that are used and, but for a
-    /// logarithm, the variables of stuck cycles.
-    pub fn settle_all(&mut self, alloc: Global, reader: &mut Reader) -> Result<(), AllocError>
-        requires stands { Stands self.old }
-        requires belongs { Belongs self.old.current.stacks reader.old }
-        ensures runs { OnOk result (RunsOn self.old.current self.old.walked self.new.walked) }
-        ensures cursors { OnOk result (AreCursors self.old.current self.new.walked.cursors) }
-        ensures end { OnOk result (self.new.walked.pops < self.new.walked.limit
-            → IsEnd (cycles self.old.current) self.new.walked.cursors) }
-        ensures room { OnOk result (HasRoom self.old.current self.new.walked) }
-        ensures stuck_list { OnOk result
-            (IsStuckList (cycles self.old.current) self.new.walked.cursors self.new.walked.stuck) }
-        ensures reader { reader.new ≡ reader.old }
-    {
-        for v in 0..self.current.count() {
-            self.settle(alloc, reader, v)?;
-        }
-        self.walked.stuck.sort();
-        Ok(())
-    }
-
-    /// What the walks left.
-    pub fn into_walked(self) -> Walked
-        ensures { result ≡ self.entry.walked }
-    {
-        let Walk {
-            current: _,
-            walked,
-            marks: _,
-            path: _,
-            depth: _,
-            at: _,
-        } = self;
-        walked
     }
 }
 
@@ -140,7 +89,10 @@ fn zeros_twice(alloc: Global, count: usize) -> Result<(Vec<u32>, Vec<u32>), Allo
     Ok((first, second))
 }
 
-/// What walks leave from here on, at the limit or an end.
+/// What walks leave from here on. They begin at each variable in turn, until no cycle can be popped
+/// or the limit is reached, and list the cycles that occur then. Each walk looks at an entry once
+/// more than it pops cycles there, so the time is linear in the variables, their entries that are
+/// used and, but for a logarithm, the variables of stuck cycles.
 pub(crate) fn left_by_walks(
     alloc: Global,
     current: CurrentArrows,
@@ -161,11 +113,10 @@ pub(crate) fn left_by_walks(
     ensures reader { reader.new ≡ reader.old }
 {
     let mut walk = Walk::new(alloc, current, walked)?;
-    match walk.settle_all(alloc, reader) {
-        Ok(()) => Ok(walk.into_walked()),
-        Err(error) => {
-            drop(walk);
-            Err(error)
-        }
+    for v in 0..walk.current.count() {
+        walk.settle(alloc, reader, v)?;
     }
+    let mut left = walk.walked;
+    left.stuck.sort();
+    Ok(left)
 }

@@ -44,13 +44,8 @@ impl WorkList {
         ensures waits { IfOk result (λ work. All (Contains work.list) waiting.now) }
     {
         let mut work = WorkList::new(alloc, units)?;
-        match work.add_all(waiting) {
-            Ok(()) => Ok(work),
-            Err(error) => {
-                drop(work);
-                Err(error)
-            }
-        }
+        work.add_all(waiting)?;
+        Ok(work)
     }
 
     /// Takes a unit out of the list.

@@ -1,16 +1,15 @@
-use Rattle.std.proofs.Common.{◌≡◌, ◌<◌, ◌^◌, ◌-◌, ◌+◌, ◌∷◌, [], ℕ, List, All, Option, length, refl, sym, ap, subst, ◌∙◌, arith}
+use Rattle.std.proofs.Common.{◌≡◌, ◌<◌, ◌+◌, ◌∷◌, [], ℕ, List, length, refl, sym, subst, ◌∙◌, arith}
 use Rattle.std.proofs.lemmas.Bool.{lt-ltb, ltb-true}
 use Rattle.pop_model.specs.Stacks.{StackTable, variables_of}
-use Rattle.pop_model.specs.Popping.{Cube, NamesBelow, cursor, pop}
+use Rattle.pop_model.specs.Popping.{Cube, NamesBelow, pop}
 use Rattle.pop_model.specs.Instances.{IsInstance}
-use Rattle.pop_model.specs.Logs.{LogRecord}
 use Rattle.pop_model.proofs.PopLemmas.{length-pop}
-use Rattle.pop_model.proofs.Room.{left_from, within_pop}
+use Rattle.pop_model.proofs.Room.{within_pop}
 use Rattle.pop_stacks.specs.Readers.{Belongs}
 use Rattle.pop_instance.specs.Events.{cube_at}
 use Rattle.pop_instance.proofs.ListedEvents.{index_units}
 use Rattle.confluence_core.specs.Records.{record_at}
-use Rattle.confluence_core.specs.Stretches.{LeadsOn, with_more}
+use Rattle.confluence_core.specs.Stretches.{with_more}
 use Rattle.confluence_core.specs.Waiting.{PopsListed}
 use Rattle.confluence_core.specs.WorkList.{GainsSharing}
 use Rattle.confluence_core.specs.declared.reached.Reached.{Reached}
@@ -21,34 +20,28 @@ use Rattle.confluence_core.proofs.Reaching.{leads_pop, leads_then}
 use Rattle.confluence_core.proofs.listed_runs.pop_waiting.Goals as goal
 
 -- the cube of a listed event names variables that have cursors
-cube_known : (s : StackTable) (rows : List (ℕ × Cube)) (at : List ℕ) (place : ℕ) (e : Cube) → IsInstance (listed s rows)
+cube_known : {s : StackTable} {rows : List (ℕ × Cube)} (at : List ℕ) (place : ℕ) {e : Cube} → IsInstance (listed s rows)
     → variables_of s ≡ length at → place < length rows → e ≡ cube_at rows place → NamesBelow e (length at)
-cube_known s rows at place e is count within same =
+cube_known {s} {rows} at place is count within same =
     subst (λ f. NamesBelow f (length at)) (sym same)
     (event_known (listed s rows) (event_at rows place) at is.fits (event_from rows (event_at rows place) within refl)
     count)
 
-pub pops-init : goal.pops-init
-pops-init c = record { popped = c.requires.waits; belongs = c.requires.belongs; reader = refl }
-
 pub keep_record-requires : goal.keep_record-requires
 keep_record-requires c = record {
-  known = cube_known c.args.stacks.now c.args.listed.events.now c.pops.reached.cursors c.in-Some.place
-      c.cube-cube.result.now c.requires.instance c.pops.invariant.popped.count c.in-Some.ensures.next.1.within
-      c.cube-cube.ensures;
+  known = cube_known c.pops.reached.cursors c.in-Some.place c.requires.instance c.pops.invariant.popped.count
+      c.in-Some.ensures.next.1.within c.cube-cube.ensures;
 }
 
 pub pop-requires-clause-known : goal.pop-requires-clause-known
 pop-requires-clause-known c =
-    cube_known c.args.stacks.now c.args.listed.events.now c.pops.reached.cursors c.in-Some.place c.cube-cube.result.now
-    c.requires.instance c.pops.invariant.popped.count c.in-Some.ensures.next.1.within c.cube-cube.ensures
+    cube_known c.pops.reached.cursors c.in-Some.place c.requires.instance c.pops.invariant.popped.count
+    c.in-Some.ensures.next.1.within c.cube-cube.ensures
 
 pub pop-requires-clause-room : goal.pop-requires-clause-room
 pop-requires-clause-room c =
-    let at = c.pops.reached.cursors in
-    subst (λ (e : Cube). All (λ p. cursor at p.0 < 2 ^ 31 - 1) e) (sym c.cube-cube.ensures)
-    (next_low c.args.stacks.now at (cube_at c.args.listed.events.now c.in-Some.place) c.requires.instance.table
-    c.in-Some.ensures.next.1.poppable.next)
+    rw c.cube-cube.ensures (next_low c.args.stacks.now c.pops.reached.cursors
+    (cube_at c.args.listed.events.now c.in-Some.place) c.requires.instance.table c.in-Some.ensures.next.1.poppable.next)
 
 pub overflow_add-reached : goal.overflow_add-reached
 overflow_add-reached c = let room = c.pops.invariant.popped.room in omega (arith, room)
@@ -61,14 +54,10 @@ add_sharing-requires-clause-units c v below =
 
 pub pops-smaller : goal.pops-smaller
 pops-smaller c =
-    let s = c.args.stacks.now in
-    let at = c.pops.reached.cursors in
-    let rows = c.args.listed.events.now in
-    let place : ℕ = c.in-Some.place in
     let next = c.in-Some.ensures.next.1 in
-    subst (λ new. left_from s 0 new < left_from s 0 at) (sym (c.pop.ensures ∙ ap (pop at) c.cube-cube.ensures))
-    (listed_falls s at rows place next.within next.poppable.next c.requires.instance.family c.requires.instance.fits
-    c.pops.invariant.popped.count)
+    rw c.pop.ensures (rw c.cube-cube.ensures (listed_falls c.args.stacks.now c.pops.reached.cursors
+    c.args.listed.events.now c.in-Some.place next.within next.poppable.next c.requires.instance.family
+    c.requires.instance.fits c.pops.invariant.popped.count))
 
 pub pops-preserved : goal.pops-preserved
 pops-preserved c =
@@ -77,39 +66,33 @@ pops-preserved c =
     let at = was.cursors in
     let rows = c.args.listed.events.now in
     let i = listed s rows in
-    let limit = c.args.limit in
     let place : ℕ = c.in-Some.place in
     let cube : Cube = cube_at rows place in
     let next = c.in-Some.ensures.next.1 in
     let old = c.pops.invariant.popped in
     let falls = listed_falls s at rows place next.within next.poppable.next c.requires.instance.family
     c.requires.instance.fits old.count in
-    let log = with_more was.log (record_at place cube at ∷ []) in
-    let kept : c.keep_record.new.log ≡ log = c.in_ok-keep_record.ensures
-    ∙ ap (λ (e : Cube). with_more was.log (record_at place e at ∷ [])) c.cube-cube.ensures in
-    let before = c.next_below.new.work in
     let after = c.add_sharing.new.self in
-    let gains : GainsSharing before after c.args.listed.index.now cube =
-    subst (GainsSharing before after c.args.listed.index.now) c.cube-cube.ensures c.in_ok-add_sharing.ensures in
-    let now : Reached = record was { cursors = pop at cube; pops = was.pops + 1; log = log } in
-    let leads : LeadsOn i c.args.reached.now now = leads_then i c.args.reached.now was now old.leads
-    (leads_pop i at was.pops was.log was.suspects was.suspects (record_at place cube at)
-    (legal_at s at rows place next.within next.poppable)) in
-    let popped : PopsListed s rows limit c.args.reached.now now after = record {
-      leads = leads;
+    let gains : GainsSharing c.next_below.new.work after c.args.listed.index.now cube =
+    rw c.cube-cube.ensures at c.in_ok-add_sharing.ensures in
+    let now : Reached = record was {
+      cursors = pop at cube;
+      pops = was.pops + 1;
+      log = with_more was.log (record_at place cube at ∷ []);
+    } in
+    let popped : PopsListed s rows c.args.limit c.args.reached.now now after = record {
+      leads = leads_then i c.args.reached.now was now old.leads
+          (leads_pop i at was.pops was.log was.suspects was.suspects (record_at place cube at)
+          (legal_at s at rows place next.within next.poppable));
       count = old.count ∙ sym (length-pop at cube);
       within = within_pop s at cube old.count next.poppable.next old.within;
-      most = λ most. let below = ltb-true was.pops limit c.in-Some.ensures.next.0 in omega (arith, below);
+      most = λ most. let below = ltb-true was.pops c.args.limit c.in-Some.ensures.next.0 in omega (arith, below);
       room = omega (arith, falls, old.room);
       units = gains.units ∙ c.in-Some.ensures.units ∙ old.units;
-      covers = covers_pop s at rows c.args.listed.index.now place before after c.requires.instance.family
-          c.requires.index next gains;
+      covers = covers_pop place c.requires.instance.family c.requires.index next gains;
     } in
     record {
-      popped = subst (λ (x : Option (List LogRecord)). PopsListed s rows limit c.args.reached.now
-          (record was { cursors = c.pop.new.self; pops = was.pops + 1; log = x }) after) (sym kept)
-          (subst (λ x. PopsListed s rows limit c.args.reached.now (record now { cursors = x }) after)
-          (sym (c.pop.ensures ∙ ap (pop at) c.cube-cube.ensures)) popped);
+      popped = rw c.in_ok-keep_record.ensures (rw c.pop.ensures (rw c.cube-cube.ensures popped));
       belongs = subst (Belongs s) (sym c.in-Some.ensures.reader) c.pops.invariant.belongs;
       reader = c.in-Some.ensures.reader ∙ c.pops.invariant.reader;
     }

@@ -5,7 +5,7 @@ use Rattle.pop_instance.specs.Events.{cube_at}
 use Rattle.confluence_core.specs.Stuck.{event_of}
 use Rattle.confluence_core.specs.Search.{IsStuckBelow}
 use Rattle.confluence_core.proofs.Places.{event_at}
-use Rattle.confluence_core.proofs.StuckLists.{stuck_more, stuck_same}
+use Rattle.confluence_core.proofs.StuckLists.{stuck_more, stuck_same, stuck_list}
 use Rattle.confluence_core.proofs.listed_search.occurring_listed.Goals as goal
 use Rattle.confluence_core.proofs.listed_search.occurring_listed.Goals.{then-occurs+in_ok-copy+in_ok-push, else-occurs}
 
@@ -27,7 +27,7 @@ loop-unit-preserved c =
           ∙ ap (λ (e : Cube). c.loop-unit.stuck ++ event_of (n, e) ∷ []) cube in
           record {
             stuck = subst (IsStuckBelow s at rows (n + 1)) (sym is)
-                (stuck_more s at rows n c.loop-unit.stuck old.stuck within occurs);
+                (stuck_more old.stuck within occurs);
             reader = w.if-occurs.ensures.reader ∙ old.reader;
           }
       | else-occurs w ↦
@@ -35,7 +35,11 @@ loop-unit-preserved c =
           λ h. false≢true (w.if-occurs.ensures.occurs.1 (subst (Occurs s at) (sym c.cube-cube.ensures) h)) in
           record {
             stuck = subst (IsStuckBelow s at rows (n + 1)) (sym w.stuck-is)
-                (stuck_same s at rows n c.loop-unit.stuck old.stuck none);
+                (stuck_same old.stuck none);
             reader = w.if-occurs.ensures.reader ∙ old.reader;
           }
     ]
+
+pub returns-clause-stuck_list : goal.returns-clause-stuck_list
+returns-clause-stuck_list c =
+    stuck_list (omega (arith, c.count-unit-end.ensures.count, c.loop-unit-test.false)) c.loop-unit.invariant.stuck

@@ -1,9 +1,10 @@
-use Rattle.std.proofs.Common.{◌≡◌, ◌<◌, ◌+◌, ◌∷◌, ◌++◌, [], ℕ, List, Some, length, take, ap, ap₂, subst, sym, ◌∙◌, get_or, arith}
+use Rattle.std.proofs.Common.{◌≡◌, ◌<◌, ◌+◌, ◌∷◌, ◌++◌, [], ℕ, List, Some, length, take, ap, ap₂, sym, ◌∙◌, get_or, arith}
 use Rattle.std.specs.List.{slice_get}
 use Rattle.std.proofs.lemmas.List.{map_more, take_all}
 use Rattle.std.proofs.lemmas.Option.{get_or_from_slice_get, slice_get_within}
 use Rattle.pop_model.specs.Popping.{Cube, cursor}
 use Rattle.pop_model.specs.Logs.{entries_at}
+use Rattle.pop_model.proofs.Members.{all_at}
 use Rattle.confluence_core.proofs.log_record.entries_of.Goals as goal
 
 -- one entry more, of the next pair
@@ -18,14 +19,10 @@ entries_more at e i pair entry old new read is before more =
     ∙ sym (map_more entry_of e i pair (slice_get_within e i pair read))
 
 pub get-requires : goal.get-requires
-get-requires c =
-    let e : Cube = c.args.cube.now in
-    let pair = c.pair-v.result in
-    record {
-      known = subst (λ (p : ℕ × ℕ). p.0 < length c.args.cursors.now)
-          (get_or_from_slice_get e c.loop-i.i pair pair c.pair-v.ensures)
-          (c.requires.known c.loop-i.i pair (slice_get_within e c.loop-i.i pair c.pair-v.ensures));
-    }
+get-requires c = record {
+  known = all_at (λ (p : ℕ × ℕ). p.0 < length c.args.cursors.now) c.args.cube.now c.loop-i.i c.pair-v.result
+      c.pair-v.ensures c.requires.known;
+}
 
 pub loop-i-preserved : goal.loop-i-preserved
 loop-i-preserved c =

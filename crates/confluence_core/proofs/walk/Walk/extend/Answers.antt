@@ -1,98 +1,79 @@
-use Rattle.std.proofs.Common.{inl, inr, rules, ℕ, ◌≡◌, ◌+◌, ◌<◌, Some, None, length, get_or, set, sym, subst, ◌∙◌, arith, length-set}
+use Rattle.std.proofs.Common.{inl, inr, rules, ℕ, ◌≡◌, ◌+◌, ◌<◌, Some, length, get_or, set, sym, subst, ◌∙◌, arith, length-set}
 use Rattle.std.proofs.lemmas.List.{get_or_default}
 use Rattle.std.proofs.lemmas.Option.{none-some, same_Some}
 use Rattle.confluence_core.specs.CycleTables.{current_head}
 use Rattle.confluence_core.specs.Walks.{IsSettled}
 use Rattle.confluence_core.specs.LoopErasedWalks.{Walks}
 use Rattle.confluence_core.specs.declared.walk.Walk.{Walk}
-use Rattle.confluence_core.proofs.PathsLemmas.{room_for_more}
-use Rattle.confluence_core.proofs.Advancing.{step_path, step_rests, step_on, step_back, step_below}
+use Rattle.confluence_core.proofs.PathsLemmas.{room_for_more, pushed, step_rests, step_on, step_back, step_below}
 use Rattle.confluence_core.proofs.WalkSteps.{sized_same}
 use Rattle.confluence_core.proofs.walk.Walk.extend.Goals as goal
 
 -- the mark that is read, of a variable to which the new arrow leads
-mark_at : (w : Walk) → Walks w → (v m : ℕ) → current_head w.current w.walked.cursors w.at ≡ Some v
+mark_at : {w : Walk} → Walks w → (v m : ℕ) → current_head w.current w.walked.cursors w.at ≡ Some v
     → m ≡ get_or (set w.marks.items w.at (w.depth + 1)) v m → m ≡ get_or (set w.marks.items w.at (w.depth + 1)) v 0
-mark_at w walks v m leads read =
-    let below = step_below w.current w.walked.cursors w.marks.items w.path.items w.depth w.at walks.sized walks.goes_on
-    v leads in
+mark_at {w} walks v m leads read =
+    let below = step_below walks.sized walks.goes_on v leads in
     read ∙ get_or_default (set w.marks.items w.at (w.depth + 1)) v m 0
     (omega (arith, below, walks.sized.marks_are, length-set w.marks.items w.at (w.depth + 1)))
 
 pub index_mut-requires : goal.index_mut-requires
 index_mut-requires c =
-    let room = room_for_more c.args.self.now.current c.args.self.now.walked.cursors c.args.self.now.marks.items c.args.self.now.path.items
-    c.args.self.now.depth c.args.self.now.at c.requires.walks.goes_on in
-    let h : c.args.self.now.depth < length c.args.self.now.path.items = omega (arith, room, c.requires.walks.sized.places_are) in
+    let w = c.args.self.now in
+    let room = room_for_more c.requires.walks.sized c.requires.walks.goes_on in
+    let h : w.depth < length w.path.items = omega (arith, room, c.requires.walks.sized.places_are) in
     search rules
 
 pub overflow_cast-depth : goal.overflow_cast-depth
 overflow_cast-depth c =
-    let room = room_for_more c.args.self.now.current c.args.self.now.walked.cursors c.args.self.now.marks.items c.args.self.now.path.items
-    c.args.self.now.depth c.args.self.now.at c.requires.walks.goes_on in
+    let room = room_for_more c.requires.walks.sized c.requires.walks.goes_on in
     let units = c.requires.walks.sized.instance.units in
     omega (arith, room, units)
 
 pub overflow_add-depth : goal.overflow_add-depth
 overflow_add-depth c =
-    let room = room_for_more c.args.self.now.current c.args.self.now.walked.cursors c.args.self.now.marks.items c.args.self.now.path.items
-    c.args.self.now.depth c.args.self.now.at c.requires.walks.goes_on in
+    let room = room_for_more c.requires.walks.sized c.requires.walks.goes_on in
     let units = c.requires.walks.sized.instance.units in
     omega (arith, room, units)
 
 pub returns-in_default-clause-leads : goal.returns-in_default-clause-leads
 returns-in_default-clause-leads c =
-    let leads : current_head c.args.self.now.current c.args.self.now.walked.cursors c.args.self.now.at ≡ None =
-    sym c.head.ensures.head ∙ c.in_default.is in
-    step_rests c.args.self.now.current c.args.self.now.walked.cursors c.args.self.now.marks.items c.args.self.now.path.items c.args.self.now.depth c.args.self.now.at
-    c.requires.walks.sized c.requires.walks.goes_on
-    (λ w on. absurd (none-some w (sym leads ∙ on)))
+    step_rests c.requires.walks.sized c.requires.walks.goes_on
+    (λ w on. absurd (none-some w (sym c.in_default.is ∙ c.head.ensures.head ∙ on)))
 
 pub returns-then-mark-clause-leads : goal.returns-then-mark-clause-leads
 returns-then-mark-clause-leads c =
     let w = c.args.self.now in
-    let leads : current_head w.current w.walked.cursors w.at ≡ Some c.in-Some.w = sym c.head.ensures.head ∙ c.in-Some.is in
-    let marks = set w.marks.items w.at (w.depth + 1) in
-    let read = mark_at w c.requires.walks c.in-Some.w c.index-mark.result.now leads c.index-mark.ensures in
-    step_rests w.current w.walked.cursors w.marks.items w.path.items w.depth w.at c.requires.walks.sized
-    c.requires.walks.goes_on
-    (λ v on. subst (IsSettled marks) (same_Some c.in-Some.w v (sym leads ∙ on)) (sym read ∙ c.if-mark.true))
+    let leads = sym c.head.ensures.head ∙ c.in-Some.is in
+    let read = mark_at c.requires.walks c.in-Some.w c.index-mark.result.now leads c.index-mark.ensures in
+    step_rests c.requires.walks.sized c.requires.walks.goes_on
+    (λ v on. subst (IsSettled (set w.marks.items w.at (w.depth + 1))) (same_Some c.in-Some.w v (sym leads ∙ on))
+    (sym read ∙ c.if-mark.true))
 
 pub place_of-requires-clause-sized : goal.place_of-requires-clause-sized
 place_of-requires-clause-sized c =
     let w = c.args.self.now in
-    sized_same w.current w.walked.cursors w.marks.items w.path.items (set w.marks.items w.at (w.depth + 1))
-    (set w.path.items w.depth w.at) (length-set w.marks.items w.at (w.depth + 1))
-    (length-set w.path.items w.depth w.at) c.requires.walks.sized
+    sized_same (length-set w.marks.items w.at (w.depth + 1)) (length-set w.path.items w.depth w.at)
+    c.requires.walks.sized
 
 pub place_of-requires-clause-trail : goal.place_of-requires-clause-trail
-place_of-requires-clause-trail c =
-    let w = c.args.self.now in
-    step_path w.current w.walked.cursors w.marks.items w.path.items w.depth w.at c.requires.walks.sized
-    c.requires.walks.goes_on
+place_of-requires-clause-trail c = pushed c.requires.walks.sized c.requires.walks.goes_on
 
 pub place_of-requires-clause-known : goal.place_of-requires-clause-known
 place_of-requires-clause-known c =
-    let w = c.args.self.now in
-    step_below w.current w.walked.cursors w.marks.items w.path.items w.depth w.at c.requires.walks.sized
-    c.requires.walks.goes_on c.in-Some.w (sym c.head.ensures.head ∙ c.in-Some.is)
+    step_below c.requires.walks.sized c.requires.walks.goes_on c.in-Some.w (sym c.head.ensures.head ∙ c.in-Some.is)
 
 pub returns-in-Some-place_of-clause-leads : goal.returns-in-Some-place_of-clause-leads
 returns-in-Some-place_of-clause-leads c =
-    let w = c.args.self.now in
     let found = c.in-Some-place_of.ensures in
-    step_back w.current w.walked.cursors w.marks.items w.path.items w.depth w.at c.requires.walks.sized
-    c.requires.walks.goes_on c.in-Some.w (sym c.head.ensures.head ∙ c.in-Some.is) c.in-Some-place_of.place found.0
-    found.1
+    step_back c.requires.walks.sized c.requires.walks.goes_on c.in-Some.w (sym c.head.ensures.head ∙ c.in-Some.is)
+    c.in-Some-place_of.place found.0 found.1
 
 pub returns-in-None-clause-leads : goal.returns-in-None-clause-leads
 returns-in-None-clause-leads c =
-    let w = c.args.self.now in
-    let leads : current_head w.current w.walked.cursors w.at ≡ Some c.in-Some.w = sym c.head.ensures.head ∙ c.in-Some.is in
-    let marks = set w.marks.items w.at (w.depth + 1) in
-    let read = mark_at w c.requires.walks c.in-Some.w c.index-mark.result.now leads c.index-mark.ensures in
-    step_on w.current w.walked.cursors w.marks.items w.path.items w.depth w.at c.requires.walks.sized
-    c.requires.walks.goes_on c.in-Some.w leads (λ met. elim met [
+    let leads = sym c.head.ensures.head ∙ c.in-Some.is in
+    let read = mark_at c.requires.walks c.in-Some.w c.index-mark.result.now leads c.index-mark.ensures in
+    step_on c.requires.walks.sized c.requires.walks.goes_on c.in-Some.w leads (λ met. elim met [
       | inl at ↦ c.if-mark.false (read ∙ at)
       | inr on ↦ c.in-None.ensures on
     ])

@@ -3,11 +3,11 @@ use Rattle.std.proofs.lemmas.List.{length-replicate}
 use Rattle.confluence_core.proofs.WholeWalks.{walks_begin}
 use Rattle.confluence_core.proofs.walk.Walk.new.Goals as goal
 
-pub returns-in-Ok-clause-stands : goal.returns-in-Ok-clause-stands
-returns-in-Ok-clause-stands c =
+pub returns-clause-stands : goal.returns-clause-stands
+returns-clause-stands c =
     let count = c.count-count.result in
-    let zeros = c.in-Ok.ensures in
-    walks_begin _ count
+    let zeros = c.in_ok-marks.ensures in
+    walks_begin count
     (record {
       instance = c.count-count.ensures.instance;
       cursors = c.requires.cursors;

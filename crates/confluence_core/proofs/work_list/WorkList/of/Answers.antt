@@ -8,8 +8,5 @@ add_all-requires c = record {
       c.requires.known;
 }
 
-pub returns-in-Ok-clause-units : goal.returns-in-Ok-clause-units
-returns-in-Ok-clause-units c = c.in-Ok.ensures.units ∙ ap (λ (w : Waiting). w.units) c.in_ok-work.ensures
-
-pub returns-in-Ok-clause-waits : goal.returns-in-Ok-clause-waits
-returns-in-Ok-clause-waits c = c.in-Ok.ensures.gained
+pub returns-clause-units : goal.returns-clause-units
+returns-clause-units c = c.in_ok-add_all.ensures.units ∙ ap (λ (w : Waiting). w.units) c.in_ok-work.ensures

@@ -1,6 +1,6 @@
 use Rattle.std.proofs.Common.{◌≡◌, ◌<◌, ℕ}
 use Rattle.confluence_core.specs.LeastVariables.{IsQuietAt}
-use Rattle.confluence_core.proofs.cycle_search.first_walk.Given as goal
+use Rattle.confluence_core.proofs.cycle_search.first_poppable_cycle.Given as goal
 
 -- no cycle whose least variable is before here is poppable
 abbrev pub invariant-loop-v : goal.invariant-loop-v

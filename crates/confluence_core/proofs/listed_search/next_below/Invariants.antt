@@ -1,6 +1,6 @@
 use Rattle.std.proofs.Common.{◌≡◌, length}
 use Rattle.confluence_core.specs.Search.{Covers}
-use Rattle.confluence_core.proofs.listed_search.next_poppable.Given as goal
+use Rattle.confluence_core.proofs.listed_search.next_below.Given as goal
 
 -- the list covers the poppable events, and the reader is as it came
 abbrev pub invariant-loop-unit : goal.invariant-loop-unit
