@@ -1,23 +1,17 @@
 -- What callers use of a claim, and of the room of a log.
+use Rattle.std.proofs.lemmas.Bool.Decides.{nat_tests}
 use Rattle.std.proofs.Common.{cond, le-ltb, ◌≡◌, ℕ, ◌^◌, ◌<◌, ◌≤◌, [], ◌∷◌, ◌++◌, refl, ap, ◌∙◌, arith}
-use Rattle.std.specs.Prelude.{Option, Some, None, is_some}
-use mathlib.Core.Logic.{dite}
-use native.Mathlib.Decide.{ℕ_discrete}
 use Rattle.claim_words.specs.declared.view.View.{View}
-use Rattle.claim_words.specs.declared.kept_log.KeptLog.{KeptLog}
 use Rattle.claim_words.specs.Words.{cursor_in}
 use Rattle.claim_words.specs.Maps.{Pairs, is_at, times, look}
 use Rattle.claim_words.specs.Steps.{claimed_by}
-use Rattle.claim_words.specs.KeptLogs.{HasRoom, spare_in}
-use Rattle.claim_words.proofs.Totals.{total-append, is_at-yes, is_at-no, look-hit, look-miss}
+use Rattle.claim_words.proofs.Totals.{total-append, is_at-yes}
 use Rattle.claim_words.proofs.ClaimKeepsRule.{held_after}
 
 -- the cursor of a pair that was added at the end
 pub look_end : (v c : ℕ) (l : Pairs) → times v l ≡ 0 → look v (l ++ (v, c) ∷ []) ≡ c
-look_end v c [] none = look-hit v (v, c) [] refl
-look_end v c (p ∷ ps) none = dite (ℕ_discrete p.0 v)
-    (λ e. absurd (omega (arith, is_at-yes v p e)))
-    (λ ne. look-miss v p (ps ++ (v, c) ∷ []) ne ∙ look_end v c ps (omega (arith, is_at-no v p ne)))
+look_end v c [] none = grind (arith, nat_tests)
+look_end v c (p ∷ ps) none = grind (arith, nat_tests, look_end v c ps)
 
 -- after a claim that was granted the pass holds the variable, with the cursor of its word
 pub mine : (d e : View) (v w : ℕ) → e ≡ claimed_by d v w → w < 2 ^ 63 → times v d.held ≡ 0

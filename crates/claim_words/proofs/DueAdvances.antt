@@ -1,5 +1,6 @@
 -- The turns of loops over the pairs that are due, and over cursors.
 use Rattle.std.proofs.Common.{arith, refl, ℕ, zero, suc, [], ◌∷◌, ap, sym, ◌∙◌, subst, ◌≡◌, ◌≤◌, ◌<◌, ◌+◌, drop, length, slice_get, Some}
+use Rattle.std.proofs.lemmas.List.{drop_all}
 use Rattle.std.proofs.lemmas.Option.{none-some, same_Some}
 use Rattle.pop_model.specs.Popping.{Cube, IsCube}
 use Rattle.pop_model.specs.Instances.{Instance}
@@ -16,18 +17,13 @@ turn [] i p e = absurd (none-some p e)
 turn (x ∷ xs) zero p e = ap (λ (q : ℕ × ℕ). q ∷ xs) (same_Some x p e)
 turn (x ∷ xs) (suc i) p e = turn xs i p e
 
--- no pair is left at the end
-over : (l : Pairs) (i : ℕ) → length l ≤ i → drop i l ≡ []
-over [] zero h = refl
-over [] (suc i) h = refl
-over (x ∷ xs) zero h = absurd (omega arith)
-over (x ∷ xs) (suc i) h = over xs i (omega arith)
-
--- the advance of the pair at a place is due, and its variable is held
+-- the advance of the pair at a place is due, and its variable is held, which does not stand behind it
 pub here_due : (n : ℕ) (d : View) (l : Pairs) (i : ℕ) (p : ℕ × ℕ) → IsDue n d (drop i l) → slice_get l i ≡ Some p
-    → (p.0 < n) × (times p.0 d.held ≡ 1) × (times p.0 d.due ≡ 1)
-here_due n d l i p due h = let t : IsDue n d (p ∷ drop (suc i) l) = subst (IsDue n d) (turn l i p h) due in
-    (t.2.0.0, t.2.0.1, omega (arith, ap (times p.0) t.0, t.1 p.0, is_at-yes p.0 p refl))
+    → (p.0 < n) × (times p.0 d.held ≡ 1) × (times p.0 d.due ≡ 1) × (times p.0 (drop (suc i) l) ≡ 0)
+here_due n d l i p due h =
+    let t : IsDue n d (p ∷ drop (suc i) l) = subst (IsDue n d) (turn l i p h) due in
+    let none : times p.0 (drop (suc i) l) ≡ 0 = omega (arith, t.1 p.0, is_at-yes p.0 p refl) in
+    (t.2.0.0, t.2.0.1, omega (arith, ap (times p.0) t.0, none, is_at-yes p.0 p refl), none)
 
 -- after it those of the pairs behind are due, and all come to the same view
 pub next_due : (n : ℕ) (d e : View) (l : Pairs) (i : ℕ) (p : ℕ × ℕ) → IsDue n d (drop i l) → slice_get l i ≡ Some p
@@ -44,8 +40,8 @@ next_due n d e l i p due h to = let rest = drop (suc i) l in
 
 -- at the end all advances were made
 pub done_due : (n : ℕ) (d : View) (l : Pairs) (i : ℕ) → IsDue n d (drop i l) → length l ≤ i → d ≡ raised_by d (drop i l)
-done_due n d l i due h = let none : d.due ≡ [] = due.0 ∙ over l i h in
-    ap (λ (x : Pairs). record d { due = x }) none ∙ ap (raised_by d) (sym (over l i h))
+done_due n d l i due h = let none : d.due ≡ [] = due.0 ∙ drop_all i l h in
+    ap (λ (x : Pairs). record d { due = x }) none ∙ ap (raised_by d) (sym (drop_all i l h))
 
 -- a ticket makes its advances due
 pub first_due : (i : Instance) (n : ℕ) (d : View) (u : ℕ) (cube : Cube) (t : ℕ) → IsCube cube → CanPop i d u cube
@@ -57,9 +53,3 @@ first_due i n d u cube t is can near = (
   each-both (λ (p : ℕ × ℕ). p.0 < n) (λ (p : ℕ × ℕ). times p.0 d.held ≡ 1) cube near
       (each-map (IsReady i d.held) (λ (p : ℕ × ℕ). times p.0 d.held ≡ 1) (λ p h. h.0) cube can.ready),
 )
-
--- the variable of a pair doesn't stand behind it
-pub none_behind : (n : ℕ) (d : View) (l : Pairs) (i : ℕ) (p : ℕ × ℕ) → IsDue n d (drop i l) → slice_get l i ≡ Some p
-    → times p.0 (drop (suc i) l) ≡ 0
-none_behind n d l i p due h = let t : IsDue n d (p ∷ drop (suc i) l) = subst (IsDue n d) (turn l i p h) due in
-    omega (arith, t.1 p.0, is_at-yes p.0 p refl)

@@ -1,11 +1,13 @@
 -- The variables of a map are the list that a pass keeps; a variable stands once in a cube.
-use Rattle.std.proofs.Common.{◌≡◌, ◌≢◌, ℕ, zero, suc, ◌+◌, ◌<◌, ◌≤◌, ◌||◌, cond, List, [], ◌∷◌, ◌++◌, length, get_or, take, drop, refl, sym, ap, ◌∙◌, arith, Contains, eq-eqb, ne_eqb, lt-ltb, le-ltb}
+use Rattle.std.proofs.Common.{◌≡◌, ◌≢◌, ℕ, zero, suc, ◌+◌, ◌<◌, ◌≤◌, cond, List, [], ◌∷◌, ◌++◌, length, get_or, take, drop, refl, sym, ap, ◌∙◌, arith, eq-eqb, ne_eqb}
+use Rattle.claim_words.proofs.SharersAreOwed.{find_in, in_contains}
+use Rattle.std.proofs.lemmas.Bool.Decides.{nat_tests}
 use mathlib.Core.Logic.{dite}
 use native.Mathlib.Decide.{ℕ_discrete, dec_le}
 use Rattle.pop_model.specs.Popping.{Cube, variables, names}
 use Rattle.pop_model.proofs.Following.{Rises, rises_rest, later}
-use Rattle.claim_words.specs.Maps.{Pairs, is_at, times, without, raise, raise_all, times_in, taken_out, is_from, many_from}
-use Rattle.claim_words.proofs.Totals.{is_at-yes, is_at-no, without-hit, without-miss, raise-hit, raise-miss}
+use Rattle.claim_words.specs.Maps.{Pairs, is_at, times, without, raise, raise_all, times_in, taken_out, many_from}
+use Rattle.claim_words.proofs.Totals.{is_at-yes, is_at-no}
 
 -- a variable stands among the variables of a map as often as in the map
 pub times-variables : (v : ℕ) (l : Pairs) → times_in v (variables l) ≡ times v l
@@ -31,17 +33,12 @@ one-miss v u ne = is_at-no v (u, 0) ne
 -- the variables of a map without v
 pub variables-without : (v : ℕ) (l : Pairs) → variables (without v l) ≡ taken_out v (variables l)
 variables-without v [] = refl
-variables-without v (p ∷ ps) = dite (ℕ_discrete p.0 v)
-    (λ e. ap variables (without-hit v p ps e) ∙ variables-without v ps ∙ sym (taken-hit v p.0 (variables ps) e))
-    (λ ne. ap variables (without-miss v p ps ne) ∙ ap (λ (l : List ℕ). p.0 ∷ l) (variables-without v ps)
-    ∙ sym (taken-miss v p.0 (variables ps) ne))
+variables-without v (p ∷ ps) = grind (arith, nat_tests, variables-without v ps)
 
 -- raising a number changes no variable
 pub variables-raise : (v : ℕ) (l : Pairs) → variables (raise v l) ≡ variables l
 variables-raise v [] = refl
-variables-raise v (p ∷ ps) = dite (ℕ_discrete p.0 v)
-    (λ e. ap variables (raise-hit v p ps e) ∙ ap (λ (l : List ℕ). p.0 ∷ l) (variables-raise v ps))
-    (λ ne. ap variables (raise-miss v p ps ne) ∙ ap (λ (l : List ℕ). p.0 ∷ l) (variables-raise v ps))
+variables-raise v (p ∷ ps) = grind (arith, nat_tests, variables-raise v ps)
 
 -- nor does raising several
 pub variables-raise_all : (cube l : Pairs) → variables (raise_all cube l) ≡ variables l
@@ -56,9 +53,7 @@ variables-push (q ∷ qs) p = ap (λ (l : List ℕ). q.0 ∷ l) (variables-push 
 -- what is not there needs not be taken out
 pub taken-none : (v : ℕ) (l : List ℕ) → times_in v l ≡ 0 → taken_out v l ≡ l
 taken-none v [] e = refl
-taken-none v (u ∷ us) e = dite (ℕ_discrete u v)
-    (λ is. absurd (omega (arith, one-hit v u is)))
-    (λ ne. taken-miss v u us ne ∙ ap (λ (l : List ℕ). u ∷ l) (taken-none v us (omega arith)))
+taken-none v (u ∷ us) e = grind (arith, nat_tests, taken-none v us)
 
 -- what stands at a place stands there at least once
 pub stands_in : (v : ℕ) (l : List ℕ) (i d : ℕ) → get_or l i d ≡ v → i < length l → 1 ≤ times_in v l
@@ -70,12 +65,9 @@ stands_in v (u ∷ us) (suc i) d e h = omega (arith, stands_in v us i d e (omega
 pub removed : (v : ℕ) (l : List ℕ) (i d : ℕ) → times_in v l ≡ 1 → get_or l i d ≡ v → i < length l
     → take i l ++ drop (suc i) l ≡ taken_out v l
 removed v [] i d e here h = absurd (omega arith)
-removed v (u ∷ us) zero d e here h = sym (taken-hit v u us here ∙ taken-none v us (omega (arith, one-hit v u here)))
+removed v (u ∷ us) zero d e here h = grind (arith, nat_tests, taken-none v us)
 removed v (u ∷ us) (suc i) d e here h =
-    let there = stands_in v us i d here (omega arith) in
-    let miss : u ≢ v = λ is. absurd (omega (arith, one-hit v u is)) in
-    ap (λ (l : List ℕ). u ∷ l) (removed v us i d (omega (arith, one-miss v u miss)) here (omega arith))
-    ∙ sym (taken-miss v u us miss)
+    let there = stands_in v us i d here (omega arith) in grind (arith, nat_tests, removed v us i d, there)
 
 -- it stands nowhere
 pub nowhere : (v : ℕ) (l : List ℕ) → ((j : ℕ) → j < length l → get_or l j 0 ≢ v) → times_in v l ≡ 0
@@ -94,57 +86,32 @@ behind v l i one after miss = dite (ℕ_discrete i 0)
     )))
     (λ ne. omega arith)
 
--- a variable of a map stands in a pair of it
-pub times_contains : (v : ℕ) (e : Cube) → 1 ≤ times v e → (x : ℕ) × Contains e (v, x)
-times_contains v [] h = absurd (omega arith)
-times_contains v (p ∷ ps) h = dite (ℕ_discrete p.0 v)
-    (λ is. (p.1, (0, omega arith, ap (λ (w : ℕ). (w, p.1)) is)))
-    (λ ne. let t = times_contains v ps (omega (arith, is_at-no v p ne)) in
-    (t.0, (suc t.1.0, omega (arith, t.1.1), t.1.2)))
-
 -- each variable of rising ones stands there once
 pub once : (e : Cube) → Rises e → (v : ℕ) → times v e ≤ 1
 once [] rises v = omega arith
 once (p ∷ ps) rises v = dite (ℕ_discrete p.0 v)
     (λ is. dite (dec_le 1 (times v ps))
-    (λ more. let t = times_contains v ps more in let less = later p ps v t.0 rises t.1 in absurd (omega arith))
+    (λ more. let t = find_in v ps more in
+    let less = later p ps v t.0 rises (in_contains (v, t.0) ps t.1) in absurd (omega arith))
     (λ none. omega (arith, is_at-yes v p is)))
     (λ ne. omega (arith, is_at-no v p ne, once ps (rises_rest p ps rises) v))
 
 -- what a pop adds to a cursor
 pub names_raise : (e : Cube) (v n : ℕ) → times v e ≤ 1 → cond (names e v) (n + 1) n ≡ n + times v e
 names_raise [] v n h = omega arith
-names_raise (p ∷ ps) v n h = dite (ℕ_discrete p.0 v)
-    (λ is. let more : n + 1 ≡ n + times v (p ∷ ps) = omega (arith, is_at-yes v p is) in
-    ap (λ b. cond (b || names ps v) (n + 1) n) (eq-eqb p.0 v is) ∙ more)
-    (λ ne. let same : n + times v ps ≡ n + times v (p ∷ ps) = omega (arith, is_at-no v p ne) in
-    ap (λ b. cond (b || names ps v) (n + 1) n) (ne_eqb p.0 v ne) ∙ names_raise ps v n (omega arith) ∙ same)
-
--- a member below n doesn't count from n on
-from-below : (n v : ℕ) → v < n → is_from n v ≡ 0
-from-below n v h = ap (λ b. cond b 0 1) (lt-ltb v n h)
-
--- a member that is n or more does
-from-above : (n v : ℕ) → n ≤ v → is_from n v ≡ 1
-from-above n v h = ap (λ b. cond b 0 1) (le-ltb v n h)
+names_raise (p ∷ ps) v n h = grind (arith, nat_tests, names_raise ps v n)
 
 -- none is n or more after a member below n came in
 pub many-push : (n v : ℕ) (l : List ℕ) → many_from n l ≡ 0 → v < n → many_from n (l ++ v ∷ []) ≡ 0
-many-push n v [] none h = omega (arith, from-below n v h)
-many-push n v (u ∷ us) none h = omega (arith, none, many-push n v us (omega (arith, none)) h)
+many-push n v [] none h = grind (arith, nat_tests)
+many-push n v (u ∷ us) none h = grind (arith, nat_tests, many-push n v us)
 
 -- none is n or more after a member went out
 pub many-taken_out : (n v : ℕ) (l : List ℕ) → many_from n l ≡ 0 → many_from n (taken_out v l) ≡ 0
 many-taken_out n v [] none = refl
-many-taken_out n v (u ∷ us) none = dite (ℕ_discrete u v)
-    (λ e. ap (many_from n) (taken-hit v u us e) ∙ many-taken_out n v us (omega (arith, none)))
-    (λ ne. ap (many_from n) (taken-miss v u us ne) ∙ omega (arith, none, many-taken_out n v us (omega (arith, none))))
+many-taken_out n v (u ∷ us) none = grind (arith, nat_tests, many-taken_out n v us)
 
 -- a member of a list where none is n or more is below n
 pub held_near : (n v : ℕ) (l : List ℕ) → many_from n l ≡ 0 → times_in v l ≡ 1 → v < n
 held_near n v [] none one = absurd (omega arith)
-held_near n v (u ∷ us) none one = dite (ℕ_discrete u v)
-    (λ e. dite (dec_le n u)
-    (λ le. absurd (omega (arith, none, from-above n u le)))
-    (λ lt. omega (arith, e)))
-    (λ ne. held_near n v us (omega (arith, none)) (omega (arith, one, one-miss v u ne)))
+held_near n v (u ∷ us) none one = grind (arith, nat_tests, held_near n v us)

@@ -1,7 +1,7 @@
 -- What becomes of tickets, entries and marks once the view of a pass changes.
-use Rattle.std.proofs.Common.{◌≡◌, ℕ, ◌+◌, ◌<◌, ◌≢◌, List, get_or, set, sym, ap, ◌∙◌, subst, inl, inr, ⊎_elim, arith, cond, eqb, eq-eqb}
+use Rattle.std.proofs.Common.{◌≡◌, ◌≢◌, ◌⊎◌, ℕ, ◌+◌, ◌<◌, List, get_or, set, sym, ap, ◌∙◌, subst, inl, inr, ⊎_elim, arith}
 use mathlib.Core.Logic.{dite}
-use native.Mathlib.Decide.{ℕ_discrete, dec_le}
+use native.Mathlib.Decide.{ℕ_discrete}
 use mathlib.Core.Option.{some, some-injective}
 use lib.ListN.{get_elem?}
 use Rattle.atomic_table.specs.Table.{State}
@@ -13,9 +13,10 @@ use Rattle.claim_words.specs.Changes.{Change, found_mark, left_mark}
 use Rattle.claim_words.specs.Openings.{count, Has, marks}
 use Rattle.claim_words.specs.Steps.{Drawn}
 use Rattle.claim_words.specs.Machine.{Use, used, abstract, Member, History, uses, IsPoppableAt, Tracks, Marked}
-use Rattle.claim_words.proofs.Totals.{inside, total-set, term_le}
-use Rattle.claim_words.proofs.SumsBelow.{below-same, below-only, only, only-same}
+use Rattle.claim_words.proofs.Totals.{inside, term_le}
+use Rattle.claim_words.proofs.SumsBelow.{below-same, only, only-same, only-low}
 use Rattle.claim_words.proofs.Memberships.{in_le}
+use Rattle.claim_words.proofs.TicketsAreLegal.{used-in}
 
 -- what is poppable depends on the cursors of variables alone
 pub pops_same : (k : Opening) (a b : ℕ → ℕ) (u : ℕ) → ((v : ℕ) → v < count k → b v ≡ a v)
@@ -28,33 +29,40 @@ pops_same k a b u same r = record {
 }
 
 module _ {S : Type 0} (k : Opening) where
-  -- the marks' part stays where no mark, no change of one and no abstract cursor is new
-  pub same_marks : (s t : State S View) → Marked k s
+  -- the marks' part stays where no mark and no change of one is new, and what is poppable is covered
+  pub marks_stay : (s t : State S View) → Marked k s
       → ((u : ℕ) → u < marks k → get_or t.words (1 + count k + u) 0 ≡ get_or s.words (1 + count k + u) 0)
-      → ((v : ℕ) → v < count k → abstract k t v ≡ abstract k s v)
-      → ((u : ℕ) → Tracks k s u → Tracks k t u)
       → ((g : Change → ℕ)
       → total (λ (d : View). total g d.changes) t.views ≡ total (λ (d : View). total g d.changes) s.views)
-      → Marked k t
-  same_marks s t m same abs tracks sums = record {
+      → ((u : ℕ) → u < marks k → IsPoppableAt k (abstract k t) u
+      → (get_or t.words (1 + count k + u) 0 ≡ 1) ⊎ Tracks k t u) → Marked k t
+  marks_stay s t m same sums covers = record {
     bits = λ u h. omega (arith, m.bits u h, same u h);
     counts = λ u h. omega (arith, m.counts u h, same u h, sums (found_mark u), sums (left_mark u));
-    covers = λ u h p. ⊎_elim (λ e. inl (same u h ∙ e)) (λ r. inr (tracks u r))
-        (m.covers u h (pops_same k (abstract k s) (abstract k t) u abs p));
+    covers = covers;
   }
 
-  -- a unit is tracked still where the lists of units stay
-  pub tracks_set : (s : State S View) (ws : List ℕ) (id : ℕ) (d e : View) → get_elem? s.views id ≡ some d
-      → e.taken ≡ d.taken → e.owed ≡ d.owed → (u : ℕ) → Tracks k s u
+  -- it is covered where no abstract cursor is new, and what was tracked is so still
+  pub same_marks : (s t : State S View) → Marked k s
+      → ((u : ℕ) → u < marks k → get_or t.words (1 + count k + u) 0 ≡ get_or s.words (1 + count k + u) 0)
+      → ((g : Change → ℕ)
+      → total (λ (d : View). total g d.changes) t.views ≡ total (λ (d : View). total g d.changes) s.views)
+      → ((v : ℕ) → v < count k → abstract k t v ≡ abstract k s v) → ((u : ℕ) → Tracks k s u → Tracks k t u)
+      → Marked k t
+  same_marks s t m same sums abs tracks = marks_stay s t m same sums (λ u h p.
+      ⊎_elim (λ e. inl (same u h ∙ e)) (λ r. inr (tracks u r))
+      (m.covers u h (pops_same k (abstract k s) (abstract k t) u abs p)))
+
+  -- a unit is tracked still where the pass keeps it
+  pub tracks_set : (s : State S View) (ws : List ℕ) (id : ℕ) (d e : View) → get_elem? s.views id ≡ some d → (u : ℕ)
+      → (In u d.taken → In u e.taken) → (In u d.owed → In u e.owed) → Tracks k s u
       → Tracks k (record { words = ws; homes = s.homes; views = set s.views id e }) u
-  tracks_set s ws id d e me taken owed u r = dite (ℕ_discrete r.0 id)
+  tracks_set s ws id d e me u f g r = dite (ℕ_discrete r.0 id)
       (λ is. let same : r.1 ≡ d = some-injective r.1 d (sym r.2 ∙ ap (get_elem? s.views) is ∙ me) in (
         id,
         e,
         set_here s.views id e (inside s.views id d me),
-        ⊎_elim
-            (λ i. inl (subst (λ (l : List ℕ). In u l) (sym taken) (subst (λ (x : View). In u x.taken) same i)))
-            (λ i. inr (subst (λ (l : List ℕ). In u l) (sym owed) (subst (λ (x : View). In u x.owed) same i))) r.3,
+        ⊎_elim (λ i. inl (f i)) (λ i. inr (g i)) (subst (λ (x : View). In u x.taken ⊎ In u x.owed) same r.3),
       ))
       (λ ne. (r.0, r.1, set_else s.views id r.0 e ne ∙ r.2, r.3))
 
@@ -73,58 +81,35 @@ module _ {S : Type 0} (k : Opening) where
     few = omega (arith, h.few, tick, below-same (abstract k t) (abstract k s) (count k) abs);
   }
 
-  -- a sum over all records stays where those of the pass do
-  pub mass_set : (s : State S View) (id : ℕ) (d e : View) → get_elem? s.views id ≡ some d → e.mine ≡ d.mine
-      → (g : Drawn → ℕ)
-      → total (λ (x : View). total g x.mine) (set s.views id e) ≡ total (λ (x : View). total g x.mine) s.views
-  mass_set s id d e me same g =
-      omega (arith, total-set (λ (x : View). total g x.mine) s.views id d e me, ap (total g) same)
-
-  -- a sum over all changes of marks stays where those of the pass do
-  pub changes_set : (s : State S View) (id : ℕ) (d e : View) → get_elem? s.views id ≡ some d
-      → e.changes ≡ d.changes → (g : Change → ℕ)
-      → total (λ (x : View). total g x.changes) (set s.views id e)
-      ≡ total (λ (x : View). total g x.changes) s.views
-  changes_set s id d e me same g =
-      omega (arith, total-set (λ (x : View). total g x.changes) s.views id d e me, ap (total g) same)
-
-  -- no record is new where those of the pass stay
-  pub member_set : (s : State S View) (ws : List ℕ) (id : ℕ) (d e : View) → get_elem? s.views id ≡ some d
-      → e.mine ≡ d.mine → (r : Drawn)
-      → Member k (record { words = ws; homes = s.homes; views = set s.views id e }) r → Member k s r
-  member_set s ws id d e me same r m = ⊎_elim
-      (λ (t : (m.0 ≡ id) × (e ≡ m.1)).
-      (id, d, me, subst (λ (l : List Drawn). In r l) (ap (λ (x : View). x.mine) (sym t.1) ∙ same) m.3))
-      (λ (t : (m.0 ≢ id) × (get_elem? s.views m.0 ≡ some m.1)). (m.0, m.1, t.1, m.3))
+  -- a record is one of the pass's, or was there before
+  pub member_set : {X : Type 0} (s : State S View) (ws : List ℕ) (id : ℕ) (e : View) (r : Drawn)
+      → (In r e.mine → X) → (Member k s r → X)
+      → Member k (record { words = ws; homes = s.homes; views = set s.views id e }) r → X
+  member_set s ws id e r mine old m = ⊎_elim
+      (λ (t : (m.0 ≡ id) × (e ≡ m.1)). mine (subst (λ (x : View). In r x.mine) (sym t.1) m.3))
+      (λ (t : (m.0 ≢ id) × (get_elem? s.views m.0 ≡ some m.1)). old (m.0, m.1, t.1, m.3))
       (at_set s.views id m.0 e m.1 m.2)
 
   -- every ticket is below the number of word 0
   pub ticket_low : (s : State S View) → History k s → (r : Drawn) → Member k s r → r.0 < get_or s.words 0 0
-  ticket_low s h r m = dite (dec_le (get_or s.words 0 0) r.0)
-      (λ le. let g : Drawn → ℕ = λ q. only r.0 q.0 in
-      absurd (omega (
-        arith,
-        h.tickets (only r.0),
-        below-only r.0 (get_or s.words 0 0) le,
-        term_le (λ (d : View). total g d.mine) s.views m.0 m.1 m.2,
-        in_le g r m.1.mine m.3,
-        only-same r.0,
-      )))
-      (λ lt. omega arith)
+  ticket_low s h r m = only-low r.0 (get_or s.words 0 0) (omega (
+    arith,
+    h.tickets (only r.0),
+    term_le (λ (d : View). total (λ q. only r.0 q.0) d.mine) s.views m.0 m.1 m.2,
+    in_le (λ (q : Drawn). only r.0 q.0) r m.1.mine m.3,
+    only-same r.0,
+  ))
 
   -- every entry is below the abstract cursor
   pub entry_low : (s : State S View) → History k s → (r : Drawn) (e : Use) → Member k s r → In e (uses r.1)
       → (v : ℕ) → v < count k → e.0 ≡ v → e.2 < abstract k s v
-  entry_low s h r e m i v near is = dite (dec_le (abstract k s v) e.2)
-      (λ le. let f : ℕ → ℕ = only e.2 in let g : Drawn → ℕ = λ q. used f v (uses q.1) in
-      let one : Use → ℕ = λ x. cond (eqb x.0 v) (f x.2) 0 in
-      let yes : one e ≡ 1 = ap (λ b. cond b (f e.2) 0) (eq-eqb e.0 v is) ∙ only-same e.2 in
-      absurd (omega (
+  entry_low s h r e m i v near is =
+      let g : Drawn → ℕ = λ q. used (only e.2) v (uses q.1) in
+      only-low e.2 (abstract k s v) (omega (
         arith,
-        h.entries v near f,
-        below-only e.2 (abstract k s v) le,
+        h.entries v near (only e.2),
         term_le (λ (d : View). total g d.mine) s.views m.0 m.1 m.2,
         in_le g r m.1.mine m.3,
-        in_le one e (uses r.1) i,
-      )))
-      (λ lt. omega arith)
+        used-in (only e.2) v (uses r.1) e i is,
+        only-same e.2,
+      ))

@@ -1,73 +1,27 @@
 -- Tickets in two lists: more uses, and more heads.
-use Rattle.std.proofs.Common.{◌≡◌, ℕ, zero, suc, ◌+◌, ◌<◌, ◌≤◌, List, [], ◌∷◌, ◌++◌, length, take, drop, get_or, refl, sym, ap, ap₂, ◌∙◌, arith}
-use Rattle.std.proofs.lemmas.List.{nil_from_length}
+use Rattle.std.proofs.Common.{◌≡◌, ℕ, ◌+◌, ◌<◌, ◌≤◌, List, [], ◌∷◌, ◌++◌, length, take, drop, get_or, refl, sym, ap, ap₂, ◌∙◌, arith}
+use Rattle.std.proofs.lemmas.List.{nil_from_length, take-append-le, drop-append-le, drop-drop, length-drop, length-append, drop_all, take_all, drop_more}
 use Rattle.pop_model.specs.Logs.{LogRecord}
 use Rattle.claim_words.specs.Machine.{Use}
 use Rattle.claim_words.specs.KeptLogs.{Head, record_of, many_uses, tickets_of}
 use Rattle.claim_words.proofs.Totals.{total-append}
-
-module _ {A : Type 0} where
-  -- the first members stay where others come behind
-  pub take-more : (n : ℕ) (l m : List A) → n ≤ length l → take n (l ++ m) ≡ take n l
-  take-more zero l m h = refl
-  take-more (suc n) [] m h = absurd (omega arith)
-  take-more (suc n) (x ∷ xs) m h = ap (λ (l : List A). x ∷ l) (take-more n xs m (omega arith))
-
-  -- so do those from a place on
-  pub drop-more : (n : ℕ) (l m : List A) → n ≤ length l → drop n (l ++ m) ≡ drop n l ++ m
-  drop-more zero l m h = refl
-  drop-more (suc n) [] m h = absurd (omega arith)
-  drop-more (suc n) (x ∷ xs) m h = drop-more n xs m (omega arith)
-
-  -- nothing is left of nothing
-  drop-none : (n : ℕ) → drop {A = A} n [] ≡ []
-  drop-none zero = refl
-  drop-none (suc n) = refl
-
-  -- dropping twice
-  pub drop-drop : (n k : ℕ) (l : List A) → drop k (drop n l) ≡ drop (n + k) l
-  drop-drop zero k l = ap (λ (i : ℕ). drop i l) (let e : k ≡ zero + k = omega arith in e)
-  drop-drop (suc n) k [] = drop-none k ∙ sym (drop-none (suc n + k))
-  drop-drop (suc n) k (x ∷ xs) = drop-drop n k xs
-      ∙ ap (λ (i : ℕ). drop i (x ∷ xs)) (let e : suc (n + k) ≡ suc n + k = omega arith in e)
-
-  -- how many are left
-  pub length-drop : (n : ℕ) (l : List A) → n ≤ length l → length (drop n l) + n ≡ length l
-  length-drop zero l h = omega arith
-  length-drop (suc n) [] h = absurd (omega arith)
-  length-drop (suc n) (x ∷ xs) h = omega (arith, length-drop n xs (omega arith))
-
-  -- how many two lists have
-  pub length-both : (l m : List A) → length (l ++ m) ≡ length l + length m
-  length-both [] m = omega arith
-  length-both (x ∷ xs) m = omega (arith, length-both xs m)
-
-  -- nothing is left where all are dropped
-  pub drop_whole : (l : List A) → drop (length l) l ≡ []
-  drop_whole [] = refl
-  drop_whole (x ∷ xs) = drop_whole xs
-
-  -- taking all
-  pub take_whole : (l : List A) → take (length l) l ≡ l
-  take_whole [] = refl
-  take_whole (x ∷ xs) = ap (λ (l : List A). x ∷ l) (take_whole xs)
 
 -- uses that come behind change no ticket
 pub tickets-more : (hs : List Head) (us vs : List (ℕ × ℕ × ℕ)) → many_uses hs ≤ length us
     → tickets_of hs (us ++ vs) ≡ tickets_of hs us
 tickets-more [] us vs h = refl
 tickets-more (x ∷ hs) us vs h =
-    let some = length-drop x.2 us (omega arith) in
+    let some = length-drop x.2 us in
     ap₂ (λ (l : List (ℕ × ℕ × ℕ)) (ts : List (ℕ × LogRecord)). (x.0, record_of x.1 l) ∷ ts)
-    (take-more x.2 us vs (omega arith))
-    (ap (tickets_of hs) (drop-more x.2 us vs (omega arith)) ∙ tickets-more hs (drop x.2 us) vs (omega arith))
+    (take-append-le x.2 us vs (omega arith))
+    (ap (tickets_of hs) (drop-append-le x.2 us vs (omega arith)) ∙ tickets-more hs (drop x.2 us) vs (omega arith))
 
 -- a head more has the uses behind those of the others
 pub tickets-push : (hs : List Head) (h : Head) (us : List (ℕ × ℕ × ℕ))
     → tickets_of (hs ++ h ∷ []) us ≡ tickets_of hs us ++ (h.0, record_of h.1 (take h.2 (drop (many_uses hs) us))) ∷ []
 tickets-push [] h us = refl
 tickets-push (x ∷ hs) h us =
-    let behind : drop (many_uses hs) (drop x.2 us) ≡ drop (many_uses (x ∷ hs)) us = drop-drop x.2 (many_uses hs) us in
+    let behind : drop (many_uses hs) (drop x.2 us) ≡ drop (many_uses (x ∷ hs)) us = drop-drop (many_uses hs) x.2 us in
     ap (λ (ts : List (ℕ × LogRecord)). (x.0, record_of x.1 (take x.2 us)) ∷ ts)
     (tickets-push hs h (drop x.2 us)
     ∙ ap (λ (l : List (ℕ × ℕ × ℕ)). tickets_of hs (drop x.2 us) ++ (h.0, record_of h.1 (take h.2 l)) ∷ []) behind)
@@ -77,7 +31,7 @@ pub tickets-seal : (hs : List Head) (t u n : ℕ) (us : List (ℕ × ℕ × ℕ)
     → tickets_of (hs ++ (t, u, n) ∷ []) us ≡ tickets_of hs us ++ (t, record_of u (drop (many_uses hs) us)) ∷ []
 tickets-seal hs t u n us is = tickets-push hs (t, u, n) us
     ∙ ap (λ (l : List (ℕ × ℕ × ℕ)). tickets_of hs us ++ (t, record_of u l) ∷ [])
-    (ap (λ (i : ℕ). take i (drop (many_uses hs) us)) is ∙ take_whole (drop (many_uses hs) us))
+    (ap (λ (i : ℕ). take i (drop (many_uses hs) us)) is ∙ take_all (length (drop (many_uses hs) us)) (drop (many_uses hs) us) (omega arith))
 
 -- no use is loose once a head has them
 pub drop-seal : (hs : List Head) (t u n : ℕ) (us : List (ℕ × ℕ × ℕ)) → n ≡ length (drop (many_uses hs) us)
@@ -85,17 +39,8 @@ pub drop-seal : (hs : List Head) (t u n : ℕ) (us : List (ℕ × ℕ × ℕ)) �
 drop-seal hs t u n us is =
     let sum : many_uses (hs ++ (t, u, n) ∷ []) ≡ many_uses hs + length (drop (many_uses hs) us) = omega
     (arith, total-append (λ (h : Head). h.2) hs ((t, u, n) ∷ []), is) in
-    ap (λ (i : ℕ). drop i us) sum ∙ sym (drop-drop (many_uses hs) (length (drop (many_uses hs) us)) us)
-    ∙ drop_whole (drop (many_uses hs) us)
-
--- the head at a place, and those behind it
-pub turn-head : (hs : List Head) (j : ℕ) (d : Head) → j < length hs → drop j hs ≡ get_or hs j d ∷ drop (j + 1) hs
-turn-head hs j d h = go hs j h ∙ ap (λ (i : ℕ). get_or hs j d ∷ drop i hs) (let e : suc j ≡ j + 1 = omega arith in e)
-  where
-    go : (l : List Head) (i : ℕ) → i < length l → drop i l ≡ get_or l i d ∷ drop (suc i) l
-    go [] i h = absurd (omega arith)
-    go (x ∷ xs) zero h = refl
-    go (x ∷ xs) (suc i) h = go xs i (omega arith)
+    ap (λ (i : ℕ). drop i us) sum ∙ sym (drop-drop (length (drop (many_uses hs) us)) (many_uses hs) us)
+    ∙ drop_all (length (drop (many_uses hs) us)) (drop (many_uses hs) us) (omega arith)
 
 -- what is left of the tickets, from a head and a use on
 abbrev pub Left : List Head → List (ℕ × ℕ × ℕ) → ℕ → ℕ → List (ℕ × LogRecord)
@@ -110,9 +55,9 @@ pub left-turn : (hs : List Head) (us : List (ℕ × ℕ × ℕ)) (j at : ℕ) (d
     ) ∷ Left hs us (j + 1) (at + (get_or hs j d).2)
 left-turn hs us j at d h =
     let x = get_or hs j d in
-    ap (λ (l : List Head). tickets_of l (drop at us)) (turn-head hs j d h)
+    ap (λ (l : List Head). tickets_of l (drop at us)) (drop_more hs j d h)
     ∙ ap (λ (l : List (ℕ × ℕ × ℕ)). (x.0, record_of x.1 (take x.2 (drop at us))) ∷ tickets_of (drop (j + 1) hs) l)
-    (drop-drop at x.2 us)
+    (drop-drop x.2 at us)
 
 -- the tickets of both, where the first heads have all of the first uses
 pub tickets-both : (hs gs : List Head) (us vs : List (ℕ × ℕ × ℕ)) → many_uses hs ≤ length us
@@ -120,11 +65,11 @@ pub tickets-both : (hs gs : List Head) (us vs : List (ℕ × ℕ × ℕ)) → ma
     → tickets_of (hs ++ gs) (us ++ vs) ≡ tickets_of hs us ++ tickets_of gs vs
 tickets-both [] gs us vs h none = ap (λ (l : List (ℕ × ℕ × ℕ)). tickets_of gs (l ++ vs)) (nil_from_length us none)
 tickets-both (x ∷ hs) gs us vs h none =
-    let some = length-drop x.2 us (omega arith) in
-    let behind : length (drop (many_uses hs) (drop x.2 us)) ≡ 0 = ap length (drop-drop x.2 (many_uses hs) us) ∙ none in
+    let some = length-drop x.2 us in
+    let behind : length (drop (many_uses hs) (drop x.2 us)) ≡ 0 = ap length (drop-drop (many_uses hs) x.2 us) ∙ none in
     ap₂ (λ (l : List (ℕ × ℕ × ℕ)) (ts : List (ℕ × LogRecord)). (x.0, record_of x.1 l) ∷ ts)
-    (take-more x.2 us vs (omega arith))
-    (ap (tickets_of (hs ++ gs)) (drop-more x.2 us vs (omega arith))
+    (take-append-le x.2 us vs (omega arith))
+    (ap (tickets_of (hs ++ gs)) (drop-append-le x.2 us vs (omega arith))
     ∙ tickets-both hs gs (drop x.2 us) vs (omega arith) behind)
 
 -- no use is loose where none of either was
@@ -132,12 +77,12 @@ pub loose-both : (hs gs : List Head) (us vs : List (ℕ × ℕ × ℕ)) → many
     → length (drop (many_uses hs) us) ≡ 0 → length (drop (many_uses gs) vs) ≡ 0
     → (many_uses (hs ++ gs) ≤ length (us ++ vs)) × (length (drop (many_uses (hs ++ gs)) (us ++ vs)) ≡ 0)
 loose-both hs gs us vs h g none empty =
-    let a = length-drop (many_uses hs) us h in
-    let b = length-drop (many_uses gs) vs g in
+    let a = length-drop (many_uses hs) us in
+    let b = length-drop (many_uses gs) vs in
     let sum = total-append (λ (x : Head). x.2) hs gs in
-    let long = length-both us vs in
+    let long = length-append us vs in
     let fits : many_uses (hs ++ gs) ≤ length (us ++ vs) = omega arith in
-    let d = length-drop (many_uses (hs ++ gs)) (us ++ vs) fits in
+    let d = length-drop (many_uses (hs ++ gs)) (us ++ vs) in
     (fits, omega arith)
 
 -- Two lists of heads end to end, and two of uses, where no use was loose.

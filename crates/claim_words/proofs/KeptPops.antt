@@ -1,17 +1,15 @@
 -- The log of a pass while it pops, where one is kept.
-use Rattle.std.proofs.Common.{◌≡◌, ◌≢◌, ℕ, zero, suc, ◌+◌, ◌<◌, Bool, true, false, List, [], ◌∷◌, ◌++◌, length, map, take, Option, Some, None, is_some, cond, refl, sym, ap, ap₂, ◌∙◌, subst, arith, slice_get, ◌^◌}
-use mathlib.Core.Logic.{dite}
-use native.Mathlib.Decide.{ℕ_discrete}
+use Rattle.std.proofs.Common.{◌≡◌, ◌≢◌, ℕ, zero, suc, ◌+◌, ◌<◌, List, [], ◌∷◌, ◌++◌, length, map, take, Option, Some, None, refl, sym, ap, ap₂, ◌∙◌, subst, arith, slice_get, ◌^◌}
+use Rattle.std.proofs.lemmas.Bool.Decides.{nat_tests}
 use Rattle.std.proofs.lemmas.Option.{none-some, same_Some}
-use Rattle.std.proofs.lemmas.List.{append-nil, append_assoc, nil_from_length}
+use Rattle.std.proofs.lemmas.List.{append-nil, append_assoc, nil_from_length, length-append}
 use Rattle.pop_model.specs.Popping.{Cube, IsCube}
 use Rattle.pop_model.specs.Logs.{LogRecord}
 use Rattle.claim_words.specs.Maps.{Pairs, Each, times, look, raise}
 use Rattle.claim_words.specs.Steps.{record_held}
 use Rattle.claim_words.specs.Machine.{Use, uses_held}
-use Rattle.claim_words.specs.KeptLogs.{Kept, HasTickets, HasRoom, Adds, Seals, IsSealable, IsTold, SameTickets, record_of}
-use Rattle.claim_words.proofs.Totals.{look-hit, look-miss, raise-hit, raise-miss, is_at-yes}
-use Rattle.claim_words.proofs.KeptLogsLemmas.{length-both}
+use Rattle.claim_words.specs.KeptLogs.{Kept, HasTickets, HasRoom, Adds, Seals, IsSealable, record_of}
+use Rattle.claim_words.proofs.Totals.{is_at-yes}
 
 -- nothing came in
 pub adds_none : (a : Option Kept) → Adds a a []
@@ -29,7 +27,7 @@ adds_more (Some l) (Some m) None us u h g = absurd g
 adds_more (Some l) (Some m) (Some n) us u h g = (
   g.0 ∙ h.0,
   g.1 ∙ ap (λ (x : List Use). x ++ u ∷ []) h.1 ∙ append_assoc l.loose us (u ∷ []),
-  omega (arith, g.2, h.2, length-both us (u ∷ [])),
+  omega (arith, g.2, h.2, length-append us (u ∷ [])),
 )
 
 -- a use takes up room for one
@@ -59,13 +57,7 @@ uses_push e held i p at = let next : i + 1 ≡ suc i = omega arith in
 -- raising a number changes no other
 pub look-raise_other : (v u : ℕ) (l : Pairs) → u ≢ v → look u (raise v l) ≡ look u l
 look-raise_other v u [] ne = refl
-look-raise_other v u (p ∷ ps) ne = dite (ℕ_discrete p.0 v)
-    (λ e. let miss : p.0 ≢ u = λ is. ne (sym is ∙ e) in
-    ap (look u) (raise-hit v p ps e) ∙ look-miss u (p.0, p.1 + 1) (raise v ps) miss ∙ look-raise_other v u ps ne
-    ∙ sym (look-miss u p ps miss))
-    (λ o. ap (look u) (raise-miss v p ps o) ∙ dite (ℕ_discrete p.0 u)
-    (λ is. look-hit u p (raise v ps) is ∙ sym (look-hit u p ps is))
-    (λ miss. look-miss u p (raise v ps) miss ∙ look-raise_other v u ps ne ∙ sym (look-miss u p ps miss)))
+look-raise_other v u (p ∷ ps) ne = grind (arith, nat_tests, look-raise_other v u ps ne)
 
 -- the pairs have the cursors that they had
 abbrev pub Same : Pairs → Pairs → Pairs → Type 0

@@ -1,8 +1,10 @@
 -- Members of lists.
 use Rattle.std.proofs.Common.{◌≡◌, ℕ, ◌≤◌, ◌≢◌, ◌⊎◌, List, [], ◌∷◌, ◌++◌, sym, refl, ap, ◌∙◌, subst, inl, inr, ⊎_elim, arith}
+use Rattle.claim_words.proofs.SharersAreOwed.{find_in}
+use Rattle.claim_words.proofs.Totals.{is_at-yes}
 use mathlib.Core.Logic.{dite}
 use native.Mathlib.Decide.{ℕ_discrete}
-use Rattle.claim_words.specs.Maps.{total, Each, In, taken_out}
+use Rattle.claim_words.specs.Maps.{total, Each, In, taken_out, Pairs, is_at, times}
 use Rattle.claim_words.proofs.HeldLemmas.{taken-hit, taken-miss}
 
 module _ {A : Type 0} where
@@ -41,11 +43,25 @@ module _ {A : Type 0} where
   pub none_in : (a : A) (l : List A) → l ≡ [] → In a l → ⊥
   none_in a l e i = let z : In a [] = subst (λ m. In a m) e i in z
 
+  -- what holds of every member holds of each
+  pub each_from : (P : A → Type 0) (l : List A) → ((a : A) → In a l → P a) → Each P l
+  each_from P [] h = tt
+  each_from P (x ∷ xs) h = (h x (inl refl), each_from P xs (λ a i. h a (inr i)))
+
   -- what holds of each holds of a member
   pub each_in_list : (P : A → Type 0) (l : List A) → Each P l → (a : A) → In a l → P a
   each_in_list P [] h a i = absurd i
   each_in_list P (x ∷ xs) h a i = ⊎_elim (λ (e : x ≡ a). subst P e h.0)
       (λ (m : In a xs). each_in_list P xs h.1 a m) i
+
+-- what follows for the pairs of a map, each of which has a variable of it
+pub each-in : (P Q : ℕ × ℕ → Type 0) (l : Pairs) → ((p : ℕ × ℕ) → 1 ≤ times p.0 l → P p → Q p) → Each P l → Each Q l
+each-in P Q l f h = each_from Q l (λ p i.
+    f p (omega (arith, in_le (is_at p.0) p l i, is_at-yes p.0 p refl)) (each_in_list P l h p i))
+
+-- it holds of a pair of v
+pub each-find : (P : ℕ × ℕ → Type 0) (l : Pairs) (v : ℕ) → 1 ≤ times v l → Each P l → (x : ℕ) × P (v, x)
+each-find P l v h all = let t = find_in v l h in (t.0, each_in_list P l all (v, t.0) t.1)
 
 -- a member stays where another is taken out
 pub in_taken_out : (w u : ℕ) (l : List ℕ) → w ≢ u → In w l → In w (taken_out u l)

@@ -1,10 +1,11 @@
 -- A ticket keeps each poppable event covered, since the units that share a variable with the popped event are owed.
 use Rattle.std.proofs.Common.{◌≡◌, ◌≢◌, ◌⊎◌, ℕ, zero, suc, ◌+◌, ◌<◌, ◌≤◌, true, false, cond, List, [], ◌∷◌, length, slice_get, Some, All, Contains, sym, refl, ap, ◌∙◌, subst, inl, inr, ⊎_elim, arith}
+use Rattle.std.proofs.lemmas.Bool.{cases_Bool}
 use mathlib.Core.Logic.{dite}
 use native.Mathlib.Decide.{ℕ_discrete, dec_le}
-use Rattle.std.proofs.lemmas.Option.{none-some, same_Some, slice_get_within}
-use Rattle.std.proofs.lemmas.List.Elements.{All-head, All-tail}
-use Rattle.pop_model.specs.Stacks.{StackTable, variables_of, domain_of, value_at, height_of}
+use Rattle.std.proofs.lemmas.Option.{none-some, same_Some, slice_get_within, get_or_from_slice_get}
+use Rattle.std.proofs.lemmas.List.Elements.{All-contains, All-get_or}
+use Rattle.pop_model.specs.Stacks.{variables_of, domain_of, value_at, height_of}
 use Rattle.pop_model.specs.Popping.{Cube, IsPoppable, cursor}
 use Rattle.pop_model.specs.Families.{Event, Family, IsEvent}
 use Rattle.pop_model.specs.Families.Family.{Listed, Cycles}
@@ -25,20 +26,18 @@ one_cube (Listed rows) u a b h x y = let same : (x.0, a) ≡ (y.0, b) = same_Som
     ap (λ (r : ℕ × Cube). r.1) same
 one_cube (Cycles heads) u a b h x y = absurd (omega (arith, h))
 
--- what holds of all holds of a member
-pub all_in : {A : Type 0} (P : A → Type 0) (l : List A) → All P l → (a : A) → In a l → P a
-all_in P [] h a i = absurd i
-all_in P (x ∷ xs) h a i = ⊎_elim (λ (e : x ≡ a). subst P e (All-head P x xs h))
-    (λ (m : In a xs). all_in P xs (All-tail P x xs h) a m) i
-
 -- a member is contained
 pub in_contains : {A : Type 0} (a : A) (l : List A) → In a l → Contains l a
 in_contains a [] i = absurd i
 in_contains a (x ∷ xs) i = ⊎_elim (λ (e : x ≡ a). (0, omega arith, e))
     (λ (m : In a xs). let t = in_contains a xs m in (suc t.0, omega (arith, t.1), t.2)) i
 
+-- what holds of all holds of a member
+pub all_in : {A : Type 0} (P : A → Type 0) (l : List A) → All P l → (a : A) → In a l → P a
+all_in P l h a i = All-contains P l a h (in_contains a l i)
+
 -- a variable of a map stands in a pair of it
-find_in : (v : ℕ) (l : Pairs) → 1 ≤ times v l → (x : ℕ) × In (v, x) l
+pub find_in : (v : ℕ) (l : Pairs) → 1 ≤ times v l → (x : ℕ) × In (v, x) l
 find_in v [] h = absurd (omega arith)
 find_in v (p ∷ ps) h = dite (ℕ_discrete p.0 v)
     (λ e. (p.1, inl (ap (λ (y : ℕ). (y, p.1)) e)))
@@ -57,10 +56,8 @@ meets_share cube other t = let x = find_in t.0.0 cube t.2 in
 sharing_in : (cube : Cube) (n i : ℕ) (rows : List (ℕ × Cube)) (row : ℕ × Cube) → slice_get rows i ≡ Some row
     → share cube row.1 ≡ true → In (n + i) (sharing_from cube n rows)
 sharing_in cube n i [] row e met = absurd (none-some row e)
-sharing_in cube n zero (x ∷ xs) row e met = let hit : share cube x.1 ≡ true = ap (λ (z : ℕ × Cube). share cube z.1)
-    (same_Some x row e) ∙ met in
-    subst (In (n + 0)) (sym
-    (ap (λ b. cond b (n ∷ sharing_from cube (suc n) xs) (sharing_from cube (suc n) xs)) hit)) (inl (omega arith))
+sharing_in cube n zero (x ∷ xs) row e met =
+    rw (ap (λ (z : ℕ × Cube). share cube z.1) (same_Some x row e) ∙ met) (inl (omega arith))
 sharing_in cube n (suc i) (x ∷ xs) row e met = let later : In (suc n + i)
     (sharing_from cube (suc n) xs) = sharing_in cube (suc n) i xs row e met in
     let moved : In (n + suc i) (sharing_from cube (suc n) xs) = subst
@@ -91,7 +88,7 @@ apart cube (q ∷ qs) = dite (dec_le 1 (times q.0 cube))
 -- Q
 pub covers : (k : Opening) (a b : ℕ → ℕ) (u : ℕ) (cube : Cube) (P Q : ℕ → Type 0)
     → IsEvent k.instance.value.family (record { unit = u; cube = cube }) → 1 ≤ length cube
-    → ((v : ℕ) → b v ≡ a v + times v cube)
+    → ((v : ℕ) → v < count k → b v ≡ a v + times v cube)
     → ((w : ℕ) → w ≢ u → P w → Q w)
     → ((w : ℕ) (other : Cube) → w < marks k
     → IsEvent k.instance.value.family (record { unit = w; cube = other }) → Meets cube other → Q w)
@@ -108,18 +105,10 @@ covers k a b u (c ∷ cs) P Q at some_pair moved stays owed before w near r = le
     (before w (record {
       cube = other;
       event = r.event;
-      ready = λ p i. let t = r.ready p i in let still : b p.0 ≡ a p.0 = omega (arith, moved p.0, none p i) in
+      ready = λ p i. let t = r.ready p i in let still : b p.0 ≡ a p.0 = omega (arith, moved p.0 t.0, none p i) in
           (t.0, subst (λ (x : ℕ). Has k p.0 x p.1) still t.1, omega (arith, t.2, still));
     })))
     (apart cube other)
-
--- a listed cube fits the stacks
-fits_row : (s : StackTable) (rows : List (ℕ × Cube)) (u : ℕ) (row : ℕ × Cube)
-    → All (λ (r : ℕ × Cube). FitsStacks s r.1) rows → slice_get rows u ≡ Some row → FitsStacks s row.1
-fits_row s [] u row h is = absurd (none-some row is)
-fits_row s (x ∷ xs) zero row h is = subst (λ (r : ℕ × Cube). FitsStacks s r.1) (same_Some x row is)
-    (All-head (λ (r : ℕ × Cube). FitsStacks s r.1) x xs h)
-fits_row s (x ∷ xs) (suc u) row h is = fits_row s xs u row (All-tail (λ (r : ℕ × Cube). FitsStacks s r.1) x xs h) is
 
 -- an event that is poppable at a list of cursors is so at these numbers
 pub poppable_at : (k : Opening) (c : List ℕ) (a : ℕ → ℕ) (e : Event)
@@ -143,29 +132,24 @@ poppable_at k c a e fits near same event r = record {
     below (Listed rows) fits near event p i =
         (all_in (λ (q : ℕ × ℕ). (q.0 < variables_of k.instance.value.stacks)
         × (q.1 < domain_of k.instance.value.stacks q.0)) e.cube
-        (fits_row k.instance.value.stacks rows e.unit (event.0, e.cube) fits event.1) p i).0
+        (subst (λ (r : ℕ × Cube). FitsStacks k.instance.value.stacks r.1)
+        (get_or_from_slice_get rows e.unit (event.0, e.cube) (event.0, e.cube) event.1)
+        (All-get_or (λ (r : ℕ × Cube). FitsStacks k.instance.value.stacks r.1) rows e.unit (event.0, e.cube) near
+        fits)) p i).0
     below (Cycles heads) fits near event p i = absurd (omega (arith, near))
-
--- a unit from n on is n, or behind it
-any_rest : (cube : Cube) (n w : ℕ) (row : ℕ × Cube) (rows : List (ℕ × Cube))
-    → In w (cond (share cube row.1) (n ∷ sharing_from cube (suc n) rows) (sharing_from cube (suc n) rows))
-    → ((w ≡ n) × (share cube row.1 ≡ true)) ⊎ In w (sharing_from cube (suc n) rows)
-any_rest cube n w row rows = elim (share cube row.1) as
-    (λ b. In w (cond b (n ∷ sharing_from cube (suc n) rows) (sharing_from cube (suc n) rows))
-    → ((w ≡ n) × (b ≡ true)) ⊎ In w (sharing_from cube (suc n) rows)) [
-      | true ↦ λ i. ⊎_elim (λ (e : n ≡ w). inl (sym e, refl)) (λ (m : In w (sharing_from cube (suc n) rows)). inr m) i
-      | false ↦ λ i. inr i
-    ]
 
 -- a unit that shares a variable is the place of a cube that does
 from_in : (cube : Cube) (n w : ℕ) (rows : List (ℕ × Cube)) → In w (sharing_from cube n rows) → (i : ℕ)
     × (row : ℕ × Cube) × (w ≡ n + i) × (slice_get rows i ≡ Some row) × (share cube row.1 ≡ true)
 from_in cube n w [] i = absurd i
-from_in cube n w (x ∷ xs) i = ⊎_elim
-    (λ (t : (w ≡ n) × (share cube x.1 ≡ true)). (0, x, omega (arith, t.0), refl, t.1))
-    (λ (m : In w (sharing_from cube (suc n) xs)). let t = from_in cube (suc n) w xs m in
-    (suc t.0, t.1, omega (arith, t.2), t.3, t.4))
-    (any_rest cube n w x xs i)
+from_in cube n w (x ∷ xs) i =
+    let later : In w (sharing_from cube (suc n) xs) → (j : ℕ) × (row : ℕ × Cube) × (w ≡ n + j)
+    × (slice_get (x ∷ xs) j ≡ Some row) × (share cube row.1 ≡ true) =
+    λ m. let t = from_in cube (suc n) w xs m in (suc t.0, t.1, omega (arith, t.2), t.3, t.4) in
+    ⊎_elim
+    (λ (met : share cube x.1 ≡ true). ⊎_elim (λ (here : n ≡ w). (0, x, omega (arith, here), refl, met)) later
+    (rw met at i))
+    (λ (not : share cube x.1 ≡ false). later (rw not at i)) (cases_Bool (share cube x.1))
 
 -- only units of events that share a variable are among those that share one
 pub sharing_only : (f : Family) (cube : Cube) (w : ℕ) → In w (sharing f cube) → (other : Cube) × (w < marks_in f)

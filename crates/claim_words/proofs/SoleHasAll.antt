@@ -1,5 +1,6 @@
 -- A pass with the whole share has the whole history.
 use Rattle.std.proofs.Common.{◌≡◌, ◌⊎◌, ℕ, zero, suc, ◌+◌, ◌<◌, List, [], ◌∷◌, ◌++◌, length, get_or, sym, refl, ap, ◌∙◌, subst, ⊎_elim, arith, ext_get_or}
+use Rattle.std.proofs.lemmas.List.{get_or_push, get_or_append_left}
 use mathlib.Core.Logic.{dite}
 use native.Mathlib.Decide.{ℕ_discrete}
 use mathlib.Core.Option.{some, some-injective}
@@ -12,7 +13,7 @@ use Rattle.claim_words.specs.Maps.{total, In, below, times}
 use Rattle.claim_words.specs.Openings.{count}
 use Rattle.claim_words.specs.Steps.{Drawn, spent}
 use Rattle.claim_words.specs.Machine.{uses, used, abstract, Tracks, Sound}
-use Rattle.claim_words.specs.TicketLogs.{Whole, log_of}
+use Rattle.claim_words.specs.TicketLogs.{Whole, LeadsTo, log_of}
 use Rattle.claim_words.specs.Closing.{Closes}
 use Rattle.claim_words.proofs.Totals.{alone, terms_le}
 use Rattle.pop_model.specs.Logs.{replay}
@@ -37,6 +38,10 @@ module _ {S : Type 0} (k : Opening) (s : State S View) (o : Sound k s) (id : ℕ
     order = λ r q i j. o.history.order r q (id, d, me, i) (id, d, me, j);
     low = o.history.low;
   }
+
+  -- its records lead to the abstract cursors
+  pub sole_leads : LeadsTo k d.mine (abstract k s)
+  sole_leads = leads_to k d.mine (get_or s.words 0 0) (abstract k s) whole o.counted
 
   -- where it holds nothing, the abstract cursors are those of the words
   pub settled_at : d.held ≡ [] → (v : ℕ) → abstract k s v ≡ cursor_in (get_or s.words (1 + v) 0)
@@ -99,13 +104,8 @@ closes k id d ws xs cursors pops final sole idle first long each =
 
 -- the last of a list
 pub last_of : (l : List ℕ) (a i : ℕ) → i ≡ length l → get_or (l ++ a ∷ []) i 0 ≡ a
-last_of [] a zero e = refl
-last_of [] a (suc i) e = absurd (omega arith)
-last_of (x ∷ xs) a zero e = absurd (omega arith)
-last_of (x ∷ xs) a (suc i) e = last_of xs a i (omega arith)
+last_of l a i e = get_or_push l a 0 i (sym e)
 
 -- one before the last
 pub before_last : (l : List ℕ) (a i : ℕ) → i < length l → get_or (l ++ a ∷ []) i 0 ≡ get_or l i 0
-before_last [] a i h = absurd (omega arith)
-before_last (x ∷ xs) a zero h = refl
-before_last (x ∷ xs) a (suc i) h = before_last xs a i (omega arith)
+before_last l a i h = get_or_append_left l (a ∷ []) 0 i h

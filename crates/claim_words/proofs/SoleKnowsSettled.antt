@@ -10,65 +10,54 @@ use Rattle.atomic_table.specs.Table.{State}
 use Rattle.pop_model.specs.Popping.{IsPoppable, names}
 use Rattle.pop_model.specs.Families.{Event, Family, IsEvent}
 use Rattle.pop_model.specs.Families.Family.{Listed, Cycles}
-use Rattle.pop_model.specs.Logs.{IsLegal, replay}
 use Rattle.claim_words.specs.declared.view.View.{View}
 use Rattle.claim_words.specs.declared.opening.Opening.{Opening}
 use Rattle.claim_words.specs.Words.{cursor_in, settled_bit, Formed}
 use Rattle.claim_words.specs.Maps.{total, times}
 use Rattle.claim_words.specs.Openings.{count, is_listed}
 use Rattle.claim_words.specs.Machine.{abstract, IsSettledAt, Sound}
-use Rattle.claim_words.specs.TicketLogs.{log_of}
-use Rattle.claim_words.specs.Tells.{SoleKnows}
+use Rattle.claim_words.specs.TicketLogs.{IsLegalFrom, vector}
+use Rattle.claim_words.specs.Tells.{NoneSettled, SoleKnows}
 use Rattle.claim_words.proofs.Totals.{each-look, total-none}
-use Rattle.claim_words.proofs.SoleHasAll.{whole}
-use Rattle.claim_words.proofs.TicketsAreLegal.{leads_to}
+use Rattle.claim_words.proofs.SoleHasAll.{sole_leads}
 use Rattle.claim_words.proofs.NoSettledCycle.{unpoppable}
 
 -- true isn't false
 pub true-false : true ≡ false → ⊥
 true-false e = cc
 
--- what a sole pass of the board knows
-abbrev Knows : View → Opening → Type 0
-Knows d k = IsLegal k.instance.value k.start.value (log_of d.mine)
-    × ((e : Event) → is_listed k.instance.value.family ≡ false → IsEvent k.instance.value.family e
-    → IsPoppable k.instance.value.stacks (replay k.start.value (log_of d.mine)) e.cube
-    → (v : ℕ) → names e.cube v ≡ true → times v d.settled ≡ 0)
+-- no advance is due of what no pass holds
+pub none_due : {S : Type 0} (k : Opening) (s : State S View) (o : Sound k s) (v : ℕ)
+    → total (λ (x : View). times v x.held) s.views ≡ 0 → total (λ (x : View). times v x.due) s.views ≡ 0
+none_due k s o v none = total-none (λ (x : View). times v x.held) (λ (x : View). times v x.due) s.views
+    (λ j x at zero. omega (arith, (o.agree j x at).due v)) none
 
--- it knows that
+-- what a sole pass of the board knows
 pub sole_knows : {S : Type 0} (k : Opening) (s : State S View) (o : Sound k s) (id : ℕ) (d : View)
     → get_elem? s.views id ≡ some d → d.opening ≡ Some k → SoleKnows d
-sole_knows k s o id d me live = λ h other sole. subst (Knows d) (same_Some k h (sym live ∙ other)) (
-  (led sole).legal,
-  λ e cycles event poppable v there. dite (dec_le 1 (times v d.settled))
-      (λ known. absurd (refuted sole e cycles event poppable v there known k.instance.value.family refl))
-      (λ none. omega arith),
-)
+sole_knows k s o id d me live = λ h other sole.
+    subst (λ (x : Opening). IsLegalFrom x d.mine × NoneSettled x d) (same_Some k h (sym live ∙ other)) (
+      (sole_leads k s o id d me sole).legal,
+      λ e cycles event poppable v there. dite (dec_le 1 (times v d.settled))
+          (λ known. absurd (refuted sole e cycles event poppable v there known k.instance.value.family refl))
+          (λ none. omega arith),
+    )
   where
-    -- its records lead to the abstract cursors
-    led : d.share ≡ 64 → Rattle.claim_words.specs.TicketLogs.LeadsTo k d.mine (abstract k s)
-    led sole = leads_to k d.mine (get_or s.words 0 0) (abstract k s) (whole k s o id d me sole) o.counted
-
     -- no pass due the advance of a settled variable
     still : (u : ℕ) → u < count k → settled_bit (get_or s.words (1 + u) 0) ≡ 1
         → abstract k s u ≡ cursor_in (get_or s.words (1 + u) 0)
     still u near settled = let f : Formed (get_or s.words (1 + u) 0) = o.formed u near in let f₂ = f.2 in
-        let none : total (λ (x : View). times u x.held) s.views ≡ 0 = omega (arith, o.held_once u near) in
-        omega (
-          arith,
-          total-none (λ (x : View). times u x.held) (λ (x : View). times u x.due) s.views
-              (λ j x at zero. omega (arith, (o.agree j x at).due u)) none,
-        )
+        omega (arith, none_due k s o u (omega (arith, o.held_once u near)))
 
     -- a poppable cycle has no variable that it knows to be settled
     refuted : d.share ≡ 64 → (e : Event) → is_listed k.instance.value.family ≡ false
         → IsEvent k.instance.value.family e
-        → IsPoppable k.instance.value.stacks (replay k.start.value (log_of d.mine)) e.cube
+        → IsPoppable k.instance.value.stacks (vector k d.mine) e.cube
         → (v : ℕ) → names e.cube v ≡ true → 1 ≤ times v d.settled → (f : Family) → k.instance.value.family ≡ f → ⊥
     refuted sole e cycles event poppable v there known (Listed rows) is = true-false (sym (ap is_listed is) ∙ cycles)
     refuted sole e cycles event poppable v there known (Cycles heads) is =
         let at = each-look (IsSettledAt k s.words) d.settled v known (o.agree id d me).knows in
         let cycle : IsEvent (Cycles heads) e = subst (λ (f : Family). IsEvent f e) is event in
-        unpoppable k s.words (replay k.start.value (log_of d.mine)) heads is
-        (λ u h settled. (led sole).cursors u h ∙ still u h settled) e.cube cycle.0 poppable v at.0 at.1 there
+        unpoppable k s.words (vector k d.mine) heads is
+        (λ u h settled. (sole_leads k s o id d me sole).cursors u h ∙ still u h settled) e.cube cycle.0 poppable v at.0 at.1 there
         (o.leads v at.0 at.1)

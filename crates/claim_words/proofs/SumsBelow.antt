@@ -1,19 +1,20 @@
 -- Sums over the numbers below a number.
-use Rattle.std.proofs.Common.{◌≡◌, ℕ, zero, suc, ◌*◌, ◌^◌, ◌<◌, ◌≤◌, refl, ap, subst, arith, cond, eqb, eq-eqb, ne_eqb, lt-ltb, le-ltb, min}
+use Rattle.std.proofs.Common.{◌≡◌, ℕ, zero, suc, ◌*◌, ◌^◌, ◌<◌, ◌≤◌, refl, ap, subst, arith, cond, eqb, eq-eqb, lt-ltb, le-ltb, min}
+use Rattle.std.proofs.lemmas.Bool.Decides.{nat_tests}
 use Rattle.std.specs.Prelude.{nat_lt}
 use mathlib.Core.Logic.{dite}
 use native.Mathlib.Decide.{ℕ_discrete, dec_le}
 use Rattle.claim_words.specs.Maps.{below}
 
--- equal weights have equal sums
-pub below-same : (f g : ℕ → ℕ) (n : ℕ) → ((i : ℕ) → i < n → f i ≡ g i) → below f n ≡ below g n
-below-same f g zero h = refl
-below-same f g (suc n) h = omega (arith, below-same f g n (λ i l. h i (omega arith)), h n (omega arith))
-
 -- lesser weights have a lesser sum, or the same
 pub below-le : (f g : ℕ → ℕ) (n : ℕ) → ((i : ℕ) → i < n → f i ≤ g i) → below f n ≤ below g n
 below-le f g zero h = omega arith
 below-le f g (suc n) h = omega (arith, below-le f g n (λ i l. h i (omega arith)), h n (omega arith))
+
+-- equal weights have equal sums
+pub below-same : (f g : ℕ → ℕ) (n : ℕ) → ((i : ℕ) → i < n → f i ≡ g i) → below f n ≡ below g n
+below-same f g n h = omega
+    (arith, below-le f g n (λ i l. omega (arith, h i l)), below-le g f n (λ i l. omega (arith, h i l)))
 
 -- a lesser one where one of them is less
 pub below-less : (f g : ℕ → ℕ) (n j : ℕ) → ((i : ℕ) → i < n → f i ≤ g i) → j < n → f j < g j
@@ -40,17 +41,20 @@ only-same n = ap (λ b. cond b 1 0) (eq-eqb n n refl)
 -- no number below m has it, where n is m or more
 pub below-only : (n m : ℕ) → m ≤ n → below (only n) m ≡ 0
 below-only n zero h = refl
-below-only n (suc m) h =
-    let z : only n m ≡ 0 = ap (λ b. cond b 1 0) (ne_eqb m n (λ e. omega arith)) in
-    omega (arith, below-only n m (omega arith))
+below-only n (suc m) h = grind (arith, nat_tests, below-only n m)
 
 -- one number below m has it, where n is below m
 pub below-only-in : (n m : ℕ) → n < m → below (only n) m ≡ 1
 below-only-in n zero h = absurd (omega arith)
-below-only-in n (suc m) h = dite (ℕ_discrete m n)
-    (λ e. let one : only n m ≡ 1 = ap (λ b. cond b 1 0) (eq-eqb m n e) in omega (arith, below-only n m (omega arith)))
-    (λ ne. let z : only n m ≡ 0 = ap (λ b. cond b 1 0) (ne_eqb m n ne) in
-    omega (arith, below-only-in n m (omega arith)))
+below-only-in n (suc m) h = grind (arith, nat_tests, below-only n m, below-only-in n m)
+
+-- what has a weight below m is below m
+pub only-low : (n m : ℕ) → 1 ≤ below (only n) m → n < m
+only-low n m h = dite (dec_le m n) (λ le. absurd (omega (arith, below-only n m le))) (λ lt. omega arith)
+
+-- x, where a is b; else 0
+abbrev pub if_eq : ℕ → ℕ → ℕ → ℕ
+if_eq a b x = cond (eqb a b) x 0
 
 -- x, where a is below b; else 0
 abbrev pub if_lt : ℕ → ℕ → ℕ → ℕ
@@ -67,9 +71,7 @@ if_lt-no a b x h = ap (λ t. cond t x 0) (le-ltb a b h)
 -- the numbers below x and m
 pub below-lt : (x m : ℕ) → below (λ i. if_lt i x 1) m ≡ min x m
 below-lt x zero = omega arith
-below-lt x (suc m) = dite (dec_le x m)
-    (λ le. omega (arith, below-lt x m, if_lt-no m x 1 le))
-    (λ lt. omega (arith, below-lt x m, if_lt-yes m x 1 (omega arith)))
+below-lt x (suc m) = grind (arith, nat_tests, below-lt x m)
 
 -- the numbers below n, counted
 pub below-one : (n : ℕ) → below (λ _. 1) n ≡ n

@@ -5,7 +5,8 @@
 -- (`replayed`). An entry of ticket n stands just above those (`placed`), since of two entries of one
 -- variable the lesser has the lower ticket, and the entries have no gap. So the record of ticket n is
 -- legal there (`legal_there`).
-use Rattle.std.proofs.Common.{◌≡◌, ℕ, zero, suc, ◌+◌, ◌<◌, ◌≤◌, ◌≢◌, List, [], ◌∷◌, ◌++◌, sym, refl, ap, ◌∙◌, subst, inl, inr, ⊎_elim, arith, cond, eqb, eq-eqb, ne_eqb, ap₂, All, length}
+use Rattle.std.proofs.Common.{◌≡◌, ℕ, zero, suc, ◌+◌, ◌<◌, ◌≤◌, ◌≢◌, List, [], ◌∷◌, ◌++◌, sym, refl, ap, ◌∙◌, subst, inl, inr, ⊎_elim, arith, eq-eqb, ap₂, All, length}
+use Rattle.std.proofs.lemmas.Bool.Decides.{nat_tests}
 use Rattle.std.proofs.lemmas.List.Elements.{All-cons}
 use mathlib.Core.Logic.{dite}
 use native.Mathlib.Decide.{ℕ_discrete, dec_le}
@@ -23,114 +24,55 @@ use Rattle.claim_words.specs.Machine.{Use, uses_of, uses, used}
 use Rattle.claim_words.specs.TicketLogs.{Whole, find, log_below, log_of, LeadsTo}
 use Rattle.claim_words.proofs.Totals.{total-one}
 use Rattle.claim_words.proofs.HeldLemmas.{once, names_raise}
-use Rattle.claim_words.proofs.SumsBelow.{only, only-same, below-only, below-only-in, if_lt, if_lt-yes, if_lt-no, below-lt, below-one}
+use Rattle.claim_words.proofs.SumsBelow.{only, only-same, only-low, below-only, below-only-in, if_eq, if_lt, if_lt-yes, if_lt-no, below-lt, below-one}
 use Rattle.claim_words.proofs.Memberships.{in_le, same-in}
-
--- x, where a is b; else 0
-abbrev if_eq : ℕ → ℕ → ℕ → ℕ
-if_eq a b x = cond (eqb a b) x 0
-
--- where it is
-pub if_eq-yes : (a b x : ℕ) → a ≡ b → if_eq a b x ≡ x
-if_eq-yes a b x e = ap (λ t. cond t x 0) (eq-eqb a b e)
-
--- where it isn't
-pub if_eq-no : (a b x : ℕ) → a ≢ b → if_eq a b x ≡ 0
-if_eq-no a b x ne = ap (λ t. cond t x 0) (ne_eqb a b ne)
-
--- the record of the first ticket
-pub find-hit : (i : ℕ) (x : Drawn) (xs : List Drawn) → x.0 ≡ i → find i (x ∷ xs) ≡ x.1
-find-hit i x xs e = ap (λ t. cond t x.1 (find i xs)) (eq-eqb x.0 i e)
-
--- the record of another
-pub find-miss : (i : ℕ) (x : Drawn) (xs : List Drawn) → x.0 ≢ i → find i (x ∷ xs) ≡ find i xs
-find-miss i x xs ne = ap (λ t. cond t x.1 (find i xs)) (ne_eqb x.0 i ne)
 
 -- where one record has the ticket i, it is the one that is found
 found : (i : ℕ) (l : List Drawn) → total (λ r. only i r.0) l ≡ 1 → In (i, find i l) l
 found i [] e = absurd (omega arith)
 found i (x ∷ xs) e = dite (ℕ_discrete x.0 i)
-    (λ is. inl (ap (λ (j : ℕ). (j, x.1)) is ∙ ap (λ (r : LogRecord). (i, r)) (sym (find-hit i x xs is))))
-    (λ ne. inr (subst (λ (r : LogRecord). In (i, r) xs) (sym (find-miss i x xs ne))
-    (found i xs (omega (arith, if_eq-no x.0 i 1 ne)))))
+    (λ is. rw (eq-eqb x.0 i is) (inl (ap (λ (j : ℕ). (j, x.1)) is)))
+    (λ ne. let same : find i (x ∷ xs) ≡ find i xs = grind (arith, nat_tests) in
+    inr (subst (λ (r : LogRecord). In (i, r) xs) (sym same) (found i xs (grind (arith, nat_tests)))))
 
 -- where none has it, no record under it weighs anything
 unfound : (g : LogRecord → ℕ) (i : ℕ) (l : List Drawn) → total (λ r. only i r.0) l ≡ 0
     → total (λ r. if_eq r.0 i (g r.1)) l ≡ 0
 unfound g i [] e = refl
-unfound g i (x ∷ xs) e = dite (ℕ_discrete x.0 i)
-    (λ is. absurd (omega (arith, if_eq-yes x.0 i 1 is)))
-    (λ ne. omega (arith, if_eq-no x.0 i (g x.1) ne, unfound g i xs (omega arith)))
+unfound g i (x ∷ xs) e = grind (arith, nat_tests, unfound g i xs)
 
 -- where one has it, the records under it weigh what that one does
 found-weight : (g : LogRecord → ℕ) (i : ℕ) (l : List Drawn) → total (λ r. only i r.0) l ≡ 1
     → total (λ r. if_eq r.0 i (g r.1)) l ≡ g (find i l)
 found-weight g i [] e = absurd (omega arith)
-found-weight g i (x ∷ xs) e = dite (ℕ_discrete x.0 i)
-    (λ is. omega (
-      arith,
-      if_eq-yes x.0 i (g x.1) is,
-      unfound g i xs (omega (arith, if_eq-yes x.0 i 1 is)),
-      ap g (find-hit i x xs is),
-    ))
-    (λ ne. omega (
-      arith,
-      if_eq-no x.0 i (g x.1) ne,
-      found-weight g i xs (omega (arith, if_eq-no x.0 i 1 ne)),
-      ap g (find-miss i x xs ne),
-    ))
+found-weight g i (x ∷ xs) e = grind (arith, nat_tests, unfound g i xs, found-weight g i xs)
 
 -- the records below n + 1 are those below n and that of n
 one-more : (g : Drawn → ℕ) (n : ℕ) (l : List Drawn) → total (λ r. if_lt r.0 (suc n) (g r)) l
     ≡ total (λ r. if_lt r.0 n (g r)) l + total (λ r. if_eq r.0 n (g r)) l
 one-more g n [] = refl
-one-more g n (x ∷ xs) =
-    let rest = one-more g n xs in
-    dite (ℕ_discrete x.0 n)
-    (λ is. omega (
-      arith,
-      if_lt-yes x.0 (suc n) (g x) (omega arith),
-      if_lt-no x.0 n (g x) (omega arith),
-      if_eq-yes x.0 n (g x) is,
-    ))
-    (λ ne. dite (dec_le n x.0)
-    (λ le. omega (
-      arith,
-      if_lt-no x.0 (suc n) (g x) (omega arith),
-      if_lt-no x.0 n (g x) le,
-      if_eq-no x.0 n (g x) ne,
-    ))
-    (λ lt. omega (
-      arith,
-      if_lt-yes x.0 (suc n) (g x) (omega arith),
-      if_lt-yes x.0 n (g x) (omega arith),
-      if_eq-no x.0 n (g x) ne,
-    )))
+one-more g n (x ∷ xs) = grind (arith, nat_tests, one-more g n xs)
 
 -- no record has a ticket below 0
 none-before : (g : Drawn → ℕ) (l : List Drawn) → total (λ r. if_lt r.0 0 (g r)) l ≡ 0
 none-before g [] = refl
-none-before g (x ∷ xs) = omega (arith, if_lt-no x.0 0 (g x) (omega arith), none-before g xs)
+none-before g (x ∷ xs) = grind (arith, nat_tests, none-before g xs)
 
 -- the entries of v weigh the same where the weights of each are equal
 used-same : (f g : ℕ → ℕ) (v : ℕ) (es : List Use)
     → ((e : Use) → In e es → e.0 ≡ v → f e.2 ≡ g e.2) → used f v es ≡ used g v es
 used-same f g v es h = same-in (λ (e : Use). if_eq e.0 v (f e.2)) (λ (e : Use). if_eq e.0 v (g e.2)) es
-    (λ e i. dite (ℕ_discrete e.0 v)
-    (λ is. if_eq-yes e.0 v (f e.2) is ∙ h e i is ∙ sym (if_eq-yes e.0 v (g e.2) is))
-    (λ ne. if_eq-no e.0 v (f e.2) ne ∙ sym (if_eq-no e.0 v (g e.2) ne)))
+    (λ e i. let same = h e i in grind (arith, nat_tests, same))
 
 -- weights of 0 have the sum 0
 used-zero : (v : ℕ) (es : List Use) → used (λ _. 0) v es ≡ 0
 used-zero v [] = refl
-used-zero v (e ∷ es) = dite (ℕ_discrete e.0 v)
-    (λ is. omega (arith, if_eq-yes e.0 v 0 is, used-zero v es))
-    (λ ne. omega (arith, if_eq-no e.0 v 0 ne, used-zero v es))
+used-zero v (e ∷ es) = grind (arith, nat_tests, used-zero v es)
 
 -- an entry of v weighs no more than all
-used-in : (f : ℕ → ℕ) (v : ℕ) (es : List Use) (e : Use) → In e es → e.0 ≡ v → f e.2 ≤ used f v es
+pub used-in : (f : ℕ → ℕ) (v : ℕ) (es : List Use) (e : Use) → In e es → e.0 ≡ v → f e.2 ≤ used f v es
 used-in f v es e i is =
-    omega (arith, in_le (λ (x : Use). if_eq x.0 v (f x.2)) e es i, if_eq-yes e.0 v (f e.2) is)
+    let le = in_le (λ (x : Use). if_eq x.0 v (f x.2)) e es i in grind (arith, nat_tests, le)
 
 -- two records under different tickets weigh no more than all
 two_in : (g : Drawn → ℕ) (l : List Drawn) (q r : Drawn) → In q l → In r l → q.0 ≢ r.0 → g q + g r ≤ total g l
@@ -178,15 +120,8 @@ module _ (k : Opening) (mine : List Drawn) (t : ℕ) (c : ℕ → ℕ) (w : Whol
 
   -- all tickets are below t
   pub low : (r : Drawn) → In r mine → r.0 < t
-  low r i = dite (dec_le t r.0)
-      (λ le. absurd (omega (
-        arith,
-        w.tickets (only r.0),
-        below-only r.0 t le,
-        in_le (λ (q : Drawn). only r.0 q.0) r mine i,
-        only-same r.0,
-      )))
-      (λ lt. omega arith)
+  low r i = only-low r.0 t
+      (omega (arith, w.tickets (only r.0), in_le (λ (q : Drawn). only r.0 q.0) r mine i, only-same r.0))
 
   -- there are t records
   pub many : length mine ≡ t
@@ -249,10 +184,7 @@ module _ (k : Opening) (mine : List Drawn) (t : ℕ) (c : ℕ → ℕ) (w : Whol
 
     -- it is below the last cursor
     above : x < c v
-    above =
-        let at : all_used (only x) v + below (only x) (begun k v) ≡ below (only x) (c v) = w.entries v near (only x) in
-        dite (dec_le (c v) x)
-        (λ le. absurd (omega (arith, below-only x (c v) le, heavy (only x), only-same x))) (λ lt. omega arith)
+    above = only-low x (c v) (omega (arith, w.entries v near (only x), heavy (only x), only-same x))
 
     -- it isn't below the start
     from : begun k v ≤ x

@@ -1,41 +1,28 @@
 -- The tickets of a pass that has the whole history are a permutation of their log, numbered.
-use Rattle.std.proofs.Common.{◌≡◌, ℕ, zero, suc, ◌+◌, ◌<◌, ◌≤◌, List, [], ◌∷◌, ◌++◌, length, sym, refl, ap, ◌∙◌, subst, arith, cond, lt-ltb, le-ltb, IsPermutation}
+use Rattle.std.proofs.Common.{◌≡◌, ℕ, zero, suc, ◌+◌, ◌<◌, ◌≤◌, List, [], ◌∷◌, ◌++◌, length, sym, refl, ap, ◌∙◌, subst, arith, lt-ltb, le-ltb, eq-eqb, ne_eqb, IsPermutation}
+use Rattle.std.proofs.lemmas.Bool.Decides.{nat_tests}
 use Rattle.std.specs.Prelude.{nat_lt, filter}
 use Rattle.std.specs.List.{enumerate_from}
 use Rattle.std.proofs.lemmas.List.{length_push}
 use Rattle.std.proofs.lemmas.List.Sorted.{IsPermutation-refl, IsPermutation-sym, IsPermutation-cons, IsPermutation-trans, IsPermutation-append_left, IsPermutation-to_front}
 use mathlib.Core.Logic.{dite}
 use native.Mathlib.Decide.{ℕ_discrete, dec_le}
-use Rattle.pop_model.specs.Logs.{LogRecord}
 use Rattle.claim_words.specs.declared.opening.Opening.{Opening}
 use Rattle.claim_words.specs.Maps.{total, In}
 use Rattle.claim_words.specs.Openings.{count}
 use Rattle.claim_words.specs.Steps.{Drawn}
 use Rattle.claim_words.specs.TicketLogs.{Whole, find, log_below, log_of}
 use Rattle.claim_words.proofs.SumsBelow.{only}
-use Rattle.claim_words.proofs.TicketsAreLegal.{find-hit, find-miss, low, single, many, if_eq-yes, if_eq-no}
+use Rattle.claim_words.proofs.TicketsAreLegal.{low, single, many}
 
 -- the records under tickets below n
 abbrev part : ℕ → List Drawn → List Drawn
 part n xs = filter (λ r. nat_lt r.0 n) xs
 
--- the first is one of them
-part-yes : (n : ℕ) (x : Drawn) (xs : List Drawn) → x.0 < n → part n (x ∷ xs) ≡ x ∷ part n xs
-part-yes n x xs h = ap (λ b. cond b (x ∷ part n xs) (part n xs)) (lt-ltb x.0 n h)
-
--- the first isn't
-part-no : (n : ℕ) (x : Drawn) (xs : List Drawn) → n ≤ x.0 → part n (x ∷ xs) ≡ part n xs
-part-no n x xs h = ap (λ b. cond b (x ∷ part n xs) (part n xs)) (le-ltb x.0 n h)
-
 -- the same below n + 1 where no ticket is n
 part-same : (n : ℕ) (xs : List Drawn) → total (λ r. only n r.0) xs ≡ 0 → part (suc n) xs ≡ part n xs
 part-same n [] e = refl
-part-same n (x ∷ xs) e = dite (ℕ_discrete x.0 n)
-    (λ is. absurd (omega (arith, if_eq-yes x.0 n 1 is)))
-    (λ ne. dite (dec_le n x.0)
-    (λ le. part-no (suc n) x xs (omega arith) ∙ part-same n xs (omega arith) ∙ sym (part-no n x xs le))
-    (λ lt. part-yes (suc n) x xs (omega arith) ∙ ap (λ (l : List Drawn). x ∷ l) (part-same n xs (omega arith))
-    ∙ sym (part-yes n x xs (omega arith))))
+part-same n (x ∷ xs) e = grind (arith, nat_tests, part-same n xs)
 
 -- one ticket more
 part-more : (n : ℕ) (xs : List Drawn) → total (λ r. only n r.0) xs ≡ 1
@@ -43,43 +30,27 @@ part-more : (n : ℕ) (xs : List Drawn) → total (λ r. only n r.0) xs ≡ 1
 part-more n [] e = absurd (omega arith)
 part-more n (x ∷ xs) e = dite (ℕ_discrete x.0 n)
     (λ is.
-    let none : total (λ r. only n r.0) xs ≡ 0 = omega (arith, if_eq-yes x.0 n 1 is) in
-    let here : ◌≡◌ {A = Drawn} x (n, find n (x ∷ xs)) = ap (λ (j : ℕ). (j, x.1)) is
-    ∙ ap (λ (r : LogRecord). (n, r)) (sym (find-hit n x xs is)) in
-    let left : part (suc n) (x ∷ xs) ≡ x ∷ part n xs = part-yes (suc n) x xs (omega arith)
-    ∙ ap (λ (l : List Drawn). x ∷ l) (part-same n xs none) in
-    let right : part n (x ∷ xs) ≡ part n xs = part-no n x xs (omega arith) in
-    subst (λ (l : List Drawn). IsPermutation l (part n (x ∷ xs) ++ (n, find n (x ∷ xs)) ∷ [])) (sym left)
-    (subst (λ (l : List Drawn). IsPermutation (x ∷ part n xs) (l ++ (n, find n (x ∷ xs)) ∷ [])) (sym right)
-    (subst (λ (r : Drawn). IsPermutation (x ∷ part n xs) (part n xs ++ r ∷ [])) here
-    (IsPermutation-sym (part n xs ++ x ∷ []) (x ∷ part n xs) (IsPermutation-to_front (part n xs) x)))))
+    let none : total (λ r. only n r.0) xs ≡ 0 = grind (arith, nat_tests) in
+    rw (lt-ltb x.0 (suc n) (omega arith), le-ltb x.0 n (omega arith), eq-eqb x.0 n is, part-same n xs none)
+    (subst (λ (j : ℕ). IsPermutation (x ∷ part n xs) (part n xs ++ (j, x.1) ∷ [])) is
+    (IsPermutation-sym (part n xs ++ x ∷ []) (x ∷ part n xs) (IsPermutation-to_front (part n xs) x))))
     (λ ne.
-    let rest = part-more n xs (omega (arith, if_eq-no x.0 n 1 ne)) in
-    let last : (n, find n xs) ≡ (n, find n (x ∷ xs)) = ap (λ (r : LogRecord). (n, r)) (sym (find-miss n x xs ne)) in
-    subst (λ (r : Drawn). IsPermutation (part (suc n) (x ∷ xs)) (part n (x ∷ xs) ++ r ∷ [])) last
-    (dite (dec_le n x.0)
-    (λ le.
-    subst (λ (l : List Drawn). IsPermutation l (part n (x ∷ xs) ++ (n, find n xs) ∷ []))
-    (sym (part-no (suc n) x xs (omega arith)))
-    (subst (λ (l : List Drawn). IsPermutation (part (suc n) xs) (l ++ (n, find n xs) ∷ []))
-    (sym (part-no n x xs le)) rest))
-    (λ lt.
-    subst (λ (l : List Drawn). IsPermutation l (part n (x ∷ xs) ++ (n, find n xs) ∷ []))
-    (sym (part-yes (suc n) x xs (omega arith)))
-    (subst (λ (l : List Drawn). IsPermutation (x ∷ part (suc n) xs) (l ++ (n, find n xs) ∷ []))
-    (sym (part-yes n x xs (omega arith)))
-    (IsPermutation-cons x (part (suc n) xs) (part n xs ++ (n, find n xs) ∷ []) rest)))))
+    let rest = part-more n xs (grind (arith, nat_tests)) in
+    rw (ne_eqb x.0 n ne) (dite (dec_le n x.0)
+    (λ le. rw (le-ltb x.0 (suc n) (omega arith), le-ltb x.0 n le) rest)
+    (λ lt. rw (lt-ltb x.0 (suc n) (omega arith), lt-ltb x.0 n (omega arith))
+    (IsPermutation-cons x (part (suc n) xs) (part n xs ++ (n, find n xs) ∷ []) rest))))
 
 -- no ticket is below 0
 part-none : (xs : List Drawn) → part 0 xs ≡ []
 part-none [] = refl
-part-none (x ∷ xs) = part-no 0 x xs (omega arith) ∙ part-none xs
+part-none (x ∷ xs) = grind (arith, nat_tests, part-none xs)
 
 -- all are below n
 part-all : (n : ℕ) (xs : List Drawn) → ((r : Drawn) → In r xs → r.0 < n) → part n xs ≡ xs
 part-all n [] h = refl
-part-all n (x ∷ xs) h = part-yes n x xs (h x (mathlib.Core.Logic.inl refl))
-    ∙ ap (λ (l : List Drawn). x ∷ l) (part-all n xs (λ r i. h r (mathlib.Core.Logic.inr i)))
+part-all n (x ∷ xs) h = rw (lt-ltb x.0 n (h x (mathlib.Core.Logic.inl refl)))
+    (ap (λ (l : List Drawn). x ∷ l) (part-all n xs (λ r i. h r (mathlib.Core.Logic.inr i))))
 
 -- numbering a list with one more at the end
 pub enumerate-push : {A : Type 0} (m : ℕ) (l : List A) (r : A)

@@ -1,9 +1,11 @@
 -- Sums over lists that change at one place, and maps that are lists of pairs.
-use Rattle.std.proofs.Common.{◌≡◌, ℕ, zero, suc, ◌+◌, ◌<◌, ◌≤◌, ◌≢◌, List, [], ◌∷◌, ◌++◌, length, get_or, set, sym, ◌∙◌, refl, ap, subst, arith, cond, eq-eqb, ne_eqb, get_or-set_same, get_or-set_other}
+use Rattle.std.proofs.Common.{◌≡◌, ℕ, zero, suc, ◌+◌, ◌<◌, ◌≤◌, ◌≢◌, List, [], ◌∷◌, ◌++◌, length, get_or, set, sym, ◌∙◌, refl, ap, subst, arith, cond, eq-eqb, ne_eqb, get_or-set_same, get_or-set_other, ⊎_elim}
+use Rattle.std.proofs.lemmas.Bool.Decides.{nat_tests}
 use mathlib.Core.Logic.{dite}
 use native.Mathlib.Decide.{ℕ_discrete}
 use mathlib.Core.Option.{some, some-injective, some-ne-none}
 use lib.ListN.{get_elem?}
+use Rattle.atomic_table.proofs.Lists.{at_set}
 use Rattle.claim_words.specs.Maps.{total, Each, Pairs, is_at, times, without, look, raise}
 use Rattle.claim_words.specs.Steps.{advanced_by}
 use Rattle.claim_words.specs.Conditions.{IsDue}
@@ -20,6 +22,10 @@ module _ {A : Type 0} (g : A → ℕ) where
   total-set [] j v w e = absurd (some-ne-none v (sym e))
   total-set (x ∷ xs) zero v w e = omega (arith, ap g (some-injective x v e))
   total-set (x ∷ xs) (suc j) v w e = omega (arith, total-set xs j v w e)
+
+  -- it stays where the other weighs as much
+  pub total-same : (l : List A) (j : ℕ) (v w : A) → get_elem? l j ≡ some v → g w ≡ g v → total g (set l j w) ≡ total g l
+  total-same l j v w e same = omega (arith, total-set l j v w e)
 
   -- a member weighs no more than all
   pub term_le : (l : List A) (j : ℕ) (v : A) → get_elem? l j ≡ some v → g v ≤ total g l
@@ -64,6 +70,12 @@ module _ {A : Type 0} where
   each-append P [] m h i = i
   each-append P (x ∷ xs) m h i = (h.0, each-append P xs m h.1 i)
 
+-- it holds of each member, once one is another
+pub each_set : {A : Type 0} (P : A → Type 0) (l : List A) (i : ℕ) (a : A) → P a
+    → ((j : ℕ) (x : A) → j ≢ i → get_elem? l j ≡ some x → P x) → (j : ℕ) (x : A) → get_elem? (set l i a) j ≡ some x → P x
+each_set P l i a here else j x at =
+    ⊎_elim (λ t. subst P t.1 here) (λ t. else j x t.0 t.1) (at_set l i j a x at)
+
 -- the word of the variable u, once the word of v is n
 pub at_word : (ws : List ℕ) (v n u : ℕ) (Q : ℕ → Type 0) → 1 + v < length ws → (u ≡ v → Q n)
     → (u ≢ v → Q (get_or ws (1 + u) 0)) → Q (get_or (set ws (1 + v) n) (1 + u) 0)
@@ -91,56 +103,24 @@ is_at-no v p ne = ap (λ b. cond b 1 0) (ne_eqb p.0 v ne)
 -- v is left out
 pub times-without_same : (v : ℕ) (l : Pairs) → times v (without v l) ≡ 0
 times-without_same v [] = refl
-times-without_same v (p ∷ ps) = dite (ℕ_discrete p.0 v)
-    (λ e. omega (arith, ap (times v) (without-hit v p ps e), times-without_same v ps))
-    (λ ne. omega (arith, ap (times v) (without-miss v p ps ne), is_at-no v p ne, times-without_same v ps))
+times-without_same v (p ∷ ps) = grind (arith, nat_tests, times-without_same v ps)
 
 -- others stay
 pub times-without_other : (v u : ℕ) (l : Pairs) → u ≢ v → times u (without v l) ≡ times u l
 times-without_other v u [] n = refl
-times-without_other v u (p ∷ ps) n = dite (ℕ_discrete p.0 v)
-    (λ e. omega (
-      arith,
-      ap (times u) (without-hit v p ps e),
-      is_at-no u p
-          (λ (q : p.0 ≡ u). n (omega arith)),
-      times-without_other v u ps n,
-    ))
-    (λ ne. omega (arith, ap (times u) (without-miss v p ps ne), times-without_other v u ps n))
+times-without_other v u (p ∷ ps) n = grind (arith, nat_tests, times-without_other v u ps n)
 
 -- what holds of each holds of those that are left
 pub each-without : (P : ℕ × ℕ → Type 0) (v : ℕ) (l : Pairs) → Each P l → Each P (without v l)
 each-without P v [] h = tt
 each-without P v (p ∷ ps) h = dite (ℕ_discrete p.0 v)
-    (λ e. subst (Each P) (sym (without-hit v p ps e)) (each-without P v ps h.1))
-    (λ ne. subst (Each P) (sym (without-miss v p ps ne)) (h.0, each-without P v ps h.1))
+    (λ e. rw (eq-eqb p.0 v e) (each-without P v ps h.1))
+    (λ ne. rw (ne_eqb p.0 v ne) (h.0, each-without P v ps h.1))
 
 -- what isn't there is not left out
 pub without-none : (v : ℕ) (l : Pairs) → times v l ≡ 0 → without v l ≡ l
 without-none v [] e = refl
-without-none v (p ∷ ps) e = dite (ℕ_discrete p.0 v) (λ is. absurd (omega (arith, is_at-yes v p is)))
-    (λ ne. without-miss v p ps ne ∙ ap (λ (l : Pairs). p ∷ l) (without-none v ps (omega arith)))
-
--- what follows for the variables of a map
-each-among : (P Q : ℕ × ℕ → Type 0) (whole l : Pairs) → ((u : ℕ) → times u l ≤ times u whole)
-    → ((p : ℕ × ℕ) → 1 ≤ times p.0 whole → P p → Q p) → Each P l → Each Q l
-each-among P Q whole [] sub f h = tt
-each-among P Q whole (p ∷ ps) sub f h = (
-  f p (omega (arith, sub p.0, is_at-yes p.0 p refl)) h.0,
-  each-among P Q whole ps
-      (λ u. omega (arith, sub u)) f h.1,
-)
-
--- what follows for its own variables
-pub each-in : (P Q : ℕ × ℕ → Type 0) (l : Pairs) → ((p : ℕ × ℕ) → 1 ≤ times p.0 l → P p → Q p) → Each P l → Each Q l
-each-in P Q l f h = each-among P Q l l (λ u. omega arith) f h
-
--- it holds of a pair of v
-pub each-find : (P : ℕ × ℕ → Type 0) (l : Pairs) (v : ℕ) → 1 ≤ times v l → Each P l → (x : ℕ) × P (v, x)
-each-find P [] v h a = absurd (omega arith)
-each-find P (p ∷ ps) v h a = dite (ℕ_discrete p.0 v)
-    (λ e. (p.1, subst (λ (x : ℕ). P (x, p.1)) e a.0))
-    (λ ne. each-find P ps v (omega (arith, is_at-no v p ne)) a.1)
+without-none v (p ∷ ps) e = grind (arith, nat_tests, without-none v ps)
 
 -- the number of the first pair
 pub look-hit : (v : ℕ) (p : ℕ × ℕ) (ps : Pairs) → p.0 ≡ v → look v (p ∷ ps) ≡ p.1
@@ -154,32 +134,21 @@ look-miss v p ps ne = ap (λ b. cond b p.1 (look v ps)) (ne_eqb p.0 v ne)
 pub each-look : (P : ℕ × ℕ → Type 0) (l : Pairs) (v : ℕ) → 1 ≤ times v l → Each P l → P (v, look v l)
 each-look P [] v h a = absurd (omega arith)
 each-look P (p ∷ ps) v h a = dite (ℕ_discrete p.0 v)
-    (λ e. subst (λ (y : ℕ). P (v, y)) (sym (look-hit v p ps e)) (subst (λ (x : ℕ). P (x, p.1)) e a.0))
-    (λ ne. subst (λ (y : ℕ). P (v, y)) (sym (look-miss v p ps ne))
-    (each-look P ps v (omega (arith, is_at-no v p ne)) a.1))
-
--- the first pair is raised
-pub raise-hit : (v : ℕ) (p : ℕ × ℕ) (ps : Pairs) → p.0 ≡ v → raise v (p ∷ ps) ≡ (p.0, p.1 + 1) ∷ raise v ps
-raise-hit v p ps e = ap (λ b. cond b (p.0, p.1 + 1) p ∷ raise v ps) (eq-eqb p.0 v e)
-
--- the first pair isn't
-pub raise-miss : (v : ℕ) (p : ℕ × ℕ) (ps : Pairs) → p.0 ≢ v → raise v (p ∷ ps) ≡ p ∷ raise v ps
-raise-miss v p ps ne = ap (λ b. cond b (p.0, p.1 + 1) p ∷ raise v ps) (ne_eqb p.0 v ne)
+    (λ e. rw (eq-eqb p.0 v e) (subst (λ (x : ℕ). P (x, p.1)) e a.0))
+    (λ ne. rw (ne_eqb p.0 v ne) (each-look P ps v (omega (arith, is_at-no v p ne)) a.1))
 
 -- raising changes no variable
 pub times-raise : (v u : ℕ) (l : Pairs) → times u (raise v l) ≡ times u l
 times-raise v u [] = refl
-times-raise v u (p ∷ ps) = dite (ℕ_discrete p.0 v)
-    (λ e. omega (arith, ap (times u) (raise-hit v p ps e), times-raise v u ps))
-    (λ ne. omega (arith, ap (times u) (raise-miss v p ps ne), times-raise v u ps))
+times-raise v u (p ∷ ps) = grind (arith, nat_tests, times-raise v u ps)
 
 -- what follows once the number of v is 1 higher
 pub each-raise : (P Q : ℕ × ℕ → Type 0) (v : ℕ) (l : Pairs) → ((p : ℕ × ℕ) → p.0 ≡ v → P p → Q (p.0, p.1 + 1))
     → ((p : ℕ × ℕ) → p.0 ≢ v → P p → Q p) → Each P l → Each Q (raise v l)
 each-raise P Q v [] f g h = tt
 each-raise P Q v (p ∷ ps) f g h = dite (ℕ_discrete p.0 v)
-    (λ e. subst (Each Q) (sym (raise-hit v p ps e)) (f p e h.0, each-raise P Q v ps f g h.1))
-    (λ ne. subst (Each Q) (sym (raise-miss v p ps ne)) (g p ne h.0, each-raise P Q v ps f g h.1))
+    (λ e. rw (eq-eqb p.0 v e) (f p e h.0, each-raise P Q v ps f g h.1))
+    (λ ne. rw (ne_eqb p.0 v ne) (g p ne h.0, each-raise P Q v ps f g h.1))
 
 -- an empty map has no variable
 pub times-none : (l : Pairs) (v : ℕ) → length l ≡ 0 → times v l ≡ 0

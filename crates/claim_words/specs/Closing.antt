@@ -1,5 +1,5 @@
 -- What a board leaves at its close.
-use Rattle.std.specs.Prelude.{◌≡◌, ℕ, zero, suc, ◌==◌, cond, true, false, List, [], ◌∷◌, ◌++◌, length, slice_index, Contains}
+use Rattle.std.specs.Prelude.{◌≡◌, ℕ, zero, suc, ◌==◌, Bool, cond, not, true, false, List, [], ◌∷◌, ◌++◌, length, slice_index, Contains}
 use Rattle.pop_model.specs.Popping.{IsPoppable, cursor, names}
 use Rattle.pop_model.specs.Families.{Event, IsEvent}
 use Rattle.pop_model.specs.Tickets.{IsMerged}
@@ -20,33 +20,31 @@ pub record Closes (k : Opening) (d : View) (cursors : List ℕ) (pops : ℕ) : T
   pub legal : IsLegalFrom k d.mine
   pub cursors_are : cursors ≡ vector k d.mine
 
--- the units below n whose mark is set, rising, behind the words of so many variables
-abbrev pub set_marks : List ℕ → ℕ → ℕ → List ℕ
-set_marks ws count zero = []
-set_marks ws count (suc n) = cond (slice_index ws (mark_of count n) == 1)
-    (set_marks ws count n ++ n ∷ []) (set_marks ws count n)
+-- the numbers below n that pass a test, rising
+abbrev pub passing : (ℕ → Bool) → ℕ → List ℕ
+passing f zero = []
+passing f (suc n) = cond (f n) (passing f n ++ n ∷ []) (passing f n)
 
--- the variables below n that are not settled, rising
+-- the units below n whose mark is set, behind the words of so many variables
+abbrev pub set_marks : List ℕ → ℕ → ℕ → List ℕ
+set_marks ws count n = passing (λ u. slice_index ws (mark_of count u) == 1) n
+
+-- the variables below n that are not settled
 abbrev pub unsettled : List ℕ → ℕ → List ℕ
-unsettled ws zero = []
-unsettled ws (suc n) = cond (is_settled (slice_index ws (word_of n)))
-    (unsettled ws n) (unsettled ws n ++ n ∷ [])
+unsettled ws n = passing (λ v. not (is_settled (slice_index ws (word_of v)))) n
 
 -- the suspects that the words have
 abbrev pub suspects_in : Opening → List ℕ → List ℕ
 suspects_in k ws = cond (is_listed k.instance.value.family)
     (set_marks ws (count k) (marks k)) (unsettled ws (count k))
 
--- the units below n whose mark is set after these changes, rising
+-- the units below n whose mark is set after these changes
 abbrev pub set_after : List Change → ℕ → List ℕ
-set_after cs zero = []
-set_after cs (suc n) = cond (mark_after n cs == 1) (set_after cs n ++ n ∷ []) (set_after cs n)
+set_after cs n = passing (λ u. mark_after u cs == 1) n
 
--- the variables below n that are none of these, rising
+-- the variables below n that are none of these
 abbrev pub others : Pairs → ℕ → List ℕ
-others settled zero = []
-others settled (suc n) =
-    cond (times n settled == 0) (others settled n ++ n ∷ []) (others settled n)
+others settled n = passing (λ v. times v settled == 0) n
 
 -- what a pass that is the only one knows to be suspect: the marked units of a listed family, the
 -- variables that are not settled of a cycle family

@@ -8,6 +8,7 @@ pub mod Conditions
 pub mod Machine
 pub mod TicketLogs
 pub mod Tells
+pub mod Plays
 pub mod Starts
 pub mod KeptLogs
 pub mod Passes

@@ -1,8 +1,8 @@
 //! The close of a board by its sole pass.
-ghost use Rattle.std.specs.Prelude.{if◌then◌else◌, ◌≡◌, ◌==◌, ℕ, ◌+◌, ◌++◌, ◌∷◌, [], ◌<◌, ◌≤◌, length, IfOk, IfErr, slice_index, vec_len, vec_capacity};
+ghost use Rattle.std.specs.Prelude.{if◌then◌else◌, ◌≡◌, ℕ, ◌+◌, ◌++◌, ◌∷◌, [], ◌<◌, ◌≤◌, length, IfOk, IfErr, slice_index, vec_len, vec_capacity};
 ghost use Rattle.std.specs.Slots.{IsFull, slots_items, slots_len};
 ghost use Rattle.pop_model.specs.Popping.{cursor};
-ghost use Rattle.claim_words.specs.Words.{word_of, cursor_in, is_settled};
+ghost use Rattle.claim_words.specs.Words.{word_of, cursor_in};
 ghost use Rattle.claim_words.specs.KeptLogs.{IsTold};
 ghost use Rattle.claim_words.specs.Closing.{Closes, Leaves, set_marks, unsettled};
 
@@ -137,22 +137,9 @@ fn unsettled(words: &Words<(), Global>, count: u32, mut unset: Vec<u32>) -> Vec<
 {
     for v in 0..count {
         let word = words.word(word_of(v));
-        note_unsettled(&mut unset, word, v);
+        note(&mut unset, !is_settled(word), v);
     }
     unset
-}
-
-// Notes a variable whose word is not settled.
-fn note_unsettled(unset: &mut Vec<u32>, word: u64, v: u32)
-    requires { vec_len unset.old < vec_capacity unset.old }
-    ensures items { unset.new.items
-        ≡ (if is_settled word then unset.old.items else unset.old.items ++ v ∷ []) }
-    ensures len { vec_len unset.new ≤ vec_len unset.old + 1 }
-    ensures capacity { vec_capacity unset.new ≡ vec_capacity unset.old }
-{
-    if !is_settled(word) {
-        unset.push_reserved(v);
-    }
 }
 
 // Those of so many units that are marked.
@@ -163,21 +150,21 @@ fn set_marks(words: &Words<(), Global>, count: u32, marks: u32, mut marked: Vec<
 {
     for unit in 0..marks {
         let word = words.word(mark_of(count, unit));
-        note_marked(&mut marked, word, unit);
+        note(&mut marked, word == MARKED, unit);
     }
     marked
 }
 
-// Notes a unit whose mark is set.
-fn note_marked(marked: &mut Vec<u32>, word: u64, unit: u32)
-    requires { vec_len marked.old < vec_capacity marked.old }
-    ensures items { marked.new.items
-        ≡ (if word == 1 then marked.old.items ++ unit ∷ [] else marked.old.items) }
-    ensures len { vec_len marked.new ≤ vec_len marked.old + 1 }
-    ensures capacity { vec_capacity marked.new ≡ vec_capacity marked.old }
+// Notes a number that passes.
+fn note(list: &mut Vec<u32>, passes: bool, n: u32)
+    requires { vec_len list.old < vec_capacity list.old }
+    ensures items { list.new.items
+        ≡ (if passes then list.old.items ++ n ∷ [] else list.old.items) }
+    ensures len { vec_len list.new ≤ vec_len list.old + 1 }
+    ensures capacity { vec_capacity list.new ≡ vec_capacity list.old }
 {
-    if word == MARKED {
-        marked.push_reserved(unit);
+    if passes {
+        list.push_reserved(n);
     }
 }
 

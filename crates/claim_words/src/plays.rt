@@ -1,12 +1,10 @@
 //! The rule of a board's table, and what each kind of step tells the pass that makes it.
-ghost use Rattle.std.specs.Prelude.{◌≡◌, ◌≤◌, ◌<◌, ℕ, List, []};
-ghost use Rattle.claim_words.specs.Words.{variable_at, unit_at, cursor_in};
-ghost use Rattle.claim_words.specs.Maps.{In, look};
+ghost use Rattle.std.specs.Prelude.{◌≡◌, ◌≤◌, ℕ, List, []};
+ghost use Rattle.claim_words.specs.Words.{variable_at, unit_at};
 ghost use Rattle.claim_words.specs.Openings.{count_in};
-ghost use Rattle.claim_words.specs.Steps.{Drawn, fresh, released_by, settled_by, cut_left, cut_right, drawn_by, advanced_by, taken_by, marked_by, cleared_by};
-ghost use Rattle.claim_words.specs.Conditions.{IsNear};
+ghost use Rattle.claim_words.specs.Steps.{fresh, released_by, cut_left, cut_right, cleared_by};
 ghost use Rattle.claim_words.specs.Machine.{Sound};
-ghost use Rattle.claim_words.specs.Tells.{ClaimTells, SoleTells, SoleKnows, SoleTakes, SoleFinds};
+ghost use Rattle.claim_words.specs.Plays.{ClaimTold, TicketTold, AdvanceTold, SettleTold, TakeTold, MarkTold};
 ghost use Rattle.claim_words.specs.Starts.{IsCounted};
 
 use crate::{Opening, View};
@@ -26,8 +24,7 @@ impl TableRule<(), View, Opening> for Machine {
 pub struct ClaimStep;
 
 impl Play<(), View> for ClaimStep {
-    ghost then = { λ st m r n. ClaimTells m.0 (variable_at st.word) r n.0 × (n.1 ≡ m.1)
-        × SoleTells m.0 (variable_at st.word) r × SoleKnows n.0 };
+    ghost then = { λ st m r n. ClaimTold m (variable_at st.word) r n };
 }
 
 // A release of a variable.
@@ -56,42 +53,35 @@ pub struct TicketStep<W> {
 }
 
 impl<W: Chosen> Play<(), View> for TicketStep<W> {
-    ghost then = { λ st m r n. (n ≡ (drawn_by m.0 W.unit W.cube r, m.1))
-        × ((q : Drawn) → In q m.0.mine → q.0 < r) × SoleKnows n.0 × IsNear m.0 W.cube };
+    ghost then = { λ st m r n. TicketTold m W.unit W.cube r n };
 }
 
 // An advance of a variable.
 pub struct AdvanceStep;
 
 impl Play<(), View> for AdvanceStep {
-    ghost then = { λ st m r n. (n ≡ (advanced_by m.0 (variable_at st.word), m.1))
-        × (cursor_in r ≡ look (variable_at st.word) m.0.held) };
+    ghost then = { λ st m r n. AdvanceTold m (variable_at st.word) r n };
 }
 
 // A variable is settled.
 pub struct SettleStep;
 
 impl Play<(), View> for SettleStep {
-    ghost then = { λ st m r n. (n ≡ (settled_by m.0 (variable_at st.word), m.1)) × SoleKnows n.0 };
+    ghost then = { λ st m r n. SettleTold m (variable_at st.word) r n };
 }
 
 // A mark is taken.
 pub struct TakeStep;
 
 impl Play<(), View> for TakeStep {
-    ghost then = { λ st m r n.
-        (n ≡ (taken_by m.0 (unit_at (count_in m.0.opening) st.word) r, m.1)) × (r ≤ 1)
-        × SoleTakes m.0 (unit_at (count_in m.0.opening) st.word) r
-        × SoleFinds m.0 (unit_at (count_in m.0.opening) st.word) r × SoleKnows n.0 };
+    ghost then = { λ st m r n. TakeTold m (unit_at (count_in m.0.opening) st.word) r n };
 }
 
 // A mark is set.
 pub struct MarkStep;
 
 impl Play<(), View> for MarkStep {
-    ghost then = { λ st m r n.
-        (n ≡ (marked_by m.0 (unit_at (count_in m.0.opening) st.word) r, m.1)) × (r ≤ 1)
-        × SoleFinds m.0 (unit_at (count_in m.0.opening) st.word) r };
+    ghost then = { λ st m r n. MarkTold m (unit_at (count_in m.0.opening) st.word) r n };
 }
 
 // The unit that is cleared, picked at the call.

@@ -1,8 +1,8 @@
-use Rattle.std.proofs.Common.{rules, ℕ, ap, sym, ◌∙◌, ◌≡◌, get_or}
+use Rattle.std.proofs.Common.{rules, ℕ, ap, sym, ◌∙◌, ◌≡◌, get_or, eqb}
 use Rattle.std.specs.Slots.{slots_items}
 use Rattle.claim_words.specs.Words.{mark_of}
 use Rattle.claim_words.proofs.SoleHasAll.{at_least}
-use Rattle.claim_words.proofs.SuspectsMissNone.{marked_more}
+use Rattle.claim_words.proofs.SuspectsMissNone.{passing_more}
 use Rattle.claim_words.proofs.closing.set_marks.Goals as goal
 
 pub loop-unit-preserved : goal.loop-unit-preserved
@@ -16,5 +16,6 @@ loop-unit-preserved c =
     record {
       len = search rules;
       room = search rules;
-      are = marked_more ws c.loop-unit.marked.items _ n c.loop-unit.unit w m.are word c.note_marked.ensures.items;
+      are = passing_more (λ u. eqb (get_or ws (mark_of n u) 0) 1) c.loop-unit.marked.items _ c.loop-unit.unit _ m.are
+          (ap (λ (x : ℕ). eqb x 1) (sym word)) c.note.ensures.items;
     }

@@ -1,8 +1,8 @@
-use Rattle.std.proofs.Common.{rules, ℕ, ap, sym, ◌∙◌, ◌≡◌, get_or}
+use Rattle.std.proofs.Common.{rules, ℕ, ap, sym, ◌∙◌, ◌≡◌, get_or, not}
 use Rattle.std.specs.Slots.{slots_items}
-use Rattle.claim_words.specs.Words.{word_of}
+use Rattle.claim_words.specs.Words.{word_of, is_settled}
 use Rattle.claim_words.proofs.SoleHasAll.{at_least}
-use Rattle.claim_words.proofs.SuspectsMissNone.{unset_more}
+use Rattle.claim_words.proofs.SuspectsMissNone.{passing_more}
 use Rattle.claim_words.proofs.closing.unsettled.Goals as goal
 
 pub loop-v-preserved : goal.loop-v-preserved
@@ -15,5 +15,6 @@ loop-v-preserved c =
     record {
       len = search rules;
       room = search rules;
-      are = unset_more ws c.loop-v.unset.items _ c.loop-v.v w i.are word c.note_unsettled.ensures.items;
+      are = passing_more (λ v. not (is_settled (get_or ws (word_of v) 0))) c.loop-v.unset.items _ c.loop-v.v _ i.are
+          (ap not (c.is_settled.ensures ∙ ap is_settled (sym word))) c.note.ensures.items;
     }

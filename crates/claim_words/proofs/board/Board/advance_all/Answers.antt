@@ -4,7 +4,7 @@ use Rattle.claim_words.specs.Maps.{Pairs, look}
 use Rattle.claim_words.specs.Machine.{uses_held}
 use Rattle.claim_words.specs.KeptLogs.{Adds, HasRoom}
 use Rattle.claim_words.specs.Passes.{count_of}
-use Rattle.claim_words.proofs.DueAdvances.{turn, next_due, here_due, done_due, none_behind}
+use Rattle.claim_words.proofs.DueAdvances.{turn, next_due, here_due, done_due}
 use Rattle.claim_words.proofs.KeptPops.{Same, adds_none, adds_more, room_step, room_one, uses_push, same_first, same_next}
 use Rattle.claim_words.proofs.board.Board.advance_all.Goals as goal
 
@@ -53,7 +53,7 @@ loop-i-preserved c =
     let entry : c.cursor_of.result ≡ look v held = c.cursor_of.ensures ∙ e.cursor ∙ same.0 in
     let added : Adds c.loop-i.log log ((v, p.1, look v held) ∷ []) =
     subst (λ (k : ℕ). Adds c.loop-i.log log ((v, p.1, k) ∷ [])) entry c.add_use.ensures in
-    let none = none_behind n d cube at p i.due c.pair-v.ensures in
+    let none = (here_due n d cube at p i.due c.pair-v.ensures).3 in
     record {
       seat = e.seat.0;
       due = t.0;

@@ -13,6 +13,6 @@ load-requires g c =
       c.requires.seat.0,
       omega (arith, c.word_of.ensures, c.requires.known, c.args.self.now.sized, c.args.self.now.counted),
       clears k _ _ _ g.W.Cleared.unit _ c.args.v c.requires.seat.1
-          (subst (λ (u : ℕ). In u d.taken) is c.requires.taken) c.requires.known c.requires.held c.requires.clear
+          (subst (λ (u : ℕ). In u d.taken) is c.requires.taken) c.requires.held c.requires.clear
           (subst (λ (u : ℕ). RulesOut k.instance.value d.held u c.args.v) is c.requires.out),
     )

@@ -1,6 +1,6 @@
-use Rattle.std.proofs.Common.{arith, ℕ, ap, ◌∙◌, ◌≡◌, List, cond}
+use Rattle.std.proofs.Common.{arith, ℕ, ap, ◌∙◌, ◌≡◌}
 use Rattle.std.specs.Slots.{slots_items}
-use Rattle.claim_words.specs.Openings.{count, marks, is_listed}
+use Rattle.claim_words.specs.Openings.{count, marks}
 use Rattle.claim_words.specs.Passes.{opening_of, view}
 use Rattle.claim_words.specs.Closing.{set_marks, unsettled, suspects_in}
 use Rattle.claim_words.proofs.SoleHasAll.{closes}
@@ -29,9 +29,7 @@ returns-clause-left c =
     ∙ ap (set_marks ws (count k)) c.args.self.marked in
     let opens : unset ≡ unsettled ws (count k) = c.unsettled-unset.ensures ∙ ap (unsettled ws) counted in
     let suspects : c.suspects_from.result ≡ suspects_in k ws =
-    c.suspects_from.ensures ∙ ap (λ b. cond b marked unset) c.args.self.family
-    ∙ ap (λ (l : List ℕ). cond (is_listed k.instance.value.family) l unset) sets
-    ∙ ap (λ (l : List ℕ). cond (is_listed k.instance.value.family) (set_marks ws (count k) (marks k)) l) opens in
+    cc (c.suspects_from.ensures, c.args.self.family, sets, opens) in
     leaves k _ (view c.args.pass) ws _ c.cursors_of-cursors.result c.suspects_from.result final c.requires.sole
     c.requires.idle (λ v h. c.cursors_of-cursors.ensures.cursors v (omega (arith, h, counted))) suspects
 

@@ -1,10 +1,10 @@
 use Rattle.std.proofs.Common.{arith, ℕ, List, [], ◌∷◌, ◌++◌, ap, sym, ◌∙◌, subst, ◌≡◌, ◌<◌, length, map, drop, ◌^◌}
-use Rattle.std.proofs.lemmas.List.{length-map}
+use Rattle.std.proofs.lemmas.List.{length-map, length-drop}
 use Rattle.pop_model.specs.Popping.{IsCube}
 use Rattle.claim_words.specs.Maps.{Each}
 use Rattle.claim_words.specs.KeptLogs.{Kept, Head, IsWhole, tickets_of, many_uses, record_of}
 use Rattle.claim_words.proofs.Totals.{total-append, each-append}
-use Rattle.claim_words.proofs.KeptLogsLemmas.{tickets-seal, drop-seal, length-drop}
+use Rattle.claim_words.proofs.KeptLogsLemmas.{tickets-seal, drop-seal}
 use Rattle.claim_words.proofs.kept_log.KeptLog.seal.Goals as goal
 
 pub invariant_of-self : goal.invariant_of-self
@@ -29,8 +29,7 @@ invariant_of-self c =
         arith,
         ap many_uses items,
         total-append (λ (h : Head). h.2) hs ((t, u, n) ∷ []),
-        length-drop
-            (many_uses hs) us i.fit,
+        length-drop (many_uses hs) us,
         is,
       );
       whole = subst (λ (l : List Head). Each IsWhole (tickets_of l us)) (sym items)
