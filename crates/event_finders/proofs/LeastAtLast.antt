@@ -10,9 +10,8 @@ use Rattle.claim_words.specs.declared.view.View.{View}
 use Rattle.claim_words.specs.Words.{cursor_in}
 use Rattle.claim_words.specs.Maps.{Each}
 use Rattle.claim_words.proofs.Totals.{each-map, each-append, each-both}
-use Rattle.claim_words.proofs.Memberships.{each_in_list}
 use Rattle.event_finders.specs.UnitLooks.{found_at, HasValue, HasMore, IsAtLast}
-use Rattle.event_finders.proofs.CubePrefixes.{take_push, before_place, named_in, names_front, names_last, names_back}
+use Rattle.event_finders.proofs.CubePrefixes.{each_named, take_push, before_place, named_in, names_front, names_last, names_back}
 use Rattle.event_finders.proofs.UnitClaimsGrow.{NextClaim, found_here, found_other, other_held, still_more}
 
 -- the least variable of the cube at its last entry, with its cursor; none where each has an entry behind
@@ -28,8 +27,7 @@ LastHere i v c last =
 -- a variable that has an entry behind isn't at its last one
 more_not_last : (i : Instance) (e : View) (l : Cube) (v : ℕ) → Each (HasMore i e) l → IsAtLast i e l v → ⊥
 more_not_last i e l v more last =
-    let t = named_in l v last.0 in
-    let here : HasMore i e (v, t.0) = each_in_list (HasMore i e) l more (v, t.0) t.1 in
+    let t = each_named (HasMore i e) l v more last.0 in let here : HasMore i e (v, t.0) = t.2 in
     omega (arith, here, last.1)
 
 module _ {d m e : View} {cube : Cube} {n : ℕ} {p : ℕ × ℕ} {w : ℕ} (s : NextClaim d m e cube n p w) (i : Instance)
@@ -45,10 +43,7 @@ module _ {d m e : View} {cube : Cube} {n : ℕ} {p : ℕ × ℕ} {w : ℕ} (s : 
   -- a variable of the first pairs keeps the cursor that was found
   same_front : (v : ℕ) → names front v ≡ true → found_at e v ≡ found_at m v
   same_front v named =
-      let t = named_in front v named in
-      let has : HasValue i d m (v, t.0) = each_in_list (HasValue i d m) front values (v, t.0) t.1 in
-      found_other s free v
-      (other_held s free v has.0.once)
+      found_other s free v (other_held s free v (each_named (HasValue i d m) front v values named).2.0.once)
 
   -- a variable at its last entry is the next, or was so before
   last_back : (v : ℕ) → IsAtLast i e (front ++ p ∷ []) v → IsAtLast i m front v ⊎ (p.0 ≡ v)

@@ -1,67 +1,41 @@
 -- Paths that grow and shrink at their end, on which no variable stands twice.
-use Rattle.std.proofs.Common.{inl, inr, ◌≡◌, ◌≢◌, ℕ, zero, suc, ◌+◌, ◌-◌, ◌<◌, ◌≤◌, List, [], ◌∷◌, ◌++◌, length, get_or, cond, ◌==◌, refl, sym, ap, subst, ◌∙◌, arith, eq-eqb, ne_eqb}
+use Rattle.std.proofs.Common.{inl, inr, ◌≡◌, ℕ, zero, suc, ◌+◌, ◌-◌, ◌<◌, ◌≤◌, List, [], ◌∷◌, ◌++◌, length, map, take, get_or, cond, ◌==◌, refl, sym, ap, subst, ◌∙◌, arith}
 use Rattle.std.proofs.lemmas.Bool.{cases_eq, cases_lt}
-use Rattle.std.proofs.lemmas.List.{length-map}
+use Rattle.std.proofs.lemmas.List.{length-map, take-map, length_push, get_or_push, get_or_append_left}
 use Rattle.pop_model.specs.Popping.{variables}
 use Rattle.pop_model.proofs.Loops.{path_short}
+use Rattle.claim_words.specs.Words.{word_of}
 use Rattle.claim_words.specs.Maps.{Pairs, times_in}
 use Rattle.claim_words.proofs.Totals.{total-append}
-use Rattle.claim_words.proofs.HeldLemmas.{nowhere, stands_in, variables-push}
-use Rattle.claim_words.proofs.SoleHasAll.{last_of as last_at, before_last}
+use Rattle.claim_words.proofs.HeldLemmas.{stands_in, one-hit, one-miss, variables-push}
 use Rattle.event_finders.specs.Trails.{IsTrail}
 
 -- a path has as many variables
 pub variables_long : (p : Pairs) → length (variables p) ≡ length p
 variables_long p = length-map p (λ (e : ℕ × ℕ). e.0)
 
--- one more
-pub long_push : {A : Type 0} (p : List A) (s : A) → length (p ++ s ∷ []) ≡ suc (length p)
-long_push [] s = refl
-long_push (x ∷ p) s = ap suc (long_push p s)
-
--- how often v stands in a list with u at its end
-pub times_push : (v u : ℕ) (l : List ℕ) → times_in v (l ++ u ∷ []) ≡ times_in v l + times_in v (u ∷ [])
-times_push v u l = total-append (λ (x : ℕ). cond (x == v) 1 0) l (u ∷ [])
-
--- once in the list of itself
-pub one_same : (v u : ℕ) → u ≡ v → times_in v (u ∷ []) ≡ 1
-one_same v u is = ap (λ b. cond b 1 0 + 0) (eq-eqb u v is)
-
--- and never in that of another
-pub one_other : (v u : ℕ) → u ≢ v → times_in v (u ∷ []) ≡ 0
-one_other v u ne = ap (λ b. cond b 1 0 + 0) (ne_eqb u v ne)
+-- the variables of a part
+pub variables_take : (n : ℕ) (l : Pairs) → variables (take n l) ≡ take n (variables l)
+variables_take n l = sym (take-map (λ (e : ℕ × ℕ). e.0) n l)
 
 -- how often v stands on a path with s at its end
 pub times_on : (v : ℕ) (p : Pairs) (s : ℕ × ℕ)
     → times_in v (variables (p ++ s ∷ [])) ≡ times_in v (variables p) + times_in v (s.0 ∷ [])
-times_on v p s = ap (times_in v) (variables-push p s) ∙ times_push v s.0 (variables p)
+times_on v p s =
+    ap (times_in v) (variables-push p s) ∙ total-append (λ (x : ℕ). cond (x == v) 1 0) (variables p) (s.0 ∷ [])
 
 -- the variable at the end of a path
 pub last_variable : (p : Pairs) (s : ℕ × ℕ) (j : ℕ) → j ≡ length p → get_or (variables (p ++ s ∷ [])) j 0 ≡ s.0
 last_variable p s j is =
     ap (λ (l : List ℕ). get_or l j 0) (variables-push p s)
-    ∙ last_at (variables p) s.0 j (is ∙ sym (variables_long p))
+    ∙ get_or_push (variables p) s.0 0 j (variables_long p ∙ sym is)
 
 -- those before it
 pub before_variable : (p : Pairs) (s : ℕ × ℕ) (j : ℕ) → j < length p
     → get_or (variables (p ++ s ∷ [])) j 0 ≡ get_or (variables p) j 0
 before_variable p s j less =
     ap (λ (l : List ℕ). get_or l j 0) (variables-push p s)
-    ∙ before_last (variables p) s.0 j (omega (arith, less, variables_long p))
-
--- what stands at the end of a path
-pub last_stand : (p : Pairs) (s : ℕ × ℕ) (j : ℕ) → j ≡ length p → get_or (p ++ s ∷ []) j (0, 0) ≡ s
-last_stand [] s zero e = refl
-last_stand [] s (suc j) e = absurd (omega arith)
-last_stand (x ∷ p) s zero e = absurd (omega arith)
-last_stand (x ∷ p) s (suc j) e = last_stand p s j (omega arith)
-
--- and before it
-pub before_stand : (p : Pairs) (s : ℕ × ℕ) (j : ℕ) → j < length p
-    → get_or (p ++ s ∷ []) j (0, 0) ≡ get_or p j (0, 0)
-before_stand [] s j h = absurd (omega arith)
-before_stand (x ∷ p) s zero h = refl
-before_stand (x ∷ p) s (suc j) h = before_stand p s j (omega arith)
+    ∙ get_or_append_left (variables p) (s.0 ∷ []) 0 j (omega (arith, less, variables_long p))
 
 -- the variable of what stands there
 pub stand_variable : (p : Pairs) (j : ℕ) → (get_or p j (0, 0)).0 ≡ get_or (variables p) j 0
@@ -69,17 +43,15 @@ stand_variable [] j = refl
 stand_variable (x ∷ p) zero = refl
 stand_variable (x ∷ p) (suc j) = stand_variable p j
 
--- a variable that stands at no place is not on the path
-pub off : (v : ℕ) (p : Pairs) → ((j : ℕ) → j < length p → get_or (variables p) j 0 ≢ v)
-    → times_in v (variables p) ≡ 0
-off v p apart = nowhere v (variables p) (λ j less. apart j (omega (arith, less, variables_long p)))
-
--- and the other way round
-pub apart : (v : ℕ) (p : Pairs) → times_in v (variables p) ≡ 0 → (j : ℕ) → j < length p
-    → get_or (variables p) j 0 ≢ v
-apart v p none j less is =
-    let some = stands_in v (variables p) j 0 is (omega (arith, less, variables_long p)) in
-    absurd (omega (arith, some, none))
+-- a word stands among those of variables no more often than its variable does
+pub words_le : (i : ℕ) (l : List ℕ) → times_in i (map word_of l) ≤ times_in (i - 1) l
+words_le i [] = omega arith
+words_le i (v ∷ l) = elim (cases_eq (word_of v) i) [
+  | inl is ↦
+      let same : v ≡ i - 1 = omega (arith, is) in
+      omega (arith, one-hit i (word_of v) is, one-hit (i - 1) v same, words_le i l)
+  | inr ne ↦ omega (arith, one-miss i (word_of v) ne, words_le i l)
+]
 
 -- what stands at two places stands there twice
 pub twice : (v : ℕ) (l : List ℕ) (i j : ℕ) → i < j → j < length l → get_or l i 0 ≡ v → get_or l j 0 ≡ v
@@ -87,8 +59,7 @@ pub twice : (v : ℕ) (l : List ℕ) (i j : ℕ) → i < j → j < length l → 
 twice v [] i j less within a b = absurd (omega arith)
 twice v (x ∷ l) zero zero less within a b = absurd (omega arith)
 twice v (x ∷ l) zero (suc j) less within a b =
-    let one : ◌≡◌ {A = ℕ} (cond (x == v) 1 0) 1 = ap (λ b. cond b 1 0) (eq-eqb x v a) in
-    omega (arith, one, stands_in v l j 0 b (omega (arith, within)))
+    omega (arith, one-hit v x a, stands_in v l j 0 b (omega (arith, within)))
 twice v (x ∷ l) (suc i) zero less within a b = absurd (omega arith)
 twice v (x ∷ l) (suc i) (suc j) less within a b =
     omega (arith, twice v l i j (omega (arith, less)) (omega (arith, within)) a b)
@@ -101,8 +72,8 @@ module _ (n : ℕ) (p : Pairs) (s : ℕ × ℕ) (is : IsTrail n p) (near : s.0 <
   once_more v = elim (cases_eq s.0 v) [
     | inl same ↦
         let zeroed : times_in v (variables p) ≡ 0 = subst (λ (u : ℕ). times_in u (variables p) ≡ 0) same none in
-        omega (arith, times_on v p s, one_same v s.0 same, zeroed)
-    | inr differ ↦ omega (arith, times_on v p s, one_other v s.0 differ, is.once v)
+        omega (arith, times_on v p s, one-hit v s.0 same, zeroed)
+    | inr differ ↦ omega (arith, times_on v p s, one-miss v s.0 differ, is.once v)
   ]
 
   -- all below the count
@@ -116,7 +87,7 @@ module _ (n : ℕ) (p : Pairs) (s : ℕ × ℕ) (is : IsTrail n p) (near : s.0 <
   pub room_more : length p < n
   room_more =
       let at : ℕ → ℕ = λ j. get_or (variables (p ++ s ∷ [])) j 0 in
-      let size : length (variables (p ++ s ∷ [])) ≡ suc (length p) = variables_long (p ++ s ∷ []) ∙ long_push p s in
+      let size : length (variables (p ++ s ∷ [])) ≡ length p + 1 = variables_long (p ++ s ∷ []) ∙ length_push p s in
       let short = path_short at 0 (suc (length p)) n
       (λ a b from less below same.
       let two = twice (at a) (variables (p ++ s ∷ [])) a b less (omega (arith, below, size)) refl (sym same) in
@@ -128,15 +99,15 @@ module _ (n : ℕ) (p : Pairs) (s : ℕ × ℕ) (is : IsTrail n p) (near : s.0 <
   pub trail_push : IsTrail n (p ++ s ∷ [])
   trail_push = record {
     once = once_more;
-    below = λ j less. below_more j (omega (arith, less, long_push p s));
-    short = omega (arith, room_more, long_push p s);
+    below = λ j less. below_more j (omega (arith, less, length_push p s));
+    short = omega (arith, room_more, length_push p s);
   }
 
 -- a path loses what stands last, which stands nowhere else
 module _ (n : ℕ) (p q : Pairs) (s : ℕ × ℕ) (path : p ≡ q ++ s ∷ []) (trail : IsTrail n p) where
   -- the path is longer by one
-  pub longer : length p ≡ suc (length q)
-  longer = ap length path ∙ long_push q s
+  longer : length p ≡ length q + 1
+  longer = ap length path ∙ length_push q s
 
   -- its variable is not on the rest
   pub last_off : times_in s.0 (variables q) ≡ 0
@@ -145,7 +116,7 @@ module _ (n : ℕ) (p q : Pairs) (s : ℕ × ℕ) (path : p ≡ q ++ s ∷ []) (
     trail.once s.0,
     ap (λ (l : Pairs). times_in s.0 (variables l)) path,
     times_on s.0 q s,
-    one_same s.0 s.0 refl,
+    one-hit s.0 s.0 refl,
   )
 
   -- it is below the count
@@ -154,12 +125,6 @@ module _ (n : ℕ) (p q : Pairs) (s : ℕ × ℕ) (path : p ≡ q ++ s ∷ []) (
       let at : get_or (variables p) (length q) 0 ≡ s.0 =
       ap (λ (l : Pairs). get_or (variables l) (length q) 0) path ∙ last_variable q s (length q) refl in
       omega (arith, at, trail.below (length q) (omega (arith, longer)))
-
-  -- it is what stands last
-  pub last_is : get_or p (length p - 1) (0, 0) ≡ s
-  last_is =
-      ap (λ (l : Pairs). get_or l (length p - 1) (0, 0)) path
-      ∙ last_stand q s (length p - 1) (omega (arith, longer))
 
   -- and the rest is a path
   pub trail_front : IsTrail n q

@@ -1,16 +1,19 @@
 -- The marks of a path: each variable of it has its place.
 use Rattle.std.proofs.Common.{inl, inr, ◌≡◌, ℕ, ◌<◌, ◌≤◌, List, [], ◌∷◌, ◌++◌, length, get_or, set, refl, sym, ap, subst, ◌∙◌, arith, get_or-set_same, get_or-set_other, length-set}
 use Rattle.std.proofs.lemmas.Bool.{cases_lt}
+use Rattle.std.proofs.lemmas.List.{length_push}
 use Rattle.pop_model.specs.Popping.{variables}
 use Rattle.claim_words.specs.Maps.{Pairs, times_in}
+use Rattle.claim_words.proofs.HeldLemmas.{nowhere, stands_in}
 use Rattle.event_finders.specs.Trails.{IsTrail, IsKept}
-use Rattle.event_finders.proofs.TrailLemmas.{long_push, last_variable, before_variable, off, apart, trail_push, trail_front}
+use Rattle.event_finders.proofs.TrailLemmas.{last_variable, before_variable, variables_long, trail_push, trail_front}
 
 -- a variable that doesn't stand where its mark says is not on the path
 pub unmarked_off : (marks : List ℕ) (p : Pairs) (room : ℕ) → IsKept marks p room → (v : ℕ)
     → (get_or marks v 0 < length p → get_or (variables p) (get_or marks v 0) 0 ≡ v → ⊥)
     → times_in v (variables p) ≡ 0
-unmarked_off marks p room is v none = off v p (λ j less same.
+unmarked_off marks p room is v none = nowhere v (variables p) (λ j h same.
+    let less : j < length p = omega (arith, h, variables_long p) in
     let mark : get_or marks v 0 ≡ j = ap (λ (u : ℕ). get_or marks u 0) (sym same) ∙ is.marked j less in
     none (omega (arith, mark, less)) (ap (λ (i : ℕ). get_or (variables p) i 0) mark ∙ same))
 
@@ -27,10 +30,11 @@ module _ (marks : List ℕ) (p : Pairs) (room : ℕ) (is : IsKept marks p room) 
   marked_more j less = elim (cases_lt j (length p)) [
     | inl within ↦
         ap (λ (u : ℕ). get_or (set marks s.0 (length p)) u 0) (before_variable p s j within)
-        ∙ get_or-set_other marks s.0 (get_or (variables p) j 0) (length p) 0 (apart s.0 p none j within)
+        ∙ get_or-set_other marks s.0 (get_or (variables p) j 0) (length p) 0 (λ is. absurd (omega
+        (arith, none, stands_in s.0 (variables p) j 0 is (omega (arith, within, variables_long p)))))
         ∙ is.marked j within
     | inr last ↦
-        let at : j ≡ length p = omega (arith, less, last, long_push p s) in
+        let at : j ≡ length p = omega (arith, less, last, length_push p s) in
         ap (λ (u : ℕ). get_or (set marks s.0 (length p)) u 0) (last_variable p s j at)
         ∙ get_or-set_same marks s.0 (length p) 0 near ∙ sym at
   ]
@@ -56,6 +60,6 @@ shrunk marks q s room is = record {
   trail = trail_front (length marks) (q ++ s ∷ []) q s refl is.trail;
   small = is.small;
   marked = λ j less. ap (λ (u : ℕ). get_or marks u 0) (sym (before_variable q s j less))
-      ∙ is.marked j (omega (arith, less, long_push q s));
+      ∙ is.marked j (omega (arith, less, length_push q s));
   roomy = is.roomy;
 }

@@ -25,11 +25,6 @@ use Rattle.event_finders.specs.Gains.{gained}
 use Rattle.event_finders.specs.UnitLooks.{found_at, SameElse, ClaimsFirst, HasClaimed, HasValue, HasMore}
 use Rattle.event_finders.proofs.CubePrefixes.{take_push, none_yet}
 
--- what was found after a claim that was granted
-found_after : (m e : View) (v w : ℕ) → e ≡ claimed_by m v w → w < 2 ^ 63 → e.found ≡ (v, cursor_in w) ∷ m.found
-found_after m e v w to free =
-    ap (λ (x : View). x.found) (to ∙ ap (λ b. claim_with b (is_settled w) m v w) (lt-ltb w (2 ^ 63) free))
-
 -- a pair more at the end leaves the number of what is there
 look_front : (v : ℕ) (l m : Pairs) → 1 ≤ times v l → look v (l ++ m) ≡ look v l
 look_front v [] m h = absurd (omega arith)
@@ -103,7 +98,8 @@ module _ {d m e : View} {cube : Cube} {n : ℕ} {p : ℕ × ℕ} {w : ℕ} (s : 
 
     -- what was found
     found_next : e.found ≡ (p.0, cursor_in w) ∷ m.found
-    found_next = found_after m e p.0 w s.to free
+    found_next = ap (λ (x : View). x.found)
+        (s.to ∙ ap (λ b. claim_with b (is_settled w) m p.0 w) (lt-ltb w (2 ^ 63) free))
 
     -- after a claim that was granted
     pub granted_next : ClaimsFirst d e cube (n + 1) (n + 1)

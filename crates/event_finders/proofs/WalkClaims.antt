@@ -1,9 +1,8 @@
 -- What a claim of a variable does to the parts of a view that a walk looks at.
-use Rattle.std.proofs.Common.{inr, Bool, ◌≡◌, ◌≢◌, ℕ, ◌<◌, true, false, [], ◌∷◌, ◌++◌, length, Some, cond, sym, ap, subst, ◌∙◌, arith}
+use Rattle.std.proofs.Common.{inr, Bool, ◌≡◌, ◌≢◌, ℕ, ◌<◌, true, false, [], ◌∷◌, ◌++◌, length, cond, sym, ap, subst, ◌∙◌, arith}
 use Rattle.pop_model.specs.Popping.{variables}
 use Rattle.claim_words.specs.Words.{cursor_in, is_settled}
 use Rattle.claim_words.specs.Maps.{Pairs, In, times_in}
-use Rattle.claim_words.specs.Openings.{height}
 use Rattle.claim_words.specs.Answers.{Claims}
 use Rattle.claim_words.specs.declared.opening.Opening.{Opening}
 use Rattle.claim_words.specs.declared.view.View.{View}
@@ -44,10 +43,6 @@ module _ (d : View) (v : ℕ) (e : View) where
   pub mine_held : (c : ℕ) → Claims d v e (Mine c) → e.held ≡ d.held ++ (v, c) ∷ []
   mine_held c is =
       held_after d e v is.0 is.1.view is.2.0 ∙ ap (λ (n : ℕ). d.held ++ (v, n) ∷ []) (sym is.2.1)
-
-  -- at a cursor below the height
-  pub mine_low : (k : Opening) (c : ℕ) → d.opening ≡ Some k → Claims d v e (Mine c) → c < height k v
-  mine_low k c live is = omega (arith, is.2.1, is.1.low k live)
 
   -- a claim of a variable that isn't held was refused by another pass, so the pass isn't sole
   pub refused_shared : (w : ℕ) → Claims d v e (Refused w) → times_in v (variables d.held) ≡ 0 → e.share ≢ 64

@@ -1,5 +1,6 @@
 -- What a walk gains, round by round, and what its answer says.
 use Rattle.std.proofs.Common.{inl, inr, ◌≡◌, ◌⊎◌, ℕ, ◌+◌, ◌<◌, ◌≤◌, List, [], ◌∷◌, ◌++◌, length, refl, sym, ap, subst, ◌∙◌, arith, append_assoc, append-nil}
+use Rattle.std.proofs.lemmas.List.{length_push}
 use Rattle.pop_model.specs.Families.{IsEvent}
 use Rattle.pop_model.specs.Logs.{LogRecord}
 use Rattle.claim_words.specs.Maps.{Pairs, In}
@@ -8,11 +9,10 @@ use Rattle.claim_words.specs.declared.opening.Opening.{Opening}
 use Rattle.claim_words.specs.declared.view.View.{View}
 use Rattle.claim_words.proofs.Totals.{each-append}
 use Rattle.event_finders.specs.declared.tried.Tried.{Tried}
-use Rattle.event_finders.specs.declared.tried.Tried.TheVariants.{Popped, Cleared, Stuck, Busy, Idle, OutOfMemory}
+use Rattle.event_finders.specs.declared.tried.Tried.TheVariants.{Popped, Busy, OutOfMemory}
 use Rattle.event_finders.specs.Gains.{Stays, Rises}
-use Rattle.event_finders.specs.Walks.{GainsTickets, AreCounted, Closes, CloseAll, PopsCycles, IsWalkAnswer}
+use Rattle.event_finders.specs.Walks.{KeepsKnown, GainsTickets, AreCounted, Closes, CloseAll, PopsCycles, IsWalkAnswer}
 use Rattle.event_finders.specs.WalkSteps.{Same, PopsLoop, Says, EndsAt}
-use Rattle.event_finders.proofs.TrailLemmas.{long_push}
 use Rattle.event_finders.proofs.WalkTraces.{close_all_on, close_all_more}
 
 -- what stays in two turns stays
@@ -32,6 +32,10 @@ same_then d e f a b = record {
   mine = b.mine ∙ a.mine;
   known = λ p i. b.known p (a.known p i);
 }
+
+-- what was known before is known after claims
+pub known_from : (d c e : View) → c ≡ d → Same c e → KeepsKnown d e
+known_from d c e is same p i = same.known p (subst (λ (v : View). In p v.settled) (sym is) i)
 
 -- tickets that rise behind others
 rises_then : (before a b : List Drawn) → Rises before a → Rises (before ++ a) b → Rises before (a ++ b)
@@ -81,7 +85,7 @@ gained_more k d e f n last t start r seen g more is closes = record {
   gains = gains_then k d e f g.added ((t, r) ∷ []) g.gains more;
   closed = close_all_more k 0 n d f start g.added (t, r) (close_all_on k 0 d e f start g.added seen g.closed is)
       (omega (arith, g.many)) closes;
-  many = omega (arith, long_push g.added (t, r), g.many);
+  many = omega (arith, length_push g.added (t, r), g.many);
   ends = inr (g.added, r, refl);
 }
 
@@ -101,11 +105,7 @@ over_mine k d e f n last start pops answer v seen g none is less says = (
 
     few : (a : Tried) → Says f v a → AreCounted pops (g.added ++ []) a
     few (Popped t) s = absurd s
-    few (Cleared u c) s = fewer
-    few (Stuck u c) s = fewer
-    few (Busy u w) s = fewer
-    few Idle s = fewer
-    few OutOfMemory s = fewer
+    few a s = fewer
 
 -- a walk that popped as many as were asked for ends behind them, once all is released
 pub end_mine : (k : Opening) (d e f : View) (n last start pops : ℕ) → Gained k d e n last start → f.mine ≡ e.mine
@@ -126,9 +126,7 @@ end_mine k d e f n last start pops g mine seen all some = (
 pub over_answer : (k : Opening) (n : ℕ) (d e : View) (start pops : ℕ) (answer : Tried) → n < pops
     → e.share ≡ d.share → Says e start answer → EndsAt k n d e start answer → IsWalkAnswer k d e pops start answer
 over_answer k n d e start pops (Popped t) less share says ends = absurd says
-over_answer k n d e start pops (Cleared u c) less share says ends = says
-over_answer k n d e start pops (Stuck u c) less share says ends = says
 over_answer k n d e start pops (Busy v w) less share says ends =
     (says.0, inr (n, less, ends), (λ sole. says.1 (share ∙ sole)), says.2)
-over_answer k n d e start pops Idle less share says ends = says
 over_answer k n d e start pops OutOfMemory less share says ends = tt
+over_answer k n d e start pops answer less share says ends = says

@@ -1,21 +1,22 @@
 -- What a walk adds to what its pass has seen: at most one entry for each word in a round.
-use Rattle.std.proofs.Common.{inl, inr, ◌≡◌, ◌⊎◌, ℕ, ◌+◌, ◌-◌, ◌≤◌, [], ◌∷◌, ◌++◌, cond, ◌==◌, eq-eqb, ne_eqb, sym, ap, ◌∙◌, arith, append_assoc, append-nil}
+use Rattle.std.proofs.Common.{inl, inr, ◌≡◌, ◌⊎◌, ℕ, ◌+◌, ◌-◌, ◌≤◌, [], ◌∷◌, ◌++◌, sym, ap, ◌∙◌, arith, append_assoc, append-nil}
 use Rattle.std.proofs.lemmas.Bool.{cases_eq}
 use Rattle.pop_model.specs.Popping.{variables}
+use Rattle.claim_words.specs.Words.{word_of}
 use Rattle.claim_words.specs.Maps.{Pairs, times, times_in, is_at}
 use Rattle.claim_words.specs.declared.view.View.{View}
-use Rattle.claim_words.proofs.Totals.{total-append}
+use Rattle.claim_words.proofs.Totals.{total-append, is_at-yes, is_at-no}
 use Rattle.event_finders.specs.Gains.{SeesWithin}
-use Rattle.event_finders.specs.WalkSteps.{words_of, SeesMore, SeesLast}
-use Rattle.event_finders.proofs.VariableWords.{words_le}
+use Rattle.event_finders.specs.WalkSteps.{words_of, Walked, SeesLast}
+use Rattle.event_finders.proofs.TrailLemmas.{words_le}
 
 -- a word stands in two lists of entries as often as in both
 both_times : (i : ℕ) (a b : Pairs) → times i (a ++ b) ≡ times i a + times i b
 both_times i a b = total-append (is_at i) a b
 
 -- the words of a path with one more
-words_push : (i : ℕ) (p : Pairs) (s : ℕ × ℕ)
-    → times_in i (words_of (p ++ s ∷ [])) ≡ times_in i (words_of p) + cond ((1 + s.0) == i) 1 0
+pub words_push : (i : ℕ) (p : Pairs) (s : ℕ × ℕ)
+    → times_in i (words_of (p ++ s ∷ [])) ≡ times_in i (words_of p) + is_at i (word_of s.0, 0)
 words_push i [] s = omega arith
 words_push i (x ∷ p) s = omega (arith, words_push i p s)
 
@@ -23,22 +24,18 @@ words_push i (x ∷ p) s = omega (arith, words_push i p s)
 words_once : (p : Pairs) → ((v : ℕ) → times_in v (variables p) ≤ 1) → (i : ℕ) → times_in i (words_of p) ≤ 1
 words_once p once i = omega (arith, words_le i (variables p), once (i - 1))
 
--- the entry of what came onto the path
-pub more_one : (d e : View) (p : Pairs) (s : ℕ × ℕ) (w : ℕ) → e.seen ≡ d.seen ++ (1 + s.0, w) ∷ []
-    → SeesMore d e p (p ++ s ∷ [])
-more_one d e p s w is =
-    record { added = (1 + s.0, w) ∷ []; seen = is; on = λ i. omega (arith, words_push i p s) }
-
--- one behind the other
-pub more_then : (d e f : View) (p q r : Pairs) → SeesMore d e p q → SeesMore e f q r → SeesMore d f p r
-more_then d e f p q r a b = record {
+-- claims behind others
+pub walked_then : (d e f : View) (p q r : Pairs) → Walked d e p q → Walked e f q r → Walked d f p r
+walked_then d e f p q r a b = record {
   added = a.added ++ b.added;
   seen = b.seen ∙ ap (λ (l : Pairs). l ++ b.added) a.seen ∙ append_assoc d.seen a.added b.added;
   on = λ i. omega (arith, both_times i a.added b.added, a.on i, b.on i);
+  begins = b.begins ∙ a.begins;
+  traced = λ n from t. b.traced n from (a.traced n from t);
 }
 
--- and the last behind them
-pub last_then : (d e f : View) (p q : Pairs) → SeesMore d e p q → SeesLast e f q → SeesLast d f p
+-- and what was seen at last behind them
+pub last_then : (d e f : View) (p q : Pairs) → Walked d e p q → SeesLast e f q → SeesLast d f p
 last_then d e f p q a b = record {
   added = a.added ++ b.added;
   seen = b.seen ∙ ap (λ (l : Pairs). l ++ b.added) a.seen ∙ append_assoc d.seen a.added b.added;
@@ -58,12 +55,15 @@ last_one d e p v w once fresh is = record {
   seen = is;
   once = λ i. elim (cases_eq (1 + v) i) [
     | inl same ↦
-        let a : ◌≡◌ {A = ℕ} (cond ((1 + v) == i) 1 0) 1 = ap (λ b. cond b 1 0) (eq-eqb (1 + v) i same) in
         let next : i - 1 ≡ v = omega (arith, same) in
-        omega (arith, a, words_le i (variables p), ap (λ (n : ℕ). times_in n (variables p)) next, fresh)
-    | inr differ ↦
-        let a : ◌≡◌ {A = ℕ} (cond ((1 + v) == i) 1 0) 0 = ap (λ b. cond b 1 0) (ne_eqb (1 + v) i differ) in
-        omega (arith, a, words_once p once i)
+        omega (
+          arith,
+          is_at-yes i (1 + v, w) same,
+          words_le i (variables p),
+          ap (λ (n : ℕ). times_in n (variables p)) next,
+          fresh,
+        )
+    | inr differ ↦ omega (arith, is_at-no i (1 + v, w) differ, words_once p once i)
   ];
 }
 

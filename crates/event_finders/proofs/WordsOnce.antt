@@ -1,10 +1,9 @@
 -- What a try at a unit sees: one mark, and the words of some first variables of its event. All are different words.
-use Rattle.std.proofs.Common.{◌≡◌, ◌==◌, ℕ, zero, suc, ◌+◌, ◌-◌, ◌<◌, ◌≤◌, true, List, Some, [], ◌∷◌, ◌++◌, take, drop, length, map, refl, sym, ap, ◌∙◌, subst, inl, inr, arith, append_assoc}
+use Rattle.std.proofs.Common.{◌≡◌, ◌==◌, ℕ, zero, suc, ◌-◌, ◌≤◌, Bool, cond, List, Some, [], ◌∷◌, ◌++◌, take, drop, length, refl, sym, ap, ◌∙◌, subst, inl, inr, arith, append_assoc}
 use mathlib.Core.Logic.{dite}
 use native.Mathlib.Decide.{ℕ_discrete}
 use Rattle.std.proofs.lemmas.List.{drop_at}
-use Rattle.std.proofs.lemmas.List.Elements.{All-head, All-tail}
-use Rattle.pop_model.specs.Popping.{Cube, IsCube, NamesBelow, variables}
+use Rattle.pop_model.specs.Popping.{Cube, IsCube, variables}
 use Rattle.pop_model.specs.Instances.{Instance}
 use Rattle.claim_words.specs.declared.opening.Opening.{Opening}
 use Rattle.claim_words.specs.declared.view.View.{View}
@@ -16,69 +15,45 @@ use Rattle.claim_words.specs.Openings.{count_in}
 use Rattle.claim_words.specs.Steps.{taken_by}
 use Rattle.claim_words.specs.Answers.{Takes}
 use Rattle.claim_words.proofs.Totals.{is_at-yes, is_at-no}
-use Rattle.claim_words.proofs.HeldLemmas.{one-miss, once, times-variables}
+use Rattle.claim_words.proofs.HeldLemmas.{nowhere, once, times-variables}
 use Rattle.event_finders.specs.Gains.{gained, SeesWithin, Entered}
 use Rattle.event_finders.specs.UnitConditions.{IsListedEvent}
 use Rattle.event_finders.specs.UnitLooks.{ClaimsFirst}
-use Rattle.event_finders.proofs.CubePrefixes.{times-take}
+use Rattle.event_finders.proofs.CubePrefixes.{times-split}
+use Rattle.event_finders.proofs.TrailLemmas.{variables_long, stand_variable, words_le}
 use Rattle.event_finders.proofs.ListedEvents.{below_count}
-use Rattle.event_finders.proofs.VariableWords.{words_le}
 
--- no word stands among those of the first variables of a cube twice
-words_once : (cube : Cube) → IsCube cube → (n i : ℕ) → times_in i (map word_of (variables (take n cube))) ≤ 1
-words_once cube is n i = omega (
-  arith,
-  words_le i (variables (take n cube)),
-  times-variables (i - 1) (take n cube),
-  times-take (i - 1) n cube,
-  once cube is.rising (i - 1),
-)
+-- what a test for 1 tells of a mark
+pub mark_is : (w : ℕ) → w ≤ 1 → (b : Bool) → b ≡ (w == 1) → w ≡ cond b 1 0
+mark_is zero small b is = ap (λ x. cond x 1 0) (sym is)
+mark_is (suc zero) small b is = ap (λ x. cond x 1 0) (sym is)
+mark_is (suc (suc w)) small b is = absurd (omega arith)
 
--- and no mark stands there
-no_mark : (cube : Cube) (count : ℕ) → NamesBelow cube count → (n i : ℕ) → 1 + count ≤ i
-    → times_in i (map word_of (variables (take n cube))) ≡ 0
-no_mark cube count below zero i high = refl
-no_mark [] count below (suc n) i high = refl
-no_mark (p ∷ ps) count below (suc n) i high =
-    let near : p.0 < count = All-head (λ (q : ℕ × ℕ). q.0 < count) p ps below in
-    omega (
-      arith,
-      one-miss i (word_of p.0) (λ is. absurd (omega (arith, is, near, high))),
-      no_mark ps count (All-tail (λ (q : ℕ × ℕ). q.0 < count) p ps below) n i high,
-    )
+-- the view after a take, from the one with room
+pub took : (d r e : View) (u : ℕ) (b : Bool) → r ≡ d → Takes r u e b → e ≡ taken_by d u (cond b 1 0)
+took d r e u b room t =
+    t.1 ∙ ap (λ (x : View). taken_by x u t.0) room ∙ ap (taken_by d u) (mark_is t.0 t.2 b t.3)
 
--- A try so far: d is the view before the call, r the one with room, a the one once the mark of u was taken, and e the
--- one after the claims of the first n variables of the cube, of which the first m are held.
-pub record Started (k : Opening) (i : Instance) (d r a e : View) (u : ℕ) (cube : Cube) (n m : ℕ) : Type 0 where
+-- A try so far: d is the view before the call, a the one once the mark of u was taken, and e the one after the claims of
+-- the first n variables of the cube, of which the first m are held.
+pub record Started (k : Opening) (i : Instance) (d a e : View) (u : ℕ) (cube : Cube) (n m : ℕ) : Type 0 where
   pub same : k.instance.value ≡ i
   pub live : d.opening ≡ Some k
   pub idle : (d.held ≡ []) × (d.taken ≡ []) × (d.owed ≡ [])
   pub event : IsListedEvent i u cube
   pub is : IsCube cube
-  pub room : r ≡ d
-  pub took : Takes r u a true
+  pub took : a ≡ taken_by d u 1
   pub first : ClaimsFirst a e cube n m
 
-module _ {k : Opening} {i : Instance} {d r a e : View} {u : ℕ} {cube : Cube} {n m : ℕ}
-    (s : Started k i d r a e u cube n m) where
+module _ {k : Opening} {i : Instance} {d a e : View} {u : ℕ} {cube : Cube} {n m : ℕ}
+    (s : Started k i d a e u cube n m) where
   -- the word of the mark
   abbrev mark : ℕ
   mark = mark_of (count_in d.opening) u
 
-  -- it was 1
-  pub take_is : a ≡ taken_by d u 1
-  take_is =
-      let w : ℕ = s.took.0 in
-      let one : w ≡ 1 = one_of w s.took.2 s.took.3 in
-      s.took.1 ∙ ap (λ (x : View). taken_by x u w) s.room ∙ ap (taken_by d u) one
-    where
-      one_of : (w : ℕ) → w ≤ 1 → true ≡ (w == 1) → w ≡ 1
-      one_of zero small is = absurd (cc)
-      one_of (suc w) small is = omega (arith, small)
-
   -- changes has its entry
   pub changes_all : e.changes ≡ d.changes ++ (u, 1, 0) ∷ []
-  changes_all = s.first.same.changes ∙ ap (λ (x : View). x.changes) take_is
+  changes_all = s.first.same.changes ∙ ap (λ (x : View). x.changes) s.took
 
   -- and those that came behind it
   pub changes_then : (f : View) (cs : List Change) → f.changes ≡ e.changes ++ cs
@@ -88,7 +63,7 @@ module _ {k : Opening} {i : Instance} {d r a e : View} {u : ℕ} {cube : Cube} {
 
   -- seen has its entry and those of the claims
   seen_all : e.seen ≡ d.seen ++ ((mark, 1) ∷ gained a e)
-  seen_all = s.first.grows ∙ ap (λ (x : View). x.seen ++ gained a e) take_is
+  seen_all = s.first.grows ∙ ap (λ (x : View). x.seen ++ gained a e) s.took
       ∙ append_assoc d.seen ((mark, 1) ∷ []) (gained a e)
 
   module _ (f : View) (seen : f.seen ≡ e.seen) where
@@ -105,6 +80,22 @@ module _ {k : Opening} {i : Instance} {d r a e : View} {u : ℕ} {cube : Cube} {
     pub entered_all : (v : ℕ) (answer : Claim) → Entered (gained a e) v answer → Entered (gained d f) v answer
     entered_all v answer x = (x.0, subst (In (word_of v, x.0)) (sym gained_all) (inr x.1), x.2)
 
+    -- the claims saw a word no more often than the event names its variable
+    few : (j : ℕ) → times j (gained a e) ≤ times (j - 1) cube
+    few j = omega (
+      arith,
+      sym (times-variables j (gained a e)) ∙ ap (times_in j) s.first.words,
+      words_le j (variables (take n cube)),
+      times-variables (j - 1) (take n cube),
+      times-split (j - 1) n cube,
+    )
+
+    -- none behind the last
+    no_mark : (v : ℕ) → count_in d.opening ≤ v → times v cube ≡ 0
+    no_mark v high = sym (times-variables v cube) ∙ nowhere v (variables cube) (λ j less is.
+        let near = below_count k i d u cube s.same s.live s.event j (0, 0) (omega (arith, less, variables_long cube)) in
+        absurd (omega (arith, near, stand_variable cube j, is, high)))
+
     -- each word has one entry at most
     pub sees_once : SeesWithin 1 d f
     sees_once = record {
@@ -115,14 +106,8 @@ module _ {k : Opening} {i : Instance} {d r a e : View} {u : ℕ} {cube : Cube} {
             arith,
             ap (times j) gained_all,
             is_at-yes j (mark, 1) here,
-            sym (times-variables j (gained a e)) ∙ ap (times_in j) s.first.words,
-            no_mark cube (count_in d.opening) (below_count k i d u cube s.same s.live s.event) n j (omega (arith, here)),
+            few j,
+            no_mark (j - 1) (omega (arith, here)),
           ))
-          (λ ne. omega (
-            arith,
-            ap (times j) gained_all,
-            is_at-no j (mark, 1) ne,
-            sym (times-variables j (gained a e)) ∙ ap (times_in j) s.first.words,
-            words_once cube s.is n j,
-          ));
+          (λ ne. omega (arith, ap (times j) gained_all, is_at-no j (mark, 1) ne, few j, once cube s.is.rising (j - 1)));
     }

@@ -33,3 +33,8 @@ pub record SetsJust (us : List ℕ) (cs : List Change) : Type 0 where
 -- the changes that came to those of the pass are of this kind
 abbrev pub SetsMarks : List ℕ → View → View → Type 0
 SetsMarks us d e = (cs : List Change) × (e.changes ≡ d.changes ++ cs) × SetsJust us cs
+
+-- these units are marked, and nothing else changed
+pub record Marked (us : List ℕ) (d e : View) : Type 0 where
+  pub view : e ≡ changing e.changes (marked_with us d)
+  pub marks : SetsMarks us d e

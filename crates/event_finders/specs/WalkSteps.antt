@@ -1,6 +1,6 @@
 -- The parts of a walk.
-use Rattle.std.specs.Prelude.{◌≡◌, ◌≢◌, ⊤, ℕ, zero, suc, ◌+◌, ◌-◌, ◌<◌, ◌≤◌, List, [], ◌∷◌, ◌++◌, length, map, take, slice_index}
-use Rattle.std.specs.List.{slice_range}
+use Rattle.std.specs.Prelude.{◌≡◌, ◌≢◌, ⊤, ℕ, suc, ◌+◌, ◌-◌, ◌<◌, ◌≤◌, List, [], ◌∷◌, ◌++◌, length, map, take, slice_index}
+use Rattle.std.specs.List.{range_with_len, slice_range}
 use Rattle.pop_model.specs.Stacks.{value_at}
 use Rattle.pop_model.specs.Popping.{Cube, variables}
 use Rattle.pop_model.specs.Families.{IsEvent}
@@ -69,11 +69,14 @@ Enters d e v claim = (w : ℕ) × (e.seen ≡ d.seen ++ (word_of v, w) ∷ []) �
 abbrev pub words_of : Pairs → List ℕ
 words_of path = map word_of (variables path)
 
--- seen gained at most one entry for each variable that came onto the path
-pub record SeesMore (d e : View) (old new : Pairs) : Type 0 where
+-- The path grew at its end, by claims that found their words free: seen gained at most one entry for
+-- each variable that came onto it.
+pub record Walked (d e : View) (old new : Pairs) : Type 0 where
   pub added : Pairs
   pub seen : e.seen ≡ d.seen ++ added
   pub on : (i : ℕ) → times i added + times_in i (words_of old) ≤ times_in i (words_of new)
+  pub begins : stand new 0 ≡ stand old 0
+  pub traced : (n : ℕ) (from : View) → Traced n from d old → Traced n from e new
 
 -- seen gained at most one entry for each word, and none for those of the path
 pub record SeesLast (d e : View) (path : Pairs) : Type 0 where
@@ -89,14 +92,21 @@ Stops k e path (Back place) =
 Stops k e path (Met v w) = Goes k (last_of path) v × IsBusy w × (e.share ≢ 64)
 
 -- the path is longer by one
-pub record Grows (old new : Trail) : Type 0 where
+pub record Grows (d e : View) (old new : Trail) : Type 0 where
   pub longer : length new.path ≡ suc (length old.path)
-  pub begins : stand new.path 0 ≡ stand old.path 0
+  pub walked : Walked d e old.path new.path
+
+-- a refused claim was seen, and nothing else
+abbrev pub Finds : View → View → Stop → Type 0
+Finds d e (Met v w) = e.seen ≡ d.seen ++ (word_of v, w) ∷ []
+Finds d e stop = ⊤
 
 -- the walk stopped where it stood
-pub record Rest (k : Opening) (e : View) (old new : Trail) (stop : Stop) : Type 0 where
+pub record Rest (k : Opening) (d e : View) (old new : Trail) (stop : Stop) : Type 0 where
   pub same : new ≡ old
   pub why : Stops k e new.path stop
+  pub seen : SeesLast d e old.path
+  pub found : Finds d e stop
 
 -- the walk went on and stopped
 pub record Followed (k : Opening) (e : View) (old new : Trail) (stop : Stop) : Type 0 where
@@ -105,18 +115,12 @@ pub record Followed (k : Opening) (e : View) (old new : Trail) (stop : Stop) : T
 
 -- how the path was claimed, where a walk stops
 abbrev pub Stopped : ℕ → View → View → Pairs → Stop → Type 0
-Stopped n d e path Rests = Traced n d e path
-Stopped n d e path (Back place) = Traced n d e path
 Stopped n d e path (Met v w) = TracedTo n d e path v w
+Stopped n d e path stop = Traced n d e path
 
 -- for each variable the cursor that it has on the path
-abbrev pub laid_out : (ℕ → ℕ) → ℕ → List ℕ
-laid_out f zero = []
-laid_out f (suc n) = laid_out f n ++ f n ∷ []
-
--- the same for a trail
 abbrev pub laid : Trail → List ℕ
-laid t = laid_out (λ v. look v t.path) t.count
+laid t = map (λ v. look v t.path) (range_with_len 0 t.count)
 
 -- a variable and the slot at its cursor
 abbrev pub slot_pair : CycleTable → ℕ × ℕ → ℕ × ℕ
@@ -147,8 +151,8 @@ pub record PopsLoop (k : Opening) (d e : View) (path : Pairs) (place t : ℕ) : 
   pub loop : IsLoop path place popped
   pub newer : (q : Drawn) → In q d.mine → q.0 < t
   pub same : variables e.held ≡ variables d.held
-  pub kept : take place e.held ≡ take place d.held
-  pub moved : stand e.held place ≡ ((stand path place).0, (stand path place).1 + 1)
+  pub left : take (place + 1) e.held
+      ≡ take place path ++ ((stand path place).0, (stand path place).1 + 1) ∷ []
 
 -- what an answer says that ends a walk from v
 abbrev pub Says : View → ℕ → Tried → Type 0

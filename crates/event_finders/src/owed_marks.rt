@@ -4,7 +4,7 @@ ghost use Rattle.pop_model.specs.Popping.{NamesBelow};
 ghost use Rattle.claim_words.specs.Passes.{IsOf, view, marks_of, instance_of};
 ghost use Rattle.claim_words.specs.Steps.{sharers};
 ghost use Rattle.event_finders.specs.UnitConditions.{Indexes};
-ghost use Rattle.event_finders.specs.OwedMarks.{changing, marked_with, owing, SetsMarks};
+ghost use Rattle.event_finders.specs.OwedMarks.{changing, owing, Marked, SetsMarks};
 
 use claim_words::{Board, Pass};
 use pop_instance::{Cube, Index};
@@ -14,9 +14,7 @@ fn mark_each(board: &Board, pass: &mut Pass, units: &[u32])
     requires pass { IsOf board.now pass.old }
     requires known { All (λ u. u < marks_of board.now) units.now }
     ensures pass { IsOf board.now pass.new }
-    ensures view { view pass.new
-        ≡ changing (view pass.new).changes (marked_with units.now (view pass.old)) }
-    ensures marks { SetsMarks units.now (view pass.old) (view pass.new) }
+    ensures marked { Marked units.now (view pass.old) (view pass.new) }
 {
     for unit in units {
         board.mark(pass, *unit);

@@ -97,7 +97,7 @@ pub(crate) fn claim_unit(
     }
 }
 
-/// Gives the first variables of a cube back, which are all that the pass holds.
+/// Gives the first variables of a cube back, from the last; they are all that the pass holds.
 pub(crate) fn release_first(board: &Board, pass: &mut Pass, cube: &Cube, n: u32)
     requires pass { IsOf board.now pass.old }
     requires short { n ≤ length cube.now }
@@ -106,8 +106,10 @@ pub(crate) fn release_first(board: &Board, pass: &mut Pass, cube: &Cube, n: u32)
     ensures view { view pass.new ≡ emptied (view pass.old) }
 {
     let _len = cube.len();
-    for i in 0..n {
-        let (v, _) = cube.pair(i);
+    let mut left = n;
+    while left > 0 {
+        left -= 1;
+        let (v, _) = cube.pair(left);
         board.release(pass, v);
     }
 }

@@ -12,7 +12,7 @@ ghost use Rattle.claim_words.specs.Passes.{IsOf, view, spare, opening_of};
 ghost use Rattle.claim_words.specs.declared.view.View.{View};
 ghost use Rattle.event_finders.specs.Trails.{stand, last_of, IsTrail, Goes, Stands};
 ghost use Rattle.event_finders.specs.Walks.{Traced};
-ghost use Rattle.event_finders.specs.WalkSteps.{IsWalking, HasSpare, LeadsBack, IsLoopCube, Same, Puts, Enters, SeesMore, SeesLast, Grows, Rest, Followed, Stopped, PopsLoop, slot_pair};
+ghost use Rattle.event_finders.specs.WalkSteps.{IsWalking, HasSpare, LeadsBack, IsLoopCube, Same, Puts, Enters, SeesLast, Grows, Rest, Followed, Stopped, PopsLoop, slot_pair};
 
 use crate::walker::Walker;
 use claim_words::{Board, Claim, Pass};
@@ -71,14 +71,9 @@ fn step(
     ensures pass { IsOf board.now pass.new }
     ensures walking { IsWalking (opening_of board.now) pass.new current.now walker.new }
     ensures same { Same (view pass.old) (view pass.new) }
-    ensures step { MatchOption result (Grows walker.old walker.new)
-        (Rest (opening_of board.now) (view pass.new) walker.old walker.new) }
-    ensures seen { MatchOption result
-        (SeesMore (view pass.old) (view pass.new) walker.old.path walker.new.path)
-        (λ _. SeesLast (view pass.old) (view pass.new) walker.old.path) }
-    ensures traced { (n : ℕ) (d : View) → Traced n d (view pass.old) walker.old.path
-        → MatchOption result (Traced n d (view pass.new) walker.new.path)
-        (Stopped n d (view pass.new) walker.new.path) }
+    ensures step { MatchOption result
+        (Grows (view pass.old) (view pass.new) walker.old walker.new)
+        (Rest (opening_of board.now) (view pass.old) (view pass.new) walker.old walker.new) }
     ensures reader { reader.new ≡ reader.old }
 {
     let (v, cursor) = walker.last();

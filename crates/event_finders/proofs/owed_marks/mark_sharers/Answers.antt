@@ -1,4 +1,4 @@
-use Rattle.std.proofs.Common.{arith, refl, ℕ, suc, List, [], ap, sym, subst, ◌∙◌, ◌≡◌, ◌<◌, ◌≤◌, ◌+◌, length, drop, All, slice_index_or, Option}
+use Rattle.std.proofs.Common.{arith, ℕ, suc, List, [], ◌++◌, ⊎_elim, ap, sym, subst, ◌∙◌, ◌≡◌, ◌<◌, ◌+◌, length, drop, All, slice_index_or, Option}
 use Rattle.std.proofs.lemmas.List.{drop_all}
 use Rattle.pop_model.specs.Popping.{Cube}
 use Rattle.pop_model.specs.Families.{Family}
@@ -8,23 +8,23 @@ use Rattle.pop_instance.proofs.ListedEvents.{index_units}
 use Rattle.claim_words.specs.declared.view.View.{View}
 use Rattle.claim_words.specs.declared.opening.Opening.{Opening}
 use Rattle.claim_words.specs.Passes.{view, marks_of}
-use Rattle.claim_words.specs.Changes.{Change}
 use Rattle.claim_words.specs.Maps.{In}
 use Rattle.claim_words.specs.Openings.{marks_in}
 use Rattle.claim_words.specs.Steps.{sharers, sharing}
 use Rattle.claim_words.proofs.DueAdvances.{turn}
-use Rattle.event_finders.specs.OwedMarks.{all_out, changing, owing, marked_with, SetsMarks}
-use Rattle.event_finders.proofs.OwedMarksLemmas.{Waits, first_waits, next_waits, none_waits, marked_out, row_shares, setting_first, setting_next, setting_done}
+use Rattle.claim_words.proofs.Memberships.{in_append}
+use Rattle.event_finders.specs.OwedMarks.{Marked}
+use Rattle.event_finders.proofs.OwedMarksLemmas.{Waits, first_waits, next_waits, row_shares, marked_none, marked_then, marked_all}
 use Rattle.event_finders.proofs.CubePrefixes.{in_at}
 use Rattle.event_finders.proofs.owed_marks.mark_sharers.Goals as goal
 
 pub loop-i-init : goal.loop-i-init
 loop-i-init c = let cube : Cube = c.args.cube.now in record {
   pass = c.requires.pass;
-  units = (view c.args.pass.now).owed;
-  view = refl;
-  sets = setting_first (view c.args.pass.now).owed (view c.args.pass.now);
-  wait = λ rows is _. subst (Waits rows cube) (sym (c.requires.owed
+  units = [];
+  marked = marked_none (view c.args.pass.now);
+  owed = λ u i. absurd i;
+  wait = λ rows is _. subst (Waits rows cube []) (sym (c.requires.owed
       ∙ ap (λ (x : Option Opening). sharers x cube) c.requires.pass.0.1 ∙ ap (λ (f : Family). sharing f cube) is))
       (first_waits rows cube);
 }
@@ -57,40 +57,29 @@ loop-i-preserved c =
     let t = c.requires.index in
     let owed : d.owed ≡ sharing (Listed t.0) cube = c.requires.owed
     ∙ ap (λ (x : Option Opening). sharers x cube) c.requires.pass.0.1 ∙ ap (λ (f : Family). sharing f cube) t.1 in
-    let cs : List Change = (view c.mark_each.new.pass).changes in
+    let e : View = view c.mark_each.new.pass in
+    let marked = subst (λ (l : List ℕ). Marked l (view c.loop-i.pass) e) c.at.ensures c.mark_each.ensures.marked in
     record {
       pass = c.mark_each.ensures.pass;
-      units = all_out us inv.units;
-      view = c.mark_each.ensures.view
-          ∙ ap (λ (l : List ℕ). changing cs (marked_with l (view c.loop-i.pass))) c.at.ensures
-          ∙ ap (λ (x : View). changing cs (marked_with us x)) inv.view
-          ∙ ap (changing cs) (marked_out us d inv.units c.requires.taken);
-      sets = setting_next d.owed inv.units us d (view c.loop-i.pass) (view c.mark_each.new.pass) inv.sets
-          (subst (λ (l : List ℕ). SetsMarks l (view c.loop-i.pass) (view c.mark_each.new.pass)) c.at.ensures
-          c.mark_each.ensures.marks)
-          (λ u there. subst (In u) (sym owed) (row_shares t.0 c.args.index.now p cube t.2 near
-          (in_at cube i p c.pair-v.ensures) u there));
-      wait = λ rows is index. subst (λ (j : ℕ). Waits rows (drop j cube) (all_out us inv.units)) next
-          (next_waits rows c.args.index.now p (drop (suc i) cube) inv.units index near
-          (subst (λ (l : Cube). Waits rows l inv.units) (turn cube i p c.pair-v.ensures) (inv.wait rows is index)));
+      units = inv.units ++ us;
+      marked = marked_then inv.units us d (view c.loop-i.pass) e inv.marked marked;
+      owed = λ u there. ⊎_elim (λ (m : In u inv.units). inv.owed u m)
+          (λ (m : In u us). subst (In u) (sym owed) (row_shares t.0 c.args.index.now p cube t.2 near
+          (in_at cube i p c.pair-v.ensures) u m)) (in_append u inv.units us there);
+      wait = λ rows is index. subst (λ (j : ℕ). Waits rows (drop j cube) (inv.units ++ us) d.owed) next
+          (next_waits rows c.args.index.now p (drop (suc i) cube) inv.units d.owed index near
+          (subst (λ (l : Cube). Waits rows l inv.units d.owed) (turn cube i p c.pair-v.ensures)
+          (inv.wait rows is index)));
     }
 
 pub returns-clause-view : goal.returns-clause-view
 returns-clause-view c =
-    let i : ℕ = c.loop-i.i in
-    let inv = c.loop-i.invariant in
-    let t = c.requires.index in
-    let cube : Cube = c.args.cube.now in
-    let at_end : length cube ≤ i = omega arith in
-    inv.view ∙ ap (λ (l : List ℕ). changing (view c.loop-i.pass).changes (owing l (view c.args.pass.now)))
-    (none_waits t.0 (drop i cube) inv.units (drop_all i cube at_end) (inv.wait t.0 t.1 t.2))
+    let inv = c.loop-i.invariant in let t = c.requires.index in
+    let end = drop_all c.loop-i.i c.args.cube.now (omega arith) in
+    (marked_all t.0 _ inv.units _ _ inv.marked inv.owed c.requires.taken end (inv.wait t.0 t.1 t.2)).0
 
 pub returns-clause-marks : goal.returns-clause-marks
 returns-clause-marks c =
-    let i : ℕ = c.loop-i.i in
-    let inv = c.loop-i.invariant in
-    let t = c.requires.index in
-    let cube : Cube = c.args.cube.now in
-    let at_end : length cube ≤ i = omega arith in
-    setting_done (view c.args.pass.now).owed inv.units (view c.args.pass.now) (view c.loop-i.pass)
-    (none_waits t.0 (drop i cube) inv.units (drop_all i cube at_end) (inv.wait t.0 t.1 t.2)) inv.sets
+    let inv = c.loop-i.invariant in let t = c.requires.index in
+    let end = drop_all c.loop-i.i c.args.cube.now (omega arith) in
+    (marked_all t.0 _ inv.units _ _ inv.marked inv.owed c.requires.taken end (inv.wait t.0 t.1 t.2)).1

@@ -1,47 +1,47 @@
-use Rattle.std.proofs.Common.{arith, ℕ, suc, ap, ◌∙◌, ◌≡◌, ◌+◌, ◌<◌, refl, rules}
-use Rattle.pop_model.specs.Popping.{Cube, variables}
-use Rattle.claim_words.specs.declared.view.View.{View}
-use Rattle.claim_words.specs.Maps.{Pairs, times, without}
-use Rattle.claim_words.specs.Steps.{released_by}
+use Rattle.std.proofs.Common.{arith, ◌≡◌, ◌-◌, ℕ, ap, ◌∙◌, refl, length}
 use Rattle.claim_words.specs.Passes.{view}
-use Rattle.event_finders.proofs.UnitReleases.{rest_from, holding, holds_it, held_next, all_released}
+use Rattle.event_finders.proofs.TrailLemmas.{variables_long}
+use Rattle.event_finders.proofs.HeldEnds.{released_to, released_none, unit_next}
+use Rattle.std.proofs.lemmas.List.{length-take}
+use Rattle.std.proofs.Common.{take}
 use Rattle.event_finders.proofs.unit_claims.release_first.Goals as goal
 
-pub loop-i-init : goal.loop-i-init
-loop-i-init c = record {
-  pass = c.requires.pass;
-  held = (view c.args.pass.now).held;
-  view = refl;
-  rest = c.requires.held;
-}
+pub loop-left-init : goal.loop-left-init
+loop-left-init c =
+    let held = (view c.args.pass.now).held in
+    let first = take c.args.n c.args.cube.now in
+    record {
+      pass = c.requires.pass;
+      few = omega arith;
+      view = released_none (view c.args.pass.now) c.args.n (omega (
+        arith,
+        ap length c.requires.held,
+        variables_long held,
+        variables_long first,
+        length-take c.args.n c.args.cube.now,
+      ));
+    }
 
 pub release-requires-clause-held : goal.release-requires-clause-held
 release-requires-clause-held c =
-    let inv = c.loop-i.invariant in
-    let p : ℕ × ℕ = c.pair-v.result in
-    let low : c.loop-i.i < c.args.n = omega (arith, c.loop-i-test.true) in
-    ap (λ (x : View). times p.0 x.held) inv.view
-    ∙ holds_it c.args.cube.now c.len-len.ensures.cube c.args.n c.loop-i.i p low c.pair-v.ensures inv.held inv.rest
+    let i = c.loop-left.invariant in
+    (unit_next c.args.cube.now c.len-len.ensures.cube c.args.n (c.loop-left.left - 1) c.loop-left.left c.pair-v.result
+    (view c.args.pass.now) (view c.loop-left.pass) _ c.requires.held (omega (arith, i.few, c.loop-left-test.true))
+    (omega (arith, c.loop-left-test.true)) c.pair-v.ensures i.view refl).0
 
-pub loop-i-preserved : goal.loop-i-preserved
-loop-i-preserved c =
-    let inv = c.loop-i.invariant in
-    let p : ℕ × ℕ = c.pair-v.result in
-    let cube : Cube = c.args.cube.now in
-    let n : ℕ = c.args.n in
-    let low : c.loop-i.i < n = omega (arith, c.loop-i-test.true) in
-    let next : suc c.loop-i.i ≡ c.loop-i.i + 1 = omega arith in
+pub loop-left-preserved : goal.loop-left-preserved
+loop-left-preserved c =
+    let i = c.loop-left.invariant in
     record {
       pass = c.release.ensures.pass;
-      held = without p.0 inv.held;
-      view = c.release.ensures.step ∙ ap (λ (x : View). released_by x p.0) inv.view;
-      rest = held_next cube c.len-len.ensures.cube n c.loop-i.i p low c.pair-v.ensures inv.held inv.rest
-          ∙ ap (λ (j : ℕ). variables (rest_from cube n j)) next;
+      few = omega (arith, i.few);
+      view = (unit_next c.args.cube.now c.len-len.ensures.cube c.args.n (c.loop-left.left - 1) c.loop-left.left
+          c.pair-v.result (view c.args.pass.now) (view c.loop-left.pass) _ c.requires.held
+          (omega (arith, i.few, c.loop-left-test.true)) (omega (arith, c.loop-left-test.true)) c.pair-v.ensures i.view
+          c.release.ensures.step).1;
     }
 
 pub returns-clause-view : goal.returns-clause-view
 returns-clause-view c =
-    let inv = c.loop-i.invariant in
-    let end : c.loop-i.i ≡ c.args.n = search rules in
-    inv.view ∙ ap (λ (h : Pairs). holding h (view c.args.pass.now)) (all_released c.args.cube.now c.args.n inv.held
-    (inv.rest ∙ ap (λ (j : ℕ). variables (rest_from c.args.cube.now c.args.n j)) end))
+    let done : c.loop-left.left ≡ 0 = omega (arith, c.loop-left-test.false) in
+    c.loop-left.invariant.view ∙ ap (λ (n : ℕ). released_to n (view c.args.pass.now)) done

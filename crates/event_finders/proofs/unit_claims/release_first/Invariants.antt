@@ -1,15 +1,16 @@
-use Rattle.std.proofs.Common.{◌≡◌}
-use Rattle.pop_model.specs.Popping.{variables}
-use Rattle.claim_words.specs.Maps.{Pairs}
+use Rattle.std.proofs.Common.{◌≡◌, ◌≤◌}
 use Rattle.claim_words.specs.Passes.{IsOf, view}
-use Rattle.event_finders.proofs.UnitReleases.{rest_from, holding}
+use Rattle.event_finders.proofs.HeldEnds.{released_to}
 use Rattle.event_finders.proofs.unit_claims.release_first.Given as goal
 
--- the variables from here on are held
-abbrev pub invariant-loop-i : goal.invariant-loop-i
-invariant-loop-i l = record {
+-- so many variables are still held
+abbrev pub invariant-loop-left : goal.invariant-loop-left
+invariant-loop-left l = record {
   pass : IsOf l.board l.pass;
-  held : Pairs;
-  view : view l.pass ≡ holding held (view l.initial.pass);
-  rest : variables held ≡ variables (rest_from l.cube l.n l.i);
+  few : l.left ≤ l.n;
+  view : view l.pass ≡ released_to l.left (view l.initial.pass);
 }
+
+-- they become fewer
+abbrev pub decreases-loop-left : goal.decreases-loop-left
+decreases-loop-left l = l.left

@@ -5,7 +5,9 @@ use Rattle.claim_words.specs.declared.view.View.{View}
 use Rattle.claim_words.specs.Passes.{view, opening_of}
 use Rattle.claim_words.proofs.HeldLemmas.{variables-raise_all}
 use Rattle.event_finders.specs.OwedMarks.{emptied}
-use Rattle.event_finders.proofs.UnitEnds.{can_pop, differs_out, last_out, last_held}
+use Rattle.event_finders.proofs.UnitEnds.{can_pop, differs_out, last_out}
+use Rattle.event_finders.proofs.CubePrefixes.{each_named}
+use Rattle.event_finders.specs.UnitLooks.{HasValue}
 use Rattle.event_finders.proofs.UnitTries.{started, stays_out, finds_none, sticks, clears, refuses, popped}
 use Rattle.event_finders.proofs.ListedEvents.{below_index}
 use Rattle.event_finders.proofs.unit_tries.try_event.Goals as goal
@@ -23,13 +25,10 @@ returns-then-not-take-clause-tries c =
 pub pop-ticket-requires-clause-poppable : goal.pop-ticket-requires-clause-poppable
 pop-ticket-requires-clause-poppable c =
     let looks = c.in-Poppable.ensures.looks in
-    can_pop (opening_of c.args.board.now) c.args.instance.now (view c.take.new.pass) (view c.claim_unit.new.pass)
-    c.args.event.now.unit c.args.event.now.cube.now c.requires.instance c.requires.event looks.1 looks.2
+    can_pop (opening_of c.args.board.now) _ _ c.requires.instance c.requires.event looks.1 looks.2
 
 pub mark_sharers-requires-clause-event : goal.mark_sharers-requires-clause-event
-mark_sharers-requires-clause-event c =
-    below_index c.args.instance.now c.args.index.now c.args.event.now.unit c.args.event.now.cube.now c.requires.index
-    c.requires.event
+mark_sharers-requires-clause-event c = below_index c.requires.index c.requires.event
 
 pub release_first-requires-clause-held : goal.release_first-requires-clause-held
 release_first-requires-clause-held c =
@@ -43,23 +42,19 @@ release_first-requires-clause-held c =
 pub clear-requires-clause-held : goal.clear-requires-clause-held
 clear-requires-clause-held c =
     let looks = c.in-AtLast.ensures.looks in
-    let has = last_held c.args.instance.now (view c.take.new.pass) (view c.claim_unit.new.pass)
-    c.args.event.now.cube.now c.in-AtLast.v looks.1 looks.2.holds in
-    has.once
+    let has = HasValue c.args.instance.now (view c.take.new.pass) (view c.claim_unit.new.pass) in
+    (each_named has c.args.event.now.cube.now c.in-AtLast.v looks.1 looks.2.holds.0).2.0.once
 
 pub clear-requires-clause-out : goal.clear-requires-clause-out
 clear-requires-clause-out c =
     let looks = c.in-AtLast.ensures.looks in
-    last_out (opening_of c.args.board.now) c.args.instance.now (view c.take.new.pass) (view c.claim_unit.new.pass)
-    c.args.event.now.unit c.args.event.now.cube.now c.in-AtLast.v c.requires.instance c.requires.event looks.1
-    looks.2.holds
+    last_out (opening_of c.args.board.now) _ _ c.requires.instance c.requires.event looks.1 looks.2.holds
 
 pub clear-requires-in-Differs-clause-out : goal.clear-requires-in-Differs-clause-out
 clear-requires-in-Differs-clause-out c =
     let looks = c.in-Differs.ensures.looks in
-    differs_out (opening_of c.args.board.now) c.args.instance.now (view c.take.new.pass) (view c.claim_unit.new.pass)
-    c.args.event.now.unit c.args.event.now.cube.now c.in-Differs.place c.in-Differs.cursor (c.in-Differs.v, looks.0)
-    c.requires.instance c.requires.event looks.1 looks.3 looks.4 looks.5
+    differs_out (opening_of c.args.board.now) _ (c.in-Differs.v, looks.0) c.requires.instance c.requires.event looks.1
+    looks.3 looks.4 looks.5
 
 pub overflow_add-place : goal.overflow_add-place
 overflow_add-place c =
@@ -82,7 +77,7 @@ release_first-requires-in-Busy-clause-short c =
 pub returns-in-Poppable-clause-tries : goal.returns-in-Poppable-clause-tries
 returns-in-Poppable-clause-tries c =
     let looks = c.in-Poppable.ensures.looks in
-    let s = started _ _ _ _ _ _ _ _ _ _ c.requires.instance c.requires.pass.0.1 c.requires.idle c.requires.event
+    let s = started c.requires.instance c.requires.pass.0.1 c.requires.idle c.requires.event
     c.len-len.ensures.cube c.reserve.ensures.view c.if-not-take.ensures.step looks.0 in
     let pop = c.pop-ticket.ensures in
     popped s _ _ _ c.pop-ticket.result pop.step c.mark_sharers.ensures.view c.release_first.ensures.view
@@ -91,7 +86,7 @@ returns-in-Poppable-clause-tries c =
 pub returns-in-AtLast-clause-tries : goal.returns-in-AtLast-clause-tries
 returns-in-AtLast-clause-tries c =
     let looks = c.in-AtLast.ensures.looks in
-    let s = started _ _ _ _ _ _ _ _ _ _ c.requires.instance c.requires.pass.0.1 c.requires.idle c.requires.event
+    let s = started c.requires.instance c.requires.pass.0.1 c.requires.idle c.requires.event
     c.len-len.ensures.cube c.reserve.ensures.view c.if-not-take.ensures.step looks.0 in
     sticks s _ c.in-AtLast.v c.in-AtLast.cursor
     (c.release_first-in-AtLast.ensures.view ∙ ap emptied c.clear.ensures.step) looks.1 looks.2 looks.3
@@ -99,7 +94,7 @@ returns-in-AtLast-clause-tries c =
 pub returns-in-Differs-clause-tries : goal.returns-in-Differs-clause-tries
 returns-in-Differs-clause-tries c =
     let looks = c.in-Differs.ensures.looks in
-    let s = started _ _ _ _ _ _ _ _ _ _ c.requires.instance c.requires.pass.0.1 c.requires.idle c.requires.event
+    let s = started c.requires.instance c.requires.pass.0.1 c.requires.idle c.requires.event
     c.len-len.ensures.cube c.reserve.ensures.view c.if-not-take.ensures.step looks.2 in
     clears s _ c.in-Differs.place c.in-Differs.v looks.0 c.in-Differs.cursor
     (c.release_first-in-Differs.ensures.view ∙ ap emptied c.clear-in-Differs.ensures.step) looks.1 looks.3 looks.4 looks.5
@@ -107,7 +102,7 @@ returns-in-Differs-clause-tries c =
 pub returns-in-Busy-clause-tries : goal.returns-in-Busy-clause-tries
 returns-in-Busy-clause-tries c =
     let looks = c.in-Busy.ensures.looks in
-    let s = started _ _ _ _ _ _ _ _ _ _ c.requires.instance c.requires.pass.0.1 c.requires.idle c.requires.event
+    let s = started c.requires.instance c.requires.pass.0.1 c.requires.idle c.requires.event
     c.len-len.ensures.cube c.reserve.ensures.view c.if-not-take.ensures.step looks.2 in
     let step = c.mark.ensures.step in
     refuses s _ c.in-Busy.place c.in-Busy.v looks.0 c.in-Busy.word step.0

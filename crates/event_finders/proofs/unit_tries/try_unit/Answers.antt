@@ -8,16 +8,16 @@ use Rattle.event_finders.proofs.unit_tries.try_unit.Goals as goal
 pub returns-clause-answer : goal.returns-clause-answer
 returns-clause-answer c = (
   c.cube.result.now,
-  unit_event c.args.instance.now c.in-Listed.events c.args.unit c.cube.result.now c.units-units.ensures.instance
-      (search rules) c.requires.known c.cube.ensures,
+  unit_event c.args.instance.now c.in-Listed.events c.args.unit c.cube.result.now (search rules) c.requires.known
+      c.cube.ensures,
   c.try_event.ensures.tries.says,
 )
 
 pub returns-clause-marks : goal.returns-clause-marks
 returns-clause-marks c = (
   c.cube.result.now,
-  unit_event c.args.instance.now c.in-Listed.events c.args.unit c.cube.result.now c.units-units.ensures.instance
-      (search rules) c.requires.known c.cube.ensures,
+  unit_event c.args.instance.now c.in-Listed.events c.args.unit c.cube.result.now (search rules) c.requires.known
+      c.cube.ensures,
   c.try_event.ensures.tries.marks,
 )
 
@@ -25,24 +25,3 @@ pub returns-clause-unmarked : goal.returns-clause-unmarked
 returns-clause-unmarked c =
     idle_exactly (view c.args.pass.now) (view c.try_event.new.pass) c.args.unit c.try_event.ensures.tries.seen
     (count_of c.args.board.now) (ap count_in c.requires.pass.0.1) c.try_event.result c.try_event.ensures.tries.mark
-
-pub returns-clause-idle : goal.returns-clause-idle
-returns-clause-idle c = c.try_event.ensures.tries.idle
-
-pub returns-clause-share : goal.returns-clause-share
-returns-clause-share c = c.try_event.ensures.tries.share
-
-pub returns-clause-moves : goal.returns-clause-moves
-returns-clause-moves c = c.try_event.ensures.tries.moves
-
-pub returns-clause-seen : goal.returns-clause-seen
-returns-clause-seen c = c.try_event.ensures.tries.seen
-
-pub returns-clause-records : goal.returns-clause-records
-returns-clause-records c = c.try_event.ensures.tries.records
-
-pub returns-clause-mark : goal.returns-clause-mark
-returns-clause-mark c = c.try_event.ensures.tries.mark
-
-pub returns-clause-sole : goal.returns-clause-sole
-returns-clause-sole c = c.try_event.ensures.tries.sole

@@ -9,7 +9,7 @@ use Rattle.event_finders.specs.Trails.{Trail, Stands, IsAt, IsTrail}
 use Rattle.event_finders.specs.WalkSteps.{Puts}
 use Rattle.event_finders.proofs.TrailLemmas.{room_more}
 use Rattle.event_finders.proofs.TrailArrows.{stands_push}
-use Rattle.event_finders.proofs.WalkClaims.{claim_same, mine_held, mine_low, refused_busy, refused_shared}
+use Rattle.event_finders.proofs.WalkClaims.{claim_same, mine_held, refused_busy, refused_shared}
 use Rattle.event_finders.proofs.walking.claim_on.Goals as goal
 
 pub try_claim-claim-requires-clause-room : goal.try_claim-claim-requires-clause-room
@@ -29,7 +29,7 @@ returns-in-Mine-clause-stands c =
     subst (Claims d c.args.v e) c.in-Mine.is c.try_claim-claim.ensures.step in
     let at : IsAt k s = record {
       near = c.requires.known;
-      low = mine_low d c.args.v e k c.in-Mine.cursor c.requires.pass.0.1 step;
+      low = omega (arith, step.2.1, step.1.low k c.requires.pass.0.1);
     } in
     let trail = subst (λ (t : Trail). IsTrail t.count t.path) c.push.ensures.path c.push.ensures.trail in
     subst (Stands k e) (sym c.push.ensures.path)

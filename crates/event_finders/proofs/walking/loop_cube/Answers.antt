@@ -1,19 +1,16 @@
-use Rattle.std.proofs.Common.{arith, ℕ, List, length, map, drop, refl, ap, ◌∙◌}
+use Rattle.std.proofs.Common.{arith, ℕ, List, length, map, drop, subst, sym, ap, ◌∙◌}
 use Rattle.std.proofs.lemmas.List.{length-map, length-drop}
 use Rattle.std.proofs.lemmas.List.Sorted.{length_permutation}
 use Rattle.event_finders.specs.Trails.{Trail}
-use Rattle.event_finders.specs.WalkSteps.{slot_pair}
+use Rattle.event_finders.specs.WalkSteps.{IsLoopCube, slot_pair}
 use Rattle.event_finders.proofs.LoopCursors.{sorted_cube}
 use Rattle.event_finders.proofs.walking.loop_cube.Goals as goal
 
 pub of-requires-clause-cube : goal.of-requires-clause-cube
 of-requires-clause-cube c =
-    let back = c.requires.back in
     let are = c.in_ok-put_pairs.ensures.pairs ∙ ap (map (slot_pair c.args.current.now)) (c.tail.ensures
     ∙ ap (λ (t : Trail). drop c.args.place t.path) c.take_pairs-pairs.ensures.walker) in
-    (sorted_cube back.board back.holder c.args.walker.now back.stands c.args.place back.within back.closes
-    c.args.current.now back.table c.put_pairs.new.pairs.items c.sort_pairs.new.pairs.items
-    c.sort_pairs.new.pairs.items are c.sort_pairs.ensures.same c.sort_pairs.ensures.rising refl).cube
+    (sorted_cube c.requires.back _ _ are c.sort_pairs.ensures.same c.sort_pairs.ensures.rising).cube
 
 pub of-requires-clause-short : goal.of-requires-clause-short
 of-requires-clause-short c =
@@ -35,9 +32,7 @@ of-requires-clause-short c =
 
 pub returns-clause-cube : goal.returns-clause-cube
 returns-clause-cube c =
-    let back = c.requires.back in
     let are = c.in_ok-put_pairs.ensures.pairs ∙ ap (map (slot_pair c.args.current.now)) (c.tail.ensures
     ∙ ap (λ (t : Trail). drop c.args.place t.path) c.take_pairs-pairs.ensures.walker) in
-    sorted_cube back.board back.holder c.args.walker.now back.stands c.args.place back.within back.closes
-    c.args.current.now back.table c.put_pairs.new.pairs.items c.sort_pairs.new.pairs.items c.of.result are
-    c.sort_pairs.ensures.same c.sort_pairs.ensures.rising c.of.ensures
+    subst (IsLoopCube c.args.current.now c.args.walker.now c.args.place) (sym c.of.ensures)
+    (sorted_cube c.requires.back _ _ are c.sort_pairs.ensures.same c.sort_pairs.ensures.rising)

@@ -1,8 +1,8 @@
-use Rattle.std.proofs.Common.{length, ◌<◌, ◌≤◌}
+use Rattle.std.proofs.Common.{◌≡◌, length}
 use Rattle.claim_words.specs.Tells.{SoleKnows}
-use Rattle.claim_words.specs.Passes.{IsOf, view, opening_of}
+use Rattle.claim_words.specs.Passes.{IsOf, view}
 use Rattle.event_finders.specs.WalkSteps.{HasSpare}
-use Rattle.event_finders.proofs.TrailReleases.{Settles}
+use Rattle.event_finders.proofs.TrailReleases.{cut, settled_to}
 use Rattle.event_finders.proofs.walking.settle_all.Given as goal
 
 -- a part of the path was settled from its end
@@ -10,9 +10,9 @@ abbrev pub invariant-loop-walker : goal.invariant-loop-walker
 invariant-loop-walker l = record {
   pass : IsOf l.board l.pass;
   spare : HasSpare l.pass l.walker;
-  settled : Settles (opening_of l.board) (view l.initial.pass) (view l.pass) l.initial.walker l.walker;
-  sole : length l.walker.path < length l.initial.walker.path → SoleKnows (view l.pass);
-  shorter : length l.walker.path ≤ length l.initial.walker.path;
+  sole : SoleKnows (view l.pass);
+  view : view l.pass ≡ settled_to (length l.walker.path) (view l.initial.pass);
+  walker : l.walker ≡ cut (length l.walker.path) l.initial.walker;
 }
 
 -- what is left of the path

@@ -1,4 +1,5 @@
-use Rattle.std.proofs.Common.{arith, ◌≡◌, ◌+◌, ℕ, length, take, sym, ap, subst, ◌∙◌}
+use Rattle.std.proofs.Common.{arith, ◌+◌, ℕ, length, take, sym, ap, subst, ◌∙◌}
+use Rattle.std.proofs.lemmas.List.{length-take}
 use Rattle.claim_words.specs.Maps.{In}
 use Rattle.claim_words.specs.Tells.{SoleKnows}
 use Rattle.claim_words.specs.declared.view.View.{View}
@@ -8,66 +9,54 @@ use Rattle.event_finders.specs.Walks.{Traced}
 use Rattle.claim_words.proofs.Memberships.{in_right}
 use Rattle.event_finders.proofs.TrailLemmas.{stand_variable}
 use Rattle.event_finders.proofs.WalkGains.{gains_none, gains_one}
-use Rattle.event_finders.proofs.WalkRounds.{path_on, stands_on, some_on, long_on, begins_on}
+use Rattle.event_finders.proofs.WalkRounds.{goes_on}
 use Rattle.event_finders.proofs.WalkTraces.{trace_up, trace_same, trace_to_seen}
 use Rattle.event_finders.proofs.walks.go_round.Goals as goal
 
 pub returns-in-Ok-clause-spare : goal.returns-in-Ok-clause-spare
 returns-in-Ok-clause-spare c =
-    let k = opening_of c.args.board.now in
-    let d : View = view c.follow.new.pass in
-    let e : View = view c.pop_loop.new.pass in
-    let t : Trail = c.follow.new.walker in
     let f = c.in-Back.ensures.followed in
-    let p = c.in-Ok.ensures.popped in
+    let on = goes_on c.follow.ensures.walking.stands f.why.0 f.why.1 c.in-Ok.ensures.popped c.pop_loop.ensures.walker
+    c.release_to.ensures.walker c.move_on.ensures.walker c.release_to.ensures.view c.move_on.ensures.trail in
     let cut = c.release_to.ensures.walker in
-    let to = path_on k d e t c.in-Back.place c.in-Ok.ticket _ c.follow.ensures.walking.stands f.why.0 f.why.1 p c.pop_loop.new.walker
-    c.release_to.new.walker c.move_on.new.walker c.pop_loop.ensures.walker cut c.move_on.ensures.walker in
-    let long = long_on k d e t c.in-Back.place c.in-Ok.ticket _ c.follow.ensures.walking.stands f.why.0 f.why.1 p
-    (view c.release_to.new.pass) c.release_to.ensures.view c.move_on.new.walker to c.move_on.ensures.trail in
-    let same = ap (λ (x : Trail). take (c.in-Back.place + 1) x.path) c.pop_loop.ensures.walker in
     omega (
       arith,
       c.release_to.ensures.spare,
-      long,
+      on.long,
       ap (λ (x : Trail). length x.path) cut,
-      ap length same,
+      ap (λ (x : Trail). length (take (c.in-Back.place + 1) x.path)) c.pop_loop.ensures.walker,
       ap (λ (x : Trail). x.count) cut,
       ap (λ (x : Trail). x.count) c.pop_loop.ensures.walker,
-      ap (λ (x : Trail). x.count) to,
+      ap (λ (x : Trail). x.count) on.is,
     )
 
 pub returns-in-Ok-clause-round : goal.returns-in-Ok-clause-round
 returns-in-Ok-clause-round c =
-    let k = opening_of c.args.board.now in
     let d : View = view c.follow.new.pass in
     let e : View = view c.pop_loop.new.pass in
     let g : View = view c.release_to.new.pass in
     let t : Trail = c.follow.new.walker in
-    let u : Trail = c.move_on.new.walker in
     let f = c.in-Back.ensures.followed in
-    let place : ℕ = c.in-Back.place in
     let p = c.in-Ok.ensures.popped in
-    let to = path_on k d e t place c.in-Ok.ticket _ c.follow.ensures.walking.stands f.why.0 f.why.1 p c.pop_loop.new.walker
-    c.release_to.new.walker u c.pop_loop.ensures.walker c.release_to.ensures.walker c.move_on.ensures.walker in
-    let g_is : g ≡ record e { held = take (place + 1) e.held } = c.release_to.ensures.view in
-    let trail = c.move_on.ensures.trail in (
+    let on = goes_on c.follow.ensures.walking.stands f.why.0 f.why.1 p c.pop_loop.ensures.walker
+    c.release_to.ensures.walker c.move_on.ensures.walker c.release_to.ensures.view c.move_on.ensures.trail in
+    let g_is = c.release_to.ensures.view in
+    let begins = sym (stand_variable t.path 0) ∙ ap (λ (x : ℕ × ℕ). x.0) f.begins
+    ∙ stand_variable c.args.walker.now.path 0 in (
       p.popped,
-      gains_one k (view c.args.pass.now) d e g t.path place c.in-Ok.ticket c.follow.ensures.same.mine p
-          (ap (λ (v : View). v.mine) g_is),
-      stands_on k d e t place c.in-Ok.ticket _ c.follow.ensures.walking.stands f.why.0 f.why.1 p g g_is u to trail,
-      some_on k d e t place c.in-Ok.ticket _ c.follow.ensures.walking.stands f.why.0 f.why.1 p g g_is u to trail,
-      begins_on k d e t place c.in-Ok.ticket _ c.follow.ensures.walking.stands f.why.0 f.why.1 p g g_is u to trail
-          ∙ sym (stand_variable t.path 0) ∙ ap (λ (x : ℕ × ℕ). x.0) f.begins ∙ stand_variable c.args.walker.now.path 0,
+      gains_one (opening_of c.args.board.now) (view c.args.pass.now) d e g t.path c.in-Back.place c.in-Ok.ticket
+          c.follow.ensures.same.mine p (ap (λ (v : View). v.mine) g_is),
+      on.stands,
+      omega (arith, on.long, length-take (c.in-Back.place + 1) t.path, f.why.0),
+      on.begins ∙ begins,
       subst SoleKnows (sym g_is) c.pop_loop.ensures.sole,
       λ n first traced. record {
         path = t.path;
         led = c.follow.ensures.walking.stands.led;
-        begins = sym (stand_variable t.path 0) ∙ ap (λ (x : ℕ × ℕ). x.0) f.begins
-            ∙ stand_variable c.args.walker.now.path 0;
+        begins = begins;
         traced = trace_same n first d g t.path (c.in-Back.ensures.traced n first traced)
             (ap (λ (v : View). v.seen) g_is ∙ p.seen);
-        place = place;
+        place = c.in-Back.place;
         within = f.why.0;
         goes = f.why.1;
         loop = p.loop;
@@ -76,19 +65,14 @@ returns-in-Ok-clause-round c =
 
 pub returns-in-Ok-clause-traced : goal.returns-in-Ok-clause-traced
 returns-in-Ok-clause-traced c n from traced =
-    let k = opening_of c.args.board.now in
-    let d : View = view c.follow.new.pass in
-    let e : View = view c.pop_loop.new.pass in
     let g : View = view c.release_to.new.pass in
     let t : Trail = c.follow.new.walker in
     let f = c.in-Back.ensures.followed in
-    let place : ℕ = c.in-Back.place in
     let p = c.in-Ok.ensures.popped in
-    let to = path_on k d e t place c.in-Ok.ticket _ c.follow.ensures.walking.stands f.why.0 f.why.1 p c.pop_loop.new.walker
-    c.release_to.new.walker c.move_on.new.walker c.pop_loop.ensures.walker c.release_to.ensures.walker
-    c.move_on.ensures.walker in
-    subst (λ (x : Trail). Traced (n + 1) from g x.path) (sym to)
-    (trace_up n from d g t.path place f.why.0 (c.in-Back.ensures.traced n from traced)
+    let on = goes_on c.follow.ensures.walking.stands f.why.0 f.why.1 p c.pop_loop.ensures.walker
+    c.release_to.ensures.walker c.move_on.ensures.walker c.release_to.ensures.view c.move_on.ensures.trail in
+    subst (λ (x : Trail). Traced (n + 1) from g x.path) (sym on.is)
+    (trace_up n from (view c.follow.new.pass) g t.path c.in-Back.place f.why.0 (c.in-Back.ensures.traced n from traced)
     (ap (λ (v : View). v.seen) c.release_to.ensures.view ∙ p.seen))
 
 pub returns-in-Busy-clause-round : goal.returns-in-Busy-clause-round

@@ -5,7 +5,7 @@ use Rattle.claim_words.specs.declared.view.View.{View}
 use Rattle.claim_words.specs.Passes.{view, opening_of}
 use Rattle.event_finders.specs.WalkSteps.{Says, EndsAt}
 use Rattle.event_finders.specs.Walks.{Closes}
-use Rattle.event_finders.proofs.WalkGains.{gained_more, over_mine, end_mine, over_answer, stays_then}
+use Rattle.event_finders.proofs.WalkGains.{known_from, gained_more, over_mine, end_mine, over_answer, stays_then}
 use Rattle.event_finders.proofs.WalkSeen.{seen_round, seen_on, within_less}
 use Rattle.event_finders.proofs.walks.walk_on.Goals as goal
 
@@ -79,8 +79,7 @@ loop-init c = record {
   pass = search rules;
   spare = search rules;
   stays = search rules;
-  settled = λ p i. c.claim_on.ensures.same.known p
-      (subst (λ (v : View). In p v.settled) (sym c.reserve.ensures.view) i);
+  settled = known_from _ _ _ c.reserve.ensures.view c.claim_on.ensures.same;
   stands = search rules;
   some = search rules;
   begins = search rules;
@@ -92,12 +91,10 @@ loop-init c = record {
 }
 
 pub returns-in-Settled-clause-settled : goal.returns-in-Settled-clause-settled
-returns-in-Settled-clause-settled c p i =
-    c.claim_on.ensures.same.known p (subst (λ (v : View). In p v.settled) (sym c.reserve.ensures.view) i)
+returns-in-Settled-clause-settled c = known_from _ _ _ c.reserve.ensures.view c.claim_on.ensures.same
 
 pub returns-in-Busy-clause-settled : goal.returns-in-Busy-clause-settled
-returns-in-Busy-clause-settled c p i =
-    c.claim_on.ensures.same.known p (subst (λ (v : View). In p v.settled) (sym c.reserve.ensures.view) i)
+returns-in-Busy-clause-settled c = known_from _ _ _ c.reserve.ensures.view c.claim_on.ensures.same
 
 pub returns-in-Over-clause-settled : goal.returns-in-Over-clause-settled
 returns-in-Over-clause-settled c p i = c.in-Over.ensures.settled p (c.loop.invariant.settled p i)
