@@ -2,8 +2,7 @@
 pub mod Carrying
 -- RefusedTexts: how a text is refused that its grammar refuses.
 pub mod RefusedTexts
--- RefusedStacks: how stacks are refused. RefusedForms: and a formula, a graph or a grid.
-pub mod RefusedStacks
+-- RefusedForms: how a formula, a graph or a grid is refused.
 pub mod RefusedForms
 -- MadeTexts: what is made by the command of a text. MadeInstances: what is made is that of the definitions, and can be
 -- told. MadeExtremal: it is extremal.

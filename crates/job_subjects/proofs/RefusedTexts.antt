@@ -1,6 +1,6 @@
 -- How a text is refused that its grammar refuses, and one that is lent.
-use Rattle.std.proofs.Common.{inl, inr, ◌≡◌, Result, Ok, Err, IfErr, refl, ap, arith}
-use Rattle.std.specs.Result.{IsErrOf}
+use Rattle.std.proofs.Common.{inl, inr, ◌≡◌, Result, Ok, Err, IfErr, MatchResult, refl, sym, ap, subst, arith}
+use Rattle.std.specs.Result.{IsErrAnd, IsErrOf}
 use Rattle.pop_model.specs.Faults.{Rose}
 use Rattle.pop_edge.specs.declared.refusal.ReadRefusal.{ReadRefusal}
 use Rattle.pop_edge.specs.declared.refusal.ReadRefusal.TheVariants.{Malformed, Count, EmptyClause, Limit, ReadFault, OutOfMemory}
@@ -10,9 +10,10 @@ use Rattle.job_subjects.specs.declared.refusal.Refusal.{Refusal}
 use Rattle.job_subjects.specs.declared.refusal.Refusal.TheVariants.{Stopped}
 use Rattle.job_subjects.specs.Refusals.{IsRefusal, unread}
 use Rattle.job_subjects.specs.Refused.{IsStopOr, IsRefusalOf}
+use Rattle.job_subjects.proofs.Carrying.{passed_on}
 
 -- a text that is refused with this cause
-pub refusal_of : (Refused : ReadRefusal → Type 0) (cause : ReadRefusal) → Refused cause
+refusal_of : (Refused : ReadRefusal → Type 0) (cause : ReadRefusal) → Refused cause
     → IsRefusalOf Refused (unread cause)
 refusal_of Refused (Malformed l code) h =
     inr (record { cause = Malformed l code; of_text = tt; refused = h; is = refl })
@@ -24,6 +25,14 @@ refusal_of Refused (Limit kind l) h =
     inr (record { cause = Limit kind l; of_text = tt; refused = h; is = refl })
 refusal_of Refused ReadFault h = inl (Failed, refl)
 refusal_of Refused OutOfMemory h = inl (Memory, refl)
+
+-- so a cause that is passed on answers for the text
+pub text_refused : {X : Type 0} (Answers : Result X ReadRefusal → Type 0) (r : Result X Refusal) (cause : ReadRefusal)
+    → IsErrAnd r (λ x. x ≡ unread cause) → Answers (Err cause)
+    → MatchResult r (λ x. Answers (Ok x)) (IsRefusalOf (λ k. Answers (Err k)))
+text_refused Answers r cause is h =
+    subst (λ q. MatchResult q (λ x. Answers (Ok x)) (IsRefusalOf (λ k. Answers (Err k))))
+    (sym (passed_on r (unread cause) is)) (refusal_of (λ k. Answers (Err k)) cause h)
 
 -- a source that never fails doesn't rise
 pub no_rise : Rose 0 0 → ⊥

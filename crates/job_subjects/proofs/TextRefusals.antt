@@ -1,6 +1,6 @@
 -- What a text, a formula, a graph or its stacks are refused by is told: it is no refusal of words, and no stop.
 use Rattle.std.specs.Prelude.{⊤}
-use Rattle.std.proofs.Common.{inl, inr, ◌≡◌, ℕ, Bool, true, false, List, Option, Err, sym, subst}
+use Rattle.std.proofs.Common.{inl, inr, ◌≡◌, ℕ, Bool, true, false, List, Option, sym, subst}
 use Rattle.pop_model.specs.Stacks.{Origin}
 use Rattle.pop_model.specs.Stacks.Origin.{Given, Keyed}
 use Rattle.pop_edge.specs.declared.refusal.ReadRefusal.{ReadRefusal}
@@ -9,9 +9,7 @@ use Rattle.pop_stacks.specs.Faults.{IsCause}
 use Rattle.pop_stacks.specs.declared.stack_fault.StackFault.{StackFault}
 use Rattle.pop_stacks.specs.declared.stack_fault.StackFault.TheVariants.{RowCount as WrongRowCount, EmptyRow as NoEntry, ValueTooLarge as LargeValue, WeightSum as HeavyWeights, OutOfMemory as StackMemory}
 use Rattle.dimacs_read.specs.Cnf.{Cnf}
-use Rattle.dimacs_read.specs.CnfText.{AnswersCnf}
 use Rattle.graph_read.specs.Graphs.{GraphOf}
-use Rattle.graph_read.specs.GraphText.{AnswersGraph}
 use Rattle.pop_words.specs.declared.command.Command.{Command}
 use Rattle.pop_words.specs.declared.command.Command.TheVariants.{Formula, Orient, Tree, Resample, Check, Make, Rounds}
 use Rattle.pop_print.specs.declared.facts.Facts.{Facts}
@@ -20,7 +18,7 @@ use Rattle.job_subjects.specs.declared.refusal.Refusal.TheVariants.{Usage, Stopp
 use Rattle.job_subjects.specs.declared.wanted.Wanted.{Wanted}
 use Rattle.job_subjects.specs.Refusals.{unread}
 use Rattle.job_subjects.specs.StackFaults.{unsound, RefusesStacks}
-use Rattle.job_subjects.specs.Refused.{IsOfText, IsUnread, IsClashing, RefusesEvents, RefusesFormula, RefusesOrienting, RefusesTree, RefusesGrid, RefusesCnf, RefusesGraph, RefusesBy, RefusesText}
+use Rattle.job_subjects.specs.Refused.{IsOfText, IsUnread, IsClashing, RefusesEvents, RefusesFormula, RefusesOrienting, RefusesTree, RefusesBy, RefusesText}
 
 -- it is no refusal of words, and no stop
 abbrev pub IsOfInput : Refusal → Type 0
@@ -41,8 +39,8 @@ unread_input (PassedLimit kind l) of = tt
 unread_input ReadingFailed of = absurd of
 unread_input ReadingMemory of = absurd of
 
-pub of_unread : (Refused : ReadRefusal → Type 0) (r : Refusal) → IsUnread Refused r → IsOfInput r
-of_unread Refused r h = of_same r (unread h.cause) h.is (unread_input h.cause h.of_text)
+of_unread : {Refused : ReadRefusal → Type 0} (r : Refusal) → IsUnread Refused r → IsOfInput r
+of_unread r h = of_same r (unread h.cause) h.is (unread_input h.cause h.of_text)
 
 -- a fault of stacks
 unsound_input : (facts : Facts) (origin : Origin) (weights : List (List ℕ)) (fault : StackFault)
@@ -54,65 +52,52 @@ unsound_input facts origin weights (HeavyWeights v) cause = tt
 unsound_input facts (Given rows) weights StackMemory cause = absurd cause
 unsound_input facts (Keyed key sample height) weights StackMemory cause = absurd cause
 
-pub of_stacks : (facts : Facts) (origin : Origin) (weights : List (List ℕ)) (asked : Option ℕ) (r : Refusal)
+of_stacks : (facts : Facts) (origin : Origin) (weights : List (List ℕ)) (asked : Option ℕ) (r : Refusal)
     → RefusesStacks facts origin weights asked r → IsOfInput r
 of_stacks facts origin weights asked r (inl many) = of_same r _ many.is tt
 of_stacks facts origin weights asked r (inr (faulty, few)) =
     of_same r (unsound facts faulty.fault) faulty.is (unsound_input facts origin weights faulty.fault faulty.cause)
 
 -- a clash
-pub of_clash : (f : Cnf) (r : Refusal) → IsClashing f r → IsOfInput r
+of_clash : (f : Cnf) (r : Refusal) → IsClashing f r → IsOfInput r
 of_clash f r h = of_same r _ h.clash.is tt
 
 of_events : (may_clash : Bool) (f : Cnf) (r : Refusal) → RefusesEvents may_clash f r → IsOfInput r
 of_events true f r h = absurd h
 of_events false f r h = of_clash f r h
 
--- a refusal of a formula, of a graph, of a grid
-pub of_formula : (may_clash : Bool) (origin : Origin) (asked : Option ℕ) (f : Cnf) (r : Refusal)
+-- a refusal of a formula, of a graph
+of_formula : (may_clash : Bool) (origin : Origin) (asked : Option ℕ) (f : Cnf) (r : Refusal)
     → RefusesFormula may_clash origin asked f r → IsOfInput r
 of_formula may_clash origin asked f r (inl stacks) = of_stacks _ origin _ asked r stacks
 of_formula may_clash origin asked f r (inr (sound, clash, few)) = of_events may_clash f r clash
 
-pub of_orienting : (origin : Origin) (asked : Option ℕ) (g : GraphOf) (r : Refusal)
+of_orienting : (origin : Origin) (asked : Option ℕ) (g : GraphOf) (r : Refusal)
     → RefusesOrienting origin asked g r → IsOfInput r
 of_orienting origin asked g r (inl isolated) = of_same r _ isolated.is tt
 of_orienting origin asked g r (inr (touched, stacks)) = of_stacks _ origin _ asked r stacks
 
-pub of_tree : (origin : Origin) (asked : Option ℕ) (root : ℕ) (g : GraphOf) (r : Refusal)
+of_tree : (origin : Origin) (asked : Option ℕ) (root : ℕ) (g : GraphOf) (r : Refusal)
     → RefusesTree origin asked root g r → IsOfInput r
 of_tree origin asked root g r (inl (is, large)) = of_same r _ is tt
 of_tree origin asked root g r (inr (last, inl cut)) = of_same r _ cut.is tt
 of_tree origin asked root g r (inr (last, inr (joined, stacks))) = of_stacks _ origin _ asked r stacks
 
-pub of_grid : (origin : Origin) (asked : Option ℕ) (side : ℕ) (r : Refusal) → RefusesGrid origin asked side r
-    → IsOfInput r
-of_grid origin asked side r stacks = of_stacks _ origin _ asked r stacks
-
 -- of the text that a command reads
-pub of_cnf_text : (Refuses : Cnf → Refusal → Type 0) (text : List ℕ) (r : Refusal)
-    → ((f : Cnf) → Refuses f r → IsOfInput r) → RefusesCnf Refuses text r → IsOfInput r
-of_cnf_text Refuses text r of (inl unread) = of_unread (λ cause. AnswersCnf text (Err cause)) r unread
-of_cnf_text Refuses text r of (inr (f, spelled, h)) = of f h
-
-pub of_graph_text : (Refuses : GraphOf → Refusal → Type 0) (text : List ℕ) (r : Refusal)
-    → ((g : GraphOf) → Refuses g r → IsOfInput r) → RefusesGraph Refuses text r → IsOfInput r
-of_graph_text Refuses text r of (inl unread) = of_unread (λ cause. AnswersGraph text (Err cause)) r unread
-of_graph_text Refuses text r of (inr (g, spelled, h)) = of g h
-
 of_text_by : (k : Command) (w : Wanted) (text : List ℕ) (r : Refusal) → RefusesBy k w text r → IsOfInput r
-of_text_by Formula w text r h =
-    of_cnf_text (RefusesFormula false w.origin w.count) text r (λ f. of_formula false w.origin w.count f r) h
-of_text_by Orient w text r h =
-    of_graph_text (RefusesOrienting w.origin w.count) text r (λ g. of_orienting w.origin w.count g r) h
-of_text_by Tree w text r h =
-    of_graph_text (RefusesTree w.origin w.count w.root) text r (λ g. of_tree w.origin w.count w.root g r) h
-of_text_by Resample w text r h =
-    of_cnf_text (RefusesFormula true w.origin w.count) text r (λ f. of_formula true w.origin w.count f r) h
-of_text_by Check w text r h = of_cnf_text IsClashing text r (λ f. of_clash f r) h
-of_text_by Rounds w text r h =
-    of_cnf_text (RefusesFormula true w.origin w.count) text r (λ f. of_formula true w.origin w.count f r) h
-of_text_by Make w text r h = of_grid w.origin w.count w.side r h
+of_text_by Formula w text r (inl cause) = of_unread r cause
+of_text_by Formula w text r (inr (f, spelled, h)) = of_formula false w.origin w.count f r h
+of_text_by Orient w text r (inl cause) = of_unread r cause
+of_text_by Orient w text r (inr (g, spelled, h)) = of_orienting w.origin w.count g r h
+of_text_by Tree w text r (inl cause) = of_unread r cause
+of_text_by Tree w text r (inr (g, spelled, h)) = of_tree w.origin w.count w.root g r h
+of_text_by Resample w text r (inl cause) = of_unread r cause
+of_text_by Resample w text r (inr (f, spelled, h)) = of_formula true w.origin w.count f r h
+of_text_by Check w text r (inl cause) = of_unread r cause
+of_text_by Check w text r (inr (f, spelled, h)) = of_clash f r h
+of_text_by Rounds w text r (inl cause) = of_unread r cause
+of_text_by Rounds w text r (inr (f, spelled, h)) = of_formula true w.origin w.count f r h
+of_text_by Make w text r h = of_stacks _ w.origin _ w.count r h
 of_text_by k w text r h = absurd h
 
 pub of_text : (w : Wanted) (text : List ℕ) (r : Refusal) → RefusesText w text r → IsOfInput r

@@ -13,7 +13,7 @@ ghost use Rattle.pop_print.specs.Ends.{AreFactsOf};
 ghost use Rattle.pop_print.specs.declared.facts.Facts.TheVariants.{Formula as FormulaFacts};
 ghost use Rattle.growing_instances.specs.Growing.{MayIndex};
 ghost use Rattle.job_subjects.specs.Refusals.{IsRefusal};
-ghost use Rattle.job_subjects.specs.StackFaults.{AreFaulty, AreFew, AreTooMany, RefusesStacks};
+ghost use Rattle.job_subjects.specs.StackFaults.{AreFew, AreTooMany, RefusesStacks};
 ghost use Rattle.job_subjects.specs.Subjects.{pair_weights, AreAssignments, AreOrientations, AreArrows, AreGridArrows};
 ghost use Rattle.job_subjects.specs.Made.{IsInstanceOf, IsMadeOf};
 ghost use Rattle.job_subjects.specs.Refused.{AreClashed, HasCutOff, RefusesFormula, RefusesOrienting, RefusesTree, RefusesGrid};
@@ -36,8 +36,8 @@ use std::alloc::Global;
 // its first byte is written.
 const MAX_VARIABLES: u64 = 1 << 25;
 
-/// Refuses so many samples of so many variables where they are more than a batch may have.
-pub fn refuse_too_many(asked: Option<u32>, variables: u32) -> Result<(), Refusal>
+// Refuses so many samples of so many variables where they are more than a batch may have.
+fn refuse_too_many(asked: Option<u32>, variables: u32) -> Result<(), Refusal>
     ensures few { OnOk result (AreFew asked variables) }
     ensures many { IfErr result (AreTooMany asked variables) }
 {
@@ -47,6 +47,26 @@ pub fn refuse_too_many(asked: Option<u32>, variables: u32) -> Result<(), Refusal
         }
         _ => Ok(()),
     }
+}
+
+// The stacks of these weights, of which so many samples are asked for, which the facts tell; or why
+// they are refused.
+fn stacks_of(
+    origin: StackOrigin,
+    asked: Option<u32>,
+    facts: &Facts,
+    variables: u32,
+    weights: Weights,
+) -> Result<GrowingStacks, Refusal>
+    requires few { variables < 2 ^ 31 }
+    requires count { variables ≡ length weights }
+    ensures made { IfOk result (λ stacks. stacks ≡ record { origin = origin; weights = weights }) }
+    ensures sound { OnOk result (IsSound origin weights) }
+    ensures few { OnOk result (AreFew asked (length weights)) }
+    ensures refused { IfErr result (IsRefusal (RefusesStacks facts.now origin weights asked)) }
+{
+    refuse_too_many(asked, variables)?;
+    origin.stacks(facts, weights)
 }
 
 /// What a command runs, and the facts by which it is told.
@@ -80,18 +100,6 @@ pub fn refuse_clash(
     }
 }
 
-/// The stacks of a formula's variables, or their first fault. Each of their two values weighs 1.
-pub fn stacks_for(origin: StackOrigin, formula: &Formula) -> Result<GrowingStacks, Refusal>
-    ensures made { IfOk result (λ stacks. stacks
-        ≡ record { origin = origin; weights = pair_weights formula.now.variables }) }
-    ensures sound { OnOk result (IsSound origin (pair_weights formula.now.variables)) }
-    ensures fault { IfErr result (IsRefusal (AreFaulty (FormulaFacts formula.now.variables)
-        origin (pair_weights formula.now.variables))) }
-{
-    let variables = formula.variables();
-    origin.stacks(&Facts::Formula(variables), Weights::pairs(variables))
-}
-
 /// Makes the events of a formula, of which so many samples are asked for. They may clash, where
 /// that is said.
 pub fn make_formula(
@@ -109,12 +117,11 @@ pub fn make_formula(
         (IsRefusal (RefusesFormula may_clash origin count formula.now)) }
 {
     let variables = formula.variables();
-    refuse_too_many(count, variables)?;
-    let stacks = stacks_for(origin, formula)?;
+    let facts = Facts::Formula(variables);
+    let stacks = stacks_of(origin, count, &facts, variables, Weights::pairs(variables))?;
     let events = formula.events(alloc)?;
     let index = refuse_clash(alloc, may_clash, variables, &events)?;
     let instance = of_events(variables, stacks, events, index);
-    let facts = Facts::Formula(variables);
     Ok(Made { facts, instance })
 }
 
@@ -132,9 +139,8 @@ pub fn make_orientation(
 {
     let (events, index) = indexed_sinks(alloc, &graph)?;
     let edges = graph.edges();
-    refuse_too_many(count, edges)?;
     let facts = Facts::Orient(graph);
-    let stacks = origin.stacks(&facts, Weights::pairs(edges))?;
+    let stacks = stacks_of(origin, count, &facts, edges, Weights::pairs(edges))?;
     let instance = of_events(edges, stacks, events, Some(index));
     Ok(Made { facts, instance })
 }
@@ -154,8 +160,7 @@ fn make_cycles(
         made.facts made.instance) }
     ensures refused { IfErr result (IsRefusal (RefusesStacks facts origin weights count)) }
 {
-    refuse_too_many(count, arrows.count())?;
-    let stacks = origin.stacks(&facts, weights)?;
+    let stacks = stacks_of(origin, count, &facts, arrows.count(), weights)?;
     let instance = of_arrows(stacks, arrows);
     Ok(Made { facts, instance })
 }

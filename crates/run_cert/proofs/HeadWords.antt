@@ -1,6 +1,6 @@
 -- In no word of a head stands a line end, so the lines of a certificate's text begin with those of its head. In a
 -- number stands no other sign either.
-use Rattle.std.proofs.Common.{inl, ◌≡◌, ◌≢◌, ◌⊎◌, ℕ, zero, suc, ◌/◌, ◌%◌, ◌^◌, ◌<◌, Bool, true, false, not, eqb, cond, List, [], ◌∷◌, ◌++◌, map, slice_index, Contains, refl, sym, ap, ◌∙◌, arith, append_assoc, codes, decimal}
+use Rattle.std.proofs.Common.{inl, ◌≡◌, ◌≢◌, ◌⊎◌, ℕ, zero, suc, ◌/◌, ◌%◌, ◌^◌, ◌<◌, Bool, true, false, not, eqb, cond, List, [], ◌∷◌, ◌++◌, map, slice_index, Contains, refl, sym, ap, subst, ◌∙◌, arith, append_assoc, codes, decimal}
 use Rattle.std.specs.List.{AllByRecursion, concat, join_with_byte, list_any}
 use Rattle.std.proofs.lemmas.Bool.{or_parts, eqb-false, ne_eqb, not-true}
 use Rattle.hex.specs.Hex.{encode_lower, encode_with, lower_digits}
@@ -13,7 +13,8 @@ use Rattle.pop_words.specs.declared.command.Command.{Command}
 use Rattle.pop_words.specs.Options.{command_word, paused}
 use Rattle.pop_words.proofs.ListTests.{all_at}
 use Rattle.pop_log.proofs.DecimalsLemmas.{wide}
-use Rattle.run_cert.specs.Heads.{Head, has_root, row_text, rows_text, stacks_line, more_lines, tail_lines, head_lines, MayBeStacks, MayBeHeight, MayBeRoot, MayBeSize, IsHead}
+use Rattle.pop_log.proofs.Fronts.{each_append}
+use Rattle.run_cert.specs.Heads.{Head, has_root, row_text, rows_text, stacks_line, height_lines, root_lines, head_lines, MayBeStacks, MayBeHeight, MayBeRoot, IsHead}
 use Rattle.run_cert.proofs.Joined.{Lacks, lacks_append, digits_lack, joined_lacks}
 
 -- literal bytes lack a sign by a test
@@ -129,26 +130,20 @@ lines_first (l ∷ ls) x are =
     ∙ ap (λ (m : List ℕ). m ∷ lines_with_ends (concat ls ++ x)) (sym is)
     ∙ ap (λ (ms : List (List ℕ)). l ∷ ms) (lines_first ls x are.1)
 
--- the lines from the root on
-tail_are : (rooted : Bool) (r n : ℕ) → MayBeRoot rooted r → MayBeSize n
-    → AllByRecursion IsLine (tail_lines rooted r n)
-tail_are true r n root size = (
-  labeled_line (codes "root ") r refl (wide r root.1),
-  (labeled_line (codes "input ") n refl (wide n size), tt),
-)
-tail_are false r n root size = (labeled_line (codes "input ") n refl (wide n size), tt)
-
 -- the first line of stacks
 stacks_is : (s : StackSpec) → MayBeStacks s → IsLine (stacks_line s)
 stacks_is (Key key) may = (codes "key " ++ encode_lower key, key_lacks key, refl)
 stacks_is (Given rows) may = (codes "stacks" ++ rows_text rows, given_lacks rows may.2, refl)
 
--- the lines behind it
-more_are : (s : StackSpec) (h : ℕ) (ls : List (List ℕ)) → MayBeHeight s h → AllByRecursion IsLine ls
-    → AllByRecursion IsLine (more_lines s h ++ ls)
-more_are (Key key) h ls high are =
-    (labeled_line (codes "height ") h refl (let low = high.1 in omega (arith, low)), are)
-more_are (Given rows) h ls high are = are
+-- the line behind it
+height_is : (s : StackSpec) (h : ℕ) → MayBeHeight s h → AllByRecursion IsLine (height_lines s h)
+height_is (Key key) h high = (labeled_line (codes "height ") h refl (let low = high.1 in omega (arith, low)), tt)
+height_is (Given rows) h high = tt
+
+-- the line of a root
+root_is : (rooted : Bool) (r : ℕ) → MayBeRoot rooted r → AllByRecursion IsLine (root_lines rooted r)
+root_is true r root = (labeled_line (codes "root ") r refl (wide r root.1), tt)
+root_is false r root = tt
 
 -- all lines of a head
 head_are : (h : Head) → IsHead h → AllByRecursion IsLine (head_lines h)
@@ -156,12 +151,23 @@ head_are h is = (
   (codes "cert 1 " ++ command_word h.command, command_lacks h.command is.command, refl),
   (
     stacks_is h.stacks is.stacks,
-    more_are h.stacks h.height (tail_lines (has_root h.command) h.root h.size) is.height
-        (tail_are (has_root h.command) h.root h.size is.root is.size),
+    each_append IsLine (height_lines h.stacks h.height) _ (height_is h.stacks h.height is.height)
+        (each_append IsLine (root_lines (has_root h.command) h.root) _ (root_is (has_root h.command) h.root is.root)
+        (labeled_line (codes "input ") h.size refl (wide h.size is.size), tt)),
   ),
 )
 
--- the lines of a text that begins with a head begin with those of the head
+-- the lines of a text that begins with the first ones of a head begin with these
+pub front_first : (h : Head) (ls more : List (List ℕ)) (x : List ℕ) → IsHead h → head_lines h ≡ ls ++ more
+    → lines_with_ends (concat ls ++ x) ≡ ls ++ lines_with_ends x
+front_first h ls more x is lines =
+    lines_first ls x (each_front ls (subst (AllByRecursion IsLine) lines (head_are h is)))
+  where
+    each_front : (ms : List (List ℕ)) → AllByRecursion IsLine (ms ++ more) → AllByRecursion IsLine ms
+    each_front [] are = tt
+    each_front (m ∷ ms) are = (are.0, each_front ms are.1)
+
+-- and with those of a whole head
 pub head_first : (h : Head) (x : List ℕ) → IsHead h
     → lines_with_ends (concat (head_lines h) ++ x) ≡ head_lines h ++ lines_with_ends x
 head_first h x is = lines_first (head_lines h) x (head_are h is)

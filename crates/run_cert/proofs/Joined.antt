@@ -1,9 +1,10 @@
 -- Words that are joined by a sign which stands in none of them can be told apart.
-use Rattle.std.proofs.Common.{inl, inr, ◌≡◌, ◌≢◌, ◌⊎◌, ℕ, zero, suc, ◌<◌, false, eqb, List, [], ◌∷◌, ◌++◌, length, refl, ap, ap₂, ◌∙◌, arith, All}
+use Rattle.std.proofs.Common.{inl, inr, ◌≡◌, ◌≢◌, ◌⊎◌, ℕ, zero, suc, ◌<◌, false, eqb, List, [], ◌∷◌, ◌++◌, refl, ap, ◌∙◌, arith, All}
 use Rattle.std.specs.List.{AllByRecursion, join_with_byte, slice_split}
 use Rattle.std.proofs.lemmas.Bool.{eq-eqb, ne_eqb}
 use Rattle.std.proofs.lemmas.List.Splits.{slice_split_none, slice_split_at}
 use Rattle.pop_log.specs.Decimals.{AreDigits}
+use Rattle.pop_log.proofs.Fronts.{each_append}
 
 -- the sign stands nowhere among these bytes
 abbrev pub Lacks : ℕ → List ℕ → Type 0
@@ -11,8 +12,7 @@ Lacks sign bytes = AllByRecursion (λ b. b ≢ sign) bytes
 
 -- nor among two of which it stands in neither
 pub lacks_append : (sign : ℕ) (a b : List ℕ) → Lacks sign a → Lacks sign b → Lacks sign (a ++ b)
-lacks_append sign [] b none none' = none'
-lacks_append sign (x ∷ a) b none none' = (none.0, lacks_append sign a b none.1 none')
+lacks_append sign a b none none' = each_append (λ c. c ≢ sign) a b none none'
 
 -- digits lack every sign below and above them
 pub digits_lack : (sign : ℕ) (bs : List ℕ) → (sign < 48) ⊎ (57 < sign) → AreDigits bs → Lacks sign bs
@@ -46,14 +46,3 @@ joined_lacks sign other (w ∷ []) differ none = none.0
 joined_lacks sign other (w ∷ v ∷ ws) differ none =
     lacks_append other w (sign ∷ join_with_byte sign (v ∷ ws)) none.0
     (differ, joined_lacks sign other (v ∷ ws) differ none.1)
-
--- lists of one length before others are determined
-pub same_front : (a b x y : List ℕ) → length a ≡ length b → a ++ x ≡ b ++ y → (a ≡ b) × (x ≡ y)
-same_front [] [] x y size same = (refl, same)
-same_front [] (c ∷ b) x y size same = absurd (omega (arith, size))
-same_front (c ∷ a) [] x y size same = absurd (omega (arith, size))
-same_front (c ∷ a) (d ∷ b) x y size same =
-    let first : c ≡ d = cc in
-    let rest : a ++ x ≡ b ++ y = cc in
-    let later = same_front a b x y (omega (arith, size)) rest in
-    (ap₂ (λ (m : ℕ) (l : List ℕ). m ∷ l) first later.0, later.1)

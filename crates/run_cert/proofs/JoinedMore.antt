@@ -1,10 +1,8 @@
 -- Words joined one after another: a sign stands before each word but the first.
 use Rattle.std.proofs.Common.{◌≡◌, ℕ, zero, suc, ◌+◌, ◌<◌, ◌≤◌, cond, List, [], ◌∷◌, ◌++◌, length, map, take, get_or, refl, sym, ap, ◌∙◌, arith, append_assoc, ltb}
-use Rattle.std.specs.List.{concat, join_with_byte}
+use Rattle.std.specs.List.{join_with_byte}
 use Rattle.std.proofs.lemmas.Bool.{lt-ltb}
-use Rattle.std.proofs.lemmas.List.{append-nil, take_more, map_push}
-use Rattle.std.proofs.lemmas.List.Folds.{concat-append}
-use Rattle.run_cert.specs.Heads.{row_text, rows_text}
+use Rattle.std.proofs.lemmas.List.{take_more, map_push}
 
 -- a word more
 joined_push : (sign : ℕ) (u : List ℕ) (ws : List (List ℕ)) (w : List ℕ)

@@ -7,10 +7,9 @@ mod HeadWords
 pub mod SpelledRows
 mod HeadLinesLemmas
 pub mod OneText
--- Refusals. FirstLines: the first bad line, where lines are read one by one. HeadLanguage: lines that are read so are
--- those of a head. Unrefused: the text of a certificate isn't refused, and bytes are refused in one way.
-mod FirstLines
-mod HeadLanguage
+-- Refusals. BadLines: the first bad line. Unrefused: the text of a certificate isn't refused, and bytes are refused in
+-- one way.
+mod BadLines
 pub mod Unrefused
 -- Jobs. AskedStacks: stacks that words ask for may be written. PrintedCerts: so what is printed of a job is the text of
 -- its certificate.

@@ -1,17 +1,19 @@
 -- A text is that of at most one certificate. Its lines begin with those of the head, and each of these says one thing.
 -- The head says how many bytes of input there are, and the rest is the log text.
-use Rattle.std.proofs.Common.{◌≡◌, ℕ, Bool, true, false, List, ◌++◌, length, sym, ap, subst, ◌∙◌, append_assoc}
+use Rattle.std.proofs.Common.{◌≡◌, ℕ, Bool, true, false, List, ◌∷◌, ◌++◌, length, drop, take, Contains, refl, sym, ap, ap₂, subst, ◌∙◌, arith, append_assoc, codes}
 use Rattle.std.specs.List.{concat}
+use Rattle.std.proofs.Math.Seq.{take-append_seam}
 use Rattle.std.proofs.lemmas.List.{append_cancel_left}
 use Rattle.pop_log.specs.TextLines.{lines_with_ends}
+use Rattle.pop_log.proofs.DecimalsLemmas.{wide}
 use Rattle.pop_stacks.specs.declared.stack_spec.StackSpec.{StackSpec}
 use Rattle.pop_stacks.specs.declared.stack_spec.StackSpec.TheVariants.{Key, Given}
 use Rattle.pop_words.specs.declared.command.Command.{Command}
-use Rattle.run_cert.specs.Heads.{Head, has_root, command_line, stacks_line, height_line, root_line, input_line, more_lines, tail_lines, head_lines, MayBeHeight, MayBeRoot, MayBeSize, IsHead}
+use Rattle.pop_words.specs.Options.{paused}
+use Rattle.run_cert.specs.Heads.{Head, has_root, command_line, stacks_line, height_line, root_line, input_line, height_lines, root_lines, head_lines, MayBeStacks, MayBeHeight, MayBeRoot, IsHead}
 use Rattle.run_cert.specs.Certificates.{Certificate, IsCertOf}
-use Rattle.run_cert.proofs.Joined.{same_front}
 use Rattle.run_cert.proofs.HeadWords.{head_first}
-use Rattle.run_cert.proofs.HeadLinesLemmas.{command_same, stacks_same, height_same, root_same, size_same}
+use Rattle.run_cert.proofs.HeadLinesLemmas.{command_same, labeled_same, stacks_same}
 
 -- the head that says this
 abbrev pub head_made : Command → StackSpec → ℕ → ℕ → ℕ → Head
@@ -22,64 +24,71 @@ abbrev pub cert_made : Head → List ℕ → List ℕ → Certificate
 cert_made h input log_text = record { head = h; input = input; log_text = log_text }
 
 -- the lines behind the first of some stacks are those of one height
-more_same : (s : StackSpec) (h k : ℕ) (ls ms : List (List ℕ)) → MayBeHeight s h → MayBeHeight s k
-    → more_lines s h ++ ls ≡ more_lines s k ++ ms → (h ≡ k) × (ls ≡ ms)
-more_same (Key key) h k ls ms may may' same =
+pub height_same : (s : StackSpec) (h k : ℕ) (ls ms : List (List ℕ)) → MayBeHeight s h → MayBeHeight s k
+    → height_lines s h ++ ls ≡ height_lines s k ++ ms → (h ≡ k) × (ls ≡ ms)
+height_same (Key key) h k ls ms may may' same =
     let line : height_line h ≡ height_line k = cc in
-    let rest : ls ≡ ms = cc in (height_same h k may may' line, rest)
-more_same (Given rows) h k ls ms may may' same = (may ∙ sym may', same)
+    let rest : ls ≡ ms = cc in
+    let high = may.1 in
+    let high' = may'.1 in
+    (labeled_same (codes "height ") h k (omega (arith, high)) (omega (arith, high')) line, rest)
+height_same (Given rows) h k ls ms may may' same = (may ∙ sym may', same)
 
--- the lines from the root on are those of one root and one size
-tail_same : (rooted : Bool) (r q n m : ℕ) (ls ms : List (List ℕ)) → MayBeRoot rooted r → MayBeRoot rooted q
-    → MayBeSize n → MayBeSize m → tail_lines rooted r n ++ ls ≡ tail_lines rooted q m ++ ms → (r ≡ q) × (n ≡ m)
-tail_same true r q n m ls ms may may' fits fits' same =
-    let root : root_line r ≡ root_line q = cc in
-    let size : input_line n ≡ input_line m = cc in (root_same r q may may' root, size_same n m fits fits' size)
-tail_same false r q n m ls ms may may' fits fits' same =
-    let size : input_line n ≡ input_line m = cc in (may ∙ sym may', size_same n m fits fits' size)
+-- those of a root are of one
+pub root_same : (rooted : Bool) (r q : ℕ) (ls ms : List (List ℕ)) → MayBeRoot rooted r → MayBeRoot rooted q
+    → root_lines rooted r ++ ls ≡ root_lines rooted q ++ ms → (r ≡ q) × (ls ≡ ms)
+root_same true r q ls ms may may' same =
+    let line : root_line r ≡ root_line q = cc in
+    let rest : ls ≡ ms = cc in
+    (labeled_same (codes "root ") r q (wide r may.1) (wide q may'.1) line, rest)
+root_same false r q ls ms may may' same = (may ∙ sym may', same)
+
+-- a head whose lines begin with those of a command and of stacks says these, and what stands behind them
+pub record HasBehind (c : Command) (s : StackSpec) (g : Head) (xs ms : List (List ℕ)) : Type 0 where
+  pub head : head_made c s g.height g.root g.size ≡ g
+  pub height : MayBeHeight s g.height
+  pub root : MayBeRoot (has_root c) g.root
+  pub are : xs ≡ height_lines s g.height ++ (root_lines (has_root c) g.root ++ input_line g.size ∷ ms)
+
+pub behind_start : (c : Command) (s : StackSpec) (g : Head) (xs ms : List (List ℕ)) → Contains paused c → MayBeStacks s
+    → IsHead g → command_line c ∷ stacks_line s ∷ xs ≡ head_lines g ++ ms → HasBehind c s g xs ms
+behind_start c s g xs ms may may' is same =
+    let first : command_line c ≡ command_line g.command = cc in
+    let next : stacks_line s ≡ stacks_line g.stacks = cc in
+    let head : head_made c s g.height g.root g.size ≡ g =
+    ap₂ (λ d z. head_made d z g.height g.root g.size) (command_same c g.command may is.command first)
+    (stacks_same s g.stacks may' is.stacks next) in
+    let there = subst IsHead (sym head) is in
+    let lines : command_line c ∷ stacks_line s ∷ xs ≡ head_lines (head_made c s g.height g.root g.size) ++ ms =
+    same ∙ ap (λ h. head_lines h ++ ms) (sym head) in
+    record {
+      head = head;
+      height = there.height;
+      root = there.root;
+      are = ap (drop 2) lines ∙ append_assoc (height_lines s g.height) _ ms
+          ∙ ap (λ l. height_lines s g.height ++ l) (append_assoc (root_lines (has_root c) g.root) _ ms);
+    }
 
 -- lines begin with those of one head
 heads_same : (h g : Head) (ls ms : List (List ℕ)) → IsHead h → IsHead g → head_lines h ++ ls ≡ head_lines g ++ ms
     → h ≡ g
 heads_same h g ls ms is is' same =
-    let more : Head → List (List ℕ) = λ x. more_lines x.stacks x.height in
-    let tail : Head → List (List ℕ) = λ x. tail_lines (has_root x.command) x.root x.size in
-    let first : command_line h.command ≡ command_line g.command = cc in
-    let next : stacks_line h.stacks ≡ stacks_line g.stacks = cc in
-    let behind : (more h ++ tail h) ++ ls ≡ (more g ++ tail g) ++ ms = cc in
-    let commands : h.command ≡ g.command = command_same h.command g.command is.command is'.command first in
-    let stacks : h.stacks ≡ g.stacks = stacks_same h.stacks g.stacks is.stacks is'.stacks next in
-    let height' = subst (λ s. MayBeHeight s g.height) (sym stacks) is'.height in
-    let root' = subst (λ c. MayBeRoot (has_root c) g.root) (sym commands) is'.root in
-    let after : more h ++ (tail h ++ ls) ≡ more_lines h.stacks g.height ++ (tail g ++ ms) =
-    sym (append_assoc (more h) (tail h) ls) ∙ behind ∙ append_assoc (more g) (tail g) ms
-    ∙ ap (λ s. more_lines s g.height ++ (tail g ++ ms)) (sym stacks) in
-    let heights = more_same h.stacks h.height g.height (tail h ++ ls) (tail g ++ ms) is.height height' after in
-    let last : tail h ++ ls ≡ tail_lines (has_root h.command) g.root g.size ++ ms =
-    heights.1 ∙ ap (λ c. tail_lines (has_root c) g.root g.size ++ ms) (sym commands) in
-    let tails = tail_same (has_root h.command) h.root g.root h.size g.size ls ms is.root root' is.size is'.size last in
-    ap (λ c. head_made c h.stacks h.height h.root h.size) commands
-    ∙ ap (λ s. head_made g.command s h.height h.root h.size) stacks
-    ∙ ap (λ n. head_made g.command g.stacks n h.root h.size) heights.0
-    ∙ ap (λ n. head_made g.command g.stacks g.height n h.size) tails.0
-    ∙ ap (λ n. head_made g.command g.stacks g.height g.root n) tails.1
-
--- heads before other bytes
-pub record SameHeads (h g : Head) (x y : List ℕ) : Type 0 where
-  pub heads : h ≡ g
-  pub rest : x ≡ y
+    let own = behind_start h.command h.stacks h _ ls is.command is.stacks is refl in
+    let other = behind_start h.command h.stacks g _ ms is.command is.stacks is' same in
+    let heights = height_same h.stacks h.height g.height _ _ is.height other.height (sym own.are ∙ other.are) in
+    let roots = root_same (has_root h.command) h.root g.root _ _ is.root other.root heights.1 in
+    let line : input_line h.size ≡ input_line g.size = let rest = roots.1 in cc in
+    let sizes = labeled_same (codes "input ") h.size g.size (wide h.size is.size) (wide g.size is'.size) line in
+    ap (λ n. head_made h.command h.stacks n h.root h.size) heights.0
+    ∙ ap₂ (head_made h.command h.stacks g.height) roots.0 sizes ∙ other.head
 
 -- a text begins with one head
 pub heads_cut : (h g : Head) (x y : List ℕ) → IsHead h → IsHead g
-    → concat (head_lines h) ++ x ≡ concat (head_lines g) ++ y → SameHeads h g x y
+    → concat (head_lines h) ++ x ≡ concat (head_lines g) ++ y → (h ≡ g) × (x ≡ y)
 heads_cut h g x y is is' same =
     let heads = heads_same h g (lines_with_ends x) (lines_with_ends y) is is'
     (sym (head_first h x is) ∙ ap lines_with_ends same ∙ head_first g y is') in
-    record {
-      heads = heads;
-      rest = append_cancel_left (concat (head_lines h)) x y
-          (same ∙ ap (λ f. concat (head_lines f) ++ y) (sym heads));
-    }
+    (heads, append_cancel_left (concat (head_lines h)) x y (same ∙ ap (λ f. concat (head_lines f) ++ y) (sym heads)))
 
 -- a text is that of one certificate
 pub one_cert : (bytes : List ℕ) (cert other : Certificate) → IsCertOf bytes cert → IsCertOf bytes other → cert ≡ other
@@ -87,7 +96,10 @@ one_cert bytes cert other is is' =
     let heads = heads_cut cert.head other.head (cert.input ++ cert.log_text) (other.input ++ other.log_text) is.is.head
     is'.is.head (sym is.text_is ∙ is'.text_is) in
     let sizes : length cert.input ≡ length other.input =
-    is.is.size ∙ ap (λ (h : Head). h.size) heads.heads ∙ sym is'.is.size in
-    let parts = same_front cert.input other.input cert.log_text other.log_text sizes heads.rest in
-    ap (λ h. cert_made h cert.input cert.log_text) heads.heads
-    ∙ ap (λ i. cert_made other.head i cert.log_text) parts.0 ∙ ap (λ l. cert_made other.head other.input l) parts.1
+    is.is.size ∙ ap (λ (h : Head). h.size) heads.0 ∙ sym is'.is.size in
+    let inputs : cert.input ≡ other.input =
+    sym (take-append_seam cert.input cert.log_text) ∙ ap₂ take sizes heads.1
+    ∙ take-append_seam other.input other.log_text in
+    ap (λ h. cert_made h cert.input cert.log_text) heads.0
+    ∙ ap₂ (cert_made other.head) inputs
+    (append_cancel_left cert.input cert.log_text other.log_text (heads.1 ∙ ap (λ i. i ++ other.log_text) (sym inputs)))

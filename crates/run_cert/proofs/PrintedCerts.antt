@@ -1,23 +1,11 @@
 -- What is printed of a job that words ask for is the text of its certificate: its stacks, their height and its root may
 -- be said.
-use Rattle.std.proofs.Common.{◌<◌, ◌^◌, ℕ, Bool, true, false, refl}
-use Rattle.pop_stacks.specs.declared.stack_spec.StackSpec.{StackSpec}
-use Rattle.pop_stacks.specs.declared.stack_spec.StackSpec.TheVariants.{Key, Given}
+use Rattle.std.proofs.Common.{refl}
 use Rattle.pop_words.proofs.JobsInRange.{asked_height, asked_root}
-use Rattle.run_cert.specs.Heads.{has_root, MayBeHeight, MayBeRoot}
-use Rattle.run_cert.specs.Certificates.{height_said, root_said}
+use Rattle.run_cert.specs.Heads.{has_root}
 use Rattle.run_cert.specs.Laws.{PrintedIsRead}
 use Rattle.run_cert.proofs.AskedStacks.{asked_stacks}
-
--- a height that words may ask for may be said
-height_may : (s : StackSpec) (h : ℕ) → (0 < h) × (h < 2 ^ 31) → MayBeHeight s (height_said s h)
-height_may (Key key) h bounds = bounds
-height_may (Given rows) h bounds = refl
-
--- so may a root
-root_may : (rooted : Bool) (r : ℕ) → (0 < r) × (r < 2 ^ 32) → MayBeRoot rooted (root_said rooted r)
-root_may true r bounds = bounds
-root_may false r bounds = refl
+use Rattle.run_cert.proofs.HeadLinesLemmas.{height_may, root_may}
 
 -- so the text is that of the certificate
 pub printed_is_read : PrintedIsRead

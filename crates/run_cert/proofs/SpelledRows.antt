@@ -1,12 +1,13 @@
 -- Rows that are printed are read again as they were: they are split at the signs between them, and each number is read
 -- of its digits.
-use Rattle.std.proofs.Common.{inl, inr, ◌≡◌, ◌≢◌, ℕ, ◌<◌, ◌^◌, true, nat_le, nat_lt, if◌then◌else◌, List, [], ◌∷◌, length, map, drop, Option, Some, None, refl, sym, ap, ap₂, subst, ◌∙◌, arith, decimal}
+use Rattle.std.proofs.Common.{inl, inr, ◌≡◌, ◌≢◌, ℕ, suc, ◌<◌, ◌^◌, true, eqb, nat_le, nat_lt, if◌then◌else◌, List, [], ◌∷◌, length, map, drop, Option, Some, None, refl, ap, ap₂, subst, ◌∙◌, arith, decimal}
 use Rattle.std.specs.List.{AllByRecursion, join_with_byte, list_all}
 use Rattle.std.specs.Cmp.Derive.{both_true}
 use Rattle.std.specs.Str.Parse.{digits_value}
 use Rattle.std.proofs.lemmas.Bool.{le-leb, lt-ltb, ne_eqb}
 use Rattle.std.proofs.lemmas.Fmt.{decimal_is_IsNumeral, decimal_nonempty, length-decimal-le}
 use Rattle.std.proofs.lemmas.List.{length-append}
+use Rattle.std.proofs.lemmas.List.Splits.{join_with_byte-slice_split, length-slice_split}
 use Rattle.pop_edge.specs.Numbers.{is_digit, number_of}
 use Rattle.pop_edge.proofs.NumbersLemmas.{number_small}
 use Rattle.pop_stacks.specs.declared.stack_spec.StackSpec.TheVariants.{Given}
@@ -92,45 +93,54 @@ rows_again (row ∷ rows) may =
 -- ---- what is read may be written
 
 -- what is read of a first part and of the others
-pub cons_parts : {Y : Type 0} (a : Option Y) (b : Option (List Y)) (ys : List Y) → cons_some a b ≡ Some ys
+cons_parts : {Y : Type 0} (a : Option Y) (b : Option (List Y)) (ys : List Y) → cons_some a b ≡ Some ys
     → (y : Y) × (zs : List Y) × (a ≡ Some y) × (b ≡ Some zs) × (y ∷ zs ≡ ys)
 cons_parts None b ys same = absurd (cc)
 cons_parts (Some y) None ys same = absurd (cc)
 cons_parts (Some y) (Some zs) ys same = (y, zs, refl, refl, cc)
 
--- where each part gives such a value, all values are such
+-- where each part gives such a value, all values are such, and there are as many
 all_give : {X Y : Type 0} (f : X → Option Y) (P : Y → Type 0) → ((x : X) (y : Y) → f x ≡ Some y → P y)
-    → (xs : List X) (ys : List Y) → all_some f xs ≡ Some ys → AllByRecursion P ys
-all_give {X} {Y} f P gives [] ys same = let none : ◌≡◌ {A = List Y} [] ys = cc in subst (AllByRecursion P) none tt
+    → (xs : List X) (ys : List Y) → all_some f xs ≡ Some ys → AllByRecursion P ys × (length xs ≡ length ys)
+all_give f P gives [] [] same = (tt, refl)
+all_give f P gives [] (y ∷ ys) same = absurd (cc)
 all_give {X} {Y} f P gives (x ∷ xs) ys same =
-    let parts = cons_parts (f x) (all_some f xs) ys same in
-    subst (AllByRecursion P) parts.4 (gives x parts.0 parts.2, all_give f P gives xs parts.1 parts.3)
+    let (y, zs, first, rest, is) = cons_parts (f x) (all_some f xs) ys same in
+    let later = all_give f P gives xs zs rest in
+    subst (λ l. AllByRecursion P l × (suc (length xs) ≡ length l)) is ((gives x y first, later.0), ap suc later.1)
 
 -- the numbers of a row that is read have 32 bits
 row_small : (w row : List ℕ) → row_in w ≡ Some row → RowFits row
-row_small [] row same = let none : ◌≡◌ {A = List ℕ} [] row = cc in subst RowFits none tt
-row_small (b ∷ bs) row same = all_give number_of (λ n. n < 2 ^ 32) number_small (comma_parts (b ∷ bs)) row same
+row_small [] [] same = tt
+row_small [] (n ∷ ns) same = absurd (cc)
+row_small (b ∷ bs) row same = (all_give number_of (λ n. n < 2 ^ 32) number_small (comma_parts (b ∷ bs)) row same).0
 
--- and those of rows, which are within the limits
-pub rows_small : (w : List ℕ) (rows : List (List ℕ)) → rows_in w ≡ Some rows
-    → (are_within rows ≡ true) × AllByRecursion RowFits rows
-rows_small [] rows same =
-    let none : ◌≡◌ {A = List (List ℕ)} [] rows = cc in
-    subst (λ r. (are_within r ≡ true) × AllByRecursion RowFits r) none (refl, tt)
-rows_small (b ∷ bs) rows same =
-    let read = passed are_within (all_some row_in (semicolon_parts (b ∷ bs))) rows same in
-    (read.1, all_give row_in RowFits row_small (semicolon_parts (b ∷ bs)) rows read.0)
+-- an empty row is read of an empty word alone
+empty_row : (w : List ℕ) → row_in w ≡ Some [] → w ≡ []
+empty_row [] same = refl
+empty_row (b ∷ bs) same =
+    let none = (all_give number_of (λ n. n < 2 ^ 32) number_small (comma_parts (b ∷ bs)) [] same).1 in
+    absurd (omega (arith, none, length-slice_split (λ (c : ℕ). eqb c 44) (b ∷ bs)))
 
--- what is read behind the first byte, and spelled so, may stand there
-pub rows_may : (text : List ℕ) (rows : List (List ℕ)) → rows_in (drop 1 text) ≡ Some rows → text ≡ rows_text rows
-    → MayBeStacks (Given rows)
-rows_may text rows read is =
-    let small' = rows_small (drop 1 text) rows read in (
-      λ empty.
-          let none : rows_in (drop 1 text) ≡ Some [] = ap (λ t. rows_in (drop 1 t)) (is ∙ ap rows_text empty) in
-          let nothing : ◌≡◌ {A = Option (List (List ℕ))} (Some []) (Some ([] ∷ [])) =
-          sym none ∙ read ∙ ap (λ (r : List (List ℕ)). Some r) empty in
-          absurd (cc),
-      small'.0,
-      small'.1,
+-- so one empty row is no word
+no_empty_row : (ps : List (List ℕ)) (b : ℕ) (bs : List ℕ) → all_some row_in ps ≡ Some ([] ∷ [])
+    → join_with_byte 59 ps ≡ b ∷ bs → ⊥
+no_empty_row [] b bs same joined = cc
+no_empty_row (p ∷ []) b bs same joined =
+    let (row, rows, first, rest, is) = cons_parts (row_in p) (Some []) ([] ∷ []) same in
+    let none : row ≡ [] = cc in
+    let empty : p ≡ [] = empty_row p (first ∙ ap (λ (r : List ℕ). Some r) none) in cc
+no_empty_row (p ∷ q ∷ ps) b bs same joined =
+    let one = (all_give row_in RowFits row_small (p ∷ q ∷ ps) ([] ∷ []) same).1 in omega (arith, one)
+
+-- rows that are read may be written
+pub rows_read : (w : List ℕ) (rows : List (List ℕ)) → rows_in w ≡ Some rows → MayBeStacks (Given rows)
+rows_read [] [] same = ((λ one. cc), refl, tt)
+rows_read [] (row ∷ rows) same = absurd (cc)
+rows_read (b ∷ bs) rows same =
+    let read = passed are_within (all_some row_in (semicolon_parts (b ∷ bs))) rows same in (
+      λ one. no_empty_row (semicolon_parts (b ∷ bs)) b bs (read.0 ∙ ap (λ (r : List (List ℕ)). Some r) one)
+          (join_with_byte-slice_split 59 (b ∷ bs)),
+      read.1,
+      (all_give row_in RowFits row_small (semicolon_parts (b ∷ bs)) rows read.0).0,
     )

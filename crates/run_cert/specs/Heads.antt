@@ -49,13 +49,9 @@ abbrev pub height_line : ℕ → List ℕ
 height_line height = line (codes "height " ++ decimal height)
 
 -- the lines of stacks behind their first: keyed ones have a height
-abbrev pub more_lines : StackSpec → ℕ → List (List ℕ)
-more_lines (Key key) height = height_line height ∷ []
-more_lines (Given rows) height = []
-
--- the lines of stacks
-abbrev pub stacks_lines : StackSpec → ℕ → List (List ℕ)
-stacks_lines stacks height = stacks_line stacks ∷ more_lines stacks height
+abbrev pub height_lines : StackSpec → ℕ → List (List ℕ)
+height_lines (Key key) height = height_line height ∷ []
+height_lines (Given rows) height = []
 
 -- `root R`
 abbrev pub root_line : ℕ → List ℕ
@@ -65,16 +61,18 @@ root_line root = line (codes "root " ++ decimal root)
 abbrev pub input_line : ℕ → List ℕ
 input_line size = line (codes "input " ++ decimal size)
 
--- the lines from the root on, where there is one
-abbrev pub tail_lines : Bool → ℕ → ℕ → List (List ℕ)
-tail_lines true root size = root_line root ∷ input_line size ∷ []
-tail_lines false root size = input_line size ∷ []
+-- the line of the root, where there is one
+abbrev pub root_lines : Bool → ℕ → List (List ℕ)
+root_lines true root = root_line root ∷ []
+root_lines false root = []
 
 -- the lines of a head, each with its end
 abbrev pub head_lines : Head → List (List ℕ)
 head_lines h =
     command_line h.command
-    ∷ stacks_lines h.stacks h.height ++ tail_lines (has_root h.command) h.root h.size
+    ∷ stacks_line h.stacks
+    ∷ height_lines h.stacks h.height
+    ++ (root_lines (has_root h.command) h.root ++ input_line h.size ∷ [])
 
 -- Keys have 32 bytes; rows are within the limits of words, and their numbers have 32 bits. Just one
 -- empty row can't be written: an empty word is no row.
@@ -84,9 +82,13 @@ MayBeStacks (Given rows) =
     (rows ≢ [] ∷ []) × (are_within rows ≡ true)
     × AllByRecursion (AllByRecursion (λ n. n < 2 ^ 32)) rows
 
+-- a height of keyed stacks
+abbrev pub IsHeight : ℕ → Type 0
+IsHeight height = (0 < height) × (height < 2 ^ 31)
+
 -- keyed stacks have a height from 1 on, and given ones that which words have by default
 abbrev pub MayBeHeight : StackSpec → ℕ → Type 0
-MayBeHeight (Key key) height = (0 < height) × (height < 2 ^ 31)
+MayBeHeight (Key key) height = IsHeight height
 MayBeHeight (Given rows) height = height ≡ 2 ^ 20
 
 -- a root is from 1 on; it is 1 where the head has none

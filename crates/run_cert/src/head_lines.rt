@@ -1,14 +1,14 @@
 //! What a line of a head says. A line is read loosely and then spelled again, so that it is
 //! accepted only as it is printed.
-ghost use Rattle.std.specs.Prelude.{◌≡◌, ◌<◌, ◌≤◌, ◌++◌, ◌↔◌, ℕ, List, drop, slice_index, true, decimal, IfOk, IsTrue, MatchOption};
+ghost use Rattle.std.specs.Prelude.{◌≡◌, ◌<◌, ◌≤◌, ◌++◌, ◌↔◌, ℕ, List, drop, true, decimal, Contains, IfOk, IsTrue, MatchOption};
 ghost use Rattle.std.specs.List.{find};
 ghost use Rattle.std.specs.Str.{bytes_eq};
 ghost use Rattle.pop_model.specs.Text.{line as line_of};
 ghost use Rattle.hex.specs.Hex.{encode_lower};
 ghost use Rattle.pop_stacks.specs.declared.stack_spec.StackSpec.TheVariants.{Key, Given};
 ghost use Rattle.pop_words.specs.Options.{command_word, paused};
-ghost use Rattle.run_cert.specs.Heads.{command_line, height_line, input_line, root_line, rows_text, stacks_line, MayBeRoot, MayBeSize, MayBeStacks};
-ghost use Rattle.run_cert.specs.HeadLines.{IsHeight, MayBeCommand, Says};
+ghost use Rattle.run_cert.specs.Heads.{command_line, height_line, input_line, root_line, rows_text, stacks_line, IsHeight, MayBeRoot, MayBeSize, MayBeStacks};
+ghost use Rattle.run_cert.specs.HeadLines.{Says};
 
 use crate::rows_text::push_rows;
 use pop_log::number;
@@ -92,7 +92,7 @@ fn paused_named(word: &[u8]) -> Option<Command>
 
 /// The command that the first line says.
 pub(crate) fn command_in(line: &[u8]) -> Option<Command>
-    ensures { Says MayBeCommand command_line line.now result }
+    ensures { Says (Contains paused) command_line line.now result }
 {
     let Some(word) = behind(b"cert 1 ", line) else {
         return None;
@@ -106,11 +106,6 @@ fn are_same(a: &[u8], b: &[u8]) -> bool
     a == b
 }
 
-// Says of bytes that they are below 256.
-fn are_bytes(bytes: &[u8])
-    ensures { (i : ℕ) → slice_index bytes.now i < 256 }
-{}
-
 // The bytes of a key that these digits are.
 fn key_of(alloc: Global, digits: &[u8]) -> Result<Option<[u8; 32]>, AllocError>
     ensures { IfOk result (Says (λ key. MayBeStacks (Key key)) encode_lower digits.now) }
@@ -118,7 +113,6 @@ fn key_of(alloc: Global, digits: &[u8]) -> Result<Option<[u8; 32]>, AllocError>
     let Some(key) = key_in(digits) else {
         return Ok(None);
     };
-    are_bytes(&key);
     let again = hex::encode(alloc, &key)?;
     if !are_same(again.as_bytes(), digits) {
         return Ok(None);

@@ -7,11 +7,13 @@ pub fn one_certificate()
 {}
 
 /// The text of a certificate is refused for want of memory alone.
+#[tactic(auto, using(crate::proofs::Unrefused::unrefused))]
 pub fn not_refused()
     ensures { NotRefused }
 {}
 
 /// Bytes are refused in one way, but for want of memory: at one line, by one code.
+#[tactic(auto, using(crate::proofs::Unrefused::one_refusal))]
 pub fn one_refusal()
     ensures { OneRefusal }
 {}

@@ -15,7 +15,6 @@ mod printing;
 mod reading;
 mod rows_text;
 mod seen;
-mod tail;
 
 pub use cert::Cert;
 pub use cert_refusal::CertRefusal;

@@ -57,57 +57,7 @@ pub fn look(alloc: Global, instance: &Instance, cursors: &Cursors) -> Result<See
     let mut reader = Reader::keeping(alloc, instance.stacks())?;
     let stuck = occurring(alloc, instance, &mut reader, cursors)?;
     let look = look_of(instance, &mut reader, cursors, &stuck);
-    drop(reader);
     Ok(Seen { look, stuck })
-}
-
-// The run from zeros, to an end or to so many pops, by a reader that is lent.
-fn stopped_by(
-    alloc: Global,
-    instance: &Instance,
-    indexed: &Indexed,
-    reader: &mut Reader,
-    limit: u64,
-) -> Result<Part, AllocError>
-    requires indexed { indexed.now ≡ instance.now }
-    requires belongs { Belongs instance.now.stacks reader.old }
-    ensures part { IfOk result (IsStopped instance.now limit) }
-    ensures count { IfOk result (λ part. variables_of instance.now.stacks ≡ length part.cursors) }
-    ensures within { IfOk result (λ part. AreWithin instance.now.stacks part.cursors) }
-{
-    let opening = Reached::opening(alloc, instance, Keep::Log)?;
-    let reached = indexed.advance(alloc, reader, opening, limit)?;
-    match indexed.stuck(alloc, reader, &reached) {
-        Ok(stuck) => {
-            let look = look_of(instance, reader, &reached.cursors, &stuck);
-            let Reached { cursors, log, .. } = reached;
-            let Some(log) = log else { unreachable!() };
-            let seen = Seen { look, stuck };
-            Ok(Part { cursors, log, seen })
-        }
-        Err(error) => {
-            drop(reached);
-            Err(error)
-        }
-    }
-}
-
-// The same by a reader of its own.
-fn stopped(
-    alloc: Global,
-    instance: &Instance,
-    indexed: &Indexed,
-    limit: u64,
-) -> Result<Part, AllocError>
-    requires indexed { indexed.now ≡ instance.now }
-    ensures part { IfOk result (IsStopped instance.now limit) }
-    ensures count { IfOk result (λ part. variables_of instance.now.stacks ≡ length part.cursors) }
-    ensures within { IfOk result (λ part. AreWithin instance.now.stacks part.cursors) }
-{
-    let mut reader = Reader::keeping(alloc, instance.stacks())?;
-    let part = stopped_by(alloc, instance, indexed, &mut reader, limit);
-    drop(reader);
-    part
 }
 
 /// The run from zeros on one thread, to an end or to so many pops.
@@ -117,7 +67,14 @@ pub fn run_part(alloc: Global, instance: &Instance, limit: u64) -> Result<Part, 
     ensures within { IfOk result (λ part. AreWithin instance.now.stacks part.cursors) }
 {
     let index = instance.index(alloc)?;
-    let part = stopped(alloc, instance, &Indexed::of(instance, &index), limit);
-    drop(index);
-    part
+    let indexed = Indexed::of(instance, &index);
+    let mut reader = Reader::keeping(alloc, instance.stacks())?;
+    let opening = Reached::opening(alloc, instance, Keep::Log)?;
+    let reached = indexed.advance(alloc, &mut reader, opening, limit)?;
+    let stuck = indexed.stuck(alloc, &mut reader, &reached)?;
+    let look = look_of(instance, &mut reader, &reached.cursors, &stuck);
+    let Reached { cursors, log, .. } = reached;
+    let Some(log) = log else { unreachable!() };
+    let seen = Seen { look, stuck };
+    Ok(Part { cursors, log, seen })
 }

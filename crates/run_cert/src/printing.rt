@@ -2,12 +2,11 @@
 ghost use Rattle.std.specs.Prelude.{◌≡◌, ◌<◌, ◌^◌, ◌++◌, length, decimal, IfOk, OnOk};
 ghost use Rattle.std.specs.List.{concat};
 ghost use Rattle.pop_model.specs.Text.{line};
-ghost use Rattle.pop_stacks.specs.declared.stack_spec.StackSpec.TheVariants.{Key, Given};
-ghost use Rattle.run_cert.specs.Heads.{command_line, has_root as has_root_of, head_lines, height_line, stacks_line, stacks_lines, tail_lines};
+ghost use Rattle.run_cert.specs.Heads.{command_line, has_root as has_root_of, head_lines, height_lines, root_lines, stacks_line};
 ghost use Rattle.run_cert.specs.Certificates.{cert_of, cert_text, head_of, height_said, root_said};
 
 use crate::rows_text::push_rows;
-use pop_stacks::{Rows, StackSpec};
+use pop_stacks::StackSpec;
 use pop_text::Output;
 use pop_words::{Command, Job};
 use std::alloc::{AllocError, Global};
@@ -40,52 +39,45 @@ fn push_command(out: &mut Output, command: Command) -> Result<(), AllocError>
     out.push(b"\n")
 }
 
-// The lines of a key and a height.
-fn push_key(alloc: Global, out: &mut Output, key: &[u8], height: u32) -> Result<(), AllocError>
-    ensures { OnOk result (out.new
-        ≡ out.old ++ (stacks_line (Key key.now) ++ height_line height)) }
-{
-    let digits = hex::encode(alloc, key)?;
-    out.push(b"key ")?;
-    out.push(digits.as_bytes())?;
-    out.push(b"\n")?;
-    push_labeled(out, b"height ", u64::from(height))
-}
-
-// The line of given rows.
-fn push_given(out: &mut Output, rows: &Rows) -> Result<(), AllocError>
-    ensures { OnOk result (out.new ≡ out.old ++ stacks_line (Given rows.now)) }
-{
-    out.push(b"stacks")?;
-    push_rows(out, rows)?;
-    out.push(b"\n")
-}
-
-// The lines of the stacks.
-fn push_stacks(
-    alloc: Global,
-    out: &mut Output,
-    stacks: &StackSpec,
-    height: u32,
-) -> Result<(), AllocError>
-    ensures { OnOk result (out.new
-        ≡ out.old ++ concat (stacks_lines stacks.now (height_said stacks.now height))) }
+// The line of stacks.
+fn push_stacks(alloc: Global, out: &mut Output, stacks: &StackSpec) -> Result<(), AllocError>
+    ensures { OnOk result (out.new ≡ out.old ++ stacks_line stacks.now) }
 {
     match stacks {
-        StackSpec::Key(key) => push_key(alloc, out, key, height),
-        StackSpec::Given(rows) => push_given(out, rows),
+        StackSpec::Key(key) => {
+            let digits = hex::encode(alloc, key)?;
+            out.push(b"key ")?;
+            out.push(digits.as_bytes())?;
+            out.push(b"\n")
+        }
+        StackSpec::Given(rows) => {
+            out.push(b"stacks")?;
+            push_rows(out, rows)?;
+            out.push(b"\n")
+        }
     }
 }
 
-// The line of the root, where there is one, and that of the input.
-fn push_tail(out: &mut Output, rooted: bool, root: u32, size: u64) -> Result<(), AllocError>
+// The line of the height of these stacks, where they have one.
+fn push_height(out: &mut Output, stacks: &StackSpec, height: u32) -> Result<(), AllocError>
     ensures { OnOk result (out.new
-        ≡ out.old ++ concat (tail_lines rooted (root_said rooted root) size)) }
+        ≡ out.old ++ concat (height_lines stacks.now (height_said stacks.now height))) }
+{
+    match stacks {
+        StackSpec::Key(_) => push_labeled(out, b"height ", u64::from(height)),
+        StackSpec::Given(_) => Ok(()),
+    }
+}
+
+// The line of the root, where there is one.
+fn push_root(out: &mut Output, rooted: bool, root: u32) -> Result<(), AllocError>
+    ensures { OnOk result (out.new
+        ≡ out.old ++ concat (root_lines rooted (root_said rooted root))) }
 {
     if rooted {
         push_labeled(out, b"root ", u64::from(root))?;
     }
-    push_labeled(out, b"input ", size)
+    Ok(())
 }
 
 // The head of a job, with so many bytes of input.
@@ -94,8 +86,10 @@ fn head_text(alloc: Global, job: &Job, size: u64) -> Result<Vec<u8>, AllocError>
 {
     let mut out = Output::with_room(alloc, HEAD_ROOM)?;
     push_command(&mut out, job.command)?;
-    push_stacks(alloc, &mut out, &job.stacks, job.height)?;
-    push_tail(&mut out, has_root(job.command), job.root, size)?;
+    push_stacks(alloc, &mut out, &job.stacks)?;
+    push_height(&mut out, &job.stacks, job.height)?;
+    push_root(&mut out, has_root(job.command), job.root)?;
+    push_labeled(&mut out, b"input ", size)?;
     Ok(out.into_bytes())
 }
 

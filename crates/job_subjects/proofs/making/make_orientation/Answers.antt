@@ -3,12 +3,11 @@ use Rattle.pop_model.specs.Stacks.{StackTable}
 use Rattle.pop_stacks.specs.Faults.{IsSound}
 use Rattle.pop_print.specs.declared.facts.Facts.TheVariants.{Orient as OrientFacts}
 use Rattle.job_subjects.specs.Refusals.{IsRefusal, unoriented}
-use Rattle.job_subjects.specs.StackFaults.{AreFaulty}
+use Rattle.job_subjects.specs.StackFaults.{AreFew, RefusesStacks}
 use Rattle.job_subjects.specs.Refused.{RefusesOrienting}
 use Rattle.job_subjects.specs.Subjects.{pair_weights, instance_of, orientations}
 use Rattle.job_subjects.proofs.Carrying.{refused_error, passed_refusal}
-use Rattle.job_subjects.proofs.RefusedStacks.{pairs_are, few_pairs, many_refused, fault_refused}
-use Rattle.job_subjects.proofs.RefusedForms.{sinks_refused}
+use Rattle.job_subjects.proofs.RefusedForms.{pairs_refused, sinks_refused}
 use Rattle.job_subjects.proofs.making.make_orientation.Goals as goal
 
 -- a vertex is isolated
@@ -19,38 +18,19 @@ returns-in_err-events-clause-refused c =
     (unoriented fault) c.from_residual.ensures.1
     (sinks_refused c.args.origin c.args.count c.args.graph fault c.in_err-events.ensures.fault)
 
--- too many samples are asked for
-pub returns-in_err-refuse_too_many-clause-refused : goal.returns-in_err-refuse_too_many-clause-refused
-returns-in_err-refuse_too_many-clause-refused c =
-    let g = c.args.graph in
-    let n = c.edges-edges.result in
-    refused_error (IsRefusal (RefusesOrienting c.args.origin c.args.count g))
-    c.from_residual-in_err-refuse_too_many.result c.in_err-refuse_too_many.field-0.0
-    c.from_residual-in_err-refuse_too_many.ensures.1
-    (inr (inr (
-      c.in_ok-events.ensures.touched,
-      many_refused (OrientFacts g) c.args.origin
-          (pair_weights (length g.edges)) c.args.count n (pairs_are n (length g.edges) c.edges-edges.ensures.count)
-          c.in_err-refuse_too_many.field-0.0 c.in_err-refuse_too_many.ensures.many,
-    )))
-
 -- the stacks are refused
 pub returns-in_err-stacks-clause-refused : goal.returns-in_err-stacks-clause-refused
 returns-in_err-stacks-clause-refused c =
     let g = c.args.graph in
-    let n = c.edges-edges.result in
-    let count : n ≡ length g.edges = c.edges-edges.ensures.count in
-    passed_refusal (AreFaulty (OrientFacts g) c.args.origin c.pairs.result)
+    passed_refusal (RefusesStacks (OrientFacts g) c.args.origin c.pairs.result c.args.count)
     (RefusesOrienting c.args.origin c.args.count g) c.from_residual-in_err-stacks.result c.in_err-stacks.field-0.0
     c.from_residual-in_err-stacks.ensures.1
     (λ r h. inr (
       c.in_ok-events.ensures.touched,
-      fault_refused (OrientFacts g) c.args.origin
-          (pair_weights (length g.edges)) c.args.count n (pairs_are n (length g.edges) count)
-          c.in_ok-refuse_too_many.ensures.few r
-          (subst (λ w. AreFaulty (OrientFacts g) c.args.origin w r) (c.pairs.ensures ∙ ap pair_weights count) h),
+      pairs_refused (λ n. OrientFacts g) c.args.origin c.args.count
+          c.pairs.result c.edges-edges.result (length g.edges) c.pairs.ensures c.edges-edges.ensures.count r h,
     ))
-    c.in_err-stacks.ensures.fault
+    c.in_err-stacks.ensures.refused
 
 pub returns-clause-made : goal.returns-clause-made
 returns-clause-made c =
@@ -58,6 +38,7 @@ returns-clause-made c =
     let events = c.in_ok-events.events in
     let n = c.edges-edges.result in
     let count : n ≡ length graph.edges = c.edges-edges.ensures.count in
+    let weights : c.pairs.result ≡ pair_weights (length graph.edges) = c.pairs.ensures ∙ ap pair_weights count in
     let same : c.of_events-instance.result ≡ instance_of c.args.origin n events =
     c.of_events-instance.ensures
     ∙ ap (λ (s : StackTable). instance_of s.origin n events) c.in_ok-stacks.ensures.made in
@@ -72,7 +53,7 @@ returns-clause-made c =
       over = record {
         facts_are = refl;
         instance_is = same ∙ ap (λ k. instance_of c.args.origin k events) count;
-        sound = subst (IsSound c.args.origin) (c.pairs.ensures ∙ ap pair_weights count) c.in_ok-stacks.ensures.sound;
-        few = few_pairs c.args.count n (length graph.edges) count c.in_ok-refuse_too_many.ensures.few;
+        sound = subst (IsSound c.args.origin) weights c.in_ok-stacks.ensures.sound;
+        few = subst (λ w. AreFew c.args.count (length w)) weights c.in_ok-stacks.ensures.few;
       };
     }

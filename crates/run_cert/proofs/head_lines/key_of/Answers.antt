@@ -1,9 +1,8 @@
-use Rattle.std.proofs.Common.{◌≡◌, ◌<◌, None, Some, length, sym, ◌∙◌, ap, refl}
+use Rattle.std.proofs.Common.{◌≡◌, None, Some, sym, ◌∙◌, ap, refl}
 use Rattle.std.proofs.lemmas.Bool.{false≢true}
 use Rattle.std.proofs.lemmas.Option.{same_Some}
-use Rattle.std.specs.List.{AllByRecursion}
 use Rattle.hex.specs.Hex.{encode_lower}
-use Rattle.run_cert.proofs.HeadLinesLemmas.{bytes_all, key_again, key_sized}
+use Rattle.run_cert.proofs.HeadLinesLemmas.{key_again, key_read}
 use Rattle.run_cert.proofs.head_lines.key_of.Goals as goal
 
 pub returns-in_default : goal.returns-in_default
@@ -18,11 +17,7 @@ returns-then-not-are_same c key may is =
     (c.as_bytes.ensures.value ∙ c.in_ok-again.ensures ∙ ap encode_lower one ∙ sym is))
 
 pub returns : goal.returns
-returns c =
-    let spelled : c.args.digits.now ≡ encode_lower c.in-Some.key =
-    sym (c.if-not-are_same.ensures.0 refl) ∙ c.as_bytes.ensures.value ∙ c.in_ok-again.ensures in
-    let sized : length c.in-Some.key ≡ 32 = key_sized c.args.digits.now c.in-Some.key (sym c.in-Some.ensures) spelled in
-    let bytes : AllByRecursion (λ b. b < 256) c.in-Some.key = bytes_all c.in-Some.key c.are_bytes.ensures in (
-      (sized, bytes),
-      spelled,
-    )
+returns c = (
+  key_read c.args.digits.now c.in-Some.key (sym c.in-Some.ensures),
+  sym (c.if-not-are_same.ensures.0 refl) ∙ c.as_bytes.ensures.value ∙ c.in_ok-again.ensures,
+)

@@ -3,7 +3,7 @@ use Rattle.std.proofs.lemmas.Bool.{false≢true}
 use Rattle.std.proofs.lemmas.Option.{same_Some}
 use Rattle.pop_words.specs.Values.{rows_in}
 use Rattle.run_cert.specs.Heads.{rows_text}
-use Rattle.run_cert.proofs.SpelledRows.{rows_again, rows_may}
+use Rattle.run_cert.proofs.SpelledRows.{rows_again, rows_read}
 use Rattle.run_cert.proofs.head_lines.rows_of.Goals as goal
 
 pub returns-in_default : goal.returns-in_default
@@ -22,11 +22,8 @@ returns-then-not-are_same c rows may is =
     ∙ ap (λ (o : List ℕ). o ++ rows_text c.in-Some.rows) c.in_ok-out.ensures ∙ ap rows_text one ∙ sym is))
 
 pub returns : goal.returns
-returns c =
-    let read : rows_in (drop 1 c.args.text.now) ≡ Some c.in-Some.rows =
-    sym (c.in_ok-rows.ensures ∙ ap rows_in c.behind_first.ensures) ∙ c.in-Some.is in
-    let spelled : c.args.text.now ≡ rows_text c.in-Some.rows =
-    sym (c.if-not-are_same.ensures.0 refl) ∙ c.deref.ensures.value ∙ c.into_bytes-again.ensures
-    ∙ c.in_ok-push_rows.ensures
-    ∙ ap (λ (o : List ℕ). o ++ rows_text c.in-Some.rows) c.in_ok-out.ensures in
-    (rows_may c.args.text.now c.in-Some.rows read spelled, spelled)
+returns c = (
+  rows_read c.behind_first.result.now c.in-Some.rows (sym (c.in_ok-rows.ensures) ∙ c.in-Some.is),
+  sym (c.if-not-are_same.ensures.0 refl) ∙ c.deref.ensures.value ∙ c.into_bytes-again.ensures
+      ∙ c.in_ok-push_rows.ensures ∙ ap (λ (o : List ℕ). o ++ rows_text c.in-Some.rows) c.in_ok-out.ensures,
+)

@@ -4,15 +4,15 @@ use Rattle.pop_model.specs.Logs.{IsLegal, replay}
 use Rattle.pop_model.specs.Runs.{IsStuckList, start_of}
 use Rattle.confluence_core.specs.Stretches.{GoesOn, IsReached, before_pops}
 use Rattle.confluence_core.proofs.Reaching.{goes_then, unsuspected_end}
-use Rattle.run_cert.proofs.looking.stopped_by.Goals as goal
+use Rattle.run_cert.proofs.looking.run_part.Goals as goal
 
-pub returns-in-Some-clause-part : goal.returns-in-Some-clause-part
-returns-in-Some-clause-part c =
+pub returns-clause-part : goal.returns-clause-part
+returns-clause-part c =
     let i = c.args.instance.now in
     let opening = c.in_ok-opening.opening in
     let reached = c.in_ok-reached.reached in
     let left = c.in_ok-reached.ensures in
-    let on : GoesOn i opening reached = subst (λ x. GoesOn x opening reached) c.requires.indexed left.on in
+    let on : GoesOn i opening reached = subst (λ x. GoesOn x opening reached) c.of-indexed.ensures left.on in
     let whole : IsReached i (start_of i) true reached =
     goes_then i (before_pops (start_of i) true) opening reached c.in_ok-opening.ensures.reached on in
     let log : c.in-Some.log ≡ whole.leads.log = same_Some _ _ (sym c.in-Some.is ∙ whole.leads.log_is) in
@@ -24,8 +24,8 @@ returns-in-Some-clause-part c =
         cursors_are = whole.leads.cursors_are ∙ ap (replay (start_of i)) (sym log);
         seen = record {
           look = c.look_of-look.ensures;
-          stuck_list = subst (λ x. IsStuckList x reached.cursors c.in-Ok.stuck) c.requires.indexed
-              c.in-Ok.ensures.stuck_list;
+          stuck_list = subst (λ x. IsStuckList x reached.cursors c.in_ok-stuck.stuck) c.of-indexed.ensures
+              c.in_ok-stuck.ensures.stuck_list;
         };
       };
       most = omega (arith, most, size);
