@@ -1,7 +1,6 @@
 -- A pop whose record is put behind the log leaves a book.
 use Rattle.std.proofs.Common.{◌≡◌, ℕ, true, List, [], ◌∷◌, ◌++◌, length, Some, refl, sym, ap, subst, ◌∙◌}
 use Rattle.std.proofs.lemmas.List.{length-append}
-use Rattle.pop_model.specs.Stacks.{variables_of}
 use Rattle.pop_model.specs.Popping.{AreWithin, IsPoppable, pop}
 use Rattle.pop_model.specs.Families.{Event, IsEvent}
 use Rattle.pop_model.specs.Instances.{Instance}
@@ -10,7 +9,7 @@ use Rattle.pop_model.proofs.PopLemmas.{length-pop}
 use Rattle.pop_model.proofs.Room.{within_pop}
 use Rattle.confluence_core.specs.Records.{record_at}
 use Rattle.confluence_core.specs.Stretches.{LeadsOn, before_pops}
-use Rattle.confluence_core.proofs.Reaching.{leads_none, leads_then}
+use Rattle.confluence_core.proofs.Reaching.{leads_then}
 use Rattle.lock_board.specs.Books.{Progress, IsBook, reached_in}
 
 -- the pop of an event whose record is put behind the log

@@ -48,9 +48,7 @@ IsAnswerOf i old new e OutOfMemory = new ≡ old
 
 -- the answer says what stands at the unit; all but `Popped` leave the book as it was
 abbrev pub IsAnswer : Instance → Progress → Progress → ℕ → Attempt → Type 0
-IsAnswer i old new unit Popped =
-    (e : Event) × IsEventFrom i old.cursors unit e × PopsEvent i old new e
 IsAnswer i old new unit Absent = HasNoneAt i.family i.stacks old.cursors unit × (new ≡ old)
-IsAnswer i old new unit Stuck =
-    (e : Event) × IsEventFrom i old.cursors unit e × IsStuck i old.cursors e × (new ≡ old)
 IsAnswer i old new unit OutOfMemory = new ≡ old
+IsAnswer i old new unit answer =
+    (e : Event) × IsEventFrom i old.cursors unit e × IsAnswerOf i old new e answer

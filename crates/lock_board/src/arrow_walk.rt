@@ -66,17 +66,16 @@ pub(crate) fn variable_of_cycle(
     let count = current.count();
     let mut from = start;
     let mut steps = 1;
-    'laps: while steps < count {
-        match lap_from(current, reader, cursors, from, steps) {
+    'laps: loop {
+        let lap = count.min(steps);
+        match lap_from(current, reader, cursors, from, lap) {
             Lap::Root => return None,
             Lap::Back => return Some(from),
             Lap::On(v) => from = v,
         }
+        if lap == count {
+            return Some(from);
+        }
         steps *= 2;
-    }
-    match lap_from(current, reader, cursors, from, count) {
-        Lap::Root => None,
-        Lap::Back => Some(from),
-        Lap::On(v) => Some(v),
     }
 }

@@ -5,7 +5,6 @@ ghost use Rattle.pop_model.specs.Families.{IsEvent, units_of};
 ghost use Rattle.pop_model.specs.Families.Family.{Listed as ListedEvents, Cycles as CycleEvents};
 ghost use Rattle.pop_model.specs.Runs.{start_of};
 ghost use Rattle.pop_stacks.specs.Readers.{Belongs};
-ghost use Rattle.confluence_core.specs.ArrowWalks.{IsFoundAt};
 ghost use Rattle.lock_board.specs.Books.{IsBook};
 ghost use Rattle.lock_board.specs.Attempts.{IsAnswer, IsAnswerOf, PopsEvent};
 
@@ -141,26 +140,6 @@ impl<'i, N: Site> Book<'i, N> {
         self.attempt_event(alloc, reader, unit, cube)
     }
 
-    // The cycle that occurs to which the arrows lead from a unit.
-    fn cycle_at(
-        &self,
-        alloc: Global,
-        reader: &mut Reader,
-        arrows: &Arrows,
-        unit: u32,
-    ) -> Result<Option<Cube>, AllocError>
-        requires family { N.instance.family ≡ CycleEvents arrows.now }
-        requires known { unit < units_of N.instance.family }
-        requires belongs { Belongs N.instance.stacks reader.old }
-        ensures found { IfOk result (IsFoundAt
-            (record { stacks = N.instance.stacks; heads = arrows.now }) self.now.cursors unit) }
-        ensures reader { reader.new ≡ reader.old }
-    {
-        let _units = self.instance.units();
-        let current = CurrentArrows::of(self.instance.stacks(), arrows);
-        cycle_from(alloc, &current, reader, &self.cursors, unit)
-    }
-
     // Pops the cycle to which the arrows lead from a unit, where it is poppable.
     fn attempt_cycle(
         &mut self,
@@ -176,7 +155,8 @@ impl<'i, N: Site> Book<'i, N> {
         ensures reader { reader.new ≡ reader.old }
     {
         let _units = self.instance.units();
-        match self.cycle_at(alloc, reader, arrows, unit) {
+        let current = CurrentArrows::of(self.instance.stacks(), arrows);
+        match cycle_from(alloc, &current, reader, &self.cursors, unit) {
             Ok(Some(cube)) => {
                 let (least, _) = cube.pair(0);
                 self.attempt_event(alloc, reader, least, &cube)

@@ -1,5 +1,5 @@
 -- Ends that come of the numbers of samples, one by one, are those of the samples.
-use Rattle.std.proofs.Common.{◌≡◌, ℕ, zero, suc, ◌+◌, List, [], ◌∷◌, map, slice_get, Some, Vec, Result, Ok, Err, IfOk, MatchResult, Contains, sym, subst, ◌∙◌, arith}
+use Rattle.std.proofs.Common.{◌≡◌, ℕ, zero, suc, ◌+◌, List, [], ◌∷◌, ◌++◌, map, slice_get, Some, Vec, Result, Ok, Err, IfOk, MatchResult, Contains, sym, subst, ◌∙◌, arith}
 use Rattle.std.specs.List.{AllZip, range_with_len}
 use Rattle.std.proofs.lemmas.Option.{none-some, same_Some}
 use Rattle.std.proofs.lemmas.List.FromFn.{length-range_with_len}
@@ -28,8 +28,25 @@ zipped P a (suc n) (x ∷ ys) all zero k y at is =
     subst (P k) same (subst (λ m. P m x) here all.0)
 zipped P a (suc n) (x ∷ ys) all (suc j) k y at is = zipped P (a + 1) n ys all.1 j k y (omega (arith, at)) is
 
+-- one more behind what came of the numbers from a on
+push_zip : {B : Type 0} (P : ℕ → B → Type 0) (a n : ℕ) (ys : List B) (y : B) → AllZip P (range_with_len a n) ys
+    → P (a + n) y → AllZip P (range_with_len a (suc n)) (ys ++ y ∷ [])
+push_zip P a zero [] y all next = (subst (λ k. P k y) (omega arith) next, tt)
+push_zip P a zero (x ∷ ys) y all next = absurd all
+push_zip P a (suc n) [] y all next = absurd all
+push_zip P a (suc n) (x ∷ ys) y all next =
+    (all.0, push_zip P (a + 1) n ys y all.1 (subst (λ k. P k y) (omega arith) next))
+
+-- the end of the next sample behind those of so many
+pub one_more : (i : Instance) (j n : ℕ) (ends : List End) (end : End) → n ≡ suc j
+    → AllZip (IsSampleEnd i) (range_with_len 0 j) ends → IsSampleEnd i j end
+    → AllZip (IsSampleEnd i) (range_with_len 0 n) (ends ++ end ∷ [])
+one_more i j n ends end is all next =
+    subst (λ m. AllZip (IsSampleEnd i) (range_with_len 0 m) (ends ++ end ∷ [])) (sym is)
+    (push_zip (IsSampleEnd i) 0 j ends end all (subst (λ k. IsSampleEnd i k end) (omega arith) next))
+
 -- the ends of so many samples from 0 on
-ends_of : (i : Instance) (count : ℕ) (ends : List End) → AllZip (IsSampleEnd i) (range_with_len 0 count) ends
+pub ends_of : (i : Instance) (count : ℕ) (ends : List End) → AllZip (IsSampleEnd i) (range_with_len 0 count) ends
     → AreEnds i count ends
 ends_of i count ends all = record {
   count_is = AllZip-long (IsSampleEnd i) (range_with_len 0 count) ends all ∙ length-range_with_len 0 count;
