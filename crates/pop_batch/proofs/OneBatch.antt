@@ -27,10 +27,9 @@ one_sample_end i j end other extremal is is' =
     is'.first in
     let values : end.values ≡ other.values =
     is.over.values.are ∙ ap (values_at (stacks_for j i.stacks)) ends.cursors ∙ sym is'.over.values.are in
-    ap (λ c. end_of c end.pops end.stuck end.values) ends.cursors
-    ∙ ap (λ n. end_of other.cursors n end.stuck end.values) ends.pops
-    ∙ ap (λ s. end_of other.cursors other.pops s end.values) ends.stuck
-    ∙ ap (end_of other.cursors other.pops other.stuck) values
+    let parts : end_of end.cursors end.pops end.stuck end.values
+    ≡ end_of other.cursors other.pops other.stuck other.values = cc in
+    parts
 
 -- so many samples have one list of ends
 pub one_batch : OneBatch

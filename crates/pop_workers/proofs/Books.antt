@@ -1,5 +1,5 @@
 -- What workers leave of a book that they share is a stretch of a run from where it opened, with every unit a suspect.
-use Rattle.std.proofs.Common.{◌≡◌, ℕ, Bool, true, false, cond, List, [], length, Option, Some, None, refl, ◌∙◌}
+use Rattle.std.proofs.Common.{◌≡◌, ℕ, Bool, true, false, cond, List, [], length, Some, None, refl}
 use Rattle.std.specs.List.{range_with_len}
 use Rattle.pop_model.specs.Families.{units_of}
 use Rattle.pop_model.specs.Instances.{Instance}
@@ -14,17 +14,20 @@ kept_behind : (keeps : Bool) (all log : List LogRecord) → Some all ≡ with_mo
 kept_behind true all log is = is
 kept_behind false all log is = refl
 
-pub book_reached : (i : Instance) (start : List ℕ) (keeps : Bool) (b : Progress) (pops : ℕ)
-    (kept : Option (List LogRecord)) (suspects : List ℕ) → IsBook i start b → pops ≡ length b.log
-    → kept ≡ cond keeps (Some b.log) None → suspects ≡ range_with_len 0 (units_of i.family)
-    → IsReached i start keeps (record { cursors = b.cursors; pops = pops; log = kept; suspects = suspects })
-book_reached i start keeps b pops kept suspects is count log all = record {
+pub book_reached : (i : Instance) (start : List ℕ) (keeps : Bool) (b : Progress) (suspects : List ℕ) → IsBook i start b
+    → suspects ≡ range_with_len 0 (units_of i.family) → IsReached i start keeps (record {
+      cursors = b.cursors;
+      pops = length b.log;
+      log = cond keeps (Some b.log) None;
+      suspects = suspects;
+    })
+book_reached i start keeps b suspects is all = record {
   leads = record {
     log = is.leads.log;
     legal = is.leads.legal;
     cursors_are = is.leads.cursors_are;
-    pops_are = count ∙ is.leads.pops_are;
-    log_is = log ∙ kept_behind keeps b.log is.leads.log is.leads.log_is;
+    pops_are = is.leads.pops_are;
+    log_is = kept_behind keeps b.log is.leads.log is.leads.log_is;
   };
   can = record {
     count = is.count;

@@ -1,5 +1,6 @@
 -- What the answers of finders say of a unit, where the pass is sole.
 use Rattle.std.proofs.Common.{◌≡◌, ℕ, ◌+◌, ◌<◌, ◌≤◌, true, false, inl, inr, List, [], ◌∷◌, ◌++◌, length, Some, arith, sym, ap, subst, ◌∙◌, length-append, append-nil}
+use Rattle.std.proofs.lemmas.List.{length_push}
 use Rattle.pop_model.specs.Popping.{Cube, names}
 use Rattle.pop_model.specs.Families.{Family, IsEvent}
 use Rattle.pop_model.specs.Families.Family.{Listed, Cycles}
@@ -20,12 +21,12 @@ use Rattle.event_finders.specs.UnitAnswers.{IsTried, KeepsRecords, SoleLearns}
 use Rattle.event_finders.specs.Walks.{PopsCycles, IsWalkAnswer}
 use Rattle.pop_workers.specs.Attempts.{Goes, FindsAlone, found_in}
 
--- one record more
-one_more : (xs : List Drawn) (x : Drawn) (ys : List Drawn) → ys ≡ xs ++ x ∷ [] → length ys ≡ length xs + 1
-one_more xs x ys is = let size = length-append xs (x ∷ []) in let same = ap length is in omega (arith, size, same)
-
 module _ (i : Instance) (k : Opening) (d e : View) (u : ℕ) (share : e.share ≡ d.share)
     (opening : e.opening ≡ Some k) where
+  -- one record more
+  one_more : (x : Drawn) → e.mine ≡ d.mine ++ x ∷ [] → length e.mine ≡ length d.mine + 1
+  one_more x is = ap length is ∙ length_push d.mine x
+
   -- the records as they were
   none_more : e.mine ≡ d.mine → Goes d e
   none_more keeps = record { share = share; more = let same = ap length keeps in omega (arith, same) }
@@ -34,7 +35,7 @@ module _ (i : Instance) (k : Opening) (d e : View) (u : ℕ) (share : e.share �
   pub unit_goes : (answer : Tried) → IsTried i d e u answer → KeepsRecords d e answer → Goes d e
   unit_goes (Popped t) tried keeps = record {
     share = share;
-    more = let more = one_more d.mine _ e.mine tried.2.mine in omega (arith, more);
+    more = let one = one_more _ tried.2.mine in omega (arith, one);
   }
   unit_goes (Cleared v c) tried keeps = none_more keeps
   unit_goes (Stuck v c) tried keeps = none_more keeps
@@ -51,7 +52,7 @@ module _ (i : Instance) (k : Opening) (d e : View) (u : ℕ) (share : e.share �
   pub unit_finds : (answer : Tried) → IsTried i d e u answer → KeepsRecords d e answer → SoleLearns k e u answer
       → d.share ≡ 64 → (pops : ℕ) → FindsAlone k d e u pops (found_in answer)
   unit_finds (Popped t) tried keeps sole all pops =
-      (let more = one_more d.mine _ e.mine tried.2.mine in omega (arith, more), (sole k opening (share ∙ all)).0)
+      (let one = one_more _ tried.2.mine in omega (arith, one), (sole k opening (share ∙ all)).0)
   unit_finds (Cleared v c) tried keeps sole all pops = ruled_out all keeps sole pops
   unit_finds (Stuck v c) tried keeps sole all pops = ruled_out all keeps sole pops
   unit_finds (Busy v w) tried keeps sole all pops = tried.2.shared all

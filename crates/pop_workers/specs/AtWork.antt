@@ -1,11 +1,12 @@
 -- What workers on a board of claim words work with, and what they leave.
-use Rattle.std.specs.Prelude.{◌≡◌, ◌<◌, ℕ, length}
+use Rattle.std.specs.Prelude.{◌≡◌, ◌<◌, ℕ, length, Option, IfSome}
 use Rattle.pop_model.specs.Families.{units_of}
 use Rattle.pop_model.specs.Instances.{Instance}
 use Rattle.pop_model.specs.Runs.{IsEnd}
+use Rattle.pop_stacks.specs.Readers.{ReaderOf, Belongs}
 use Rattle.claim_words.specs.declared.board.Board.{Board}
 use Rattle.claim_words.specs.declared.pass.Pass.{Pass}
-use Rattle.claim_words.specs.Passes.{IsOf, IsIdle, IsSole, view, instance_of, opening_of}
+use Rattle.claim_words.specs.Passes.{IsOf, IsIdle, IsHelper, IsSole, view, instance_of, opening_of}
 use Rattle.claim_words.specs.TicketLogs.{vector}
 use Rattle.pop_workers.specs.Attempts.{IsIndexed, AreTools}
 use Rattle.pop_workers.specs.declared.shared.Shared.{Shared}
@@ -31,6 +32,12 @@ pub record KeepsTools (i : Instance) (old new : Tools) : Type 0 where
 pub record IsIdleOn (board : Board) (pass : Pass) : Type 0 where
   pub of : IsOf board pass
   pub idle : IsIdle pass
+
+-- a worker beside the caller has an idle pass of the board, with share 1, and a reader of its stacks,
+-- or none
+pub record IsBeside (board : Board) (pass : Pass) (reader : Option ReaderOf) : Type 0 where
+  pub helper : IsHelper board pass
+  pub belongs : IfSome reader (Belongs (instance_of board).stacks)
 
 -- an idle pass of the board, which has all shares
 pub record IsSoleOn (board : Board) (pass : Pass) : Type 0 where

@@ -3,13 +3,12 @@
 use Rattle.std.specs.Prelude.{◌≡◌, ℕ, Bool, true, false, ◌<◌, ◌≤◌, List, length, ⊤, Option, Some, None}
 use Rattle.pop_model.specs.Stacks.{variables_of}
 use Rattle.pop_model.specs.Instances.{Instance}
-use Rattle.pop_model.specs.Runs.{IsEnd}
 use Rattle.pop_stacks.specs.Readers.{ReaderOf, Belongs}
 use Rattle.claim_words.specs.declared.opening.Opening.{Opening}
 use Rattle.claim_words.specs.declared.view.View.{View}
 use Rattle.claim_words.specs.Openings.{is_listed}
 use Rattle.claim_words.specs.Tells.{NonePoppable}
-use Rattle.claim_words.specs.TicketLogs.{IsLegalFrom, vector}
+use Rattle.claim_words.specs.TicketLogs.{IsLegalFrom}
 use Rattle.event_finders.specs.Trails.{Trail, resting}
 use Rattle.event_finders.specs.UnitConditions.{Indexes}
 use Rattle.event_finders.specs.declared.tried.Tried.{Tried}
@@ -54,8 +53,8 @@ FindsAlone k d e unit pops Done =
 FindsAlone k d e unit pops Met = ⊥
 FindsAlone k d e unit pops NoMemory = ⊤
 
--- a round of a sole pass over all units, and whether it popped nothing: then no event is poppable;
--- else more was popped, and the records are a legal log
-abbrev pub IsRound : Opening → View → View → Bool → Type 0
-IsRound k d e true = IsEnd k.instance.value (vector k e.mine)
-IsRound k d e false = (length d.mine < length e.mine) × IsLegalFrom k e.mine
+-- a round of a sole pass over the units below n, and whether it popped nothing: then the records are as
+-- they were, and no event below n is poppable; else there are more, and they are a legal log
+abbrev pub IsRound : Opening → View → View → ℕ → Bool → Type 0
+IsRound k d e n true = (e.mine ≡ d.mine) × ((u : ℕ) → u < n → NonePoppable k e u)
+IsRound k d e n false = (length d.mine < length e.mine) × IsLegalFrom k e.mine

@@ -1,25 +1,9 @@
 -- What a board of claim words leaves.
-use Rattle.std.specs.Prelude.{◌≡◌, ℕ, Bool, if◌then◌else◌, List, length, Option, Some, None, ⊤}
-use Rattle.pop_model.specs.Instances.{Instance}
+use Rattle.std.specs.Prelude.{◌≡◌, ℕ, List, Option, Some, None, ⊤}
 use Rattle.pop_model.specs.Logs.{LogRecord}
 use Rattle.pop_model.specs.Tickets.{IsMerged}
-use Rattle.claim_words.specs.declared.opening.Opening.{Opening}
-use Rattle.claim_words.specs.declared.view.View.{View}
+use Rattle.confluence_core.specs.declared.reached.Reached.{Reached}
 use Rattle.claim_words.specs.declared.closed.Closed.{Closed}
-use Rattle.claim_words.specs.Openings.{count}
-use Rattle.claim_words.specs.Closing.{Closes, Leaves}
-
--- a board of this instance, which started from these cursors, was closed, and left this; its
--- tickets are there exactly where they are kept
-pub record IsClosed (i : Instance) (start : List ℕ) (keeps : Bool) (closed : Closed) : Type 0 where
-  pub opening : Opening
-  pub view : View
-  pub instance : opening.instance.value ≡ i
-  pub start_is : opening.start.value ≡ start
-  pub closes : Closes opening view closed.cursors closed.pops
-  pub leaves : Leaves opening view closed.cursors closed.suspects
-  pub tickets : closed.log ≡ (if keeps then Some view.mine else None)
-  pub count : length closed.cursors ≡ count opening
 
 -- the log has each record at the place of its ticket, where there are tickets; else there is none
 abbrev pub AreMerged : Option (List (ℕ × LogRecord)) → Option (List LogRecord) → Type 0
@@ -27,3 +11,13 @@ AreMerged (Some tickets) (Some log) = IsMerged tickets log
 AreMerged (Some tickets) None = ⊥
 AreMerged None (Some log) = ⊥
 AreMerged None None = ⊤
+
+-- how far a run has come by what a closed board left, with its tickets merged into a log
+pub record IsLeftBy (closed : Closed) (reached : Reached) : Type 0 where
+  pub are : reached ≡ record {
+    cursors = closed.cursors;
+    pops = closed.pops;
+    log = reached.log;
+    suspects = closed.suspects;
+  }
+  pub merged : AreMerged closed.log reached.log

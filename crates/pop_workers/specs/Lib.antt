@@ -2,5 +2,3 @@ pub mod Closings
 pub mod Attempts
 pub mod AtWork
 pub mod Stages
-pub mod Readers
-pub mod MadeFor

@@ -30,7 +30,6 @@ pub record IsToCome (last : ℕ) (i : Instance) (stuck : List Event) (h : ℕ) :
   pub goes_on : IsLast last i stuck → ⊥
   pub is : h ≡ next_height last (height i)
   pub higher : height i < h
-  pub most : h ≤ last
 
 -- a stage that came so far has come to its end, where this is stuck
 pub record IsStageEnd (i : Instance) (reached : Reached) (stuck : List Event) : Type 0 where
@@ -60,3 +59,16 @@ abbrev pub HasBegun : ℕ → Instance → Bool → Instance → Type 0
 HasBegun last i keeps j = (j ≡ i) ⊎ ((k : Instance) × (before : Reached) × (stuck : List Event)
     × StagesLead last i keeps k before stuck × (IsLast last k stuck → ⊥)
     × (j ≡ at_next_height last k))
+
+-- the instance is the first one raised, by stages of which the last has begun at its height
+pub record HasGrown (last : ℕ) (i : Instance) (keeps : Bool) (j : Instance) : Type 0 where
+  pub begun : HasBegun last i keeps j
+  pub raised : j ≡ instance_raised (height j) i
+  pub low : height j ≤ last
+
+-- stages were made from zeros, and the last of them has come to its end
+pub record AreMade (last : ℕ) (i : Instance) (keeps : Bool) (j : Instance) (left : Reached)
+    (stuck : List Event) : Type 0 where
+  pub staged : StagesLead last i keeps j left stuck
+  pub reached : IsReached j (start_of i) keeps left
+  pub end : IsStageEnd j left stuck

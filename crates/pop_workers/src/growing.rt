@@ -6,9 +6,8 @@ ghost use Rattle.pop_model.specs.Runs.{IsStuckList, start_of};
 ghost use Rattle.confluence_core.specs.Kept.{keeps_log};
 ghost use Rattle.confluence_core.specs.Indexes.{Serves};
 ghost use Rattle.confluence_core.specs.Runs.{IsRunOf};
-ghost use Rattle.confluence_core.specs.Stretches.{GoesOn, HasCome, IsReached};
-ghost use Rattle.pop_workers.specs.MadeFor.{made_for};
-ghost use Rattle.pop_workers.specs.Stages.{height, AreStages, HasBegun, IsLast, IsStageEnd, IsToCome, StagesLead};
+ghost use Rattle.confluence_core.specs.Stretches.{GoesOn, HasCome};
+ghost use Rattle.pop_workers.specs.Stages.{height, AreMade, AreStages, HasBegun, HasGrown, IsLast, IsStageEnd, IsToCome};
 
 use crate::makers::Makers;
 use crate::workers::Workers;
@@ -64,10 +63,12 @@ pub fn sample_grown<R: Threads + Wait + Sync, G: Gate + Sync>(
         drop(makers);
         return Err(AllocError);
     };
+    let _units = instance.units();
     makers.tell(alloc, instance, end)
 }
 
-// How far the stages come together, and what is stuck there.
+// How far the stages come together, and what is stuck there. Each but the first goes on from the end
+// of the one before, once the stacks are raised.
 fn all_stages<R: Threads + Wait + Sync, G: Gate + Sync>(
     alloc: Global,
     instance: &mut Instance,
@@ -75,54 +76,26 @@ fn all_stages<R: Threads + Wait + Sync, G: Gate + Sync>(
     last: u32,
     keep: Keep,
 ) -> Result<(Reached, Stuck), AllocError>
-    requires serves { Serves instance.old (made_for makers.old) }
+    requires serves { Serves instance.old makers.old }
     requires keyed { IsKeyed instance.old.stacks.origin }
     requires higher { (v : ℕ) → height_of instance.old.stacks v ≤ last }
     requires short { last < 2 ^ 31 }
-    ensures stages { IfOk result (λ end.
-        StagesLead last instance.old (keeps_log keep) instance.new end.0 end.1) }
-    ensures reached { IfOk result (λ end.
-        IsReached instance.new (start_of instance.old) (keeps_log keep) end.0) }
-    ensures end { IfOk result (λ end. IsStageEnd instance.new end.0 end.1) }
+    ensures grown { HasGrown last instance.old (keeps_log keep) instance.new }
+    ensures made { IfOk result (λ end.
+        AreMade last instance.old (keeps_log keep) instance.new end.0 end.1) }
     ensures last { IfOk result (λ end. IsLast last instance.new end.1) }
-    ensures begun { HasBegun last instance.old (keeps_log keep) instance.new }
-    ensures raised { instance.new ≡ instance_raised (height instance.new) instance.old }
-    ensures low { height instance.new ≤ last }
-    ensures serves { Serves instance.new (made_for makers.new) }
+    ensures serves { Serves instance.new makers.new }
 {
     let opening = Reached::opening(alloc, instance, keep)?;
     let mut end = makers.stage(alloc, instance, opening)?;
     'stages: while let Some(height) = height_to_come(instance, &end.1, last) {
-        end = next_stage(alloc, instance, makers, end, height)?;
+        let (mut reached, stuck) = end;
+        instance.raise(height);
+        // What is poppable at the new height occurred at the end before.
+        reached.suspects = stuck.units(alloc)?;
+        end = makers.stage(alloc, instance, reached)?;
     }
     Ok(end)
-}
-
-// Raises the stacks to this height, and goes on from the end of a stage to an end there.
-fn next_stage<R: Threads + Wait + Sync, G: Gate + Sync>(
-    alloc: Global,
-    instance: &mut Instance,
-    makers: &mut Makers<R, G>,
-    end: (Reached, Stuck),
-    height: u32,
-) -> Result<(Reached, Stuck), AllocError>
-    requires serves { Serves instance.old (made_for makers.old) }
-    requires keyed { IsKeyed instance.old.stacks.origin }
-    requires higher { (v : ℕ) → height_of instance.old.stacks v ≤ height }
-    requires short { height < 2 ^ 31 }
-    requires come { HasCome instance.old end.0 }
-    requires end { IsStageEnd instance.old end.0 end.1 }
-    ensures raised { instance.new ≡ instance_raised height instance.old }
-    ensures on { IfOk result (λ stage. GoesOn instance.new end.0 stage.0) }
-    ensures end { IfOk result (λ stage. IsStageEnd instance.new stage.0 stage.1) }
-    ensures made_for { made_for makers.new ≡ made_for makers.old }
-{
-    let (mut reached, stuck) = end;
-    let _units = instance.units();
-    instance.raise(height);
-    // What is poppable at the new height occurred at the end before.
-    reached.suspects = stuck.units(alloc)?;
-    makers.stage(alloc, instance, reached)
 }
 
 // The height of the stage behind one that left this, where there is to be one.

@@ -1,9 +1,8 @@
 //! The workers beside the caller, each with a pass and hints of its own.
-ghost use Rattle.std.specs.Prelude.{◌≡◌, ◌+◌, ◌<◌, length, All, IfOk, OnOk, IfSome};
-ghost use Rattle.pop_model.specs.Stacks.{StackTable};
+ghost use Rattle.std.specs.Prelude.{◌≡◌, ◌+◌, ◌<◌, length, All, IfOk, OnOk};
 ghost use Rattle.pop_stacks.specs.Readers.{Belongs};
-ghost use Rattle.claim_words.specs.Passes.{IsHelper, view, instance_of};
-ghost use Rattle.pop_workers.specs.AtWork.{IsSharedOn, IsIdleOn};
+ghost use Rattle.claim_words.specs.Passes.{view, instance_of};
+ghost use Rattle.pop_workers.specs.AtWork.{IsSharedOn, IsIdleOn, IsBeside};
 
 use crate::Gate;
 use crate::shared::Shared;
@@ -37,7 +36,8 @@ pub(crate) fn hand_out<W: Range>(
     requires pass { IsIdleOn board.now pass.old }
     requires share { length deques.items < (view pass.old).share }
     ensures pass { IsIdleOn board.now pass.new }
-    ensures passes { IfOk result (λ jobs. All (λ job. IsHelper board.now job.0) jobs.items) }
+    ensures jobs { IfOk result
+        (λ jobs. All (λ job. IsBeside board.now job.0 job.2) jobs.items) }
     ensures len { IfOk result (λ jobs. length jobs.items ≡ length deques.items) }
     ensures share { IfOk result
         (λ jobs. (view pass.new).share + length jobs.items ≡ (view pass.old).share) }
@@ -54,7 +54,7 @@ fn job_for<W: Range>(board: &Board, pass: &mut Pass, own: Own<W>) -> Job<W>
     requires pass { IsIdleOn board.now pass.old }
     requires share { 1 < (view pass.old).share }
     ensures pass { IsIdleOn board.now pass.new }
-    ensures helper { IsHelper board.now result.0 }
+    ensures job { IsBeside board.now result.0 result.2 }
     ensures share { (view pass.new).share + 1 ≡ (view pass.old).share }
 {
     (board.split(pass, 1), own, None)
@@ -69,12 +69,10 @@ pub(crate) fn work_beside<'i, 'x, W: Range + Sync + Send, R: Threads + Sync, G: 
     gate: &G,
 )
     requires shared { IsSharedOn W.units board.now shared.now }
-    requires passes { All (λ job. IsHelper board.now job.0) jobs.old }
+    requires jobs { All (λ job. IsBeside board.now job.0 job.2) jobs.old }
     requires len { length jobs.old < length shared.now.all.items }
     requires few { length jobs.old < 64 }
-    ensures passes { All (λ job. IsHelper board.now job.0) jobs.new }
-    ensures readers { All (λ job.
-        IfSome job.2 (Belongs (instance_of board.now).stacks)) jobs.new }
+    ensures jobs { All (λ job. IsBeside board.now job.0 job.2) jobs.new }
     ensures len { length jobs.new ≡ length jobs.old }
 {
     let most = jobs.len().max(1);
@@ -84,12 +82,10 @@ pub(crate) fn work_beside<'i, 'x, W: Range + Sync + Send, R: Threads + Sync, G: 
         most,
         &|place: usize, job: &mut Job<W>|
             requires shared { IsSharedOn W.units board.now shared.now }
-            requires pass { IsHelper board.now job.now.0 }
+            requires job { IsBeside board.now job.now.0 job.now.2 }
             requires place { place + 1 < length shared.now.all.items }
             requires few { place < 64 }
-            ensures pass { IsHelper board.entry.now job.exit.now.0 }
-            ensures reader { IfSome job.exit.now.2
-                (Belongs (instance_of board.entry.now).stacks) }
+            ensures { IsBeside board.entry.now job.exit.now.0 job.exit.now.2 }
         { do_job(board, shared, job, place as u32 + 1, gate) },
     );
 }
@@ -104,10 +100,9 @@ fn do_job<W: Range, G: Gate>(
     gate: &G,
 )
     requires shared { IsSharedOn W.units board.now shared.now }
-    requires pass { IsHelper board.now job.old.0 }
+    requires job { IsBeside board.now job.old.0 job.old.2 }
     requires worker { worker < length shared.now.all.items }
-    ensures pass { IsHelper board.now job.new.0 }
-    ensures reader { IfSome job.new.2 (Belongs (instance_of board.now).stacks) }
+    ensures { IsBeside board.now job.new.0 job.new.2 }
 {
     let Ok(mut tools) = Tools::of(shared.alloc, shared.instance, worker) else {
         job.2 = None;
@@ -126,9 +121,7 @@ pub(crate) fn take_back<W: Range>(
     jobs: Vec<Job<W>>,
 ) -> Result<Vec<Reader>, AllocError>
     requires pass { IsIdleOn board.now pass.old }
-    requires passes { All (λ job. IsHelper board.now job.0) jobs.items }
-    requires readers { All (λ job.
-        IfSome job.2 (Belongs (instance_of board.now).stacks)) jobs.items }
+    requires jobs { All (λ job. IsBeside board.now job.0 job.2) jobs.items }
     ensures pass { IsIdleOn board.now pass.new }
     ensures share { OnOk result
         ((view pass.new).share ≡ (view pass.old).share + length jobs.items) }
@@ -139,46 +132,35 @@ pub(crate) fn take_back<W: Range>(
     // Room for the caller's reader too.
     let mut readers = Vec::with_capacity(alloc, jobs.len() + 1)?;
     while let Some(job) = jobs.pop() {
-        let reader = take_one(board, pass, job)?;
-        put_before(&mut readers, reader)?;
+        take_one(board, pass, job, &mut readers)?;
     }
     Ok(readers)
 }
 
-// Takes the pass of a job in again. Its reader, where it has one.
+// Takes the pass of a job in again, and puts its reader before others, where it has one.
 fn take_one<W: Range>(
     board: &Board,
     pass: &mut Pass,
     job: Job<W>,
-) -> Result<Option<Reader>, AllocError>
+    readers: &mut Vec<Reader>,
+) -> Result<(), AllocError>
     requires pass { IsIdleOn board.now pass.old }
-    requires helper { IsHelper board.now job.0 }
+    requires job { IsBeside board.now job.0 job.2 }
+    requires readers { All (Belongs (instance_of board.now).stacks) readers.old.items }
     ensures pass { IsIdleOn board.now pass.new }
     ensures share { OnOk result ((view pass.new).share ≡ (view pass.old).share + 1) }
-    ensures reader { IfOk result (λ reader. reader ≡ job.2) }
+    ensures readers { OnOk result
+        (All (Belongs (instance_of board.now).stacks) readers.new.items) }
 {
     let (other, own, reader) = job;
     drop(own);
-    match board.rejoin(pass, other) {
-        Ok(()) => Ok(reader),
-        Err((other, failed)) => {
-            drop(other);
-            drop(reader);
-            Err(failed)
-        }
+    if let Err((other, failed)) = board.rejoin(pass, other) {
+        drop(other);
+        drop(reader);
+        return Err(failed);
     }
-}
-
-// A reader before others, where there is one.
-fn put_before(readers: &mut Vec<Reader>, reader: Option<Reader>) -> Result<(), AllocError>
-    ensures { (s : StackTable) → All (Belongs s) readers.old.items → IfSome reader (Belongs s)
-        → OnOk result (All (Belongs s) readers.new.items) }
-{
-    match reader {
-        Some(reader) => {
-            readers.insert(0, reader)?;
-            Ok(())
-        }
-        None => Ok(()),
+    if let Some(reader) = reader {
+        readers.insert(0, reader)?;
     }
+    Ok(())
 }

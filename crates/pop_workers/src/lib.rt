@@ -2,7 +2,6 @@
 //! The board is a book under a lock, or words that they claim. Stacks may grow on the way.
 #![tactic(auto)]
 
-mod alone;
 mod attempts;
 mod claimed;
 mod found;

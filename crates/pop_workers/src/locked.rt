@@ -1,17 +1,17 @@
-ghost use Rattle.std.specs.Prelude.{◌≡◌, ◌<◌, ◌≤◌, ◌^◌, [], length, IfOk};
+ghost use Rattle.std.specs.Prelude.{◌≡◌, ◌<◌, ◌≤◌, ◌^◌, length, IfOk};
+ghost use Rattle.std.specs.Option.{is_some};
 ghost use Rattle.pop_model.specs.Stacks.{variables_of};
 ghost use Rattle.pop_model.specs.Popping.{AreWithin};
-ghost use Rattle.pop_model.specs.Instances.{IsInstance};
 ghost use Rattle.confluence_core.specs.Kept.{keeps_log};
-ghost use Rattle.confluence_core.specs.Indexes.{Serves};
 ghost use Rattle.confluence_core.specs.Runs.{IsRunOf};
-ghost use Rattle.confluence_core.specs.Stretches.{GoesOn, HasCome, IsReached};
+ghost use Rattle.confluence_core.specs.Stretches.{HasCome, IsReached};
 
 use crate::attempts::attempt_in_turns;
 use crate::makers::Makers;
+use crate::opening::opening_from;
 use crate::workers::Workers;
 use crate::{Gate, Outcome};
-use confluence_core::{Alone, Keep, Reached, Units};
+use confluence_core::{Keep, Reached, Units};
 use lock_board::{Book, Site};
 use pop_instance::{Cursors, Instance};
 use std::alloc::{AllocError, Global};
@@ -45,8 +45,7 @@ pub fn sample_locked<R: Threads + Wait + Sync, G: Gate + Sync>(
     requires most { workers ≤ 64 }
     ensures { IfOk result (IsRunOf instance.now from.now (keeps_log keep)) }
 {
-    let start = from.copy(alloc)?;
-    let opening = Reached::starting(alloc, instance, start, keep)?;
+    let opening = opening_from(alloc, instance, from, keep)?;
     let crew = Workers { rt, gate, workers };
     let Ok(makers) = Makers::of(alloc, instance, crew, false) else {
         drop(opening);
@@ -55,57 +54,29 @@ pub fn sample_locked<R: Threads + Wait + Sync, G: Gate + Sync>(
     makers.run(alloc, instance, opening)
 }
 
-/// Several workers, who share a book under a lock. What they leave, the calling thread pops alone.
-#[derive(Drop)]
-pub struct Locked<'c, R, G> {
-    pub crew: Workers<'c, R, G>,
-    pub alone: Alone,
-}
-
-/// Goes on with a run to an end. After an error nothing is left of the run.
-pub(crate) fn finish_locked<R: Threads + Wait + Sync, G: Gate + Sync>(
-    alloc: Global,
-    locked: &mut Locked<R, G>,
-    instance: &Instance,
-    reached: Reached,
-) -> Result<Reached, AllocError>
-    requires serves { Serves instance.now locked.old.alone }
-    requires reached { HasCome instance.now reached }
-    ensures on { IfOk result (GoesOn instance.now reached) }
-    ensures end { IfOk result (λ new. new.suspects ≡ []) }
-    ensures made_for { locked.new.alone ≡ locked.old.alone }
-{
-    let (from, keep) = (&reached.cursors, reached.keep());
-    let more = work_together::<Brand, R, G>(alloc, &locked.crew, instance, from, keep)?;
-    let joined = reached.join(more)?;
-    locked.alone.finish(alloc, instance, joined)
-}
-
-// How far workers come on a book that they share, and that opens from these cursors, with every unit
-// a suspect.
-fn work_together<N: Site + Send + Sync, R: Threads + Wait + Sync, G: Gate + Sync>(
+/// How far workers come on a book that they share, and that opens where a run has come, with every
+/// unit a suspect.
+pub(crate) fn work_together<N: Site + Send + Sync, R: Threads + Wait + Sync, G: Gate + Sync>(
     alloc: Global,
     crew: &Workers<R, G>,
     instance: &Instance,
-    from: &Cursors,
-    keep: Keep,
+    reached: &Reached,
 ) -> Result<Reached, AllocError>
     requires site { instance.now ≡ N.instance }
-    requires start { from.now ≡ N.start }
-    requires count { variables_of instance.now.stacks ≡ length from.now }
-    requires within { AreWithin instance.now.stacks from.now }
-    ensures instance { IsInstance instance.now }
-    ensures reached { IfOk result (IsReached instance.now from.now (keeps_log keep)) }
+    requires start { reached.now.cursors ≡ N.start }
+    requires reached { HasCome instance.now reached.now }
+    ensures more { IfOk result
+        (IsReached instance.now reached.now.cursors (is_some reached.now.log)) }
 {
     let _units = instance.units();
-    let board = Mutex::new(Book::<N>::start_at(alloc, instance, from)?);
+    let board = Mutex::new(Book::<N>::start_at(alloc, instance, &reached.cursors)?);
     let worked = attempt_all(alloc, crew, instance, &board);
     let book = board.into_inner();
     if worked.is_err() {
         drop(book);
         return Err(AllocError);
     }
-    left_in(alloc, instance, book, keep)
+    left_in(alloc, instance, book, reached.keep())
 }
 
 // The work of all workers on a book. One that finds no memory has left the book as it was before its

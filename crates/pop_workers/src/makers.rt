@@ -1,38 +1,67 @@
-ghost use Rattle.std.specs.Prelude.{◌≡◌, ◌<◌, ◌≤◌, [], ℕ, Bool, List, length, IfOk};
+ghost use Rattle.std.specs.Prelude.{◌≡◌, ◌<◌, ◌≤◌, ℕ, Bool, List, length, IfOk, OnOk};
+ghost use Rattle.std.specs.Option.{is_some};
 ghost use Rattle.pop_model.specs.Stacks.{variables_of};
 ghost use Rattle.pop_model.specs.Popping.{AreWithin, AreValuesAt};
-ghost use Rattle.pop_model.specs.Instances.{Instance as ModelInstance};
 ghost use Rattle.pop_model.specs.Runs.{IsStuckList};
 ghost use Rattle.pop_instance.specs.Index.{IsFamilyIndex};
+ghost use Rattle.claim_words.specs.Passes.{instance_of};
 ghost use Rattle.confluence_core.specs.Indexes.{Serves};
 ghost use Rattle.confluence_core.specs.Runs.{IsRunOf, ended};
 ghost use Rattle.confluence_core.specs.Stretches.{CanGoOn, GoesOn, HasCome, IsReached, IsTold};
-ghost use Rattle.pop_workers.specs.MadeFor.{made_for};
+ghost use Rattle.pop_workers.specs.AtWork.{IsIdleOn, IsSoleOn, IsAtEnd};
 ghost use Rattle.pop_workers.specs.Stages.{IsStageEnd};
 
-use crate::claimed::Claimed;
-use crate::locked::{Locked, finish_locked};
+use crate::claimed::left_by;
+use crate::locked::work_together;
+use crate::tools::Tools;
+use crate::words::work_by;
 use crate::workers::Workers;
 use crate::{Gate, Outcome};
-use confluence_core::{Alone, Reached, Stuck};
+use claim_words::{Board, Pass};
+use confluence_core::{Indexed, Reached, Stuck};
 use pop_instance::{Cursors, Index, Instance, Values};
+use pop_stacks::Reader;
 use std::alloc::{AllocError, Global};
+use std::marker::{Brand, Model};
+use std::mem;
+use std::snapshot::Snapshot;
 use std::sync::Wait;
 use std::thread::Threads;
 
-/// Who brings runs to their ends. They were made for an instance, and serve it for the same sample
-/// at each height, so also once its stacks are raised.
+/// Who brings runs to their ends: one worker, the caller, behind the gate and with no board;
+/// several, who claim words of a board; or several, who share a book under a lock. What several
+/// leave, the calling thread pops. The values at an end are looked up by the readers of all who
+/// claimed words, which keep what they saw.
+///
+/// They were made for an instance, and serve it for the same sample at each height, so also once
+/// its stacks are raised. Contracts see that instance.
 #[derive(Drop)]
-pub enum Makers<'c, R, G> {
-    /// One worker, the caller: behind the gate, and with no board.
-    One(&'c G, Alone),
-    /// Several, who claim words of a board.
-    Claimed(Claimed<'c, R, G>),
-    /// Several, who share a book under a lock.
-    Locked(Locked<'c, R, G>),
+pub struct Makers<'c, R, G> {
+    crew: Workers<'c, R, G>,
+    claimed: bool,
+    index: Option<Index>,
+    reader: Reader,
+    others: Vec<Reader>,
+    made_for: Snapshot<Instance>,
 }
 
-impl<'c, R: Threads + Wait + Sync, G: Gate + Sync> Makers<'c, R, G> {
+impl<'c, R, G> Model for Makers<'c, R, G> {
+    ghost use Rattle.std.specs.Prelude.{ℕ, ◌<◌, ◌≤◌, All};
+    ghost use Rattle.pop_model.specs.Instances.{Instance as ModelInstance};
+    ghost use Rattle.pop_stacks.specs.Readers.{Belongs};
+    ghost use Rattle.pop_instance.specs.Index.{IsFamilyIndex};
+
+    ghost Value = { ModelInstance };
+
+    ghost view = { λ a. a.made_for.value };
+
+    ghost invariant = { λ a. (0 < a.crew.workers) × (a.crew.workers ≤ 64)
+        × IsFamilyIndex a.made_for.value.family a.index
+        × Belongs a.made_for.value.stacks a.reader
+        × All (Belongs a.made_for.value.stacks) a.others.items };
+}
+
+impl<'c, R, G> Makers<'c, R, G> {
     /// A crew for an instance: one worker alone; several claim words, where `claimed` says so, or
     /// else share a book under a lock.
     pub fn of(
@@ -43,7 +72,7 @@ impl<'c, R: Threads + Wait + Sync, G: Gate + Sync> Makers<'c, R, G> {
     ) -> Result<Makers<'c, R, G>, AllocError>
         requires some { 0 < crew.workers }
         requires most { crew.workers ≤ 64 }
-        ensures { IfOk result (λ makers. made_for makers ≡ instance.now) }
+        ensures { IfOk result (λ makers. makers ≡ instance.now) }
     {
         let index = instance.index(alloc)?;
         Makers::with(alloc, instance, index, crew, claimed)
@@ -60,95 +89,199 @@ impl<'c, R: Threads + Wait + Sync, G: Gate + Sync> Makers<'c, R, G> {
         requires index { IsFamilyIndex instance.now.family index }
         requires some { 0 < crew.workers }
         requires most { crew.workers ≤ 64 }
-        ensures { IfOk result (λ makers. made_for makers ≡ instance.now) }
+        ensures { IfOk result (λ makers. makers ≡ instance.now) }
     {
-        if claimed && crew.workers > 1 {
-            return Ok(Makers::Claimed(Claimed::with(alloc, instance, index, crew)?));
-        }
-        let alone = Alone::with(alloc, instance, index)?;
-        if crew.workers == 1 {
-            return Ok(Makers::One(crew.gate, alone));
-        }
-        Ok(Makers::Locked(Locked { crew, alone }))
+        Ok(Makers {
+            crew,
+            claimed,
+            index,
+            reader: Reader::keeping(alloc, instance.stacks())?,
+            others: Vec::new(alloc),
+            made_for: Snapshot::of(instance),
+        })
     }
 
-    /// Goes on with a run to an end. After an error nothing is left of the run.
-    pub fn finish(
+    // Goes on with a run to an end on the calling thread, and looks up what is stuck there.
+    fn end(
         &mut self,
         alloc: Global,
         instance: &Instance,
         reached: Reached,
-    ) -> Result<Reached, AllocError>
-        requires serves { Serves instance.now (made_for self.old) }
+    ) -> Result<(Reached, Stuck), AllocError>
+        requires serves { Serves instance.now self.old }
         requires reached { HasCome instance.now reached }
-        ensures on { IfOk result (GoesOn instance.now reached) }
-        ensures end { IfOk result (λ new. new.suspects ≡ []) }
-        ensures made_for { made_for self.new ≡ made_for self.old }
+        ensures on { IfOk result (λ stage. GoesOn instance.now reached stage.0) }
+        ensures end { IfOk result (λ stage. IsStageEnd instance.now stage.0 stage.1) }
+        ensures made_for { self.new ≡ self.old }
     {
-        match self {
-            Makers::One(gate, alone) => {
-                gate.at(0, 0);
-                alone.finish(alloc, instance, reached)
-            }
-            Makers::Claimed(claimed) => claimed.finish(instance, reached),
-            Makers::Locked(locked) => finish_locked(alloc, locked, instance, reached),
-        }
+        let over = Indexed::of(instance, &self.index);
+        let ended = over.finish(alloc, &mut self.reader, reached)?;
+        let stuck = over.stuck(alloc, &mut self.reader, &ended)?;
+        Ok((ended, stuck))
     }
 
-    /// Every event that occurs where a run has come, by rising unit.
-    pub fn stuck(
+    // The same behind a stretch that workers made from where the run had come.
+    fn end_behind(
         &mut self,
         alloc: Global,
         instance: &Instance,
-        reached: &Reached,
-    ) -> Result<Stuck, AllocError>
-        requires serves { Serves instance.now (made_for self.old) }
-        requires can { CanGoOn instance.now reached.now }
-        ensures stuck_list { IfOk result (IsStuckList instance.now reached.now.cursors) }
-        ensures made_for { made_for self.new ≡ made_for self.old }
+        reached: Reached,
+        more: Reached,
+    ) -> Result<(Reached, Stuck), AllocError>
+        requires serves { Serves instance.now self.old }
+        requires reached { HasCome instance.now reached }
+        requires more { IsReached instance.now reached.cursors (is_some reached.log) more }
+        ensures on { IfOk result (λ stage. GoesOn instance.now reached stage.0) }
+        ensures end { IfOk result (λ stage. IsStageEnd instance.now stage.0 stage.1) }
+        ensures made_for { self.new ≡ self.old }
     {
-        match self {
-            Makers::One(_, alone) => alone.stuck(alloc, instance, reached),
-            Makers::Claimed(claimed) => claimed.stuck(instance, reached),
-            Makers::Locked(locked) => locked.alone.stuck(alloc, instance, reached),
-        }
+        let _units = instance.units();
+        let joined = reached.join(more)?;
+        self.end(alloc, instance, joined)
     }
 
-    /// The value of each variable at its cursor, which is the last that they look up.
-    pub fn values(
+    /// Tells where a run has come, with what is stuck there. The values are looked up.
+    pub(crate) fn tell(
+        self,
+        alloc: Global,
+        instance: &Instance,
+        end: (Reached, Stuck),
+    ) -> Result<Outcome, AllocError>
+        requires serves { Serves instance.now self }
+        requires can { CanGoOn instance.now end.0 }
+        requires stuck { IsStuckList instance.now end.0.cursors end.1 }
+        ensures { IfOk result
+            (λ run. IsTold instance.now end.0 run × (run.end.stuck ≡ end.1)) }
+    {
+        let (reached, stuck) = end;
+        let values = self.values(alloc, instance, &reached.cursors)?;
+        Ok(reached.told(stuck, values))
+    }
+
+    // The value of each variable at its cursor, which is the last that the readers look up.
+    fn values(
         self,
         alloc: Global,
         instance: &Instance,
         cursors: &Cursors,
     ) -> Result<Values, AllocError>
-        requires serves { Serves instance.now (made_for self) }
+        requires serves { Serves instance.now self }
         requires count { variables_of instance.now.stacks ≡ length cursors.now }
         requires within { AreWithin instance.now.stacks cursors.now }
         ensures values { IfOk result (AreValuesAt instance.now.stacks cursors.now) }
     {
-        match self {
-            Makers::One(_, alone) => values_by(alloc, alone, instance, cursors),
-            Makers::Claimed(claimed) => claimed.values(instance, cursors),
-            Makers::Locked(locked) => values_by(alloc, locked.alone, instance, cursors),
+        let Makers {
+            index,
+            mut reader,
+            others: mut readers,
+            ..
+        } = self;
+        drop(index);
+        if readers.is_empty() {
+            return Values::at(alloc, instance.stacks(), &mut reader, cursors);
+        }
+        readers.insert(0, reader)?;
+        Values::at_by(alloc, instance.stacks(), &mut readers, cursors)
+    }
+}
+
+impl<'c, R: Threads + Sync, G: Gate + Sync> Makers<'c, R, G> {
+    /// Goes on with a run to an end, and looks up what is stuck there. Several workers claim words.
+    pub(crate) fn claimed_stage(
+        &mut self,
+        alloc: Global,
+        instance: &Instance,
+        reached: Reached,
+    ) -> Result<(Reached, Stuck), AllocError>
+        requires serves { Serves instance.now self.old }
+        requires reached { HasCome instance.now reached }
+        ensures on { IfOk result (λ stage. GoesOn instance.now reached stage.0) }
+        ensures end { IfOk result (λ stage. IsStageEnd instance.now stage.0 stage.1) }
+        ensures made_for { self.new ≡ self.old }
+    {
+        if self.crew.workers == 1 {
+            self.crew.gate.at(0, 0);
+            return self.end(alloc, instance, reached);
+        }
+        let more = self.claim(alloc, instance, &reached)?;
+        self.end_behind(alloc, instance, reached, more)
+    }
+
+    // How far the workers come on a board that opens where a run has come.
+    fn claim(
+        &mut self,
+        alloc: Global,
+        instance: &Instance,
+        reached: &Reached,
+    ) -> Result<Reached, AllocError>
+        requires serves { Serves instance.now self.old }
+        requires reached { HasCome instance.now reached.now }
+        ensures more { IfOk result
+            (IsReached instance.now reached.now.cursors (is_some reached.now.log)) }
+        ensures made_for { self.new ≡ self.old }
+    {
+        let _units = instance.units();
+        let (from, keep) = (&reached.cursors, reached.keep());
+        let (board, mut pass) = Board::start(alloc, instance, from, keep)?;
+        self.work_on(alloc, instance, &board, &mut pass)?;
+        match board.close(pass) {
+            Ok(closed) => left_by(alloc, closed),
+            Err((_, _, failed)) => Err(failed),
         }
     }
 
-    /// Goes on with a run to an end, and looks up what is stuck there.
+    // Lets the workers bring a board to its end. Worker 0 goes on with the reader that keeps what was
+    // seen last.
+    fn work_on<'i>(
+        &mut self,
+        alloc: Global,
+        instance: &'i Instance,
+        board: &Board<'i>,
+        pass: &mut Pass,
+    ) -> Result<(), AllocError>
+        requires serves { Serves instance.now self.old }
+        requires board { instance_of board.now ≡ instance.now }
+        requires pass { IsSoleOn board.now pass.old }
+        ensures pass { IsIdleOn board.now pass.new }
+        ensures end { OnOk result (IsAtEnd board.now pass.new) }
+        ensures made_for { self.new ≡ self.old }
+    {
+        let Workers { rt, gate, workers } = self.crew;
+        let crew = Workers { rt, gate, workers };
+        let reader = mem::replace(&mut self.reader, Reader::new(instance.stacks()));
+        let mut tools = Tools::with(alloc, instance, 0, reader)?;
+        let (index, lent) = (&self.index, &mut tools);
+        let others = work_by::<Brand, R, G>(alloc, crew, board, pass, instance, index, lent);
+        let Ok(others) = others else {
+            drop(tools);
+            return Err(AllocError);
+        };
+        self.reader = tools.reader;
+        self.others = others;
+        Ok(())
+    }
+}
+
+impl<'c, R: Threads + Wait + Sync, G: Gate + Sync> Makers<'c, R, G> {
+    /// Goes on with a run to an end, and looks up what is stuck there. After an error nothing is
+    /// left of the run.
     pub fn stage(
         &mut self,
         alloc: Global,
         instance: &Instance,
         reached: Reached,
     ) -> Result<(Reached, Stuck), AllocError>
-        requires serves { Serves instance.now (made_for self.old) }
+        requires serves { Serves instance.now self.old }
         requires reached { HasCome instance.now reached }
         ensures on { IfOk result (λ stage. GoesOn instance.now reached stage.0) }
         ensures end { IfOk result (λ stage. IsStageEnd instance.now stage.0 stage.1) }
-        ensures made_for { made_for self.new ≡ made_for self.old }
+        ensures made_for { self.new ≡ self.old }
     {
-        let ended = self.finish(alloc, instance, reached)?;
-        let stuck = self.stuck(alloc, instance, &ended)?;
-        Ok((ended, stuck))
+        if self.claimed || self.crew.workers == 1 {
+            return self.claimed_stage(alloc, instance, reached);
+        }
+        let more = work_together::<Brand, R, G>(alloc, &self.crew, instance, &reached)?;
+        self.end_behind(alloc, instance, reached, more)
     }
 
     /// Brings a run to its end, and tells it.
@@ -158,7 +291,7 @@ impl<'c, R: Threads + Wait + Sync, G: Gate + Sync> Makers<'c, R, G> {
         instance: &Instance,
         reached: Reached,
     ) -> Result<Outcome, AllocError>
-        requires serves { Serves instance.now (made_for self) }
+        requires serves { Serves instance.now self }
         requires reached { HasCome instance.now reached }
         ensures on { IfOk result (λ run. GoesOn instance.now reached (ended run)) }
         ensures run { (start : List ℕ) → (keeps : Bool) → IsReached instance.now start keeps reached
@@ -171,57 +304,4 @@ impl<'c, R: Threads + Wait + Sync, G: Gate + Sync> Makers<'c, R, G> {
         };
         makers.tell(alloc, instance, end)
     }
-
-    /// Tells where a run has come, with what is stuck there. The values are looked up.
-    pub(crate) fn tell(
-        self,
-        alloc: Global,
-        instance: &Instance,
-        end: (Reached, Stuck),
-    ) -> Result<Outcome, AllocError>
-        requires serves { Serves instance.now (made_for self) }
-        requires can { CanGoOn instance.now end.0 }
-        requires stuck { IsStuckList instance.now end.0.cursors end.1 }
-        ensures { IfOk result
-            (λ run. IsTold instance.now end.0 run × (run.end.stuck ≡ end.1)) }
-    {
-        let values = self.values(alloc, instance, &end.0.cursors);
-        told_with(end, values)
-    }
-}
-
-/// Where a run has come and what is stuck there, as it is told with the values, where there was
-/// memory for them.
-pub(crate) fn told_with(
-    end: (Reached, Stuck),
-    values: Result<Values, AllocError>,
-) -> Result<Outcome, AllocError>
-    ensures { (i : ModelInstance) → IsStuckList i end.0.cursors end.1
-        → IfOk values (AreValuesAt i.stacks end.0.cursors)
-        → IfOk result (λ run. IsTold i end.0 run × (run.end.stuck ≡ end.1)) }
-{
-    let Ok(values) = values else {
-        drop(end);
-        return Err(AllocError);
-    };
-    let (reached, stuck) = end;
-    Ok(reached.told(stuck, values))
-}
-
-// The values that one thread looks up last.
-fn values_by(
-    alloc: Global,
-    alone: Alone,
-    instance: &Instance,
-    cursors: &Cursors,
-) -> Result<Values, AllocError>
-    requires serves { Serves instance.now alone }
-    requires count { variables_of instance.now.stacks ≡ length cursors.now }
-    requires within { AreWithin instance.now.stacks cursors.now }
-    ensures { IfOk result (AreValuesAt instance.now.stacks cursors.now) }
-{
-    let mut alone = alone;
-    let values = alone.values(alloc, instance, cursors);
-    drop(alone);
-    values
 }

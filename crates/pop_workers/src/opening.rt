@@ -2,7 +2,10 @@ ghost use Rattle.std.specs.Prelude.{◌≡◌, length, IfOk};
 ghost use Rattle.pop_model.specs.Stacks.{variables_of};
 ghost use Rattle.pop_model.specs.Popping.{AreWithin};
 ghost use Rattle.pop_model.specs.Runs.{start_of};
+ghost use Rattle.confluence_core.specs.Kept.{keeps_log};
+ghost use Rattle.confluence_core.specs.Stretches.{IsReached};
 
+use confluence_core::{Keep, Reached};
 use pop_instance::{Cursors, Instance};
 use std::alloc::{AllocError, Global};
 
@@ -14,4 +17,19 @@ pub fn zeros_of(alloc: Global, instance: &Instance) -> Result<Cursors, AllocErro
 {
     let _units = instance.units();
     Cursors::zeros(alloc, instance.stacks().count())
+}
+
+/// A run from cursors that are below the heights, before its first pop.
+pub(crate) fn opening_from(
+    alloc: Global,
+    instance: &Instance,
+    from: &Cursors,
+    keep: Keep,
+) -> Result<Reached, AllocError>
+    requires count { variables_of instance.now.stacks ≡ length from.now }
+    requires within { AreWithin instance.now.stacks from.now }
+    ensures { IfOk result (IsReached instance.now from.now (keeps_log keep)) }
+{
+    let start = from.copy(alloc)?;
+    Reached::starting(alloc, instance, start, keep)
 }

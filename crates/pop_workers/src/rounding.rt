@@ -1,6 +1,7 @@
 //! What a sole pass does to the end of a board: the work that is left, and rounds over all units
 //! until one pops nothing.
 ghost use Rattle.std.specs.Prelude.{OnOk, IfOk};
+ghost use Rattle.pop_model.specs.Families.{units_of};
 ghost use Rattle.claim_words.specs.Passes.{view, opening_of};
 ghost use Rattle.pop_workers.specs.AtWork.{IsSharedOn, HasTools, KeepsTools, IsSoleOn, IsAtEnd};
 ghost use Rattle.pop_workers.specs.Attempts.{IsRound};
@@ -55,8 +56,8 @@ fn pops_nothing<W: Range>(
     requires pass { IsSoleOn board.now pass.old }
     requires tools { HasTools shared.now tools.old }
     ensures pass { IsSoleOn board.now pass.new }
-    ensures round { IfOk result
-        (IsRound (opening_of board.now) (view pass.old) (view pass.new)) }
+    ensures round { IfOk result (IsRound (opening_of board.now) (view pass.old) (view pass.new)
+        (units_of shared.now.instance.now.family)) }
     ensures tools { KeepsTools shared.now.instance.now tools.old tools.new }
 {
     let mut nothing = true;

@@ -1,10 +1,8 @@
 //! One look of a worker for an event, and the hints behind a pop.
-ghost use Rattle.std.specs.Prelude.{◌≡◌, ℕ, ◌<◌, ◌≤◌, false, All, length};
+ghost use Rattle.std.specs.Prelude.{◌≡◌, ◌<◌, ◌≤◌, All, length};
 ghost use Rattle.pop_model.specs.Popping.{NamesBelow};
 ghost use Rattle.pop_model.specs.Families.{units_of};
-ghost use Rattle.claim_words.specs.Passes.{view, instance_of, opening_of};
-ghost use Rattle.claim_words.specs.Openings.{is_listed};
-ghost use Rattle.event_finders.specs.UnitConditions.{Indexes};
+ghost use Rattle.claim_words.specs.Passes.{view, opening_of};
 ghost use Rattle.pop_workers.specs.AtWork.{IsSharedOn, KeepsTools, IsIdleOn};
 ghost use Rattle.pop_workers.specs.Attempts.{IsIndexed, AreTools, Goes, FindsAlone, found_in};
 
@@ -13,7 +11,7 @@ use crate::shared::Shared;
 use crate::tools::Tools;
 use claim_words::{Board, Pass};
 use event_finders::{Stretch, Tried, try_unit, walk_on};
-use pop_instance::{Cube, Family, Index, Instance};
+use pop_instance::{Cube, Family, Index};
 use worker_hints::{Own, Range, give, give_all};
 
 /// Looks for an event at a unit, and pops it. Of a cycle family the unit is where a walk starts,
@@ -37,63 +35,16 @@ pub(crate) fn search<W: Range>(
         → FindsAlone (opening_of board.now) (view pass.old) (view pass.new) unit pops result }
     ensures tools { KeepsTools shared.now.instance.now tools.old tools.new }
 {
-    match shared.index {
-        Some(index) => search_unit(board, pass, shared.instance, index, tools, unit),
-        None => search_from(board, pass, shared.instance, tools, unit, pops),
-    }
-}
-
-// Looks at the event of a unit of a listed family.
-fn search_unit(
-    board: &Board,
-    pass: &mut Pass,
-    instance: &Instance,
-    index: &Index,
-    tools: &mut Tools,
-    unit: u32,
-) -> Found
-    requires board { instance_of board.now ≡ instance.now }
-    requires pass { IsIdleOn board.now pass.old }
-    requires index { Indexes instance.now index.now }
-    requires tools { AreTools instance.now tools.old.reader tools.old.walker }
-    requires known { unit < units_of instance.now.family }
-    ensures pass { IsIdleOn board.now pass.new }
-    ensures goes { Goes (view pass.old) (view pass.new) }
-    ensures alone { (view pass.old).share ≡ 64 → (pops : ℕ)
-        → FindsAlone (opening_of board.now) (view pass.old) (view pass.new) unit pops result }
-    ensures tools { KeepsTools instance.now tools.old tools.new }
-{
-    found(try_unit(board, pass, instance, index, &mut tools.reader, unit))
-}
-
-// Walks from a variable along the arrows of a cycle family.
-fn search_from(
-    board: &Board,
-    pass: &mut Pass,
-    instance: &Instance,
-    tools: &mut Tools,
-    start: u32,
-    pops: u64,
-) -> Found
-    requires board { instance_of board.now ≡ instance.now }
-    requires pass { IsIdleOn board.now pass.old }
-    requires cycles { is_listed instance.now.family ≡ false }
-    requires tools { AreTools instance.now tools.old.reader tools.old.walker }
-    requires known { start < units_of instance.now.family }
-    requires pops { 1 ≤ pops }
-    ensures pass { IsIdleOn board.now pass.new }
-    ensures goes { Goes (view pass.old) (view pass.new) }
-    ensures alone { (view pass.old).share ≡ 64
-        → FindsAlone (opening_of board.now) (view pass.old) (view pass.new) start pops result }
-    ensures tools { KeepsTools instance.now tools.old tools.new }
-{
-    let _units = instance.units();
-    let Some(walker) = &mut tools.walker else {
-        unreachable!()
+    let (instance, reader) = (shared.instance, &mut tools.reader);
+    let Some(index) = shared.index else {
+        let _units = instance.units();
+        let Some(walker) = &mut tools.walker else {
+            unreachable!()
+        };
+        let stretch = Stretch { start: unit, pops };
+        return found(walk_on(board, pass, instance, reader, walker, stretch));
     };
-    let stretch = Stretch { start, pops };
-    let reader = &mut tools.reader;
-    found(walk_on(board, pass, instance, reader, walker, stretch))
+    found(try_unit(board, pass, instance, index, reader, unit))
 }
 
 // What a finder's answer comes to.

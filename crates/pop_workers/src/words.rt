@@ -1,12 +1,12 @@
 //! Workers on a board of claim words, to its end.
-ghost use Rattle.std.specs.Prelude.{◌≡◌, ◌+◌, ◌<◌, ◌≤◌, length, All, IfOk, OnOk, IfSome};
+ghost use Rattle.std.specs.Prelude.{◌≡◌, ◌+◌, ◌<◌, ◌≤◌, length, All, IfOk, OnOk};
 ghost use Rattle.pop_model.specs.Families.{units_of};
 ghost use Rattle.pop_model.specs.Runs.{IsEnd};
 ghost use Rattle.pop_stacks.specs.Readers.{Belongs};
 ghost use Rattle.pop_instance.specs.Index.{IsFamilyIndex};
-ghost use Rattle.claim_words.specs.Passes.{IsOf, IsIdle, IsHelper, IsSole, view, instance_of, opening_of};
+ghost use Rattle.claim_words.specs.Passes.{IsOf, IsIdle, IsSole, view, instance_of, opening_of};
 ghost use Rattle.claim_words.specs.TicketLogs.{vector};
-ghost use Rattle.pop_workers.specs.AtWork.{IsSharedOn, HasTools, KeepsTools, IsIdleOn, IsSoleOn, IsAtEnd};
+ghost use Rattle.pop_workers.specs.AtWork.{IsSharedOn, HasTools, KeepsTools, IsIdleOn, IsSoleOn, IsAtEnd, IsBeside};
 ghost use Rattle.pop_workers.specs.Attempts.{AreTools, Goes};
 
 use crate::Gate;
@@ -146,15 +146,13 @@ fn work_at_once<'i, 'x, W: Range + Send + Sync, R: Threads + Sync, G: Gate + Syn
     requires shared { IsSharedOn W.units board.now shared.now }
     requires pass { IsIdleOn board.now pass.old }
     requires tools { HasTools shared.now tools.old }
-    requires passes { All (λ job. IsHelper board.now job.0) jobs.old.others.items }
+    requires jobs { All (λ job. IsBeside board.now job.0 job.2) jobs.old.others.items }
     requires len { length jobs.old.others.items < length shared.now.all.items }
     requires few { length jobs.old.others.items < 64 }
     ensures pass { IsIdleOn board.now pass.new }
     ensures goes { Goes (view pass.old) (view pass.new) }
     ensures tools { KeepsTools shared.now.instance.now tools.old tools.new }
-    ensures passes { All (λ job. IsHelper board.now job.0) jobs.new.others.items }
-    ensures readers { All (λ job.
-        IfSome job.2 (Belongs (instance_of board.now).stacks)) jobs.new.others.items }
+    ensures jobs { All (λ job. IsBeside board.now job.0 job.2) jobs.new.others.items }
     ensures len { length jobs.new.others.items ≡ length jobs.old.others.items }
 {
     let Workers { rt, gate, .. } = crew;
@@ -164,12 +162,10 @@ fn work_at_once<'i, 'x, W: Range + Send + Sync, R: Threads + Sync, G: Gate + Syn
         &mut || work(board, pass, shared, tools, own, gate),
         &mut ||
             requires shared { IsSharedOn W.units board.now shared.now }
-            requires passes { All (λ job. IsHelper board.now job.0) others.now.items }
+            requires jobs { All (λ job. IsBeside board.now job.0 job.2) others.now.items }
             requires len { length others.now.items < length shared.now.all.items }
             requires few { length others.now.items < 64 }
-            ensures passes { All (λ job. IsHelper board.entry.now job.0) others.exit.now.items }
-            ensures readers { All (λ job. IfSome job.2
-                (Belongs (instance_of board.entry.now).stacks)) others.exit.now.items }
+            ensures jobs { All (λ job. IsBeside board.entry.now job.0 job.2) others.exit.now.items }
             ensures len { length others.exit.now.items ≡ length others.entry.now.items }
         { work_beside(rt, board, shared, others, gate) },
     );
@@ -189,9 +185,7 @@ fn bring_in<W: Range>(
     requires pass { IsIdleOn board.now pass.old }
     requires share { (view pass.old).share + length others.items ≡ 64 }
     requires tools { HasTools shared.now tools.old }
-    requires passes { All (λ job. IsHelper board.now job.0) others.items }
-    requires readers { All (λ job.
-        IfSome job.2 (Belongs (instance_of board.now).stacks)) others.items }
+    requires jobs { All (λ job. IsBeside board.now job.0 job.2) others.items }
     ensures pass { IsIdleOn board.now pass.new }
     ensures end { OnOk result (IsAtEnd board.now pass.new) }
     ensures readers { IfOk result (λ readers.

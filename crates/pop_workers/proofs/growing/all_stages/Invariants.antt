@@ -1,16 +1,15 @@
 use Rattle.std.proofs.Common.{◌-◌}
 use Rattle.confluence_core.specs.Kept.{keeps_log}
 use Rattle.confluence_core.specs.Indexes.{Serves}
-use Rattle.pop_workers.specs.MadeFor.{made_for}
-use Rattle.pop_workers.specs.Stages.{height}
-use Rattle.pop_workers.proofs.StageTurns.{AreMade}
+use Rattle.pop_workers.specs.Stages.{height, AreMade, HasGrown}
 use Rattle.pop_workers.proofs.growing.all_stages.Given as goal
 
 -- the stages up to here were made, and those who make them serve the instance as it is
 abbrev pub invariant-stages : goal.invariant-stages
 invariant-stages g l = record {
+  grown : HasGrown l.last l.initial.instance (keeps_log l.fn.keep) l.instance;
   made : AreMade l.last l.initial.instance (keeps_log l.fn.keep) l.instance l.end.0 l.end.1;
-  serves : Serves l.instance (made_for l.makers);
+  serves : Serves l.instance l.makers;
 }
 
 -- how far the height is below the last

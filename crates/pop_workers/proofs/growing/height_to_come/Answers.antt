@@ -1,7 +1,7 @@
 use Rattle.std.proofs.Common.{◌≡◌, ◌*◌, ◌<◌, length, min, inl, inr, ap, subst, sym, ◌∙◌, arith}
 use Rattle.pop_model.specs.Stacks.{StackTable, variables_of, height_of}
 use Rattle.pop_workers.specs.Stages.{height}
-use Rattle.pop_workers.proofs.StageTurns.{some_variable, some_stuck}
+use Rattle.pop_workers.proofs.StageTurns.{some_variable}
 use Rattle.pop_workers.proofs.growing.height_to_come.Goals as goal
 
 pub height-height-requires : goal.height-height-requires
@@ -25,10 +25,9 @@ returns-clause-height c =
     let is : c.min.result ≡ min (2 * height i) last = c.min.ensures ∙ ap (λ n. min (2 * n) last) high in
     record {
       goes_on = λ is_last. elim is_last [
-        | inl none ↦ some_stuck stuck some none
+        | inl none ↦ let size = ap length none in omega (arith, some, size)
         | inr same ↦ omega (arith, same, high, c.if-height-last.false)
       ];
       is = is;
       higher = omega (arith, is, positive, high, c.if-height-last.false);
-      most = omega (arith, is);
     }

@@ -1,22 +1,25 @@
-use Rattle.std.proofs.Common.{arith, refl}
-use Rattle.claim_words.specs.Passes.{IsHelper}
-use Rattle.pop_workers.proofs.JobLists.{one_longer, all_longer}
+use Rattle.std.proofs.Common.{arith, ap, length}
+use Rattle.std.proofs.lemmas.List.{length_push}
+use Rattle.std.proofs.lemmas.List.Elements.{All-push, All-same}
+use Rattle.pop_workers.specs.AtWork.{IsBeside}
 use Rattle.pop_workers.proofs.jobs.hand_out.Goals as goal
 
 pub loop-own-preserved : goal.loop-own-preserved
 loop-own-preserved g c =
     let inv = c.loop-own.invariant in
-    let job = c.job_for.result in
-    let more = one_longer c.loop-own.jobs.items job c.push_reserved.new.self.items c.push_reserved.ensures.items in
-    let gone = one_longer c.loop-own.yielded c.in-Some.own _ refl in
+    let items = c.push_reserved.ensures.items in
+    let more = ap length items in
+    let size = length_push c.loop-own.jobs.items c.job_for.result in
+    let gone = length_push c.loop-own.yielded c.in-Some.own in
     let room = c.push_reserved.ensures.capacity in
     let share = c.job_for.ensures.share in (
       tt,
       tt,
       c.job_for.ensures.pass,
-      omega (arith, more, share, inv.3),
-      omega (arith, more, gone, inv.4),
+      omega (arith, more, size, share, inv.3),
+      omega (arith, more, size, gone, inv.4),
       omega (arith, room, inv.5),
-      all_longer c.loop-own.jobs.items job c.push_reserved.new.self.items c.push_reserved.ensures.items
-          (λ j. IsHelper c.args.board.now j.0) inv.6 c.job_for.ensures.helper,
+      All-same (λ job. IsBeside c.args.board.now job.0 job.2) _ _ items
+          (All-push (λ job. IsBeside c.args.board.now job.0 job.2) c.loop-own.jobs.items c.job_for.result inv.6
+          c.job_for.ensures.job),
     )

@@ -1,6 +1,6 @@
 use Rattle.std.proofs.Common.{◌≡◌, ◌+◌, ◌≤◌, length, All, vec_capacity}
-use Rattle.claim_words.specs.Passes.{IsHelper, view}
-use Rattle.pop_workers.specs.AtWork.{IsIdleOn}
+use Rattle.claim_words.specs.Passes.{view}
+use Rattle.pop_workers.specs.AtWork.{IsIdleOn, IsBeside}
 use Rattle.pop_workers.proofs.jobs.hand_out.Given as goal
 
 -- as many passes of share 1 were split off as deques were gone over, and there is room for all
@@ -12,4 +12,4 @@ invariant-loop-own g l =
     × ((view l.pass).share + length l.jobs.items ≡ (view l.initial.pass).share)
     × (length l.jobs.items ≡ length l.yielded)
     × (length l.fn.deques.items ≤ vec_capacity l.jobs)
-    × All (λ job. IsHelper l.board job.0) l.jobs.items
+    × All (λ job. IsBeside l.board job.0 job.2) l.jobs.items

@@ -1,24 +1,22 @@
-use Rattle.std.proofs.Common.{◌≡◌, ◌∷◌, ◌++◌, [], sym, subst, arith, IfSome}
-use Rattle.pop_stacks.specs.Readers.{Belongs}
-use Rattle.claim_words.specs.Passes.{IsHelper, instance_of}
-use Rattle.pop_workers.proofs.JobLists.{one_longer, without_last}
+use Rattle.std.proofs.Common.{Some, ap, length, ◌∙◌, arith}
+use Rattle.std.proofs.lemmas.List.{length_push}
+use Rattle.std.proofs.lemmas.List.Elements.{All-pop}
+use Rattle.pop_workers.specs.AtWork.{IsBeside}
 use Rattle.pop_workers.proofs.jobs.take_back.Goals as goal
+
+pub take_one-requires-clause-job : goal.take_one-requires-clause-job
+take_one-requires-clause-job g c =
+    (All-pop (λ job. IsBeside c.args.board.now job.0 job.2) c.loop-job.jobs.items c.pop.new.self.items
+    (Some c.in-Some.job) c.in-Some.ensures.items c.loop-job.invariant.2).1
 
 pub loop-job-preserved : goal.loop-job-preserved
 loop-job-preserved g c =
-    let s = (instance_of c.args.board.now).stacks in
     let inv = c.loop-job.invariant in
-    let job = c.in-Some.job in
-    let left = c.pop.new.self.items in
-    let items : c.loop-job.jobs.items ≡ left ++ job ∷ [] = c.in-Some.ensures.items in
-    let longer = one_longer left job c.loop-job.jobs.items items in
-    let helpers = without_last (λ j. IsHelper c.args.board.now j.0) left job c.loop-job.jobs.items items inv.2 in
-    let kept = without_last (λ j. IfSome j.2 (Belongs s)) left job c.loop-job.jobs.items items inv.3 in
-    let share = c.in_ok-reader.ensures.share in (
+    let share = c.in_ok-take_one.ensures.share in
+    let longer = ap length c.in-Some.ensures.items ∙ length_push c.pop.new.self.items c.in-Some.job in (
       c.take_one.ensures.pass,
       omega (arith, share, longer, inv.1),
-      helpers.0,
-      kept.0,
-      c.in_ok-put_before.ensures s inv.4
-          (subst (λ r. IfSome r (Belongs s)) (sym c.in_ok-reader.ensures.reader) kept.1),
+      (All-pop (λ job. IsBeside c.args.board.now job.0 job.2) c.loop-job.jobs.items c.pop.new.self.items
+          (Some c.in-Some.job) c.in-Some.ensures.items inv.2).0,
+      c.in_ok-take_one.ensures.readers,
     )

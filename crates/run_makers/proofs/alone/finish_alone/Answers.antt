@@ -1,10 +1,9 @@
-use Rattle.std.proofs.Common.{◌∙◌, sym, ap, subst}
+use Rattle.std.proofs.Common.{◌∙◌, sym, subst}
 use Rattle.std.proofs.lemmas.Result.{IfOk-weaker}
-use Rattle.confluence_core.specs.Runs.{ended}
 use Rattle.confluence_core.specs.Indexes.{Serves}
-use Rattle.confluence_core.specs.Stretches.{GoesOn}
 use Rattle.confluence_core.proofs.Reaching.{gone_run}
 use Rattle.confluence_core.proofs.Serving.{serves_itself}
+use Rattle.pop_workers.proofs.ToldRuns.{told_on}
 use Rattle.run_makers.proofs.alone.finish_alone.Goals as goal
 
 -- it was made for the instance
@@ -25,7 +24,6 @@ returns c =
     let on = c.in_ok-ended.ensures.on in
     let none = c.in_ok-ended.ensures.end in
     IfOk-weaker c.tell.result _ _ (λ left told. record {
-      on = subst (GoesOn i so_far) (sym (ap ended told.are))
-          (subst (λ us. GoesOn i so_far (record c.in_ok-ended.ended { suspects = us })) none on);
+      on = told_on i so_far c.in_ok-ended.ended left on none told;
       run = λ start keeps is. gone_run i start keeps so_far c.in_ok-ended.ended left is on none told;
     }) c.tell.ensures.told

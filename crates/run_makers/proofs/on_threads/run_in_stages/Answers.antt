@@ -16,6 +16,6 @@ returns g c =
     ∙ raised_twice s.instance s.last (height c.sample_grown.new.instance) in
     record {
       instance = at;
-      run = subst (λ (x : Instance). IsRunOf x (start_of x) (keeps_log s.keep) c.in_ok-run.run) (sym at)
+      run = subst (λ (x : Instance). IsRunOf x (start_of x) (keeps_log s.keep) c.in_ok-run.run') (sym at)
           c.in_ok-run.ensures.run;
     }

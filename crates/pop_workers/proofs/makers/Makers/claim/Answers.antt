@@ -10,10 +10,10 @@ use Rattle.pop_workers.proofs.ClosedBoards.{closed_reached, tickets_numbered}
 use Rattle.pop_workers.proofs.makers.Makers.claim.Goals as goal
 
 pub start-requires-clause-count : goal.start-requires-clause-count
-start-requires-clause-count g c κs within = sym (come_can c.args.instance.now c.args.reached.now c.requires.reached).count
+start-requires-clause-count g c = sym (come_can c.args.instance.now c.args.reached.now c.requires.reached).count
 
 pub start-requires-clause-within : goal.start-requires-clause-within
-start-requires-clause-within g c κs within = (come_can c.args.instance.now c.args.reached.now c.requires.reached).within
+start-requires-clause-within g c = (come_can c.args.instance.now c.args.reached.now c.requires.reached).within
 
 pub left_by-requires : goal.left_by-requires
 left_by-requires g c = record {
@@ -31,6 +31,7 @@ returns-in-Ok-clause-more g c =
     let reached = closed_reached c.in_ok-board.board c.work_on.new.pass c.in-Ok.closed c.in-Ok.ensures.closed
     c.in-Ok.ensures.log more c.in-Ok.ensures.left c.in-Ok.ensures.count
     (subst IsInstance (sym opened.instance) c.units-units.ensures.instance) left in
-    subst (λ k. IsReached c.args.instance.now c.args.reached.now.cursors k more) (ap keeps_log opened.keep ∙ c.keep.ensures)
+    subst (λ k. IsReached c.args.instance.now c.args.reached.now.cursors k more)
+    (ap keeps_log opened.keep ∙ c.keep-keep.ensures)
     (subst (λ at. IsReached c.args.instance.now at keeps more) opened.start
     (subst (λ (i : Instance). IsReached i start keeps more) opened.instance reached))) c.left_by.ensures
