@@ -1,6 +1,7 @@
 -- Each log has a layered order: its layers are a function of it, and insertion sorts it.
-use Rattle.std.proofs.Common.{◌≡◌, ℕ, zero, suc, ◌+◌, Bool, true, false, ◌&&◌, not, cond, List, [], ◌∷◌, zip, get_or, filter, refl, sym, ap, subst, ◌∙◌, arith, is_lt, true≢false}
+use Rattle.std.proofs.Common.{◌≡◌, ℕ, zero, suc, ◌+◌, Bool, true, false, not, cond, List, [], ◌∷◌, zip, get_or, filter, refl, sym, ap, subst, ◌∙◌, arith, is_lt, true≢false}
 use Rattle.std.specs.Cmp.{IsStrictWeakOrder}
+use Rattle.std.proofs.lemmas.Bool.{and_parts, not-true}
 use Rattle.std.specs.List.Sorted.{IsPermutation, IsSortedBy, IsStableBy, ties}
 use Rattle.std.proofs.lemmas.List.Sorted.{IsPermutation-refl, IsPermutation-trans, IsPermutation-cons, IsPermutation-middle}
 use Rattle.pop_model.specs.Logs.{LogRecord}
@@ -88,14 +89,7 @@ module _ {X : Type 0} (lt : X → X → Bool) (order : IsStrictWeakOrder lt) whe
   -- two that tie
   tie_parts : (z x : X) → ties lt z x ≡ true → (lt z x ≡ false) × (lt x z ≡ false)
   tie_parts z x tied =
-      (elim (lt z x) as (λ a. lt z x ≡ a → (not a && not (lt x z) ≡ true) → (lt z x ≡ false) × (lt x z ≡ false)) [
-        | true ↦ λ is h. absurd (true≢false (sym h))
-        | false ↦ λ is h.
-            (elim (lt x z) as (λ b. lt x z ≡ b → (not b ≡ true) → (lt z x ≡ false) × (lt x z ≡ false)) [
-              | true ↦ λ is' h'. absurd (true≢false (sym h'))
-              | false ↦ λ is' h'. (is, is')
-            ]) refl h
-      ]) refl tied
+      let parts = and_parts (not (lt z x)) (not (lt x z)) tied in (not-true _ parts.0, not-true _ parts.1)
 
   -- what ties with one element doesn't tie with a lesser one
   no_third : (z x y : X) → lt y x ≡ true → ties lt z x ≡ true → ties lt z y ≡ true → ⊥
@@ -106,9 +100,7 @@ module _ {X : Type 0} (lt : X → X → Bool) (order : IsStrictWeakOrder lt) whe
   one_kept : (x y : X) (l : List X) (a b : Bool) → (a ≡ true → b ≡ true → ⊥)
       → cond b (y ∷ cond a (x ∷ l) l) (cond a (x ∷ l) l) ≡ cond a (x ∷ cond b (y ∷ l) l) (cond b (y ∷ l) l)
   one_kept x y l true true both = absurd (both refl refl)
-  one_kept x y l true false both = refl
-  one_kept x y l false true both = refl
-  one_kept x y l false false both = refl
+  one_kept x y l a b both = refl
 
   -- those that tie stay in order
   put_stable : (x : X) (ys : List X) → IsStableBy lt (x ∷ ys) (put x ys)

@@ -4,10 +4,9 @@ use Rattle.std.proofs.lemmas.Bool.{or_parts}
 use Rattle.std.proofs.lemmas.List.{append-nil, length-map}
 use Rattle.std.proofs.lemmas.List.Sorted.{length_permutation}
 use Rattle.std.proofs.lemmas.Option.{none-some, same_Some}
-use Rattle.pop_model.specs.Families.{Event}
 use Rattle.pop_model.specs.Instances.{Instance, IsInstance}
 use Rattle.pop_model.specs.Extremal.{IsExtremal}
-use Rattle.pop_model.specs.Logs.{LogRecord, replay}
+use Rattle.pop_model.specs.Logs.{LogRecord, IsLegal, replay}
 use Rattle.pop_model.specs.Runs.{IsEnd, IsStuckList, IsFirstEnd, start_of}
 use Rattle.confluence_core.specs.Laws.{RunsToEnd}
 use Rattle.confluence_core.specs.Runs.{IsRunOf}
@@ -17,7 +16,7 @@ use Rattle.confluence_core.proofs.Reaching.{unsuspected_end}
 use Rattle.pop_log.specs.declared.names.Names.{Names}
 use Rattle.pop_log.specs.Layers.{Placed}
 use Rattle.pop_log.specs.Layered.{AreSorted, AreInLayers}
-use Rattle.pop_log.proofs.UnitEvents.{HaveCubes, family_cubes}
+use Rattle.pop_log.proofs.UnitEvents.{family_cubes}
 use Rattle.pop_log.proofs.LayeredLemmas.{zip_records}
 use Rattle.pop_log.proofs.LayeredLaws.{layered_is_legal, placed_in_layers}
 use Rattle.pop_words.specs.declared.reports.Reports.{Reports}
@@ -30,34 +29,12 @@ use Rattle.told_runs.specs.Names.{names_for}
 use Rattle.told_runs.specs.Reports.{reports_text, report_if, asks_report}
 use Rattle.told_runs.specs.Witnesses.{IsWitness, witness_text}
 use Rattle.told_runs.specs.Witnesses.Witness.{Unasked}
-use Rattle.told_runs.specs.Tellings.{records_of, GoesOn, IsToldOf, layered_text, telling_text, LeadsToEnd, TellsRecords, TellsLog, TellsRun, tells_watchers, looks_at_records, asks_for_log}
+use Rattle.told_runs.specs.Tellings.{records_of, GoesOn, layered_text, LeadsToEnd, IsLogOf, TellsRecords, TellsLog, TellsRun, tells_watchers, looks_at_records, asks_for_log}
 use Rattle.told_runs.specs.Outcomes.{AnswersBy, end_status}
 use Rattle.told_runs.specs.Outcomes.Outcome.{Ended, Resampled}
 use Rattle.told_runs.specs.Ends.{IsToldOfFirst, EndsWithin, IsEndOf, IsHistoryOf, IsHistoryWith}
 use Rattle.told_runs.proofs.LayeredOrders.{layered_order}
 use Rattle.told_runs.proofs.ToldOfFirst.{told_of_first}
-
--- a log that leads to these cursors in so many pops, and to an end with this stuck list
-record IsLogTo (i : Instance) (log : List LogRecord) (cursors : List ℕ) (pops : ℕ) (stuck : List Event) : Type 0 where
-  leads : LeadsToEnd i log stuck
-  there : cursors ≡ replay (start_of i) log
-  size : pops ≡ length log
-
--- so does the log of the pops by which a run came to its end
-log_of : (i : Instance) (keeps : Bool) (run : Run) (of : IsRunOf i (start_of i) keeps run)
-    → IsLogTo i of.reached.leads.log run.end.cursors run.end.pops run.end.stuck
-log_of i keeps run of =
-    let leads = of.reached.leads in
-    let end : IsEnd i run.end.cursors = unsuspected_end i run.end.cursors [] refl of.reached.can.suspects in
-    record {
-      leads = record {
-        legal = leads.legal;
-        end = subst (IsEnd i) leads.cursors_are end;
-        stuck_list = subst (λ c. IsStuckList i c run.end.stuck) leads.cursors_are of.stuck_list;
-      };
-      there = leads.cursors_are;
-      size = omega (arith, leads.pops_are);
-    }
 
 -- a log that is kept is that of the pops
 kept_same : (keeps : Bool) (log kept : List LogRecord) → Some kept ≡ with_more (if keeps then Some [] else None) log
@@ -71,13 +48,22 @@ unkept : (keeps : Bool) (log : List LogRecord) → None ≡ with_more (if keeps 
 unkept true log is = absurd (none-some log is)
 unkept false log is = refl
 
--- the log that a run keeps leads to its end
-kept_log : (i : Instance) (keeps : Bool) (run : Run) (log : List LogRecord) → run.log ≡ Some log
-    → IsRunOf i (start_of i) keeps run → IsLogTo i log run.end.cursors run.end.pops run.end.stuck
-kept_log i keeps run log is of =
+-- the log of the pops by which a run came to its end
+log_of : (i : Instance) (keeps : Bool) (run : Run) (of : IsRunOf i (start_of i) keeps run)
+    → IsLogOf i run of.reached.leads.log
+log_of i keeps run of =
     let leads = of.reached.leads in
-    subst (λ l. IsLogTo i l run.end.cursors run.end.pops run.end.stuck)
-    (kept_same keeps leads.log log (sym is ∙ leads.log_is)) (log_of i keeps run of)
+    let end : IsEnd i run.end.cursors = unsuspected_end i run.end.cursors [] refl of.reached.can.suspects in
+    record {
+      leads = record {
+        legal = leads.legal;
+        end = subst (IsEnd i) leads.cursors_are end;
+        stuck_list = subst (λ c. IsStuckList i c run.end.stuck) leads.cursors_are of.stuck_list;
+      };
+      cursors_are = leads.cursors_are;
+      pops_are = omega (arith, leads.pops_are);
+      kept = λ own is. kept_same keeps leads.log own (sym is ∙ leads.log_is);
+    }
 
 -- where no witness is asked for, none is told
 unasked : (w : Option (ℕ × ℕ)) → is_some w ≡ false → (names : Names) (cursors : List ℕ) (log : List LogRecord)
@@ -110,11 +96,14 @@ nothing_of_records asked none ws names i log missing text there empty =
       text_is = empty ∙ sym (untold asked parts.1 (log_told log ws));
     }
 
--- the text of a layered log that isn't printed
-pub unprinted : (names : Names) (i : Instance) (placed : List Placed) (printed : Bool) (text : List ℕ)
-    → printed ≡ false → text ≡ [] → text ≡ layered_text names i (if printed then Some placed else None)
-unprinted names i placed printed text hidden empty =
-    empty ∙ ap (λ b. layered_text names i (if b then Some placed else None)) (sym hidden)
+-- the layered log of a legal log is legal, with the same replay
+pub in_order : (i : Instance) → IsInstance i → (log : List LogRecord) (placed : List Placed)
+    → IsLegal i (start_of i) log → AreSorted log placed
+    → IsLegal i (start_of i) (records_of placed)
+    × (replay (start_of i) (records_of placed) ≡ replay (start_of i) log)
+in_order i is log placed legal sorted =
+    layered_is_legal i (family_cubes i.family is.family) (start_of i) log (records_of placed) legal
+    (record { placed = placed; sorted = sorted; records = refl })
 
 -- what is told of a log by the text of its layered log, and by what is told of that
 pub told_log : (asked : Asked) (ws : List Watcher) (names : Names) (i : Instance) (log : List LogRecord)
@@ -150,67 +139,45 @@ told_behind asked ws names i log placed missing before shown rest text sorted fr
       text_is = text_is ∙ ap (λ l. l ++ rest) front ∙ append_assoc before own rest;
     }
 
--- a text behind which nothing is printed
-pub unprinted_behind : (names : Names) (i : Instance) (placed : List Placed) (printed : Bool) (text : List ℕ)
-    → printed ≡ false → text ≡ text ++ layered_text names i (if printed then Some placed else None)
-unprinted_behind names i placed printed text hidden =
-    sym (append-nil text) ∙ ap (λ l. text ++ l) (unprinted names i placed printed [] hidden refl)
-
--- what is told of the log that a run kept
-pub told_kept : (asked : Asked) (ws : List Watcher) (names : Names) (i : Instance) (keeps : Bool) (run : Run)
-    (log : List LogRecord) (missing : Bool) (text : List ℕ) → run.log ≡ Some log → IsRunOf i (start_of i) keeps run
-    → TellsLog asked ws names i log missing text
-    → TellsRun asked ws names i run.end.cursors run.end.pops run.end.stuck missing text
-told_kept asked ws names i keeps run log missing text is of told =
-    let to = kept_log i keeps run log is of in
-    record { log = log; leads = to.leads; cursors_are = to.there; pops_are = to.size; told = told }
-
--- and of one that it didn't keep, since nothing of it is asked for
-pub told_unkept : (asked : Asked) (ws : List Watcher) (names : Names) (i : Instance) (keeps : Bool) (run : Run)
-    (missing : Bool) (text : List ℕ) → run.log ≡ None → keeps ≡ asks_for_log asked → IsInstance i
-    → IsRunOf i (start_of i) keeps run → missing ≡ false → text ≡ []
-    → TellsRun asked ws names i run.end.cursors run.end.pops run.end.stuck missing text
-told_unkept asked ws names i keeps run missing text is asks instance of there empty =
-    let leads = of.reached.leads in
-    let log : List LogRecord = leads.log in
-    let none = unkept keeps log (sym is ∙ leads.log_is) in
-    let parts = or_parts asked.log (looks_at_records asked) (sym asks ∙ none) in
-    let order = layered_order log in
-    let placed : List Placed = order.0 in
-    let to = log_of i keeps run of in
-    record {
-      log = log;
-      leads = to.leads;
-      cursors_are = to.there;
-      pops_are = to.size;
-      told = told_log asked ws names i log placed missing [] text text order.1
-          (unprinted names i placed asked.log [] parts.0 refl)
-          (nothing_of_records asked parts.1 ws names i (records_of placed) missing text there empty) refl;
-    }
-
--- the same of results, behind the text that was at hand
+-- what is told of the log that a run kept, behind the text that was at hand, is told of the run
 pub kept_result : {E : Type 0} (asked : Asked) (ws : List Watcher) (names : Names) (i : Instance) (keeps : Bool)
     (run : Run) (log : List LogRecord) (before : List ℕ) (r : Result LogText E) → run.log ≡ Some log
     → IsRunOf i (start_of i) keeps run
     → IfOk r (λ t. GoesOn before (TellsLog asked ws names i log t.missing) t.bytes.items)
-    → IfOk r (λ t. GoesOn before (TellsRun asked ws names i run.end.cursors run.end.pops run.end.stuck t.missing)
-    t.bytes.items)
+    → IfOk r (λ t. GoesOn before (TellsRun asked ws names i run t.missing) t.bytes.items)
 kept_result asked ws names i keeps run log before (Ok t) is of on =
+    let to = log_of i keeps run of in
     record {
       told = on.told;
-      says = told_kept asked ws names i keeps run log t.missing on.told is of on.says;
+      says = record {
+        log = of.reached.leads.log;
+        of = to;
+        told = subst (λ l. TellsLog asked ws names i l t.missing on.told) (sym (to.kept log is)) on.says;
+      };
       text_is = on.text_is;
     }
 kept_result asked ws names i keeps run log before (Err e) is of on = tt
 
--- of a run that kept none, nothing is told behind it
-pub unkept_behind : (asked : Asked) (ws : List Watcher) (names : Names) (i : Instance) (keeps : Bool) (run : Run)
-    (before : List ℕ) → run.log ≡ None → keeps ≡ asks_for_log asked → IsInstance i → IsRunOf i (start_of i) keeps run
-    → GoesOn before (TellsRun asked ws names i run.end.cursors run.end.pops run.end.stuck false) before
-unkept_behind asked ws names i keeps run before is asks instance of =
+-- of a run that kept none, nothing is told behind it, since nothing of it is asked for
+pub unkept_behind : (asked : Asked) (ws : List Watcher) (names : Names) (i : Instance) (run : Run) (before : List ℕ)
+    → run.log ≡ None → IsRunOf i (start_of i) (asks_for_log asked) run
+    → GoesOn before (TellsRun asked ws names i run false) before
+unkept_behind asked ws names i run before is of =
+    let leads = of.reached.leads in
+    let log : List LogRecord = leads.log in
+    let none = unkept (asks_for_log asked) log (sym is ∙ leads.log_is) in
+    let parts = or_parts asked.log (looks_at_records asked) none in
+    let order = layered_order log in
+    let placed : List Placed = order.0 in
     record {
       told = [];
-      says = told_unkept asked ws names i keeps run false [] is asks instance of refl refl;
+      says = record {
+        log = log;
+        of = log_of i (asks_for_log asked) run of;
+        told = told_log asked ws names i log placed false [] [] [] order.1
+            (rw parts.0 refl)
+            (nothing_of_records asked parts.1 ws names i (records_of placed) false [] refl refl) refl;
+      };
       text_is = sym (append-nil before);
     }
 
@@ -222,38 +189,6 @@ nothing_result asked ws names i log (Ok t) none there empty =
     nothing_of_records asked none ws names i log t.missing t.bytes.items there empty
 nothing_result asked ws names i log (Err e) none there empty = tt
 
--- what is told of a copy of a log is told of the log
-pub copied_result : {E : Type 0} (asked : Asked) (ws : List Watcher) (names : Names) (i : Instance)
-    (copy log : List LogRecord) (r : Result LogText E) → copy ≡ log
-    → IfOk r (λ t. TellsRecords asked ws names i copy t.missing t.bytes.items)
-    → IfOk r (λ t. TellsRecords asked ws names i log t.missing t.bytes.items)
-copied_result asked ws names i copy log r same told =
-    subst (λ l. IfOk r (λ t. TellsRecords asked ws names i l t.missing t.bytes.items)) same told
-
--- the text of an end, and behind it what is told of its log: of the one-thread run where the instance is extremal
-pub told_ended : (asked : Asked) (ws : List Watcher) (facts : Facts) (i : Instance) (names : Names) (cursors : List ℕ)
-    (pops : ℕ) (stuck : List Event) (missing : Bool) (status : ℕ) (text told out : List ℕ) → IsInstance i
-    → IsExtremal i.family → asked.free ≡ false → asked.count ≡ None → EndsWithin asked.pops pops
-    → IsFirstEnd i cursors pops stuck → names ≡ names_for facts
-    → TellsRun asked ws names i cursors pops stuck missing told
-    → status ≡ (if asked.free && missing then 6 else end_status stuck) → text ≡ end_text facts i cursors pops stuck
-    → out ≡ text ++ told → AnswersBy (IsEndOf asked ws facts i) status out
-told_ended asked ws facts i names cursors pops stuck missing status text told out is extremal ordered once within end names_are run
-    status_is text_is out_is =
-    let t = run.told in
-    let runs : RunsToEnd i (start_of i) run.log = record { legal = run.leads.legal; end = run.leads.end } in
-    let first : IsToldOfFirst asked ws names i t.telling =
-    told_of_first asked ws names i (family_cubes i.family is.family) extremal run.log end.run.0 runs end.run.1 t.placed
-    t.sorted t.telling t.is in (
-      Ended facts i cursors pops stuck t.telling,
-      (refl, refl, end, subst (λ n. IsToldOfFirst asked ws n i t.telling) names_are first, once, within),
-      record {
-        status_is = status_is ∙ ap (λ b. if b && missing then 6 else end_status stuck) ordered;
-        out_is = out_is ∙ ap₂ (λ (a b : List ℕ). a ++ b) text_is
-            (t.text_is ∙ ap (λ n. telling_text n i t.telling) names_are);
-      },
-    )
-
 -- the layered log has as many records
 pub placed_size : (log : List LogRecord) (placed : List Placed) (sorted : AreSorted log placed) → length log ≡ length placed
 placed_size log placed sorted =
@@ -261,67 +196,90 @@ placed_size log placed sorted =
     ∙ length-map (zip log sorted.layers) _
     ∙ sym (length_permutation (zip log sorted.layers) placed sorted.same_records)
 
--- and of the run itself where the order of pops is free
-pub told_history : (asked : Asked) (ws : List Watcher) (facts : Facts) (i : Instance) (names : Names)
-    (cursors : List ℕ) (pops : ℕ) (stuck : List Event) (missing : Bool) (status : ℕ) (text told out : List ℕ)
-    → IsInstance i → asked.free ≡ true → EndsWithin asked.pops pops → names ≡ names_for facts
-    → TellsRun asked ws names i cursors pops stuck missing told
-    → status ≡ (if asked.free && missing then 6 else end_status stuck) → text ≡ end_text facts i cursors pops stuck
-    → out ≡ text ++ told → AnswersBy (IsHistoryOf asked ws facts i) status out
-told_history asked ws facts i names cursors pops stuck missing status text told out is free within names_are run status_is
-    text_is out_is =
-    let t = run.told in
-    let start : List ℕ = start_of i in
-    let cubes : HaveCubes i.family = family_cubes i.family is.family in
-    let log : List LogRecord = records_of t.placed in
-    let of = layered_is_legal i cubes start run.log log run.leads.legal
-    (record { placed = t.placed; sorted = t.sorted; records = refl }) in
-    let there : cursors ≡ replay start log = run.cursors_are ∙ sym of.1 in
-    let size : pops ≡ length t.placed = run.pops_are ∙ placed_size run.log t.placed t.sorted in
-    let leads : LeadsToEnd i log stuck = record {
-      legal = of.0;
-      end = subst (IsEnd i) (sym of.1) run.leads.end;
-      stuck_list = subst (λ c. IsStuckList i c stuck) (sym of.1) run.leads.stuck_list;
-    } in
-    let layered : AreInLayers [] t.placed = placed_in_layers i cubes start run.log run.leads.legal t.placed t.sorted in (
-      Resampled facts i t.placed stuck t.telling,
-      (
-        refl,
-        refl,
-        leads,
-        layered,
-        subst (λ n. IsToldOf asked ws n i t.placed t.telling) names_are t.is,
-        subst (EndsWithin asked.pops) size within,
-      ),
+-- a run is told: by the text of its end, and behind it what is told of its log
+pub record IsToldSo (asked : Asked) (ws : List Watcher) (facts : Facts) (i : Instance) (run : Run) (status : ℕ)
+    (out : List ℕ) : Type 0 where
+  is : IsInstance i
+  within : EndsWithin asked.pops run.end.pops
+  first : IsExtremal i.family → IsFirstEnd i run.end.cursors run.end.pops run.end.stuck
+  missing : Bool
+  told : List ℕ
+  says : TellsRun asked ws (names_for facts) i run missing told
+  status_is : status ≡ (if asked.free && missing then 6 else end_status run.end.stuck)
+  out_is : out ≡ end_text facts i run.end.cursors run.end.pops run.end.stuck ++ told
+
+pub told_so : (asked : Asked) (ws : List Watcher) (facts : Facts) (i : Instance) (names : Names) (run : Run)
+    (missing : Bool) (status : ℕ) (text out : List ℕ) → IsInstance i → EndsWithin asked.pops run.end.pops
+    → IsRunOf i (start_of i) (asks_for_log asked) run → names ≡ names_for facts
+    → text ≡ end_text facts i run.end.cursors run.end.pops run.end.stuck
+    → GoesOn text (TellsRun asked ws names i run missing) out
+    → status ≡ (if asked.free && missing then 6 else end_status run.end.stuck) → IsToldSo asked ws facts i run status out
+told_so asked ws facts i names run missing status text out is within of names_are text_is on status_is = record {
+  is = is;
+  within = within;
+  first = λ extremal. of.first extremal refl;
+  missing = missing;
+  told = on.told;
+  says = subst (λ n. TellsRun asked ws n i run missing on.told) names_are on.says;
+  status_is = status_is;
+  out_is = on.text_is ∙ ap (λ l. l ++ on.told) text_is;
+}
+
+-- of an extremal instance that is told of the one-thread run
+pub told_ended : {asked : Asked} {ws : List Watcher} {facts : Facts} {i : Instance} {run : Run} {status : ℕ}
+    {out : List ℕ} → IsToldSo asked ws facts i run status out → asked.free ≡ false → asked.count ≡ None
+    → IsExtremal i.family → AnswersBy (IsEndOf asked ws facts i) status out
+told_ended {asked} {ws} {facts} {i} {run} so ordered once extremal =
+    let t = so.says.told in
+    let leads = so.says.of.leads in
+    let end = so.first extremal in
+    let runs : RunsToEnd i (start_of i) so.says.log = record { legal = leads.legal; end = leads.end } in
+    let first : IsToldOfFirst asked ws (names_for facts) i t.telling =
+    told_of_first asked ws (names_for facts) i (family_cubes i.family so.is.family) extremal so.says.log end.run.0 runs
+    end.run.1 t.placed t.sorted t.telling t.is in (
+      Ended facts i run.end.cursors run.end.pops run.end.stuck t.telling,
+      (refl, refl, end, first, once, so.within),
       record {
-        status_is = status_is
-            ∙ ap₂ (λ a b. if a && b then 6 else end_status stuck) free t.missing_is;
-        out_is = out_is ∙ ap₂ (λ (a b : List ℕ). a ++ b)
-            (text_is ∙ ap₂ (λ c n. end_text facts i c n stuck) there size)
-            (t.text_is ∙ ap (λ n. telling_text n i t.telling) names_are);
+        status_is = so.status_is ∙ ap (λ b. if b && so.missing then 6 else end_status run.end.stuck) ordered;
+        out_is = so.out_is ∙ ap (λ l. end_text facts i run.end.cursors run.end.pops run.end.stuck ++ l) t.text_is;
       },
     )
 
--- what is told of a log is told of it under another name
-pub same_told : {E : Type 0} (asked : Asked) (ws : List Watcher) (names : Names) (i : Instance)
-    (log other : List LogRecord) (before : List ℕ) (r : Result LogText E) → log ≡ other
-    → IfOk r (λ t. GoesOn before (TellsLog asked ws names i log t.missing) t.bytes.items)
-    → IfOk r (λ t. GoesOn before (TellsLog asked ws names i other t.missing) t.bytes.items)
-same_told asked ws names i log other before r same on =
-    subst (λ l. IfOk r (λ t. GoesOn before (TellsLog asked ws names i l t.missing) t.bytes.items)) same on
+-- and of the run itself where the order of pops is free, by its log
+told_with : {asked : Asked} {ws : List Watcher} {facts : Facts} {i : Instance} {run : Run} {status : ℕ}
+    {out : List ℕ} (so : IsToldSo asked ws facts i run status out) → asked.free ≡ true
+    → AnswersBy (IsHistoryWith so.says.log asked ws facts i) status out
+told_with {asked} {ws} {facts} {i} {run} so free =
+    let t = so.says.told in
+    let log = so.says.log in
+    let to = so.says.of in
+    let of = in_order i so.is log t.placed to.leads.legal t.sorted in
+    let there : run.end.cursors ≡ replay (start_of i) (records_of t.placed) = to.cursors_are ∙ sym of.1 in
+    let size : run.end.pops ≡ length t.placed = to.pops_are ∙ placed_size log t.placed t.sorted in
+    let leads : LeadsToEnd i (records_of t.placed) run.end.stuck = record {
+      legal = of.0;
+      end = subst (IsEnd i) (sym of.1) to.leads.end;
+      stuck_list = subst (λ c. IsStuckList i c run.end.stuck) (sym of.1) to.leads.stuck_list;
+    } in
+    let layered : AreInLayers [] t.placed = placed_in_layers i (family_cubes i.family so.is.family) (start_of i) log to.leads.legal
+    t.placed t.sorted in (
+      Resampled facts i t.placed run.end.stuck t.telling,
+      ((refl, refl, leads, layered, t.is, subst (EndsWithin asked.pops) size so.within), t.sorted),
+      record {
+        status_is = so.status_is ∙ ap₂ (λ a b. if a && b then 6 else end_status run.end.stuck) free t.missing_is;
+        out_is = so.out_is
+            ∙ ap₂ (λ (a b : List ℕ). a ++ b) (ap₂ (λ c n. end_text facts i c n run.end.stuck) there size) t.text_is;
+      },
+    )
 
--- with the log that it kept
-pub told_history_with : (asked : Asked) (ws : List Watcher) (facts : Facts) (i : Instance) (names : Names)
-    (keeps : Bool) (run : Run) (log : List LogRecord) (missing : Bool) (status : ℕ) (text told out : List ℕ)
-    → IsInstance i → asked.free ≡ true → EndsWithin asked.pops run.end.pops → names ≡ names_for facts
-    → run.log ≡ Some log → IsRunOf i (start_of i) keeps run → TellsLog asked ws names i log missing told
-    → status ≡ (if asked.free && missing then 6 else end_status run.end.stuck)
-    → text ≡ end_text facts i run.end.cursors run.end.pops run.end.stuck → out ≡ text ++ told
-    → AnswersBy (IsHistoryWith log asked ws facts i) status out
-unfolding told_history told_kept
-told_history_with asked ws facts i names keeps run log missing status text told out is free within names_are kept_is of
-    tells status_is text_is out_is =
-    let (o, comes, said) = told_history asked ws facts i names run.end.cursors run.end.pops run.end.stuck missing status
-    text told out is free within names_are (told_kept asked ws names i keeps run log missing told kept_is of tells)
-    status_is text_is out_is in
-    (o, (comes, tells.sorted), said)
+pub told_history : {asked : Asked} {ws : List Watcher} {facts : Facts} {i : Instance} {run : Run} {status : ℕ}
+    {out : List ℕ} → IsToldSo asked ws facts i run status out → asked.free ≡ true
+    → AnswersBy (IsHistoryOf asked ws facts i) status out
+told_history so free = let (o, comes, tells) = told_with so free in (o, comes.0, tells)
+
+-- which is the one that it kept
+pub told_history_with : {asked : Asked} {ws : List Watcher} {facts : Facts} {i : Instance} {run : Run} {status : ℕ}
+    {out : List ℕ} → IsToldSo asked ws facts i run status out → asked.free ≡ true → (log : List LogRecord)
+    → run.log ≡ Some log → AnswersBy (IsHistoryWith log asked ws facts i) status out
+told_history_with {asked} {ws} {facts} {i} {run} {status} {out} so free log is =
+    subst (λ l. AnswersBy (IsHistoryWith l asked ws facts i) status out) (so.says.of.kept log is) (told_with so free)

@@ -5,6 +5,7 @@ use Rattle.pop_model.specs.Families.{Event}
 use Rattle.pop_model.specs.Instances.{Instance}
 use Rattle.pop_model.specs.Logs.{LogRecord, IsLegal, replay}
 use Rattle.pop_model.specs.Runs.{IsEnd, IsStuckList, start_of}
+use Rattle.confluence_core.specs.declared.run.Run.{Run}
 use Rattle.pop_log.specs.declared.names.Names.{Names}
 use Rattle.pop_log.specs.Layers.{Placed}
 use Rattle.pop_log.specs.Layered.{AreSorted}
@@ -71,14 +72,18 @@ pub record TellsLog (asked : Asked) (watchers : List Watcher) (names : Names) (i
   pub missing_is : missing ≡ is_missing telling.witness
   pub text_is : text ≡ telling_text names i telling
 
--- a log led to these cursors in so many pops, and to this stuck list, and this is told of it
+-- a log led to the end of this run, and is the one that it kept, if it kept one
+pub record IsLogOf (i : Instance) (run : Run) (log : List LogRecord) : Type 0 where
+  pub leads : LeadsToEnd i log run.end.stuck
+  pub cursors_are : run.end.cursors ≡ replay (start_of i) log
+  pub pops_are : run.end.pops ≡ length log
+  pub kept : (own : List LogRecord) → run.log ≡ Some own → log ≡ own
+
+-- this is told of the log of a run
 pub record TellsRun (asked : Asked) (watchers : List Watcher) (names : Names) (i : Instance)
-    (cursors : List ℕ) (pops : ℕ) (stuck : List Event) (missing : Bool) (text : List ℕ)
-    : Type 0 where
+    (run : Run) (missing : Bool) (text : List ℕ) : Type 0 where
   pub log : List LogRecord
-  pub leads : LeadsToEnd i log stuck
-  pub cursors_are : cursors ≡ replay (start_of i) log
-  pub pops_are : pops ≡ length log
+  pub of : IsLogOf i run log
   pub told : TellsLog asked watchers names i log missing text
 
 -- a text, and behind it one that says this

@@ -213,17 +213,10 @@ fn tell_run<M>(
 ) -> Result<LogText, AllocError>
     requires { IsRunOf named.now.instance.now (start_of named.now.instance.now)
         (asks_for_log asked) run.now }
-    ensures run { IfOk result (λ t. GoesOn text.items (TellsRun asked
+    ensures { IfOk result (λ t. GoesOn text.items (TellsRun asked
         (map (λ b. (kind b, state b)) call.old.watchers.items) named.now.names.now
-        named.now.instance.now run.now.end.cursors run.now.end.pops run.now.end.stuck t.missing)
-        t.bytes.items) }
-    ensures kept { (kept : List LogRecord) → run.now.log ≡ Some kept
-        → IfOk result (λ t. GoesOn text.items (TellsLog asked
-        (map (λ b. (kind b, state b)) call.old.watchers.items) named.now.names.now
-        named.now.instance.now kept t.missing) t.bytes.items) }
+        named.now.instance.now run.now t.missing) t.bytes.items) }
 {
-    // Read for its contract, which says what holds of every instance.
-    let _units = named.instance.units();
     match &run.log {
         Some(log) => text_of_log(call, named, &run.end.cursors, log, asked, text),
         None => Ok(LogText {

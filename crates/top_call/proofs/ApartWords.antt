@@ -1,22 +1,22 @@
 -- Options of two kinds that exclude each other: of these only one is ever chosen. So what the one kind sets is as it is by
 -- default; or the command is one that allows that kind, and what the other kind sets is as it is by default.
-use Rattle.std.proofs.Common.{inl, inr, ◌≡◌, ◌⊎◌, ℕ, ◌-◌, ◌^◌, Bool, true, false, not, ◌||◌, List, [], ◌∷◌, ◌++◌, Option, None, Some, refl, sym, ap, subst, ◌∙◌, Contains}
+use Rattle.std.proofs.Common.{inl, inr, ◌≡◌, ◌⊎◌, ℕ, Bool, true, false, not, ◌||◌, List, [], ◌∷◌, ◌++◌, Option, None, Some, refl, sym, ap, subst, ◌∙◌, arith, Contains}
 use Rattle.std.specs.Prelude.{unwrap_or, option_map}
-use Rattle.std.specs.List.{list_all}
-use Rattle.std.proofs.lemmas.Bool.{cases_Bool, or_cases, both_ways, not-true}
-use Rattle.std.proofs.lemmas.List.Elements.{Contains-append_left, Contains-push}
-use Rattle.std.proofs.lemmas.Map.Views.{Contains-from_any}
-use Rattle.std.proofs.lemmas.Slice.Eq.{bytes_eq-Decides}
-use Rattle.pop_stacks.specs.declared.stack_spec.StackSpec.TheVariants.{Key as KeyedStacks, Given as GivenStacks}
+use Rattle.std.specs.List.{list_all, list_any}
+use Rattle.std.proofs.lemmas.Bool.{cases_Bool, or_cases, both_ways, not-true, false_from_ne_true}
+use Rattle.std.proofs.lemmas.List.Elements.{Contains-append_cases, Contains-append_right}
+use Rattle.pop_model.proofs.Rising.{only_member, head_member}
 use Rattle.pop_words.specs.declared.command.Command.{Command}
 use Rattle.pop_words.specs.declared.field.Field.{Field}
-use Rattle.pop_words.specs.declared.field.Field.TheVariants.{Stacks, Key, Height, Grow, Count, Pops, Workers, Board, Log, Root, Witness, Reports, Size}
+use Rattle.pop_words.specs.declared.field.Field.TheVariants.{Stacks}
 use Rattle.pop_words.specs.declared.job.Job.{Job}
-use Rattle.pop_words.specs.Values.{number_between, rows_in, key_in, board_in, switch_in, pair_in, reports_in}
+use Rattle.pop_words.specs.Values.{rows_in}
 use Rattle.pop_words.specs.Options.{NamedOption, options, value_of, default_job}
-use Rattle.pop_words.specs.CommandLines.{Choice, AreOptions, Asks, MayFollow, set_option, job_from}
+use Rattle.pop_words.specs.CommandLines.{Choice, options_of, AreOptions, Asks, set_option, job_from}
 use Rattle.pop_words.specs.Reading.{excludes}
-use Rattle.pop_words.proofs.ListTests.{all_at}
+use Rattle.pop_words.proofs.ListTests.{all_at, some_at, some_from}
+use Rattle.pop_words.proofs.ChosenOptions.{are_listed}
+use Rattle.pop_words.proofs.StandingOptions.{asked_apart}
 
 -- what each value leaves is left
 pub kept : {X Y : Type 0} (look : Job → Y) (put : X → Job → Job) → ((x : X) (j : Job) → look (put x j) ≡ look j)
@@ -25,39 +25,62 @@ kept look put leaves job None = refl
 kept look put leaves job (Some x) = leaves x job
 
 -- an option leaves the command
-keeps_command : (f : Field) (word : List ℕ) (job : Job) → (unwrap_or (value_of f word) (λ j. j) job).command ≡ job.command
-keeps_command Stacks word job =
-    kept (λ (j : Job). j.command) (λ rows j. record j { stacks = GivenStacks rows }) (λ x j. refl) job (rows_in word)
-keeps_command Key word job =
-    kept (λ (j : Job). j.command) (λ key j. record j { stacks = KeyedStacks key }) (λ x j. refl) job (key_in word)
-keeps_command Height word job =
-    kept (λ (j : Job). j.command) (λ n j. record j { height = n }) (λ x j. refl) job (number_between 1 (2 ^ 31 - 1) word)
-keeps_command Grow word job =
-    kept (λ (j : Job). j.command) (λ n j. record j { grow = Some n }) (λ x j. refl) job (number_between 1 (2 ^ 31 - 1) word)
-keeps_command Count word job =
-    kept (λ (j : Job). j.command) (λ n j. record j { count = Some n }) (λ x j. refl) job (number_between 1 65536 word)
-keeps_command Pops word job =
-    kept (λ (j : Job). j.command) (λ n j. record j { pops = Some n }) (λ x j. refl) job (number_between 1 (2 ^ 32 - 1) word)
-keeps_command Workers word job =
-    kept (λ (j : Job). j.command) (λ n j. record j { workers = n }) (λ x j. refl) job (number_between 1 64 word)
-keeps_command Board word job =
-    kept (λ (j : Job). j.command) (λ b j. record j { board = b }) (λ x j. refl) job (board_in word)
-keeps_command Log word job =
-    kept (λ (j : Job). j.command) (λ log j. record j { log = log }) (λ x j. refl) job (switch_in word)
-keeps_command Root word job =
-    kept (λ (j : Job). j.command) (λ n j. record j { root = n }) (λ x j. refl) job (number_between 1 (2 ^ 32 - 1) word)
-keeps_command Witness word job =
-    kept (λ (j : Job). j.command) (λ pair j. record j { witness = Some pair }) (λ x j. refl) job (pair_in word)
-keeps_command Reports word job =
-    kept (λ (j : Job). j.command) (λ kinds j. record j { reports = kinds }) (λ x j. refl) job (reports_in word)
-keeps_command Size word job =
-    kept (λ (j : Job). j.command) (λ n j. record j { size = n }) (λ x j. refl) job (number_between 1 2048 word)
+keeps_command : (f : Field) (word : List ℕ) (job : Job) → false ≡ false
+    → (unwrap_or (value_of f word) (λ j. j) job).command ≡ job.command
+keeps_command Stacks word job other = kept (λ (j : Job). j.command) _ (λ x j. refl) job (rows_in word)
+keeps_command f word job other = kept (λ (j : Job). j.command) _ (λ x j. refl) job _
 
--- options leave the command
-all_keep_command : (job : Job) (chosen : List Choice) → (job_from job chosen).command ≡ job.command
-all_keep_command job [] = refl
-all_keep_command job (p ∷ chosen) =
-    all_keep_command (set_option job p) chosen ∙ keeps_command p.0.field p.1 job
+-- what each option of no such kind leaves, options leave of which none is of the kind
+all_keep : {Y : Type 0} (kind : Field → Bool) (look : Job → Y)
+    → ((f : Field) (word : List ℕ) (job : Job) → kind f ≡ false
+    → look (unwrap_or (value_of f word) (λ j. j) job) ≡ look job)
+    → (job : Job) (chosen : List Choice) → ((o : NamedOption) → Contains (options_of chosen) o → kind o.field ≡ false)
+    → look (job_from job chosen) ≡ look job
+all_keep kind look leaves job [] none = refl
+all_keep kind look leaves job (p ∷ chosen) none =
+    all_keep kind look leaves (set_option job p) chosen
+    (λ o later. none o (Contains-append_right (p.0 ∷ []) (options_of chosen) o later))
+    ∙ leaves p.0.field p.1 job (none p.0 (head_member p.0 (options_of chosen)))
+
+-- so the job has the command of its words
+asked_command : (words : List (List ℕ)) (job : Job) (asks : Asks words job) → job.command ≡ asks.command
+asked_command words job asks =
+    ap (λ (j : Job). j.command) asks.job_is
+    ∙ all_keep (λ f. false) (λ (j : Job). j.command) keeps_command (default_job asks.command) asks.chosen (λ o among. refl)
+
+-- and what no chosen option sets is as it is by default
+unset : {Y : Type 0} (kind : Field → Bool) (look : Job → Y)
+    → ((f : Field) (word : List ℕ) (job : Job) → kind f ≡ false
+    → look (unwrap_or (value_of f word) (λ j. j) job) ≡ look job)
+    → (words : List (List ℕ)) (job : Job) (asks : Asks words job)
+    → ((o : NamedOption) → Contains (options_of asks.chosen) o → kind o.field ≡ false)
+    → look job ≡ look (default_job job.command)
+unset kind look leaves words job asks none =
+    ap look asks.job_is ∙ all_keep kind look leaves (default_job asks.command) asks.chosen none
+    ∙ ap (λ k. look (default_job k)) (sym (asked_command words job asks))
+
+-- the command allows each option that was chosen
+are_allowed : (command : Command) (before : List NamedOption) (chosen : List Choice) → AreOptions command before chosen
+    → (o : NamedOption) → Contains (options_of chosen) o → Contains o.commands command
+are_allowed command before [] are o (k, within, at) = absurd (omega arith)
+are_allowed command before (p ∷ chosen) are o among =
+    elim (Contains-append_cases (p.0 ∷ []) (options_of chosen) o among) [
+      | inl first ↦ subst (λ q. Contains q.commands command) (only_member p.0 o first) are.0.allowed
+      | inr later ↦ are_allowed command (before ++ p.0 ∷ []) chosen are.2 o later
+    ]
+
+-- so it fits, where an option was chosen of a kind that only commands allow which fit
+pub kind_fits : (kind : Field → Bool) (fits : Command → Bool)
+    → list_all (λ o. not (kind o.field) || list_all fits o.commands) options ≡ true
+    → (words : List (List ℕ)) (job : Job) (asks : Asks words job) (o : NamedOption)
+    → Contains (options_of asks.chosen) o → kind o.field ≡ true → fits job.command ≡ true
+kind_fits kind fits all_fit words job asks o among is =
+    elim (or_cases _ _ (all_at (λ p. not (kind p.field) || list_all fits p.commands) options all_fit o
+    (are_listed asks.command [] asks.chosen asks.options o among))) [
+      | inl never ↦ absurd (both_ways (kind o.field) (not-true _ never) is)
+      | inr all ↦ subst (λ k. fits k ≡ true) (sym (asked_command words job asks))
+          (all_at fits o.commands all asks.command (are_allowed asks.command [] asks.chosen asks.options o among))
+    ]
 
 -- Two kinds of options, by the fields that they set, and what of a job each kind sets. Those of the one kind are allowed
 -- by these commands alone, and exclude those of the other.
@@ -72,105 +95,40 @@ pub record AreKinds {A B : Type 0} (one other : Field → Bool) (look : Job → 
   pub all_keep_out : list_all (λ o. list_all (λ p. not (one o.field) || (not (other p.field) || excludes o p.name))
       options) options ≡ true
 
--- what was chosen so far: neither kind, or the one, or the other
-data Chosen {A B : Type 0} (one other : Field → Bool) (look : Job → A) (see : Job → B) (fits : Command → Bool)
-    (command : Command) (before : List NamedOption) (job : Job) : Type 0 where
-  neither : look job ≡ look (default_job command) → see job ≡ see (default_job command)
-      → Chosen one other look see fits command before job
-  of_one : (o : NamedOption) → Contains options o → Contains before o → one o.field ≡ true → fits command ≡ true
-      → see job ≡ see (default_job command) → Chosen one other look see fits command before job
-  of_other : (o : NamedOption) → Contains options o → Contains before o → other o.field ≡ true
-      → look job ≡ look (default_job command) → Chosen one other look see fits command before job
-
--- an option of the one kind has such a command
-fitting : {A B : Type 0} (one other : Field → Bool) (look : Job → A) (see : Job → B) (fits : Command → Bool)
-    → AreKinds one other look see fits → (command : Command) (before : List NamedOption) (o : NamedOption)
-    → MayFollow command before o → one o.field ≡ true → fits command ≡ true
-fitting one other look see fits kinds command before o follows is =
-    elim (or_cases _ _ (all_at (λ p. not (one p.field) || list_all fits p.commands) options kinds.all_fit o follows.listed)) [
-      | inl never ↦ absurd (both_ways (one o.field) (not-true _ never) is)
-      | inr all ↦ all_at fits o.commands all command follows.allowed
-    ]
-
--- and excludes each of the other kind
-excluded : {A B : Type 0} (one other : Field → Bool) (look : Job → A) (see : Job → B) (fits : Command → Bool)
-    → AreKinds one other look see fits → (o p : NamedOption) → Contains options o → Contains options p
-    → one o.field ≡ true → other p.field ≡ true → Contains o.excludes p.name
-excluded one other look see fits kinds o p listed also is is_other =
+-- beside an option of the one kind none of the other was chosen
+kept_out : {A B : Type 0} (one other : Field → Bool) (look : Job → A) (see : Job → B) (fits : Command → Bool)
+    → AreKinds one other look see fits → (words : List (List ℕ)) (job : Job) (asks : Asks words job) (o p : NamedOption)
+    → Contains (options_of asks.chosen) o → Contains (options_of asks.chosen) p → one o.field ≡ true
+    → other p.field ≡ true → ⊥
+kept_out one other look see fits kinds words job asks o p among also is is_other =
+    let listed = are_listed asks.command [] asks.chosen asks.options in
     let each : list_all (λ q. not (one o.field) || (not (other q.field) || excludes o q.name)) options ≡ true =
     all_at (λ r. list_all (λ q. not (one r.field) || (not (other q.field) || excludes r q.name)) options) options
-    kinds.all_keep_out o listed in
-    elim (or_cases _ _ (all_at (λ q. not (one o.field) || (not (other q.field) || excludes o q.name)) options each p also)) [
-      | inl never ↦ absurd (both_ways (one o.field) (not-true _ never) is)
+    kinds.all_keep_out o (listed o among) in
+    elim (or_cases _ _ (all_at (λ q. not (one o.field) || (not (other q.field) || excludes o q.name)) options each p
+    (listed p also))) [
+      | inl never ↦ both_ways (one o.field) (not-true _ never) is
       | inr more ↦ elim (or_cases _ _ more) [
-        | inl never ↦ absurd (both_ways (other p.field) (not-true _ never) is_other)
-        | inr test ↦ Contains-from_any (λ a b. (bytes_eq-Decides a b).0) p.name o.excludes test
+        | inl never ↦ both_ways (other p.field) (not-true _ never) is_other
+        | inr excluded ↦ asked_apart words job asks o p among also excluded
       ]
     ]
 
--- behind one option more
-chosen_more : {A B : Type 0} (one other : Field → Bool) (look : Job → A) (see : Job → B) (fits : Command → Bool)
-    → AreKinds one other look see fits → (command : Command) (before : List NamedOption) (job : Job) (p : Choice)
-    → MayFollow command before p.0 → Chosen one other look see fits command before job
-    → Chosen one other look see fits command (before ++ p.0 ∷ []) (set_option job p)
-chosen_more one other look see fits kinds command before job p follows (neither none quiet) =
-    elim (cases_Bool (one p.0.field)) [
-      | inl is ↦ of_one p.0 follows.listed (Contains-push before p.0) is
-          (fitting one other look see fits kinds command before p.0 follows is)
-          (kinds.others_leave p.0.field p.1 job (kinds.apart p.0.field is) ∙ quiet)
-      | inr isnt ↦ elim (cases_Bool (other p.0.field)) [
-        | inl is ↦ of_other p.0 follows.listed (Contains-push before p.0) is (kinds.leaves p.0.field p.1 job isnt ∙ none)
-        | inr still ↦ neither (kinds.leaves p.0.field p.1 job isnt ∙ none)
-            (kinds.others_leave p.0.field p.1 job still ∙ quiet)
-      ]
-    ]
-chosen_more one other look see fits kinds command before job p follows (of_one o listed there is fit quiet) =
-    elim (cases_Bool (other p.0.field)) [
-      | inl is_other ↦ absurd ((follows.compatible o there).keeps
-          (excluded one other look see fits kinds o p.0 listed follows.listed is is_other))
-      | inr still ↦ of_one o listed (Contains-append_left before (p.0 ∷ []) o there) is fit
-          (kinds.others_leave p.0.field p.1 job still ∙ quiet)
-    ]
-chosen_more one other look see fits kinds command before job p follows (of_other o listed there is none) =
-    elim (cases_Bool (one p.0.field)) [
-      | inl is_one ↦ absurd ((follows.compatible o there).kept_by
-          (excluded one other look see fits kinds p.0 o follows.listed listed is_one is))
-      | inr isnt ↦ of_other o listed (Contains-append_left before (p.0 ∷ []) o there) is
-          (kinds.leaves p.0.field p.1 job isnt ∙ none)
-    ]
-
--- behind options one after another
-all_chosen : {A B : Type 0} (one other : Field → Bool) (look : Job → A) (see : Job → B) (fits : Command → Bool)
-    → AreKinds one other look see fits → (command : Command) (before : List NamedOption) (job : Job)
-    (chosen : List Choice) → AreOptions command before chosen → Chosen one other look see fits command before job
-    → (after : List NamedOption) × Chosen one other look see fits command after (job_from job chosen)
-all_chosen one other look see fits kinds command before job [] are so = (before, so)
-all_chosen one other look see fits kinds command before job (p ∷ chosen) are so =
-    all_chosen one other look see fits kinds command (before ++ p.0 ∷ []) (set_option job p) chosen are.2
-    (chosen_more one other look see fits kinds command before job p are.0 so)
-
--- what the one kind sets is as by default; or the command fits, and what the other sets is
-abbrev IsSettled : {A B : Type 0} → (Job → A) → (Job → B) → (Command → Bool) → Command → Job → Type 0
-IsSettled look see fits command job =
-    (look job ≡ look (default_job command)) ⊎ ((fits command ≡ true) × (see job ≡ see (default_job command)))
-
-settled_by : {A B : Type 0} (one other : Field → Bool) (look : Job → A) (see : Job → B) (fits : Command → Bool)
-    (command : Command) (before : List NamedOption) (job : Job) → Chosen one other look see fits command before job
-    → IsSettled look see fits command job
-settled_by one other look see fits command before job (neither none quiet) = inl none
-settled_by one other look see fits command before job (of_one o listed there is fit quiet) = inr (fit, quiet)
-settled_by one other look see fits command before job (of_other o listed there is none) = inl none
-
--- of the job that words ask for
+-- what the one kind sets is as it is by default; or the command fits, and what the other sets is
 pub settled : {A B : Type 0} (one other : Field → Bool) (look : Job → A) (see : Job → B) (fits : Command → Bool)
     → AreKinds one other look see fits → (words : List (List ℕ)) (job : Job) → Asks words job
     → (look job ≡ look (default_job job.command))
     ⊎ ((fits job.command ≡ true) × (see job ≡ see (default_job job.command)))
 settled one other look see fits kinds words job asks =
-    let chosen = all_chosen one other look see fits kinds asks.command [] (default_job asks.command) asks.chosen
-    asks.options (neither refl refl) in
-    let by : job.command ≡ asks.command =
-    ap (λ (j : Job). j.command) asks.job_is ∙ all_keep_command (default_job asks.command) asks.chosen in
-    subst (λ k. IsSettled look see fits k job) (sym by)
-    (subst (IsSettled look see fits asks.command) (sym asks.job_is)
-    (settled_by one other look see fits asks.command chosen.0 _ chosen.1))
+    let of_one : NamedOption → Bool = λ o. one o.field in
+    elim (cases_Bool (list_any of_one (options_of asks.chosen))) [
+      | inl some ↦
+          let (o, among, is) = some_from of_one (options_of asks.chosen) some in
+          inr (
+            kind_fits one fits kinds.all_fit words job asks o among is,
+            unset other see kinds.others_leave words job asks (λ p also. false_from_ne_true (other p.field)
+                (kept_out one other look see fits kinds words job asks o p among also is)),
+          )
+      | inr none ↦ inl (unset one look kinds.leaves words job asks (λ o among. false_from_ne_true (one o.field)
+          (λ is. both_ways _ none (some_at of_one (options_of asks.chosen) o among is))))
+    ]

@@ -1,6 +1,6 @@
 -- Words that ask for a number of samples. Their command is one that has batches, their entries come from a key, and
 -- nothing of a log is told: what tells of one run and what asks for many exclude each other, so one of them is never set.
-use Rattle.std.proofs.Common.{inl, inr, ◌≡◌, ◌≢◌, ℕ, ◌-◌, ◌^◌, Bool, true, false, List, Option, None, Some, refl, sym, ap, subst, ◌∙◌}
+use Rattle.std.proofs.Common.{inl, inr, ◌≡◌, ◌≢◌, ℕ, Bool, true, false, List, Option, None, Some, refl, sym, ap, subst, ◌∙◌}
 use Rattle.std.specs.Prelude.{unwrap_or}
 use Rattle.std.proofs.lemmas.Bool.{false≢true, both_ways}
 use Rattle.std.proofs.lemmas.Option.{none-some}
@@ -11,15 +11,16 @@ use Rattle.pop_stacks.specs.Tables.{origin_of}
 use Rattle.pop_words.specs.declared.command.Command.{Command}
 use Rattle.pop_words.specs.declared.command.Command.TheVariants.{Formula, Orient, Tree, Resample, Rounds}
 use Rattle.pop_words.specs.declared.field.Field.{Field}
-use Rattle.pop_words.specs.declared.field.Field.TheVariants.{Stacks, Key, Height, Grow, Count, Pops, Workers, Board, Log, Root, Witness, Reports, Size}
+use Rattle.pop_words.specs.declared.field.Field.TheVariants.{Count, Log, Witness, Reports}
 use Rattle.pop_words.specs.declared.job.Job.{Job}
 use Rattle.pop_words.specs.declared.reports.Reports.{Reports as ReportsOf}
-use Rattle.pop_words.specs.Values.{number_between, rows_in, key_in, board_in, switch_in, pair_in, no_reports, reports_in}
+use Rattle.pop_words.specs.Values.{no_reports}
 use Rattle.pop_words.specs.Options.{command_row, value_of}
 use Rattle.pop_words.specs.CommandLines.{Asks}
 use Rattle.pop_words.proofs.GivenAlone.{asked_alone}
 use Rattle.top_call.specs.Answers.{last_height, origin_for}
 use Rattle.top_call.proofs.ApartWords.{kept, AreKinds, settled}
+use Rattle.top_call.proofs.PauseWords.{none_of}
 
 -- the commands that have batches
 abbrev pub is_batched : Command → Bool
@@ -51,57 +52,16 @@ unasked command = ((command_row command).log, (None, no_reports))
 -- each but `--count` leaves the number of samples
 keeps_count : (f : Field) (word : List ℕ) (job : Job) → counts f ≡ false
     → (unwrap_or (value_of f word) (λ j. j) job).count ≡ job.count
-keeps_count Stacks word job other =
-    kept (λ (j : Job). j.count) (λ rows j. record j { stacks = GivenStacks rows }) (λ x j. refl) job (rows_in word)
-keeps_count Key word job other =
-    kept (λ (j : Job). j.count) (λ key j. record j { stacks = KeyedStacks key }) (λ x j. refl) job (key_in word)
-keeps_count Height word job other =
-    kept (λ (j : Job). j.count) (λ n j. record j { height = n }) (λ x j. refl) job (number_between 1 (2 ^ 31 - 1) word)
-keeps_count Grow word job other =
-    kept (λ (j : Job). j.count) (λ n j. record j { grow = Some n }) (λ x j. refl) job (number_between 1 (2 ^ 31 - 1) word)
 keeps_count Count word job other = absurd (false≢true (sym other))
-keeps_count Pops word job other =
-    kept (λ (j : Job). j.count) (λ n j. record j { pops = Some n }) (λ x j. refl) job (number_between 1 (2 ^ 32 - 1) word)
-keeps_count Workers word job other =
-    kept (λ (j : Job). j.count) (λ n j. record j { workers = n }) (λ x j. refl) job (number_between 1 64 word)
-keeps_count Board word job other =
-    kept (λ (j : Job). j.count) (λ b j. record j { board = b }) (λ x j. refl) job (board_in word)
-keeps_count Log word job other =
-    kept (λ (j : Job). j.count) (λ log j. record j { log = log }) (λ x j. refl) job (switch_in word)
-keeps_count Root word job other =
-    kept (λ (j : Job). j.count) (λ n j. record j { root = n }) (λ x j. refl) job (number_between 1 (2 ^ 32 - 1) word)
-keeps_count Witness word job other =
-    kept (λ (j : Job). j.count) (λ pair j. record j { witness = Some pair }) (λ x j. refl) job (pair_in word)
-keeps_count Reports word job other =
-    kept (λ (j : Job). j.count) (λ kinds j. record j { reports = kinds }) (λ x j. refl) job (reports_in word)
-keeps_count Size word job other =
-    kept (λ (j : Job). j.count) (λ n j. record j { size = n }) (λ x j. refl) job (number_between 1 2048 word)
+keeps_count f word job other = kept (λ (j : Job). j.count) _ (λ x j. refl) job _
 
 -- each that tells nothing leaves what is told
 keeps_told : (f : Field) (word : List ℕ) (job : Job) → tells f ≡ false
     → told (unwrap_or (value_of f word) (λ j. j) job) ≡ told job
-keeps_told Stacks word job other =
-    kept told (λ rows j. record j { stacks = GivenStacks rows }) (λ x j. refl) job (rows_in word)
-keeps_told Key word job other =
-    kept told (λ key j. record j { stacks = KeyedStacks key }) (λ x j. refl) job (key_in word)
-keeps_told Height word job other =
-    kept told (λ n j. record j { height = n }) (λ x j. refl) job (number_between 1 (2 ^ 31 - 1) word)
-keeps_told Grow word job other =
-    kept told (λ n j. record j { grow = Some n }) (λ x j. refl) job (number_between 1 (2 ^ 31 - 1) word)
-keeps_told Count word job other =
-    kept told (λ n j. record j { count = Some n }) (λ x j. refl) job (number_between 1 65536 word)
-keeps_told Pops word job other =
-    kept told (λ n j. record j { pops = Some n }) (λ x j. refl) job (number_between 1 (2 ^ 32 - 1) word)
-keeps_told Workers word job other =
-    kept told (λ n j. record j { workers = n }) (λ x j. refl) job (number_between 1 64 word)
-keeps_told Board word job other = kept told (λ b j. record j { board = b }) (λ x j. refl) job (board_in word)
 keeps_told Log word job other = absurd (false≢true (sym other))
-keeps_told Root word job other =
-    kept told (λ n j. record j { root = n }) (λ x j. refl) job (number_between 1 (2 ^ 32 - 1) word)
 keeps_told Witness word job other = absurd (false≢true (sym other))
 keeps_told Reports word job other = absurd (false≢true (sym other))
-keeps_told Size word job other =
-    kept told (λ n j. record j { size = n }) (λ x j. refl) job (number_between 1 2048 word)
+keeps_told f word job other = kept told _ (λ x j. refl) job _
 
 -- `--count` tells nothing
 counts_no_telling : (f : Field) → counts f ≡ true → tells f ≡ false
@@ -119,21 +79,18 @@ count_or_told = record {
 }
 
 -- where a number of samples is asked for, the command has batches, and nothing is told of a log
-record IsOfBatch (job : Job) : Type 0 where
-  batched : is_batched job.command ≡ true
-  quiet : told job ≡ unasked job.command
-
-of_batch : (words : List (List ℕ)) (job : Job) → Asks words job → (count : ℕ) → job.count ≡ Some count → IsOfBatch job
+of_batch : (words : List (List ℕ)) (job : Job) → Asks words job → (count : ℕ) → job.count ≡ Some count
+    → (is_batched job.command ≡ true) × (told job ≡ unasked job.command)
 of_batch words job asks count is =
     elim (settled counts tells (λ (j : Job). j.count) told is_batched count_or_told words job asks) [
       | inl none ↦ absurd (none-some count (sym none ∙ is))
-      | inr (batched, quiet) ↦ record { batched = batched; quiet = quiet }
+      | inr of ↦ of
     ]
 
 -- the command of such words has batches
 pub counted_command : (words : List (List ℕ)) (job : Job) → Asks words job → (count : ℕ) → job.count ≡ Some count
     → is_batched job.command ≡ true
-counted_command words job asks count is = (of_batch words job asks count is).batched
+counted_command words job asks count is = (of_batch words job asks count is).0
 
 -- so it is neither resampled nor sampled by rounds
 pub batched_ordered : (k : Command) → is_batched k ≡ true → k ≢ Resample
@@ -145,11 +102,8 @@ batched_no_rounds k batched is = false≢true (sym (ap is_batched is) ∙ batche
 -- so of another command there is one sample
 pub uncounted : (words : List (List ℕ)) (job : Job) → Asks words job → is_batched job.command ≡ false
     → job.count ≡ None
-uncounted words job asks other = by_count job.count refl
-  where
-    by_count : (count : Option ℕ) → job.count ≡ count → job.count ≡ None
-    by_count None is = is
-    by_count (Some n) is = absurd (both_ways (is_batched job.command) other (counted_command words job asks n is))
+uncounted words job asks other =
+    none_of job.count (λ n is. both_ways (is_batched job.command) other (counted_command words job asks n is))
 
 -- nothing is told of a log
 pub record IsQuiet (job : Job) : Type 0 where
@@ -176,7 +130,7 @@ quiet_by command job is quiet = absurd (false≢true is)
 pub counted_quiet : (words : List (List ℕ)) (job : Job) → Asks words job → (count : ℕ) → job.count ≡ Some count
     → IsQuiet job
 counted_quiet words job asks count is =
-    let of = of_batch words job asks count is in quiet_by job.command job of.batched of.quiet
+    let of = of_batch words job asks count is in quiet_by job.command job of.0 of.1
 
 -- and the entries come from a key
 pub counted_keyed : (words : List (List ℕ)) (job : Job) → Asks words job → (count : ℕ) → job.count ≡ Some count

@@ -7,7 +7,7 @@ use Rattle.pop_model.specs.Runs.{start_of}
 use Rattle.confluence_core.proofs.ShortLogs.{legal_short}
 use Rattle.pop_log.specs.declared.names.Names.{Names}
 use Rattle.pop_log.specs.declared.log_refusal.LogRefusal.{LogRefusal}
-use Rattle.pop_log.specs.declared.log_refusal.LogRefusal.TheVariants.{Limit as LongLog, Malformed as MalformedLog, NotLegal as IllegalRecord, Unlayered as UnlayeredRecord, OutOfMemory as LogMemory}
+use Rattle.pop_log.specs.declared.log_refusal.LogRefusal.TheVariants.{NotLegal as IllegalRecord, Unlayered as UnlayeredRecord}
 use Rattle.pop_log.specs.Layers.{Placed}
 use Rattle.pop_log.specs.Layered.{IsFirstUnlayered}
 use Rattle.pop_log.specs.Refusals.{IsLogRefusal}
@@ -24,8 +24,6 @@ unlayered_small placed k first =
 -- the record that is refused, and the line behind it, have numbers of 64 bits
 pub early_record : (names : Names) (i : Instance) (text : List ℕ) (cause : LogRefusal) → IsInstance i
     → IsLogRefusal names i text cause → IsEarlyRecord cause
-early_record names i text LongLog is refused = tt
-early_record names i text (MalformedLog l) is refused = tt
 early_record names i text (IllegalRecord k) is (short, at) =
     let few = legal_short i (start_of i) at.first.log is (start_count i) at.first.legal in
     let place = at.first.place in
@@ -34,4 +32,4 @@ early_record names i text (UnlayeredRecord k) is (short, at) =
     let few = legal_short i (start_of i) _ is (start_count i) at.legal in
     let size = unlayered_small at.placed k at.first in
     omega (arith, few, size)
-early_record names i text LogMemory is refused = tt
+early_record names i text cause is refused = tt

@@ -1,12 +1,12 @@
 -- A text that is longer than the limit is refused as its front up to the first byte too many is. So what comes of the
 -- bytes that were read of a source comes of all that it has.
-use Rattle.std.proofs.Common.{inl, inr, ◌≡◌, ◌≢◌, ◌≤◌, ◌<◌, ℕ, ◌+◌, true, false, List, ◌++◌, length, take, nat_lt, Option, None, Some, Result, Err, IfOk, refl, sym, ap, ap₂, subst, ◌∙◌, arith, append-nil, Contains}
-use Rattle.std.specs.Io.KnownBytes.{Consumes, IsAtEnd}
-use Rattle.std.proofs.lemmas.Bool.{cases_lt, lt-ltb, false≢true}
+use Rattle.std.proofs.Common.{inl, inr, ◌≡◌, ◌≢◌, ◌⊎◌, ◌≤◌, ◌<◌, ℕ, ◌+◌, true, false, List, ◌++◌, length, take, nat_lt, Option, None, Some, Result, Ok, Err, IfOk, refl, sym, ap, ap₂, subst, ◌∙◌, arith, Contains}
+use Rattle.std.specs.Io.KnownBytes.{IsAtEnd}
+use Rattle.std.proofs.lemmas.Bool.{lt-ltb, false≢true}
 use Rattle.std.proofs.lemmas.List.{take-append-le, length-append}
 use Rattle.std.proofs.lemmas.Result.{IfOk-weaker}
 use Rattle.pop_edge.specs.declared.refusal.ReadRefusal.{ReadRefusal}
-use Rattle.pop_edge.specs.declared.refusal.ReadRefusal.TheVariants.{Malformed, Count, EmptyClause, Limit, ReadFault, OutOfMemory}
+use Rattle.pop_edge.specs.declared.refusal.ReadRefusal.TheVariants.{EmptyClause, Limit, ReadFault, OutOfMemory}
 use Rattle.pop_edge.specs.Lines.{text_limit, lines_of, ended_lines, judged_lines}
 use Rattle.pop_edge.specs.Refusals.{or_else, length_refusal}
 use Rattle.pop_edge.specs.Judging.{Judgement, told_lines, text_refusal}
@@ -26,12 +26,13 @@ use Rattle.top_call.specs.Whole.{IsReadTo}
 use Rattle.told_runs.specs.Outcomes.{Outcome, HasRun}
 use Rattle.told_runs.specs.Results.{IsResultOf}
 use Rattle.job_subjects.specs.declared.wanted.Wanted.{Wanted}
-use Rattle.job_subjects.specs.Refused.{IsOfText, RefusesFormula, RefusesOrienting, RefusesTree, RefusesCnf, RefusesGraph, RefusesBy}
+use Rattle.job_subjects.specs.Refused.{IsOfText, IsUnread, RefusesFormula, RefusesOrienting, RefusesTree, RefusesCnf, RefusesGraph, RefusesBy}
 use Rattle.top_call.specs.Answers.{wanted_by, ComesOf}
 use Rattle.top_call.proofs.Carrying.{carried}
 use Rattle.job_subjects.proofs.MadeExtremal.{made_short}
 use Rattle.top_call.proofs.ReadCases.{read_cases}
 use Rattle.top_call.proofs.PauseWords.{is_paused, paused_is}
+use Rattle.top_call.proofs.ReadToEnd.{of_read}
 
 -- what stands against a text past the limit
 long_refusal : (j : Judgement) (text : List ℕ) → text_limit < length text
@@ -64,44 +65,38 @@ not_long j text none long = let short = (accepted j text none).short in absurd (
 -- a refusal of the front is one of the text
 cnf_more : (front rest : List ℕ) → text_limit < length front → (r : ReadRefusal) → IsOfText r → AnswersCnf front (Err r)
     → AnswersCnf (front ++ rest) (Err r)
-cnf_more front rest long (Malformed l c) of h = same_long cnf front rest long ∙ h
-cnf_more front rest long (Count d n) of h = same_long cnf front rest long ∙ h
 cnf_more front rest long (EmptyClause n) of h = absurd (not_long cnf front h.0 long)
-cnf_more front rest long (Limit k l) of h = same_long cnf front rest long ∙ h
 cnf_more front rest long ReadFault of h = absurd of
 cnf_more front rest long OutOfMemory of h = absurd of
+cnf_more front rest long r of h = same_long cnf front rest long ∙ h
 
 graph_more : (front rest : List ℕ) → text_limit < length front → (r : ReadRefusal) → IsOfText r
     → AnswersGraph front (Err r) → AnswersGraph (front ++ rest) (Err r)
-graph_more front rest long (Malformed l c) of h = same_long graph front rest long ∙ h
-graph_more front rest long (Count d n) of h = same_long graph front rest long ∙ h
-graph_more front rest long (EmptyClause n) of h = same_long graph front rest long ∙ h
-graph_more front rest long (Limit k l) of h = same_long graph front rest long ∙ h
 graph_more front rest long ReadFault of h = absurd of
 graph_more front rest long OutOfMemory of h = absurd of
+graph_more front rest long r of h = same_long graph front rest long ∙ h
 
--- what refuses a formula or a graph of the front does so of nothing, since it spells none
+-- what refuses what the front spells does so of nothing, since it spells none
+spells_more : {X : Type 0} (Answers : List ℕ → Result X ReadRefusal → Type 0) (Refuses : X → Refusal → Type 0)
+    (front text : List ℕ) → ((r : ReadRefusal) → IsOfText r → Answers front (Err r) → Answers text (Err r))
+    → ((x : X) → Answers front (Ok x) → ⊥) → (r : Refusal)
+    → IsUnread (λ cause. Answers front (Err cause)) r ⊎ ((x : X) × Answers front (Ok x) × Refuses x r)
+    → IsUnread (λ cause. Answers text (Err cause)) r ⊎ ((x : X) × Answers text (Ok x) × Refuses x r)
+spells_more Answers Refuses front text more none r (inl u) =
+    inl (record { cause = u.cause; of_text = u.of_text; refused = more u.cause u.of_text u.refused; is = u.is })
+spells_more Answers Refuses front text more none r (inr (x, spelled, h)) = absurd (none x spelled)
+
 refuses_cnf_more : (Refuses : Cnf → Refusal → Type 0) (front rest : List ℕ) → text_limit < length front
     → (r : Refusal) → RefusesCnf Refuses front r → RefusesCnf Refuses (front ++ rest) r
-refuses_cnf_more Refuses front rest long r (inl u) =
-    inl (record {
-      cause = u.cause;
-      of_text = u.of_text;
-      refused = cnf_more front rest long u.cause u.of_text u.refused;
-      is = u.is;
-    })
-refuses_cnf_more Refuses front rest long r (inr (f, spelled, h)) = absurd (not_long cnf front spelled.0 long)
+refuses_cnf_more Refuses front rest long =
+    spells_more AnswersCnf Refuses front (front ++ rest) (cnf_more front rest long)
+    (λ f spelled. not_long cnf front spelled.0 long)
 
 refuses_graph_more : (Refuses : GraphOf → Refusal → Type 0) (front rest : List ℕ) → text_limit < length front
     → (r : Refusal) → RefusesGraph Refuses front r → RefusesGraph Refuses (front ++ rest) r
-refuses_graph_more Refuses front rest long r (inl u) =
-    inl (record {
-      cause = u.cause;
-      of_text = u.of_text;
-      refused = graph_more front rest long u.cause u.of_text u.refused;
-      is = u.is;
-    })
-refuses_graph_more Refuses front rest long r (inr (g, spelled, h)) = absurd (not_long graph front spelled.0 long)
+refuses_graph_more Refuses front rest long =
+    spells_more AnswersGraph Refuses front (front ++ rest) (graph_more front rest long)
+    (λ g spelled. not_long graph front spelled.0 long)
 
 -- by each command whose run may stop
 refuses_more : (k : Command) → is_paused k ≡ true → (w : Wanted) (front rest : List ℕ) → text_limit < length front
@@ -130,31 +125,15 @@ front_comes job ws front rest is long o h = elim (read_cases job ws front o h) [
       absurd (omega (arith, short, long))
 ]
 
--- what comes of the bytes that were read of a source comes of all that it has
-pub whole_comes : (left left' : Option (List ℕ)) (job : Job) (ws : List Watcher) (text bytes : List ℕ)
-    → left ≡ Some text → Consumes left left' bytes → (length bytes ≤ text_limit → IsAtEnd left')
-    → Contains paused job.command → (o : Outcome) → ComesOf job ws bytes o → ComesOf job ws text o
-whole_comes left left' job ws text bytes known consumed end has o h =
-    by_rest left' (subst (λ l. Consumes l left' bytes) known consumed) end
-  where
-    by_rest : (rest : Option (List ℕ)) → Consumes (Some text) rest bytes → (length bytes ≤ text_limit → IsAtEnd rest)
-        → ComesOf job ws text o
-    by_rest None taken at_end = absurd taken
-    by_rest (Some rest) taken at_end = elim (cases_lt text_limit (length bytes)) [
-      | inl long ↦ subst (λ t. ComesOf job ws t o) (sym taken)
-          (front_comes job ws bytes rest (paused_is job.command has) long o h)
-      | inr short ↦ subst (λ t. ComesOf job ws t o)
-          (sym (taken ∙ ap (λ (l : List ℕ). bytes ++ l) (at_end short) ∙ append-nil bytes)) h
-    ]
-
--- so the result to the bytes is that to the text
+-- so the result to the bytes that were read of a source is that to all that it has
 pub whole_result : (left left' : Option (List ℕ)) (job : Job) (ws : List Watcher) (text bytes input : List ℕ)
     (r : Result Answer Refusal) → left ≡ Some text → IsReadTo text_limit left left' bytes → input ≡ bytes
     → Contains paused job.command → IsResultOf (ComesOf job ws input) r → IsResultOf (ComesOf job ws text) r
 whole_result left left' job ws text bytes input r known read same has comes =
-    carried (ComesOf job ws bytes) (ComesOf job ws text) r
-    (whole_comes left left' job ws text bytes known read.consumed read.whole has)
-    (subst (λ b. IsResultOf (ComesOf job ws b) r) same comes)
+    let own : IsResultOf (ComesOf job ws bytes) r = subst (λ b. IsResultOf (ComesOf job ws b) r) same comes in
+    of_read (λ t. IsResultOf (ComesOf job ws t) r) text_limit left left' text bytes known read
+    (λ rest long. carried (ComesOf job ws bytes) (ComesOf job ws (bytes ++ rest)) r
+    (front_comes job ws bytes rest (paused_is job.command has) long) own) own
 
 -- and with the status of a run the source is at its end
 pub whole_end : (left left' : Option (List ℕ)) (bytes input : List ℕ) (r : Result Answer Refusal)

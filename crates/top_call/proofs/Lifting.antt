@@ -10,20 +10,14 @@ use Rattle.pop_watch.specs.Telling.{Watcher}
 use Rattle.told_runs.specs.declared.asked.Asked.{Asked}
 use Rattle.told_runs.specs.Asking.{has_free_order, asked_by}
 use Rattle.told_runs.specs.Outcomes.{Outcome}
-use Rattle.told_runs.specs.Outcomes.Outcome.{Refused, Extremal, Ended, Resampled, Rounded, Batched, Paused, Replayed}
+use Rattle.told_runs.specs.Outcomes.Outcome.{Refused}
 use Rattle.top_call.specs.Answers.{ComesBy, IsOutcome, AskForGrid, IsInput}
 
 -- what comes of a job comes of the words that ask for it
 pub of_words : (words : List (List ℕ)) (job : Job) (ws : List Watcher) (text : List ℕ) → Asks words job → (o : Outcome)
     → ComesBy job.command job ws text o → IsOutcome words ws text o
 of_words words job ws text asks (Refused r) comes = inr (record { job = job; asks = asks; comes = comes })
-of_words words job ws text asks (Extremal n) comes = record { job = job; asks = asks; comes = comes }
-of_words words job ws text asks (Ended t i c n s a) comes = record { job = job; asks = asks; comes = comes }
-of_words words job ws text asks (Resampled t i l s a) comes = record { job = job; asks = asks; comes = comes }
-of_words words job ws text asks (Rounded t i c n s v) comes = record { job = job; asks = asks; comes = comes }
-of_words words job ws text asks (Batched t i es) comes = record { job = job; asks = asks; comes = comes }
-of_words words job ws text asks (Paused j w t i l) comes = record { job = job; asks = asks; comes = comes }
-of_words words job ws text asks (Replayed i c n k) comes = record { job = job; asks = asks; comes = comes }
+of_words words job ws text asks o comes = record { job = job; asks = asks; comes = comes }
 
 -- whether the order of pops is free goes by the command
 pub free_by : (job : Job) (asked : Asked) (command : Command) → asked ≡ asked_by job → job.command ≡ command

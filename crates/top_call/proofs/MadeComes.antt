@@ -1,7 +1,6 @@
 -- What is made of a text, and how its run ends, is what comes of the job that wants it made.
 use Rattle.std.proofs.Common.{inl, ◌≡◌, ◌≢◌, ℕ, true, false, List, Result, Ok, Err, IfOk, refl, sym, ap, subst, ◌∙◌}
-use Rattle.std.proofs.lemmas.Result.{IfOk-weaker}
-use Rattle.pop_model.specs.Stacks.{Origin, variables_of}
+use Rattle.pop_model.specs.Stacks.{variables_of}
 use Rattle.pop_model.specs.Instances.{Instance}
 use Rattle.pop_words.specs.declared.command.Command.{Command}
 use Rattle.pop_words.specs.declared.command.Command.TheVariants.{Resample, Rounds}
@@ -11,14 +10,13 @@ use Rattle.pop_print.specs.declared.facts.Facts.{Facts}
 use Rattle.pop_print.specs.declared.facts.Facts.TheVariants.{Formula as FormulaFacts}
 use Rattle.pop_print.specs.Ends.{AreFactsOf, IsOfPairs}
 use Rattle.job_subjects.specs.declared.answer.Answer.{Answer}
-use Rattle.job_subjects.specs.declared.wanted.Wanted.{Wanted}
 use Rattle.job_subjects.specs.Made.{IsMade}
 use Rattle.told_runs.specs.declared.asked.Asked.{Asked}
 use Rattle.told_runs.specs.Asking.{asked_by, has_free_order}
 use Rattle.told_runs.specs.Outcomes.{Outcome, AnswersBy}
 use Rattle.told_runs.specs.Ends.{IsEndOf, IsHistoryOf, IsRoundsEndOf}
 use Rattle.top_call.specs.Answers.{wanted_by, EndsAs, ComesOf}
-use Rattle.top_call.proofs.Carrying.{answered}
+use Rattle.top_call.proofs.Carrying.{answers_more}
 use Rattle.top_call.proofs.Lifting.{free_by}
 use Rattle.top_call.proofs.ReadCases.{run_comes}
 
@@ -47,8 +45,8 @@ pub ended_comes : {E : Type 0} (job : Job) (ws : List Watcher) (text : List ℕ)
     → IfOk r (λ a. AnswersBy (EndsAs job.command (asked_by job) ws facts i) a.status a.text.items)
     → IfOk r (λ a. AnswersBy (ComesOf job ws text) a.status a.text.items)
 ended_comes job ws text facts i r made =
-    IfOk-weaker r _ _ (λ a. answered (EndsAs job.command (asked_by job) ws facts i) (ComesOf job ws text) a.status
-    a.text.items (end_comes job job.command ws text facts i refl made))
+    answers_more (EndsAs job.command (asked_by job) ws facts i) (ComesOf job ws text) r
+    (end_comes job job.command ws text facts i refl made)
 
 -- what tells the end, or the history where the order of pops is free, tells how the run of a command ends
 told_as : (k : Command) → k ≢ Rounds → (asked : Asked) (ws : List Watcher) (facts : Facts) (i : Instance) (status : ℕ)
@@ -77,9 +75,8 @@ pub batch_ends_as : {E : Type 0} (job : Job) (ws : List Watcher) (facts : Facts)
     → IfOk r (λ a. AnswersBy (IsEndOf asked ws facts i) a.status a.text.items)
     → IfOk r (λ a. AnswersBy (EndsAs job.command (asked_by job) ws facts i) a.status a.text.items)
 batch_ends_as job ws facts i asked r ordered other asks told =
-    IfOk-weaker r _ _ (λ a. answered (IsEndOf (asked_by job) ws facts i)
-    (EndsAs job.command (asked_by job) ws facts i) a.status a.text.items
-    (ordered_end job.command ordered other (asked_by job) ws facts i))
+    answers_more (IsEndOf (asked_by job) ws facts i) (EndsAs job.command (asked_by job) ws facts i) r
+    (ordered_end job.command ordered other (asked_by job) ws facts i)
     (subst (λ q. IfOk r (λ a. AnswersBy (IsEndOf q ws facts i) a.status a.text.items)) asks told)
 
 -- what is made for rounds has as many variables as the formula
@@ -97,16 +94,6 @@ pub rounds_end_as : {E : Type 0} (job : Job) (ws : List Watcher) (facts : Facts)
 rounds_end_as job ws facts i n r is same told ended =
     let pairs : IsOfPairs n i = subst (λ t. AreFactsOf t i) same told in
     let own : FormulaFacts (variables_of i.stacks) ≡ facts = ap FormulaFacts pairs.count ∙ sym same in
-    IfOk-weaker r _ _ (λ a. answered (IsRoundsEndOf facts i) (EndsAs job.command (asked_by job) ws facts i) a.status
-    a.text.items (λ o end. subst (λ k. EndsAs k (asked_by job) ws facts i o) (sym is) end))
+    answers_more (IsRoundsEndOf facts i) (EndsAs job.command (asked_by job) ws facts i) r
+    (λ o end. subst (λ k. EndsAs k (asked_by job) ws facts i o) (sym is) end)
     (subst (λ t. IfOk r (λ a. AnswersBy (IsRoundsEndOf t i) a.status a.text.items)) own ended)
-
--- what a job wants made, over stacks of an origin
-abbrev pub wanted_over : Job → Origin → Wanted
-wanted_over job origin = record {
-  command = job.command;
-  origin = origin;
-  count = job.count;
-  root = job.root;
-  side = job.size;
-}

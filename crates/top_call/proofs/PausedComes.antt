@@ -1,14 +1,13 @@
 -- From the run of what is made to what comes of the job: its end, or its pause.
-use Rattle.std.proofs.Common.{inl, inr, ◌≡◌, ◌≢◌, ◌≤◌, ◌<◌, ℕ, Bool, true, false, if◌then◌else◌, List, [], length, Option, None, Some, Result, Ok, Err, IfOk, refl, sym, ap, subst, ◌∙◌, arith}
+use Rattle.std.proofs.Common.{inl, inr, ◌≡◌, ◌≢◌, ◌≤◌, ◌<◌, ℕ, Bool, true, false, if◌then◌else◌, List, [], length, Option, None, Some, Result, IfOk, refl, sym, ap, subst, ◌∙◌, arith}
 use Rattle.std.proofs.Math.Nat.{eq-or-lt_of_le}
-use Rattle.std.proofs.lemmas.Result.{IfOk-weaker}
 use Rattle.pop_model.specs.Instances.{Instance, IsInstance}
 use Rattle.pop_model.specs.Logs.{LogRecord, IsLegal, replay}
 use Rattle.pop_model.specs.Runs.{start_of}
 use Rattle.pop_log.specs.Layers.{Placed}
 use Rattle.pop_log.specs.Layered.{AreSorted}
-use Rattle.pop_log.proofs.UnitEvents.{HaveCubes, family_cubes}
-use Rattle.pop_log.proofs.LayeredLaws.{layered_is_legal, placed_in_layers}
+use Rattle.pop_log.proofs.UnitEvents.{family_cubes}
+use Rattle.pop_log.proofs.LayeredLaws.{placed_in_layers}
 use Rattle.pop_model.specs.Runs.{IsEnd}
 use Rattle.pop_model.specs.Stacks.{variables_of}
 use Rattle.pop_model.specs.Popping.{AreWithin}
@@ -23,19 +22,18 @@ use Rattle.pop_watch.specs.Telling.{Watcher}
 use Rattle.pop_print.specs.declared.facts.Facts.{Facts}
 use Rattle.told_runs.specs.declared.asked.Asked.{Asked}
 use Rattle.told_runs.specs.Outcomes.{Outcome, AnswersBy}
-use Rattle.told_runs.specs.Tellings.{records_of}
 use Rattle.told_runs.specs.Ends.{IsEndOf, IsHistoryOf}
 use Rattle.job_subjects.specs.Made.{IsMade}
 use Rattle.top_call.specs.Pauses.{IsPause, IsPausedAt, MayStop}
 use Rattle.told_runs.specs.Asking.{asked_by}
 use Rattle.top_call.specs.Answers.{wanted_by, ComesOf}
 use Rattle.job_subjects.specs.declared.answer.Answer.{Answer}
-use Rattle.top_call.proofs.Carrying.{answered}
+use Rattle.top_call.proofs.Carrying.{answers_more}
 use Rattle.top_call.proofs.Lifting.{ordered_by}
 use Rattle.top_call.proofs.MadeComes.{ended_comes, ends_as}
 use Rattle.top_call.proofs.PauseWords.{paused_no_rounds}
 use Rattle.top_call.proofs.ReadCases.{run_comes}
-use Rattle.told_runs.proofs.ToldRuns.{placed_size}
+use Rattle.told_runs.proofs.ToldRuns.{in_order, placed_size}
 
 -- a run that has no fewer pops than it may have has so many
 pub full : (n pops : ℕ) → n ≤ pops → (n < pops → ⊥) → n ≡ pops
@@ -49,12 +47,10 @@ pub pause_of : (i : Instance) → IsInstance i → (log : List LogRecord) (place
     → IsLegal i (start_of i) log → AreSorted log placed → HasPoppable i (replay (start_of i) log)
     → IsPause i (length log) placed
 pause_of i is log placed legal sorted still =
-    let cubes : HaveCubes i.family = family_cubes i.family is.family in
-    let of = layered_is_legal i cubes (start_of i) log (records_of placed) legal
-    (record { placed = placed; sorted = sorted; records = refl }) in
+    let of = in_order i is log placed legal sorted in
     record {
       legal = of.0;
-      layered = placed_in_layers i cubes (start_of i) log legal placed sorted;
+      layered = placed_in_layers i (family_cubes i.family is.family) (start_of i) log legal placed sorted;
       count = sym (placed_size log placed sorted);
       poppable = subst (HasPoppable i) (sym of.1) still;
     }
@@ -71,11 +67,11 @@ pub full_part : (i : Instance) (limit pops : ℕ) (part : Part) → IsStopped i 
 full_part i limit pops part stopped same is =
     full (length part.log) limit stopped.most (λ less. stopped.fewer less is) ∙ same
 
--- a log that is kept stands behind nothing
-kept_more : (keeps : Bool) (log : List LogRecord)
-    → (if keeps then Some log else None) ≡ with_more (if keeps then Some [] else None) log
-kept_more true log = refl
-kept_more false log = refl
+-- a log that stands behind nothing does so where it is to be kept
+pub kept_more : (keeps : Bool) (log : Option (List LogRecord)) (more : List LogRecord) → log ≡ with_more (Some []) more
+    → (if keeps then log else None) ≡ with_more (if keeps then Some [] else None) more
+kept_more true log more is = is
+kept_more false log more is = refl
 
 -- a run so far, at an end
 pub ended_part : (i : Instance) (part : Part) (keeps : Bool) (pops : ℕ) (kept : Option (List LogRecord))
@@ -88,7 +84,7 @@ ended_part i part keeps pops kept so_far end count within pops_are kept_is = rec
     legal = so_far.legal;
     cursors_are = so_far.cursors_are;
     pops_are = omega (arith, pops_are);
-    log_is = kept_is ∙ kept_more keeps part.log;
+    log_is = kept_is ∙ kept_more keeps (Some part.log) part.log refl;
   };
   can = record {
     count = count;
@@ -110,21 +106,14 @@ paused_comes job ws text facts i pops made may stop o at =
       run = inr (record { may = may; pops = pops; asked = stop; at = at });
     })
 
-pub paused_answers : (job : Job) (ws : List Watcher) (text : List ℕ) (facts : Facts) (i : Instance) (n pops : ℕ)
-    (status : ℕ) (out : List ℕ) → IsMade (wanted_by job) text facts i → MayStop job → job.pops ≡ Some pops
-    → n ≡ pops → AnswersBy (IsPausedAt job text facts i n) status out → AnswersBy (ComesOf job ws text) status out
-paused_answers job ws text facts i n pops status out made may stop same told =
-    answered (IsPausedAt job text facts i pops) (ComesOf job ws text) status out
-    (paused_comes job ws text facts i pops made may stop)
-    (subst (λ k. AnswersBy (IsPausedAt job text facts i k) status out) same told)
-
--- the same of results
 pub paused_result : {E : Type 0} (job : Job) (ws : List Watcher) (text : List ℕ) (facts : Facts) (i : Instance)
     (n pops : ℕ) (r : Result Answer E) → IsMade (wanted_by job) text facts i → MayStop job → job.pops ≡ Some pops
     → n ≡ pops → IfOk r (λ a. AnswersBy (IsPausedAt job text facts i n) a.status a.text.items)
     → IfOk r (λ a. AnswersBy (ComesOf job ws text) a.status a.text.items)
-paused_result job ws text facts i n pops r made may stop same =
-    IfOk-weaker r _ _ (λ a told. paused_answers job ws text facts i n pops a.status a.text.items made may stop same told)
+paused_result job ws text facts i n pops r made may stop same told =
+    answers_more (IsPausedAt job text facts i pops) (ComesOf job ws text) r
+    (paused_comes job ws text facts i pops made may stop)
+    (subst (λ k. IfOk r (λ a. AnswersBy (IsPausedAt job text facts i k) a.status a.text.items)) same told)
 
 -- what is told of an end of one run, which is that of an extremal instance where the order of pops isn't free
 pub ended_result : {E : Type 0} (job : Job) (ws : List Watcher) (text : List ℕ) (facts : Facts) (i : Instance)

@@ -1,6 +1,7 @@
 -- What comes of a job and a text, by three cases: a refusal of the text, a verdict on it, or the run of what is made of it;
 -- and the run by how it is told.
 use Rattle.std.proofs.Common.{inl, inr, ◌≡◌, ◌⊎◌, ℕ, List, Option, refl}
+use Rattle.std.specs.Prelude.{⊤}
 use Rattle.pop_model.specs.Families.{Event}
 use Rattle.pop_model.specs.Instances.{Instance}
 use Rattle.confluence_core.specs.declared.end.End.{End}
@@ -35,43 +36,45 @@ read_cases job ws text (Refused r) h = inl (r, refl, h)
 read_cases job ws text (Extremal n) h = inr (inl (n, refl, h.0, h.1))
 read_cases job ws text o h = inr (inr h)
 
--- neither a refusal nor a verdict ends a run, and no run replays a log
-refused_no_end : (k : Command) (asked : Asked) (ws : List Watcher) (facts : Facts) (i : Instance) (r : Refusal)
-    → EndsAs k asked ws facts i (Refused r) → ⊥
-refused_no_end Resample asked ws facts i r h = h
-refused_no_end Rounds asked ws facts i r h = h
-refused_no_end k asked ws facts i r h = h
+-- an outcome that tells the end of a run, or of many
+abbrev pub IsAnEnd : Outcome → Type 0
+IsAnEnd (Ended t i c n s a) = ⊤
+IsAnEnd (Resampled t i l s a) = ⊤
+IsAnEnd (Rounded t i c n s v) = ⊤
+IsAnEnd (Batched t i es) = ⊤
+IsAnEnd o = ⊥
 
-verdict_no_end : (k : Command) (asked : Asked) (ws : List Watcher) (facts : Facts) (i : Instance) (n : ℕ)
-    → EndsAs k asked ws facts i (Extremal n) → ⊥
-verdict_no_end Resample asked ws facts i n h = h
-verdict_no_end Rounds asked ws facts i n h = h
-verdict_no_end k asked ws facts i n h = h
+-- each run ends so
+pub is_end : (k : Command) (asked : Asked) (ws : List Watcher) (facts : Facts) (i : Instance) (o : Outcome)
+    → EndsAs k asked ws facts i o → IsAnEnd o
+is_end k asked ws facts i (Ended t j c n s a) h = tt
+is_end k asked ws facts i (Resampled t j l s a) h = tt
+is_end k asked ws facts i (Rounded t j c n s v) h = tt
+is_end k asked ws facts i (Batched t j es) h = tt
+is_end Resample asked ws facts i o h = h
+is_end Rounds asked ws facts i o h = h
+is_end k asked ws facts i o h = h
 
-replay_no_end : (k : Command) (asked : Asked) (ws : List Watcher) (facts : Facts) (i j : Instance) (c : List ℕ) (n : ℕ)
-    (look : Look) → EndsAs k asked ws facts i (Replayed j c n look) → ⊥
-replay_no_end Resample asked ws facts i j c n look h = h
-replay_no_end Rounds asked ws facts i j c n look h = h
-replay_no_end k asked ws facts i j c n look h = h
-
-pub no_replay : (job : Job) (ws : List Watcher) (text : List ℕ) (i : Instance) (c : List ℕ) (n : ℕ) (look : Look)
-    → ComesOf job ws text (Replayed i c n look) → ⊥
-no_replay job ws text i c n look h = elim h.run [
-  | inl end ↦ replay_no_end job.command (asked_by job) ws h.facts h.instance i c n look end
-  | inr p ↦ p.at
+-- so no run is told as what is neither an end nor a pause
+no_run : (job : Job) (ws : List Watcher) (text : List ℕ) (o : Outcome) → (IsAnEnd o → ⊥)
+    → ((facts : Facts) (i : Instance) (pops : ℕ) → IsPausedAt job text facts i pops o → ⊥)
+    → ComesOfRun job ws text o → ⊥
+no_run job ws text o unended unpaused h = elim h.run [
+  | inl end ↦ unended (is_end job.command (asked_by job) ws h.facts h.instance o end)
+  | inr p ↦ unpaused h.facts h.instance p.pops p.at
 ]
 
--- the run of what a job makes comes of the job
+-- neither is a replay
+pub no_replay : (job : Job) (ws : List Watcher) (text : List ℕ) (i : Instance) (c : List ℕ) (n : ℕ) (look : Look)
+    → ComesOf job ws text (Replayed i c n look) → ⊥
+no_replay job ws text i c n look h =
+    no_run job ws text (Replayed i c n look) (λ end. end) (λ facts j pops at. at) h
+
+-- the run of what a job makes comes of the job: it is told neither as a refusal nor as a verdict
 pub run_comes : (job : Job) (ws : List Watcher) (text : List ℕ) (o : Outcome) → ComesOfRun job ws text o
     → ComesOf job ws text o
-run_comes job ws text (Refused r) h = absurd (elim h.run [
-  | inl end ↦ refused_no_end job.command (asked_by job) ws h.facts h.instance r end
-  | inr p ↦ p.at
-])
-run_comes job ws text (Extremal n) h = absurd (elim h.run [
-  | inl end ↦ verdict_no_end job.command (asked_by job) ws h.facts h.instance n end
-  | inr p ↦ p.at
-])
+run_comes job ws text (Refused r) h = absurd (no_run job ws text (Refused r) (λ end. end) (λ facts i pops at. at) h)
+run_comes job ws text (Extremal n) h = absurd (no_run job ws text (Extremal n) (λ end. end) (λ facts i pops at. at) h)
 run_comes job ws text o h = h
 
 -- it ends, where no pause is told
@@ -103,9 +106,8 @@ paused_as job input facts i pops o h = absurd h
 pub pause_no_end : (k : Command) (asked : Asked) (ws : List Watcher) (facts : Facts) (i : Instance) (job : Job)
     (input : List ℕ) (told : Facts) (j : Instance) (placed : List Placed)
     → EndsAs k asked ws facts i (Paused job input told j placed) → ⊥
-pause_no_end Resample asked ws facts i job input told j placed h = h
-pause_no_end Rounds asked ws facts i job input told j placed h = h
-pause_no_end k asked ws facts i job input told j placed h = h
+pause_no_end k asked ws facts i job input told j placed h =
+    is_end k asked ws facts i (Paused job input told j placed) h
 
 -- an end of one thread's run, and a batch, are told of commands whose pops have one order
 pub ended_as : (k : Command) (asked : Asked) (ws : List Watcher) (facts : Facts) (i : Instance) (t : Facts) (j : Instance)

@@ -1,10 +1,7 @@
 -- What comes of a certificate that is accepted, or refused, comes of the bytes that are it.
-use Rattle.std.proofs.Common.{inl, inr, ◌≡◌, ◌<◌, ℕ, List, length, Option, None, Some, Result, Ok, Err, IfOk, IfErr, IfSome, refl, sym, ap, subst, ◌∙◌, arith}
+use Rattle.std.proofs.Common.{inl, inr, ◌≡◌, ◌<◌, ℕ, List, length, Option, Some, Result, Ok, Err, IfOk, IfErr, IfSome, refl, sym, ap, subst, ◌∙◌, ◌++◌, arith, length-append}
 use Rattle.std.specs.Result.{IsErrAnd, IsErrOf}
-use Rattle.std.proofs.lemmas.Result.{IfErr-weaker}
-use Rattle.pop_model.specs.Stacks.{Origin}
 use Rattle.pop_model.specs.Instances.{Instance}
-use Rattle.pop_stacks.specs.Tables.{origin_of}
 use Rattle.pop_log.specs.declared.log_refusal.LogRefusal.{LogRefusal}
 use Rattle.pop_log.specs.declared.log_refusal.LogRefusal.TheVariants.{OutOfMemory}
 use Rattle.pop_print.specs.declared.facts.Facts.{Facts}
@@ -13,11 +10,8 @@ use Rattle.pop_log.specs.Refusals.{IsLogRefusal}
 use Rattle.confluence_core.specs.declared.reached.Reached.{Reached}
 use Rattle.run_cert.specs.declared.look_kind.Look.{Look}
 use Rattle.run_cert.specs.Looks.{IsLook}
-use Rattle.run_cert.specs.Heads.{Head}
 use Rattle.run_cert.specs.Certificates.{Certificate}
-use Rattle.pop_words.specs.declared.command.Command.{Command}
 use Rattle.top_call.specs.declared.accepted.Accepted.{Accepted}
-use Rattle.job_subjects.specs.declared.wanted.Wanted.{Wanted}
 use Rattle.job_subjects.specs.declared.refusal.Refusal.{Refusal}
 use Rattle.job_subjects.specs.declared.refusal.Refusal.TheVariants.{Stopped}
 use Rattle.job_subjects.specs.declared.stop.Stop.TheVariants.{ReadFault}
@@ -28,25 +22,14 @@ use Rattle.told_runs.specs.Outcomes.Outcome.{Replayed}
 use Rattle.job_subjects.specs.declared.answer.Answer.{Answer}
 use Rattle.job_subjects.specs.Refusals.{IsRefusal, IsPastWords, unlogged}
 use Rattle.job_subjects.specs.Refused.{RefusesText}
-use Rattle.top_call.specs.Replays.{cert_limit, wanted_of, IsNoCert, IsCertified, IsRefusedCert, IsRefused, HasLog, ComesOfReplaying}
+use Rattle.top_call.specs.Replays.{cert_limit, wanted_of, IsCertified, IsRefusedCert, IsRefused, HasLog, ComesOfReplaying}
 use Rattle.top_call.specs.Accepted.{IsHeldBy, IsAccepted, TellsReplay}
-use Rattle.job_subjects.proofs.Carrying.{refused_by, passed_on}
+use Rattle.job_subjects.proofs.Carrying.{refused_by, refused_result_by, passed_on}
 use Rattle.job_subjects.proofs.TextRefusals.{IsOfInput}
 use Rattle.top_call.proofs.ByCommand.{refused_input}
 use Rattle.top_call.proofs.Statuses.{past_words}
-use Rattle.top_call.proofs.ReadToEnd.{read_to}
+use Rattle.top_call.proofs.ReadToEnd.{of_read}
 use Rattle.top_call.specs.Whole.{IsReadTo}
-
--- what one run of a command wants
-abbrev pub one_run_of : Command → Origin → ℕ → Wanted
-one_run_of k origin root = record { command = k; origin = origin; count = None; root = root; side = 0 }
-
--- that of a head
-pub head_wants : (head : Head) (k : Command) (origin : Origin) (root : ℕ) → k ≡ head.command
-    → origin ≡ origin_of head.stacks head.height → root ≡ head.root → one_run_of k origin root ≡ wanted_of head
-head_wants head k origin root command_is origin_is root_is =
-    ap (λ (c : Command). one_run_of c origin root) command_is ∙ ap (λ (o : Origin). one_run_of head.command o root) origin_is
-    ∙ ap (λ (r : ℕ). one_run_of head.command (origin_of head.stacks head.height) r) root_is
 
 -- what refuses the input refuses the certificate
 pub line_refused : (cert : Certificate) (r : Refusal) → IsRefusal (RefusesText (wanted_of cert.head) cert.input) r
@@ -70,34 +53,19 @@ text_refused cert facts i r certified (cause, refused, is) =
       is = is;
     }))
 
--- bytes past the limit are no certificate, as the longer text that they are a front of
-longer_no_cert : (bytes text : List ℕ) → cert_limit < length bytes → cert_limit < length text → (r : Refusal)
-    → IsNoCert bytes r → IsNoCert text r
-longer_no_cert bytes text long longer r (inl (past, is)) = inl (longer, is)
-longer_no_cert bytes text long longer r (inr (short, bad)) = absurd (omega (arith, long, short))
+-- bytes past the limit are refused as the longer text that they are a front of
+front_refused : (front rest : List ℕ) → cert_limit < length front → (r : Refusal) → IsRefused front r
+    → IsRefused (front ++ rest) r
+front_refused front rest long r (inl (inl (past, is))) = inl (inl (omega (arith, long, length-append front rest), is))
+front_refused front rest long r (inl (inr (short, bad))) = absurd (omega (arith, long, short))
+front_refused front rest long r (inr comes) = let short = comes.short in absurd (omega (arith, long, short))
 
--- so they are refused as it
-longer_refused : (bytes text : List ℕ) → cert_limit < length bytes → cert_limit < length text
-    → (r : Refusal) → IsRefused bytes r → IsRefused text r
-longer_refused bytes text long longer r (inl bad) = inl (longer_no_cert bytes text long longer r bad)
-longer_refused bytes text long longer r (inr comes) = let short = comes.short in absurd (omega (arith, long, short))
-
--- what was read of a text is refused as the text
-pub read_refused : (text : List ℕ) (left' : Option (List ℕ)) (bytes : List ℕ) (r : Refusal)
-    → IsReadTo cert_limit (Some text) left' bytes → IsRefusal (IsRefused bytes) r → IsRefusal (IsRefused text) r
-read_refused text left' bytes r read h = elim (read_to cert_limit text left' bytes read) [
-  | inl (short, same) ↦ subst (λ t. IsRefusal (IsRefused t) r) (sym same) h
-  | inr (long, longer) ↦
-      refused_by (IsRefused bytes) (IsRefused text) r (longer_refused bytes text long longer) h
-]
-
--- and accepted as it
-pub read_accepted : (text : List ℕ) (left' : Option (List ℕ)) (bytes : List ℕ) (a : Accepted)
-    → IsReadTo cert_limit (Some text) left' bytes → IsAccepted bytes a → IsAccepted text a
-read_accepted text left' bytes a read h = elim (read_to cert_limit text left' bytes read) [
-  | inl (short, same) ↦ subst (λ t. IsAccepted t a) (sym same) h
-  | inr (long, longer) ↦ let short = h.short in absurd (omega (arith, long, short))
-]
+-- what was read of a text is accepted as it
+pub read_accepted : (left left' : Option (List ℕ)) (text : List ℕ) (a : Accepted) → left ≡ Some text
+    → ((bytes : List ℕ) × IsReadTo cert_limit left left' bytes × IsAccepted bytes a) → IsAccepted text a
+read_accepted left left' text a known (bytes, read, h) =
+    of_read (λ t. IsAccepted t a) cert_limit left left' text bytes known read
+    (λ rest long. let short = h.short in absurd (omega (arith, long, short))) h
 
 -- the log of a certificate that is accepted
 abbrev pub held_log : (cert : Certificate) (a : Accepted) → IsHeldBy cert a → HasLog cert
@@ -150,10 +118,11 @@ replay_told bytes a status out h told =
 pub read_result : {T : Type 0} (left left' : Option (List ℕ)) (text bytes input : List ℕ) (r : Result T Refusal)
     → left ≡ Some text → IsReadTo cert_limit left left' bytes → input ≡ bytes
     → IfErr r (IsRefusal (IsRefused input)) → IfErr r (IsRefusal (IsRefused text))
-read_result left left' text bytes input r known read same =
-    IfErr-weaker r _ _ (λ e h. read_refused text left' bytes e
-    (subst (λ l. IsReadTo cert_limit l left' bytes) known read)
-    (subst (λ b. IsRefusal (IsRefused b) e) same h))
+read_result left left' text bytes input r known read same refused =
+    let own = subst (λ b. IfErr r (IsRefusal (IsRefused b))) same refused in
+    of_read (λ t. IfErr r (IsRefusal (IsRefused t))) cert_limit left left' text bytes known read
+    (λ rest long. refused_result_by (IsRefused bytes) (IsRefused (bytes ++ rest)) r (front_refused bytes rest long) own)
+    own
 
 -- it is no refusal of words
 pub bytes_past_words : (bytes : List ℕ) (r : Refusal) → IsRefusal (IsRefused bytes) r → IsPastWords r
@@ -167,14 +136,6 @@ bytes_unfailing bytes (Ok a) h is = absurd (cc)
 bytes_unfailing bytes (Err e) (inl memory) is = let same : e ≡ Stopped ReadFault = cc in absurd (cc)
 bytes_unfailing bytes (Err e) (inr h) is =
     let same : e ≡ Stopped ReadFault = cc in subst IsOfInput same (refused_input bytes e h)
-
--- and the replay of what is read of the source is told of its text
-pub replay_result : (left left' : Option (List ℕ)) (text : List ℕ) (a : Accepted) (status : ℕ) (out : List ℕ)
-    → left ≡ Some text → ((bytes : List ℕ) × IsReadTo cert_limit left left' bytes × IsAccepted bytes a)
-    → TellsReplay a.instance a.reached status out → AnswersBy (ComesOfReplaying text) status out
-replay_result left left' text a status out known (bytes, read, accepted) told =
-    replay_told text a status out
-    (read_accepted text left' bytes a (subst (λ l. IsReadTo cert_limit l left' bytes) known read) accepted) told
 
 -- a fault of the source that is passed on is one
 pub same_fault : {T U : Type 0} (r : Result T Refusal) (e : Refusal) → IsErrAnd r (λ x. x ≡ e)

@@ -1,9 +1,8 @@
 -- The run of a certificate that goes on to an end comes of the bytes that are it: as the line of its command tells its
 -- end, and where that tells its log, with the log of both parts.
-use Rattle.std.proofs.Common.{inl, inr, ◌≡◌, ◌≢◌, ℕ, Bool, true, false, if◌then◌else◌, List, [], ◌++◌, ◌≤◌, length, Option, None, Some, Result, IfOk, refl, sym, ap, subst, ◌∙◌}
+use Rattle.std.proofs.Common.{inl, inr, ◌≡◌, ◌≢◌, ℕ, Bool, true, false, if◌then◌else◌, List, [], ◌++◌, Option, None, Some, Result, IfOk, refl, sym, ap, subst, ◌∙◌}
 use Rattle.std.proofs.lemmas.Bool.{cases_Bool, false≢true}
 use Rattle.std.proofs.lemmas.Option.{none-some, same_Some}
-use Rattle.std.proofs.lemmas.Result.{IfOk-weaker}
 use Rattle.pop_model.specs.Instances.{Instance}
 use Rattle.pop_model.specs.Extremal.{IsExtremal}
 use Rattle.pop_model.specs.Logs.{LogRecord, IsLegal}
@@ -13,41 +12,40 @@ use Rattle.confluence_core.specs.declared.run.Run.{Run}
 use Rattle.confluence_core.specs.Runs.{IsRunOf, ended}
 use Rattle.confluence_core.specs.Stretches.{GoesOn, IsReached, with_more}
 use Rattle.pop_words.specs.declared.command.Command.{Command}
-use Rattle.pop_words.specs.declared.command.Command.TheVariants.{Formula, Orient, Tree, Resample, Check, Make, Rounds, Replay, Resume}
+use Rattle.pop_words.specs.declared.command.Command.TheVariants.{Resample}
 use Rattle.pop_words.specs.Options.{default_job}
 use Rattle.pop_watch.specs.Telling.{Watcher}
 use Rattle.pop_print.specs.declared.facts.Facts.{Facts}
-use Rattle.run_cert.specs.Certificates.{Certificate, IsCertOf}
+use Rattle.run_cert.specs.Certificates.{Certificate}
 use Rattle.top_call.specs.declared.accepted.Accepted.{Accepted}
 use Rattle.job_subjects.specs.declared.answer.Answer.{Answer}
 use Rattle.told_runs.specs.declared.asked.Asked.{Asked}
-use Rattle.top_call.specs.Whole.{IsReadTo}
-use Rattle.told_runs.specs.Outcomes.{Outcome, IsTextStatus, AnswersBy}
-use Rattle.told_runs.specs.Outcomes.Outcome.{Ended, Resampled, Batched}
+use Rattle.told_runs.specs.Outcomes.{Outcome, AnswersBy}
+use Rattle.told_runs.specs.Outcomes.Outcome.{Refused, Ended, Resampled, Batched}
 use Rattle.told_runs.specs.Tellings.{asks_for_log}
 use Rattle.told_runs.specs.Ends.{IsEndOf, IsHistoryWith}
-use Rattle.top_call.specs.Replays.{cert_limit, job_of}
+use Rattle.top_call.specs.Replays.{job_of}
 use Rattle.top_call.specs.Resumes.{IsJoined, IsJoinedLog, GoesOnFrom, IsResumed, ComesOfResuming}
 use Rattle.top_call.specs.Accepted.{IsHeldBy, IsAccepted}
 use Rattle.told_runs.specs.Asking.{has_free_order, asked_by}
 use Rattle.top_call.specs.Answers.{ComesOf}
-use Rattle.top_call.proofs.Carrying.{answered}
+use Rattle.top_call.proofs.Carrying.{answered, answers_more}
 use Rattle.top_call.proofs.MadeComes.{end_comes, ordered_end}
 use Rattle.top_call.proofs.PauseWords.{paused_no_rounds}
-use Rattle.top_call.proofs.ReplayedCerts.{held_log, read_accepted}
-use Rattle.top_call.proofs.Statuses.{resumed_status_is}
+use Rattle.top_call.proofs.PausedComes.{kept_more}
+use Rattle.top_call.proofs.ReplayedCerts.{held_log}
 
 -- with its log where it is to be kept, a run has come as far
-as_kept : (i : Instance) (start : List ℕ) (keeps : Bool) (reached : Reached) → IsReached i start true reached
-    → IsReached i start keeps (record reached { log = if keeps then reached.log else None })
-as_kept i start true reached is = is
-as_kept i start false reached is = record {
+pub kept_reached : (i : Instance) (start : List ℕ) (keeps : Bool) (reached : Reached) (kept : Option (List LogRecord))
+    → kept ≡ (if keeps then reached.log else None) → IsReached i start true reached
+    → IsReached i start keeps (record reached { log = kept })
+kept_reached i start keeps reached kept same is = record {
   leads = record {
     log = is.leads.log;
     legal = is.leads.legal;
     cursors_are = is.leads.cursors_are;
     pops_are = is.leads.pops_are;
-    log_is = refl;
+    log_is = same ∙ kept_more keeps reached.log is.leads.log is.leads.log_is;
   };
   can = record {
     count = is.can.count;
@@ -56,13 +54,6 @@ as_kept i start false reached is = record {
     suspects = is.can.suspects;
   };
 }
-
-pub kept_reached : (i : Instance) (start : List ℕ) (keeps : Bool) (reached : Reached) (kept : Option (List LogRecord))
-    → kept ≡ (if keeps then reached.log else None) → IsReached i start true reached
-    → IsReached i start keeps (record reached { log = kept })
-kept_reached i start keeps reached kept same is =
-    subst (λ (log : Option (List LogRecord)). IsReached i start keeps (record reached { log = log })) (sym same)
-    (as_kept i start keeps reached is)
 
 -- what goes on from there to an end is a run
 pub whole_run : (i : Instance) (keeps asked : Bool) (reached : Reached) (kept : Option (List LogRecord)) (whole : Run)
@@ -94,14 +85,7 @@ goes_on_joined i keeps reached kept is whole same on both both_is = (
 -- the order of pops is free where a formula is resampled
 free_command : (k : Command) → has_free_order k ≡ true → k ≡ Resample
 free_command Resample is = refl
-free_command Formula is = absurd (false≢true is)
-free_command Orient is = absurd (false≢true is)
-free_command Tree is = absurd (false≢true is)
-free_command Check is = absurd (false≢true is)
-free_command Make is = absurd (false≢true is)
-free_command Rounds is = absurd (false≢true is)
-free_command Replay is = absurd (false≢true is)
-free_command Resume is = absurd (false≢true is)
+free_command k is = absurd (false≢true is)
 
 -- an end of one run goes on
 end_goes_on : (log : List LogRecord) (asked : Asked) (ws : List Watcher) (facts : Facts) (i : Instance)
@@ -171,41 +155,27 @@ resumed_result cert a ws asked whole r held is run joined ended history =
           let log = run.reached.leads.log in
           let kept : whole.log ≡ Some log =
           run.reached.leads.log_is ∙ ap (λ b. with_more (if b then Some [] else None) log) keeps in
-          IfOk-weaker r _ _ (λ x told. answered (IsHistoryWith log asked ws a.facts a.instance)
-          (IsResumed ComesOf ws cert) x.status x.text.items
-          (resumed_history cert a ws asked held is (sym held.command_is ∙ command) log (joined log kept)) told)
+          answers_more (IsHistoryWith log asked ws a.facts a.instance) (IsResumed ComesOf ws cert) r
+          (resumed_history cert a ws asked held is (sym held.command_is ∙ command) log (joined log kept))
           (history (ap (λ (q : Asked). q.free) is ∙ free) log kept)
       | inr ordered ↦
           let other : cert.head.command ≢ Resample =
           λ same. false≢true (sym ordered ∙ ap has_free_order (held.command_is ∙ same)) in
-          IfOk-weaker r _ _ (λ x told. answered (IsEndOf asked ws a.facts a.instance) (IsResumed ComesOf ws cert)
-          x.status x.text.items (resumed_end cert a ws asked held is other) told)
+          answers_more (IsEndOf asked ws a.facts a.instance) (IsResumed ComesOf ws cert) r
+          (resumed_end cert a ws asked held is other)
           (ended (ap (λ (q : Asked). q.free) is ∙ ordered) (ap (λ (q : Asked). q.count) is) (held.extremal other))
     ]
 
--- so it comes of the bytes that are the certificate
-resumed_comes : (ws : List Watcher) (bytes : List ℕ) (cert : Certificate) → length bytes ≤ cert_limit
-    → IsCertOf bytes cert → (o : Outcome) → IsResumed ComesOf ws cert o → ComesOfResuming ComesOf ws bytes o
-resumed_comes ws bytes cert short is (Ended t i c n s a) h =
-    record { short = short; cert = cert; is = is; comes = h }
-resumed_comes ws bytes cert short is (Resampled t i l s a) h =
-    record { short = short; cert = cert; is = is; comes = h }
-resumed_comes ws bytes cert short is o h = absurd h.goes_on
+-- so it comes of the text that is the certificate
+resumed_comes : (ws : List Watcher) (text : List ℕ) (a : Accepted) (accepted : IsAccepted text a) (o : Outcome)
+    → IsResumed ComesOf ws accepted.cert o → ComesOfResuming ComesOf ws text o
+resumed_comes ws text a accepted (Refused r) h = absurd h.goes_on
+resumed_comes ws text a accepted o h =
+    record { short = accepted.short; cert = accepted.cert; is = accepted.is; comes = h }
 
--- what is told of the run of what is read of a source comes of its text
-pub resume_result : (left left' : Option (List ℕ)) (text : List ℕ) (a : Accepted) (ws : List Watcher) (status : ℕ)
-    (out : List ℕ) → left ≡ Some text → ((bytes : List ℕ) × IsReadTo cert_limit left left' bytes × IsAccepted bytes a)
+pub resumed_told : (ws : List Watcher) (text : List ℕ) (a : Accepted) (status : ℕ) (out : List ℕ) → IsAccepted text a
     → ((cert : Certificate) → IsHeldBy cert a → AnswersBy (IsResumed ComesOf ws cert) status out)
     → AnswersBy (ComesOfResuming ComesOf ws text) status out
-resume_result left left' text a ws status out known (bytes, read, accepted) told =
-    let acc : IsAccepted text a =
-    read_accepted text left' bytes a (subst (λ l. IsReadTo cert_limit l left' bytes) known read) accepted in
-    answered (IsResumed ComesOf ws acc.cert) (ComesOfResuming ComesOf ws text) status out
-    (λ o. resumed_comes ws text acc.cert acc.short acc.is o) (told acc.cert acc.held)
-
--- and its status is one of a text
-pub resume_status : (left left' : Option (List ℕ)) (a : Accepted) (ws : List Watcher) (status : ℕ) (out : List ℕ)
-    → ((bytes : List ℕ) × IsReadTo cert_limit left left' bytes × IsAccepted bytes a)
-    → ((cert : Certificate) → IsHeldBy cert a → AnswersBy (IsResumed ComesOf ws cert) status out) → IsTextStatus status
-resume_status left left' a ws status out (bytes, read, accepted) told =
-    resumed_status_is ComesOf ws accepted.cert status out (told accepted.cert accepted.held)
+resumed_told ws text a status out accepted told =
+    answered (IsResumed ComesOf ws accepted.cert) (ComesOfResuming ComesOf ws text) status out
+    (resumed_comes ws text a accepted) (told accepted.cert accepted.held)

@@ -6,7 +6,7 @@ use Rattle.job_subjects.specs.declared.answer.Answer.{Answer}
 use Rattle.job_subjects.specs.declared.stop.Stop.{Stop}
 use Rattle.job_subjects.specs.declared.stop.Stop.TheVariants.{ReadFault, OutOfMemory}
 use Rattle.job_subjects.specs.declared.refusal.Refusal.{Refusal}
-use Rattle.job_subjects.specs.declared.refusal.Refusal.TheVariants.{Usage, Malformed, Count, EmptyClause, Limit, Isolated, NoRoot, CutOff, TooMany, RowCount, EmptyRow, ValueTooLarge, WeightSum, Clashes, NotLegal, Stopped}
+use Rattle.job_subjects.specs.declared.refusal.Refusal.TheVariants.{Usage, NotLegal, Stopped}
 use Rattle.job_subjects.specs.Refusals.{refusal_status, refusal_line, IsTold, IsJudged}
 use Rattle.told_runs.specs.Outcomes.{Outcome, AnswersBy, IsAnswerStatus, HasRun}
 use Rattle.told_runs.specs.Outcomes.Outcome.{Refused}
@@ -32,22 +32,9 @@ record IsRefusedStatus (status : ℕ) : Type 0 where
 
 -- each but a stop has one of them
 refused_status : (r : Refusal) → ((s : Stop) → r ≡ Stopped s → ⊥) → IsRefusedStatus (refusal_status r)
-refused_status (Usage p) told = record { low = inl (omega arith); high = omega arith }
-refused_status (Malformed l c) told = record { low = inl (omega arith); high = omega arith }
-refused_status (Count d f) told = record { low = inl (omega arith); high = omega arith }
-refused_status (EmptyClause n) told = record { low = inl (omega arith); high = omega arith }
-refused_status (Limit k l) told = record { low = inl (omega arith); high = omega arith }
-refused_status (Isolated w) told = record { low = inl (omega arith); high = omega arith }
-refused_status (NoRoot w) told = record { low = inl (omega arith); high = omega arith }
-refused_status (CutOff w) told = record { low = inl (omega arith); high = omega arith }
-refused_status (TooMany n) told = record { low = inl (omega arith); high = omega arith }
-refused_status (RowCount g w) told = record { low = inl (omega arith); high = omega arith }
-refused_status (EmptyRow n) told = record { low = inl (omega arith); high = omega arith }
-refused_status (ValueTooLarge n k) told = record { low = inl (omega arith); high = omega arith }
-refused_status (WeightSum n) told = record { low = inl (omega arith); high = omega arith }
-refused_status (Clashes i j) told = record { low = inl (omega arith); high = omega arith }
 refused_status (NotLegal p) told = record { low = inr refl; high = omega arith }
 refused_status (Stopped s) told = absurd (told s refl)
+refused_status r told = record { low = inl (omega arith); high = omega arith }
 
 -- each is one of an answer
 pub told_low : (r : Refusal) (t : Result Answer Stop) → IsTold r t → IfOk t (λ a. IsAnswerStatus a.status)
@@ -75,22 +62,8 @@ told_high Q r (Err s) told = tt
 -- status 2 is that of words
 of_words : (r : Refusal) → refusal_status r ≡ 2 → (place : ℕ) × (r ≡ Usage place)
 of_words (Usage p) two = (p, refl)
-of_words (Malformed l c) two = absurd (omega (arith, two))
-of_words (Count d f) two = absurd (omega (arith, two))
-of_words (EmptyClause n) two = absurd (omega (arith, two))
-of_words (Limit k l) two = absurd (omega (arith, two))
-of_words (Isolated w) two = absurd (omega (arith, two))
-of_words (NoRoot w) two = absurd (omega (arith, two))
-of_words (CutOff w) two = absurd (omega (arith, two))
-of_words (TooMany n) two = absurd (omega (arith, two))
-of_words (RowCount g w) two = absurd (omega (arith, two))
-of_words (EmptyRow n) two = absurd (omega (arith, two))
-of_words (ValueTooLarge n k) two = absurd (omega (arith, two))
-of_words (WeightSum n) two = absurd (omega (arith, two))
-of_words (Clashes i j) two = absurd (omega (arith, two))
-of_words (NotLegal p) two = absurd (omega (arith, two))
 of_words (Stopped ReadFault) two = absurd (omega (arith, two))
-of_words (Stopped OutOfMemory) two = absurd (omega (arith, two))
+of_words r two = absurd (omega (arith, two))
 
 -- so it comes with the line of the first bad word
 pub told_usage : (words : List (List ℕ)) (r : Refusal) (t : Result Answer Stop)

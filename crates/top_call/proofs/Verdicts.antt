@@ -7,16 +7,16 @@ use Rattle.pop_words.specs.declared.command.Command.TheVariants.{Check}
 use Rattle.pop_words.specs.declared.job.Job.{Job}
 use Rattle.pop_watch.specs.Telling.{Watcher}
 use Rattle.job_subjects.specs.declared.answer.Answer.{Answer}
-use Rattle.job_subjects.specs.declared.stop.Stop.TheVariants.{ReadFault, OutOfMemory}
+use Rattle.job_subjects.specs.declared.stop.Stop.TheVariants.{ReadFault}
 use Rattle.job_subjects.specs.declared.refusal.Refusal.{Refusal}
 use Rattle.job_subjects.specs.declared.refusal.Refusal.TheVariants.{Stopped}
 use Rattle.job_subjects.specs.Refused.{IsRefusalOf, RefusesBy}
 use Rattle.told_runs.specs.Outcomes.{Outcome}
 use Rattle.told_runs.specs.Outcomes.Outcome.{Refused, Extremal}
-use Rattle.told_runs.specs.Results.{ComesRefused, IsResultOf}
+use Rattle.told_runs.specs.Results.{IsResultOf}
 use Rattle.top_call.specs.Checks.{ComesOfFormula, ComesOfChecking}
 use Rattle.top_call.specs.Answers.{wanted_by, ComesOf}
-use Rattle.top_call.proofs.Carrying.{carried, refused_result}
+use Rattle.top_call.proofs.Carrying.{carried, stopped_result}
 
 -- of the text that spells it
 of_spelled : (text : List ℕ) (f : Cnf) → AnswersCnf text (Ok f) → (o : Outcome) → ComesOfFormula f o
@@ -30,16 +30,13 @@ pub spelled_result : (text : List ℕ) (f : Cnf) (r : Result Answer Refusal) →
 spelled_result text f r spelled = carried (ComesOfFormula f) (ComesOfChecking text) r (of_spelled text f spelled)
 
 -- a refusal of the text by its grammar does, but where the source failed
-unread_comes : (text : List ℕ) (r : Refusal) → IsRefusalOf (λ cause. AnswersCnf text (Err cause)) r
-    → (r ≡ Stopped ReadFault → ⊥) → ComesRefused (ComesOfChecking text) r
-unread_comes text r (inl (ReadFault, is)) read = absurd (read is)
-unread_comes text r (inl (OutOfMemory, is)) read = inl is
-unread_comes text r (inr unread) read = inr (inl unread)
-
 pub unread_result : (text : List ℕ) (r : Result Answer Refusal) (e : Refusal) → IsErrAnd r (λ x. x ≡ e)
     → IsRefusalOf (λ cause. AnswersCnf text (Err cause)) e → (e ≡ Stopped ReadFault → ⊥)
     → IsResultOf (ComesOfChecking text) r
-unread_result text r e is h read = refused_result (ComesOfChecking text) r e is (unread_comes text e h read)
+unread_result text r e is h = stopped_result (ComesOfChecking text) r e is (elim h [
+  | inl stop ↦ inl stop
+  | inr unread ↦ inr (inl unread)
+])
 
 -- what comes of the text comes of the job
 of_text : (job : Job) (ws : List Watcher) (text : List ℕ) → job.command ≡ Check → (o : Outcome) → ComesOfChecking text o

@@ -1,31 +1,67 @@
 //! The answer to command words and a source.
-ghost use Rattle.std.specs.Prelude.{◌≡◌, ◌≢◌, ◌⊎◌, ℕ, List, Some, map, string_bytes, IfOk, MatchResult, IsErrOf};
+ghost use Rattle.std.specs.Prelude.{◌≡◌, ◌≢◌, ◌⊎◌, ◌≤◌, ℕ, List, length, Some, map, string_bytes, IfOk, OnOk, MatchResult, IsErrOf};
 ghost use Rattle.std.specs.Io.KnownBytes.{IsAtEnd, Consumes};
 ghost use Rattle.pop_model.specs.Faults.{Rose};
 ghost use Rattle.pop_words.specs.CommandLines.{AreWords, Asks, IsBadPlace};
 ghost use Rattle.pop_words.specs.declared.job.Job.{Job};
 ghost use Rattle.pop_words.specs.declared.command.Command.TheVariants.{Make};
+ghost use Rattle.pop_words.specs.declared.command.Input.TheVariants.{Certificate};
+ghost use Rattle.pop_words.specs.Options.{input_of};
 ghost use Rattle.top_call.specs.TopCall.{HasReadFault};
 ghost use Rattle.top_call.specs.Answers.{IsAnswer, IsAsked, AskForGrid, IsInput, MayFailBehind, WasReadWhole, ComesBy};
+ghost use Rattle.top_call.specs.Replays.{cert_limit};
+ghost use Rattle.top_call.specs.Whole.{WasRead};
 ghost use Rattle.told_runs.specs.Outcomes.{IsAnswerStatus, HasRun};
 ghost use Rattle.told_runs.specs.Results.{IsResultOf, IsTextResult};
 ghost use Rattle.job_subjects.specs.Refusals.{IsJudged, refusal_line};
-ghost use Rattle.job_subjects.specs.Refused.{HasNoBadLine};
 ghost use Rattle.job_subjects.specs.declared.refusal.Refusal.TheVariants.{Usage, Stopped};
 ghost use Rattle.job_subjects.specs.declared.stop.Stop.TheVariants.{ReadFault, OutOfMemory};
 
 use crate::checking::check;
 use crate::pausing::pause_or_tell;
-use crate::replaying::replay;
-use crate::resuming::resume;
+use crate::replaying::{read_accepted, tell_accepted};
+use crate::resuming::go_on;
 use crate::sampling::{made_for, sample_made};
 use job_subjects::{Answer, Made, Refusal, Stop};
 use pop_edge::Source;
 use pop_watch::Watch;
-use pop_words::{Command, Job, read_words};
+use pop_words::{Command, Input, Job, read_words};
 use run_makers::{Crew, Maker};
 use std::alloc::Global;
 use told_runs::Call;
+
+// The answer to the certificate that the source has: where its run stands, or how it goes on to an
+// end, as the line of the certificate's command tells it.
+fn answer_cert<S: Source, M: Maker>(
+    call: &mut Call<M>,
+    job: &Job,
+    source: &mut S,
+) -> Result<Answer, Refusal>
+    requires maker { M.fits call.old.maker.now }
+    requires cert { input_of job.now.command ≡ Certificate }
+    ensures answer { (text : List ℕ) → S.left source.old ≡ Some text
+        → (IsErrOf result (Stopped ReadFault) → ⊥)
+        → IsResultOf (ComesBy job.now.command job.now (map (λ b. (
+          (⟦<dyn Watch as Watch>⟧ b.vtable).kind b.value,
+          (⟦<dyn Watch as Watch>⟧ b.vtable).state b.value,
+        )) call.old.watchers.items)
+        text) result }
+    ensures status { IsTextResult result }
+    ensures whole { OnOk result (IsAtEnd (S.left source.new)) }
+    ensures read_fault { IsErrOf result (Stopped ReadFault)
+        → Rose (S.faults source.old) (S.faults source.new) }
+    ensures short { IsErrOf result (Stopped ReadFault) → (taken : List ℕ)
+        × Consumes (S.left source.old) (S.left source.new) taken × (length taken ≤ cert_limit) }
+    ensures read { IsJudged result → WasRead cert_limit (S.left source.old) (S.left source.new) }
+{
+    let accepted = read_accepted(call.alloc, source)?;
+    if let Command::Resume = job.command {
+        return Ok(go_on(call, accepted)?);
+    }
+    let told = tell_accepted(call.alloc, &accepted);
+    drop(accepted);
+    Ok(told?)
+}
 
 // The answer to a job. One that says after how many pops its run stops reads the source whole first,
 // and so does a certificate, which is replayed or resumed.
@@ -58,18 +94,17 @@ fn answer_job<S: Source, M: Maker>(
     if let Some(pops) = job.pops {
         return pause_or_tell(call, job, pops, source);
     }
-    match job.command {
-        Command::Replay => replay(call.alloc, source),
-        Command::Resume => resume(call, source),
-        Command::Check => check(call.alloc, source),
-        _ => {
-            let made = made_for(call.alloc, job, source)?;
-            let Made { facts, instance } = made;
-            let told = sample_made(call, job, &facts, instance);
-            drop(facts);
-            Ok(told?)
-        }
+    if let Input::Certificate = job.command.input() {
+        return answer_cert(call, job, source);
     }
+    if let Command::Check = job.command {
+        return check(call.alloc, source);
+    }
+    let made = made_for(call.alloc, job, source)?;
+    let Made { facts, instance } = made;
+    let told = sample_made(call, job, &facts, instance);
+    drop(facts);
+    Ok(told?)
 }
 
 /// The answer to command words, watchers and the text of a source, or why there is none.

@@ -1,6 +1,6 @@
 //! Runs that stop after so many pops: where an event is poppable then, the answer is a certificate
 //! of the run so far, and else that of the run to its end.
-ghost use Rattle.std.specs.Prelude.{◌≡◌, ◌≢◌, ◌<◌, ◌≤◌, ◌^◌, ℕ, List, None, Some, length, map, Contains, IfOk, IsErrOf};
+ghost use Rattle.std.specs.Prelude.{◌≡◌, ◌≢◌, ◌<◌, ◌≤◌, ◌^◌, ℕ, List, Some, length, map, IfOk, IsErrOf};
 ghost use Rattle.std.specs.Io.KnownBytes.{Consumes, IsAtEnd};
 ghost use Rattle.pop_model.specs.Faults.{Rose};
 ghost use Rattle.pop_model.specs.Stacks.{variables_of};

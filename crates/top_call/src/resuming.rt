@@ -1,26 +1,15 @@
-//! The command `resume`: the run of a certificate goes on to an end, which is told as the line of
-//! its command tells it.
-ghost use Rattle.std.specs.Prelude.{◌≡◌, ◌≤◌, ℕ, List, None, Some, length, map, if◌then◌else◌, IfOk, OnOk, IsErrOf};
-ghost use Rattle.std.specs.Io.KnownBytes.{Consumes, IsAtEnd};
-ghost use Rattle.pop_model.specs.Faults.{Rose};
+//! The run of a certificate goes on to an end, which is told as the line of its command tells it.
+ghost use Rattle.std.specs.Prelude.{◌≡◌, None, map, if◌then◌else◌, IfOk};
 ghost use Rattle.confluence_core.specs.Kept.{keeps_log};
 ghost use Rattle.run_cert.specs.Certificates.{Certificate};
-ghost use Rattle.job_subjects.specs.declared.refusal.Refusal.TheVariants.{Stopped};
-ghost use Rattle.job_subjects.specs.declared.stop.Stop.TheVariants.{ReadFault};
 ghost use Rattle.told_runs.specs.Outcomes.{AnswersBy};
-ghost use Rattle.told_runs.specs.Results.{IsResultOf, IsTextResult};
-ghost use Rattle.job_subjects.specs.Refusals.{IsJudged};
-ghost use Rattle.top_call.specs.Replays.{cert_limit};
-ghost use Rattle.top_call.specs.Whole.{WasRead};
-ghost use Rattle.top_call.specs.Resumes.{IsResumed, ComesOfResuming};
+ghost use Rattle.top_call.specs.Resumes.{IsResumed};
 ghost use Rattle.top_call.specs.Accepted.{IsHeldBy};
 ghost use Rattle.top_call.specs.Answers.{ComesOf};
 
 use crate::accepted::Accepted;
-use crate::replaying::read_accepted;
 use confluence_core::{Keep, Log, Reached};
-use job_subjects::{Answer, Refusal};
-use pop_edge::Source;
+use job_subjects::Answer;
 use pop_watch::Watch;
 use run_makers::{Maker, Stretch};
 use std::alloc::AllocError;
@@ -36,8 +25,8 @@ fn kept(log: Option<Log>, keep: Keep) -> Option<Log>
     }
 }
 
-// Goes on with the run of a certificate, and tells its end.
-fn go_on<M: Maker>(call: &mut Call<M>, accepted: Accepted) -> Result<Answer, AllocError>
+/// Goes on with the run of a certificate, and tells its end.
+pub fn go_on<M: Maker>(call: &mut Call<M>, accepted: Accepted) -> Result<Answer, AllocError>
     requires maker { M.fits call.old.maker.now }
     requires held { (cert : Certificate) × IsHeldBy cert accepted }
     ensures { (cert : Certificate) → IsHeldBy cert accepted → IfOk result (λ a. AnswersBy
@@ -76,27 +65,4 @@ fn go_on<M: Maker>(call: &mut Call<M>, accepted: Accepted) -> Result<Answer, All
     drop(instance);
     drop(facts);
     told
-}
-
-/// Goes on with the run of the certificate that the source has to an end, and tells what the line
-/// of the certificate's command tells: the answer of `resume`.
-pub fn resume<S: Source, M: Maker>(call: &mut Call<M>, source: &mut S) -> Result<Answer, Refusal>
-    requires maker { M.fits call.old.maker.now }
-    ensures answer { (text : List ℕ) → S.left source.old ≡ Some text
-        → (IsErrOf result (Stopped ReadFault) → ⊥)
-        → IsResultOf (ComesOfResuming ComesOf (map (λ b. (
-          (⟦<dyn Watch as Watch>⟧ b.vtable).kind b.value,
-          (⟦<dyn Watch as Watch>⟧ b.vtable).state b.value,
-        )) call.old.watchers.items)
-        text) result }
-    ensures status { IsTextResult result }
-    ensures whole { OnOk result (IsAtEnd (S.left source.new)) }
-    ensures read_fault { IsErrOf result (Stopped ReadFault)
-        → Rose (S.faults source.old) (S.faults source.new) }
-    ensures short { IsErrOf result (Stopped ReadFault) → (taken : List ℕ)
-        × Consumes (S.left source.old) (S.left source.new) taken × (length taken ≤ cert_limit) }
-    ensures read { IsJudged result → WasRead cert_limit (S.left source.old) (S.left source.new) }
-{
-    let accepted = read_accepted(call.alloc, source)?;
-    Ok(go_on(call, accepted)?)
 }

@@ -1,25 +1,11 @@
-use Rattle.std.proofs.Common.{◌≡◌, List, All, refl, sym, ap, subst, ◌∙◌}
+use Rattle.std.proofs.Common.{◌≡◌, All, sym, ap, subst, ◌∙◌}
 use Rattle.pop_model.specs.Stacks.{variables_of}
 use Rattle.pop_model.specs.Popping.{NamesBelow}
-use Rattle.pop_model.specs.Logs.{LogRecord, IsLegal, replay}
+use Rattle.pop_model.specs.Logs.{LogRecord}
 use Rattle.pop_model.specs.Runs.{start_of}
-use Rattle.pop_model.specs.Instances.{Instance, IsInstance}
-use Rattle.pop_log.specs.Layers.{Placed}
-use Rattle.pop_log.specs.Layered.{AreSorted}
 use Rattle.pop_log.proofs.LayeredPrinting.{records_below}
-use Rattle.pop_log.proofs.LayeredLaws.{layered_is_legal}
-use Rattle.pop_log.proofs.UnitEvents.{family_cubes}
-use Rattle.told_runs.specs.Tellings.{records_of}
+use Rattle.told_runs.proofs.ToldRuns.{in_order}
 use Rattle.told_runs.proofs.running.text_of_log.Goals as goal
-
--- the layered log is legal, with the same replay
-in_order : (i : Instance) → IsInstance i → (log : List LogRecord) (placed : List Placed)
-    → IsLegal i (start_of i) log → AreSorted log placed
-    → IsLegal i (start_of i) (records_of placed)
-    × (replay (start_of i) (records_of placed) ≡ replay (start_of i) log)
-in_order i is log placed legal sorted =
-    layered_is_legal i (family_cubes i.family is.family) (start_of i) log (records_of placed) legal
-    (record { placed = placed; sorted = sorted; records = refl })
 
 -- the variables of a legal log are those of the stacks
 pub of-requires : goal.of-requires

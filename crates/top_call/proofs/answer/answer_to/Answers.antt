@@ -1,11 +1,12 @@
-use Rattle.std.proofs.Common.{inl, inr, Ok, Err, map, string_bytes, ap, subst}
+use Rattle.std.proofs.Common.{inl, inr, Ok, Err, map, string_bytes, subst}
 use Rattle.pop_words.specs.declared.job.Job.{Job}
 use Rattle.top_call.specs.Answers.{ComesBy, IsOutcome, WasReadWhole}
+use Rattle.job_subjects.specs.Refusals.{IsPastWords}
 use Rattle.pop_words.proofs.OneJob.{same_job}
 use Rattle.pop_words.proofs.JobsInRange.{asked_workers}
 use Rattle.top_call.proofs.Carrying.{carried}
 use Rattle.top_call.proofs.Lifting.{of_words, input_of_job, grid_job}
-use Rattle.top_call.proofs.WordResults.{words_refused, words_bad, words_only, words_judged, words_no_fault, job_past_words}
+use Rattle.top_call.proofs.WordResults.{words_refused, words_bad, words_only, words_judged, words_no_fault}
 use Rattle.top_call.proofs.ToldRefusals.{err_is, told_answer, told_low, told_high, told_usage, told_words, told_fault, told_judged}
 use Rattle.top_call.proofs.answer.answer_to.Goals as goal
 
@@ -13,8 +14,8 @@ use Rattle.top_call.proofs.answer.answer_to.Goals as goal
 pub returns-in-Err-clause-answer : goal.returns-in-Err-clause-answer
 returns-in-Err-clause-answer g c text input =
     told_answer (IsOutcome (map string_bytes c.args.words.now) _ text) c.from.result c.told.result c.told.ensures
-    (λ read. words_refused (map string_bytes c.args.words.now) _ text c.in-Err.fault (Err c.from.result)
-    (ap (λ r. Err r) c.from.ensures) c.in-Err.ensures.fault)
+    (λ read. words_refused (map string_bytes c.args.words.now) _ text c.in-Err.fault c.from.result c.from.ensures
+    c.in-Err.ensures.fault)
 
 pub returns-in-Err-clause-status : goal.returns-in-Err-clause-status
 returns-in-Err-clause-status g c = told_low c.from.result c.told.result c.told.ensures
@@ -22,27 +23,26 @@ returns-in-Err-clause-status g c = told_low c.from.result c.told.result c.told.e
 pub returns-in-Err-clause-usage : goal.returns-in-Err-clause-usage
 returns-in-Err-clause-usage g c =
     told_usage (map string_bytes c.args.words.now) c.from.result c.told.result
-    (λ place is. words_bad (map string_bytes c.args.words.now) c.in-Err.fault (Err c.from.result) place
-    (ap (λ r. Err r) c.from.ensures) c.in-Err.ensures.fault (ap (λ r. Err r) is)) c.told.ensures
+    (λ place. words_bad (map string_bytes c.args.words.now) c.in-Err.fault c.from.result place c.from.ensures
+    c.in-Err.ensures.fault) c.told.ensures
 
 pub returns-in-Err-clause-only_usage : goal.returns-in-Err-clause-only_usage
 returns-in-Err-clause-only_usage g c outside =
-    told_words c.from.result c.told.result
-    (words_only c.in-Err.fault (Err c.from.result) (ap (λ r. Err r) c.from.ensures)) c.told.ensures
+    told_words c.from.result c.told.result (words_only c.in-Err.fault c.from.result c.from.ensures) c.told.ensures
 
 pub returns-in-Err-clause-whole : goal.returns-in-Err-clause-whole
 returns-in-Err-clause-whole g c = told_high _ c.from.result c.told.result c.told.ensures
 
 pub returns-in-Err-clause-read_fault : goal.returns-in-Err-clause-read_fault
 returns-in-Err-clause-read_fault g c failed =
-    absurd (words_no_fault c.in-Err.fault (Err c.from.result) (ap (λ r. Err r) c.from.ensures)
-    (ap (λ r. Err r) (told_fault c.from.result c.told.result c.told.ensures failed)))
+    absurd (words_no_fault c.in-Err.fault c.from.result c.from.ensures
+    (told_fault c.from.result c.told.result c.told.ensures failed))
 
 pub returns-in-Err-clause-read : goal.returns-in-Err-clause-read
 returns-in-Err-clause-read g c job asks =
     told_judged _ c.from.result c.told.result c.told.ensures
-    (λ judged. words_judged _ (map string_bytes c.args.words.now) job c.in-Err.fault (Err c.from.result)
-    (ap (λ r. Err r) c.from.ensures) c.in-Err.ensures.fault asks judged)
+    (words_judged _ (map string_bytes c.args.words.now) job c.in-Err.fault c.from.result c.from.ensures
+    c.in-Err.ensures.fault asks)
 
 -- the words ask for the job, so that what comes of it comes of them
 pub returns-in-Ok-answered-clause-answer : goal.returns-in-Ok-answered-clause-answer
@@ -81,8 +81,7 @@ returns-in-Err-answered-clause-answer g c text input =
 pub returns-in-Err-answered-clause-usage : goal.returns-in-Err-answered-clause-usage
 returns-in-Err-answered-clause-usage g c =
     told_usage (map string_bytes c.args.words.now) c.in-Err-answered.refusal c.told-in-Err-answered.result
-    (λ place is. absurd (job_past_words (Err c.in-Err-answered.refusal) place c.in-Err-answered.ensures.status
-    (ap (λ r. Err r) is))) c.told-in-Err-answered.ensures
+    (λ place is. absurd (subst IsPastWords is c.in-Err-answered.ensures.status)) c.told-in-Err-answered.ensures
 
 pub returns-in-Err-answered-clause-unread : goal.returns-in-Err-answered-clause-unread
 returns-in-Err-answered-clause-unread g c (inl outside) = absurd (outside (c.in-Ok.job, c.in-Ok.ensures.job))

@@ -1,12 +1,8 @@
-use Rattle.std.proofs.Common.{inl, ℕ, List, Some, Ok, Err, sym, ap, subst}
-use Rattle.pop_model.specs.Extremal.{IsExtremal}
-use Rattle.pop_model.specs.Instances.{Instance}
-use Rattle.pop_print.specs.Ends.{AreFactsOf}
-use Rattle.job_subjects.specs.Made.{IsMade}
+use Rattle.std.proofs.Common.{inl, ℕ, List, Some, Ok, Err, ap}
 use Rattle.job_subjects.proofs.MadeExtremal.{made_short}
 use Rattle.job_subjects.proofs.RefusedTexts.{no_rise}
-use Rattle.top_call.specs.Answers.{wanted_by}
-use Rattle.top_call.proofs.MadeRefusals.{made_error}
+use Rattle.top_call.specs.Answers.{ComesOf}
+use Rattle.top_call.proofs.Carrying.{stopped_result}
 use Rattle.top_call.proofs.PauseWords.{not_made, paused_samples, paused_no_rounds, may_stop}
 use Rattle.top_call.proofs.Statuses.{job_result}
 use Rattle.top_call.proofs.pausing.judge_and_stop.Goals as goal
@@ -23,26 +19,25 @@ run_up_to-told-requires-clause-may g c =
 -- nothing is made of the bytes
 pub returns-in_err-made-clause-answer : goal.returns-in_err-made-clause-answer
 returns-in_err-made-clause-answer g c =
-    made_error c.args.job.now _ c.args.input.now c.from_residual.result
-    c.in_err-made.field-0.0 c.from_residual.ensures.1
+    stopped_result (ComesOf c.args.job.now _ c.args.input.now) c.from_residual.result c.in_err-made.field-0.0
+    c.from_residual.ensures.1
     (c.in_err-made.ensures.refused c.args.input.now (inl (ap (λ (l : List ℕ). Some l) c.new-source.ensures)))
     (λ is. no_rise (c.in_err-made.ensures.fault (ap (λ q. Err q) is)))
 
 -- what is made is what the job wants, at its last height
 pub run_up_to-told-requires-clause-made : goal.run_up_to-told-requires-clause-made
 run_up_to-told-requires-clause-made g c =
-    subst (IsMade (wanted_by c.args.job.now) c.args.input.now c.in_ok-made.made.facts) (sym c.raised-instance.ensures)
+    rw c.raised-instance.ensures
     (c.in_ok-made.ensures.made c.args.input.now (inl (ap (λ (l : List ℕ). Some l) c.new-source.ensures)))
 
 pub run_up_to-told-requires-clause-told : goal.run_up_to-told-requires-clause-told
-run_up_to-told-requires-clause-told g c =
-    subst (AreFactsOf c.in_ok-made.made.facts) (sym c.raised-instance.ensures) c.in_ok-made.ensures.told
+run_up_to-told-requires-clause-told g c = rw c.raised-instance.ensures c.in_ok-made.ensures.told
 
 -- it is extremal, where it isn't resampled
 pub run_up_to-told-requires-clause-extremal : goal.run_up_to-told-requires-clause-extremal
 run_up_to-told-requires-clause-extremal g c ordered =
     let has = (may_stop c.args.job.now c.requires.asked c.args.pops c.requires.pops).command in
-    subst (λ (i : Instance). IsExtremal i.family) (sym c.raised-instance.ensures)
+    rw c.raised-instance.ensures
     (c.in_ok-made.ensures.extremal ordered (paused_no_rounds c.args.job.now.command has))
 
 -- of a text within the limit

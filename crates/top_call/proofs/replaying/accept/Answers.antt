@@ -1,16 +1,7 @@
-use Rattle.std.proofs.Common.{◌≡◌, IfSome, sym, subst}
-use Rattle.pop_model.specs.Instances.{Instance}
-use Rattle.pop_model.specs.Extremal.{IsExtremal}
-use Rattle.pop_log.specs.LogVersions.{IsReadAs}
-use Rattle.pop_log.specs.Refusals.{IsLogRefusal}
-use Rattle.pop_print.specs.Ends.{AreFactsOf}
-use Rattle.told_runs.specs.Names.{names_for}
-use Rattle.job_subjects.specs.Made.{IsMade}
-use Rattle.pop_log.specs.declared.log_refusal.LogRefusal.{LogRefusal}
-use Rattle.job_subjects.specs.Refusals.{IsRefusal, unlogged}
-use Rattle.top_call.specs.Replays.{wanted_of, IsCertified, IsRefusedCert}
-use Rattle.job_subjects.proofs.Carrying.{refused_error}
 use Rattle.top_call.proofs.ReplayedCerts.{line_refused, text_refused}
+use Rattle.job_subjects.specs.Refusals.{IsRefusal}
+use Rattle.top_call.specs.Replays.{IsRefusedCert}
+use Rattle.job_subjects.proofs.Carrying.{refused_error}
 use Rattle.top_call.proofs.replaying.accept.Goals as goal
 
 -- what refuses the line of the certificate's command refuses it
@@ -22,20 +13,15 @@ returns-in_err-made-clause-refused c =
 -- so does what refuses its log text
 pub returns-in_err-reached-clause-refused : goal.returns-in_err-reached-clause-refused
 returns-in_err-reached-clause-refused c =
-    let cert = c.args.cert.now in
-    let facts = c.in_ok-made.made.facts in
-    let i = c.raised-instance.result in
-    let certified : IsCertified cert facts i = record {
-      made = subst (IsMade (wanted_of cert.head) cert.input facts) (sym c.raised-instance.ensures)
-          c.in_ok-made.ensures.made;
+    refused_error (IsRefusal (IsRefusedCert c.args.cert.now)) c.from_residual-in_err-reached.result
+    c.in_err-reached.field-0.0 c.from_residual-in_err-reached.ensures.1
+    (text_refused c.args.cert.now c.in_ok-made.made.facts c.raised-instance.result c.in_err-reached.field-0.0
+    (record {
+      made = rw c.raised-instance.ensures c.in_ok-made.ensures.made;
       is = c.run_of.ensures.instance;
       numbers = c.run_of.ensures.numbers;
-    } in
-    refused_error (IsRefusal (IsRefusedCert cert)) c.from_residual-in_err-reached.result
-    c.in_err-reached.field-0.0 c.from_residual-in_err-reached.ensures.1
-    (text_refused cert facts i c.in_err-reached.field-0.0 certified
-    (subst (λ text. (cause : LogRefusal) × IsLogRefusal (names_for facts) i text cause
-    × (c.in_err-reached.field-0.0 ≡ unlogged cause)) c.log_text.ensures c.in_err-reached.ensures.refused))
+    })
+    (rw c.log_text.ensures at c.in_err-reached.ensures.refused))
 
 -- what the certificate holds
 pub returns-clause-held : goal.returns-clause-held
@@ -43,16 +29,12 @@ returns-clause-held c = record {
   command_is = c.command.ensures;
   paused_is = c.requires.command;
   certified = record {
-    made = subst (IsMade (wanted_of c.args.cert.now.head) c.args.cert.now.input c.in_ok-made.made.facts)
-        (sym c.raised-instance.ensures) c.in_ok-made.ensures.made;
+    made = rw c.raised-instance.ensures c.in_ok-made.ensures.made;
     is = c.run_of.ensures.instance;
     numbers = c.run_of.ensures.numbers;
   };
-  read = subst (λ text. IfSome c.in_ok-reached.reached.log
-      (IsReadAs (names_for c.in_ok-made.made.facts) c.raised-instance.result text)) c.log_text.ensures
-      c.in_ok-reached.ensures.read;
-  told = subst (AreFactsOf c.in_ok-made.made.facts) (sym c.raised-instance.ensures) c.in_ok-made.ensures.told;
-  extremal = λ ordered. subst (λ (i : Instance). IsExtremal i.family) (sym c.raised-instance.ensures)
-      (c.in_ok-made.ensures.extremal ordered);
+  read = rw c.log_text.ensures at c.in_ok-reached.ensures.read;
+  told = rw c.raised-instance.ensures c.in_ok-made.ensures.told;
+  extremal = λ ordered. rw c.raised-instance.ensures (c.in_ok-made.ensures.extremal ordered);
   run = c.in_ok-reached.ensures.run;
 }

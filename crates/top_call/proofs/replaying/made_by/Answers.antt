@@ -1,13 +1,9 @@
-use Rattle.std.proofs.Common.{inl, ℕ, List, Some, Contains, IfOk, IfErr, sym, ap, subst, ◌∙◌}
-use Rattle.pop_stacks.specs.Tables.{origin_of}
+use Rattle.std.proofs.Common.{inl, ℕ, List, Some, Contains, sym, ap, subst, ◌∙◌}
 use Rattle.pop_words.specs.Options.{paused}
-use Rattle.job_subjects.specs.declared.wanted.Wanted.{Wanted}
-use Rattle.job_subjects.specs.Made.{IsMade}
-use Rattle.job_subjects.specs.Refused.{IsStopOr, RefusesText}
+use Rattle.job_subjects.specs.Refused.{RefusesText}
 use Rattle.top_call.specs.Replays.{wanted_of}
 use Rattle.job_subjects.proofs.RefusedTexts.{lent_result}
 use Rattle.top_call.proofs.PauseWords.{not_made, paused_samples, paused_no_rounds}
-use Rattle.top_call.proofs.ReplayedCerts.{head_wants}
 use Rattle.top_call.proofs.replaying.made_by.Goals as goal
 
 pub made_of-requires-clause-command : goal.made_of-requires-clause-command
@@ -21,13 +17,9 @@ made_of-requires-clause-side c make =
 -- what is made is what the head wants
 pub returns-clause-made : goal.returns-clause-made
 returns-clause-made c =
-    let head = c.args.cert.now.head in
-    let input : List ℕ = c.args.cert.now.input in
-    subst (λ (w : Wanted). IfOk c.made_of.result (λ made. IsMade w input made.facts made.instance))
-    (head_wants head c.command.result c.new-origin.result c.root.result c.command.ensures
-    (c.new-origin.ensures ∙ ap (λ s. origin_of s c.height.result) (c.in_ok-spec.ensures ∙ c.spec.ensures)
-    ∙ ap (origin_of head.stacks) c.height.ensures) c.root.ensures)
-    (c.made_of.ensures.made input (inl (ap (λ (l : List ℕ). Some l) (c.new-source.ensures ∙ c.input.ensures))))
+    rw (c.new-origin.ensures, c.in_ok-spec.ensures, c.spec.ensures, c.height.ensures, c.command.ensures, c.root.ensures)
+    at (c.made_of.ensures.made c.args.cert.now.input
+    (inl (ap (λ (l : List ℕ). Some l) (c.new-source.ensures ∙ c.input.ensures))))
 
 pub returns-clause-extremal : goal.returns-clause-extremal
 returns-clause-extremal c ordered =
@@ -37,11 +29,8 @@ returns-clause-extremal c ordered =
 -- what refuses it is what refuses that, since the bytes are lent
 pub returns-clause-refused : goal.returns-clause-refused
 returns-clause-refused c =
-    let head = c.args.cert.now.head in
-    let input : List ℕ = c.args.cert.now.input in
-    lent_result (RefusesText (wanted_of head) input) c.made_of.result c.made_of.ensures.fault
-    (subst (λ (w : Wanted). IfErr c.made_of.result (IsStopOr (RefusesText w input)))
-    (head_wants head c.command.result c.new-origin.result c.root.result c.command.ensures
-    (c.new-origin.ensures ∙ ap (λ s. origin_of s c.height.result) (c.in_ok-spec.ensures ∙ c.spec.ensures)
-    ∙ ap (origin_of head.stacks) c.height.ensures) c.root.ensures)
-    (c.made_of.ensures.refused input (inl (ap (λ (l : List ℕ). Some l) (c.new-source.ensures ∙ c.input.ensures)))))
+    lent_result (RefusesText (wanted_of c.args.cert.now.head) c.args.cert.now.input) c.made_of.result
+    c.made_of.ensures.fault
+    (rw (c.new-origin.ensures, c.in_ok-spec.ensures, c.spec.ensures, c.height.ensures, c.command.ensures, c.root.ensures)
+    at (c.made_of.ensures.refused c.args.cert.now.input
+    (inl (ap (λ (l : List ℕ). Some l) (c.new-source.ensures ∙ c.input.ensures)))))

@@ -1,10 +1,4 @@
-use Rattle.std.proofs.Common.{IfOk, IfErr, ap, subst, ◌≡◌, ◌∙◌}
-use Rattle.pop_stacks.specs.Tables.{origin_of}
 use Rattle.pop_words.proofs.JobsInRange.{asked_height, asked_grow, asked_root, asked_size}
-use Rattle.job_subjects.specs.Made.{IsMade}
-use Rattle.job_subjects.specs.Refused.{IsStopOr, RefusesText}
-use Rattle.top_call.specs.Answers.{last_height, origin_for}
-use Rattle.top_call.proofs.MadeComes.{wanted_over}
 use Rattle.top_call.proofs.sampling.made_for.Goals as goal
 
 -- words ask for the job, so that its numbers are in their ranges
@@ -33,23 +27,11 @@ made_of-requires-clause-side g c make =
 -- the stacks are those that it asks for
 pub returns-clause-made : goal.returns-clause-made
 returns-clause-made g c text input =
-    let job = c.args.job.now in
-    let from : c.new-origin.result ≡ origin_for job =
-    c.new-origin.ensures ∙ ap (λ s. origin_of s (last_height job)) c.in_ok-spec.ensures in
-    subst (λ s. IfOk c.made_of.result (λ made. IsMade (wanted_over job s) text made.facts made.instance)) from
-    (c.made_of.ensures.made text input)
+    rw (c.new-origin.ensures, c.in_ok-spec.ensures) at (c.made_of.ensures.made text input)
 
 pub returns-clause-origin : goal.returns-clause-origin
-returns-clause-origin g c =
-    let job = c.args.job.now in
-    let from : c.new-origin.result ≡ origin_for job =
-    c.new-origin.ensures ∙ ap (λ s. origin_of s (last_height job)) c.in_ok-spec.ensures in
-    subst (λ s. IfOk c.made_of.result (λ made. made.instance.stacks.origin ≡ s)) from c.made_of.ensures.origin
+returns-clause-origin g c = rw (c.new-origin.ensures, c.in_ok-spec.ensures) at c.made_of.ensures.origin
 
 pub returns-clause-refused : goal.returns-clause-refused
 returns-clause-refused g c text input =
-    let job = c.args.job.now in
-    let from : c.new-origin.result ≡ origin_for job =
-    c.new-origin.ensures ∙ ap (λ s. origin_of s (last_height job)) c.in_ok-spec.ensures in
-    subst (λ s. IfErr c.made_of.result (IsStopOr (RefusesText (wanted_over job s) text))) from
-    (c.made_of.ensures.refused text input)
+    rw (c.new-origin.ensures, c.in_ok-spec.ensures) at (c.made_of.ensures.refused text input)

@@ -1,18 +1,12 @@
-use Rattle.std.proofs.Common.{◌≡◌, ◌≢◌, ℕ, true, false, List, None, Some, Result, IfOk, sym, ap, subst, ◌∙◌}
+use Rattle.std.proofs.Common.{◌≡◌, ℕ, true, Some, sym, ap, subst, ◌∙◌}
 use Rattle.std.proofs.lemmas.Result.{IfOk-weaker}
 use Rattle.pop_model.specs.Stacks.{IsKeyed}
 use Rattle.pop_model.specs.Extremal.{IsExtremal}
 use Rattle.pop_model.specs.Instances.{Instance}
-use Rattle.pop_words.specs.declared.command.Command.TheVariants.{Resample, Rounds}
 use Rattle.pop_words.specs.declared.job.Job.{Job}
-use Rattle.pop_watch.specs.Telling.{Watcher}
-use Rattle.pop_print.specs.declared.facts.Facts.{Facts}
-use Rattle.job_subjects.specs.declared.answer.Answer.{Answer}
 use Rattle.told_runs.specs.declared.asked.Asked.{Asked}
 use Rattle.told_runs.specs.Asking.{asked_by}
-use Rattle.told_runs.specs.Ends.{IsEndOf, IsHistoryOf}
-use Rattle.told_runs.specs.Outcomes.{AnswersBy}
-use Rattle.top_call.specs.Answers.{EndsAs, origin_for, IsAsked}
+use Rattle.top_call.specs.Answers.{origin_for, IsAsked}
 use Rattle.top_call.proofs.BatchWords.{is_batched, batched_ordered, batched_no_rounds, counted_command, counted_keyed}
 use Rattle.top_call.proofs.Lifting.{ordered_by}
 use Rattle.top_call.proofs.MadeComes.{batch_ends_as, rounds_end_as, ends_as, pairs_of}
@@ -60,22 +54,12 @@ returns-in-Some g c =
     (IfOk-weaker c.batch_and_tell.result _ _ (λ a told. told _) c.batch_and_tell.ensures)
 
 -- or one is, of the instance at its last height
-one_run : {E : Type 0} (job : Job) (ws : List Watcher) (facts : Facts) (i j : Instance) (asked : Asked)
-    (r : Result Answer E) → i ≡ j → job.command ≢ Rounds → asked ≡ asked_by job → asked.count ≡ None
-    → (job.command ≢ Resample → job.command ≢ Rounds → IsExtremal j.family)
-    → (asked.free ≡ false → asked.count ≡ None → IsExtremal i.family
-    → IfOk r (λ a. AnswersBy (IsEndOf asked ws facts i) a.status a.text.items))
-    → (asked.free ≡ true → IfOk r (λ a. AnswersBy (IsHistoryOf asked ws facts i) a.status a.text.items))
-    → IfOk r (λ a. AnswersBy (EndsAs job.command (asked_by job) ws facts j) a.status a.text.items)
-one_run job ws facts i j asked r same other asks once extremal ended history =
-    subst (λ (k : Instance). IfOk r
-    (λ a. AnswersBy (EndsAs job.command (asked_by job) ws facts k) a.status a.text.items)) same
-    (ends_as job ws facts i asked r other asks
-    (λ free. ended free once (subst (λ (k : Instance). IsExtremal k.family) (sym same)
-    (extremal (ordered_by job asked asks free) other))) history)
-
 pub returns : goal.returns
 returns g c =
-    one_run c.args.job.now _ c.args.facts.now _ c.args.growing c.of-asked.result c.tell_sampled.result
-    c.in_ok-run.ensures.instance c.in_default.not-Rounds c.of-asked.ensures c.in_default-count.is c.requires.extremal
-    c.tell_sampled.ensures.ended c.tell_sampled.ensures.history
+    let same = c.in_ok-run.ensures.instance in
+    rw same at (ends_as c.args.job.now _ c.args.facts.now _ c.of-asked.result c.tell_sampled.result
+    c.in_default.not-Rounds c.of-asked.ensures
+    (λ free. c.tell_sampled.ensures.ended free c.in_default-count.is
+    (subst (λ (i : Instance). IsExtremal i.family) (sym same)
+    (c.requires.extremal (ordered_by c.args.job.now c.of-asked.result c.of-asked.ensures free) c.in_default.not-Rounds)))
+    c.tell_sampled.ensures.history)
