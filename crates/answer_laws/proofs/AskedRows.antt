@@ -29,62 +29,35 @@ number_read low high n from to fits =
     ap (only_if (λ m. nat_le low m && nat_le m high)) (number_again n fits)
     ∙ ap (λ b. if b then Some n else None) (both_true (le-leb low n from) (le-leb n high to))
 
--- words that are read so ask for the job
-asked_by_reading : (words : List (List ℕ)) (job : Job) → reading words ≡ Ok job → (ws : List (List ℕ)) × Asks ws job
-asked_by_reading words job read = (words, subst (IsReading words) read (reading_is words))
-
--- of a formula
-formula_asked : (rows : Rows) → MayBeStacks (Given rows)
-    → (words : List (List ℕ)) × Asks words (over_rows (default_job Formula) rows)
-formula_asked rows may =
-    asked_by_reading (codes "formula" ∷ codes "--stacks" ∷ word_of rows ∷ []) (over_rows (default_job Formula) rows)
-    (rw (rows_again rows may) refl)
-
--- of rounds
-rounds_asked : (rows : Rows) → MayBeStacks (Given rows)
-    → (words : List (List ℕ)) × Asks words (over_rows (default_job Rounds) rows)
-rounds_asked rows may =
-    asked_by_reading (codes "rounds" ∷ codes "--stacks" ∷ word_of rows ∷ []) (over_rows (default_job Rounds) rows)
-    (rw (rows_again rows may) refl)
-
--- of an orientation
-orient_asked : (rows : Rows) → MayBeStacks (Given rows)
-    → (words : List (List ℕ)) × Asks words (over_rows (default_job Orient) rows)
-orient_asked rows may =
-    asked_by_reading (codes "orient" ∷ codes "--stacks" ∷ word_of rows ∷ []) (over_rows (default_job Orient) rows)
-    (rw (rows_again rows may) refl)
-
--- of a tree
-tree_asked : (rows : Rows) (root : ℕ) → 0 < root → root < 2 ^ 32 → MayBeStacks (Given rows)
-    → (words : List (List ℕ)) × Asks words (over_rows (record (default_job Tree) { root = root }) rows)
-tree_asked rows root some fits may =
-    let read = number_read 1 (2 ^ 32 - 1) root (omega (arith, some)) (omega (arith, fits)) fits in
-    asked_by_reading (codes "tree" ∷ codes "--root" ∷ decimal root ∷ codes "--stacks" ∷ word_of rows ∷ [])
-    (over_rows (record (default_job Tree) { root = root }) rows)
-    (rw read (rw (rows_again rows may) refl))
-
--- of a grid
-make_asked : (rows : Rows) (side : ℕ) → 0 < side → side ≤ 2048 → MayBeStacks (Given rows)
-    → (words : List (List ℕ)) × Asks words (over_rows (record (default_job Make) { size = side }) rows)
-make_asked rows side some few may =
-    let read = number_read 1 2048 side (omega (arith, some)) few (omega (arith, few)) in
-    asked_by_reading (codes "make" ∷ codes "grid" ∷ decimal side ∷ codes "--stacks" ∷ word_of rows ∷ [])
-    (over_rows (record (default_job Make) { size = side }) rows)
-    (rw read (rw (rows_again rows may) refl))
+-- words that are read as those for a plain job ask for the rows
+asked_as : (job plain : Job) (rows : Rows) → job ≡ plain → (words : List (List ℕ))
+    → reading words ≡ Ok (over_rows plain rows) → (ws : List (List ℕ)) × Asks ws (over_rows job rows)
+asked_as job plain rows is words read =
+    subst (λ j. (ws : List (List ℕ)) × Asks ws (over_rows j rows)) (sym is)
+    (words, subst (IsReading words) read (reading_is words))
 
 -- so words ask for rows within the limits
 rows_asked : (k : Command) (job : Job) (rows : Rows) → IsPlain k job → MayBeStacks (Given rows)
     → (words : List (List ℕ)) × Asks words (over_rows job rows)
-rows_asked Formula job rows plain may =
-    subst (λ j. (words : List (List ℕ)) × Asks words (over_rows j rows)) (sym plain) (formula_asked rows may)
-rows_asked Orient job rows plain may =
-    subst (λ j. (words : List (List ℕ)) × Asks words (over_rows j rows)) (sym plain) (orient_asked rows may)
-rows_asked Rounds job rows plain may =
-    subst (λ j. (words : List (List ℕ)) × Asks words (over_rows j rows)) (sym plain) (rounds_asked rows may)
+rows_asked Formula job rows is may =
+    asked_as job (default_job Formula) rows is (codes "formula" ∷ codes "--stacks" ∷ word_of rows ∷ [])
+    (rw (rows_again rows may) refl)
+rows_asked Orient job rows is may =
+    asked_as job (default_job Orient) rows is (codes "orient" ∷ codes "--stacks" ∷ word_of rows ∷ [])
+    (rw (rows_again rows may) refl)
+rows_asked Rounds job rows is may =
+    asked_as job (default_job Rounds) rows is (codes "rounds" ∷ codes "--stacks" ∷ word_of rows ∷ [])
+    (rw (rows_again rows may) refl)
 rows_asked Tree job rows (root, some, fits, is) may =
-    subst (λ j. (words : List (List ℕ)) × Asks words (over_rows j rows)) (sym is) (tree_asked rows root some fits may)
+    let read = number_read 1 (2 ^ 32 - 1) root (omega (arith, some)) (omega (arith, fits)) fits in
+    asked_as job (record (default_job Tree) { root = root }) rows is
+    (codes "tree" ∷ codes "--root" ∷ decimal root ∷ codes "--stacks" ∷ word_of rows ∷ [])
+    (rw read (rw (rows_again rows may) refl))
 rows_asked Make job rows (side, some, few, is) may =
-    subst (λ j. (words : List (List ℕ)) × Asks words (over_rows j rows)) (sym is) (make_asked rows side some few may)
+    let read = number_read 1 2048 side (omega (arith, some)) few (omega (arith, few)) in
+    asked_as job (record (default_job Make) { size = side }) rows is
+    (codes "make" ∷ codes "grid" ∷ decimal side ∷ codes "--stacks" ∷ word_of rows ∷ [])
+    (rw read (rw (rows_again rows may) refl))
 rows_asked k job rows plain may = absurd plain
 
 -- the law

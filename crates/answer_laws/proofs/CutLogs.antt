@@ -116,9 +116,12 @@ pub record IsFront (text : List ℕ) : Type 0 where
   early : AllByRecursion IsEarly lines
   text_is : text ≡ flat_map line lines
 
--- one of them
-front_line : (l : List ℕ) → IsEarly l → IsFront (line l)
-front_line l is = record { lines = l ∷ []; early = (is, tt); text_is = sym (append-nil (line l)) }
+-- a word before what stands in it
+word_front : (word rest : List ℕ) → list_all (λ b. not (eqb b 10)) word ≡ true → BeginsOtherwise (word ++ rest)
+    → Lacks 10 rest → IsFront (line (word ++ rest))
+word_front word rest test other none =
+    let is : IsEarly (word ++ rest) = (lacks_append 10 word rest (plain word test) none, other) in
+    record { lines = (word ++ rest) ∷ []; early = (is, tt); text_is = sym (append-nil (line (word ++ rest))) }
 
 -- and more
 front_append : (a b : List ℕ) → IsFront a → IsFront b → IsFront (a ++ b)
@@ -159,11 +162,8 @@ front_cut a b p q one other begins begins' same =
 stuck_front : (facts : Facts) (family : Family) (e : Event) → IsFront (stuck_line facts family e)
 stuck_front facts family e =
     let names = event_names facts family e in
-    front_line (codes "stuck" ++ spaced (map decimal names)) (
-      lacks_append 10 (codes "stuck") (spaced (map decimal names)) (plain (codes "stuck") refl)
-          (spaced_plain (map decimal names) (numbers_plain names)),
-      λ is. omega (arith, is),
-    )
+    word_front (codes "stuck") (spaced (map decimal names)) refl (λ is. omega (arith, is))
+    (spaced_plain (map decimal names) (numbers_plain names))
 
 -- and all of them
 all_stuck_front : (facts : Facts) (family : Family) (stuck : List Event) → IsFront (stuck_lines facts family stuck)
@@ -178,35 +178,24 @@ found_front : (n : ℕ) (family : Family) (values : List ℕ) (stuck : List Even
 found_front n family values [] =
     let literals = literals_of values in
     front_append (line (codes "s SAMPLE")) (line (codes "v" ++ spaced literals ++ codes " 0"))
-    (front_line (codes "s SAMPLE") (plain (codes "s SAMPLE") refl, λ is. omega (arith, is)))
-    (front_line (codes "v" ++ spaced literals ++ codes " 0") (
-      lacks_append 10 (codes "v" ++ spaced literals) (codes " 0")
-          (lacks_append 10 (codes "v") (spaced literals) (plain (codes "v") refl)
-          (spaced_plain literals (literals_plain (enumerate_from 0 values))))
-          (plain (codes " 0") refl),
-      λ is. omega (arith, is),
-    ))
+    (word_front (codes "s SAMPLE") [] refl (λ is. omega (arith, is)) tt)
+    (word_front (codes "v") (spaced literals ++ codes " 0") refl (λ is. omega (arith, is))
+    (lacks_append 10 (spaced literals) (codes " 0") (spaced_plain literals (literals_plain (enumerate_from 0 values)))
+    (plain (codes " 0") refl)))
 found_front n family values (e ∷ stuck) =
     front_append (line (codes "s EXHAUSTED")) (stuck_lines (Formula n) family (e ∷ stuck))
-    (front_line (codes "s EXHAUSTED") (plain (codes "s EXHAUSTED") refl, λ is. omega (arith, is)))
+    (word_front (codes "s EXHAUSTED") [] refl (λ is. omega (arith, is)) tt)
     (all_stuck_front (Formula n) family (e ∷ stuck))
 
 -- the cursors
 used_front : (cursors : List ℕ) → IsFront (used_line cursors)
 used_front cursors =
-    front_line (codes "used" ++ spaced (map decimal cursors)) (
-      lacks_append 10 (codes "used") (spaced (map decimal cursors)) (plain (codes "used") refl)
-          (spaced_plain (map decimal cursors) (numbers_plain cursors)),
-      λ is. omega (arith, is),
-    )
+    word_front (codes "used") (spaced (map decimal cursors)) refl (λ is. omega (arith, is))
+    (spaced_plain (map decimal cursors) (numbers_plain cursors))
 
 -- the number of pops
 pops_front : (pops : ℕ) → IsFront (pops_line pops)
-pops_front pops =
-    front_line (codes "pops " ++ decimal pops) (
-      lacks_append 10 (codes "pops ") (decimal pops) (plain (codes "pops ") refl) (number_plain pops),
-      λ is. omega (arith, is),
-    )
+pops_front pops = word_front (codes "pops ") (decimal pops) refl (λ is. omega (arith, is)) (number_plain pops)
 
 -- the text of an end
 pub end_front : (n : ℕ) (i : Instance) (c : List ℕ) (pops : ℕ) (stuck : List Event)

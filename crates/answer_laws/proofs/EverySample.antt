@@ -1,32 +1,49 @@
 -- What satisfies a formula, leaves no vertex of a graph a sink, or leads to its root is a sample: an event with all its
 -- values there would be a clause that is false, a vertex without a way out, or a cycle.
-use Rattle.std.proofs.Common.{inl, inr, ◌≡◌, ℕ, zero, suc, ◌<◌, ℤ, pos, negsuc, List, [], ◌∷◌, length, map, get_or, All, Option, None, Some, slice_index, refl, sym, ap, subst, ◌∙◌, arith, Contains}
+-- A sample of a formula's events satisfies it. A literal that isn't at the value which falsifies it is true, since values
+-- are 0 or 1. So in a clause without a true literal each is false, and the values of its variables are its cube. The
+-- first clause with that cube gives it its number; so it is an event, and the sample would have all its values.
+use Rattle.std.proofs.Common.{inl, inr, ◌≡◌, ℕ, zero, suc, ◌<◌, ℤ, pos, negsuc, List, [], ◌∷◌, length, map, get_or, All, Option, None, Some, slice_index, refl, sym, ap, subst, ◌∙◌, arith, Contains, ◌⊎◌, Bool, true, false, not, ◌==◌, slice_get, eq-eqb, ne_eqb}
 use Rattle.std.specs.Option.{option_and_then}
-use Rattle.std.proofs.lemmas.Bool.{false≢true}
-use Rattle.std.proofs.lemmas.List.{length-replicate, get_or-replicate}
+use Rattle.std.proofs.lemmas.Bool.{false≢true, cases_eq}
+use Rattle.std.proofs.lemmas.List.{length-replicate, get_or_default}
 use Rattle.std.proofs.lemmas.List.Elements.{All-contains, All-get_or}
-use Rattle.std.proofs.lemmas.Option.{none-some, slice_get_within, get_or_from_slice_get}
+use Rattle.std.proofs.lemmas.Option.{none-some, slice_get_within, get_or_from_slice_get, slice_get-get_or}
+use Rattle.std.specs.List.{list_any}
+use Rattle.std.proofs.lemmas.List.Folds.{Any-from_list_any, list_any_at}
 use Rattle.pop_model.specs.Stacks.{StackTable, row_of}
 use Rattle.pop_model.specs.Stacks.Origin.{Given}
-use Rattle.pop_model.specs.Popping.{Cube, Occurs}
+use Rattle.pop_model.specs.Popping.{Cube, Occurs, current}
 use Rattle.pop_model.specs.Cycles.{ReachesRoot, follow, first_of, head_of, arrow_at}
 use Rattle.pop_model.specs.Families.{Event, IsEvent}
 use Rattle.pop_model.specs.Families.Family.{Listed, Cycles}
 use Rattle.pop_model.proofs.CycleFamily.{first_named}
 use Rattle.pop_model.proofs.TreeEnd.{never_root}
-use Rattle.dimacs_read.specs.Cnf.{Cnf}
+use Rattle.pop_model.specs.Runs.{IsFinished}
+use Rattle.pop_samples.specs.Finishing.{IsSample}
+use Rattle.pop_samples.specs.Frames.{Rows, IsSampleOf}
+use Rattle.pop_samples.proofs.MovedLogs.{known_variable}
+use Rattle.dimacs_read.specs.Cnf.{Cnf, AreLiterals, IsLiteral, first_empty}
 use Rattle.dimacs_read.specs.Falsifying.{falsifier, AreEventsOf}
 use Rattle.graph_read.specs.Graphs.{GraphOf}
 use Rattle.graph_read.proofs.Numbering.{contains_map}
 use Rattle.sink_popping.specs.Sinks.{AreSinksOf, pointing_to}
 use Rattle.sink_popping.proofs.SinkCubesLemmas.{touching_is_no_loop}
 use Rattle.cycle_popping.specs.Trees.{heads_of_tree, weights_of_tree}
-use Rattle.pop_samples.specs.Finishing.{IsSample}
-use Rattle.pop_samples.specs.Frames.{Rows}
-use Rattle.pop_samples.proofs.MovedLogs.{known_variable}
-use Rattle.job_subjects.specs.Subjects.{pair_weights}
-use Rattle.answer_laws.specs.EverySample.{IsTrueUnder, Satisfies, LeavesEach, LeadsToRoot, EveryAssignment, EveryOrientation, EveryTree}
+use Rattle.pop_print.specs.declared.facts.Facts.{Facts}
+use Rattle.pop_print.specs.declared.facts.Facts.TheVariants.{Formula as FormulaFacts}
+use Rattle.job_subjects.specs.Subjects.{pair_weights, assignments}
 use Rattle.job_subjects.proofs.MadeInstances.{count_of_weights, slots_of_weights, tree_fits}
+use Rattle.printed_samples.specs.Laws.{instance_over}
+use Rattle.printed_samples.proofs.Literals.{falsifier_below}
+use Rattle.printed_samples.proofs.Satisfied.{IsFalse, current_cube, false_occurs, none_occurs, not_empty}
+use Rattle.answer_laws.specs.EverySample.{IsTrueUnder, Satisfies, LeavesEach, LeadsToRoot, EveryAssignment, EveryOrientation, EveryTree}
+use Rattle.answer_laws.specs.ExactAnswers.{frame_over}
+use Rattle.answer_laws.specs.RoundAnswers.{SamplesSatisfy}
+use Rattle.answer_laws.proofs.SubjectKinds.{pair_size}
+use Rattle.answer_laws.specs.PrintedOnce.{AreBits}
+
+-- ---- what is a sample
 
 -- the row of an event is one of the rows
 pub row_there : (rows : List (ℕ × Cube)) (e : Event) (is : IsEvent (Listed rows) e) → Contains rows (is.0, e.cube)
@@ -37,13 +54,11 @@ row_there rows e is = (
 )
 
 -- a value below 2 is one of two that have a weight
-bit_weighs : (n : ℕ) (x : List ℕ) → length x ≡ n → All (λ b. b < 2) x → (v : ℕ) → v < length x
+pub bit_weighs : (n : ℕ) (x : List ℕ) → length x ≡ n → All (λ b. b < 2) x → (v : ℕ) → v < length x
     → slice_index x v < length (row_of (pair_weights n) v)
 bit_weighs n x count bits v below =
-    let pair : List ℕ = 1 ∷ 1 ∷ [] in
     let small : get_or x v 0 < 2 = bits v 0 below in
-    let domain : length (get_or (pair_weights n) v []) ≡ length pair =
-    ap (λ (row : List ℕ). length row) (get_or-replicate n v pair [] (omega (arith, below, count))) in
+    let domain = pair_size n v (omega (arith, below, count)) in
     omega (arith, small, domain)
 
 -- a literal isn't true at the value that falsifies it
@@ -147,3 +162,103 @@ every_tree facts g root heights x leads = record {
       omega (arith, place, slots);
   sample = tree_sample g root x leads;
 }
+
+-- ---- what a sample of a formula satisfies
+
+-- a literal of a variable with a value below 2 that doesn't falsify it is true
+is_true_at : (n : ℕ) (x : List ℕ) (l : ℤ) → IsLiteral n l → slice_index x (falsifier l).0 < 2
+    → (slice_index x (falsifier l).0 ≡ (falsifier l).1 → ⊥) → IsTrueUnder x l
+is_true_at n x (pos m) is small isnt = omega (arith, small, isnt)
+is_true_at n x (negsuc m) is small isnt = omega (arith, small, isnt)
+
+-- a clause has a literal that is true
+abbrev HasTrue : List ℕ → List ℤ → Type 0
+HasTrue x clause = (l : ℤ) × Contains clause l × IsTrueUnder x l
+
+-- a clause has a true literal, or all are false
+true_or_false : (n : ℕ) (x : List ℕ) (clause : List ℤ) → All (IsLiteral n) clause
+    → ((v : ℕ) → v < n → slice_index x v < 2)
+    → HasTrue x clause ⊎ ((l : ℤ) → Contains clause l → IsFalse (slice_index x) l)
+true_or_false n x clause literals bits =
+    (elim (list_any other clause) as (λ b. list_any other clause ≡ b
+    → HasTrue x clause ⊎ ((l : ℤ) → Contains clause l → IsFalse (slice_index x) l)) [
+      | true ↦ λ any.
+          let (j, l, inside, at, away) = Any-from_list_any other clause any in
+          let is = of_clause l (j, inside, at) in
+          let isnt : slice_index x (falsifier l).0 ≡ (falsifier l).1 → ⊥ =
+          (λ same. false≢true (sym (ap not (eq-eqb (slice_index x (falsifier l).0) (falsifier l).1 same)) ∙ away)) in
+          inl (l, (j, inside, at), is_true_at n x l is (bits (falsifier l).0 (falsifier_below n l is)) isnt)
+      | false ↦ λ none. inr (λ l has. is_false l has none)
+    ]) refl
+  where
+    other : ℤ → Bool
+    other l = not (slice_index x (falsifier l).0 == (falsifier l).1)
+
+    of_clause : (l : ℤ) → Contains clause l → IsLiteral n l
+    of_clause l has = All-contains (IsLiteral n) clause l literals has
+
+    is_false : (l : ℤ) → Contains clause l → list_any other clause ≡ false → IsFalse (slice_index x) l
+    is_false l (j, inside, at) none = elim (cases_eq (slice_index x (falsifier l).0) (falsifier l).1) [
+      | inl same ↦ same
+      | inr isnt ↦
+          let away : other l ≡ true = ap not (ne_eqb (slice_index x (falsifier l).0) (falsifier l).1 isnt) in
+          absurd (false≢true (sym none ∙ list_any_at other clause j l inside (ap other at ∙ away)))
+    ]
+
+-- the values of a sample of pairs are 0 and 1
+pub pair_values : (n : ℕ) (events : List (ℕ × Cube)) (facts : Facts) (heights x : List ℕ)
+    → IsSampleOf (frame_over (record { facts = facts; weights = pair_weights n; family = Listed events }) heights) x
+    → AreBits n x
+pair_values n events facts heights x is =
+    let size : length x ≡ n = is.count ∙ length-replicate {A = List ℕ} n (1 ∷ 1 ∷ []) in
+    record {
+      count_is = size;
+      bits = λ v d below.
+          let value = is.values v below in
+          let domain = pair_size n v (omega (arith, below, size)) in
+          let same : get_or x v 0 ≡ get_or x v d = get_or_default x v 0 d below in
+          omega (arith, value, domain, same);
+    }
+
+-- a sample satisfies the formula
+sample_satisfies : (f : Cnf) (events : List (ℕ × Cube)) (heights x : List ℕ) → AreLiterals f.variables f.clauses
+    → first_empty f ≡ None → AreEventsOf f.clauses events → IsSampleOf (frame_over (assignments f events) heights) x
+    → Satisfies f x
+sample_satisfies f events heights x literals full are is =
+    record { count = values.count_is; bits = values.bits; clauses = clauses }
+  where
+    values : AreBits f.variables x
+    values = pair_values f.variables events (FormulaFacts f.variables) heights x is
+
+    bits : (v : ℕ) → v < f.variables → slice_index x v < 2
+    bits v below = let size = values.count_is in values.bits v 0 (omega (arith, below, size))
+
+    -- the stacks of one entry each
+    s : StackTable
+    s = record { origin = Given (singles x); weights = pair_weights f.variables }
+
+    finished : IsFinished (instance_over s events) []
+    finished e event occurs =
+        is.sample e event (λ k d within. sym (first_entry x (get_or e.cube k d).0) ∙ occurs k d within)
+
+    clauses : All (HasTrue x) f.clauses
+    clauses k d within =
+        let clause : List ℤ = get_or f.clauses k d in
+        let at : slice_get f.clauses k ≡ Some clause = slice_get-get_or f.clauses k d within in
+        elim (true_or_false f.variables x clause (literals k d within) bits) [
+          | inl has ↦ has
+          | inr none ↦
+              let here : (l : ℤ) → Contains clause l → IsFalse (current s []) l =
+              λ l has. first_entry x (falsifier l).0 ∙ none l has in
+              let both = false_occurs f.variables s [] clause (literals k d within) (not_empty 0 f.clauses k clause full at)
+              here in
+              absurd (none_occurs s [] f.clauses events (current_cube s [] f.variables clause) are finished both.1
+              (suc (suc k)) (suc k) (omega arith) (k, clause, refl, at, both.0))
+        ]
+
+-- the law
+pub samples_satisfy : SamplesSatisfy
+samples_satisfy f events heights x literals full are = (
+  sample_satisfies f events heights x literals full are,
+  every_assignment f events heights x are,
+)

@@ -37,15 +37,13 @@ use Rattle.top_call.specs.Answers.{wanted_by, ComesOf}
 use Rattle.told_runs.specs.Asking.{asked_by}
 use Rattle.job_subjects.specs.Subjects.{Subject, instance_over, IsSubjectOf}
 use Rattle.answer_laws.specs.ExactAnswers.{over_rows, frame_of, frame_over, IsSampledBy, ExchangedAnswers, ReachedAnswers}
-use Rattle.top_call.proofs.ByCommand.{by_line, of_line}
-use Rattle.answer_laws.proofs.RowWords.{rows_line}
-use Rattle.answer_laws.proofs.EndedSubjects.{IsEndOfSubject, ended_subject, subject_ended}
+use Rattle.top_call.proofs.ByCommand.{by_line}
+use Rattle.answer_laws.proofs.OptionKinds.{rows_line}
+use Rattle.answer_laws.proofs.ToldSubjects.{IsEndOfSubject, ended_subject, subject_ended, IsOrdered, ordered_extremal, quiet_ordered}
 use Rattle.told_runs.proofs.ToldOfFirst.{first_runs, sorted_first, told_of_first}
-use Rattle.answer_laws.proofs.ToldAtStart.{told_at_start}
-use Rattle.answer_laws.proofs.OneOutcome.{asked_comes}
-use Rattle.answer_laws.proofs.OrderedCommands.{IsOrdered, ordered_extremal, quiet_ordered}
-use Rattle.answer_laws.proofs.SubjectKinds.{same_subject}
-use Rattle.answer_laws.proofs.SubjectFrames.{HasFamily, subject_family, subject_frame}
+use Rattle.answer_laws.proofs.ToldLogs.{told_at_start}
+use Rattle.answer_laws.proofs.OneOutcome.{line_comes}
+use Rattle.answer_laws.proofs.SubjectKinds.{same_subject, HasFamily, subject_family, subject_frame}
 
 -- the values of rows at cursors, from variable n on, are the entries under the cursors
 values_from : (value : ℕ → ℕ → ℕ) (n : ℕ) (rows : Rows) (c : List ℕ) → length c ≡ length rows
@@ -153,8 +151,7 @@ pub exchanged_answers : ExchangedAnswers
 exchanged_answers job rows words others watchers text facts i c pops a x asks asks' h sample =
     let mine : Job = over_rows job rows in
     let comes : ComesOf mine watchers text (Ended facts i c pops [] a) =
-    of_line job.command mine watchers text (Ended facts i c pops [] a) (rows_line words mine asks rows refl)
-    (asked_comes words mine watchers text (Ended facts i c pops [] a) asks h) in
+    line_comes words mine watchers text (Ended facts i c pops [] a) asks (rows_line words mine asks rows refl) h in
     let of : IsEndOfSubject mine watchers text facts i c pops [] a =
     ended_subject mine watchers text facts i c pops [] a comes in
     let s : Subject = of.subject in

@@ -1,6 +1,6 @@
 -- The first sample of a batch: its stacks are those of the job without a number of samples, and so is its end. Nothing
 -- of a log is told of either.
-use Rattle.std.proofs.Common.{◌≡◌, ◌⊎◌, ℕ, ◌<◌, ◌≤◌, true, List, [], ◌∷◌, ◌++◌, flat_map, if◌then◌else◌, None, Some, IfSome, refl, sym, ap, ap₂, subst, ◌∙◌, arith, append_assoc, append-nil}
+use Rattle.std.proofs.Common.{◌≡◌, ◌⊎◌, ℕ, ◌<◌, ◌≤◌, true, List, [], ◌∷◌, ◌++◌, flat_map, if◌then◌else◌, None, Some, IfSome, refl, sym, ap, ap₂, subst, ◌∙◌, arith, append_assoc, append-nil, Bool, false}
 use Rattle.std.specs.List.{enumerate_from}
 use Rattle.std.proofs.lemmas.Bool.{false≢true}
 use Rattle.std.proofs.lemmas.Option.{none-some, same_Some}
@@ -9,20 +9,24 @@ use Rattle.pop_model.specs.Families.{Event}
 use Rattle.pop_model.specs.Instances.{Instance, instance_for}
 use Rattle.pop_model.specs.Logs.{LogRecord, replay}
 use Rattle.pop_model.specs.Runs.{IsFirstEnd, start_of}
-use Rattle.confluence_core.specs.declared.end.End.{End}
 use Rattle.pop_stacks.specs.declared.stack_spec.StackSpec.{StackSpec}
 use Rattle.pop_stacks.specs.declared.stack_spec.StackSpec.TheVariants.{Key as KeyedStacks, Given as GivenStacks}
 use Rattle.pop_stacks.specs.Tables.{origin_of}
-use Rattle.pop_log.specs.declared.names.Names.{Names}
+use Rattle.confluence_core.specs.declared.end.End.{End}
 use Rattle.pop_words.specs.declared.command.Command.{Command}
 use Rattle.pop_words.specs.declared.command.Command.TheVariants.{Formula, Orient, Tree}
 use Rattle.pop_words.specs.declared.job.Job.{Job}
 use Rattle.pop_words.specs.CommandLines.{Asks}
 use Rattle.pop_words.proofs.JobsInRange.{asked_count}
+use Rattle.pop_words.specs.declared.field.Field.{Field}
+use Rattle.pop_words.specs.declared.field.Field.TheVariants.{Count}
+use Rattle.pop_words.proofs.OneJob.{same_job}
+use Rattle.pop_log.specs.declared.names.Names.{Names}
 use Rattle.pop_watch.specs.Telling.{Watcher, log_told}
 use Rattle.pop_print.specs.declared.facts.Facts.{Facts}
 use Rattle.pop_print.specs.Output.{full_text, end_text}
 use Rattle.pop_print.specs.Batches.{batch_line, sample_line, numbered_text, batch_text}
+use Rattle.job_subjects.specs.Subjects.{Subject, instance_over}
 use Rattle.told_runs.specs.Names.{names_for}
 use Rattle.told_runs.specs.Reports.{reports_text}
 use Rattle.told_runs.specs.Witnesses.{IsWitness}
@@ -33,20 +37,20 @@ use Rattle.told_runs.specs.Outcomes.Outcome.{Refused, Extremal, Ended, Resampled
 use Rattle.told_runs.specs.Ends.{IsToldOfFirst, EndsWithin}
 use Rattle.told_runs.specs.Asking.{asked_by}
 use Rattle.told_runs.proofs.LayeredOrders.{layered_order}
-use Rattle.job_subjects.specs.Subjects.{Subject, instance_over}
 use Rattle.top_call.specs.Answers.{last_height, origin_for, wanted_by, ComesOf, IsOfLine}
 use Rattle.top_call.proofs.BatchEnds.{batch_of}
 use Rattle.top_call.proofs.BatchWords.{is_batched, IsQuiet, counted_command, counted_quiet, uncounted}
-use Rattle.top_call.proofs.ByCommand.{of_line}
+use Rattle.top_call.proofs.ByCommand.{by_line}
 use Rattle.top_call.proofs.PauseWords.{counted_runs_out}
 use Rattle.top_call.proofs.ReadCases.{no_replay}
-use Rattle.answer_laws.specs.FirstSample.{of_one, BeginsWithOne, FirstSample}
-use Rattle.answer_laws.proofs.EndedSubjects.{IsBatchOfSubject, batched_subject, ended_subject, subject_ended}
-use Rattle.answer_laws.proofs.OneOutcome.{asked_comes}
-use Rattle.answer_laws.proofs.RefusalStatuses.{refusal_not_low, not_low}
+use Rattle.top_call.proofs.Lifting.{of_words}
+use Rattle.answer_laws.specs.FirstSample.{of_one, BeginsWithOne, FirstSample, tells_count, FirstSampleOfWords}
+use Rattle.answer_laws.proofs.ToldSubjects.{IsBatchOfSubject, batched_subject, ended_subject, subject_ended, resampled_made, rounded_made}
+use Rattle.answer_laws.proofs.OneOutcome.{line_comes}
+use Rattle.answer_laws.proofs.RefusedOr.{refusal_not_low, not_low}
 use Rattle.answer_laws.proofs.ShownBatches.{in_full}
 use Rattle.answer_laws.proofs.SubjectKinds.{same_subject}
-use Rattle.answer_laws.proofs.ToldOfMade.{resampled_made, rounded_made}
+use Rattle.answer_laws.proofs.OptionKinds.{all_left}
 
 -- sample 0 has the entries of the job without a number
 of_first : (job : Job) → origin_of_sample 0 (origin_for job) ≡ origin_for job
@@ -173,7 +177,7 @@ batch_begins words job asks count is ws text (Batched t i ends) h low =
     begins words job asks count is ws text t i ends h
 
 -- a command that has batches reads no certificate
-pub batched_line : (k : Command) → is_batched k ≡ true → IsOfLine k
+batched_line : (k : Command) → is_batched k ≡ true → IsOfLine k
 batched_line Formula is = tt
 batched_line Orient is = tt
 batched_line Tree is = tt
@@ -185,5 +189,34 @@ first_sample words ws text job count status out asks is (o, comes, tells) low =
     let line = batched_line job.command (counted_command words job asks count is) in
     subst (BeginsWithOne job ws text count) (sym tells.out_is)
     (batch_begins words job asks count is ws text o
-    (of_line job.command job ws text o line (asked_comes words job ws text o asks comes))
+    (line_comes words job ws text o asks line comes)
     (subst (λ n. (n ≡ 0) ⊎ (n ≡ 1)) tells.status_is low))
+
+-- the field is the number of samples
+abbrev is_of_count : Field → Bool
+is_of_count Count = true
+is_of_count field = false
+
+-- the law of words without `--count`, which ask for the job without a number of samples
+pub first_sample_of_words : FirstSampleOfWords
+first_sample_of_words words others ws text job count status out d asks is answer low =
+    let begins = first_sample words ws text job count status out asks is answer low in
+    let same : of_one job ≡ d.other =
+    ap of_one (same_job words job d.job asks d.asks)
+    ∙ all_left tells_count is_of_count (record { all_agree = refl; one_field = refl }) words others d.job d.other d.asks
+    d.asks_other d.command d.options refl in
+    let line = batched_line job.command (counted_command words job asks count is) in
+    let (o, comes, tells) = begins.answer in
+    let other : ComesOf d.other ws text o = subst (λ j. ComesOf j ws text o) same comes in
+    record {
+      first = begins.first;
+      rest = begins.rest;
+      out_is = begins.out_is;
+      status = begins.status;
+      answer = (
+        o,
+        of_words others d.other ws text d.asks_other o (by_line d.other.command d.other ws text o
+            (subst (λ (j : Job). IsOfLine j.command) same line) other),
+        tells,
+      );
+    }

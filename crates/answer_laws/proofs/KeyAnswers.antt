@@ -1,9 +1,8 @@
 -- The law of keys, said of answers. What is sampled makes a frame for stacks of one height; under a key its run, its rounds
 -- or its batch ends with samples just where the key's tables are among those for them, which are counted.
-use Rattle.std.proofs.Common.{inl, inr, ◌≡◌, ◌⊎◌, ◌↔◌, ◌≤◌, ℕ, ◌<◌, ◌^◌, List, [], ◌∷◌, length, get_or, sum, replicate, All, Contains, Option, None, Some, unwrap_or, refl, sym, ap, subst, ◌∙◌, arith}
+use Rattle.std.proofs.Common.{◌≡◌, ◌↔◌, ◌≤◌, ℕ, ◌<◌, ◌^◌, List, [], ◌∷◌, length, get_or, sum, replicate, All, Contains, Option, None, Some, unwrap_or, refl, sym, ap, subst, ◌∙◌, arith}
 use Rattle.std.specs.Prelude.{IfSome}
 use Rattle.std.proofs.lemmas.List.{length-replicate, get_or-replicate}
-use Rattle.rand_chacha.specs.ChaCha.{key_of}
 use Rattle.pop_model.specs.Stacks.Origin.{Keyed}
 use Rattle.pop_model.specs.Popping.{values_at}
 use Rattle.pop_model.specs.Families.{Event}
@@ -11,56 +10,52 @@ use Rattle.pop_model.specs.Instances.{Instance}
 use Rattle.pop_model.specs.Extremal.{IsExtremal}
 use Rattle.pop_model.specs.Runs.{IsFirstEnd}
 use Rattle.pop_model.proofs.OneRun.{SameEnd, one_first_end}
+use Rattle.pop_stacks.specs.declared.stack_spec.StackSpec.TheVariants.{Key}
+use Rattle.pop_stacks.specs.Tables.{origin_of}
 use Rattle.confluence_core.specs.declared.end.End.{End}
 use Rattle.prs_rounds.specs.Rounds.{IsRoundsEnd}
 use Rattle.prs_rounds.specs.Units.{IsListed}
 use Rattle.prs_rounds.specs.Laws.{SameRoundsEnd}
 use Rattle.prs_rounds.proofs.OneRun.{one_rounds_end}
-use Rattle.pop_stacks.specs.declared.stack_spec.StackSpec.TheVariants.{Key}
-use Rattle.pop_stacks.specs.Tables.{origin_of}
-use Rattle.pop_batch.specs.Batches.{AreEnds}
 use Rattle.pop_samples.specs.Frames.{Frame, IsFrame, Rows}
 use Rattle.pop_samples.specs.Exchange.{Samples}
 use Rattle.round_samples.specs.Sampled.{Sampled}
+use Rattle.pop_batch.specs.Batches.{AreEnds}
 use Rattle.key_samples.specs.Numbers.{HaveWeights, Numbers, TableOf}
 use Rattle.key_samples.specs.Exact.{TablesOf}
 use Rattle.key_samples.specs.Keys.{EndsWith, RoundsEndWith, batch_numbers, numbers_of, under_key}
 use Rattle.key_samples.proofs.Exact.{exact_numbers, exact_round_numbers}
 use Rattle.key_samples.proofs.KeyedRuns.{keyed_rounds, keyed_runs}
 use Rattle.key_samples.proofs.KeyedEnds.{keyed_ends}
-use Rattle.graph_read.specs.Graphs.{GraphOf, IsGraph, IsVertex}
-use Rattle.graph_read.specs.Paths.{IsConnected}
-use Rattle.cycle_popping.specs.Trees.{weights_of_tree}
-use Rattle.cycle_popping.proofs.TreeRows.{tree_weights}
-use Rattle.dimacs_read.specs.CnfText.{cnf_of}
-use Rattle.printed_samples.proofs.SoundSlots.{some_sum}
 use Rattle.pop_words.specs.declared.command.Command.{Command}
 use Rattle.pop_words.specs.declared.command.Command.TheVariants.{Check}
 use Rattle.pop_words.specs.declared.job.Job.{Job}
 use Rattle.pop_words.specs.Options.{quiet}
 use Rattle.pop_words.specs.CommandLines.{Asks}
 use Rattle.pop_words.proofs.JobsInRange.{asked_grow, asked_height}
+use Rattle.dimacs_read.specs.CnfText.{cnf_of}
+use Rattle.graph_read.specs.Graphs.{GraphOf, IsGraph, IsVertex}
+use Rattle.graph_read.specs.Paths.{IsConnected}
+use Rattle.cycle_popping.specs.Trees.{weights_of_tree}
+use Rattle.cycle_popping.proofs.TreeRows.{tree_weights}
 use Rattle.pop_watch.specs.Telling.{Watcher}
 use Rattle.pop_print.specs.declared.facts.Facts.{Facts}
+use Rattle.job_subjects.specs.declared.wanted.Wanted.{Wanted}
+use Rattle.job_subjects.specs.Subjects.{pair_weights, Subject, assignments, instance_over, IsSubjectOf}
 use Rattle.told_runs.specs.Outcomes.{Outcome, end_status, status_of}
 use Rattle.told_runs.specs.Outcomes.Outcome.{Refused, Extremal, Ended, Resampled, Rounded, Batched, Paused, Replayed}
 use Rattle.told_runs.specs.Tellings.{Telling}
-use Rattle.told_runs.specs.Asking.{asked_by}
-use Rattle.job_subjects.specs.declared.wanted.Wanted.{Wanted}
-use Rattle.job_subjects.specs.Refusals.{refusal_status}
-use Rattle.job_subjects.specs.Subjects.{pair_weights, Subject, assignments, instance_over, IsSubjectOf}
 use Rattle.top_call.specs.Answers.{ComesOf, last_height, origin_for, wanted_by}
+use Rattle.top_call.proofs.ReadCases.{no_replay}
+use Rattle.printed_samples.proofs.SoundSlots.{some_sum}
 use Rattle.answer_laws.specs.KeyAnswers.{IsDrawn, IsKeyedAnswer, IsKeyedRounds, KeyedAnswers, KeyedRoundAnswers, keyed_frame}
-use Rattle.top_call.proofs.ByCommand.{of_line}
-use Rattle.answer_laws.proofs.EndedSubjects.{IsBatchOfSubject, IsEndOfSubject, batched_subject, ended_subject}
-use Rattle.top_call.proofs.ReadCases.{no_replay, resampled_as, run_ends}
-use Rattle.answer_laws.proofs.OneOutcome.{asked_comes}
-use Rattle.answer_laws.proofs.OrderedCommands.{ordered_extremal, quiet_line, quiet_ordered, quiet_other}
-use Rattle.answer_laws.proofs.RoundAnswers.{IsEndOfRounds, rounded_of, rounds_cases, rounds_frame, rounds_line_of}
+use Rattle.answer_laws.proofs.ToldSubjects.{IsBatchOfSubject, IsEndOfSubject, batched_subject, ended_subject, ordered_extremal, quiet_line, quiet_ordered, quiet_other, rounded_made, resampled_made}
+use Rattle.answer_laws.proofs.OneOutcome.{line_comes}
+use Rattle.answer_laws.proofs.RoundAnswers.{IsEndOfRounds, of_rounds, rounds_frame, rounds_line_of}
 use Rattle.answer_laws.proofs.RoundOutputs.{finished_rounds}
-use Rattle.answer_laws.proofs.SubjectFrames.{HasFamily, subject_family, subject_frame}
-use Rattle.answer_laws.proofs.SubjectKinds.{holds_of, with_arrows}
-use Rattle.answer_laws.proofs.RefusalStatuses.{refusal_high}
+use Rattle.answer_laws.proofs.SubjectKinds.{HasFamily, subject_family, subject_frame, holds_of, with_arrows}
+use Rattle.answer_laws.proofs.RefusedOr.{refusal_high}
+use Rattle.rand_chacha.specs.ChaCha.{key_of}
 
 -- ---- stacks of one height under a key
 
@@ -206,55 +201,24 @@ keyed_origin : (job : Job) (key : List ℕ) → job.stacks ≡ Key key
     → origin_for job ≡ Keyed (key_of key) 0 (last_height job)
 keyed_origin job key given = ap (λ spec. origin_of spec (last_height job)) given
 
--- an end that comes of a job
-pub record LowEnd (job : Job) (ws : List Watcher) (text : List ℕ) (o : Outcome) : Type 0 where
-  pub facts : Facts
-  pub instance : Instance
-  pub cursors : List ℕ
-  pub pops : ℕ
-  pub stuck : List Event
-  pub telling : Telling
-  pub told : o ≡ Ended facts instance cursors pops stuck telling
-  pub of : IsEndOfSubject job ws text facts instance cursors pops stuck telling
-
--- a batch that comes of it
-pub record LowBatch (job : Job) (text : List ℕ) (o : Outcome) : Type 0 where
-  pub facts : Facts
-  pub instance : Instance
-  pub ends : List End
-  pub told : o ≡ Batched facts instance ends
-  pub of : IsBatchOfSubject job text facts instance ends
-
--- what comes of a quiet command with status 0 or 1 is an end or a batch
-pub low_cases : (job : Job) → Contains quiet job.command → (ws : List Watcher) (text : List ℕ) (o : Outcome)
-    → ComesOf job ws text o → status_of o ≤ 1 → LowEnd job ws text o ⊎ LowBatch job text o
-low_cases job has ws text (Ended facts i c pops stuck a) h low = inl (record {
-  facts = facts;
-  instance = i;
-  cursors = c;
-  pops = pops;
-  stuck = stuck;
-  telling = a;
-  told = refl;
-  of = ended_subject job ws text facts i c pops stuck a h;
-})
-low_cases job has ws text (Batched facts i ends) h low = inr (record {
-  facts = facts;
-  instance = i;
-  ends = ends;
-  told = refl;
-  of = batched_subject job ws text facts i ends h;
-})
-low_cases job has ws text (Resampled facts i placed stuck a) h low =
-    let end = resampled_as job.command (asked_by job) ws h.facts h.instance facts i placed stuck a
-    (run_ends job ws text (Resampled facts i placed stuck a) h (λ pops at. at)) in
-    absurd ((quiet_ordered job.command has).no_resampling end.0)
-low_cases job has ws text (Rounded facts i c rounds stuck short) h low =
-    absurd ((quiet_ordered job.command has).no_rounds (rounded_of job ws text facts i c rounds stuck short h).0)
-low_cases job has ws text (Extremal n) h low = absurd (quiet_other job.command Check has refl h.0)
-low_cases job has ws text (Replayed i c n k) h low = absurd (no_replay job ws text i c n k h)
-low_cases job has ws text (Refused r) h low = absurd (omega (arith, low, refusal_high r))
-low_cases job has ws text (Paused j w t i l) h low = absurd (omega (arith, low))
+-- what holds of ends and of batches holds of what comes of a quiet command with status 0 or 1
+pub of_low : (job : Job) → Contains quiet job.command → (ws : List Watcher) (text : List ℕ) (P : Outcome → Type 0)
+    → ((facts : Facts) (i : Instance) (c : List ℕ) (pops : ℕ) (stuck : List Event) (a : Telling)
+    → IsEndOfSubject job ws text facts i c pops stuck a → P (Ended facts i c pops stuck a))
+    → ((facts : Facts) (i : Instance) (ends : List End) → IsBatchOfSubject job text facts i ends
+    → P (Batched facts i ends)) → (o : Outcome) → ComesOf job ws text o → status_of o ≤ 1 → P o
+of_low job has ws text P end batch (Ended facts i c pops stuck a) h low =
+    end facts i c pops stuck a (ended_subject job ws text facts i c pops stuck a h)
+of_low job has ws text P end batch (Batched facts i ends) h low =
+    batch facts i ends (batched_subject job ws text facts i ends h)
+of_low job has ws text P end batch (Resampled facts i placed stuck a) h low =
+    absurd ((quiet_ordered job.command has).no_resampling (resampled_made job ws text facts i placed stuck a h).by)
+of_low job has ws text P end batch (Rounded facts i c rounds stuck short) h low =
+    absurd ((quiet_ordered job.command has).no_rounds (rounded_made job ws text facts i c rounds stuck short h).by)
+of_low job has ws text P end batch (Extremal n) h low = absurd (quiet_other job.command Check has refl h.0)
+of_low job has ws text P end batch (Replayed i c n k) h low = absurd (no_replay job ws text i c n k h)
+of_low job has ws text P end batch (Refused r) h low = absurd (omega (arith, low, refusal_high r))
+of_low job has ws text P end batch (Paused j w t i l) h low = absurd (omega (arith, low))
 
 module _ (words : List (List ℕ)) (job : Job) (asks : Asks words job) (key : List ℕ) (given : job.stacks ≡ Key key)
     (ws : List Watcher) (text : List ℕ) where
@@ -302,16 +266,10 @@ module _ (words : List (List ℕ)) (job : Job) (asks : Asks words job) (key : Li
 
 -- the law
 pub keyed_answers : KeyedAnswers
-keyed_answers job key words ws text o has given asks comes low =
-    elim (low_cases job has ws text o (of_line job.command job ws text o (quiet_line job.command has)
-    (asked_comes words job ws text o asks comes)) low) [
-      | inl e ↦
-          subst (IsKeyedAnswer job key text) (sym e.told) (end_drawn words job asks key given ws text e.facts e.instance
-          e.cursors e.pops e.stuck e.telling e.of)
-      | inr b ↦
-          subst (IsKeyedAnswer job key text) (sym b.told)
-          (batch_drawn words job asks key given ws text b.facts b.instance b.ends b.of)
-    ]
+keyed_answers job key words ws text o has given asks comes =
+    of_low job has ws text (IsKeyedAnswer job key text) (end_drawn words job asks key given ws text)
+    (batch_drawn words job asks key given ws text) o
+    (line_comes words job ws text o asks (quiet_line job.command has) comes)
 
 -- ---- rounds
 
@@ -344,14 +302,8 @@ drawn_rounds words job asks key given text facts i c rounds stuck short own =
 
 -- the law of rounds
 pub keyed_round_answers : KeyedRoundAnswers
-keyed_round_answers job key words ws text o by given asks comes low =
-    elim (rounds_cases job by ws text o (of_line job.command job ws text o (rounds_line_of job.command by)
-    (asked_comes words job ws text o asks comes))) [
-      | inl (r, is, refuses) ↦
-          let high = refusal_high r in
-          let status : status_of o ≡ refusal_status r = ap status_of is in
-          absurd (omega (arith, low, high, status))
-      | inr e ↦
-          subst (IsKeyedRounds job key text) (sym e.told)
-          (drawn_rounds words job asks key given text e.facts e.instance e.cursors e.rounds e.stuck e.short e.is)
-    ]
+keyed_round_answers job key words ws text o by given asks comes =
+    of_rounds job by ws text (λ o. status_of o ≤ 1 → IsKeyedRounds job key text o)
+    (λ r refuses low. absurd (omega (arith, low, refusal_high r)))
+    (λ facts i c rounds stuck short e low. drawn_rounds words job asks key given text facts i c rounds stuck short e) o
+    (line_comes words job ws text o asks (rounds_line_of job.command by) comes)

@@ -4,7 +4,7 @@ use Rattle.std.proofs.Common.{inl, inr, ◌≡◌, ℕ, zero, suc, ◌+◌, ◌*
 use Rattle.std.specs.List.{enumerate_from}
 use Rattle.std.proofs.lemmas.Bool.{cases_Bool}
 use Rattle.std.proofs.lemmas.Grind.{same_number_lists}
-use Rattle.std.proofs.lemmas.List.{length-replicate, get_or_default, get_or-replicate}
+use Rattle.std.proofs.lemmas.List.{length-replicate, get_or_default}
 use Rattle.std.proofs.lemmas.List.Elements.{Contains-get_or}
 use Rattle.std.proofs.lemmas.Option.{slice_get_within, get_or_from_slice_get}
 use Rattle.pop_model.specs.Popping.{Cube}
@@ -19,7 +19,7 @@ use Rattle.pop_print.specs.Output.{arrow_line, edge_line, orientation_lines, ori
 use Rattle.job_subjects.specs.Subjects.{pair_weights, orientations}
 use Rattle.answer_laws.specs.ExactAnswers.{frame_over}
 use Rattle.answer_laws.specs.PrintedOnce.{AreBits}
-use Rattle.answer_laws.proofs.EverySample.{row_there}
+use Rattle.answer_laws.proofs.EverySample.{row_there, bit_weighs}
 
 -- values that are the same at each edge that isn't a loop
 abbrev pub DifferAtLoops : List Edge → List ℕ → List ℕ → Type 0
@@ -148,14 +148,9 @@ carried_sample g events heights u x are bits bits' is =
     let n : ℕ = length g.edges in
     let made = carried_bits g.edges u x bits bits' in
     let size = made.count_is in
-    let pairs = length-replicate {A = List ℕ} n (1 ∷ 1 ∷ []) in
     record {
-      count = size ∙ sym pairs;
-      values = λ v below.
-          let small = made.bits v 0 below in
-          let domain : length (get_or (pair_weights n) v []) ≡ length {A = ℕ} (1 ∷ 1 ∷ []) =
-          ap (λ (row : List ℕ). length row) (get_or-replicate n v (1 ∷ 1 ∷ []) [] (omega (arith, below, size))) in
-          omega (arith, small, domain);
+      count = size ∙ sym (length-replicate {A = List ℕ} n (1 ∷ 1 ∷ []));
+      values = bit_weighs n (carried g.edges u x) size made.bits;
       sample = λ e event all. is.sample e event (λ k d within.
           let p : ℕ × ℕ = get_or e.cube k d in
           let has : Contains events (event.0, e.cube) = row_there events e event in

@@ -1,13 +1,13 @@
 -- What is made of a text over stacks that words or a head may give is an instance, whose events have numbers of 32 bits:
--- both follow from the limits on texts, on sides and on stacks.
-use Rattle.std.proofs.Common.{◌≡◌, ◌<◌, ◌≤◌, ◌+◌, ◌-◌, ◌^◌, ℕ, zero, suc, true, List, [], ◌∷◌, length, map, get_or, Ok, refl, sym, subst, arith, Contains}
-use Rattle.std.specs.Prelude.{nat_le, sum_by}
+-- both follow from the limits on texts, on sides and on stacks. So does what a certificate runs.
+use Rattle.std.proofs.Common.{◌≡◌, ◌<◌, ◌≤◌, ◌+◌, ◌-◌, ◌^◌, ℕ, suc, true, List, [], ◌∷◌, length, map, get_or, Ok, refl, sym, subst, arith, Contains, Option, None, Some, IfSome, inl, inr}
+use Rattle.std.specs.Prelude.{nat_le, sum_by, unwrap_or}
 use Rattle.std.specs.List.Sorted.{IsStrictlyIncreasing}
-use Rattle.std.proofs.lemmas.Bool.{and_parts, leb-true}
-use Rattle.std.proofs.lemmas.List.{length-replicate}
+use Rattle.std.proofs.lemmas.Bool.{and_parts, leb-true, cases_lt}
+use Rattle.std.proofs.lemmas.List.{length-replicate, get_or_past}
 use Rattle.std.proofs.lemmas.List.Elements.{Contains-get_or}
 use Rattle.std.proofs.lemmas.List.FromFn.{length-map-range_with_len}
-use Rattle.std.proofs.lemmas.List.Sums.{sum_by-cons}
+use Rattle.std.proofs.lemmas.List.Sums.{get_or-le-sum_by}
 use Rattle.std.proofs.lemmas.Option.{slice_get_within}
 use Rattle.pop_model.specs.Stacks.{Origin, height_from, row_of, IsTable}
 use Rattle.pop_model.specs.Stacks.Origin.{Given, Keyed}
@@ -16,23 +16,34 @@ use Rattle.pop_model.specs.Families.{units_of}
 use Rattle.pop_model.specs.Instances.{Instance, IsInstance}
 use Rattle.pop_model.proofs.Rising.{head_member, tail_member, below_members, rising_tail}
 use Rattle.pop_stacks.specs.Faults.{IsSound}
-use Rattle.pop_log.specs.Candidates.{NumbersFit}
+use Rattle.pop_stacks.specs.declared.stack_spec.StackSpec.{StackSpec}
+use Rattle.pop_stacks.specs.declared.stack_spec.StackSpec.TheVariants.{Key as KeyedStacks, Given as GivenStacks}
+use Rattle.pop_stacks.specs.Tables.{origin_of}
+use Rattle.pop_words.specs.Values.{are_within}
+use Rattle.pop_words.specs.declared.command.Command.{Command}
+use Rattle.pop_words.specs.declared.job.Job.{Job}
+use Rattle.pop_words.specs.CommandLines.{Asks}
+use Rattle.pop_words.proofs.JobsInRange.{asked_height, asked_grow}
 use Rattle.dimacs_read.specs.Cnf.{Cnf}
 use Rattle.dimacs_read.specs.CnfText.{AnswersCnf}
 use Rattle.dimacs_read.specs.Falsifying.{AreEventsOf}
-use Rattle.dimacs_read.proofs.GrammarLaw as cnf
 use Rattle.graph_read.specs.Graphs.{GraphOf, IsGraph}
 use Rattle.sink_popping.specs.Sinks.{AreSinksOf}
 use Rattle.cycle_popping.specs.Trees.{heads_at, heads_of_tree}
-use Rattle.pop_words.specs.Values.{are_within}
-use Rattle.pop_words.specs.declared.command.Command.{Command}
+use Rattle.pop_log.specs.Candidates.{NumbersFit}
+use Rattle.run_cert.specs.Heads.{MayBeStacks, MayBeHeight}
+use Rattle.run_cert.specs.Certificates.{Certificate, IsCertOf}
+use Rattle.run_cert.proofs.AskedStacks.{asked_stacks}
 use Rattle.pop_print.specs.declared.facts.Facts.{Facts}
 use Rattle.job_subjects.specs.declared.wanted.Wanted.{Wanted}
 use Rattle.job_subjects.specs.Subjects.{Subject, pair_weights, assignments, orientations, arrows_to, IsSubjectOf}
 use Rattle.job_subjects.specs.Made.{IsMade}
 use Rattle.job_subjects.proofs.MadeInstances.{count_of_weights}
-use Rattle.answer_laws.proofs.SubjectFrames.{HasFamily, subject_family}
-use Rattle.answer_laws.proofs.SubjectKinds.{graph_known, holds_of, with_arrows}
+use Rattle.top_call.specs.Answers.{last_height, origin_for}
+use Rattle.top_call.specs.Replays.{wanted_of, HasLog}
+use Rattle.answer_laws.proofs.SubjectKinds.{HasFamily, subject_family, graph_known, holds_of, with_arrows}
+use Rattle.answer_laws.specs.Complete.{HasLegalLog}
+use Rattle.dimacs_read.proofs.GrammarLaw as cnf
 
 -- ---- stacks
 
@@ -43,16 +54,10 @@ AreShort (Keyed key sample height) = (0 < height) × (height < 2 ^ 31)
 
 -- a row is no longer than all together
 row_short : (rows : List (List ℕ)) (v : ℕ) → length (row_of rows v) ≤ sum_by length rows
-row_short [] v = omega arith
-row_short (row ∷ rows) zero =
-    let here : length (row_of (row ∷ rows) zero) ≡ length row = refl in
-    let all : sum_by length (row ∷ rows) ≡ length row + sum_by length rows = sum_by-cons length row rows in
-    omega (arith, here, all)
-row_short (row ∷ rows) (suc v) =
-    let there : length (row_of (row ∷ rows) (suc v)) ≡ length (row_of rows v) = refl in
-    let all : sum_by length (row ∷ rows) ≡ length row + sum_by length rows = sum_by-cons length row rows in
-    let rest = row_short rows v in
-    omega (arith, there, all, rest)
+row_short rows v = elim (cases_lt v (length rows)) [
+  | inl below ↦ get_or-le-sum_by length rows v [] below
+  | inr past ↦ rw (get_or_past rows v [] past) (omega arith)
+]
 
 -- so no stack is too high
 heights_fit : (origin : Origin) (v : ℕ) → AreShort origin → height_from origin v < 2 ^ 31
@@ -194,3 +199,43 @@ made_bounded w text facts i short made =
       },
       small.numbers,
     )
+
+-- ---- words and certificates
+
+-- stacks of a head
+pub spec_short : (spec : StackSpec) (height : ℕ) → MayBeStacks spec → MayBeHeight spec height
+    → AreShort (origin_of spec height)
+spec_short (GivenStacks rows) height may tall = may.1
+spec_short (KeyedStacks key) height may tall = tall
+
+-- and of a job that words ask for
+pub job_short : (words : List (List ℕ)) (job : Job) → Asks words job → AreShort (origin_for job)
+job_short words job asks = by_spec job.stacks (asked_stacks words job asks)
+  where
+    tall : (grow : Option ℕ) → job.grow ≡ grow → (0 < unwrap_or grow job.height) × (unwrap_or grow job.height < 2 ^ 31)
+    tall None is = asked_height words job asks
+    tall (Some last) is = subst (λ g. IfSome g (λ n. (0 < n) × (n < 2 ^ 31))) is (asked_grow words job asks)
+
+    by_spec : (spec : StackSpec) → MayBeStacks spec → AreShort (origin_of spec (last_height job))
+    by_spec (GivenStacks rows) may = may.1
+    by_spec (KeyedStacks key) may = tall job.grow refl
+
+-- so what the command of a certificate makes of its input is within bounds
+pub cert_bounded : (text : List ℕ) (cert : Certificate) → IsCertOf text cert → (facts : Facts) (i : Instance)
+    → IsMade (wanted_of cert.head) cert.input facts i → IsBounded i
+cert_bounded text cert is facts i made =
+    let head = is.is.head in
+    made_bounded (wanted_of cert.head) cert.input facts i
+    (spec_short cert.head.stacks cert.head.height head.stacks head.height) made
+
+-- and a certificate whose log is legal has it
+pub legal_log : (text : List ℕ) (cert : Certificate) → IsCertOf text cert → HasLegalLog cert → HasLog cert
+legal_log text cert is has =
+    let bounded = cert_bounded text cert is has.facts has.instance has.made in
+    record {
+      facts = has.facts;
+      instance = has.instance;
+      certified = record { made = has.made; is = bounded.0; numbers = bounded.1 };
+      log = has.log;
+      read = has.read;
+    }

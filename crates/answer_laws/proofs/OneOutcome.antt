@@ -4,12 +4,12 @@ use Rattle.std.proofs.Common.{inl, inr, ◌≡◌, ◌≢◌, ◌⊎◌, ℕ, Li
 use Rattle.std.proofs.lemmas.Option.{none-some}
 use Rattle.pop_model.specs.Instances.{Instance}
 use Rattle.pop_model.specs.Extremal.{IsExtremal}
-use Rattle.pop_log.proofs.UnitEvents.{HaveCubes}
 use Rattle.pop_words.specs.declared.command.Command.{Command}
 use Rattle.pop_words.specs.declared.command.Command.TheVariants.{Resample, Check, Rounds}
 use Rattle.pop_words.specs.declared.job.Job.{Job}
 use Rattle.pop_words.specs.CommandLines.{AreWords, Asks, IsBadPlace}
 use Rattle.pop_words.proofs.OneJob.{same_job, same_first_bad}
+use Rattle.pop_log.proofs.UnitEvents.{HaveCubes}
 use Rattle.pop_watch.specs.Telling.{Watcher}
 use Rattle.pop_print.specs.declared.facts.Facts.{Facts}
 use Rattle.job_subjects.specs.declared.refusal.Refusal.TheVariants.{Usage}
@@ -23,18 +23,14 @@ use Rattle.told_runs.specs.Outcomes.{Outcome}
 use Rattle.told_runs.specs.Outcomes.Outcome.{Refused, Extremal}
 use Rattle.top_call.specs.Checks.{IsExtremalCnf, IsExtremalText}
 use Rattle.top_call.specs.Pauses.{Pauses}
-use Rattle.top_call.specs.Answers.{wanted_by, EndsAs, ComesOfRun, ComesOf, ComesBy, ComesOfJob, IsOutcome}
+use Rattle.top_call.specs.Answers.{wanted_by, EndsAs, ComesOfRun, ComesOf, ComesBy, ComesOfJob, IsOutcome, IsOfLine}
 use Rattle.top_call.proofs.ReadCases.{read_cases}
+use Rattle.top_call.proofs.ByCommand.{of_line}
 use Rattle.answer_laws.specs.Orders.{HasOneEnd}
 use Rattle.answer_laws.specs.Laws.{ReportAlike, Agree}
-use Rattle.answer_laws.proofs.OneEvents.{one_events}
-use Rattle.answer_laws.proofs.OneSubject.{one_made}
+use Rattle.answer_laws.proofs.OneSubject.{one_events, moved}
 use Rattle.answer_laws.proofs.OneRefusal.{one_text_refusal, made_unrefused, extremal_unrefused}
-use Rattle.answer_laws.proofs.MadeFamilies.{made_cubes, made_unfree, made_ordered}
-use Rattle.answer_laws.proofs.OneEnd.{AreOne, one_end}
-use Rattle.answer_laws.proofs.OneRounds.{one_rounds}
-use Rattle.answer_laws.proofs.OneHistory.{two_histories, one_history}
-use Rattle.answer_laws.proofs.OnePause.{pause_and_end, two_pauses}
+use Rattle.answer_laws.proofs.OneEnd.{made_cubes, made_unfree, made_ordered, AreOne, one_end, one_rounds, two_histories, one_history, pause_and_end, two_pauses}
 use Rattle.answer_laws.proofs.RefusedOr.{IsApart, alike_or}
 
 -- ---- a refusal, a verdict or a run
@@ -79,9 +75,8 @@ RunAlike Alike job ws vs text = (facts : Facts) (i : Instance) (o p : Outcome) �
 alike_runs : (Alike : Outcome → Outcome → Type 0) (job : Job) (ws vs : List Watcher) (text : List ℕ)
     → RunAlike Alike job ws vs text → (o p : Outcome) → ComesOfRun job ws text o → ComesOfRun job vs text p → Alike o p
 alike_runs Alike job ws vs text alike o p a b =
-    let same = one_made (wanted_by job) text a.facts b.facts a.instance b.instance a.made b.made in
     let run : Runs job ws text b.facts b.instance o =
-    subst (λ t. Runs job ws text t b.instance o) same.0 (subst (λ k. Runs job ws text a.facts k o) same.1 a.run) in
+    moved (λ t k. Runs job ws text t k o) (wanted_by job) text a.facts b.facts a.instance b.instance a.made b.made a.run in
     alike b.facts b.instance o p b.made run b.run
 
 alike_comes : (Alike : Outcome → Outcome → Type 0) → ((o p : Outcome) → o ≡ p → Alike o p) → (job : Job)
@@ -177,6 +172,12 @@ asked_comes words job ws text o asks h = elim (word_cases words ws text o h) [
   | inr came ↦
       subst (λ (j : Job). ComesBy j.command j ws text o) (same_job words came.job job came.asks asks) came.comes
 ]
+
+-- by the line of its command, where this reads no certificate
+pub line_comes : (words : List (List ℕ)) (job : Job) (ws : List Watcher) (text : List ℕ) (o : Outcome)
+    → Asks words job → IsOfLine job.command → IsOutcome words ws text o → ComesOf job ws text o
+line_comes words job ws text o asks line h =
+    of_line job.command job ws text o line (asked_comes words job ws text o asks h)
 
 -- and outcomes of words are alike where those of their job are
 pub alike_words : (Alike : Outcome → Outcome → Type 0) → ((o p : Outcome) → o ≡ p → Alike o p)

@@ -1,15 +1,14 @@
 -- Bytes that are replayed or resumed have one outcome, but for the order of pops of a resampling. They are too many, or
 -- no certificate in one way, or one certificate; what its command runs is refused in one way, or made as one thing; and
 -- its log text is refused in one way, or is that of one log.
-use Rattle.std.proofs.Common.{inl, inr, ◌≡◌, ◌≤◌, ℕ, List, length, refl, sym, ap, ap₂, subst, ◌∙◌, arith}
+use Rattle.std.proofs.Common.{inl, inr, ◌≡◌, ◌≤◌, ℕ, List, length, refl, sym, ap, ap₂, subst, ◌∙◌, arith, ◌<◌}
 use Rattle.pop_model.specs.Instances.{Instance}
 use Rattle.pop_model.specs.Logs.{LogRecord}
-use Rattle.pop_watch.specs.Telling.{Watcher}
-use Rattle.pop_print.specs.declared.facts.Facts.{Facts}
 use Rattle.pop_log.specs.LogVersions.{IsReadAs}
 use Rattle.pop_log.specs.Refusals.{IsLogRefusal}
 use Rattle.pop_log.proofs.ExactReading.{exact_reading, read_once}
 use Rattle.pop_log.proofs.OneRefusal.{one_refusal as log_refused_once}
+use Rattle.pop_watch.specs.Telling.{Watcher}
 use Rattle.run_cert.specs.declared.look_kind.Look.{Look}
 use Rattle.run_cert.specs.declared.look_kind.Look.TheVariants.{Finished, Exhausted, Open}
 use Rattle.run_cert.specs.declared.cert_refusal.CertRefusal.TheVariants.{Malformed as MalformedCert, OutOfMemory as CertMemory}
@@ -17,9 +16,12 @@ use Rattle.run_cert.specs.Certificates.{Certificate, IsCertOf}
 use Rattle.run_cert.specs.Looks.{IsLook}
 use Rattle.run_cert.proofs.OneText.{one_cert}
 use Rattle.run_cert.proofs.Unrefused.{unrefused, one_refusal as cert_refused_once}
+use Rattle.run_cert.specs.Refusals.{IsCertRefusal}
+use Rattle.pop_print.specs.declared.facts.Facts.{Facts}
 use Rattle.job_subjects.specs.declared.refusal.Refusal.{Refusal}
-use Rattle.job_subjects.specs.declared.refusal.Refusal.TheVariants.{Malformed}
+use Rattle.job_subjects.specs.declared.refusal.Refusal.TheVariants.{Malformed, Limit}
 use Rattle.job_subjects.specs.Refusals.{unlogged}
+use Rattle.job_subjects.specs.Refused.{RefusesText}
 use Rattle.told_runs.specs.Names.{names_for}
 use Rattle.told_runs.specs.Outcomes.{Outcome}
 use Rattle.told_runs.specs.Outcomes.Outcome.{Replayed}
@@ -28,23 +30,29 @@ use Rattle.top_call.specs.Resumes.{ComesOfResuming, IsResumed}
 use Rattle.top_call.specs.Answers.{ComesOf}
 use Rattle.answer_laws.specs.Orders.{HasOneEnd}
 use Rattle.answer_laws.specs.Laws.{Agree}
-use Rattle.answer_laws.proofs.RefusedStacks.{IsOneRefusal}
+use Rattle.answer_laws.proofs.RefusedStacks.{IsOneRefusal, one_or}
 use Rattle.answer_laws.proofs.RefusedOr.{IsApart, alike_or, replaying_cases, resuming_cases}
-use Rattle.answer_laws.proofs.OneSubject.{one_made}
+use Rattle.answer_laws.proofs.OneSubject.{moved}
 use Rattle.answer_laws.proofs.OneRefusal.{one_text_refusal, made_unrefused}
 use Rattle.answer_laws.proofs.OneOutcome.{alike_read, one_read}
 
 -- bytes that are no certificate are refused in one way
-one_no_cert : (bytes : List ℕ) → IsOneRefusal (IsNoCert bytes)
-one_no_cert bytes r s (inl (long, is)) (inl (long', is')) = is ∙ sym is'
-one_no_cert bytes r s (inl (long, is)) (inr (short', bad')) = absurd (omega (arith, long, short'))
-one_no_cert bytes r s (inr (short, bad)) (inl (long', is')) = absurd (omega (arith, long', short))
-one_no_cert bytes r s (inr (short, (l, code, bad, is))) (inr (short', (m, other, bad', is'))) =
+one_malformed : (bytes : List ℕ) → IsOneRefusal (λ r. (l code : ℕ) × IsCertRefusal bytes (MalformedCert l code)
+    × (r ≡ Malformed l code))
+one_malformed bytes r s (l, code, bad, is) (m, other, bad', is') =
     let same : MalformedCert l code ≡ MalformedCert m other =
     cert_refused_once bytes (MalformedCert l code) (MalformedCert m other) (λ is. absurd (cc)) (λ is. absurd (cc)) bad bad' in
     let line : l ≡ m = cc in
     let codes : code ≡ other = cc in
     is ∙ ap₂ Malformed line codes ∙ sym is'
+
+one_no_cert : (bytes : List ℕ) → IsOneRefusal (IsNoCert bytes)
+one_no_cert bytes =
+    one_or (λ r. (cert_limit < length bytes) × (r ≡ Limit 8 1))
+    (λ r. (length bytes ≤ cert_limit) × ((l code : ℕ) × IsCertRefusal bytes (MalformedCert l code)
+    × (r ≡ Malformed l code)))
+    (λ r s a b. a.1 ∙ sym b.1) (λ r s a b. one_malformed bytes r s a.1 b.1)
+    (λ r s (long, is) (short, bad). omega (arith, long, short))
 
 -- those that are one aren't
 no_cert_or_cert : (bytes : List ℕ) (cert : Certificate) (r : Refusal) → length bytes ≤ cert_limit → IsCertOf bytes cert
@@ -53,40 +61,35 @@ no_cert_or_cert bytes cert r short is (inl (long, told)) = omega (arith, long, s
 no_cert_or_cert bytes cert r short is (inr (short', (l, code, bad, told))) =
     let memory : MalformedCert l code ≡ CertMemory = unrefused bytes cert is (MalformedCert l code) bad in absurd (cc)
 
--- what a certificate runs is one thing
-one_certified : (cert : Certificate) (facts told : Facts) (i j : Instance) → IsCertified cert facts i
-    → IsCertified cert told j → (facts ≡ told) × (i ≡ j)
-one_certified cert facts told i j a b =
-    one_made (wanted_of cert.head) cert.input facts told i j a.made b.made
+-- what holds of what a certificate runs holds of it wherever it is certified
+of_certified : (P : Facts → Instance → Type 0) (cert : Certificate) (facts told : Facts) (i j : Instance)
+    → IsCertified cert facts i → IsCertified cert told j → P facts i → P told j
+of_certified P cert facts told i j a b = moved P (wanted_of cert.head) cert.input facts told i j a.made b.made
 
 -- a log text is refused in one way
 one_log_refused : (cert : Certificate) → IsOneRefusal (IsLogRefused cert)
 one_log_refused cert r s a b =
-    let same = one_certified cert a.facts b.facts a.instance b.instance a.certified b.certified in
     let here : IsLogRefusal (names_for b.facts) b.instance cert.log_text a.cause =
-    subst (λ n. IsLogRefusal (names_for n) b.instance cert.log_text a.cause) same.0
-    (subst (λ i. IsLogRefusal (names_for a.facts) i cert.log_text a.cause) same.1 a.refused) in
+    of_certified (λ t i. IsLogRefusal (names_for t) i cert.log_text a.cause) cert a.facts b.facts a.instance b.instance
+    a.certified b.certified a.refused in
     a.is ∙ ap unlogged (log_refused_once (names_for b.facts) b.instance b.certified.is b.certified.numbers
     cert.log_text a.cause b.cause a.of_text b.of_text here b.refused) ∙ sym b.is
 
 -- one that is that of a log isn't
 log_or_refused : (cert : Certificate) (r : Refusal) → IsLogRefused cert r → HasLog cert → ⊥
 log_or_refused cert r a b =
-    let same = one_certified cert a.facts b.facts a.instance b.instance a.certified b.certified in
     let here : IsLogRefusal (names_for b.facts) b.instance cert.log_text a.cause =
-    subst (λ n. IsLogRefusal (names_for n) b.instance cert.log_text a.cause) same.0
-    (subst (λ i. IsLogRefusal (names_for a.facts) i cert.log_text a.cause) same.1 a.refused) in
+    of_certified (λ t i. IsLogRefusal (names_for t) i cert.log_text a.cause) cert a.facts b.facts a.instance b.instance
+    a.certified b.certified a.refused in
     a.of_text (exact_reading (names_for b.facts) b.instance b.certified.is b.certified.numbers cert.log_text b.log b.read
     a.cause here)
 
 -- a certificate is refused in one way
 one_refused_cert : (cert : Certificate) → IsOneRefusal (IsRefusedCert cert)
-one_refused_cert cert r s (inl h) (inl h') = one_text_refusal (wanted_of cert.head) cert.input r s h h'
-one_refused_cert cert r s (inl h) (inr b) =
-    absurd (made_unrefused (wanted_of cert.head) cert.input b.facts b.instance r b.certified.made h)
-one_refused_cert cert r s (inr a) (inl h') =
-    absurd (made_unrefused (wanted_of cert.head) cert.input a.facts a.instance s a.certified.made h')
-one_refused_cert cert r s (inr a) (inr b) = one_log_refused cert r s a b
+one_refused_cert cert =
+    one_or (RefusesText (wanted_of cert.head) cert.input) (IsLogRefused cert)
+    (one_text_refusal (wanted_of cert.head) cert.input) (one_log_refused cert)
+    (λ r s h b. made_unrefused (wanted_of cert.head) cert.input b.facts b.instance r b.certified.made h)
 
 -- and not where it has a log
 log_or_refused_cert : (cert : Certificate) (r : Refusal) → IsRefusedCert cert r → HasLog cert → ⊥
@@ -96,12 +99,11 @@ log_or_refused_cert cert r (inr a) b = log_or_refused cert r a b
 
 -- bytes are refused in one way
 one_refused : (bytes : List ℕ) → IsOneRefusal (IsRefused bytes)
-one_refused bytes r s (inl h) (inl h') = one_no_cert bytes r s h h'
-one_refused bytes r s (inl h) (inr b) = absurd (no_cert_or_cert bytes b.cert r b.short b.is h)
-one_refused bytes r s (inr a) (inl h') = absurd (no_cert_or_cert bytes a.cert s a.short a.is h')
-one_refused bytes r s (inr a) (inr b) =
-    one_refused_cert b.cert r s
-    (subst (λ c. IsRefusedCert c r) (one_cert bytes a.cert b.cert a.is b.is) a.comes) b.comes
+one_refused bytes =
+    one_or (IsNoCert bytes) (ComesOfCert IsRefusedCert bytes) (one_no_cert bytes)
+    (λ r s a b. one_refused_cert b.cert r s
+    (subst (λ c. IsRefusedCert c r) (one_cert bytes a.cert b.cert a.is b.is) a.comes) b.comes)
+    (λ r s h b. no_cert_or_cert bytes b.cert r b.short b.is h)
 
 -- and not where they are a certificate that has a log
 pub accepted_or_refused : (bytes : List ℕ) (cert : Certificate) (r : Refusal) → length bytes ≤ cert_limit
@@ -130,14 +132,14 @@ one_replayed : (cert : Certificate) (o p : Outcome) → IsReplayed cert o → Is
 one_replayed cert o p a b =
     let x = a.has in
     let y = b.has in
-    let same = one_certified cert x.facts y.facts x.instance y.instance x.certified y.certified in
     let here : IsReadAs (names_for y.facts) y.instance cert.log_text x.log =
-    subst (λ n. IsReadAs (names_for n) y.instance cert.log_text x.log) same.0
-    (subst (λ i. IsReadAs (names_for x.facts) i cert.log_text x.log) same.1 x.read) in
+    of_certified (λ t i. IsReadAs (names_for t) i cert.log_text x.log) cert x.facts y.facts x.instance y.instance
+    x.certified y.certified x.read in
     let log = read_once (names_for y.facts) y.instance y.certified.is y.certified.numbers cert.log_text x.log y.log here
     y.read in
     one_replay y.instance y.log o p
-    (subst (λ l. IsReplay y.instance l o) log (subst (λ i. IsReplay i x.log o) same.1 a.is)) b.is
+    (subst (λ l. IsReplay y.instance l o) log
+    (of_certified (λ t i. IsReplay i x.log o) cert x.facts y.facts x.instance y.instance x.certified y.certified a.is)) b.is
 
 -- bytes that are replayed aren't refused
 replayed_apart : (bytes : List ℕ) → IsApart (IsRefused bytes) (ComesOfCert IsReplayed bytes)

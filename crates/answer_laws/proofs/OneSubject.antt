@@ -1,16 +1,35 @@
 -- A text has one formula or one graph, and this one list of events or one family of cycles: so one thing is sampled of
 -- a text by each command, and one is made of it.
-use Rattle.std.proofs.Common.{◌≡◌, ℕ, Bool, true, false, List, sym, ap, subst, ◌∙◌}
+use Rattle.std.proofs.Common.{◌≡◌, ℕ, ℤ, List, Bool, true, false, sym, ap, subst, ◌∙◌}
+use Rattle.pop_model.specs.Popping.{Cube}
+use Rattle.pop_model.proofs.Rising.{same_rising}
 use Rattle.pop_model.specs.Instances.{Instance}
-use Rattle.dimacs_read.specs.Cnf.{Cnf}
-use Rattle.graph_read.specs.Graphs.{GraphOf}
 use Rattle.pop_words.specs.declared.command.Command.{Command}
 use Rattle.pop_words.specs.declared.command.Command.TheVariants.{Formula, Orient, Tree, Resample, Make, Rounds}
+use Rattle.dimacs_read.specs.Falsifying.{AreEventsOf}
+use Rattle.dimacs_read.specs.Cnf.{Cnf}
+use Rattle.graph_read.specs.Graphs.{GraphOf}
+use Rattle.sink_popping.specs.Sinks.{AreSinksOf}
 use Rattle.pop_print.specs.declared.facts.Facts.{Facts}
 use Rattle.job_subjects.specs.declared.wanted.Wanted.{Wanted}
 use Rattle.job_subjects.specs.Subjects.{Subject, instance_over, assignments, orientations, AreAssignments, AreOrientations, AreArrows, IsOfCnf, IsOfGraph, IsSubjectOf}
 use Rattle.job_subjects.specs.Made.{IsMade}
-use Rattle.answer_laws.proofs.OneEvents.{one_events, one_sinks}
+
+-- ---- events
+
+-- clauses have one list of events
+pub one_events : (clauses : List (List ℤ)) (a b : List (ℕ × Cube)) → AreEventsOf clauses a → AreEventsOf clauses b → a ≡ b
+one_events clauses a b is is' =
+    same_rising (λ (r : ℕ × Cube). r.0) a b is.rising is'.rising
+    (λ r has. (is'.exact r.0 r.1).1 ((is.exact r.0 r.1).0 has)) (λ r has. (is.exact r.0 r.1).1 ((is'.exact r.0 r.1).0 has))
+
+-- a graph has one list of sinks
+pub one_sinks : (g : GraphOf) (a b : List (ℕ × Cube)) → AreSinksOf g a → AreSinksOf g b → a ≡ b
+one_sinks g a b is is' =
+    same_rising (λ (r : ℕ × Cube). r.0) a b is.rising is'.rising
+    (λ r has. (is'.exact r.0 r.1).1 ((is.exact r.0 r.1).0 has)) (λ r has. (is.exact r.0 r.1).1 ((is'.exact r.0 r.1).0 has))
+
+-- ---- subjects
 
 -- a formula has one list of events, whether these may clash or not
 pub one_assignments : (may_clash might : Bool) (f : Cnf) (s t : Subject) → AreAssignments may_clash f s
@@ -61,3 +80,9 @@ one_made w text facts told i j a b =
       a.over.facts_are ∙ ap (λ (s : Subject). s.facts) same ∙ sym b.over.facts_are,
       a.over.instance_is ∙ ap (instance_over w.origin) same ∙ sym b.over.instance_is,
     )
+
+-- and what holds of the one holds of the other
+pub moved : (P : Facts → Instance → Type 0) (w : Wanted) (text : List ℕ) (facts told : Facts) (i j : Instance)
+    → IsMade w text facts i → IsMade w text told j → P facts i → P told j
+moved P w text facts told i j a b h =
+    let same = one_made w text facts told i j a b in subst (P told) same.1 (subst (λ t. P t i) same.0 h)

@@ -1,38 +1,78 @@
--- The certificate that a pause leaves: that of its job, its text and its log, which is one of what the head of the
--- certificate wants made of the text.
-use Rattle.std.proofs.Common.{◌≡◌, ◌≢◌, ℕ, List, [], length, None, refl, sym, ap, ap₂, subst, ◌∙◌, arith}
+-- A run that may stop pauses exactly where each run to an end has more pops. Its pause leaves a certificate: that of its
+-- job, its text and its log, which is one of what the head of the certificate wants made of the text.
+use Rattle.std.proofs.Common.{◌≡◌, ◌<◌, ℕ, List, length, Some, sym, subst, ◌∙◌, ◌≢◌, [], None, refl, ap, ap₂, arith}
+use Rattle.std.proofs.lemmas.Option.{same_Some}
 use Rattle.std.specs.Prelude.{unwrap_or}
+use Rattle.pop_model.specs.Runs.{IsFirstEnd, start_of}
 use Rattle.pop_model.specs.Instances.{Instance}
 use Rattle.pop_model.specs.Logs.{IsLegal}
-use Rattle.pop_model.specs.Runs.{start_of}
 use Rattle.pop_stacks.specs.declared.stack_spec.StackSpec.{StackSpec}
 use Rattle.pop_stacks.specs.declared.stack_spec.StackSpec.TheVariants.{Key as KeyedStacks, Given as GivenStacks}
 use Rattle.pop_stacks.specs.Tables.{origin_of}
+use Rattle.pop_words.specs.declared.job.Job.{Job}
+use Rattle.pop_words.specs.CommandLines.{Asks}
+use Rattle.pop_words.specs.declared.command.Command.{Command}
+use Rattle.pop_words.specs.declared.command.Command.TheVariants.{Tree, Make}
 use Rattle.pop_log.specs.Layers.{Placed}
 use Rattle.pop_log.specs.Layered.{AreInLayers}
 use Rattle.pop_log.specs.LayeredTexts.{placed_text}
-use Rattle.pop_words.specs.declared.command.Command.{Command}
-use Rattle.pop_words.specs.declared.command.Command.TheVariants.{Tree, Make}
-use Rattle.pop_words.specs.declared.job.Job.{Job}
-use Rattle.pop_words.specs.CommandLines.{Asks}
 use Rattle.pop_watch.specs.Telling.{Watcher}
-use Rattle.pop_print.specs.declared.facts.Facts.{Facts}
 use Rattle.run_cert.specs.Heads.{has_root}
 use Rattle.run_cert.specs.Certificates.{Certificate, IsCertOf, height_said, root_said, head_of, cert_of, cert_text}
 use Rattle.run_cert.proofs.PrintedCerts.{printed_is_read}
+use Rattle.pop_print.specs.declared.facts.Facts.{Facts}
 use Rattle.job_subjects.specs.declared.wanted.Wanted.{Wanted}
 use Rattle.job_subjects.specs.Subjects.{Subject, IsSubjectOf}
 use Rattle.job_subjects.specs.Made.{IsInstanceOf, IsMade}
 use Rattle.job_subjects.proofs.MadeExtremal.{made_short}
+use Rattle.told_runs.specs.Outcomes.{Outcome, text_of}
+use Rattle.told_runs.specs.Outcomes.Outcome.{Ended, Resampled, Paused}
+use Rattle.told_runs.specs.Ends.{EndsWithin}
 use Rattle.told_runs.specs.Names.{names_for}
 use Rattle.told_runs.specs.Tellings.{records_of}
-use Rattle.told_runs.specs.Outcomes.{text_of}
-use Rattle.told_runs.specs.Outcomes.Outcome.{Paused}
+use Rattle.top_call.specs.Answers.{wanted_by, ComesOf, IsOfLine, origin_for}
+use Rattle.top_call.proofs.PauseWords.{paused_line, paused_no_rounds, stopped_may, not_made}
 use Rattle.top_call.specs.Pauses.{MayStop}
 use Rattle.top_call.specs.Replays.{wanted_of}
-use Rattle.top_call.specs.Answers.{origin_for, wanted_by, ComesOf}
-use Rattle.top_call.proofs.PauseWords.{not_made}
-use Rattle.answer_laws.proofs.ToldOfMade.{paused_made}
+use Rattle.answer_laws.specs.Orders.{HasOneEnd}
+use Rattle.answer_laws.specs.Laws.{TellsPause, PausedExactly}
+use Rattle.answer_laws.proofs.ToldSubjects.{ended_subject, resampled_made, paused_made}
+use Rattle.answer_laws.proofs.OneEnd.{made_ordered, pause_shorter}
+use Rattle.answer_laws.proofs.OneOutcome.{line_comes}
+
+-- ---- when a run pauses
+
+-- of what comes of the job
+tells_pause : (job : Job) (ws : List Watcher) (text : List ℕ) (most : ℕ) (o : Outcome) → HasOneEnd job.command text
+    → job.pops ≡ Some most → ComesOf job ws text o → TellsPause most o
+tells_pause job ws text most (Paused told input facts i placed) ordered stop h = λ log runs.
+    let of = paused_made job ws text told input facts i placed h in
+    let same : of.pops ≡ most = same_Some of.pops most (sym of.asked ∙ stop) in
+    let extremal = made_ordered (wanted_by job) text facts i ordered (paused_no_rounds job.command of.may.command)
+    of.made in
+    subst (λ n. n < length log) same (pause_shorter i extremal of.pops placed of.pause log runs)
+tells_pause job ws text most (Ended facts i c pops stuck a) ordered stop h =
+    let of = ended_subject job ws text facts i c pops stuck a h in (
+      subst (λ j. IsFirstEnd j c pops stuck) (sym of.instance_is) of.end,
+      subst (λ m. EndsWithin m pops) stop of.within,
+    )
+tells_pause job ws text most (Resampled facts i placed stuck a) ordered stop h =
+    let of = resampled_made job ws text facts i placed stuck a h in
+    (of.leads, subst (λ m. EndsWithin m (length placed)) stop of.within)
+tells_pause job ws text most o ordered stop h = tt
+
+-- words that ask for a run that may stop have none read
+stopped_line : (words : List (List ℕ)) (job : Job) → Asks words job → (pops : ℕ) → job.pops ≡ Some pops
+    → IsOfLine job.command
+stopped_line words job asks pops stop = paused_line job.command (stopped_may words job asks pops stop).command
+
+-- the law
+pub paused_exactly : PausedExactly
+paused_exactly words ws text job most o asks ordered stop h =
+    tells_pause job ws text most o ordered stop
+    (line_comes words job ws text o asks (stopped_line words job asks most stop) h)
+
+-- ---- the certificate
 
 -- the stacks of the head are those of the job
 pub height_alike : (spec : StackSpec) (height : ℕ) → origin_of spec (height_said spec height) ≡ origin_of spec height

@@ -1,11 +1,11 @@
 -- Different samples print different lines. Lines are read from the front: a literal with `-` before it isn't one without;
 -- the numbers of an arrow are determined, since each ends where a space or the line's end stands. The number of an edge
 -- tells its place at a vertex, as each edge stands there once.
-use Rattle.std.proofs.Common.{inl, inr, ◌≡◌, ℕ, zero, suc, ◌+◌, ◌<◌, ◌≤◌, ◌^◌, false, not, ◌&&◌, List, [], ◌∷◌, ◌++◌, length, map, flat_map, get_or, All, codes, decimal, slice_index, refl, sym, ap, ap₂, subst, ◌∙◌, arith, append_assoc, eq-eqb}
+use Rattle.std.proofs.Common.{inl, inr, ◌≡◌, ℕ, zero, suc, ◌+◌, ◌<◌, ◌≤◌, ◌^◌, false, not, ◌&&◌, List, [], ◌∷◌, ◌++◌, length, map, flat_map, get_or, All, codes, decimal, slice_index, refl, sym, ap, ap₂, subst, ◌∙◌, arith, append_assoc, eq-eqb, AllPairs}
 use Rattle.std.specs.List.{enumerate_from}
 use Rattle.std.proofs.lemmas.Bool.{cases_lt, cases_eq, false≢true}
 use Rattle.std.proofs.lemmas.Fmt.{decimal_nonempty}
-use Rattle.std.proofs.lemmas.List.{append_cancel_left, length-map, get_or-map}
+use Rattle.std.proofs.lemmas.List.{append_cancel_left, length-map, get_or-map, get_or_past}
 use Rattle.pop_model.specs.Text.{spaced}
 use Rattle.pop_model.specs.Names.{vertex_of}
 use Rattle.graph_read.specs.declared.edge.Edge.{Edge}
@@ -14,10 +14,10 @@ use Rattle.graph_read.specs.Incidence.{edges_at, is_loop, listed_edges, other_en
 use Rattle.graph_read.proofs.KnownEdges.{edge_known, vertex_is}
 use Rattle.graph_read.proofs.Numbering.{numbered_rise}
 use Rattle.graph_read.proofs.VisitedEdges.{other_end_vertex}
+use Rattle.cycle_popping.proofs.TreeRows.{edge_is}
 use Rattle.pop_log.specs.Decimals.{AreDigits}
 use Rattle.pop_log.proofs.LogTextsLemmas.{decimal_digits, number_cut, sign, tail_same}
 use Rattle.pop_print.specs.Output.{arrow_line, edge_line, literal_of, oriented_line, vertex_line}
-use Rattle.cycle_popping.proofs.TreeRows.{edge_is}
 use Rattle.answer_laws.specs.PrintedOnce.{AreBits, AssignmentsApart, OrientationsApart, TreesApart}
 
 -- ---- arrows
@@ -198,13 +198,8 @@ edges_cut (e ∷ edges) k x y s t few fits low low' same =
 bit_at : (n : ℕ) (x : List ℕ) → AreBits n x → (j : ℕ) → slice_index x j < 2
 bit_at n x is j = elim (cases_lt j (length x)) [
   | inl less ↦ is.bits j 0 less
-  | inr past ↦ none x j past
+  | inr past ↦ let none : slice_index x j ≡ 0 = get_or_past x j 0 past in omega (arith, none)
 ]
-  where
-    none : (x : List ℕ) (j : ℕ) → length x ≤ j → get_or x j 0 < 2
-    none [] j past = omega arith
-    none (a ∷ x) zero past = absurd (omega (arith, past))
-    none (a ∷ x) (suc j) past = none x j (omega (arith, past))
 
 -- the law of orientations
 pub orientations_apart : OrientationsApart
@@ -224,27 +219,26 @@ orientations_apart g x y more other is bits bits' same i within plain =
 
 -- ---- trees
 
--- each edge stands at a vertex once
-places_apart : (g : GraphOf) (w a b : ℕ) → a < b → b < length (edges_at g w)
-    → get_or (edges_at g w) a 0 < get_or (edges_at g w) b 0
-places_apart g w a b less within =
+-- numbers that rise tell their places
+pub same_place : (xs : List ℕ) → AllPairs (λ x y. x < y) xs → (i j : ℕ) → i < length xs → j < length xs
+    → get_or xs i 0 ≡ get_or xs j 0 → i ≡ j
+same_place xs rise i j within within' same = elim (cases_eq i j) [
+  | inl is ↦ is
+  | inr other ↦ elim (cases_lt i j) [
+    | inl less ↦ let up = rise i j 0 less within' in absurd (omega (arith, up, same))
+    | inr past ↦ let up = rise j i 0 (omega (arith, past, other)) within in absurd (omega (arith, up, same))
+  ]
+]
+
+-- so does the number of an edge at a vertex, where each stands once
+edges_rise : (g : GraphOf) (w : ℕ) → AllPairs (λ x y. x < y) (edges_at g w)
+edges_rise g w a b c less within =
     let d : ℕ × Edge = (0, record { u = 0; v = 0; weight = 0 }) in
     let size = length-map (listed_edges g w) (λ (p : ℕ × Edge). p.0) in
     let up = numbered_rise (λ e. touches e w && not (is_loop e)) g.edges a b d less (omega (arith, within, size)) in
-    let at_a = get_or-map (λ (p : ℕ × Edge). p.0) (listed_edges g w) a d 0 (omega (arith, less, within, size)) in
-    let at_b = get_or-map (λ (p : ℕ × Edge). p.0) (listed_edges g w) b d 0 (omega (arith, within, size)) in
+    let at_a = get_or-map (λ (p : ℕ × Edge). p.0) (listed_edges g w) a d c (omega (arith, less, within, size)) in
+    let at_b = get_or-map (λ (p : ℕ × Edge). p.0) (listed_edges g w) b d c (omega (arith, within, size)) in
     omega (arith, up, at_a, at_b)
-
--- so its number tells its place
-one_place : (g : GraphOf) (w a b : ℕ) → a < length (edges_at g w) → b < length (edges_at g w)
-    → get_or (edges_at g w) a 0 ≡ get_or (edges_at g w) b 0 → a ≡ b
-one_place g w a b within within' same = elim (cases_eq a b) [
-  | inl is ↦ is
-  | inr other ↦ elim (cases_lt a b) [
-    | inl less ↦ let up = places_apart g w a b less within' in absurd (omega (arith, up, same))
-    | inr past ↦ let up = places_apart g w b a (omega (arith, past, other)) within in absurd (omega (arith, up, same))
-  ]
-]
 
 module _ (g : GraphOf) (root : ℕ) (is : IsGraph g) (root_is : IsVertex g.vertices root) where
   -- places at the vertices of the variables from k on
@@ -297,7 +291,7 @@ module _ (g : GraphOf) (root : ℕ) (is : IsGraph g) (root_is : IsVertex g.verti
       (small_arrow k a (omega (arith, few)) low) (small_arrow k b (omega (arith, few)) low') whole in
       let number = one.number in
       let next : (m : ℕ) → k + suc m ≡ k + 1 + m = λ m. omega arith in
-      ap₂ (λ (c : ℕ) (l : List ℕ). c ∷ l) (one_place g w a b low low' (omega (arith, number)))
+      ap₂ (λ (c : ℕ) (l : List ℕ). c ∷ l) (same_place (edges_at g w) (edges_rise g w) a b low low' (omega (arith, number)))
       (slots_cut (k + 1) x y s t (omega (arith, size)) (omega (arith, few))
       (λ m less. subst (λ (v : ℕ). slice_index x m < length (edges_at g (vertex_of root v))) (next m)
       (at (suc m) (omega (arith, less))))

@@ -1,25 +1,25 @@
 -- The exact law on printed bytes. What is printed tells the sample, but at loops of a graph that is oriented; so words that
 -- print it are answered by one like it. The exchange of another, with the values of loops carried along, makes rows of
 -- which the words print that one, and goes back. Rounds are counted by the law of rounds.
-use Rattle.std.proofs.Common.{inl, inr, ◌≡◌, ℕ, ◌<◌, ◌^◌, List, [], ◌∷◌, ◌++◌, ◌*◌, length, map, get_or, slice_index, codes, refl, sym, ap, subst, ◌∙◌, arith, append_assoc, All, Contains, None, Ok}
-use Rattle.std.proofs.lemmas.List.{append_cancel_left, length-replicate, get_or_default}
+use Rattle.std.proofs.Common.{◌≡◌, ℕ, ◌<◌, ◌^◌, List, [], ◌∷◌, ◌++◌, ◌*◌, length, map, get_or, codes, refl, sym, ap, subst, ◌∙◌, arith, append_assoc, All, Contains, None, Ok}
+use Rattle.std.proofs.lemmas.List.{append_cancel_left, get_or_default}
 use Rattle.std.proofs.lemmas.List.Elements.{Contains-get_or}
 use Rattle.std.proofs.lemmas.Option.{none-some}
 use Rattle.pop_model.specs.Stacks.{row_of}
 use Rattle.pop_model.specs.Stacks.Origin.{Given as GivenRows}
 use Rattle.pop_model.specs.Popping.{Cube, cursor, values_at}
 use Rattle.pop_model.specs.Families.{Event}
-use Rattle.pop_model.specs.Families.Family.{Listed}
 use Rattle.pop_model.specs.Instances.{Instance}
 use Rattle.pop_model.specs.Extremal.{IsExtremal}
 use Rattle.pop_model.specs.Runs.{IsFirstEnd}
 use Rattle.pop_model.specs.Text.{line}
 use Rattle.pop_model.proofs.Diamond.{names_it}
 use Rattle.pop_model.proofs.ValuesLemmas.{length-values_at, value-values_at}
+use Rattle.prs_rounds.specs.Rounds.{IsRoundsEnd}
 use Rattle.pop_samples.specs.Frames.{AreRows, Frame, IsFrame, IsSampleOf, Rows, over, stacks_of}
 use Rattle.pop_samples.specs.Exchange.{SamplesAt, entries_under, exchange}
 use Rattle.pop_samples.specs.Weights.{sample_weight, weight_of}
-use Rattle.pop_samples.specs.ExactLaws.{Exchanges}
+use Rattle.pop_samples.specs.ExactLaws.{Exchanges, AreProportional}
 use Rattle.pop_samples.proofs.Conses.{same_kind}
 use Rattle.pop_samples.proofs.ExactCounts.{Swaps, one_place}
 use Rattle.pop_samples.proofs.Matching.{Alike, Matches, alike}
@@ -27,57 +27,53 @@ use Rattle.pop_samples.proofs.ExchangedSamples.{exchange_leaves}
 use Rattle.pop_samples.proofs.Finishing.{first_finishes_by}
 use Rattle.pop_samples.proofs.FrameRows.{SuitsEnd, rows_count, suits_end}
 use Rattle.pop_samples.proofs.MovedLogs.{known_variable}
-use Rattle.prs_rounds.specs.Rounds.{IsRoundsEnd}
+use Rattle.pop_samples.specs.Lists.{AreAll}
 use Rattle.round_samples.specs.Sampled.{Sampled, SampledBy}
 use Rattle.round_samples.proofs.ExactCounts.{exact_rounds}
 use Rattle.round_samples.proofs.ExchangedRounds.{rounds_suit}
-use Rattle.graph_read.specs.declared.edge.Edge.{Edge}
-use Rattle.graph_read.specs.Graphs.{GraphOf, IsGraph, IsVertex}
-use Rattle.graph_read.specs.Incidence.{is_loop}
-use Rattle.sink_popping.specs.Sinks.{AreSinksOf}
-use Rattle.dimacs_read.specs.Cnf.{Cnf}
-use Rattle.dimacs_read.specs.CnfText.{AnswersCnf, cnf_of, cnf_refusal}
-use Rattle.dimacs_read.specs.Falsifying.{AreEventsOf}
-use Rattle.dimacs_read.proofs.GrammarLaw as cnf
 use Rattle.pop_words.specs.declared.command.Command.{Command}
 use Rattle.pop_words.specs.declared.command.Command.TheVariants.{Rounds}
 use Rattle.pop_words.specs.declared.job.Job.{Job}
 use Rattle.pop_words.specs.Options.{quiet}
 use Rattle.pop_words.proofs.GivenAlone.{asked_alone}
+use Rattle.dimacs_read.specs.Cnf.{Cnf}
+use Rattle.dimacs_read.specs.CnfText.{AnswersCnf, cnf_of, cnf_refusal}
+use Rattle.dimacs_read.specs.Falsifying.{AreEventsOf}
+use Rattle.graph_read.specs.declared.edge.Edge.{Edge}
+use Rattle.graph_read.specs.Graphs.{GraphOf, IsGraph, IsVertex}
+use Rattle.graph_read.specs.Incidence.{is_loop}
+use Rattle.sink_popping.specs.Sinks.{AreSinksOf}
 use Rattle.pop_watch.specs.Telling.{Watcher}
 use Rattle.pop_print.specs.declared.facts.Facts.{Facts}
 use Rattle.pop_print.specs.declared.facts.Facts.TheVariants.{Formula as FormulaFacts, Orient as OrientFacts, Tree as TreeFacts, Made as MadeFacts}
-use Rattle.pop_print.specs.Output.{assignment_line, pops_line, sample_lines, tree_lines, used_line}
+use Rattle.pop_print.specs.Output.{assignment_line, pops_line, sample_lines, used_line}
 use Rattle.pop_print.specs.Rounds.{rounds_line}
-use Rattle.told_runs.specs.Names.{names_for}
-use Rattle.told_runs.specs.Outcomes.{Outcome, end_status, run_text, status_of, text_of}
-use Rattle.told_runs.specs.Outcomes.Outcome.{Ended}
-use Rattle.told_runs.specs.Tellings.{Telling, telling_text}
 use Rattle.job_subjects.specs.declared.wanted.Wanted.{Wanted}
 use Rattle.job_subjects.specs.Subjects.{pair_weights, Subject, assignments, arrows_to, instance_over, orientations, IsSubjectOf}
+use Rattle.job_subjects.proofs.MadeInstances.{count_of_weights, slots_of_weights}
+use Rattle.told_runs.specs.Names.{names_for}
+use Rattle.told_runs.specs.Outcomes.{Outcome, end_status, run_text, status_of, text_of, Tells}
+use Rattle.told_runs.specs.Outcomes.Outcome.{Ended}
+use Rattle.told_runs.specs.Tellings.{Telling, telling_text}
 use Rattle.top_call.specs.Answers.{wanted_by, ComesOf, IsOutcome}
 use Rattle.answer_laws.specs.ExactAnswers.{IsSampledBy, frame_of, frame_over, over_rows}
 use Rattle.answer_laws.specs.EverySample.{Satisfies}
 use Rattle.answer_laws.specs.PrintedOnce.{AreBits, AreSlots}
 use Rattle.answer_laws.specs.RoundAnswers.{IsRoundedBy, IsRoundedOutput, rounded_text}
 use Rattle.answer_laws.specs.ExactOutputs.{AreTelling, AskOver, ExactOutputs, ExactRoundOutputs, PrintsOver}
-use Rattle.top_call.proofs.ByCommand.{of_line}
-use Rattle.answer_laws.proofs.EndedSubjects.{IsEndOfSubject, ended_subject}
-use Rattle.answer_laws.proofs.EverySample.{every_assignment}
+use Rattle.answer_laws.proofs.ToldSubjects.{IsEndOfSubject, ended_subject, ordered_extremal, quiet_line, quiet_ordered}
+use Rattle.answer_laws.proofs.EverySample.{every_assignment, pair_values}
 use Rattle.answer_laws.proofs.ExactAnswers.{exchanged_answers, of_rows, sound_rows, values_are}
-use Rattle.answer_laws.proofs.KeyAnswers.{low_cases}
-use Rattle.job_subjects.proofs.MadeInstances.{count_of_weights, slots_of_weights}
+use Rattle.answer_laws.proofs.KeyAnswers.{of_low}
 use Rattle.answer_laws.proofs.LoopedEdges.{DifferAtLoops, bits_weigh, carried, carried_alike, carried_back, carried_sample, same_lines}
-use Rattle.answer_laws.proofs.OneOutcome.{asked_comes}
+use Rattle.answer_laws.proofs.OneOutcome.{line_comes}
 use Rattle.answer_laws.proofs.OneSubject.{one_subject}
-use Rattle.answer_laws.proofs.OrderedCommands.{ordered_extremal, quiet_line, quiet_ordered}
 use Rattle.answer_laws.proofs.PrintedApart.{assignments_apart, orientations_apart, trees_apart}
 use Rattle.answer_laws.proofs.RoundAnswers.{IsEndOfRounds, answered_by, comes_of_job, pairs_light, rounds_frame, rounds_subject}
 use Rattle.answer_laws.proofs.RoundOutputs.{round_outputs}
-use Rattle.answer_laws.proofs.RowWords.{rows_line}
-use Rattle.answer_laws.proofs.SatisfiedFormulas.{sample_bits}
-use Rattle.answer_laws.proofs.SubjectFrames.{subject_family, subject_frame}
-use Rattle.answer_laws.proofs.SubjectKinds.{graph_known, holds_of}
+use Rattle.answer_laws.proofs.OptionKinds.{rows_line}
+use Rattle.answer_laws.proofs.SubjectKinds.{subject_family, subject_frame, graph_known, holds_of}
+use Rattle.dimacs_read.proofs.GrammarLaw as cnf
 
 -- ---- samples at ends
 
@@ -106,36 +102,19 @@ sample_at f frame w c rows s =
 
 -- ---- different samples print different lines
 
--- the values of a sample of pairs
-pair_values : (n : ℕ) (events : List (ℕ × Cube)) (facts : Facts) (heights x : List ℕ)
-    → IsSampleOf (frame_over (record { facts = facts; weights = pair_weights n; family = Listed events }) heights) x
-    → AreBits n x
-pair_values n events facts heights x is =
-    let size : length x ≡ n = is.count ∙ length-replicate {A = List ℕ} n (1 ∷ 1 ∷ []) in
-    record {
-      count_is = size;
-      bits = λ v d below.
-          let bit : slice_index x v < 2 = sample_bits n x size is.values v (omega (arith, below, size)) in
-          subst (λ (k : ℕ). k < 2) (get_or_default x v 0 d below) bit;
-    }
-
 -- a formula of a text has few variables
 few_variables : (text : List ℕ) → cnf_refusal text ≡ None → (cnf_of text).variables < 2 ^ 32
 few_variables text none = let fit = (cnf.sound text none).variables_fit in omega (arith, fit)
 
 -- samples that print the same lines: they are the same, but at loops of a graph that is oriented
 abbrev IsLike : Facts → List ℕ → List ℕ → Type 0
-IsLike (FormulaFacts n) x y = x ≡ y
 IsLike (OrientFacts g) x y = DifferAtLoops g.edges x y
-IsLike (TreeFacts g root) x y = x ≡ y
-IsLike (MadeFacts side) x y = x ≡ y
+IsLike facts x y = x ≡ y
 
 -- so they do
 like_lines : (facts : Facts) (x y : List ℕ) → IsLike facts x y → sample_lines facts x ≡ sample_lines facts y
-like_lines (FormulaFacts n) x y same = ap assignment_line same
 like_lines (OrientFacts g) x y same = same_lines g x y same
-like_lines (TreeFacts g root) x y same = ap (tree_lines g root) same
-like_lines (MadeFacts side) x y same = refl
+like_lines facts x y same = ap (sample_lines facts) same
 
 -- slots of a graph's trees
 slots_of : (g : GraphOf) (root : ℕ) (heights x : List ℕ)
@@ -201,10 +180,8 @@ lines_tell k w text s = holds_of text LinesTell (record {
 
 -- the sample that stands for x where u stands for w
 abbrev carry : Facts → List ℕ → List ℕ → List ℕ
-carry (FormulaFacts n) u x = x
 carry (OrientFacts g) u x = carried g.edges u x
-carry (TreeFacts g root) u x = x
-carry (MadeFacts side) u x = x
+carry facts u x = x
 
 -- what is known of such values, for samples like w
 record Carries (f : Frame) (Like : List ℕ → List ℕ → Type 0) (move : List ℕ → List ℕ → List ℕ) (w x : List ℕ)
@@ -278,22 +255,12 @@ behind a u p t = append_assoc (a ++ u) p t ∙ append_assoc a u (p ++ t)
 begins_so : (facts : Facts) (i : Instance) (c : List ℕ) (pops : ℕ) (a : Telling) → AreTelling facts
     → (more : List ℕ) × (run_text facts i c pops [] a
     ≡ (line (codes "s SAMPLE") ++ sample_lines facts (values_at i.stacks c)) ++ more)
-begins_so (FormulaFacts n) i c pops a tells = (
-  used_line c ++ (pops_line pops ++ telling_text (names_for (FormulaFacts n)) i a),
-  behind (line (codes "s SAMPLE") ++ assignment_line (values_at i.stacks c)) (used_line c) (pops_line pops)
-      (telling_text (names_for (FormulaFacts n)) i a),
-)
-begins_so (OrientFacts g) i c pops a tells = (
-  used_line c ++ (pops_line pops ++ telling_text (names_for (OrientFacts g)) i a),
-  behind (line (codes "s SAMPLE") ++ sample_lines (OrientFacts g) (values_at i.stacks c)) (used_line c) (pops_line pops)
-      (telling_text (names_for (OrientFacts g)) i a),
-)
-begins_so (TreeFacts g root) i c pops a tells = (
-  used_line c ++ (pops_line pops ++ telling_text (names_for (TreeFacts g root)) i a),
-  behind (line (codes "s SAMPLE") ++ sample_lines (TreeFacts g root) (values_at i.stacks c)) (used_line c)
-      (pops_line pops) (telling_text (names_for (TreeFacts g root)) i a),
-)
 begins_so (MadeFacts side) i c pops a tells = absurd tells
+begins_so facts i c pops a tells = (
+  used_line c ++ (pops_line pops ++ telling_text (names_for facts) i a),
+  behind (line (codes "s SAMPLE") ++ sample_lines facts (values_at i.stacks c)) (used_line c) (pops_line pops)
+      (telling_text (names_for facts) i a),
+)
 
 -- an end with status 0 has no stuck event
 none_left : (stuck : List Event) → end_status stuck ≡ 0 → stuck ≡ []
@@ -344,8 +311,7 @@ module _ (job : Job) (text : List ℕ) (s : Subject) (has : Contains quiet job.c
   comes_of_rows : (rows : Rows) → AreRows s.weights heights rows → (o : Outcome) → IsOutcome (words rows) ws text o
       → ComesOf (over_rows job rows) ws text o
   comes_of_rows rows shape o outcome =
-      of_line job.command (over_rows job rows) ws text o (quiet_line job.command has)
-      (asked_comes (words rows) (over_rows job rows) ws text o (ask rows shape) outcome)
+      line_comes (words rows) (over_rows job rows) ws text o (ask rows shape) (quiet_line job.command has) outcome
 
   -- so a sample that answers them is at the end of the rows
   answered_end : (w c : List ℕ) (rows : Rows) → AreRows s.weights heights rows → (pops : ℕ) (a : Telling)
@@ -452,19 +418,16 @@ module _ (job : Job) (text : List ℕ) (s : Subject) (has : Contains quiet job.c
   from_prints : (w : List ℕ) (rows : Rows) → IsSampleOf f w → PrintsOver s.weights heights words ws text s.facts w rows
       → Found w rows
   from_prints w rows is_w p =
-      let o : Outcome = p.prints.answer.0 in
-      let outcome = p.prints.answer.1 in
-      let tell = p.prints.answer.2 in
+      let (o, outcome, tell) = p.prints.answer in
       let zero : status_of o ≡ 0 = sym tell.status_is in
-      elim (low_cases (over_rows job rows) has ws text o (comes_of_rows rows p.shape o outcome) (omega (arith, zero))) [
-        | inl e ↦
-            from_end w rows is_w p.shape p.prints.out p.prints.more p.prints.out_is e.facts e.instance e.cursors e.pops
-            e.stuck e.telling (subst (IsOutcome (words rows) ws text) e.told outcome) e.of
-            (sym (ap status_of e.told) ∙ zero) (tell.out_is ∙ ap text_of e.told)
-        | inr b ↦
-            let alone = (asked_alone (words rows) (over_rows job rows) (ask rows p.shape) rows refl).1 in
-            absurd (none-some b.of.batch.count (sym alone ∙ b.of.batch.asked_is))
-      ]
+      of_low (over_rows job rows) has ws text
+      (λ q. IsOutcome (words rows) ws text q → Tells q 0 p.prints.out → Found w rows)
+      (λ facts i c pops stuck a of outcome tell.
+      from_end w rows is_w p.shape p.prints.out p.prints.more p.prints.out_is facts i c pops stuck a outcome of
+      (sym tell.status_is) tell.out_is) (λ facts i ends of outcome tell.
+      let alone = (asked_alone (words rows) (over_rows job rows) (ask rows p.shape) rows refl).1 in
+      absurd (none-some of.batch.count (sym alone ∙ of.batch.asked_is))) o (comes_of_rows rows p.shape o outcome)
+      (omega (arith, zero)) outcome tell
 
   -- rows that are answered by a sample like w, and those that the exchange makes of them for x
   abbrev Pair : List ℕ → List ℕ → Rows → Rows → Type 0
@@ -528,24 +491,26 @@ module _ (job : Job) (text : List ℕ) (s : Subject) (has : Contains quiet job.c
         back ∙ ap (λ (k : List ℕ). exchange t k u) one.0 ∙ ap (exchange t d) same ∙ sym back';
   }
 
+  -- so there are as many for the one as for the other, by weight
+  counts : (w x : List ℕ) → IsSampleOf f w → IsSampleOf f x → (all others : List Rows)
+      → AreAll (PrintsOver s.weights heights words ws text s.facts w) all
+      → AreAll (PrintsOver s.weights heights words ws text s.facts x) others → AreProportional f w x all others
+  counts w x is_w is_x all others mine theirs =
+      let to : CarriesOf s heights w x = carries job.command (wanted_by job) text s is tells heights w x is_w is_x in
+      let fro : CarriesOf s heights x w = carries job.command (wanted_by job) text s is tells heights x w is_x is_w in
+      let both : Alike (weight_of s.weights) (sample_weight s.weights w) (sample_weight s.weights x) all others =
+      alike (Pair w x) (weight_of s.weights) (sample_weight s.weights w) (sample_weight s.weights x) (matches w x to) all
+      others mine.differ theirs.differ
+      (λ r there. let p = partner w x to r (from_prints w r is_w ((mine.exact r).0 there)) in
+      (p.0, (theirs.exact p.0).1 (to_prints x p.0 p.1), p.2))
+      (λ t there. let p = partner_of w x to fro t (from_prints x t is_x ((theirs.exact t).0 there)) in
+      (p.0, (mine.exact p.0).1 (to_prints w p.0 p.1), p.2)) in
+      record { count = both.size; weight = both.total }
+
 -- the law of runs
 pub exact_outputs : ExactOutputs
-exact_outputs job text s heights words ws has is tells count some ask w x is_w is_x all others mine theirs =
-    let to : CarriesOf s heights w x = carries job.command (wanted_by job) text s is tells heights w x is_w is_x in
-    let fro : CarriesOf s heights x w = carries job.command (wanted_by job) text s is tells heights x w is_x is_w in
-    let both : Alike (weight_of s.weights) (sample_weight s.weights w) (sample_weight s.weights x) all others =
-    alike (Pair job text s has is tells heights count some words ws ask w x) (weight_of s.weights)
-    (sample_weight s.weights w) (sample_weight s.weights x)
-    (matches job text s has is tells heights count some words ws ask w x to) all others mine.differ theirs.differ
-    (λ r there.
-    let p = partner job text s has is tells heights count some words ws ask w x to r
-    (from_prints job text s has is tells heights count some words ws ask w r is_w ((mine.exact r).0 there)) in
-    (p.0, (theirs.exact p.0).1 (to_prints job text s has is tells heights count some words ws ask x p.0 p.1), p.2))
-    (λ t there.
-    let p = partner_of job text s has is tells heights count some words ws ask w x to fro t
-    (from_prints job text s has is tells heights count some words ws ask x t is_x ((theirs.exact t).0 there)) in
-    (p.0, (mine.exact p.0).1 (to_prints job text s has is tells heights count some words ws ask w p.0 p.1), p.2)) in
-    record { count = both.size; weight = both.total }
+exact_outputs job text s heights words ws has is tells count some =
+    counts job text s has is tells heights count some words ws
 
 -- ---- rounds
 
@@ -632,20 +597,21 @@ module _ (job : Job) (text : List ℕ) (events : List (ℕ × Cube)) (heights : 
         };
       }
 
+  -- so there are as many for one assignment as for another
+  round_counts : (w x : List ℕ) → Satisfies (cnf_of text) w → Satisfies (cnf_of text) x → (all others : List Rows)
+      → AreAll (PrintsOver g.weights heights words ws text (FormulaFacts (cnf_of text).variables) w) all
+      → AreAll (PrintsOver g.weights heights words ws text (FormulaFacts (cnf_of text).variables) x) others
+      → length all ≡ length others
+  round_counts w x ok_w ok_x all others mine theirs =
+      let Prints : List ℕ → Rows → Type 0 =
+      PrintsOver g.weights heights words ws text (FormulaFacts (cnf_of text).variables) in
+      (exact_rounds g g_frame tt w x (every_assignment (cnf_of text) events heights w are ok_w)
+      (every_assignment (cnf_of text) events heights x are ok_x) all others
+      (same_kind (Prints w) (Sampled g w) all mine (λ rows. prints_sampled w rows ok_w) (λ rows. sampled_prints w rows ok_w))
+      (same_kind (Prints x) (Sampled g x) others theirs (λ rows. prints_sampled x rows ok_x)
+      (λ rows. sampled_prints x rows ok_x))).count
+
 -- the law of rounds
 pub exact_round_outputs : ExactRoundOutputs
-exact_round_outputs job text events heights words ws by spelled are count some ask w x ok_w ok_x all others mine theirs =
-    let s : Subject = assignments (cnf_of text) events in
-    let f : Frame = frame_over s heights in
-    let frame : IsFrame f = rounds_frame text events heights spelled are count some in
-    let To : (v : List ℕ) → Satisfies (cnf_of text) v → (rows : Rows)
-    → PrintsOver s.weights heights words ws text s.facts v rows → Sampled f v rows =
-    λ v ok rows. prints_sampled job text events heights words ws by spelled are count some ask v rows ok in
-    let Back : (v : List ℕ) → Satisfies (cnf_of text) v → (rows : Rows) → Sampled f v rows
-    → PrintsOver s.weights heights words ws text s.facts v rows =
-    λ v ok rows. sampled_prints job text events heights words ws by spelled are count some ask v rows ok in
-    (exact_rounds f frame tt w x (every_assignment (cnf_of text) events heights w are ok_w)
-    (every_assignment (cnf_of text) events heights x are ok_x) all others
-    (same_kind (PrintsOver s.weights heights words ws text s.facts w) (Sampled f w) all mine (To w ok_w) (Back w ok_w))
-    (same_kind (PrintsOver s.weights heights words ws text s.facts x) (Sampled f x) others theirs (To x ok_x)
-    (Back x ok_x))).count
+exact_round_outputs job text events heights words ws by spelled are count some =
+    round_counts job text events heights words ws by spelled are count some

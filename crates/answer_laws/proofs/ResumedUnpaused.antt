@@ -1,57 +1,98 @@
--- A certificate that a run left is gone on with as the line of its command, which is that of the words without
--- `--pops`. Its log is read as it was printed, so that it isn't refused; and what is resumed comes of this line and of
--- the input.
-use Rattle.std.proofs.Common.{inl, inr, ◌≡◌, ◌≤◌, ◌-◌, ◌^◌, ℕ, Bool, true, false, List, [], ◌∷◌, length, None, Some, refl, sym, ap, subst, ◌∙◌, arith}
-use Rattle.std.specs.Prelude.{unwrap_or}
-use Rattle.std.proofs.lemmas.Bool.{false≢true}
+-- A certificate that is replayed isn't refused, so that what comes of it where it is resumed comes of the line of its
+-- command. One that a run left is gone on with as that line, which is that of the words without `--pops`. Its log is read
+-- as it was printed, so that it isn't refused; and what is resumed comes of this line and of the input.
+use Rattle.std.proofs.Common.{inl, inr, ◌≡◌, ℕ, List, sym, ap, subst, Contains, ◌∙◌, ◌≤◌, ◌^◌, Bool, true, false, [], ◌∷◌, length, None, refl, arith}
 use Rattle.std.proofs.lemmas.Option.{none-some}
 use Rattle.pop_model.specs.Stacks.{Origin}
 use Rattle.pop_model.specs.Families.{Event}
 use Rattle.pop_model.specs.Instances.{Instance}
-use Rattle.pop_stacks.specs.declared.stack_spec.StackSpec.TheVariants.{Key as KeyedStacks, Given as GivenStacks}
+use Rattle.pop_words.specs.declared.command.Command.{Command}
+use Rattle.pop_words.specs.declared.command.Command.TheVariants.{Replay, Resume, Tree}
+use Rattle.pop_words.specs.declared.job.Job.{Job}
+use Rattle.pop_words.specs.Options.{paused, default_job}
+use Rattle.pop_words.specs.declared.field.Field.{Field}
+use Rattle.pop_words.specs.declared.field.Field.TheVariants.{Pops}
+use Rattle.pop_words.specs.CommandLines.{Asks}
+use Rattle.pop_words.proofs.PausedAlone.{paused_alone}
 use Rattle.pop_log.specs.Layers.{Placed}
 use Rattle.pop_log.specs.LayeredTexts.{placed_text}
-use Rattle.pop_words.specs.declared.command.Command.{Command}
-use Rattle.pop_words.specs.declared.command.Command.TheVariants.{Tree, Resume}
-use Rattle.pop_words.specs.declared.field.Field.{Field}
-use Rattle.pop_words.specs.declared.field.Field.TheVariants.{Stacks, Key, Height, Grow, Count, Pops, Workers, Board, Log, Root, Witness, Reports, Size}
-use Rattle.pop_words.specs.declared.job.Job.{Job}
-use Rattle.pop_words.specs.Values.{number_between, rows_in, key_in, board_in, switch_in, pair_in, reports_in}
-use Rattle.pop_words.specs.Options.{value_of, default_job}
-use Rattle.pop_words.specs.CommandLines.{Asks, job_from}
-use Rattle.pop_words.proofs.PausedAlone.{paused_alone}
 use Rattle.pop_watch.specs.Telling.{Watcher}
-use Rattle.pop_print.specs.declared.facts.Facts.{Facts}
-use Rattle.run_cert.specs.Heads.{has_root}
 use Rattle.run_cert.specs.Certificates.{Certificate, IsCertOf, height_said, root_said, head_of, cert_of}
 use Rattle.run_cert.proofs.OneText.{one_cert}
+use Rattle.run_cert.specs.Heads.{has_root}
+use Rattle.pop_print.specs.declared.facts.Facts.{Facts}
+use Rattle.job_subjects.specs.declared.refusal.Refusal.{Refusal}
+use Rattle.job_subjects.specs.Subjects.{Subject, IsSubjectOf}
+use Rattle.job_subjects.specs.Refused.{RefusesBy}
+use Rattle.told_runs.specs.Asking.{asked_by}
+use Rattle.told_runs.specs.Outcomes.{Outcome, HasRun, status_of, text_of, end_status, resampled_status}
 use Rattle.told_runs.specs.Names.{names_for}
 use Rattle.told_runs.specs.Witnesses.{Witness as ToldWitness}
 use Rattle.told_runs.specs.Witnesses.Witness.{Unasked, Missing, Shown}
 use Rattle.told_runs.specs.Batches.{batch_status}
 use Rattle.told_runs.specs.Tellings.{records_of}
-use Rattle.told_runs.specs.Outcomes.{Outcome, status_of, text_of, end_status, resampled_status}
 use Rattle.told_runs.specs.Outcomes.Outcome.{Refused, Extremal, Ended, Resampled, Rounded, Batched, Paused, Replayed}
-use Rattle.job_subjects.specs.declared.refusal.Refusal.{Refusal}
-use Rattle.job_subjects.specs.Subjects.{Subject, IsSubjectOf}
-use Rattle.job_subjects.specs.Refused.{RefusesBy}
-use Rattle.top_call.specs.Replays.{job_of, HasLog}
-use Rattle.top_call.specs.Answers.{wanted_by, ComesOf, IsOfLine}
-use Rattle.top_call.proofs.BatchEnds.{batch_low}
-use Rattle.top_call.proofs.ByCommand.{by_line, of_line}
+use Rattle.top_call.specs.Replays.{job_of, ComesOfCert, IsReplayed, HasLog}
+use Rattle.top_call.specs.Answers.{wanted_by, ComesOf, ComesBy, IsOutcome, IsOfLine}
+use Rattle.top_call.proofs.ByCommand.{by_line}
 use Rattle.top_call.proofs.Lifting.{of_words}
 use Rattle.top_call.proofs.PauseWords.{paused_line, stopped_may}
+use Rattle.top_call.proofs.BatchEnds.{batch_low}
 use Rattle.top_call.proofs.ReadCases.{no_replay}
-use Rattle.answer_laws.specs.Unpaused.{tells_pops, but_pops, DifferInPops, ResumedUnpaused}
-use Rattle.answer_laws.proofs.AlikeJobs.{AreAlike, StopAsOne, same_comes}
-use Rattle.answer_laws.proofs.CertBounds.{legal_log}
-use Rattle.answer_laws.proofs.FilteredOptions.{AreDropped, unsets, goes_on, parts}
-use Rattle.answer_laws.proofs.OneOutcome.{asked_comes}
+use Rattle.answer_laws.specs.Resumed.{AskFor, AcceptsReplay, ResumedAlike}
+use Rattle.answer_laws.proofs.AlikeWords.{AreAlike, StopAsOne, same_comes}
+use Rattle.answer_laws.proofs.OneOutcome.{asked_comes, line_comes}
 use Rattle.answer_laws.proofs.OneReplay.{accepted_or_refused}
+use Rattle.answer_laws.proofs.RefusedOr.{refusal_no_run, replaying_cases, resuming_cases, refusal_not_ten, not_low}
+use Rattle.answer_laws.specs.Unpaused.{tells_pops, DifferInPops, ResumedUnpaused}
+use Rattle.answer_laws.proofs.MadeBounds.{legal_log}
+use Rattle.answer_laws.proofs.OptionKinds.{dropped, all_left}
 use Rattle.answer_laws.proofs.PausedCerts.{height_alike, IsPauseCert, paused_cert}
-use Rattle.answer_laws.proofs.ResumedLines.{by_words}
-use Rattle.answer_laws.proofs.RefusalStatuses.{refusal_not_ten, not_low}
-use Rattle.answer_laws.proofs.RefusedOr.{resuming_cases}
+
+-- ---- certificates that are accepted
+
+-- what comes of words that ask for a command comes by it
+pub by_words : (words : List (List ℕ)) (ws : List Watcher) (text : List ℕ) (o : Outcome) (k : Command) → AskFor words k
+    → IsOutcome words ws text o → (job : Job) × ComesBy k job ws text o
+by_words words ws text o k (job, asks, is) h =
+    (job, subst (λ c. ComesBy c job ws text o) is (asked_comes words job ws text o asks h))
+
+-- bytes that `replay` accepts are a certificate that has a log
+replayed : (bytes : List ℕ) → AcceptsReplay bytes → (o : Outcome) × ComesOfCert IsReplayed bytes o
+replayed bytes accepts =
+    let (o, comes, tells) = accepts.answer in
+    let came = by_words accepts.words accepts.watchers bytes o Replay accepts.asks comes in
+    elim (replaying_cases bytes o came.1) [
+      | inl (r, o_is, refused) ↦
+          absurd (refusal_no_run r (subst HasRun (tells.status_is ∙ ap status_of o_is) accepts.has_run))
+      | inr b ↦ (o, b)
+    ]
+
+-- the law
+pub resumed_alike : ResumedAlike
+resumed_alike words others ws bytes cert status out accepts is asks (job, asks', line) (o, comes, tells) =
+    let (p, b) = replayed bytes accepts in
+    let came = by_words words ws bytes o Resume asks comes in
+    elim (resuming_cases ComesOf ws bytes o came.1) [
+      | inl (s, o_is, refused) ↦ absurd (accepted_or_refused bytes b.cert s b.short b.is b.comes.has refused)
+      | inr r ↦
+          let mine : Job = job_of cert.head in
+          let own : ComesOf mine ws cert.input o =
+          subst (λ (c : Certificate). ComesOf (job_of c.head) ws c.input o) (one_cert bytes r.cert cert r.is is)
+          r.comes.comes in
+          let alike : AreAlike mine job = record {
+            wanted = sym (ap wanted_by line);
+            asked = sym (ap asked_by line);
+          } in
+          let stop : StopAsOne mine job = λ pops some. absurd (none-some pops some) in
+          let command : cert.head.command ≡ job.command = sym (ap (λ (j : Job). j.command) line) in (
+            o,
+            of_words others job ws cert.input asks' o (by_line job.command job ws cert.input o
+                (paused_line job.command (subst (Contains paused) command is.is.head.command))
+                (same_comes mine job alike stop ws cert.input o own)),
+            tells,
+          )
+    ]
 
 -- ---- the job without `--pops`
 
@@ -60,45 +101,11 @@ abbrev is_of_pops : Field → Bool
 is_of_pops Pops = true
 is_of_pops field = false
 
--- the job of a run that doesn't stop
-abbrev unpaused : Job → Job
-unpaused job = record job { pops = None }
-
--- what sets a number of pops is dropped
-sets_pops : (field : Field) (job : Job) (word : List ℕ) → is_of_pops field ≡ true
-    → unpaused (unwrap_or (value_of field word) (λ j. j) job) ≡ unpaused job
-sets_pops Pops job word is = unsets unpaused (λ n j. record j { pops = Some n }) (λ n j. refl) job (number_between 1 (2 ^ 32 - 1) word)
-sets_pops field job word is = absurd (false≢true is)
-
--- and another field sets something else
-sets_other : (field : Field) (job : Job) (word : List ℕ) → is_of_pops field ≡ false
-    → unpaused (unwrap_or (value_of field word) (λ j. j) job) ≡ unwrap_or (value_of field word) (λ j. j) (unpaused job)
-sets_other Stacks job word is = goes_on unpaused (λ rows j. record j { stacks = GivenStacks rows }) (λ rows j. refl) job (rows_in word)
-sets_other Key job word is = goes_on unpaused (λ key j. record j { stacks = KeyedStacks key }) (λ key j. refl) job (key_in word)
-sets_other Height job word is = goes_on unpaused (λ n j. record j { height = n }) (λ n j. refl) job (number_between 1 (2 ^ 31 - 1) word)
-sets_other Grow job word is = goes_on unpaused (λ n j. record j { grow = Some n }) (λ n j. refl) job (number_between 1 (2 ^ 31 - 1) word)
-sets_other Count job word is = goes_on unpaused (λ n j. record j { count = Some n }) (λ n j. refl) job (number_between 1 65536 word)
-sets_other Pops job word is = absurd (false≢true (sym is))
-sets_other Workers job word is = goes_on unpaused (λ n j. record j { workers = n }) (λ n j. refl) job (number_between 1 64 word)
-sets_other Board job word is = goes_on unpaused (λ b j. record j { board = b }) (λ b j. refl) job (board_in word)
-sets_other Log job word is = goes_on unpaused (λ log j. record j { log = log }) (λ log j. refl) job (switch_in word)
-sets_other Root job word is = goes_on unpaused (λ n j. record j { root = n }) (λ n j. refl) job (number_between 1 (2 ^ 32 - 1) word)
-sets_other Witness job word is = goes_on unpaused (λ pair j. record j { witness = Some pair }) (λ pair j. refl) job (pair_in word)
-sets_other Reports job word is = goes_on unpaused (λ kinds j. record j { reports = kinds }) (λ kinds j. refl) job (reports_in word)
-sets_other Size job word is = goes_on unpaused (λ n j. record j { size = n }) (λ n j. refl) job (number_between 1 2048 word)
-
-pops_dropped : AreDropped tells_pops is_of_pops unpaused
-pops_dropped = record { all_agree = refl; sets = sets_pops; sets_other = sets_other }
-
 -- the other words ask for the job whose run doesn't stop
-other_unpaused : (words others : List (List ℕ)) (d : DifferInPops words others) → unpaused d.job ≡ d.other
+other_unpaused : (words others : List (List ℕ)) (d : DifferInPops words others) → dropped is_of_pops d.job ≡ d.other
 other_unpaused words others d =
-    let one = d.asks in
-    let two = d.asks_other in
-    ap unpaused one.job_is
-    ∙ parts tells_pops is_of_pops unpaused pops_dropped one.command [] (default_job one.command) one.chosen one.options
-    ∙ ap (λ k. job_from (default_job k) (but_pops one.chosen)) d.command
-    ∙ ap (job_from (default_job two.command)) d.options ∙ sym two.job_is
+    all_left tells_pops is_of_pops (record { all_agree = refl; one_field = refl }) words others d.job d.other d.asks
+    d.asks_other d.command d.options refl
 
 -- which has but its stacks, their height and its root
 other_plain : (words others : List (List ℕ)) (d : DifferInPops words others)
@@ -108,7 +115,7 @@ other_plain : (words others : List (List ℕ)) (d : DifferInPops words others)
       root = d.job.root;
     }
 other_plain words others d =
-    sym (other_unpaused words others d) ∙ ap unpaused (paused_alone words d.job d.asks d.pops d.stops)
+    sym (other_unpaused words others d) ∙ ap (dropped is_of_pops) (paused_alone words d.job d.asks d.pops d.stops)
 
 -- ---- a pause
 
@@ -224,7 +231,7 @@ resumed_unpaused words resumes others ws vs text bytes status out d (o, comes, t
     let may = stopped_may words d.job d.asks d.pops d.stops in
     let line : IsOfLine d.job.command = paused_line d.job.command may.command in
     let own : ComesOf d.job ws text o =
-    of_line d.job.command d.job ws text o line (asked_comes words d.job ws text o d.asks comes) in
+    line_comes words d.job ws text o d.asks line comes in
     let (facts, i, placed, leaves) = ten_leaves words d.job d.asks ws text o own (sym tells.status_is) in
     let cert : Certificate = cert_of d.job text (placed_text (names_for facts) i placed) in
     let there : IsCertOf bytes cert = subst (λ b. IsCertOf b cert) (sym tells.out_is) leaves.is in

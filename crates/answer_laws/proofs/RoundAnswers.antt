@@ -1,7 +1,7 @@
 -- The exact law of rounds, said of answers. Rows that words give are sound where rounds are told of them, and make up a
 -- frame of the formula's events; so the law of the exchange tells the rounds of the rows with another assignment, and
 -- those of rows that have the assignment from the start.
-use Rattle.std.proofs.Common.{inl, inr, ◌≡◌, ◌⊎◌, ℕ, ◌<◌, true, List, [], ◌∷◌, length, map, get_or, sum, replicate, refl, sym, ap, subst, ◌∙◌, arith, All, Option, None, Ok}
+use Rattle.std.proofs.Common.{◌≡◌, ℕ, ◌<◌, true, List, [], ◌∷◌, length, map, get_or, sum, replicate, refl, sym, ap, subst, ◌∙◌, arith, All, Option, None, Ok}
 use Rattle.std.proofs.lemmas.List.{length-map, length-replicate, get_or-replicate}
 use Rattle.pop_model.specs.Stacks.{Origin}
 use Rattle.pop_model.specs.Stacks.Origin.{Given as GivenRows}
@@ -16,13 +16,13 @@ use Rattle.round_samples.specs.Sampled.{SampledBy}
 use Rattle.round_samples.specs.ExactLaws.{ExchangesRounds}
 use Rattle.round_samples.proofs.ExchangedRounds.{exchanged_rounds, rounds_suit}
 use Rattle.round_samples.proofs.ExactCounts.{reached_by_rounds}
-use Rattle.dimacs_read.specs.Cnf.{Cnf}
-use Rattle.dimacs_read.specs.CnfText.{AnswersCnf, cnf_of}
-use Rattle.dimacs_read.specs.Falsifying.{AreEventsOf}
 use Rattle.pop_words.specs.declared.command.Command.{Command}
 use Rattle.pop_words.specs.declared.command.Command.TheVariants.{Rounds}
 use Rattle.pop_words.specs.declared.job.Job.{Job}
 use Rattle.pop_words.specs.CommandLines.{Asks}
+use Rattle.dimacs_read.specs.Cnf.{Cnf}
+use Rattle.dimacs_read.specs.CnfText.{AnswersCnf, cnf_of}
+use Rattle.dimacs_read.specs.Falsifying.{AreEventsOf}
 use Rattle.pop_watch.specs.Telling.{Watcher}
 use Rattle.pop_print.specs.declared.facts.Facts.{Facts}
 use Rattle.pop_print.specs.declared.facts.Facts.TheVariants.{Formula as FormulaFacts}
@@ -33,22 +33,21 @@ use Rattle.job_subjects.specs.Made.{IsMade}
 use Rattle.job_subjects.specs.Refused.{RefusesText}
 use Rattle.told_runs.specs.Asking.{asked_by}
 use Rattle.told_runs.specs.Outcomes.{Outcome}
-use Rattle.told_runs.specs.Outcomes.Outcome.{Refused, Rounded}
+use Rattle.told_runs.specs.Outcomes.Outcome.{Refused, Rounded, Extremal, Paused}
 use Rattle.top_call.specs.Answers.{origin_for, wanted_by, EndsAs, ComesOf, IsOfLine, IsOutcome}
 use Rattle.top_call.proofs.BatchWords.{is_batched, uncounted}
-use Rattle.top_call.proofs.ByCommand.{by_line, of_line}
+use Rattle.top_call.proofs.ByCommand.{by_line}
 use Rattle.top_call.proofs.MadeComes.{end_comes}
 use Rattle.top_call.proofs.PauseWords.{paused_no_rounds}
-use Rattle.top_call.proofs.ReadCases.{read_cases, run_ends, rounded_as}
+use Rattle.top_call.proofs.ReadCases.{run_ends}
 use Rattle.answer_laws.specs.ExactAnswers.{frame_over, over_rows}
 use Rattle.answer_laws.specs.RoundAnswers.{ExchangedRoundAnswers, IsRoundedBy, ReachedRoundAnswers}
-use Rattle.answer_laws.proofs.RowWords.{rows_line}
-use Rattle.answer_laws.proofs.EndedSubjects.{one_is_made}
+use Rattle.answer_laws.proofs.OptionKinds.{rows_line}
+use Rattle.answer_laws.proofs.ToldSubjects.{one_is_made, rounded_made, paused_made}
 use Rattle.answer_laws.proofs.EverySample.{every_assignment}
 use Rattle.answer_laws.proofs.ExactAnswers.{heights_some, rows_framed, sound_rows, values_are}
-use Rattle.answer_laws.proofs.OneOutcome.{asked_comes}
-use Rattle.answer_laws.proofs.OneRounds.{rounded}
-use Rattle.answer_laws.proofs.SubjectFrames.{assignments_family, subject_frame}
+use Rattle.answer_laws.proofs.OneOutcome.{line_comes}
+use Rattle.answer_laws.proofs.SubjectKinds.{assignments_family, subject_frame}
 
 -- rounds of a text's formula are asked of its events, whether or not these clash
 pub rounds_subject : (w : Wanted) (text : List ℕ) (events : List (ℕ × Cube)) → AnswersCnf text (Ok (cnf_of text))
@@ -83,65 +82,42 @@ pub rounded_of : (job : Job) (ws : List Watcher) (text : List ℕ) (facts : Fact
     (rounds : ℕ) (stuck : List Event) (short : Option ℕ) → ComesOf job ws text (Rounded facts i c rounds stuck short)
     → (job.command ≡ Rounds) × IsEndOfRounds (origin_for job) text facts i c rounds stuck short
 rounded_of job ws text facts i c rounds stuck short h =
-    let told = rounded_as job.command (asked_by job) ws h.facts h.instance facts i c rounds stuck short
-    (run_ends job ws text (Rounded facts i c rounds stuck short) h (λ n at. at)) in
-    let over = h.made.over in
-    let s : Subject = h.made.subject in
+    let of = rounded_made job ws text facts i c rounds stuck short h in
+    let over = of.made.over in
+    let s : Subject = of.made.subject in
     let is : IsOfCnf (AreAssignments true) text s =
-    subst (λ k. IsSubjectOf k (wanted_by job) text s) told.0 h.made.are in
+    subst (λ k. IsSubjectOf k (wanted_by job) text s) of.by of.made.are in
     let events : List (ℕ × Cube) = is.are.events in
     let same : is.formula ≡ cnf_of text = is.spelled.1 in
     let s_is : s ≡ assignments (cnf_of text) events = is.are.is ∙ ap (λ (f : Cnf). assignments f events) same in
-    let own : h.instance ≡ instance_over (origin_for job) (assignments (cnf_of text) events) =
+    let own : i ≡ instance_over (origin_for job) (assignments (cnf_of text) events) =
     over.instance_is ∙ ap (instance_over (origin_for job)) s_is in (
-      told.0,
+      of.by,
       record {
         spelled = subst (λ f. AnswersCnf text (Ok f)) same is.spelled;
         events = events;
         of_formula = subst (λ (f : Cnf). AreEventsOf f.clauses events) same is.are.of_formula;
-        facts_are = told.1.0 ∙ over.facts_are ∙ ap (λ (t : Subject). t.facts) s_is;
-        instance_is = told.1.1 ∙ own;
+        facts_are = over.facts_are ∙ ap (λ (t : Subject). t.facts) s_is;
+        instance_is = own;
         sound = subst (λ (t : Subject). IsSound (origin_for job) t.weights) s_is over.sound;
-        end = subst (λ j. IsRoundsEnd j c rounds stuck short) own told.1.2;
+        end = subst (λ j. IsRoundsEnd j c rounds stuck short) own of.end;
       },
     )
 
--- the end of rounds that an outcome tells
-pub record TellsRounds (origin : Origin) (text : List ℕ) (o : Outcome) : Type 0 where
-  pub facts : Facts
-  pub instance : Instance
-  pub cursors : List ℕ
-  pub rounds : ℕ
-  pub stuck : List Event
-  pub short : Option ℕ
-  pub told : o ≡ Rounded facts instance cursors rounds stuck short
-  pub is : IsEndOfRounds origin text facts instance cursors rounds stuck short
-
--- what comes of rounds is a refusal, or such an end
-pub rounds_cases : (job : Job) → job.command ≡ Rounds → (ws : List Watcher) (text : List ℕ) (o : Outcome)
-    → ComesOf job ws text o
-    → ((r : Refusal) × (o ≡ Refused r) × RefusesText (wanted_by job) text r) ⊎ TellsRounds (origin_for job) text o
-rounds_cases job by ws text o h = elim (read_cases job ws text o h) [
-  | inl refused ↦ inl refused
-  | inr (inl (n, o_is, check, verdict)) ↦ absurd (cc)
-  | inr (inr run) ↦ elim run.run [
-    | inl end ↦
-        let e = rounded run.facts run.instance o
-        (subst (λ k. EndsAs k (asked_by job) ws run.facts run.instance o) by end) in
-        inr (record {
-          facts = run.facts;
-          instance = run.instance;
-          cursors = e.cursors;
-          rounds = e.rounds;
-          stuck = e.stuck;
-          short = e.short;
-          told = e.is;
-          is = (rounded_of job ws text run.facts run.instance e.cursors e.rounds e.stuck e.short
-              (subst (ComesOf job ws text) e.is h)).1;
-        })
-    | inr p ↦ absurd (paused_no_rounds job.command p.may.command by)
-  ]
-]
+-- what holds of refusals and of such ends holds of what comes of rounds
+pub of_rounds : (job : Job) → job.command ≡ Rounds → (ws : List Watcher) (text : List ℕ) (P : Outcome → Type 0)
+    → ((r : Refusal) → RefusesText (wanted_by job) text r → P (Refused r))
+    → ((facts : Facts) (i : Instance) (c : List ℕ) (rounds : ℕ) (stuck : List Event) (short : Option ℕ)
+    → IsEndOfRounds (origin_for job) text facts i c rounds stuck short → P (Rounded facts i c rounds stuck short))
+    → (o : Outcome) → ComesOf job ws text o → P o
+of_rounds job by ws text P refused end (Refused r) h = refused r h
+of_rounds job by ws text P refused end (Extremal n) (check, verdict) = absurd (cc)
+of_rounds job by ws text P refused end (Rounded t i c n s v) h =
+    end t i c n s v (rounded_of job ws text t i c n s v h).1
+of_rounds job by ws text P refused end (Paused told input t i l) h =
+    absurd (paused_no_rounds job.command (paused_made job ws text told input t i l h).may.command by)
+of_rounds job by ws text P refused end o h =
+    absurd (subst (λ k. EndsAs k (asked_by job) ws h.facts h.instance o) by (run_ends job ws text o h (λ n at. at)))
 
 -- the rounds of a line read no certificate
 pub rounds_line_of : (command : Command) → command ≡ Rounds → IsOfLine command
@@ -181,7 +157,7 @@ pub comes_of_job : (words : List (List ℕ)) (ws : List Watcher) (text : List �
 comes_of_job words ws text job facts i c rounds stuck short asks line h =
     let o : Outcome = Rounded facts i c rounds stuck short in
     rounded_of job ws text facts i c rounds stuck short
-    (of_line job.command job ws text o line (asked_comes words job ws text o asks h))
+    (line_comes words job ws text o asks line h)
 
 -- the law of another assignment
 pub exchanged_round_answers : ExchangedRoundAnswers

@@ -1,7 +1,7 @@
 -- The output of rounds with status 0. An outcome of rounds with that status is the end of rounds where no event occurs; so
 -- no variable is short, the values satisfy the formula, and its text is theirs. The other way round, such an end has it.
-use Rattle.std.proofs.Common.{inl, inr, ◌≡◌, ℕ, ◌<◌, List, [], ◌∷◌, length, get_or, refl, sym, ap, subst, ◌∙◌, arith, Contains, Option, None, Some, slice_index}
-use Rattle.std.proofs.lemmas.List.{append-nil, length-replicate, get_or-replicate}
+use Rattle.std.proofs.Common.{◌≡◌, ℕ, ◌<◌, List, [], ◌∷◌, length, get_or, refl, sym, ap, subst, ◌∙◌, arith, Contains, Option, None, Some, slice_index}
+use Rattle.std.proofs.lemmas.List.{append-nil, length-replicate}
 use Rattle.std.proofs.lemmas.List.Elements.{Contains-get_or}
 use Rattle.pop_model.specs.Stacks.{Origin, StackTable, row_of}
 use Rattle.pop_model.specs.Popping.{values_at}
@@ -25,19 +25,17 @@ use Rattle.pop_watch.specs.Telling.{Watcher}
 use Rattle.pop_print.specs.declared.facts.Facts.{Facts}
 use Rattle.pop_print.specs.declared.facts.Facts.TheVariants.{Formula as FormulaFacts}
 use Rattle.printed_samples.proofs.ShownEnds.{literals_of_text, pair_bits}
-use Rattle.job_subjects.specs.Refusals.{refusal_status}
 use Rattle.job_subjects.specs.Subjects.{pair_weights, instance_over, assignments}
 use Rattle.told_runs.specs.Outcomes.{Outcome, Tells, end_status, status_of, text_of}
 use Rattle.told_runs.specs.Outcomes.Outcome.{Rounded}
 use Rattle.top_call.specs.Answers.{ComesOf, IsOutcome, origin_for}
-use Rattle.top_call.proofs.ByCommand.{of_line}
 use Rattle.answer_laws.specs.EverySample.{Satisfies}
 use Rattle.answer_laws.specs.RoundAnswers.{IsRoundedOutput, RoundOutputs, rounded_text}
-use Rattle.answer_laws.proofs.OneOutcome.{asked_comes}
-use Rattle.answer_laws.proofs.RefusalStatuses.{refusal_high}
-use Rattle.answer_laws.proofs.RoundAnswers.{IsEndOfRounds, rounds_cases, rounds_line_of}
-use Rattle.answer_laws.proofs.SatisfiedFormulas.{samples_satisfy}
-use Rattle.answer_laws.proofs.SubjectFrames.{assignments_family}
+use Rattle.answer_laws.proofs.OneOutcome.{line_comes}
+use Rattle.answer_laws.proofs.RefusedOr.{refusal_high}
+use Rattle.answer_laws.proofs.RoundAnswers.{IsEndOfRounds, of_rounds, rounds_line_of}
+use Rattle.answer_laws.proofs.EverySample.{samples_satisfy}
+use Rattle.answer_laws.proofs.SubjectKinds.{assignments_family, pair_size}
 
 -- where the stuck list of rounds is empty, no event occurs and no variable is short
 pub finished_rounds : (i : Instance) (c : List ℕ) (rounds : ℕ) (stuck : List Event) (short : Option ℕ)
@@ -59,31 +57,25 @@ record IsFinishedEnd (origin : Origin) (text : List ℕ) (o : Outcome) : Type 0 
   is : IsEndOfRounds origin text (FormulaFacts (cnf_of text).variables) instance cursors rounds [] None
 
 -- one that tells no event tells one
-no_event_left : (origin : Origin) (text : List ℕ) (o : Outcome) (facts : Facts) (i : Instance) (c : List ℕ) (n : ℕ)
-    (stuck : List Event) (short : Option ℕ) → o ≡ Rounded facts i c n stuck short → end_status stuck ≡ 0
-    → IsEndOfRounds origin text facts i c n stuck short → IsFinishedEnd origin text o
-no_event_left origin text o facts i c n stuck short told zero is =
+no_event_left : (origin : Origin) (text : List ℕ) (facts : Facts) (i : Instance) (c : List ℕ) (n : ℕ)
+    (stuck : List Event) (short : Option ℕ) → IsEndOfRounds origin text facts i c n stuck short → end_status stuck ≡ 0
+    → IsFinishedEnd origin text (Rounded facts i c n stuck short)
+no_event_left origin text facts i c n stuck short is zero =
     let none = finished_rounds (instance_over origin (assignments (cnf_of text) is.events)) c n stuck short is.end zero in
     let Told : Facts → List Event → Option ℕ → Type 0 =
-    λ t s v. (o ≡ Rounded t i c n s v) × IsEndOfRounds origin text t i c n s v in
+    λ t s v. (Rounded facts i c n stuck short ≡ Rounded t i c n s v) × IsEndOfRounds origin text t i c n s v in
     let facts' : Facts = FormulaFacts (cnf_of text).variables in
     let end : Told facts' [] None =
     subst (λ t. Told t [] None) is.facts_are (subst (λ v. Told facts [] v) none.1 (subst (λ s. Told facts s short) none.0
-    (told, is))) in
+    (refl, is))) in
     record { instance = i; cursors = c; rounds = n; told = end.0; is = end.1 }
 
 -- what comes of rounds with status 0 is such an end
-finished_end : (job : Job) (ws : List Watcher) (text : List ℕ) (o : Outcome) → job.command ≡ Rounds
+finished_end : (job : Job) (ws : List Watcher) (text : List ℕ) → job.command ≡ Rounds → (o : Outcome)
     → ComesOf job ws text o → status_of o ≡ 0 → IsFinishedEnd (origin_for job) text o
-finished_end job ws text o by h zero = elim (rounds_cases job by ws text o h) [
-  | inl (r, is, refuses) ↦
-      let high = refusal_high r in
-      let status : status_of o ≡ refusal_status r = ap status_of is in
-      absurd (omega (arith, zero, high, status))
-  | inr e ↦
-      no_event_left (origin_for job) text o e.facts e.instance e.cursors e.rounds e.stuck e.short e.told
-      (sym (ap status_of e.told) ∙ zero) e.is
-]
+finished_end job ws text by =
+    of_rounds job by ws text (λ o. status_of o ≡ 0 → IsFinishedEnd (origin_for job) text o)
+    (λ r refuses zero. absurd (omega (arith, zero, refusal_high r))) (no_event_left (origin_for job) text)
 
 -- the values at an end of rounds satisfy the formula
 values_satisfy : (origin : Origin) (text : List ℕ) (facts : Facts) (i : Instance) (c : List ℕ) (n : ℕ)
@@ -120,9 +112,7 @@ values_satisfy origin text facts i c n e =
         let long = length-values_at s c in
         let is = value-values_at s c v (omega (arith, below, long)) in
         let bit = pair_bits origin (cnf_of text).variables c e.sound v (omega (arith, below, long, size)) in
-        let domain : length (get_or (pair_weights (cnf_of text).variables) v []) ≡ length {A = ℕ} (1 ∷ 1 ∷ []) =
-        ap (λ (row : List ℕ). length row)
-        (get_or-replicate (cnf_of text).variables v (1 ∷ 1 ∷ []) [] (omega (arith, below, long, size))) in
+        let domain = pair_size (cnf_of text).variables v (omega (arith, below, long, size)) in
         omega (arith, is, bit, domain)
 
     sample : IsSample (Listed e.events) (slice_index (values_at s c))
@@ -142,9 +132,8 @@ text_is text i c n = append-nil (rounded_text (values_at i.stacks c) c n)
 to_output : (job : Job) (words : List (List ℕ)) (ws : List Watcher) (text out : List ℕ) → job.command ≡ Rounds
     → Asks words job → (o : Outcome) → IsOutcome words ws text o → Tells o 0 out → IsRoundedOutput words ws text out
 to_output job words ws text out by asks o comes tells =
-    let h : ComesOf job ws text o = of_line job.command job ws text o (rounds_line_of job.command by)
-    (asked_comes words job ws text o asks comes) in
-    let end : IsFinishedEnd (origin_for job) text o = finished_end job ws text o by h (sym tells.status_is) in
+    let h : ComesOf job ws text o = line_comes words job ws text o asks (rounds_line_of job.command by) comes in
+    let end : IsFinishedEnd (origin_for job) text o = finished_end job ws text by o h (sym tells.status_is) in
     record {
       values = values_at end.instance.stacks end.cursors;
       cursors = end.cursors;

@@ -26,9 +26,9 @@ use Rattle.top_call.specs.Answers.{wanted_by, ComesOf, origin_for}
 use Rattle.answer_laws.specs.Shown.{ShowsSample, ShowsExhausted, ShowsEnd, ShowsEach, ShowsSamples, ShowsStuckSamples}
 use Rattle.top_call.proofs.BatchWords.{is_batched, counted_command}
 use Rattle.top_call.proofs.BatchEnds.{unstuck, a_stuck_one}
-use Rattle.answer_laws.proofs.EndedSubjects.{IsBatchOfSubject, batched_subject}
+use Rattle.answer_laws.proofs.ToldSubjects.{IsBatchOfSubject, batched_subject}
 use Rattle.answer_laws.proofs.ShownSubjects.{first_over, subject_shows}
-use Rattle.answer_laws.proofs.ShownBehind.{as_sample, as_exhausted}
+use Rattle.answer_laws.proofs.ShownBehind.{as_told}
 
 -- the text of the end of sample j
 abbrev text_at : Facts → Instance → ℕ → End → List ℕ
@@ -153,7 +153,7 @@ batch_samples words job asks ws text facts i ends h is =
     let Shows : ℕ → List ℕ → Type 0 = λ j t. ShowsSample job.command job text t in
     subst (λ k. ShowsSamples k job text (batch_text facts i ends)) (sym of.batch.asked_is)
     (batch_shows facts i ends of.batch.count Shows of.batch.are.count_is
-    (λ j end at. as_sample job.command job (origin_of_sample j (origin_for job)) text end.stuck (text_at facts i j end)
+    (λ j end at. as_told 0 job.command job (origin_of_sample j (origin_for job)) text end.stuck (text_at facts i j end)
     (unstuck ends j end is at) (sample_shows job text facts i ends batched of j end at)))
 
 -- and one with status 1 a stuck end
@@ -175,7 +175,7 @@ batch_exhausted words job asks ws text facts i ends h is =
         j,
         text_at facts i j end,
         text_of_end facts i 0 ends j end at ∙ ap (λ k. Some (text_at facts i k end)) (omega arith),
-        as_exhausted job.command job (origin_of_sample j (origin_for job)) text end.stuck (text_at facts i j end) stuck
+        as_told 1 job.command job (origin_of_sample j (origin_for job)) text end.stuck (text_at facts i j end) stuck
             (sample_shows job text facts i ends batched of j end at),
       );
     })

@@ -1,22 +1,22 @@
 -- What an output shows, it shows whatever stands behind it; and its status says whether events still occur.
-use Rattle.std.proofs.Common.{◌≡◌, ℕ, List, [], ◌∷◌, ◌++◌, codes, ap, ◌∙◌, append_assoc, arith}
+use Rattle.std.proofs.Common.{◌≡◌, ℕ, List, [], ◌∷◌, ◌++◌, codes, ap, ◌∙◌, append_assoc, arith, zero, suc}
 use Rattle.pop_model.specs.Stacks.{Origin}
 use Rattle.pop_model.specs.Families.{Event}
 use Rattle.pop_model.specs.Text.{line, spaced}
+use Rattle.pop_words.specs.declared.command.Command.{Command}
+use Rattle.pop_words.specs.declared.command.Command.TheVariants.{Formula, Orient, Tree, Resample, Make, Rounds}
+use Rattle.pop_words.specs.declared.job.Job.{Job}
 use Rattle.dimacs_read.specs.Cnf.{Cnf}
+use Rattle.dimacs_read.specs.CnfText.{cnf_of}
 use Rattle.graph_read.specs.Graphs.{GraphOf}
 use Rattle.graph_read.specs.GraphText.{graph_of}
-use Rattle.dimacs_read.specs.CnfText.{cnf_of}
-use Rattle.pop_words.specs.declared.command.Command.{Command}
-use Rattle.pop_words.specs.declared.command.Command.TheVariants.{Formula, Orient, Tree, Resample, Check, Make, Rounds, Replay, Resume}
-use Rattle.pop_words.specs.declared.job.Job.{Job}
 use Rattle.pop_print.specs.Output.{used_line}
+use Rattle.told_runs.specs.Outcomes.{end_status}
 use Rattle.printed_samples.specs.Arrows.{lines_of}
 use Rattle.printed_samples.specs.Assignments.{ShowsAssignment}
 use Rattle.printed_samples.specs.Orientations.{ShowsOrientation}
 use Rattle.printed_samples.specs.Stuck.{stuck_text, ShowsStuck}
 use Rattle.printed_samples.specs.Trees.{ShowsTree}
-use Rattle.told_runs.specs.Outcomes.{end_status}
 use Rattle.answer_laws.specs.Shown.{BeginsWith, ShowsSample, ShowsExhausted, ShowsEnd}
 
 -- a text of a front and a rest, with more behind it
@@ -74,11 +74,9 @@ sample_more Formula job text out more h = assignment_more (cnf_of text) out more
 sample_more Orient job text out more h = orientation_more (graph_of text) out more h
 sample_more Tree job text out more h = tree_more (graph_of text) job.root out more h
 sample_more Resample job text out more h = assignment_more (cnf_of text) out more h
-sample_more Check job text out more h = h
 sample_more Make job text out more h = begins_more _ out more h
 sample_more Rounds job text out more h = assignment_more (cnf_of text) out more h
-sample_more Replay job text out more h = h
-sample_more Resume job text out more h = h
+sample_more command job text out more h = h
 
 -- and the events that occur
 exhausted_more : (command : Command) (job : Job) (origin : Origin) (text out more : List ℕ)
@@ -87,11 +85,9 @@ exhausted_more Formula job origin text out more h = stuck_more _ out more h
 exhausted_more Orient job origin text out more h = stuck_more _ out more h
 exhausted_more Tree job origin text out more h = stuck_more _ out more h
 exhausted_more Resample job origin text out more h = stuck_more _ out more h
-exhausted_more Check job origin text out more h = h
 exhausted_more Make job origin text out more h = begins_more _ out more h
 exhausted_more Rounds job origin text out more h = stuck_more _ out more h
-exhausted_more Replay job origin text out more h = h
-exhausted_more Resume job origin text out more h = h
+exhausted_more command job origin text out more h = h
 
 -- so an end
 pub end_more : (command : Command) (job : Job) (origin : Origin) (text : List ℕ) (stuck : List Event)
@@ -100,15 +96,16 @@ pub end_more : (command : Command) (job : Job) (origin : Origin) (text : List �
 end_more command job origin text [] out more h = sample_more command job text out more h
 end_more command job origin text (e ∷ stuck) out more h = exhausted_more command job origin text out more h
 
--- an end with status 0 has no event
-pub as_sample : (command : Command) (job : Job) (origin : Origin) (text : List ℕ) (stuck : List Event) (out : List ℕ)
-    → end_status stuck ≡ 0 → ShowsEnd command job origin text stuck out → ShowsSample command job text out
-as_sample command job origin text [] out is h = h
-as_sample command job origin text (e ∷ stuck) out is h = absurd (omega (arith, is))
+-- what a text shows with this status, of a sample, or else of an end at which events occur
+abbrev pub ShowsBy : ℕ → Command → Job → Origin → List ℕ → List ℕ → Type 0
+ShowsBy zero command job origin text out = ShowsSample command job text out
+ShowsBy (suc status) command job origin text out = ShowsExhausted command job origin text out
 
--- and one with status 1 has some
-pub as_exhausted : (command : Command) (job : Job) (origin : Origin) (text : List ℕ) (stuck : List Event)
-    (out : List ℕ) → end_status stuck ≡ 1 → ShowsEnd command job origin text stuck out
-    → ShowsExhausted command job origin text out
-as_exhausted command job origin text [] out is h = absurd (omega (arith, is))
-as_exhausted command job origin text (e ∷ stuck) out is h = h
+-- an end with status 0 has no event, and one with status 1 has some
+pub as_told : (status : ℕ) (command : Command) (job : Job) (origin : Origin) (text : List ℕ) (stuck : List Event)
+    (out : List ℕ) → end_status stuck ≡ status → ShowsEnd command job origin text stuck out
+    → ShowsBy status command job origin text out
+as_told zero command job origin text [] out is h = h
+as_told zero command job origin text (e ∷ stuck) out is h = absurd (omega (arith, is))
+as_told (suc status) command job origin text [] out is h = absurd (omega (arith, is))
+as_told (suc status) command job origin text (e ∷ stuck) out is h = h

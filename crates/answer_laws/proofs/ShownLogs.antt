@@ -36,14 +36,13 @@ use Rattle.top_call.specs.Answers.{origin_for, wanted_by, ComesOf, IsOutcome}
 use Rattle.top_call.proofs.ByCommand.{by_kind}
 use Rattle.answer_laws.specs.Laws.{Agree, shown_log}
 use Rattle.answer_laws.specs.ShownLogs.{StopsBehind, AreOneRun, OneShownLog, OneStoppedRun}
-use Rattle.answer_laws.proofs.MadeBounds.{AreShort, IsBounded, made_bounded}
-use Rattle.answer_laws.proofs.CertBounds.{spec_short, job_short, cert_bounded}
+use Rattle.answer_laws.proofs.MadeBounds.{AreShort, IsBounded, made_bounded, spec_short, job_short, cert_bounded}
 use Rattle.answer_laws.proofs.CutLogs.{IsFront, end_front, front_cut, written_cut}
 use Rattle.answer_laws.proofs.OneSubject.{one_made}
 use Rattle.answer_laws.proofs.OneWords.{one_outcome}
 use Rattle.answer_laws.proofs.PausedCerts.{IsPauseCert, paused_cert}
-use Rattle.answer_laws.proofs.ToldOfMade.{resampled_made}
-use Rattle.answer_laws.proofs.UnaskedLogs.{resampling_tells}
+use Rattle.answer_laws.proofs.ToldSubjects.{resampled_made}
+use Rattle.answer_laws.proofs.OptionKinds.{resampling_tells}
 
 -- ---- a log and its text
 

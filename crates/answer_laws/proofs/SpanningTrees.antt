@@ -4,8 +4,7 @@
 use Rattle.std.proofs.Common.{inl, inr, ◌≡◌, ◌≢◌, ℕ, zero, suc, ◌+◌, ◌-◌, ◌<◌, Bool, true, cond, ◌==◌, not, ◌&&◌, ◌||◌, List, [], ◌∷◌, length, map, get_or, slice_index, slice_get, Option, Some, None, refl, sym, ap, subst, ◌∙◌, arith, Contains, eq-eqb, ne_eqb, ext_get_or}
 use Rattle.std.specs.List.{enumerate_from, range_with_len}
 use Rattle.std.specs.List.Sorted.{IsStrictlyIncreasing}
-use Rattle.std.proofs.lemmas.Bool.{cases_eq, cases_lt}
-use Rattle.std.proofs.lemmas.List.{length-map, get_or-map, get_or_default}
+use Rattle.std.proofs.lemmas.List.{map-id, length-map, get_or-map, get_or_default}
 use Rattle.std.proofs.lemmas.List.Elements.{All-contains, Contains-get_or}
 use Rattle.std.proofs.lemmas.List.FromFn.{length-enumerate_from, get_or-enumerate_from, length-map-range_with_len, get_or-map-range_with_len}
 use Rattle.std.proofs.lemmas.List.Kept.{AllPairs-from_increasing}
@@ -26,6 +25,7 @@ use Rattle.printed_samples.specs.Trees.{AreSteps, IsTreeTo, LeadWithin, arrows_t
 use Rattle.printed_samples.proofs.Vertices.{no_variable, vertex_back}
 use Rattle.answer_laws.specs.EverySample.{LeadsToRoot}
 use Rattle.answer_laws.specs.PrintedOnce.{EverySpanningTree}
+use Rattle.answer_laws.proofs.PrintedApart.{same_place}
 
 -- numbers of which something holds, one for each of m places
 record Chosen (m : ℕ) (P : ℕ → ℕ → Type 0) : Type 0 where
@@ -65,32 +65,16 @@ module _ (g : GraphOf) (root : ℕ) (arrows : List Arrow) (is : IsGraph g) (root
       → get_or (map (λ (a : Arrow). a.tail) arrows) k 0 ≡ (get_or arrows k d).tail
   tail_at k d less = get_or-map (λ (a : Arrow). a.tail) arrows k d 0 less
 
-  -- tails rise
-  tails_rise : (i j : ℕ) → i < j → j < length arrows → (get_or arrows i blank).tail < (get_or arrows j blank).tail
-  tails_rise i j less within =
-      let long = length-map arrows (λ (a : Arrow). a.tail) in
-      let up = AllPairs-from_increasing (map (λ (a : Arrow). a.tail) arrows) tree.rising i j 0 less
-      (omega (arith, long, within)) in
-      let at_i = tail_at i blank (omega (arith, less, within)) in
-      let at_j = tail_at j blank within in
-      omega (arith, up, at_i, at_j)
-
-  -- so a tail tells its arrow
+  -- tails rise, so a tail tells its arrow
   one_arrow : (a b : Arrow) → Contains arrows a → Contains arrows b → a.tail ≡ b.tail → a ≡ b
   one_arrow a b (i, i_in, at_i) (j, j_in, at_j) same =
       let there_i : get_or arrows i blank ≡ a = get_or_default arrows i blank a i_in ∙ at_i in
       let there_j : get_or arrows j blank ≡ b = get_or_default arrows j blank b j_in ∙ at_j in
-      let tail_i : (get_or arrows i blank).tail ≡ a.tail = ap (λ (x : Arrow). x.tail) there_i in
-      let tail_j : (get_or arrows j blank).tail ≡ b.tail = ap (λ (x : Arrow). x.tail) there_j in
-      let place : i ≡ j = elim (cases_eq i j) [
-        | inl here ↦ here
-        | inr other ↦ elim (cases_lt i j) [
-          | inl less ↦ let up = tails_rise i j less j_in in absurd (omega (arith, up, tail_i, tail_j, same))
-          | inr past ↦
-              let up = tails_rise j i (omega (arith, past, other)) i_in in
-              absurd (omega (arith, up, tail_i, tail_j, same))
-        ]
-      ] in
+      let tails : List ℕ = map (λ (x : Arrow). x.tail) arrows in
+      let long = length-map arrows (λ (x : Arrow). x.tail) in
+      let place : i ≡ j = same_place tails (AllPairs-from_increasing tails tree.rising) i j (omega (arith, long, i_in))
+      (omega (arith, long, j_in)) (tail_at i blank i_in ∙ ap (λ (x : Arrow). x.tail) there_i ∙ same
+      ∙ sym (ap (λ (x : Arrow). x.tail) there_j) ∙ sym (tail_at j blank j_in)) in
       sym there_i ∙ ap (λ (k : ℕ). get_or arrows k blank) place ∙ there_j
 
   -- the vertices of the variables
@@ -114,11 +98,6 @@ module _ (g : GraphOf) (root : ℕ) (arrows : List Arrow) (is : IsGraph g) (root
       let up = vertex_rises root k (k + 1) (omega arith) in
       omega (arith, here, next, up)
 
-  -- a list is that of its own members
-  same_map : (xs : List ℕ) → map (λ (n : ℕ). n) xs ≡ xs
-  same_map [] = refl
-  same_map (x ∷ xs) = ap (λ (l : List ℕ). x ∷ l) (same_map xs)
-
   -- the vertex of a variable is one but the root, and each of these is that of a variable
   to_variable : (w : ℕ) → IsVertex g.vertices w → w ≢ root → (v : ℕ) × (v < g.vertices - 1) × (vertex_of root v ≡ w)
   to_variable w vertex other = elim (cases_Option (variable_of root w)) [
@@ -134,8 +113,8 @@ module _ (g : GraphOf) (root : ℕ) (arrows : List Arrow) (is : IsGraph g) (root
   tails_are : map (λ (a : Arrow). a.tail) arrows ≡ vertices
   tails_are =
       same_rising (λ (n : ℕ). n) (map (λ (a : Arrow). a.tail) arrows) vertices
-      (subst IsStrictlyIncreasing (sym (same_map (map (λ (a : Arrow). a.tail) arrows))) tree.rising)
-      (subst IsStrictlyIncreasing (sym (same_map vertices)) vertices_rise)
+      (subst IsStrictlyIncreasing (sym (map-id (map (λ (a : Arrow). a.tail) arrows))) tree.rising)
+      (subst IsStrictlyIncreasing (sym (map-id vertices)) vertices_rise)
       (λ w (k, within, at).
       let long = length-map arrows (λ (a : Arrow). a.tail) in
       let inside : k < length arrows = omega (arith, within, long) in

@@ -1,4 +1,4 @@
-use Rattle.answer_laws.proofs.Completeness.{all_done}
+use Rattle.answer_laws.proofs.Finished.{all_done}
 use Rattle.answer_laws.proofs.laws.complete.Goals as goal
 
 pub returns : goal.returns

@@ -1,4 +1,4 @@
-use Rattle.answer_laws.proofs.GrownAlike.{grown_alike}
+use Rattle.answer_laws.proofs.AlikeWords.{grown_alike}
 use Rattle.answer_laws.proofs.laws.grown_alike.Goals as goal
 
 pub returns : goal.returns

@@ -1,4 +1,4 @@
-use Rattle.answer_laws.proofs.PausedExactly as exactly
+use Rattle.answer_laws.proofs.PausedCerts as exactly
 use Rattle.answer_laws.proofs.laws.paused_exactly.Goals as goal
 
 pub returns : goal.returns

@@ -1,4 +1,4 @@
-use Rattle.answer_laws.proofs.ResumedLines as lines
+use Rattle.answer_laws.proofs.ResumedUnpaused as lines
 use Rattle.answer_laws.proofs.laws.resumed_alike.Goals as goal
 
 pub returns : goal.returns

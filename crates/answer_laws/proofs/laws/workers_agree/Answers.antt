@@ -1,4 +1,4 @@
-use Rattle.answer_laws.proofs.WorkersAgree.{workers_agree}
+use Rattle.answer_laws.proofs.AlikeWords.{workers_agree}
 use Rattle.answer_laws.proofs.laws.workers_agree.Goals as goal
 
 pub returns : goal.returns
