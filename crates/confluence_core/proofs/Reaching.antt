@@ -1,6 +1,6 @@
 -- Runs that go on: stretches one behind another, what holds where a run has come, and what a run leaves that has come to
 -- an end.
-use Rattle.std.proofs.Common.{◌≡◌, ◌<◌, ℕ, ◌+◌, ◌^◌, Bool, cond, List, [], ◌∷◌, ◌++◌, length, map, get_or, Option, Some, None, refl, sym, ap, subst, ◌∙◌, arith}
+use Rattle.std.proofs.Common.{◌≡◌, ◌<◌, ℕ, ◌+◌, ◌^◌, Bool, true, false, cond, List, [], ◌∷◌, ◌++◌, length, map, get_or, Option, Some, None, refl, sym, ap, subst, ◌∙◌, arith}
 use Rattle.std.proofs.lemmas.List.{append-nil, append_assoc, length-append}
 use Rattle.std.specs.List.{range_with_len}
 use Rattle.std.specs.Option.{is_some}
@@ -83,6 +83,24 @@ leads_for i a b us vs leads = record {
   cursors_are = leads.cursors_are;
   pops_are = leads.pops_are;
   log_is = leads.log_is;
+}
+
+-- a log that stands behind nothing does so where it is to be kept
+kept_behind : (keeps : Bool) (log : Option (List LogRecord)) (more : List LogRecord) → log ≡ with_more (Some []) more
+    → cond keeps log None ≡ with_more (cond keeps (Some []) None) more
+kept_behind true log more is = is
+kept_behind false log more is = refl
+
+-- with its log where it is to be kept, a run that kept it has come as far
+pub leads_keeping : (i : Instance) (start : List ℕ) (keeps : Bool) (reached : Reached) (kept : Option (List LogRecord))
+    (us : List ℕ) → kept ≡ cond keeps reached.log None → LeadsOn i (before_pops start true) reached
+    → LeadsOn i (before_pops start keeps) (record reached { log = kept; suspects = us })
+leads_keeping i start keeps reached kept us same leads = record {
+  log = leads.log;
+  legal = leads.legal;
+  cursors_are = leads.cursors_are;
+  pops_are = leads.pops_are;
+  log_is = same ∙ kept_behind keeps reached.log leads.log leads.log_is;
 }
 
 -- a log that is kept exactly where another is stands behind it

@@ -47,6 +47,15 @@ before_pops start keeps = record {
   suspects = [];
 }
 
+-- a run that kept this log of all its pops, and has come to these cursors
+abbrev pub logged : List ℕ → List LogRecord → Reached
+logged cursors log = record {
+  cursors = cursors;
+  pops = length log;
+  log = Some log;
+  suspects = [];
+}
+
 -- a run from these cursors has come so far; its log is there exactly where it is kept
 abbrev pub IsReached : Instance → List ℕ → Bool → Reached → Type 0
 IsReached i start keeps reached = GoesOn i (before_pops start keeps) reached

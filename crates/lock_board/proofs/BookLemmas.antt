@@ -8,9 +8,9 @@ use Rattle.pop_model.specs.Logs.{IsLegalAt}
 use Rattle.pop_model.proofs.PopLemmas.{length-pop}
 use Rattle.pop_model.proofs.Room.{within_pop}
 use Rattle.confluence_core.specs.Records.{record_at}
-use Rattle.confluence_core.specs.Stretches.{LeadsOn, before_pops}
+use Rattle.confluence_core.specs.Stretches.{LeadsOn, before_pops, logged}
 use Rattle.confluence_core.proofs.Reaching.{leads_then}
-use Rattle.lock_board.specs.Books.{Progress, IsBook, reached_in}
+use Rattle.lock_board.specs.Books.{Progress, IsBook}
 
 -- the pop of an event whose record is put behind the log
 pub book_pop : (i : Instance) (start : List ℕ) (b new : Progress) (e : Event) → IsBook i start b → IsEvent i.family e
@@ -19,7 +19,7 @@ pub book_pop : (i : Instance) (start : List ℕ) (b new : Progress) (e : Event) 
 book_pop i start b new e is event poppable log cursors =
     let r = record_at e.unit e.cube b.cursors in
     let at : IsLegalAt i b.cursors r = record { event = event; poppable = poppable; entries = refl } in
-    let one : LeadsOn i (reached_in b) (reached_in new) = record {
+    let one : LeadsOn i (logged b.cursors b.log) (logged new.cursors new.log) = record {
       log = r ∷ [];
       legal = (at, tt);
       cursors_are = cursors;
@@ -27,7 +27,7 @@ book_pop i start b new e is event poppable log cursors =
       log_is = ap Some log;
     } in
     record {
-      leads = leads_then i (before_pops start true) (reached_in b) (reached_in new) is.leads one;
+      leads = leads_then i (before_pops start true) (logged b.cursors b.log) (logged new.cursors new.log) is.leads one;
       count = is.count ∙ sym (ap length cursors ∙ length-pop b.cursors e.cube);
       within = subst (AreWithin i.stacks) (sym cursors)
           (within_pop i.stacks b.cursors e.cube is.count poppable.next is.within);

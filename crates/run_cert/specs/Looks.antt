@@ -1,10 +1,10 @@
 -- How a run stands at its cursors, a run so far, and one that is stopped after so many pops.
-use Rattle.std.specs.Prelude.{◌≡◌, ◌≢◌, ◌↔◌, ℕ, ◌<◌, ◌≤◌, List, length}
+use Rattle.std.specs.Prelude.{◌≡◌, ◌≢◌, ◌↔◌, ℕ, ◌<◌, ◌≤◌, true, List, length}
 use Rattle.pop_model.specs.Popping.{IsPoppable}
 use Rattle.pop_model.specs.Families.{Event, IsEvent}
 use Rattle.pop_model.specs.Instances.{Instance}
-use Rattle.pop_model.specs.Logs.{IsLegal, replay}
 use Rattle.pop_model.specs.Runs.{IsFinished, IsStuckList, start_of}
+use Rattle.confluence_core.specs.Stretches.{LeadsOn, before_pops, logged}
 use Rattle.run_cert.specs.declared.look_kind.Look.{Look}
 use Rattle.run_cert.specs.declared.look_kind.Look.TheVariants.{Finished, Open}
 use Rattle.run_cert.specs.declared.seen.Seen.{Seen}
@@ -26,8 +26,7 @@ pub record IsSeen (i : Instance) (c : List ℕ) (seen : Seen) : Type 0 where
 
 -- a legal log from zeros leads to the cursors, and this is seen there
 pub record IsSoFar (i : Instance) (part : Part) : Type 0 where
-  pub legal : IsLegal i (start_of i) part.log
-  pub cursors_are : part.cursors ≡ replay (start_of i) part.log
+  pub leads : LeadsOn i (before_pops (start_of i) true) (logged part.cursors part.log)
   pub seen : IsSeen i part.cursors part.seen
 
 -- it has as many records as the limit, or fewer where no event is poppable at its cursors

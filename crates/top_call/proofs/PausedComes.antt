@@ -1,6 +1,7 @@
 -- From the run of what is made to what comes of the job: its end, or its pause.
 use Rattle.std.proofs.Common.{inl, inr, ◌≡◌, ◌≢◌, ◌≤◌, ◌<◌, ℕ, Bool, true, false, if◌then◌else◌, List, [], length, Option, None, Some, Result, IfOk, refl, sym, ap, subst, ◌∙◌, arith}
 use Rattle.std.proofs.Math.Nat.{eq-or-lt_of_le}
+use Rattle.std.proofs.lemmas.Option.{same_Some}
 use Rattle.pop_model.specs.Instances.{Instance, IsInstance}
 use Rattle.pop_model.specs.Logs.{LogRecord, IsLegal, replay}
 use Rattle.pop_model.specs.Runs.{start_of}
@@ -11,7 +12,8 @@ use Rattle.pop_log.proofs.LayeredLaws.{placed_in_layers}
 use Rattle.pop_model.specs.Runs.{IsEnd}
 use Rattle.pop_model.specs.Stacks.{variables_of}
 use Rattle.pop_model.specs.Popping.{AreWithin}
-use Rattle.confluence_core.specs.Stretches.{IsReached, with_more}
+use Rattle.confluence_core.specs.Stretches.{LeadsOn, IsReached, before_pops, logged}
+use Rattle.confluence_core.proofs.Reaching.{leads_keeping}
 use Rattle.run_cert.specs.declared.part.Part.{Part}
 use Rattle.run_cert.specs.declared.look_kind.Look.TheVariants.{Open}
 use Rattle.run_cert.specs.Looks.{HasPoppable, IsSoFar, IsStopped}
@@ -59,7 +61,9 @@ pause_of i is log placed legal sorted still =
 pub open_part : (i : Instance) (limit : ℕ) (part : Part) → IsStopped i limit part → part.seen.look ≡ Open
     → HasPoppable i (replay (start_of i) part.log)
 open_part i limit part stopped is =
-    subst (HasPoppable i) stopped.run.cursors_are (stopped.run.seen.look.open_is.0 is)
+    let leads = stopped.run.leads in
+    subst (HasPoppable i) (leads.cursors_are ∙ ap (replay (start_of i)) (sym (same_Some _ _ leads.log_is)))
+    (stopped.run.seen.look.open_is.0 is)
 
 -- it has as many pops as it may have
 pub full_part : (i : Instance) (limit pops : ℕ) (part : Part) → IsStopped i limit part → limit ≡ pops
@@ -67,25 +71,15 @@ pub full_part : (i : Instance) (limit pops : ℕ) (part : Part) → IsStopped i 
 full_part i limit pops part stopped same is =
     full (length part.log) limit stopped.most (λ less. stopped.fewer less is) ∙ same
 
--- a log that stands behind nothing does so where it is to be kept
-pub kept_more : (keeps : Bool) (log : Option (List LogRecord)) (more : List LogRecord) → log ≡ with_more (Some []) more
-    → (if keeps then log else None) ≡ with_more (if keeps then Some [] else None) more
-kept_more true log more is = is
-kept_more false log more is = refl
-
 -- a run so far, at an end
 pub ended_part : (i : Instance) (part : Part) (keeps : Bool) (pops : ℕ) (kept : Option (List LogRecord))
     → IsSoFar i part → IsEnd i part.cursors → variables_of i.stacks ≡ length part.cursors
     → AreWithin i.stacks part.cursors → pops ≡ length part.log → kept ≡ (if keeps then Some part.log else None)
     → IsReached i (start_of i) keeps (record { cursors = part.cursors; pops = pops; log = kept; suspects = [] })
 ended_part i part keeps pops kept so_far end count within pops_are kept_is = record {
-  leads = record {
-    log = part.log;
-    legal = so_far.legal;
-    cursors_are = so_far.cursors_are;
-    pops_are = omega (arith, pops_are);
-    log_is = kept_is ∙ kept_more keeps (Some part.log) part.log refl;
-  };
+  leads = subst (λ (n : ℕ). LeadsOn i (before_pops (start_of i) keeps)
+      (record { cursors = part.cursors; pops = n; log = kept; suspects = [] })) (sym pops_are)
+      (leads_keeping i (start_of i) keeps (logged part.cursors part.log) kept [] kept_is so_far.leads);
   can = record {
     count = count;
     within = within;

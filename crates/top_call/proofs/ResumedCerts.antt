@@ -7,6 +7,7 @@ use Rattle.pop_model.specs.Instances.{Instance}
 use Rattle.pop_model.specs.Extremal.{IsExtremal}
 use Rattle.pop_model.specs.Logs.{LogRecord, IsLegal}
 use Rattle.pop_model.specs.Runs.{start_of}
+use Rattle.confluence_core.proofs.Reaching.{leads_keeping}
 use Rattle.confluence_core.specs.declared.reached.Reached.{Reached}
 use Rattle.confluence_core.specs.declared.run.Run.{Run}
 use Rattle.confluence_core.specs.Runs.{IsRunOf, ended}
@@ -32,7 +33,6 @@ use Rattle.top_call.specs.Answers.{ComesOf}
 use Rattle.top_call.proofs.Carrying.{answered, answers_more}
 use Rattle.top_call.proofs.MadeComes.{end_comes, ordered_end}
 use Rattle.top_call.proofs.PauseWords.{paused_no_rounds}
-use Rattle.top_call.proofs.PausedComes.{kept_more}
 use Rattle.top_call.proofs.ReplayedCerts.{held_log}
 
 -- with its log where it is to be kept, a run has come as far
@@ -40,13 +40,7 @@ pub kept_reached : (i : Instance) (start : List ℕ) (keeps : Bool) (reached : R
     → kept ≡ (if keeps then reached.log else None) → IsReached i start true reached
     → IsReached i start keeps (record reached { log = kept })
 kept_reached i start keeps reached kept same is = record {
-  leads = record {
-    log = is.leads.log;
-    legal = is.leads.legal;
-    cursors_are = is.leads.cursors_are;
-    pops_are = is.leads.pops_are;
-    log_is = same ∙ kept_more keeps reached.log is.leads.log is.leads.log_is;
-  };
+  leads = leads_keeping i start keeps reached kept reached.suspects same is.leads;
   can = record {
     count = is.can.count;
     within = is.can.within;

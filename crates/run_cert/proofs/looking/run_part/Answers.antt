@@ -1,6 +1,5 @@
-use Rattle.std.proofs.Common.{◌≡◌, true, length, sym, ap, subst, ◌∙◌, arith}
+use Rattle.std.proofs.Common.{◌≡◌, true, length, Some, sym, ap, subst, ◌∙◌, arith}
 use Rattle.std.proofs.lemmas.Option.{same_Some}
-use Rattle.pop_model.specs.Logs.{IsLegal, replay}
 use Rattle.pop_model.specs.Runs.{IsStuckList, start_of}
 use Rattle.confluence_core.specs.Stretches.{GoesOn, IsReached, before_pops}
 use Rattle.confluence_core.proofs.Reaching.{goes_then, unsuspected_end}
@@ -20,8 +19,13 @@ returns-clause-part c =
     let size : length c.in-Some.log ≡ reached.pops = omega (arith, ap length log, whole.leads.pops_are) in
     record {
       run = record {
-        legal = subst (IsLegal i (start_of i)) (sym log) whole.leads.legal;
-        cursors_are = whole.leads.cursors_are ∙ ap (replay (start_of i)) (sym log);
+        leads = record {
+          log = whole.leads.log;
+          legal = whole.leads.legal;
+          cursors_are = whole.leads.cursors_are;
+          pops_are = omega (arith, ap length log);
+          log_is = ap Some log;
+        };
         seen = record {
           look = c.look_of-look.ensures;
           stuck_list = subst (λ x. IsStuckList x reached.cursors c.in_ok-stuck.stuck) c.of-indexed.ensures
