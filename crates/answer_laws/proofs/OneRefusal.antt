@@ -1,11 +1,11 @@
 -- A text is refused in one way: by its grammar, or for the one formula or graph that it spells. And it isn't where
 -- something is made of it, nor where its events are found to be extremal.
-use Rattle.std.proofs.Common.{inl, inr, ◌≡◌, ◌⊎◌, ℕ, ◌+◌, List, Ok, Err, Some, None, refl, sym, ap, ◌∙◌, subst, Result, true, false, Bool, Option, ap₂}
+use Rattle.std.proofs.Common.{inl, inr, ◌≡◌, ◌⊎◌, ℕ, ◌+◌, List, Ok, Err, Some, None, sym, ap, ◌∙◌, subst, Result, true, false, Bool, Option, ap₂}
 use Rattle.std.specs.Prelude.{option_map}
 use Rattle.std.proofs.lemmas.Option.{none-some, same_Some}
 use Rattle.pop_model.specs.Instances.{Instance}
 use Rattle.pop_edge.specs.declared.refusal.ReadRefusal.{ReadRefusal}
-use Rattle.pop_edge.specs.declared.refusal.ReadRefusal.TheVariants.{Malformed, Count, EmptyClause, Limit, ReadFault, OutOfMemory}
+use Rattle.pop_edge.specs.declared.refusal.ReadRefusal.TheVariants.{EmptyClause, ReadFault, OutOfMemory}
 use Rattle.pop_words.specs.declared.command.Command.{Command}
 use Rattle.pop_words.specs.declared.command.Command.TheVariants.{Formula, Orient, Tree, Resample, Check, Make, Rounds}
 use Rattle.dimacs_read.specs.Cnf.{Cnf, first_empty}

@@ -5,7 +5,7 @@ use Rattle.std.proofs.Common.{inl, inr, ◌≡◌, ◌⊎◌, ℕ, ◌≤◌, ar
 use Rattle.pop_watch.specs.Telling.{Watcher}
 use Rattle.job_subjects.specs.declared.stop.Stop.TheVariants.{ReadFault, OutOfMemory}
 use Rattle.job_subjects.specs.declared.refusal.Refusal.{Refusal}
-use Rattle.job_subjects.specs.declared.refusal.Refusal.TheVariants.{Usage, Malformed, Count, EmptyClause, Limit, Isolated, NoRoot, CutOff, TooMany, RowCount, EmptyRow, ValueTooLarge, WeightSum, Clashes, NotLegal, Stopped}
+use Rattle.job_subjects.specs.declared.refusal.Refusal.TheVariants.{NotLegal, Stopped}
 use Rattle.job_subjects.specs.Refusals.{refusal_status}
 use Rattle.told_runs.specs.Outcomes.{HasRun, Outcome}
 use Rattle.told_runs.specs.Outcomes.Outcome.{Refused}

@@ -2,8 +2,8 @@
 -- Literals behind the last end are one clause more, so that the ends, with the length of the list where it isn't an end
 -- yet, cut the list into the clauses of all words. The first clause without literals is the first end that is the end
 -- before it. What the clauses then say against the whole text, or which formula they are, is what the lines say.
-use Rattle.std.proofs.Common.{◌≡◌, inl, inr, ℕ, suc, zero, ◌+◌, ◌-◌, ◌<◌, true, false, ℤ, nat_eq, ◌==◌, if◌then◌else◌, List, [], ◌∷◌, ◌++◌, length, take, drop, get_or, slice_range, Option, None, Some, refl, sym, ap, ap₂, ◌∙◌, subst, arith, append-nil, length-take, length-drop}
-use Rattle.std.proofs.lemmas.List.{take_rest, drop_all, drop_more}
+use Rattle.std.proofs.Common.{◌≡◌, inl, inr, ℕ, suc, zero, ◌+◌, ◌-◌, ◌<◌, true, false, ℤ, nat_eq, if◌then◌else◌, List, [], ◌∷◌, ◌++◌, length, take, drop, get_or, slice_range, Option, None, Some, refl, sym, ap, ap₂, ◌∙◌, subst, arith, append-nil, length-take, length-drop}
+use Rattle.std.proofs.lemmas.List.{take_rest, drop_all}
 use Rattle.std.specs.List.{onto_first}
 use Rattle.std.proofs.lemmas.Bool.{cases_Bool, eqb-true, eqb-false, ne_eqb, eq-eqb}
 use Rattle.dimacs_read.specs.declared.clauses.Clauses.{Clauses}

@@ -2,11 +2,10 @@
 -- the closed parts, and then those of the words that follow, with the open literals put before the first. An end closes
 -- the open part, and a literal makes it longer; both keep this. A word is at fault by the counts of ends and literals
 -- alone, so the first bad word of a line is found while its words are taken.
-use Rattle.std.proofs.Common.{◌≡◌, ℕ, ◌-◌, ◌<◌, ◌≤◌, ◌^◌, ℤ, List, [], ◌∷◌, ◌++◌, length, map, take, drop, slice_range, count_by, Option, None, Some, refl, sym, ap, ap₂, ◌∙◌, subst, arith, append_assoc, append-nil, length-append, length-drop}
+use Rattle.std.proofs.Common.{◌≡◌, ℕ, ◌-◌, ◌<◌, ◌≤◌, ◌^◌, ℤ, List, [], ◌∷◌, ◌++◌, length, map, take, drop, slice_range, count_by, Option, None, Some, refl, sym, ap, ap₂, ◌∙◌, subst, arith, append_assoc, length-append, length-drop}
 use Rattle.std.specs.List.{onto_first}
 use Rattle.std.proofs.lemmas.List.{take_rest, drop_all, drop-append-le, take-append-le}
 use Rattle.std.proofs.lemmas.Bool.{ltb-true}
-use Rattle.pop_edge.specs.declared.refusal.ReadRefusal.{ReadRefusal}
 use Rattle.pop_edge.specs.Refusals.{or_else, at_line, first_refusal}
 use Rattle.pop_edge.specs.Words.{words_of}
 use Rattle.dimacs_read.specs.declared.clauses.Clauses.{Clauses}

@@ -14,7 +14,7 @@ use Rattle.pop_model.proofs.Members.{variable_at}
 use Rattle.pop_instance.specs.Events.{cube_at}
 use Rattle.pop_instance.specs.Index.{IsIndex}
 use Rattle.extremal_check.specs.Clashes.{ClashAt}
-use Rattle.extremal_check.specs.Tries.{AreLaterSharing, AreStamped, IsLeastTried}
+use Rattle.extremal_check.specs.Tries.{AreLaterSharing, IsLeastTried}
 
 -- the variable of a pair that was read
 variable_is : (e : Cube) (k : ℕ) (p : ℕ × ℕ) → slice_get e k ≡ Some p → slice_index (variables e) k ≡ p.0

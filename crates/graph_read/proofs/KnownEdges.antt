@@ -1,12 +1,12 @@
 -- The edges at a vertex are edges of the graph, and the vertex of a variable is a vertex.
-use Rattle.std.proofs.Common.{◌≡◌, ℕ, ◌+◌, ◌<◌, ◌≤◌, ◌&&◌, not, Bool, true, false, ltb, cond, List, length, filter, get_or, All, ◌∙◌, arith}
+use Rattle.std.proofs.Common.{ℕ, ◌+◌, ◌<◌, ◌≤◌, ◌&&◌, not, Bool, true, false, ltb, cond, List, length, filter, get_or, All, arith}
 use Rattle.std.specs.List.{enumerate_from}
 use Rattle.std.proofs.lemmas.List.Elements.{All-map, All-filter}
-use Rattle.std.proofs.lemmas.List.{get_or_default, length-map}
+use Rattle.std.proofs.lemmas.List.{length-map}
 use Rattle.std.proofs.lemmas.List.FromFn.{length-enumerate_from, get_or-enumerate_from}
 use Rattle.pop_model.specs.Names.{vertex_of}
 use Rattle.graph_read.specs.declared.edge.Edge.{Edge}
-use Rattle.graph_read.specs.Graphs.{GraphOf, IsVertex, edge_at}
+use Rattle.graph_read.specs.Graphs.{GraphOf, IsVertex}
 use Rattle.graph_read.specs.Incidence.{edges_at, touches, is_loop}
 use Rattle.graph_read.proofs.Numbering.{numbered, length-numbered}
 

@@ -1,11 +1,11 @@
 -- The lines that were given are those of the bytes that were taken.
 -- As long as lines are given with their ends, the bytes within the limit are these lines and the rest. The last line
 -- may have no end; then nothing is left, and the lines given are all.
-use Rattle.std.proofs.Common.{◌≡◌, ◌⊎◌, inl, inr, ℕ, ◌+◌, ◌-◌, ◌<◌, ◌≤◌, true, false, List, [], ◌∷◌, ◌++◌, length, take, Option, Ok, Err, refl, sym, ap, ap₂, ◌∙◌, arith, append_assoc, append-nil, length-append, nat_lt}
+use Rattle.std.proofs.Common.{◌≡◌, ◌⊎◌, inl, inr, ℕ, ◌+◌, ◌-◌, ◌<◌, ◌≤◌, true, false, List, [], ◌∷◌, ◌++◌, length, take, Option, Ok, Err, sym, ap, ap₂, ◌∙◌, arith, append_assoc, append-nil, length-append, nat_lt}
 use Rattle.std.proofs.lemmas.List.{take_all}
 use Rattle.std.proofs.lemmas.Bool.{le-ltb, ltb-false, cases_Bool}
 use Rattle.pop_edge.specs.Lines.{lines_of, ended_lines, judged_lines, text_limit}
-use Rattle.pop_edge.specs.LineState.{LineState, opening, at_hand, GivesLine, GivesEnd, GivesNone, IsNext, Follows, IsCut, IsDone, closed}
+use Rattle.pop_edge.specs.LineState.{LineState, at_hand, GivesLine, GivesEnd, GivesNone, IsNext, Follows, IsCut, IsDone, closed}
 use Rattle.pop_edge.specs.declared.next.Next.TheVariants.{Line, End}
 use Rattle.pop_edge.specs.declared.refusal.ReadRefusal.TheVariants.{Limit, ReadFault}
 use Rattle.pop_edge.proofs.LinesLemmas.{take_front, lines_closed, ended_closed, closed-append, AreLines-append, ended_only, one_line}

@@ -6,7 +6,7 @@
 use Rattle.std.proofs.Common.{◌≡◌, ◌⊎◌, inl, inr, ℕ, ◌+◌, Bool, true, false, cond, not, List, [], ◌∷◌, ◌++◌, length, map, take, filter, nat_lt, Option, None, Some, Ok, Err, refl, sym, ap, ap₂, ◌∙◌, subst, arith, append-nil, length-append}
 use Rattle.std.specs.List.{enumerate_from}
 use Rattle.std.specs.Io.KnownBytes.{Consumes, IsAtEnd}
-use Rattle.std.proofs.KnownBytes.{Consumes-trans, Consumes-nil}
+use Rattle.std.proofs.KnownBytes.{Consumes-trans}
 use Rattle.std.proofs.lemmas.List.{map-append, take-append-le}
 use Rattle.std.proofs.lemmas.List.Elements.{filter-append}
 use Rattle.std.proofs.lemmas.Bool.{lt-ltb, le-ltb}
@@ -15,7 +15,7 @@ use Rattle.pop_edge.specs.declared.refusal.ReadRefusal.TheVariants.{Malformed, C
 use Rattle.pop_edge.specs.declared.next.Next.TheVariants.{Line, End}
 use Rattle.pop_edge.specs.Lines.{lines_of, ended_lines, judged_lines, text_limit}
 use Rattle.pop_edge.specs.Words.{words_of}
-use Rattle.pop_edge.specs.LineState.{LineState, opening, Follows, IsNext, fresh}
+use Rattle.pop_edge.specs.LineState.{LineState, Follows, IsNext, fresh}
 use Rattle.pop_edge.specs.Refusals.{IsOfLine, MayBeOfLine, or_else, length_refusal}
 use Rattle.pop_edge.specs.Judging.{Judgement, IsInOrder, IsUnrefused, IsWhole, told, told_lines, text_refusal}
 use Rattle.pop_edge.proofs.GivenLines.{follows_line, all_given, past_limit, at_fault, judged_front, IsFront, IsAll, IsPast}

@@ -8,7 +8,7 @@ use Rattle.std.proofs.lemmas.List.Quantifiers.{position-Some}
 use Rattle.std.proofs.lemmas.List.Sums.{fails_before_first}
 use Rattle.std.proofs.lemmas.List.Splits.{slice_split_at, slice_split_none}
 use Rattle.std.proofs.lemmas.Bool.{ltb-false, not-false, ne_eqb}
-use Rattle.pop_edge.specs.Words.{begins_with, is_blank, words_of}
+use Rattle.pop_edge.specs.Words.{is_blank, words_of}
 
 -- a place that there is none of
 pub none_from : (b : Bool) (n : ℕ) → ◌≡◌ {A = Option ℕ} (cond b (Some n) None) None → b ≡ false

@@ -1,5 +1,5 @@
 -- The values of the first variables, as they become more.
-use Rattle.std.proofs.Common.{◌≡◌, ℕ, ◌+◌, ◌<◌, ◌≤◌, List, [], ◌∷◌, ◌++◌, length, slice_index, take, refl, sym, ap, ◌∙◌, arith}
+use Rattle.std.proofs.Common.{◌≡◌, ℕ, ◌+◌, ◌<◌, ◌≤◌, List, [], ◌∷◌, ◌++◌, length, slice_index, take, sym, ap, ◌∙◌, arith}
 use Rattle.std.proofs.lemmas.List.{take_all, length_push}
 use Rattle.pop_model.specs.Stacks.{StackTable, variables_of, domain_of, value_at}
 use Rattle.pop_model.specs.Popping.{cursor, values_at, AreValuesAt}

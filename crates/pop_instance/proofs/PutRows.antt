@@ -1,8 +1,8 @@
 -- Putting a place at the end of the rows of a cube's variables, pair by pair.
-use Rattle.std.proofs.Common.{inl, inr, ◌≡◌, ℕ, ◌+◌, ◌<◌, true, cond, ◌||◌, List, [], ◌∷◌, ◌++◌, length, take, ◌≤◌, Some, slice_get, refl, sym, ap, subst, ◌∙◌, arith, ne_eqb, eq-eqb}
+use Rattle.std.proofs.Common.{inl, inr, ◌≡◌, ℕ, ◌+◌, ◌<◌, true, cond, ◌||◌, List, [], ◌∷◌, ◌++◌, length, take, Some, slice_get, sym, ap, ◌∙◌, arith, ne_eqb, eq-eqb}
 use Rattle.std.specs.List.Sorted.{IsStrictlyIncreasing}
 use Rattle.std.proofs.lemmas.Bool.{cases_eq}
-use Rattle.std.proofs.lemmas.List.{length-set, get_or-set_same, get_or-set_other, take_all}
+use Rattle.std.proofs.lemmas.List.{length-set, get_or-set_same, get_or-set_other}
 use Rattle.std.proofs.Math.Bool.{or-false}
 use Rattle.pop_model.specs.Popping.{Cube, names, variables}
 use Rattle.pop_model.proofs.Members.{names_more}

@@ -18,7 +18,7 @@ use Rattle.pop_log.specs.Layered.{AreInLayers, IsFirstUnlayered}
 use Rattle.pop_log.specs.LogTexts.{head_line, record_line, log_text, IsLogText}
 use Rattle.pop_log.specs.LayeredTexts.{Written, written, layered_head, layered_line, written_text, IsReadLayered}
 use Rattle.pop_log.specs.LogVersions.{head_of, line_of, AreLogLines, IsReadAs}
-use Rattle.pop_log.specs.Refusals.{IsIllegalAt, IsUnlayeredAt, IsLogRefusal}
+use Rattle.pop_log.specs.Refusals.{IsUnlayeredAt, IsLogRefusal}
 use Rattle.pop_log.specs.RecordWords.{HasWords}
 use Rattle.pop_log.specs.Reading.{HasRead, Takes, TakesLine, HasReadLines, AreSaid, IsLayerRefusal}
 use Rattle.pop_log.proofs.JoinedLines.{join, join_front, join_lines, join_records}

@@ -1,8 +1,8 @@
 -- The places of a tree's vertices, as they are written variable by variable. Vertices of different variables differ,
 -- since they rise with these.
-use Rattle.std.proofs.Common.{inl, inr, ◌≡◌, ℕ, ◌+◌, ◌-◌, ◌<◌, ◌≤◌, Bool, true, false, cond, ltb, lt-ltb, le-ltb, List, length, set, get_or, replicate, sym, ap, ◌∙◌, arith}
+use Rattle.std.proofs.Common.{inl, inr, ◌≡◌, ℕ, ◌+◌, ◌-◌, ◌<◌, ◌≤◌, Bool, true, false, cond, ltb, lt-ltb, le-ltb, List, length, set, get_or, sym, ap, ◌∙◌, arith}
 use Rattle.std.proofs.lemmas.Bool.{cases_eq, cases_lt}
-use Rattle.std.proofs.lemmas.List.{length-set, length-replicate, get_or-set_same, get_or-set_other}
+use Rattle.std.proofs.lemmas.List.{length-set, get_or-set_same, get_or-set_other}
 use Rattle.pop_model.specs.Names.{vertex_of}
 use Rattle.graph_read.specs.Graphs.{GraphOf, IsVertex, edge_at}
 use Rattle.graph_read.specs.Incidence.{StandAtPlaces, edges_at, other_end}
