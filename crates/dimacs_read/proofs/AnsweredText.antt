@@ -12,7 +12,7 @@ use Rattle.pop_edge.proofs.AnsweredLines.{Allows}
 use Rattle.dimacs_read.specs.declared.reader.Reader.{Reader}
 use Rattle.dimacs_read.specs.declared.token.Token.{Token}
 use Rattle.dimacs_read.specs.Cnf.{Cnf, first_empty}
-use Rattle.dimacs_read.specs.CnfText.{AnswersCnf, body, cnf, cnf_of, cnf_refusal, formula_in, header_fault, line_refusal, token_fault, variables_in}
+use Rattle.dimacs_read.specs.CnfText.{AnswersCnf, body, cnf, cnf_of, formula_in, header_fault, line_refusal, token_fault, variables_in}
 use Rattle.dimacs_read.specs.Reading.{Finishes, Knows}
 use Rattle.dimacs_read.proofs.TakenLines.{body_no, body_yes, ends, words_at}
 

@@ -1,6 +1,6 @@
-ghost use Rattle.std.specs.Prelude.{◌≡◌, ◌≤◌, ◌^◌, length, OnOk, IfOk};
+ghost use Rattle.std.specs.Prelude.{◌≡◌, ◌≤◌, ◌^◌, length, IfOk};
 ghost use Rattle.graph_read.specs.Graphs.{IsVertex};
-ghost use Rattle.graph_read.specs.Incidence.{degrees_of, edges_at, neighbours_of, put_of, rows_by};
+ghost use Rattle.graph_read.specs.Incidence.{degrees_of, neighbours_of, put_of, rows_by};
 ghost use Rattle.graph_read.specs.declared.put.Put.TheVariants.{Weight};
 
 use crate::end_rows::{put_rows, rows_of};

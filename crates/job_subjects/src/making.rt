@@ -10,11 +10,10 @@ ghost use Rattle.graph_read.specs.Graphs.{IsVertex};
 ghost use Rattle.graph_read.specs.Paths.{IsConnected};
 ghost use Rattle.cycle_popping.specs.Trees.{heads_of_tree, weights_of_tree};
 ghost use Rattle.pop_print.specs.Ends.{AreFactsOf};
-ghost use Rattle.pop_print.specs.declared.facts.Facts.TheVariants.{Formula as FormulaFacts};
 ghost use Rattle.growing_instances.specs.Growing.{MayIndex};
 ghost use Rattle.job_subjects.specs.Refusals.{IsRefusal};
 ghost use Rattle.job_subjects.specs.StackFaults.{AreFew, AreTooMany, RefusesStacks};
-ghost use Rattle.job_subjects.specs.Subjects.{pair_weights, AreAssignments, AreOrientations, AreArrows, AreGridArrows};
+ghost use Rattle.job_subjects.specs.Subjects.{AreAssignments, AreOrientations, AreArrows, AreGridArrows};
 ghost use Rattle.job_subjects.specs.Made.{IsInstanceOf, IsMadeOf};
 ghost use Rattle.job_subjects.specs.Refused.{AreClashed, HasCutOff, RefusesFormula, RefusesOrienting, RefusesTree, RefusesGrid};
 

@@ -1,8 +1,7 @@
 -- The first refusal of items that stand behind one another, and which refusals it can be.
 use Rattle.std.proofs.Common.{◌≡◌, ℕ, Bool, true, false, cond, List, [], ◌∷◌, ◌++◌, map, Option, None, Some, refl, sym, ap, ◌∙◌, append_assoc, append-nil}
 use Rattle.pop_edge.specs.declared.refusal.ReadRefusal.{ReadRefusal}
-use Rattle.pop_edge.specs.declared.refusal.ReadRefusal.TheVariants.{Malformed, Limit}
-use Rattle.pop_edge.specs.Refusals.{Fault, IsOfLine, MayBeOfLine, or_else, at_line, first_refusal}
+use Rattle.pop_edge.specs.Refusals.{Fault, MayBeOfLine, or_else, at_line, first_refusal}
 use Rattle.pop_edge.specs.Refusals.Fault.{Code, Passes}
 
 -- the items without the numbers of their lines

@@ -2,7 +2,7 @@ ghost use Rattle.std.specs.Prelude.{◌≡◌, ◌<◌, ◌≤◌, ◌^◌, ◌�
 ghost use Rattle.pop_model.specs.Stacks.{height_of, IsKeyed};
 ghost use Rattle.pop_model.specs.Families.{units_of};
 ghost use Rattle.pop_model.specs.Instances.{IsInstance, FamilyFits, instance_for, instance_raised};
-ghost use Rattle.pop_instance.specs.Index.{IsFamilyIndex, IsIndex};
+ghost use Rattle.pop_instance.specs.Index.{IsFamilyIndex};
 
 use crate::{Cube, Family, Index};
 use pop_stacks::Stacks;

@@ -1,5 +1,5 @@
 ghost use Rattle.std.specs.Prelude.{◌≡◌, ◌<◌, ◌≤◌, ◌^◌, ◌↔◌, ℕ, [], ◌∷◌, OnOk, IfOk, IfErr, IsTrue};
-ghost use Rattle.pop_model.specs.Stacks.{variables_of, row_of, domain_of, height_of, value_at, stream_of, IsKeyed, stacks_for, stacks_raised, IsTable};
+ghost use Rattle.pop_model.specs.Stacks.{variables_of, domain_of, height_of, value_at, stream_of, IsKeyed, stacks_for, stacks_raised, IsTable};
 
 use crate::kept_values::KeptValues;
 use crate::key_stream::KeyStream;

@@ -15,7 +15,6 @@ use confluence_core::{Keep, Reached, Units};
 use lock_board::{Book, Site};
 use pop_instance::{Cursors, Instance};
 use std::alloc::{AllocError, Global};
-use std::marker::Brand;
 use std::sync::{Mutex, Wait};
 use std::thread;
 use std::thread::Threads;

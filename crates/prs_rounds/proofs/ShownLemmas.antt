@@ -18,7 +18,7 @@ use Rattle.confluence_core.proofs.Places.{listed, event_at, event_from, event_to
 use Rattle.prs_rounds.specs.Resampling.{OccursIn}
 use Rattle.prs_rounds.specs.Units.{AreUnitsOf}
 use Rattle.prs_rounds.specs.Grown.{StartsAt}
-use Rattle.prs_rounds.specs.Values.{AreValues, AreRead, shows, shown_among, shown_places}
+use Rattle.prs_rounds.specs.Values.{AreValues, AreRead, shows}
 
 module _ (s : StackTable) (c values : List ℕ) (are : AreValues s c values) (e : Cube)
     (below : NamesBelow e (length c)) where

@@ -1,7 +1,6 @@
 //! A pop, and what occurs before and behind it.
 ghost use Rattle.std.specs.Prelude.{◌≡◌, [], ◌∷◌, length};
 ghost use Rattle.pop_model.specs.Popping.{NamesBelow};
-ghost use Rattle.pop_stacks.specs.Readers.{Belongs};
 
 use crate::compare::{is_so, made, same};
 use crate::tables::are_within;

@@ -1,7 +1,7 @@
 //! How many rows rounds finish with each assignment, where clauses clash.
 ghost use Rattle.std.specs.Prelude.{◌≡◌, length};
 ghost use Rattle.pop_model.specs.Stacks.{variables_of};
-ghost use Rattle.prs_rounds.specs.Units.{IsListed, IsIndexOf};
+ghost use Rattle.prs_rounds.specs.Units.{IsIndexOf};
 
 use super::instances::index_of;
 use crate::compare::same;

@@ -1,6 +1,4 @@
-use Rattle.std.proofs.Common.{◌≡◌, Result, Err, ap, subst, sym}
-use Rattle.pop_edge.specs.declared.refusal.ReadRefusal.{ReadRefusal}
-use Rattle.pop_edge.specs.declared.refusal.ReadRefusal.TheVariants.{ReadFault}
+use Rattle.std.proofs.Common.{Err, subst, sym}
 use Rattle.pop_edge.proofs.AnsweredLines.{early_allowed, passed_on}
 use Rattle.dimacs_read.specs.CnfText.{AnswersCnf, cnf}
 use Rattle.dimacs_read.proofs.AnsweredText.{answers_whole, cnf_allows, cnf_in_order, knows_clean}
