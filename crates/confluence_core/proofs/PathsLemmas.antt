@@ -9,7 +9,7 @@ use Rattle.pop_model.specs.Cycles.{IsCycle}
 use Rattle.pop_model.proofs.Loops.{Distinct, path_short}
 use Rattle.pop_model.proofs.TreeEnd.{stays_at}
 use Rattle.confluence_core.specs.CycleTables.{CycleTable, current_head}
-use Rattle.confluence_core.specs.Walks.{settled, IsSettled, IsOn, IsMet, AreSized, IsPath, GoesOn, Closes}
+use Rattle.confluence_core.specs.Walks.{settled, IsSettled, IsOn, IsMet, AreSized, IsPath, CanWalkOn, Closes}
 
 -- the variable at a place of the path
 abbrev pub at_place : List ℕ → ℕ → ℕ
@@ -60,7 +60,7 @@ module _ {t : CycleTable} {c marks path : List ℕ} {depth : ℕ} (is : IsPath t
         subst (λ n. names e (get_or path n 0) ≡ true) sum (on_along k (j - k) (omega arith) at)
 
 module _ {t : CycleTable} {c marks path : List ℕ} {depth v : ℕ} (sized : AreSized t c marks path)
-    (is : GoesOn t c marks path depth v) where
+    (is : CanWalkOn t c marks path depth v) where
   -- with one variable more it is still at most as long as there are variables
   pub room_for_more : depth < length t.heads
   room_for_more =
@@ -146,7 +146,7 @@ module _ {t : CycleTable} {c marks path : List ℕ} {depth v : ℕ} (sized : Are
 
     -- it leads to one that the walk hasn't met
     pub step_on : (IsMet (set marks v (depth + 1)) (set path depth v) (depth + 1) w → ⊥)
-        → GoesOn t c (set marks v (depth + 1)) (set path depth v) (depth + 1) w
+        → CanWalkOn t c (set marks v (depth + 1)) (set path depth v) (depth + 1) w
     step_on fresh = record {
       trail = pushed;
       fresh = fresh;

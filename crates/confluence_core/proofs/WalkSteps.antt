@@ -11,7 +11,7 @@ use Rattle.pop_model.proofs.PopLemmas.{length-pop}
 use Rattle.pop_model.proofs.Room.{left_from, room_falls, within_pop}
 use Rattle.confluence_core.specs.CycleTables.{CycleTable}
 use Rattle.confluence_core.specs.Loops.{Marks}
-use Rattle.confluence_core.specs.Walks.{settled, IsSettled, AreSized, GoesOn, Closes}
+use Rattle.confluence_core.specs.Walks.{settled, IsSettled, AreSized, CanWalkOn, Closes}
 use Rattle.confluence_core.proofs.LoopCubes.{cube_all}
 use Rattle.confluence_core.proofs.PathsLemmas.{path_distinct, path_fits, settled_off}
 use Rattle.confluence_core.proofs.ClosedLoops.{IsClosed, closed, closes_loop, loop_of}
@@ -111,7 +111,7 @@ module _ {t : CycleTable} {c marks path : List ℕ} {depth place : ℕ} {e : Cub
   ]
 
   -- the walk goes on from where the cycle closed
-  pub popped_goes_on : GoesOn t (pop c e) marks path place (get_or path place 0)
+  pub popped_goes_on : CanWalkOn t (pop c e) marks path place (get_or path place 0)
   popped_goes_on =
       let order = is.order in
       record {

@@ -2,7 +2,7 @@
 use Rattle.std.specs.Prelude.{◌≡◌, ℕ, ◌+◌, ◌-◌, ◌*◌, ◌==◌, if◌then◌else◌, length, slice_index}
 use Rattle.pop_model.proofs.Room.{left_from}
 use Rattle.confluence_core.specs.Loops.{Marks}
-use Rattle.confluence_core.specs.Walks.{settled, IsSettled, IsMet, AreDone, AreSized, IsPath, GoesOn, HasRoom, AreLast}
+use Rattle.confluence_core.specs.Walks.{settled, IsSettled, IsMet, AreDone, AreSized, IsPath, CanWalkOn, HasRoom, AreLast}
 use Rattle.confluence_core.specs.declared.walk.Walk.{Walk}
 
 -- a settled variable stays so
@@ -31,7 +31,7 @@ pub record Stands (w : Walk) : Type 0 where
 -- the walk's invariant: its path leads to a variable that it hasn't met
 pub record Walks (w : Walk) : Type 0 where
   pub sized : IsSized w
-  pub goes_on : GoesOn w.current w.walked.cursors w.marks.items w.path.items w.depth w.at
+  pub goes_on : CanWalkOn w.current w.walked.cursors w.marks.items w.path.items w.depth w.at
   pub done : HasDone w
   pub last : AreLast w.current w.walked
   pub room : HasRoom w.current w.walked

@@ -5,7 +5,7 @@ use Rattle.pop_model.specs.Cycles.{first_of}
 use Rattle.confluence_core.specs.Records.{record_at}
 use Rattle.confluence_core.specs.CycleTables.{CycleTable, cycles, current_head}
 use Rattle.confluence_core.specs.Loops.{IsCubeOf}
-use Rattle.confluence_core.specs.Walks.{cycle_event, IsSettled, GoesOn, Closes}
+use Rattle.confluence_core.specs.Walks.{cycle_event, IsSettled, CanWalkOn, Closes}
 use Rattle.confluence_core.specs.LoopErasedWalks.{HasPath, Walks, IsOver, begun_at, work}
 use Rattle.confluence_core.specs.Stretches.{LeadsOn, with_more}
 use Rattle.confluence_core.specs.declared.reached.Reached.{Reached}
@@ -16,7 +16,7 @@ use Rattle.confluence_core.specs.declared.steps.Step.TheVariants.{On, Back, Rest
 
 -- where the last arrow of the path leads: on, back to the path, or to where all is settled
 abbrev pub LeadsTo : Walk → Step → Type 0
-LeadsTo w (On v) = GoesOn w.current w.walked.cursors w.marks.items w.path.items (w.depth + 1) v
+LeadsTo w (On v) = CanWalkOn w.current w.walked.cursors w.marks.items w.path.items (w.depth + 1) v
 LeadsTo w (Back place) = Closes w.current w.walked.cursors w.marks.items w.path.items w.depth place
 LeadsTo w Rests = HasPath w (w.depth + 1)
     × ((v : ℕ) → current_head w.current w.walked.cursors (slice_index w.path.items w.depth) ≡ Some v

@@ -66,7 +66,7 @@ pub record IsPath (t : CycleTable) (c marks path : List ℕ) (depth : ℕ) : Typ
   pub marked : (k : ℕ) → k < depth → slice_index marks (slice_index path k) ≡ suc k
 
 -- a walk may go on from v, which it hasn't met: the last arrow of the path leads there
-pub record GoesOn (t : CycleTable) (c marks path : List ℕ) (depth v : ℕ) : Type 0 where
+pub record CanWalkOn (t : CycleTable) (c marks path : List ℕ) (depth v : ℕ) : Type 0 where
   pub trail : IsPath t c marks path depth
   pub fresh : IsMet marks path depth v → ⊥
   pub below : v < length t.heads

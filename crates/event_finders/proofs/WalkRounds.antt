@@ -19,7 +19,7 @@ abbrev pub moved_on : Pairs → ℕ → Pairs
 moved_on path place = take place path ++ ((stand path place).0, (stand path place).1 + 1) ∷ []
 
 -- the walk stands on the path up to the place, from which it goes on
-pub record GoesOn (k : Opening) (f : View) (t u : Trail) (place : ℕ) : Type 0 where
+pub record WalksOn (k : Opening) (f : View) (t u : Trail) (place : ℕ) : Type 0 where
   pub is : u ≡ record t { path = moved_on t.path place }
   pub stands : Stands k f u
   pub long : length u.path ≡ length (take (place + 1) t.path)
@@ -63,7 +63,7 @@ module _ {k : Opening} {d e f : View} {b t w u : Trail} {place ticket v : ℕ} (
       moves q s (ap (λ (y : Trail). y.path) there) ∙ ap (λ (y : Trail). record y { path = q ++ x ∷ [] }) there
 
   -- where the walk goes on
-  pub goes_on : GoesOn k f t u place
+  pub goes_on : WalksOn k f t u place
   goes_on = record {
     is = path_on;
     stands = record {

@@ -11,8 +11,8 @@ use Rattle.claim_words.specs.declared.view.View.{View}
 use Rattle.claim_words.proofs.Memberships.{in_left, in_right}
 use Rattle.event_finders.specs.Walks.{IsClaimed, Traced, TracedTo, Closes, CloseAll}
 use Rattle.event_finders.specs.WalkSteps.{Walked, SeesLast, Finds, Stopped}
-use Rattle.event_finders.specs.declared.walking.Stop.{Stop}
-use Rattle.event_finders.specs.declared.walking.Stop.TheVariants.{Busy as Met}
+use Rattle.event_finders.specs.declared.walking.WalkStop.{WalkStop}
+use Rattle.event_finders.specs.declared.walking.WalkStop.TheVariants.{Busy as Met}
 use Rattle.event_finders.proofs.WalkSeen.{words_push}
 
 -- it was claimed, whatever was seen since
@@ -55,7 +55,7 @@ walked_one d e p s w some is free at =
     }
 
 -- where a walk stops on it
-pub trace_stop : (n : ℕ) (d e f : View) (p : Pairs) (stop : Stop) → Traced n d e p → SeesLast e f p → Finds e f stop
+pub trace_stop : (n : ℕ) (d e f : View) (p : Pairs) (stop : WalkStop) → Traced n d e p → SeesLast e f p → Finds e f stop
     → Stopped n d f p stop
 trace_stop n d e f p (Met v w) t last found = record {
   added = t.added;

@@ -13,8 +13,8 @@ use Rattle.claim_words.specs.Maps.{Each, times, look}
 use Rattle.claim_words.specs.Answers.{Claims}
 use Rattle.claim_words.specs.TicketLogs.{vector}
 use Rattle.event_finders.specs.Gains.{gained, Entered}
-use Rattle.event_finders.specs.declared.look.Look.{Look}
-use Rattle.event_finders.specs.declared.look.Look.TheVariants.{Fits, Differs, Busy}
+use Rattle.event_finders.specs.declared.variable_look.VariableLook.{VariableLook}
+use Rattle.event_finders.specs.declared.variable_look.VariableLook.TheVariants.{Fits, Differs, Busy}
 use Rattle.event_finders.specs.declared.unit_look.UnitLook.{UnitLook}
 use Rattle.event_finders.specs.declared.unit_look.UnitLook.TheVariants.{Poppable, AtLast, Differs as UnitDiffers, Busy as UnitBusy}
 
@@ -23,7 +23,7 @@ abbrev pub found_at : View → ℕ → ℕ
 found_at e v = look v e.found
 
 -- one claim of v, whose value is to be x, with this answer
-abbrev pub Looks : Instance → View → ℕ → ℕ → View → Look → Type 0
+abbrev pub Looks : Instance → View → ℕ → ℕ → View → VariableLook → Type 0
 Looks i d v x e (Fits c) = Claims d v e (Mine c) × (value_at i.stacks v c ≡ x)
 Looks i d v x e (Differs c) = Claims d v e (Mine c) × (value_at i.stacks v c ≢ x)
 Looks i d v x e (Busy w) = Claims d v e (Refused w)

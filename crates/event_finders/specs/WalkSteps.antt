@@ -23,8 +23,8 @@ use Rattle.claim_words.specs.declared.claim.Claim.{Claim}
 use Rattle.claim_words.specs.declared.claim.Claim.TheVariants.{Mine, Busy as Refused, Settled}
 use Rattle.event_finders.specs.declared.tried.Tried.{Tried}
 use Rattle.event_finders.specs.declared.tried.Tried.TheVariants.{Cleared, Busy, OutOfMemory}
-use Rattle.event_finders.specs.declared.walking.Stop.{Stop}
-use Rattle.event_finders.specs.declared.walking.Stop.TheVariants.{Rests, Back, Busy as Met}
+use Rattle.event_finders.specs.declared.walking.WalkStop.{WalkStop}
+use Rattle.event_finders.specs.declared.walking.WalkStop.TheVariants.{Rests, Back, Busy as Met}
 use Rattle.event_finders.specs.declared.walks.Round.{Round}
 use Rattle.event_finders.specs.declared.walks.Round.TheVariants.{Popped as RoundPopped, Over}
 use Rattle.event_finders.specs.Gains.{Stays}
@@ -85,7 +85,7 @@ pub record SeesLast (d e : View) (path : Pairs) : Type 0 where
   pub once : (i : ℕ) → times i added + times_in i (words_of path) ≤ 1
 
 -- why a walk stops
-abbrev pub Stops : Opening → View → Pairs → Stop → Type 0
+abbrev pub Stops : Opening → View → Pairs → WalkStop → Type 0
 Stops k e path Rests = MaySettle k e (last_of path).0
 Stops k e path (Back place) =
     (place < length path) × Goes k (last_of path) (slice_index (variables path) place)
@@ -97,24 +97,24 @@ pub record Grows (d e : View) (old new : Trail) : Type 0 where
   pub walked : Walked d e old.path new.path
 
 -- a refused claim was seen, and nothing else
-abbrev pub Finds : View → View → Stop → Type 0
+abbrev pub Finds : View → View → WalkStop → Type 0
 Finds d e (Met v w) = e.seen ≡ d.seen ++ (word_of v, w) ∷ []
 Finds d e stop = ⊤
 
 -- the walk stopped where it stood
-pub record Rest (k : Opening) (d e : View) (old new : Trail) (stop : Stop) : Type 0 where
+pub record Rest (k : Opening) (d e : View) (old new : Trail) (stop : WalkStop) : Type 0 where
   pub same : new ≡ old
   pub why : Stops k e new.path stop
   pub seen : SeesLast d e old.path
   pub found : Finds d e stop
 
 -- the walk went on and stopped
-pub record Followed (k : Opening) (e : View) (old new : Trail) (stop : Stop) : Type 0 where
+pub record Followed (k : Opening) (e : View) (old new : Trail) (stop : WalkStop) : Type 0 where
   pub begins : stand new.path 0 ≡ stand old.path 0
   pub why : Stops k e new.path stop
 
 -- how the path was claimed, where a walk stops
-abbrev pub Stopped : ℕ → View → View → Pairs → Stop → Type 0
+abbrev pub Stopped : ℕ → View → View → Pairs → WalkStop → Type 0
 Stopped n d e path (Met v w) = TracedTo n d e path v w
 Stopped n d e path stop = Traced n d e path
 

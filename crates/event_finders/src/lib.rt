@@ -7,19 +7,19 @@
 #![tactic(auto)]
 
 mod listed_event;
-mod look;
 mod owed_marks;
-mod stretch;
 mod tried;
 mod unit_claims;
 mod unit_look;
 mod unit_tries;
+mod variable_look;
+mod walk_bounds;
 mod walker;
 mod walking;
 mod walks;
 
-pub use stretch::Stretch;
 pub use tried::Tried;
 pub use unit_tries::try_unit;
+pub use walk_bounds::WalkBounds;
 pub use walker::Walker;
 pub use walks::{try_walk, walk_on};

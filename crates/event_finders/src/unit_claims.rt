@@ -8,8 +8,8 @@ ghost use Rattle.claim_words.specs.Passes.{IsOf, view, spare, log_spare, count_o
 ghost use Rattle.event_finders.specs.UnitLooks.{Looks, UnitLooks};
 ghost use Rattle.event_finders.specs.OwedMarks.{emptied};
 
-use crate::look::Look;
 use crate::unit_look::UnitLook;
+use crate::variable_look::VariableLook;
 use claim_words::{Board, Claim, Pass};
 use pop_instance::{Cube, Instance};
 use pop_stacks::{Reader, Stacks};
@@ -22,7 +22,7 @@ fn look_at(
     reader: &mut Reader,
     v: u32,
     value: u32,
-) -> Look
+) -> VariableLook
     requires pass { IsOf board.now pass.old }
     requires instance { instance_of board.now ≡ instance.now }
     requires listed { is_listed instance.now.family ≡ true }
@@ -38,11 +38,11 @@ fn look_at(
     match board.try_claim(pass, v) {
         Claim::Mine(cursor) => {
             if reader.entry(instance.stacks(), v, cursor) != value {
-                return Look::Differs(cursor);
+                return VariableLook::Differs(cursor);
             }
-            Look::Fits(cursor)
+            VariableLook::Fits(cursor)
         }
-        Claim::Busy(word) => Look::Busy(word),
+        Claim::Busy(word) => VariableLook::Busy(word),
         Claim::Settled(_) => unreachable!(),
     }
 }
@@ -86,9 +86,9 @@ pub(crate) fn claim_unit(
     for i in 0..cube.len() {
         let (v, value) = cube.pair(i);
         match look_at(board, pass, instance, reader, v, value) {
-            Look::Fits(cursor) => last = last.or(at_last(instance.stacks(), v, cursor)),
-            Look::Differs(cursor) => return UnitLook::Differs(i, v, cursor),
-            Look::Busy(word) => return UnitLook::Busy(i, v, word),
+            VariableLook::Fits(cursor) => last = last.or(at_last(instance.stacks(), v, cursor)),
+            VariableLook::Differs(cursor) => return UnitLook::Differs(i, v, cursor),
+            VariableLook::Busy(word) => return UnitLook::Busy(i, v, word),
         }
     }
     match last {

@@ -22,7 +22,7 @@ use pop_stacks::Reader;
 use std::alloc::AllocError;
 
 // Why a walk along arrows stops.
-pub(crate) enum Stop {
+pub(crate) enum WalkStop {
     // The last variable is at its last entry, or its arrow leads to the root or to a settled one.
     Rests,
     // The arrow of the last variable leads back to this place of the path.
@@ -64,7 +64,7 @@ fn step(
     current: &CurrentArrows,
     reader: &mut Reader,
     walker: &mut Walker,
-) -> Option<Stop>
+) -> Option<WalkStop>
     requires pass { IsOf board.now pass.old }
     requires belongs { Belongs current.now.stacks reader.old }
     requires walking { IsWalking (opening_of board.now) pass.old current.now walker.old }
@@ -78,18 +78,18 @@ fn step(
 {
     let (v, cursor) = walker.last();
     if !current.has_next_at(v, cursor) {
-        return Some(Stop::Rests);
+        return Some(WalkStop::Rests);
     }
     let Some(w) = current.head_at(reader, v, cursor) else {
-        return Some(Stop::Rests);
+        return Some(WalkStop::Rests);
     };
     if let Some(place) = walker.place(w) {
-        return Some(Stop::Back(place));
+        return Some(WalkStop::Back(place));
     }
     match claim_on(board, pass, walker, w) {
         Claim::Mine(_) => None,
-        Claim::Settled(_) => Some(Stop::Rests),
-        Claim::Busy(word) => Some(Stop::Busy(w, word)),
+        Claim::Settled(_) => Some(WalkStop::Rests),
+        Claim::Busy(word) => Some(WalkStop::Busy(w, word)),
     }
 }
 
@@ -100,7 +100,7 @@ pub(crate) fn follow(
     current: &CurrentArrows,
     reader: &mut Reader,
     walker: &mut Walker,
-) -> Stop
+) -> WalkStop
     requires pass { IsOf board.now pass.old }
     requires belongs { Belongs current.now.stacks reader.old }
     requires walking { IsWalking (opening_of board.now) pass.old current.now walker.old }

@@ -12,8 +12,8 @@ ghost use Rattle.event_finders.specs.Walks.{KeepsKnown, Traced, PopsCycles, IsWa
 ghost use Rattle.event_finders.specs.WalkSteps.{IsWalking, HasSpare, SeesLast, Rounds, RoundsOn};
 
 use crate::walker::Walker;
-use crate::walking::{Stop, claim_on, follow, move_on, pop_loop, release_to, settle_all};
-use crate::{Stretch, Tried};
+use crate::walking::{WalkStop, claim_on, follow, move_on, pop_loop, release_to, settle_all};
+use crate::{Tried, WalkBounds};
 use claim_words::{Board, Claim, Pass};
 use confluence_core::CurrentArrows;
 use pop_instance::{Family, Instance};
@@ -69,11 +69,11 @@ pub fn try_walk(
     ensures walker { walker.new ≡ walker.old }
     ensures reader { reader.new ≡ reader.old }
 {
-    let stretch = Stretch { start, pops: 1 };
-    walk_on(board, pass, instance, reader, walker, stretch)
+    let bounds = WalkBounds { start, pops: 1 };
+    walk_on(board, pass, instance, reader, walker, bounds)
 }
 
-/// The same walk, which goes on until as many cycles were popped as the stretch says: `Popped` has
+/// The same walk, which goes on until as many cycles were popped as the bounds say: `Popped` has
 /// the ticket of the last. After each it goes on from the variable where the cycle closed, with the
 /// path up to there still claimed, so that no part of it is walked again. The other answers come as
 /// those of `try_walk`, after fewer pops.
@@ -83,7 +83,7 @@ pub fn walk_on(
     instance: &Instance,
     reader: &mut Reader,
     walker: &mut Walker,
-    stretch: Stretch,
+    bounds: WalkBounds,
 ) -> Tried
     requires pass { IsOf board.now pass.old }
     requires idle { IsIdle pass.old }
@@ -91,18 +91,18 @@ pub fn walk_on(
     requires cycles { is_listed instance.now.family ≡ false }
     requires belongs { Belongs instance.now.stacks reader.old }
     requires walker { walker.old ≡ resting (count_of board.now) }
-    requires known { stretch.start < count_of board.now }
-    requires pops { 1 ≤ stretch.pops }
+    requires known { bounds.start < count_of board.now }
+    requires pops { 1 ≤ bounds.pops }
 
     ensures pass { IsOf board.now pass.new }
     ensures idle { IsIdle pass.new }
     ensures stays { Stays (view pass.old) (view pass.new) }
-    ensures seen { SeesWithin stretch.pops (view pass.old) (view pass.new) }
+    ensures seen { SeesWithin bounds.pops (view pass.old) (view pass.new) }
     ensures settled { KeepsKnown (view pass.old) (view pass.new) }
     ensures mine { PopsCycles (opening_of board.now) (view pass.old) (view pass.new)
-        stretch.pops stretch.start result }
+        bounds.pops bounds.start result }
     ensures answer { IsWalkAnswer (opening_of board.now) (view pass.old) (view pass.new)
-        stretch.pops stretch.start result }
+        bounds.pops bounds.start result }
     ensures walker { walker.new ≡ walker.old }
     ensures reader { reader.new ≡ reader.old }
 {
@@ -117,7 +117,7 @@ pub fn walk_on(
     if board.reserve(pass, count + count).is_err() {
         return Tried::OutOfMemory;
     }
-    let Stretch { start, pops } = stretch;
+    let WalkBounds { start, pops } = bounds;
     match claim_on(board, pass, walker, start) {
         Claim::Mine(_) => {}
         Claim::Settled(cursor) => return Tried::Cleared(start, cursor),
@@ -158,12 +158,12 @@ fn go_round(
     ensures reader { reader.new ≡ reader.old }
 {
     match follow(board, pass, current, reader, walker) {
-        Stop::Rests => {
+        WalkStop::Rests => {
             let (start, cursor) = walker.at(0);
             settle_all(board, pass, current, walker);
             Round::Over(Tried::Cleared(start, cursor))
         }
-        Stop::Back(place) => match pop_loop(board, pass, current, reader, walker, place) {
+        WalkStop::Back(place) => match pop_loop(board, pass, current, reader, walker, place) {
             Ok(ticket) => {
                 release_to(board, pass, walker, place + 1);
                 move_on(walker);
@@ -174,7 +174,7 @@ fn go_round(
                 Round::Over(Tried::OutOfMemory)
             }
         },
-        Stop::Busy(v, word) => {
+        WalkStop::Busy(v, word) => {
             release_to(board, pass, walker, 0);
             Round::Over(Tried::Busy(v, word))
         }

@@ -10,7 +10,7 @@ use crate::found::Found;
 use crate::shared::Shared;
 use crate::tools::Tools;
 use claim_words::{Board, Pass};
-use event_finders::{Stretch, Tried, try_unit, walk_on};
+use event_finders::{Tried, WalkBounds, try_unit, walk_on};
 use pop_instance::{Cube, Family, Index};
 use worker_hints::{Own, Range, give, give_all};
 
@@ -41,8 +41,8 @@ pub(crate) fn search<W: Range>(
         let Some(walker) = &mut tools.walker else {
             unreachable!()
         };
-        let stretch = Stretch { start: unit, pops };
-        return found(walk_on(board, pass, instance, reader, walker, stretch));
+        let bounds = WalkBounds { start: unit, pops };
+        return found(walk_on(board, pass, instance, reader, walker, bounds));
     };
     found(try_unit(board, pass, instance, index, reader, unit))
 }

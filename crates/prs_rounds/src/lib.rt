@@ -18,8 +18,8 @@ mod on_threads;
 mod resampling;
 mod round_end;
 mod rounds;
-mod seen;
 mod shown;
+mod sight;
 mod state;
 mod values;
 

@@ -8,7 +8,7 @@ ghost use Rattle.prs_rounds.specs.Units.{IsListed, AreUnitsOf};
 ghost use Rattle.prs_rounds.specs.Values.{shown_places, shown_units};
 
 use crate::on_threads::OnThreads;
-use crate::seen::see_all;
+use crate::sight::see_all;
 use confluence_core::Units;
 use pop_instance::{Cursors, Events, Family, Instance};
 use pop_stacks::Stacks;

@@ -11,7 +11,7 @@ ghost use Rattle.prs_rounds.specs.Growth.{mark_of, is_joined};
 use crate::growth::Growth;
 use crate::numbers::all_below;
 use crate::on_threads::OnThreads;
-use crate::seen::see_all;
+use crate::sight::see_all;
 use confluence_core::Units;
 use pop_instance::{Cursors, Events, Family, Index, Instance};
 use pop_stacks::Stacks;

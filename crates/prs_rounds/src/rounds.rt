@@ -13,7 +13,7 @@ use crate::RoundEnd;
 use crate::alone::Alone;
 use crate::looker::Looker;
 use crate::on_threads::OnThreads;
-use crate::seen::see_all;
+use crate::sight::see_all;
 use crate::state::{start, turn};
 use confluence_core::Stuck;
 use pop_instance::{Cursors, Events, Family, Index, Instance};

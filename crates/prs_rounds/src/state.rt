@@ -7,7 +7,7 @@ ghost use Rattle.prs_rounds.specs.States.{IsAt, Turns};
 use crate::growth::Growth;
 use crate::looker::Looker;
 use crate::moves::{least_short, move_on, refresh};
-use crate::seen::see_all;
+use crate::sight::see_all;
 use pop_instance::{Cursors, Events, Index};
 use pop_stacks::Stacks;
 use std::alloc::{AllocError, Global};

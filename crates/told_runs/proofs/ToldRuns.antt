@@ -29,7 +29,7 @@ use Rattle.told_runs.specs.Names.{names_for}
 use Rattle.told_runs.specs.Reports.{reports_text, report_if, asks_report}
 use Rattle.told_runs.specs.Witnesses.{IsWitness, witness_text}
 use Rattle.told_runs.specs.Witnesses.Witness.{Unasked}
-use Rattle.told_runs.specs.Tellings.{records_of, GoesOn, layered_text, LeadsToEnd, IsLogOf, TellsRecords, TellsLog, TellsRun, tells_watchers, looks_at_records, asks_for_log}
+use Rattle.told_runs.specs.Tellings.{records_of, Continues, layered_text, LeadsToEnd, IsLogOf, TellsRecords, TellsLog, TellsRun, tells_watchers, looks_at_records, asks_for_log}
 use Rattle.told_runs.specs.Outcomes.{AnswersBy, end_status}
 use Rattle.told_runs.specs.Outcomes.Outcome.{Ended, Resampled}
 use Rattle.told_runs.specs.Ends.{IsToldOfFirst, EndsWithin, IsEndOf, IsHistoryOf, IsHistoryWith}
@@ -130,7 +130,7 @@ pub told_behind : (asked : Asked) (ws : List Watcher) (names : Names) (i : Insta
     (placed : List Placed) (missing : Bool) (before shown rest text : List ℕ) → AreSorted log placed
     → shown ≡ before ++ layered_text names i (if asked.log then Some placed else None)
     → TellsRecords asked ws names i (records_of placed) missing rest → text ≡ shown ++ rest
-    → GoesOn before (TellsLog asked ws names i log missing) text
+    → Continues before (TellsLog asked ws names i log missing) text
 told_behind asked ws names i log placed missing before shown rest text sorted front t text_is =
     let own : List ℕ = layered_text names i (if asked.log then Some placed else None) in
     record {
@@ -143,8 +143,8 @@ told_behind asked ws names i log placed missing before shown rest text sorted fr
 pub kept_result : {E : Type 0} (asked : Asked) (ws : List Watcher) (names : Names) (i : Instance) (keeps : Bool)
     (run : Run) (log : List LogRecord) (before : List ℕ) (r : Result LogText E) → run.log ≡ Some log
     → IsRunOf i (start_of i) keeps run
-    → IfOk r (λ t. GoesOn before (TellsLog asked ws names i log t.missing) t.bytes.items)
-    → IfOk r (λ t. GoesOn before (TellsRun asked ws names i run t.missing) t.bytes.items)
+    → IfOk r (λ t. Continues before (TellsLog asked ws names i log t.missing) t.bytes.items)
+    → IfOk r (λ t. Continues before (TellsRun asked ws names i run t.missing) t.bytes.items)
 kept_result asked ws names i keeps run log before (Ok t) is of on =
     let to = log_of i keeps run of in
     record {
@@ -161,7 +161,7 @@ kept_result asked ws names i keeps run log before (Err e) is of on = tt
 -- of a run that kept none, nothing is told behind it, since nothing of it is asked for
 pub unkept_behind : (asked : Asked) (ws : List Watcher) (names : Names) (i : Instance) (run : Run) (before : List ℕ)
     → run.log ≡ None → IsRunOf i (start_of i) (asks_for_log asked) run
-    → GoesOn before (TellsRun asked ws names i run false) before
+    → Continues before (TellsRun asked ws names i run false) before
 unkept_behind asked ws names i run before is of =
     let leads = of.reached.leads in
     let log : List LogRecord = leads.log in
@@ -212,7 +212,7 @@ pub told_so : (asked : Asked) (ws : List Watcher) (facts : Facts) (i : Instance)
     (missing : Bool) (status : ℕ) (text out : List ℕ) → IsInstance i → EndsWithin asked.pops run.end.pops
     → IsRunOf i (start_of i) (asks_for_log asked) run → names ≡ names_for facts
     → text ≡ end_text facts i run.end.cursors run.end.pops run.end.stuck
-    → GoesOn text (TellsRun asked ws names i run missing) out
+    → Continues text (TellsRun asked ws names i run missing) out
     → status ≡ (if asked.free && missing then 6 else end_status run.end.stuck) → IsToldSo asked ws facts i run status out
 told_so asked ws facts i names run missing status text out is within of names_are text_is on status_is = record {
   is = is;

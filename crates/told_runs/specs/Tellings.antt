@@ -87,7 +87,7 @@ pub record TellsRun (asked : Asked) (watchers : List Watcher) (names : Names) (i
   pub told : TellsLog asked watchers names i log missing text
 
 -- a text, and behind it one that says this
-pub record GoesOn (before : List ℕ) (Says : List ℕ → Type 0) (text : List ℕ) : Type 0 where
+pub record Continues (before : List ℕ) (Says : List ℕ → Type 0) (text : List ℕ) : Type 0 where
   pub told : List ℕ
   pub says : Says told
   pub text_is : text ≡ before ++ told

@@ -19,11 +19,19 @@ pub data Witness : Type 0 where
   -- the tree of the pop that used it, in preorder
   Shown : (tree : List Vertex) → Witness
 
+-- a variable has this printed name, and this cursor
+abbrev pub HasCursor : Names → List ℕ → ℕ → ℕ → Type 0
+HasCursor names cursors name c =
+    (v : ℕ) × (v < length cursors) × (name_of names v ≡ name) × (c ≡ cursor cursors v)
+
+-- no variable has this printed name
+abbrev pub IsNoName : Names → List ℕ → ℕ → Type 0
+IsNoName names cursors name = (v : ℕ) → v < length cursors → name_of names v ≡ name → ⊥
+
 -- the cursor of the variable of a printed name; 0 where no variable has the name
 abbrev pub IsCursorNamed : Names → List ℕ → ℕ → ℕ → Type 0
 IsCursorNamed names cursors name c =
-    ((v : ℕ) × (v < length cursors) × (name_of names v ≡ name) × (c ≡ cursor cursors v))
-    ⊎ (((v : ℕ) → v < length cursors → name_of names v ≡ name → ⊥) × (c ≡ 0))
+    HasCursor names cursors name c ⊎ (IsNoName names cursors name × (c ≡ 0))
 
 -- the tree of the pop that used this entry of the variable of this name
 pub record IsWitnessTree (names : Names) (cursors : List ℕ) (log : List LogRecord) (name entry : ℕ)

@@ -12,7 +12,7 @@ ghost use Rattle.pop_watch.specs.Telling.{log_told};
 ghost use Rattle.told_runs.specs.Reports.{reports_text};
 ghost use Rattle.told_runs.specs.Witnesses.{TellsWitness};
 ghost use Rattle.told_runs.specs.Ends.{EndsWithin, IsEndOf, IsHistoryOf, IsHistoryWith};
-ghost use Rattle.told_runs.specs.Tellings.{GoesOn, TellsRecords, TellsLog, TellsRun, asks_for_log, layered_text, records_of};
+ghost use Rattle.told_runs.specs.Tellings.{Continues, TellsRecords, TellsLog, TellsRun, asks_for_log, layered_text, records_of};
 
 use crate::asked::Asked;
 use crate::call::Call;
@@ -164,7 +164,7 @@ fn text_of_layers<M>(
     requires leads { cursors.now
         ≡ replay (start_of named.now.instance.now) (records_of placed.now) }
     ensures { (log : List LogRecord) → AreSorted log placed.now
-        → IfOk result (λ t. GoesOn text.items (TellsLog asked
+        → IfOk result (λ t. Continues text.items (TellsLog asked
         (map (λ b. (kind b, state b)) call.old.watchers.items) named.now.names.now
         named.now.instance.now log t.missing) t.bytes.items) }
 {
@@ -189,7 +189,7 @@ fn text_of_log<M>(
     requires count { variables_of named.now.instance.now.stacks ≡ length cursors.now }
     requires legal { IsLegal named.now.instance.now (start_of named.now.instance.now) log.now }
     requires leads { cursors.now ≡ replay (start_of named.now.instance.now) log.now }
-    ensures { IfOk result (λ t. GoesOn text.items (TellsLog asked
+    ensures { IfOk result (λ t. Continues text.items (TellsLog asked
         (map (λ b. (kind b, state b)) call.old.watchers.items) named.now.names.now
         named.now.instance.now log.now t.missing) t.bytes.items) }
 {
@@ -213,7 +213,7 @@ fn tell_run<M>(
 ) -> Result<LogText, AllocError>
     requires { IsRunOf named.now.instance.now (start_of named.now.instance.now)
         (asks_for_log asked) run.now }
-    ensures { IfOk result (λ t. GoesOn text.items (TellsRun asked
+    ensures { IfOk result (λ t. Continues text.items (TellsRun asked
         (map (λ b. (kind b, state b)) call.old.watchers.items) named.now.names.now
         named.now.instance.now run.now t.missing) t.bytes.items) }
 {

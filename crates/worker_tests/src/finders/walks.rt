@@ -11,7 +11,7 @@ use crate::made::made;
 use crate::passes::{close, started};
 use claim_words::{Board, Closed, Pass};
 use confluence_core::Keep;
-use event_finders::{Stretch, Tried, Walker, try_walk, walk_on};
+use event_finders::{Tried, WalkBounds, Walker, try_walk, walk_on};
 use pop_instance::{Family, Instance};
 use pop_stacks::Reader;
 use std::alloc::Global;
@@ -55,8 +55,8 @@ fn walk(
         None => try_walk(board, pass, instance, &mut reader, walker, start),
         Some(pops) => {
             assert!(rt; pops >= 1);
-            let stretch = Stretch { start, pops };
-            walk_on(board, pass, instance, &mut reader, walker, stretch)
+            let bounds = WalkBounds { start, pops };
+            walk_on(board, pass, instance, &mut reader, walker, bounds)
         }
     };
     drop(reader);

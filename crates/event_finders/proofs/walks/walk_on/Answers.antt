@@ -13,7 +13,7 @@ pub returns-in-Over-clause-seen : goal.returns-in-Over-clause-seen
 returns-in-Over-clause-seen c =
     let d : View = view c.args.pass.now in
     let e : View = view c.go_round.new.pass in
-    within_less d e (c.loop.counter + 1) c.args.stretch.pops (omega (arith, c.loop-test.true))
+    within_less d e (c.loop.counter + 1) c.args.bounds.pops (omega (arith, c.loop-test.true))
     (seen_round d (view c.loop.pass) e c.loop.counter c.loop.walker.path c.loop.invariant.seen c.in-Over.ensures.seen)
 
 pub returns-in-Over-clause-answer : goal.returns-in-Over-clause-answer
@@ -23,18 +23,18 @@ returns-in-Over-clause-answer c =
     let e : View = view c.go_round.new.pass in
     let n : ℕ = c.loop.counter in
     let i = c.loop.invariant in
-    let says : Says e c.args.stretch.start c.in-Over.answer =
+    let says : Says e c.args.bounds.start c.in-Over.answer =
     subst (λ (v : ℕ). Says e v c.in-Over.answer) i.begins c.in-Over.ensures.round.4 in
-    let ends : EndsAt k n d e c.args.stretch.start c.in-Over.answer =
+    let ends : EndsAt k n d e c.args.bounds.start c.in-Over.answer =
     subst (λ (v : ℕ). EndsAt k n d e v c.in-Over.answer) i.begins (c.in-Over.ensures.traced n d i.traced) in
-    over_answer k n d e c.args.stretch.start c.args.stretch.pops c.in-Over.answer c.loop-test.true
+    over_answer k n d e c.args.bounds.start c.args.bounds.pops c.in-Over.answer c.loop-test.true
     (stays_then d (view c.loop.pass) e i.stays c.in-Over.ensures.stays).share says ends
 
 pub returns-in-Over-clause-mine : goal.returns-in-Over-clause-mine
 returns-in-Over-clause-mine c =
     let f = c.in-Over.ensures in
     over_mine (opening_of c.args.board.now) (view c.args.pass.now) (view c.loop.pass) (view c.go_round.new.pass)
-    c.loop.counter c.loop.last c.args.stretch.start c.args.stretch.pops c.in-Over.answer _ f.seen.added
+    c.loop.counter c.loop.last c.args.bounds.start c.args.bounds.pops c.in-Over.answer _ f.seen.added
     c.loop.invariant.gained f.round.0 f.seen.seen c.loop-test.true f.round.4
 
 pub returns-clause-mine : goal.returns-clause-mine
@@ -42,7 +42,7 @@ returns-clause-mine c =
     let k = opening_of c.args.board.now in
     let to = c.release_to.ensures.view in
     end_mine k (view c.args.pass.now) (view c.loop.pass) (view c.release_to.new.pass) c.loop.counter c.loop.last
-    c.args.stretch.start c.args.stretch.pops c.loop.invariant.gained (ap (λ (v : View). v.mine) to)
+    c.args.bounds.start c.args.bounds.pops c.loop.invariant.gained (ap (λ (v : View). v.mine) to)
     (ap (λ (v : View). v.seen) to) (omega arith) c.requires.pops
 
 pub loop-preserved : goal.loop-preserved
@@ -66,7 +66,7 @@ loop-preserved c =
       seen = seen_on d e (c.loop.counter + 1) c.go_round.new.walker.path
           (seen_round d (view c.loop.pass) e c.loop.counter c.loop.walker.path i.seen f.seen);
       gained = gained_more k d (view c.loop.pass) e c.loop.counter c.loop.last c.in-Popped.ticket
-          c.args.stretch.start r.0 f.seen.added i.gained r.1 f.seen.seen
+          c.args.bounds.start r.0 f.seen.added i.gained r.1 f.seen.seen
           (subst (λ (v : ℕ). Closes k c.loop.counter d e v r.0) i.begins (r.6 c.loop.counter d i.traced));
       sole = r.5;
     }

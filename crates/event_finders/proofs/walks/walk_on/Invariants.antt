@@ -19,10 +19,10 @@ invariant-loop l = record {
   settled : KeepsKnown (view l.fn.pass) (view l.pass);
   stands : Stands (opening_of l.board) (view l.pass) l.walker;
   some : 0 < length l.walker.path;
-  begins : get_or (variables l.walker.path) 0 0 ≡ l.fn.stretch.start;
+  begins : get_or (variables l.walker.path) 0 0 ≡ l.fn.bounds.start;
   reader : l.reader ≡ l.fn.reader;
   traced : Traced l.counter (view l.fn.pass) (view l.pass) l.walker.path;
   seen : Seen (view l.fn.pass) (view l.pass) l.counter l.walker.path;
-  gained : Gained (opening_of l.board) (view l.fn.pass) (view l.pass) l.counter l.last l.fn.stretch.start;
+  gained : Gained (opening_of l.board) (view l.fn.pass) (view l.pass) l.counter l.last l.fn.bounds.start;
   sole : SoleKnows (view l.pass);
 }

@@ -2,7 +2,7 @@ use Rattle.std.proofs.Common.{length, ap, ◌∙◌}
 use Rattle.std.specs.List.{range_with_len}
 use Rattle.confluence_core.proofs.Suspects.{all_known}
 use Rattle.prs_rounds.proofs.ShownLemmas.{values_of_all}
-use Rattle.prs_rounds.proofs.seen.all_values.Goals as goal
+use Rattle.prs_rounds.proofs.sight.all_values.Goals as goal
 
 pub read-requires-clause-known : goal.read-requires-clause-known
 read-requires-clause-known g c =

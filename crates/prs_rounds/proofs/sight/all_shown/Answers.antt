@@ -2,7 +2,7 @@ use Rattle.std.proofs.Common.{length, ap, ◌∙◌}
 use Rattle.std.specs.List.{range_with_len}
 use Rattle.confluence_core.proofs.Suspects.{all_known}
 use Rattle.prs_rounds.specs.Values.{shown_among}
-use Rattle.prs_rounds.proofs.seen.all_shown.Goals as goal
+use Rattle.prs_rounds.proofs.sight.all_shown.Goals as goal
 
 pub occurring-requires-clause-known : goal.occurring-requires-clause-known
 occurring-requires-clause-known g c =

@@ -4,7 +4,7 @@ use Rattle.pop_model.specs.Popping.{Cube, NamesBelow}
 use Rattle.pop_model.specs.Instances.{FitsStacks}
 use Rattle.prs_rounds.specs.Values.{shown_places}
 use Rattle.prs_rounds.proofs.ShownLemmas.{violated_are, starts_from, values_are_at}
-use Rattle.prs_rounds.proofs.seen.see_all.Goals as goal
+use Rattle.prs_rounds.proofs.sight.see_all.Goals as goal
 
 -- cubes that fit the stacks name variables below their count
 below_count : (s : StackTable) (rows : List (ℕ × Cube)) (n : ℕ) → variables_of s ≡ n

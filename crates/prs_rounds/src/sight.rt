@@ -17,7 +17,7 @@ use std::alloc::{AllocError, Global};
 
 /// What is seen at cursors.
 #[derive(Drop)]
-pub(crate) struct Seen {
+pub(crate) struct Sight {
     /// The current value of each variable.
     pub values: Vec<u32>,
     /// The rising places of the events that occur.
@@ -67,7 +67,7 @@ pub(crate) fn see_all<L: Looker>(
     stacks: &Stacks,
     events: &Events,
     cursors: &Cursors,
-) -> Result<Seen, AllocError>
+) -> Result<Sight, AllocError>
     requires can_look { L.can_look }
     requires fits { All (λ r. FitsStacks stacks.now r.1) events.now }
     requires count { variables_of stacks.now ≡ length cursors.now }
@@ -82,5 +82,5 @@ pub(crate) fn see_all<L: Looker>(
 {
     let values = all_values(looker, alloc, stacks, cursors)?;
     let found = all_shown(looker, alloc, events, &values)?;
-    Ok(Seen { values, found })
+    Ok(Sight { values, found })
 }
