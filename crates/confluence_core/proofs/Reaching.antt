@@ -16,7 +16,7 @@ use Rattle.pop_model.proofs.FirstRun.{first_run}
 use Rattle.pop_model.proofs.Replays.{length-replay, start_count, start_within}
 use Rattle.pop_model.proofs.Room.{left_from}
 use Rattle.pop_model.proofs.TallerStacks.{legal_extends}
-use Rattle.confluence_core.specs.Runs.{IsRunOf}
+use Rattle.confluence_core.specs.Runs.{IsRunOf, ended}
 use Rattle.confluence_core.specs.Stretches.{LeadsOn, CanGoOn, GoesOn, IsReached, HasCome, IsTold, before_pops, both_logs, joined, with_more}
 use Rattle.confluence_core.specs.Suspects.{IsSuspected, MissesNone}
 use Rattle.confluence_core.specs.declared.reached.Reached.{Reached}
@@ -243,6 +243,13 @@ pub gone_run : (i : Instance) (start : List ℕ) (keeps : Bool) (reached new : R
     → IsRunOf i start keeps run
 gone_run i start keeps reached new run is on none told =
     told_run i start keeps new run (goes_then i (before_pops start keeps) reached new is on) none told
+
+-- and the run went on to what is told
+pub told_on : (i : Instance) (reached new : Reached) (run : Run) → GoesOn i reached new → new.suspects ≡ []
+    → IsTold i new run → GoesOn i reached (ended run)
+told_on i reached new run on none told =
+    subst (GoesOn i reached) (sym (ap ended told.are))
+    (subst (λ us. GoesOn i reached (record new { suspects = us })) none on)
 
 -- what occurs over taller stacks at cursors of these occurs over these
 occurs_lower : (s taller : StackTable) (c : List ℕ) (e : Cube) → Extends s taller → AreWithin s c

@@ -7,7 +7,6 @@ use Rattle.pop_model.specs.Instances.{Instance, IsInstance, instance_raised}
 use Rattle.pop_model.specs.Extremal.{IsExtremal, Share}
 use Rattle.pop_model.specs.Logs.{LogRecord, IsLegal, replay}
 use Rattle.pop_model.specs.Runs.{IsEnd, IsFinished, IsStuckList}
-use Rattle.confluence_core.specs.Indexes.{Serves}
 use Rattle.confluence_core.specs.Stretches.{GoesOn, IsReached}
 use Rattle.confluence_core.specs.declared.reached.Reached.{Reached}
 
@@ -66,15 +65,6 @@ RaisedExtends = (s : StackTable) (height : ℕ) → ((v : ℕ) → height_of s v
 -- two stretches of which the second begins where the first ended are one
 abbrev pub StretchesJoin : Type 0
 StretchesJoin = (i : Instance) (a b c : Reached) → GoesOn i a b → GoesOn i b c → GoesOn i a c
-
--- who was made for an instance serves it
-abbrev pub ServesItself : Type 0
-ServesItself = (i : Instance) → Serves i i
-
--- who serves an instance serves it once its stacks are raised
-abbrev pub ServesRaised : Type 0
-ServesRaised = (i made_for : Instance) (height : ℕ) → Serves i made_for
-    → Serves (instance_raised height i) made_for
 
 -- how far a run has come, it has come once the stacks are raised; what occurs there is suspected
 abbrev pub ReachedRaised : Type 0

@@ -3,7 +3,7 @@
 use Rattle.std.specs.Prelude.{◌≡◌, ◌+◌, ◌<◌, ◌++◌, [], ℕ, Bool, if◌then◌else◌, List, length, Option, None, Some, All}
 use Rattle.pop_model.specs.Stacks.{variables_of}
 use Rattle.pop_model.specs.Popping.{AreWithin, AreValuesAt}
-use Rattle.pop_model.specs.Families.{units_of}
+use Rattle.pop_model.specs.Families.{Event, units_of}
 use Rattle.pop_model.specs.Instances.{Instance}
 use Rattle.pop_model.specs.Logs.{LogRecord, IsLegal, replay}
 use Rattle.pop_model.specs.Runs.{IsStuckList}
@@ -76,6 +76,11 @@ joined old more = record more {
   pops = old.pops + more.pops;
   log = both_logs old.log more.log;
 }
+
+-- a run that has come so far is at an end, where these are the events that occur
+pub record HasEnded (i : Instance) (reached : Reached) (stuck : List Event) : Type 0 where
+  pub none : reached.suspects ≡ []
+  pub stuck_list : IsStuckList i reached.cursors stuck
 
 -- what is told of a run where it has come: the events that occur there, and the values
 pub record IsTold (i : Instance) (reached : Reached) (run : Run) : Type 0 where

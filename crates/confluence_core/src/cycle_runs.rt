@@ -17,8 +17,9 @@ use pop_stacks::{Reader, Stacks};
 use std::alloc::{AllocError, Global};
 
 /// Goes on with a run of cycles to an end or to so many pops, by the loop-erased walk from each
-/// variable in turn. Suspects would spare nothing: a pop may leave a poppable cycle at a variable
-/// that no walk from them would meet again. At the limit each variable is one.
+/// variable in turn, and answers with the cycles that occur there, by rising unit. Suspects would
+/// spare nothing: a pop may leave a poppable cycle at a variable that no walk from them would meet
+/// again. At the limit each variable is one.
 pub(crate) fn pop_cycles(
     alloc: Global,
     stacks: &Stacks,
@@ -26,16 +27,18 @@ pub(crate) fn pop_cycles(
     reader: &mut Reader,
     reached: Reached,
     limit: u64,
-) -> Result<Reached, AllocError>
+) -> Result<(Reached, Stuck), AllocError>
     requires fits { FamilyFits stacks.now (CycleEvents arrows.now) }
     requires belongs { Belongs stacks.now reader.old }
     requires reached { HasCome
         (record { stacks = stacks.now; family = CycleEvents arrows.now }) reached }
-    ensures on { IfOk result (GoesOn
-        (record { stacks = stacks.now; family = CycleEvents arrows.now }) reached) }
-    ensures most { IfOk result (λ new. reached.pops ≤ limit → new.pops ≤ limit) }
-    ensures end { IfOk result (λ new. new.pops < limit → new.suspects ≡ []) }
-    ensures few { IfOk result (λ new. new.pops < 2 ^ 63) }
+    ensures on { IfOk result (λ left. GoesOn
+        (record { stacks = stacks.now; family = CycleEvents arrows.now }) reached left.0) }
+    ensures stuck_list { IfOk result (λ left. IsStuckList
+        (record { stacks = stacks.now; family = CycleEvents arrows.now }) left.0.cursors left.1) }
+    ensures most { IfOk result (λ left. reached.pops ≤ limit → left.0.pops ≤ limit) }
+    ensures end { IfOk result (λ left. left.0.pops < limit → left.0.suspects ≡ []) }
+    ensures few { IfOk result (λ left. left.0.pops < 2 ^ 63) }
     ensures reader { reader.new ≡ reader.old }
 {
     let current = CurrentArrows::of(stacks, arrows);
@@ -50,14 +53,14 @@ pub(crate) fn pop_cycles(
         stuck: Stuck::new(alloc),
     };
     let left = left_by_walks(alloc, current, reader, walked)?;
-    drop(left.stuck);
     let suspects = suspects_at(alloc, left.pops < left.limit, arrows.count())?;
-    Ok(Reached {
+    let reached = Reached {
         cursors: left.cursors,
         pops: left.pops,
         log: left.log,
         suspects,
-    })
+    };
+    Ok((reached, left.stuck))
 }
 
 // No unit at an end, and else all of so many.

@@ -6,8 +6,8 @@ ghost use Rattle.pop_model.specs.Runs.{IsStuckList, start_of};
 ghost use Rattle.pop_stacks.specs.Readers.{Belongs};
 ghost use Rattle.pop_instance.specs.Index.{IsFamilyIndex};
 ghost use Rattle.confluence_core.specs.Kept.{keeps_log};
-ghost use Rattle.confluence_core.specs.Runs.{IsRunOf};
-ghost use Rattle.confluence_core.specs.Stretches.{IsReached, HasCome, GoesOn, CanGoOn};
+ghost use Rattle.confluence_core.specs.Runs.{IsRunOf, ended};
+ghost use Rattle.confluence_core.specs.Stretches.{IsReached, HasCome, HasEnded, GoesOn, CanGoOn};
 
 use crate::cycle_runs::{occurring_cycles, pop_cycles};
 use crate::listed_runs::pop_listed;
@@ -110,36 +110,41 @@ impl<'a> Indexed<'a> {
         Ok(Reached::at(alloc, zeros, suspects, keep))
     }
 
-    /// Goes on with a run on this thread, to an end or to so many pops in all. Short of these no
-    /// unit is left a suspect. Where none was, the run is at an end, and stays as it was.
+    /// Goes on with a run on this thread, to an end or to so many pops in all, and answers with
+    /// every event that occurs there, by rising unit. Short of so many pops no unit is left a
+    /// suspect. Where none was, the run is at an end, and stays as it was.
     ///
     /// Listed events are looked at where they are suspects or share a variable with a popped one,
     /// until none is left to look at; so the time is linear in the instance, the suspects, and the
     /// pairs of the events that share a variable with a popped one, pop by pop. Cycles are popped
-    /// by the loop-erased walk (Wilson 1996; Propp and Wilson 1998) from each variable, and need no
-    /// suspects.
+    /// by the loop-erased walk (Wilson 1996; Propp and Wilson 1998) from each variable, which notes
+    /// those that it can't pop; they need no suspects.
     pub fn advance(
         &self,
         alloc: Global,
         reader: &mut Reader,
         reached: Reached,
         limit: u64,
-    ) -> Result<Reached, AllocError>
+    ) -> Result<(Reached, Stuck), AllocError>
         requires belongs { Belongs self.now.stacks reader.old }
         requires reached { HasCome self.now reached }
-        ensures on { IfOk result (GoesOn self.now reached) }
-        ensures most { IfOk result (λ new. reached.pops ≤ limit → new.pops ≤ limit) }
-        ensures end { IfOk result (λ new. new.pops < limit → new.suspects ≡ []) }
-        ensures few { IfOk result (λ new. new.pops < 2 ^ 63) }
+        ensures on { IfOk result (λ left. GoesOn self.now reached left.0) }
+        ensures stuck_list { IfOk result (λ left. IsStuckList self.now left.0.cursors left.1) }
+        ensures most { IfOk result (λ left. reached.pops ≤ limit → left.0.pops ≤ limit) }
+        ensures end { IfOk result (λ left. left.0.pops < limit → left.0.suspects ≡ []) }
+        ensures few { IfOk result (λ left. left.0.pops < 2 ^ 63) }
         ensures reader { reader.new ≡ reader.old }
     {
         let _stacks = self.stacks();
         if reached.suspects.is_empty() {
-            return Ok(reached);
+            let stuck = self.stuck(alloc, reader, &reached)?;
+            return Ok((reached, stuck));
         }
         match self.family {
             IndexedFamily::Listed(listed) => {
-                pop_listed(alloc, self.stacks, listed, reader, reached, limit)
+                let left = pop_listed(alloc, self.stacks, listed, reader, reached, limit)?;
+                let stuck = self.stuck(alloc, reader, &left)?;
+                Ok((left, stuck))
             }
             IndexedFamily::Cycles(arrows) => {
                 pop_cycles(alloc, self.stacks, arrows, reader, reached, limit)
@@ -147,25 +152,26 @@ impl<'a> Indexed<'a> {
         }
     }
 
-    /// Goes on with a run on this thread to an end.
+    /// Goes on with a run on this thread to an end, and answers with every event that occurs there,
+    /// by rising unit.
     pub fn finish(
         &self,
         alloc: Global,
         reader: &mut Reader,
         reached: Reached,
-    ) -> Result<Reached, AllocError>
+    ) -> Result<(Reached, Stuck), AllocError>
         requires belongs { Belongs self.now.stacks reader.old }
         requires reached { HasCome self.now reached }
-        ensures on { IfOk result (GoesOn self.now reached) }
-        ensures end { IfOk result (λ new. new.suspects ≡ []) }
+        ensures on { IfOk result (λ left. GoesOn self.now reached left.0) }
+        ensures end { IfOk result (λ left. HasEnded self.now left.0 left.1) }
         ensures reader { reader.new ≡ reader.old }
     {
         self.advance(alloc, reader, reached, u64::MAX)
     }
 
-    /// Every event that occurs where a run has come, by rising unit. At an end each of them has a
-    /// variable at its last entry, so where there is no such variable, no event is looked at.
-    pub fn stuck(
+    // Every event that occurs where a run has come, by rising unit. At an end each of them has a
+    // variable at its last entry, so where there is no such variable, no event is looked at.
+    fn stuck(
         &self,
         alloc: Global,
         reader: &mut Reader,
@@ -199,13 +205,13 @@ impl<'a> Indexed<'a> {
     ) -> Result<Run, AllocError>
         requires belongs { Belongs self.now.stacks reader.old }
         requires reached { HasCome self.now reached }
+        ensures on { IfOk result (λ run. GoesOn self.now reached (ended run)) }
         ensures run { (start : List ℕ) → (keeps : Bool) → IsReached self.now start keeps reached
             → IfOk result (IsRunOf self.now start keeps) }
         ensures reader { reader.new ≡ reader.old }
     {
-        let ended = self.finish(alloc, reader, reached)?;
-        let stuck = self.stuck(alloc, reader, &ended)?;
-        let values = Values::at(alloc, self.stacks, reader, &ended.cursors)?;
-        Ok(ended.told(stuck, values))
+        let (left, stuck) = self.finish(alloc, reader, reached)?;
+        let values = Values::at(alloc, self.stacks, reader, &left.cursors)?;
+        Ok(left.told(stuck, values))
     }
 }

@@ -1,5 +1,5 @@
 //! The laws of popping on extremal instances. The contract of each function is the law.
-ghost use Rattle.confluence_core.specs.Laws.{Diamond, UniqueEnd, EqualRecords, ExhaustedExactly, TallerLegal, RaisedExtends, StretchesJoin, ReachedRaised, ServesItself, ServesRaised};
+ghost use Rattle.confluence_core.specs.Laws.{Diamond, UniqueEnd, EqualRecords, ExhaustedExactly, TallerLegal, RaisedExtends, StretchesJoin, ReachedRaised};
 
 /// Two different events that are poppable together share no variable, each stays poppable after the
 /// other's pop, and both orders leave the same cursors.
@@ -34,10 +34,4 @@ pub fn taller_legal()
 pub fn stretches_join()
     ensures joined { StretchesJoin }
     ensures raised { ReachedRaised }
-{}
-
-/// Who was made for an instance serves it, and does so once its stacks are raised.
-pub fn serves_raised()
-    ensures itself { ServesItself }
-    ensures raised { ServesRaised }
 {}

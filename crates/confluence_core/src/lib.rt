@@ -4,7 +4,6 @@
 //! as in the definitions.
 #![tactic(auto)]
 
-mod alone;
 mod closed_walks;
 mod current_arrows;
 mod cycle_runs;
@@ -31,7 +30,6 @@ mod walk;
 mod walked;
 mod work_list;
 
-pub use alone::Alone;
 pub use closed_walks::closed_walk;
 pub use current_arrows::CurrentArrows;
 pub use end::End;
@@ -39,7 +37,7 @@ pub use indexed::{Indexed, IndexedEvents, IndexedFamily};
 pub use keep::Keep;
 pub use log::Log;
 pub use log_record::Record;
-pub use looks::{first_poppable, occurring, stuck_at};
+pub use looks::{first_poppable, occurring};
 pub use loops::cube_of;
 pub use one_thread::{run_first, run_from, run_from_zeros};
 pub use reached::Reached;

@@ -4,13 +4,12 @@ ghost use Rattle.pop_model.specs.Stacks.{variables_of};
 ghost use Rattle.pop_model.specs.Popping.{AreWithin};
 ghost use Rattle.pop_model.specs.Runs.{IsEnd, IsFirstPoppable, IsStuckList};
 ghost use Rattle.pop_stacks.specs.Readers.{Belongs};
-ghost use Rattle.confluence_core.specs.Stretches.{CanGoOn};
 ghost use Rattle.confluence_core.specs.Stuck.{event_of};
 
+use crate::Stuck;
 use crate::cycle_runs::occurring_cycles;
 use crate::cycle_search::first_poppable_cycle;
-use crate::listed_search::{all_have_next, first_poppable_listed, occurring_listed};
-use crate::{Reached, Stuck};
+use crate::listed_search::{first_poppable_listed, occurring_listed};
 use pop_instance::{Cube, Cursors, Family, Instance};
 use pop_stacks::Reader;
 use std::alloc::{AllocError, Global};
@@ -59,24 +58,4 @@ pub fn occurring(
         Family::Listed(events) => occurring_listed(alloc, stacks, events, reader, cursors),
         Family::Cycles(arrows) => occurring_cycles(alloc, stacks, arrows, reader, cursors),
     }
-}
-
-/// Every event that occurs where a run has come, by rising unit. At an end each of them has a
-/// variable at its last entry, so where there is no such variable, no event is looked at.
-pub fn stuck_at(
-    alloc: Global,
-    instance: &Instance,
-    reader: &mut Reader,
-    reached: &Reached,
-) -> Result<Stuck, AllocError>
-    requires belongs { Belongs instance.now.stacks reader.old }
-    requires can { CanGoOn instance.now reached.now }
-    ensures stuck_list { IfOk result (IsStuckList instance.now reached.now.cursors) }
-    ensures reader { reader.new ≡ reader.old }
-{
-    let _units = instance.units();
-    if reached.suspects.is_empty() && all_have_next(instance.stacks(), &reached.cursors) {
-        return Ok(Stuck::new(alloc));
-    }
-    occurring(alloc, instance, reader, &reached.cursors)
 }

@@ -1,11 +1,9 @@
-ghost use Rattle.std.specs.Prelude.{◌≡◌, ◌<◌, ◌↔◌, length, All, IfOk, OnOk, IsTrue, ◌+◌};
+ghost use Rattle.std.specs.Prelude.{◌≡◌, ◌<◌, length, IfOk, OnOk, ◌+◌};
 ghost use Rattle.pop_stacks.specs.Readers.{Belongs};
-ghost use Rattle.confluence_core.specs.CycleTables.{AreCursors};
 ghost use Rattle.confluence_core.specs.Walks.{IsPlaceOf};
 ghost use Rattle.confluence_core.specs.LoopErasedWalks.{StaySettled, IsSized, HasPath, Walks};
 ghost use Rattle.confluence_core.specs.Steps.{LeadsTo, Extends, RunsOn, Advances};
 
-use crate::current_arrows::CurrentArrows;
 use crate::walk::Walk;
 use pop_stacks::Reader;
 use std::alloc::{AllocError, Global};
@@ -55,7 +53,9 @@ impl<'a> Walk<'a> {
         let (at, depth) = (self.at, self.depth);
         self.path[depth] = at;
         self.marks[at as usize] = depth as u32 + 1;
-        let Some(w) = self.current.head(reader, &self.walked.cursors, at) else {
+        // By the entry, since `head` stays a call of its own, which each step would make.
+        let entry = self.walked.cursors.get(at);
+        let Some(w) = self.current.head_at(reader, at, entry) else {
             return Step::Rests;
         };
         let mark = self.marks[w as usize];

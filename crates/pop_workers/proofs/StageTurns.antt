@@ -9,10 +9,10 @@ use Rattle.pop_model.proofs.TallerStacks.{raised_extends}
 use Rattle.confluence_core.specs.declared.reached.Reached.{Reached}
 use Rattle.confluence_core.specs.declared.run.Run.{Run}
 use Rattle.confluence_core.specs.Runs.{IsRunOf, ended}
-use Rattle.confluence_core.specs.Stretches.{GoesOn, IsReached, IsTold, before_pops}
+use Rattle.confluence_core.specs.Stretches.{GoesOn, HasEnded, IsReached, IsTold, before_pops}
 use Rattle.confluence_core.proofs.EventVariables.{event_below, event_cube}
 use Rattle.confluence_core.proofs.Reaching.{goes_then, leads_for, reached_raised, told_run}
-use Rattle.pop_workers.specs.Stages.{height, at_next_height, AreMade, AreStages, HasGrown, IsLast, IsStageEnd, IsToCome, StagesLead}
+use Rattle.pop_workers.specs.Stages.{height, at_next_height, AreMade, AreStages, HasGrown, IsLast, IsToCome, StagesLead}
 use Rattle.pop_workers.proofs.RaisedInstances.{one_height, raised_height, raised_keyed, raised_same, raised_twice, told_raised}
 
 -- where an event is stuck there is a variable
@@ -28,7 +28,7 @@ some_variable i c (e ∷ stuck) instance list some =
 -- a run that has come to the end of a stage has come so far at a greater height, where what is stuck is suspected
 reached_on : (j k : Instance) (h : ℕ) (start : List ℕ) (keeps : Bool) (before : Reached) (old : List Event)
     (suspects : List ℕ) → ((v : ℕ) → height_of j.stacks v ≤ h) → IsInstance j → IsReached j start keeps before
-    → IsStageEnd j before old → k ≡ instance_raised h j → suspects ≡ map (λ e. e.unit) old
+    → HasEnded j before old → k ≡ instance_raised h j → suspects ≡ map (λ e. e.unit) old
     → IsReached k start keeps (record before { suspects = suspects })
 reached_on j k h start keeps before old suspects lower instance reached end is are =
     subst (λ us. IsReached k start keeps (record before { suspects = us })) (sym are)
@@ -85,7 +85,7 @@ module _ (last : ℕ) (i : Instance) (keeps : Bool) (keyed : IsKeyed i.stacks.or
 
         -- and the next stage was made, once it goes on to its end
         pub next_made : (left : Reached) (stuck : List Event) → GoesOn k (record before { suspects = us }) left
-            → IsStageEnd k left stuck → AreMade last i keeps k left stuck
+            → HasEnded k left stuck → AreMade last i keeps k left stuck
         next_made left stuck on end =
             let leads = leads_for k (record before { suspects = us }) left before.suspects left.suspects on.leads in
             let goes : GoesOn k before left = record { leads = leads; can = on.can } in
@@ -93,7 +93,7 @@ module _ (last : ℕ) (i : Instance) (keeps : Bool) (keyed : IsKeyed i.stacks.or
               staged = subst (λ (x : Instance). StagesLead last i keeps x left stuck) (sym at_next)
                   (StagesLead.more j before left old stuck made.staged to_come.goes_on
                   (subst (λ (x : Instance). GoesOn x before left) at_next goes)
-                  (subst (λ (x : Instance). IsStageEnd x left stuck) at_next end));
+                  (subst (λ (x : Instance). HasEnded x left stuck) at_next end));
               reached = goes_then k (before_pops (start_of i) keeps) (record before { suspects = us }) left next_opens on;
               end = end;
             }

@@ -1,4 +1,5 @@
 pub mod Closings
 pub mod Attempts
 pub mod AtWork
+pub mod Serving
 pub mod Stages

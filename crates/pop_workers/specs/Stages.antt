@@ -3,11 +3,11 @@ use Rattle.std.specs.Prelude.{◌≡◌, ◌⊎◌, ℕ, ◌*◌, ◌<◌, ◌�
 use Rattle.pop_model.specs.Stacks.{height_of}
 use Rattle.pop_model.specs.Families.{Event}
 use Rattle.pop_model.specs.Instances.{Instance, instance_raised}
-use Rattle.pop_model.specs.Runs.{IsStuckList, start_of}
+use Rattle.pop_model.specs.Runs.{start_of}
 use Rattle.confluence_core.specs.declared.reached.Reached.{Reached}
 use Rattle.confluence_core.specs.declared.run.Run.{Run}
 use Rattle.confluence_core.specs.Runs.{ended}
-use Rattle.confluence_core.specs.Stretches.{GoesOn, IsReached}
+use Rattle.confluence_core.specs.Stretches.{GoesOn, HasEnded, IsReached}
 
 -- the height of keyed stacks, which each variable has
 abbrev pub height : Instance → ℕ
@@ -31,23 +31,18 @@ pub record IsToCome (last : ℕ) (i : Instance) (stuck : List Event) (h : ℕ) :
   pub is : h ≡ next_height last (height i)
   pub higher : height i < h
 
--- a stage that came so far has come to its end, where this is stuck
-pub record IsStageEnd (i : Instance) (reached : Reached) (stuck : List Event) : Type 0 where
-  pub none : reached.suspects ≡ []
-  pub stuck_list : IsStuckList i reached.cursors stuck
-
 -- how far stages have come together, and what is stuck there, the last of them at the height of the
 -- second instance
 pub data StagesLead (last : ℕ) (i : Instance) (keeps : Bool)
     : Instance → Reached → List Event → Type 0 where
   -- the first stage begins at zeros
   one : (reached : Reached) (stuck : List Event) → IsReached i (start_of i) keeps reached
-      → IsStageEnd i reached stuck → StagesLead last i keeps i reached stuck
+      → HasEnded i reached stuck → StagesLead last i keeps i reached stuck
   -- each other one goes on at the next height from the end of the stage before it
   more : (j : Instance) (before reached : Reached) (old stuck : List Event)
       → StagesLead last i keeps j before old → (IsLast last j old → ⊥)
       → GoesOn (at_next_height last j) before reached
-      → IsStageEnd (at_next_height last j) reached stuck
+      → HasEnded (at_next_height last j) reached stuck
       → StagesLead last i keeps (at_next_height last j) reached stuck
 
 -- what stages leave together, the last of them at the height of the second instance
@@ -71,4 +66,4 @@ pub record AreMade (last : ℕ) (i : Instance) (keeps : Bool) (j : Instance) (le
     (stuck : List Event) : Type 0 where
   pub staged : StagesLead last i keeps j left stuck
   pub reached : IsReached j (start_of i) keeps left
-  pub end : IsStageEnd j left stuck
+  pub end : HasEnded j left stuck

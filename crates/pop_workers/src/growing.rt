@@ -4,10 +4,9 @@ ghost use Rattle.pop_model.specs.Stacks.{height_of, IsKeyed};
 ghost use Rattle.pop_model.specs.Instances.{IsInstance, instance_raised};
 ghost use Rattle.pop_model.specs.Runs.{IsStuckList, start_of};
 ghost use Rattle.confluence_core.specs.Kept.{keeps_log};
-ghost use Rattle.confluence_core.specs.Indexes.{Serves};
 ghost use Rattle.confluence_core.specs.Runs.{IsRunOf};
-ghost use Rattle.confluence_core.specs.Stretches.{GoesOn, HasCome};
-ghost use Rattle.pop_workers.specs.Stages.{height, AreMade, AreStages, HasBegun, HasGrown, IsLast, IsStageEnd, IsToCome};
+ghost use Rattle.pop_workers.specs.Serving.{Serves};
+ghost use Rattle.pop_workers.specs.Stages.{height, AreMade, AreStages, HasBegun, HasGrown, IsLast, IsToCome};
 
 use crate::makers::Makers;
 use crate::workers::Workers;

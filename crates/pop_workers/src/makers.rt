@@ -5,11 +5,10 @@ ghost use Rattle.pop_model.specs.Popping.{AreWithin, AreValuesAt};
 ghost use Rattle.pop_model.specs.Runs.{IsStuckList};
 ghost use Rattle.pop_instance.specs.Index.{IsFamilyIndex};
 ghost use Rattle.claim_words.specs.Passes.{instance_of};
-ghost use Rattle.confluence_core.specs.Indexes.{Serves};
 ghost use Rattle.confluence_core.specs.Runs.{IsRunOf, ended};
-ghost use Rattle.confluence_core.specs.Stretches.{CanGoOn, GoesOn, HasCome, IsReached, IsTold};
+ghost use Rattle.confluence_core.specs.Stretches.{CanGoOn, GoesOn, HasCome, HasEnded, IsReached, IsTold};
 ghost use Rattle.pop_workers.specs.AtWork.{IsIdleOn, IsSoleOn, IsAtEnd};
-ghost use Rattle.pop_workers.specs.Stages.{IsStageEnd};
+ghost use Rattle.pop_workers.specs.Serving.{Serves};
 
 use crate::claimed::left_by;
 use crate::locked::work_together;
@@ -111,13 +110,11 @@ impl<'c, R, G> Makers<'c, R, G> {
         requires serves { Serves instance.now self.old }
         requires reached { HasCome instance.now reached }
         ensures on { IfOk result (λ stage. GoesOn instance.now reached stage.0) }
-        ensures end { IfOk result (λ stage. IsStageEnd instance.now stage.0 stage.1) }
+        ensures end { IfOk result (λ stage. HasEnded instance.now stage.0 stage.1) }
         ensures made_for { self.new ≡ self.old }
     {
         let over = Indexed::of(instance, &self.index);
-        let ended = over.finish(alloc, &mut self.reader, reached)?;
-        let stuck = over.stuck(alloc, &mut self.reader, &ended)?;
-        Ok((ended, stuck))
+        over.finish(alloc, &mut self.reader, reached)
     }
 
     // The same behind a stretch that workers made from where the run had come.
@@ -132,7 +129,7 @@ impl<'c, R, G> Makers<'c, R, G> {
         requires reached { HasCome instance.now reached }
         requires more { IsReached instance.now reached.cursors (is_some reached.log) more }
         ensures on { IfOk result (λ stage. GoesOn instance.now reached stage.0) }
-        ensures end { IfOk result (λ stage. IsStageEnd instance.now stage.0 stage.1) }
+        ensures end { IfOk result (λ stage. HasEnded instance.now stage.0 stage.1) }
         ensures made_for { self.new ≡ self.old }
     {
         let _units = instance.units();
@@ -196,7 +193,7 @@ impl<'c, R: Threads + Sync, G: Gate + Sync> Makers<'c, R, G> {
         requires serves { Serves instance.now self.old }
         requires reached { HasCome instance.now reached }
         ensures on { IfOk result (λ stage. GoesOn instance.now reached stage.0) }
-        ensures end { IfOk result (λ stage. IsStageEnd instance.now stage.0 stage.1) }
+        ensures end { IfOk result (λ stage. HasEnded instance.now stage.0 stage.1) }
         ensures made_for { self.new ≡ self.old }
     {
         if self.crew.workers == 1 {
@@ -274,7 +271,7 @@ impl<'c, R: Threads + Wait + Sync, G: Gate + Sync> Makers<'c, R, G> {
         requires serves { Serves instance.now self.old }
         requires reached { HasCome instance.now reached }
         ensures on { IfOk result (λ stage. GoesOn instance.now reached stage.0) }
-        ensures end { IfOk result (λ stage. IsStageEnd instance.now stage.0 stage.1) }
+        ensures end { IfOk result (λ stage. HasEnded instance.now stage.0 stage.1) }
         ensures made_for { self.new ≡ self.old }
     {
         if self.claimed || self.crew.workers == 1 {

@@ -70,8 +70,7 @@ pub fn run_part(alloc: Global, instance: &Instance, limit: u64) -> Result<Part, 
     let indexed = Indexed::of(instance, &index);
     let mut reader = Reader::keeping(alloc, instance.stacks())?;
     let opening = Reached::opening(alloc, instance, Keep::Log)?;
-    let reached = indexed.advance(alloc, &mut reader, opening, limit)?;
-    let stuck = indexed.stuck(alloc, &mut reader, &reached)?;
+    let (reached, stuck) = indexed.advance(alloc, &mut reader, opening, limit)?;
     let look = look_of(instance, &mut reader, &reached.cursors, &stuck);
     let Reached { cursors, log, .. } = reached;
     let Some(log) = log else { unreachable!() };

@@ -6,9 +6,10 @@ ghost use Rattle.run_makers.specs.Makers.{IsRunTo, MayGoOn, IsBroughtOn};
 use crate::maker::Maker;
 use crate::opening::Opening;
 use crate::stretch::{Stretch, index_of};
-use confluence_core::Reached;
+use confluence_core::{Indexed, Reached};
 use pop_batch::{Ends, batch_alone};
 use pop_instance::{Index, Instance};
+use pop_stacks::Reader;
 use pop_workers::Outcome;
 use prs_rounds::{RoundEnd, run_rounds_alone};
 use std::alloc::{AllocError, Global};
@@ -53,9 +54,8 @@ fn finish_alone(stretch: Stretch) -> Result<Outcome, AllocError>
         ..
     } = stretch;
     let index = index_of(alloc, instance, at_hand)?;
-    let mut alone = confluence_core::Alone::with(alloc, instance, index)?;
-    let ended = alone.finish(alloc, instance, reached)?;
-    alone.tell(alloc, instance, ended)
+    let mut reader = Reader::keeping(alloc, instance.stacks())?;
+    Indexed::of(instance, &index).run(alloc, &mut reader, reached)
 }
 
 impl Maker for Alone {

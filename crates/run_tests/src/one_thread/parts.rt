@@ -7,7 +7,7 @@ ghost use Rattle.confluence_core.specs.Runs.{IsEndOver};
 use super::{Case, Want, is_end};
 use crate::compare::{is_so, same, same_at};
 use crate::made::listed;
-use confluence_core::{Alone, End, Keep, Reached, Run, first_poppable, occurring, run_first};
+use confluence_core::{End, Indexed, Keep, Reached, Run, first_poppable, occurring, run_first};
 use pop_instance::{Cursors, Instance, Values};
 use pop_stacks::Reader;
 use std::alloc::Global;
@@ -34,12 +34,14 @@ fn run_to(rt: &impl Abort, alloc: Global, instance: &Instance, limit: u64) -> Ru
     ensures over { IsEndOver instance.now.stacks result.end }
 {
     let opening = Reached::opening(alloc, instance, Keep::Log).expect(rt, "memory");
-    let mut alone = Alone::of(alloc, instance).expect(rt, "memory");
-    let reached = alone.advance(alloc, instance, opening, limit);
-    let reached = reached.expect(rt, "memory");
-    let run = alone.tell(alloc, instance, reached).expect(rt, "memory");
-    drop(alone);
-    run
+    let index = instance.index(alloc).expect(rt, "memory");
+    let mut reader = Reader::new(instance.stacks());
+    let left = Indexed::of(instance, &index).advance(alloc, &mut reader, opening, limit);
+    let (reached, stuck) = left.expect(rt, "memory");
+    drop(index);
+    let values = Values::at(alloc, instance.stacks(), &mut reader, &reached.cursors);
+    drop(reader);
+    reached.told(stuck, values.expect(rt, "memory"))
 }
 
 // Whether an event is poppable at cursors.
@@ -151,22 +153,9 @@ fn an_end_has_the_values_at_its_cursors(rt: HostRuntime) {
     drop(instance);
 }
 
-// A run by an index that is made apart.
-fn run_by_index(rt: &impl Abort, alloc: Global, instance: &Instance) -> Run
-    ensures over { IsEndOver instance.now.stacks result.end }
-{
-    let index = instance.index(alloc).expect(rt, "memory");
-    let mut alone = Alone::with(alloc, instance, index).expect(rt, "memory");
-    let opening = Reached::opening(alloc, instance, Keep::Nothing).expect(rt, "memory");
-    let reached = alone.finish(alloc, instance, opening).expect(rt, "memory");
-    let run = alone.tell(alloc, instance, reached).expect(rt, "memory");
-    drop(alone);
-    run
-}
-
-// Compares its end.
+// Compares the end of a whole run by an index that is made apart.
 fn ends_by_index(rt: &impl Abort, alloc: Global, instance: &Instance) {
-    let run = run_by_index(rt, alloc, instance);
+    let run = run_to(rt, alloc, instance, u64::MAX);
     is_end(rt, &run.end, instance.stacks().count(), &TWO_EVENTS.want);
     drop(run);
 }

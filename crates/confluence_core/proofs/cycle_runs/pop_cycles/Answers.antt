@@ -31,6 +31,7 @@ returns c =
     walks.runs walks.cursors walks.end all in
     record {
       on = rw c.of-current.ensures at goes;
+      stuck_list = rw c.of-current.ensures at walks.stuck_list;
       most = λ most. let last = walks.runs.most most in omega (arith, last, walks.runs.limit_is);
       end = λ few. none ∙ ap (λ b. cond b [] (range_with_len 0 c.count.result))
           (lt-ltb left.pops left.limit (omega (arith, few, walks.runs.limit_is)));

@@ -2,10 +2,10 @@ use Rattle.std.proofs.Common.{subst, sym, arith}
 use Rattle.pop_model.specs.Instances.{Instance}
 use Rattle.pop_model.specs.Runs.{start_of}
 use Rattle.confluence_core.specs.Kept.{keeps_log}
-use Rattle.confluence_core.specs.Indexes.{Serves}
+use Rattle.pop_workers.specs.Serving.{Serves}
 use Rattle.confluence_core.specs.Stretches.{before_pops}
 use Rattle.confluence_core.proofs.Reaching.{goes_then}
-use Rattle.confluence_core.proofs.Serving.{serves_raised}
+use Rattle.pop_workers.proofs.Serving.{serves_raised}
 use Rattle.pop_workers.specs.Stages.{StagesLead}
 use Rattle.pop_workers.proofs.StageTurns.{first_grown, lower, nearer, next_grown, next_made, next_opens, still_keyed}
 use Rattle.pop_workers.proofs.growing.all_stages.Goals as goal

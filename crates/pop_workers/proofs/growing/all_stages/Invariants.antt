@@ -1,6 +1,6 @@
 use Rattle.std.proofs.Common.{◌-◌}
 use Rattle.confluence_core.specs.Kept.{keeps_log}
-use Rattle.confluence_core.specs.Indexes.{Serves}
+use Rattle.pop_workers.specs.Serving.{Serves}
 use Rattle.pop_workers.specs.Stages.{height, AreMade, HasGrown}
 use Rattle.pop_workers.proofs.growing.all_stages.Given as goal
 

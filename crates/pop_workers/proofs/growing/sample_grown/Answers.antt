@@ -1,8 +1,8 @@
 use Rattle.std.proofs.Common.{sym, subst}
 use Rattle.std.proofs.lemmas.Result.{IfOk-weaker}
-use Rattle.confluence_core.specs.Indexes.{Serves}
+use Rattle.pop_workers.specs.Serving.{Serves}
 use Rattle.confluence_core.specs.declared.run.Run.{Run}
-use Rattle.confluence_core.proofs.Serving.{serves_itself}
+use Rattle.pop_workers.proofs.Serving.{serves_itself}
 use Rattle.pop_workers.specs.Stages.{IsLast}
 use Rattle.pop_workers.proofs.StageTurns.{run_at_last, stages_told}
 use Rattle.pop_workers.proofs.growing.sample_grown.Goals as goal

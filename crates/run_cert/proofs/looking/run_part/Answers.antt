@@ -28,8 +28,8 @@ returns-clause-part c =
         };
         seen = record {
           look = c.look_of-look.ensures;
-          stuck_list = subst (λ x. IsStuckList x reached.cursors c.in_ok-stuck.stuck) c.of-indexed.ensures
-              c.in_ok-stuck.ensures.stuck_list;
+          stuck_list = subst (λ x. IsStuckList x reached.cursors c.in_ok-reached.stuck) c.of-indexed.ensures
+              left.stuck_list;
         };
       };
       most = omega (arith, most, size);

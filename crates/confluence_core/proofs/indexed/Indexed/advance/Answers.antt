@@ -1,9 +1,10 @@
 use Rattle.std.proofs.Common.{IfOk, sym, ap, subst, ◌∙◌, arith}
 use Rattle.pop_model.specs.Stacks.{StackTable}
 use Rattle.pop_model.specs.Instances.{Instance, IsInstance}
+use Rattle.pop_model.specs.Runs.{IsStuckList}
 use Rattle.pop_stacks.specs.Readers.{Belongs}
 use Rattle.confluence_core.specs.Indexes.{AreIndexed, family_in}
-use Rattle.confluence_core.specs.Stretches.{GoesOn, HasCome}
+use Rattle.confluence_core.specs.Stretches.{CanGoOn, GoesOn, HasCome}
 use Rattle.confluence_core.specs.declared.indexed.IndexedFamily.{IndexedFamily}
 use Rattle.confluence_core.proofs.Reaching.{come_can, come_room, goes_nowhere}
 use Rattle.confluence_core.proofs.indexed.Indexed.advance.Goals as goal
@@ -11,6 +12,9 @@ use Rattle.confluence_core.proofs.indexed.Indexed.advance.Goals as goal
 -- the instance of stacks and a family
 abbrev over : StackTable → IndexedFamily → Instance
 over s family = record { stacks = s; family = family_in family }
+
+pub stuck-requires-clause-can : goal.stuck-requires-clause-can
+stuck-requires-clause-can c = come_can c.args.self.now c.args.reached c.requires.reached
 
 pub returns-then-is_empty-clause-on : goal.returns-then-is_empty-clause-on
 returns-then-is_empty-clause-on c =
@@ -31,10 +35,15 @@ pop_listed-requires c =
       reached = subst (λ x. HasCome x c.args.reached) same c.requires.reached;
     }
 
-pub returns-in-Listed-clause-on : goal.returns-in-Listed-clause-on
-returns-in-Listed-clause-on c =
-    subst (λ x. IfOk c.pop_listed.result (GoesOn x c.args.reached))
-    (ap (over c.self.inside.stacks.now) (sym c.in-Listed.is) ∙ c.self.view_is) c.pop_listed.ensures.on
+pub stuck-requires-in-Listed-clause-can : goal.stuck-requires-in-Listed-clause-can
+stuck-requires-in-Listed-clause-can c =
+    subst (λ x. CanGoOn x c.in_ok-left-in-Listed.left)
+    (ap (over c.self.inside.stacks.now) (sym c.in-Listed.is) ∙ c.self.view_is) c.in_ok-left-in-Listed.ensures.on.can
+
+pub returns-in_ok-stuck-in-Listed-clause-on : goal.returns-in_ok-stuck-in-Listed-clause-on
+returns-in_ok-stuck-in-Listed-clause-on c =
+    subst (λ x. GoesOn x c.args.reached c.in_ok-left-in-Listed.left)
+    (ap (over c.self.inside.stacks.now) (sym c.in-Listed.is) ∙ c.self.view_is) c.in_ok-left-in-Listed.ensures.on
 
 pub pop_cycles-requires : goal.pop_cycles-requires
 pop_cycles-requires c =
@@ -48,5 +57,10 @@ pop_cycles-requires c =
 
 pub returns-in-Cycles-clause-on : goal.returns-in-Cycles-clause-on
 returns-in-Cycles-clause-on c =
-    subst (λ x. IfOk c.pop_cycles.result (GoesOn x c.args.reached))
+    subst (λ x. IfOk c.pop_cycles.result (λ left. GoesOn x c.args.reached left.0))
     (ap (over c.self.inside.stacks.now) (sym c.in-Cycles.is) ∙ c.self.view_is) c.pop_cycles.ensures.on
+
+pub returns-in-Cycles-clause-stuck_list : goal.returns-in-Cycles-clause-stuck_list
+returns-in-Cycles-clause-stuck_list c =
+    subst (λ x. IfOk c.pop_cycles.result (λ left. IsStuckList x left.0.cursors left.1))
+    (ap (over c.self.inside.stacks.now) (sym c.in-Cycles.is) ∙ c.self.view_is) c.pop_cycles.ensures.stuck_list

@@ -1,6 +1,9 @@
-use Rattle.std.proofs.Common.{inl, inr, rules, ℕ, ◌≡◌, ◌+◌, ◌<◌, Some, length, get_or, set, sym, subst, ◌∙◌, arith, length-set}
+use Rattle.std.proofs.Common.{inl, inr, rules, ℕ, Option, ◌≡◌, ◌+◌, ◌<◌, Some, length, get_or, set, sym, ap, subst, ◌∙◌, arith, length-set}
 use Rattle.std.proofs.lemmas.List.{get_or_default}
 use Rattle.std.proofs.lemmas.Option.{none-some, same_Some}
+use Rattle.pop_model.specs.Stacks.{value_at}
+use Rattle.pop_model.specs.Popping.{cursor}
+use Rattle.pop_model.specs.Cycles.{head_of}
 use Rattle.confluence_core.specs.CycleTables.{current_head}
 use Rattle.confluence_core.specs.Walks.{IsSettled}
 use Rattle.confluence_core.specs.LoopErasedWalks.{Walks}
@@ -8,6 +11,12 @@ use Rattle.confluence_core.specs.declared.walk.Walk.{Walk}
 use Rattle.confluence_core.proofs.PathsLemmas.{room_for_more, pushed, step_rests, step_on, step_back, step_below}
 use Rattle.confluence_core.proofs.WalkSteps.{sized_same}
 use Rattle.confluence_core.proofs.walk.Walk.extend.Goals as goal
+
+-- the arrow at the entry of its cursor is the current one
+head_here : (w : Walk) {k : ℕ} {r : Option ℕ} → k ≡ cursor w.walked.cursors w.at
+    → r ≡ head_of w.current.heads w.at (value_at w.current.stacks w.at k)
+    → r ≡ current_head w.current w.walked.cursors w.at
+head_here w here is = is ∙ ap (λ k. head_of w.current.heads w.at (value_at w.current.stacks w.at k)) here
 
 -- the mark that is read, of a variable to which the new arrow leads
 mark_at : {w : Walk} → Walks w → (v m : ℕ) → current_head w.current w.walked.cursors w.at ≡ Some v
@@ -39,12 +48,12 @@ overflow_add-depth c =
 pub returns-in_default-clause-leads : goal.returns-in_default-clause-leads
 returns-in_default-clause-leads c =
     step_rests c.requires.walks.sized c.requires.walks.goes_on
-    (λ w on. absurd (none-some w (sym c.in_default.is ∙ c.head.ensures.head ∙ on)))
+    (λ w on. absurd (none-some w (sym c.in_default.is ∙ head_here c.args.self.now c.get-entry.ensures c.head_at.ensures.head ∙ on)))
 
 pub returns-then-mark-clause-leads : goal.returns-then-mark-clause-leads
 returns-then-mark-clause-leads c =
     let w = c.args.self.now in
-    let leads = sym c.head.ensures.head ∙ c.in-Some.is in
+    let leads = sym (head_here c.args.self.now c.get-entry.ensures c.head_at.ensures.head) ∙ c.in-Some.is in
     let read = mark_at c.requires.walks c.in-Some.w c.index-mark.result.now leads c.index-mark.ensures in
     step_rests c.requires.walks.sized c.requires.walks.goes_on
     (λ v on. subst (IsSettled (set w.marks.items w.at (w.depth + 1))) (same_Some c.in-Some.w v (sym leads ∙ on))
@@ -61,17 +70,17 @@ place_of-requires-clause-trail c = pushed c.requires.walks.sized c.requires.walk
 
 pub place_of-requires-clause-known : goal.place_of-requires-clause-known
 place_of-requires-clause-known c =
-    step_below c.requires.walks.sized c.requires.walks.goes_on c.in-Some.w (sym c.head.ensures.head ∙ c.in-Some.is)
+    step_below c.requires.walks.sized c.requires.walks.goes_on c.in-Some.w (sym (head_here c.args.self.now c.get-entry.ensures c.head_at.ensures.head) ∙ c.in-Some.is)
 
 pub returns-in-Some-place_of-clause-leads : goal.returns-in-Some-place_of-clause-leads
 returns-in-Some-place_of-clause-leads c =
     let found = c.in-Some-place_of.ensures in
-    step_back c.requires.walks.sized c.requires.walks.goes_on c.in-Some.w (sym c.head.ensures.head ∙ c.in-Some.is)
+    step_back c.requires.walks.sized c.requires.walks.goes_on c.in-Some.w (sym (head_here c.args.self.now c.get-entry.ensures c.head_at.ensures.head) ∙ c.in-Some.is)
     c.in-Some-place_of.place found.0 found.1
 
 pub returns-in-None-clause-leads : goal.returns-in-None-clause-leads
 returns-in-None-clause-leads c =
-    let leads = sym c.head.ensures.head ∙ c.in-Some.is in
+    let leads = sym (head_here c.args.self.now c.get-entry.ensures c.head_at.ensures.head) ∙ c.in-Some.is in
     let read = mark_at c.requires.walks c.in-Some.w c.index-mark.result.now leads c.index-mark.ensures in
     step_on c.requires.walks.sized c.requires.walks.goes_on c.in-Some.w leads (λ met. elim met [
       | inl at ↦ c.if-mark.false (read ∙ at)

@@ -1,7 +1,6 @@
 use Rattle.std.proofs.lemmas.Result.{IfOk-weaker}
 use Rattle.confluence_core.specs.declared.run.Run.{Run}
-use Rattle.confluence_core.proofs.Reaching.{gone_run}
-use Rattle.pop_workers.proofs.ToldRuns.{told_on}
+use Rattle.confluence_core.proofs.Reaching.{gone_run, told_on}
 use Rattle.pop_workers.proofs.makers.Makers.run.Goals as goal
 
 pub tell-requires-clause-can : goal.tell-requires-clause-can

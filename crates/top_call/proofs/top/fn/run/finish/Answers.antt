@@ -1,6 +1,6 @@
 use Rattle.std.proofs.Common.{sym, subst}
-use Rattle.confluence_core.specs.Indexes.{Serves}
-use Rattle.confluence_core.proofs.Serving.{serves_itself}
+use Rattle.pop_workers.specs.Serving.{Serves}
+use Rattle.pop_workers.proofs.Serving.{serves_itself}
 use Rattle.run_makers.proofs.Brought.{brought}
 use Rattle.top_call.proofs.top.fn.run.finish.Goals as goal
 

@@ -4,7 +4,7 @@ use Rattle.pop_model.specs.Stacks.{Origin, origin_raised}
 use Rattle.pop_model.specs.Stacks.Origin.{Given, Keyed}
 use Rattle.pop_model.specs.Instances.{Instance, instance_raised}
 use Rattle.pop_stacks.specs.Readers.{HasSource}
-use Rattle.confluence_core.specs.Indexes.{Serves}
+use Rattle.pop_workers.specs.Serving.{Serves}
 
 -- entries have the source that they have
 source_itself : (o : Origin) → HasSource o o
