@@ -8,6 +8,7 @@ mod ManyDraws
 mod KeyedEntries
 -- What a reader keeps: bits in words, and groups in lines
 mod PlaneLemmas
+mod QuadLemmas
 mod KeptLemmas
 -- The law: the value is the least whose weights exceed the scaled number
 pub mod ValueIsLeast

@@ -1,5 +1,6 @@
--- Words of the key stream: of a group that is read or kept, and of first blocks.
+-- Words of the key stream: of a group that is read or kept, and of a block of four streams.
 use Rattle.std.specs.Prelude.{◌≡◌, ℕ, ◌+◌, ◌*◌, ◌<◌, List, true, slice_index}
+use Rattle.rand_chacha.specs.Block.{block_word}
 use Rattle.rand_chacha.specs.ChaCha.{ChaCha, word_at}
 use Rattle.pop_stacks.specs.declared.refill.Refill.{Refill}
 
@@ -8,10 +9,10 @@ abbrev pub AreWordsOf : List ℕ → ℕ → ℕ → List ℕ → Type 0
 AreWordsOf key stream group words =
     (i : ℕ) → i < 64 → slice_index words i ≡ word_at 10 key stream (64 * group + i)
 
--- the first 16 words of each of the four streams from this one on
-abbrev pub AreFirstWords : List ℕ → ℕ → List ℕ → Type 0
-AreFirstWords key stream words = (j k : ℕ) → j < 4 → k < 16
-    → slice_index words (16 * j + k) ≡ word_at 10 key (stream + j) k
+-- the 16 words of this block of each of the four streams from this one on
+abbrev pub AreBlockWords : List ℕ → ℕ → ℕ → List ℕ → Type 0
+AreBlockWords key stream block words = (j k : ℕ) → j < 4 → k < 16
+    → slice_index words (16 * j + k) ≡ block_word 10 key block (stream + j) k
 
 -- what a refill says it holds, it holds
 abbrev pub HoldsWords : List ℕ → Refill → Type 0

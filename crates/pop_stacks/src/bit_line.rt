@@ -1,9 +1,11 @@
-ghost use Rattle.std.specs.Prelude.{◌≡◌, slice_get};
+ghost use Rattle.std.specs.Prelude.{◌≡◌, ◌<◌, ◌+◌, ◌^◌, slice_get};
 ghost use Rattle.std.specs.Int.{bit_at};
 ghost use Rattle.std.specs.Option.{option_and_then};
-ghost use Rattle.pop_stacks.specs.KeptValues.{kept_in};
+ghost use Rattle.pop_stacks.specs.KeptValues.{AreBelow, IsBehind, kept_in};
 
+use crate::bit_planes::{behind, plane};
 use crate::mark::{NOTHING, place_of};
+use crate::refill::{BLOCK, BLOCKS};
 
 /// Values of entries of a variable with at most two values, a bit each.
 #[derive(Clone, Copy)]
@@ -30,5 +32,21 @@ impl BitLine {
         let line = lines.get(v as usize)?;
         let place = place_of(line.mark, k)?;
         Some((line.bits >> place) & 1)
+    }
+
+    /// The line with the values of a block, below 2, behind those that it keeps before it.
+    #[inline]
+    pub fn with(self, block: u32, values: &[u8; 8]) -> BitLine
+        requires small { block < 2 ^ 28 }
+        requires below { AreBelow 2 8 values.now }
+        ensures mark { result.mark ≡ block + 1 }
+        ensures values { IsBehind block (bit_at self.bits) values.now (bit_at result.bits) }
+    {
+        let more = plane(values, 0);
+        let bits = behind(self.bits, BLOCK * (block % BLOCKS), more);
+        BitLine {
+            mark: block + 1,
+            bits,
+        }
     }
 }

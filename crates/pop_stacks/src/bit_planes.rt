@@ -1,5 +1,5 @@
 // Words made of one bit of each of at most 32 values.
-ghost use Rattle.std.specs.Prelude.{◌≡◌, ◌<◌, ◌≤◌, ℕ, slice_index};
+ghost use Rattle.std.specs.Prelude.{◌≡◌, ◌<◌, ◌≤◌, ◌+◌, ℕ, slice_index};
 ghost use Rattle.std.specs.Int.{bit_at};
 
 /// The bit of weight 2^bit of each value; that of the first value is the lowest bit.
@@ -15,4 +15,14 @@ pub fn plane<const N: usize>(values: &[u8; N], bit: u32) -> u32
         }
     }
     bits
+}
+
+/// The bits of a word below a place, and from there on those of another.
+#[inline]
+pub fn behind(bits: u32, place: u32, more: u32) -> u32
+    requires { place < 32 }
+    ensures first { (i : ℕ) → i < place → bit_at result i ≡ bit_at bits i }
+    ensures more { (i : ℕ) → place + i < 32 → bit_at result (place + i) ≡ bit_at more i }
+{
+    (bits & ((1 << place) - 1)) | (more << place)
 }

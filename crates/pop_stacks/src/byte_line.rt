@@ -1,8 +1,9 @@
-ghost use Rattle.std.specs.Prelude.{◌≡◌, ◌<◌, ◌≤◌, ℕ, slice_get, slice_index};
+ghost use Rattle.std.specs.Prelude.{◌≡◌, ◌<◌, ◌≤◌, ◌+◌, ◌^◌, ℕ, slice_get, slice_index};
 ghost use Rattle.std.specs.Option.{option_and_then};
-ghost use Rattle.pop_stacks.specs.KeptValues.{kept_in};
+ghost use Rattle.pop_stacks.specs.KeptValues.{IsBehind, kept_in};
 
 use crate::mark::{NOTHING, place_of};
+use crate::refill::{BLOCK, BLOCKS};
 
 /// Values of entries of a variable, a byte each.
 #[derive(Clone, Copy)]
@@ -41,5 +42,24 @@ impl ByteLine {
         let line = lines.get(v as usize)?;
         let place = place_of(line.mark, k)?;
         Some(line.values[place as usize] as u32)
+    }
+
+    /// The line with the values of a block behind those that it keeps before it.
+    #[inline]
+    pub fn with(self, block: u32, values: &[u8; 8]) -> ByteLine
+        requires small { block < 2 ^ 28 }
+        ensures mark { result.mark ≡ block + 1 }
+        ensures values { IsBehind block (slice_index self.values) values.now
+            (slice_index result.values) }
+    {
+        let place = (BLOCK * (block % BLOCKS)) as usize;
+        let mut all = self.values;
+        for i in 0..8 {
+            all[place + i] = values[i];
+        }
+        ByteLine {
+            mark: block + 1,
+            values: all,
+        }
     }
 }

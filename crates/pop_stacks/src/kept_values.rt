@@ -1,14 +1,14 @@
-ghost use Rattle.std.specs.Prelude.{◌≡◌, ◌≤◌, ℕ, ◌↔◌, IfOk, IsTrue, None};
+ghost use Rattle.std.specs.Prelude.{◌≡◌, ◌<◌, ◌≤◌, ◌^◌, ℕ, ◌↔◌, IfOk, IsTrue, Some, None};
 
 use crate::bit_line::{self, BitLine};
 use crate::bit_planes::plane;
 use crate::byte_line::{self, ByteLine};
-use crate::mark::NOTHING;
 use crate::quad_line::{self, QuadLine};
+use crate::refill::BLOCKS;
 use std::alloc::{AllocError, Global};
 
-/// For each variable that has a line the values of its first block of entries, or of the group that was
-/// looked at last.
+/// For each variable that has a line the values of the group of entries that was looked at last, up to
+/// the last block that was read.
 #[derive(Drop)]
 pub enum KeptValues {
     /// No variable has a line.
@@ -22,7 +22,7 @@ pub enum KeptValues {
 }
 
 impl KeptValues {
-    ghost use Rattle.pop_stacks.specs.KeptValues.{kept_at, keeps, CanKeep, AreBelow, HasPlaces, Replaces};
+    ghost use Rattle.pop_stacks.specs.KeptValues.{kept_at, keeps, CanKeep, AreBelow, HasPlaces, Replaces, Appends, Awaits, mark_at};
 
     /// Empty lines for this many variables, for values 0 and 1.
     pub fn bits(alloc: Global, count: u32) -> Result<KeptValues, AllocError>
@@ -72,26 +72,45 @@ impl KeptValues {
         }
     }
 
-    /// Whether `can_keep`, and nothing is kept of variable v yet.
-    pub fn can_begin(&self, v: u32, domain: u32) -> bool
-        ensures { IsTrue result → CanKeep self.now v domain }
+    /// Whether `can_keep`, and this block of variable v is its next one. The first block of a later
+    /// group takes the place of the values that are kept, so it counts only if it was asked for.
+    pub fn awaits(&self, v: u32, domain: u32, block: u32, asked: bool) -> bool
+        ensures { IsTrue result ↔ Awaits self.now v domain block asked }
     {
         self.can_keep(v, domain)
+            && (asked || block == 0 || block % BLOCKS != 0)
             && match self {
                 KeptValues::Nothing => false,
-                KeptValues::Bits(lines) => lines[v as usize].mark == NOTHING,
-                KeptValues::Quads(lines) => lines[v as usize].mark == NOTHING,
-                KeptValues::Bytes(lines) => lines[v as usize].mark == NOTHING,
+                KeptValues::Bits(lines) => lines[v as usize].mark == block,
+                KeptValues::Quads(lines) => lines[v as usize].mark == block,
+                KeptValues::Bytes(lines) => lines[v as usize].mark == block,
             }
+    }
+
+    /// Keeps the values of the next block of variable v, which are below `domain`, after those of its
+    /// group that are kept. Values of another group are no longer kept.
+    pub fn append(&mut self, v: u32, domain: u32, block: u32, values: &[u8; 8])
+        requires known { CanKeep self.old v domain }
+        requires next { mark_at self.old v ≡ Some block }
+        requires below { AreBelow domain 8 values.now }
+        requires small { block < 2 ^ 28 }
+        ensures appended { Appends self.old self.new v block values.now }
+        ensures keeping { keeps self.new ≡ keeps self.old }
+    {
+        match self {
+            KeptValues::Nothing => {}
+            KeptValues::Bits(lines) => lines[v as usize] = lines[v as usize].with(block, values),
+            KeptValues::Quads(lines) => lines[v as usize] = lines[v as usize].with(block, values),
+            KeptValues::Bytes(lines) => lines[v as usize] = lines[v as usize].with(block, values),
+        }
     }
 
     /// Keeps the values that this mark says of variable v, which are below `domain`, in the place of
     /// what was kept of it.
-    pub fn keep<const N: usize>(&mut self, v: u32, domain: u32, mark: u32, values: &[u8; N])
+    pub fn keep(&mut self, v: u32, domain: u32, mark: u32, values: &[u8; 32])
         requires known { CanKeep self.old v domain }
-        requires below { AreBelow domain N values.now }
-        requires places { HasPlaces mark N }
-        requires few { N ≤ 32 }
+        requires below { AreBelow domain 32 values.now }
+        requires places { HasPlaces mark 32 }
         ensures replaced { Replaces self.old self.new v mark values.now }
         ensures keeping { keeps self.new ≡ keeps self.old }
     {
@@ -102,9 +121,7 @@ impl KeptValues {
                 lines[v as usize] = BitLine { mark, bits };
             }
             KeptValues::Quads(lines) => {
-                let low = plane(values, 0);
-                let high = plane(values, 1);
-                lines[v as usize] = QuadLine { mark, low, high };
+                lines[v as usize] = QuadLine::of(mark, values);
             }
             KeptValues::Bytes(lines) => {
                 lines[v as usize] = ByteLine::of(mark, values);

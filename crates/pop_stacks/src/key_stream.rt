@@ -1,7 +1,7 @@
 ghost use Rattle.std.specs.Prelude.{◌≡◌, ◌<◌, ◌+◌, ◌*◌, ◌^◌, ℕ};
 ghost use Rattle.rand_chacha.specs.ChaCha.{word_at, key_of};
 
-use crate::lanes::first_blocks;
+use crate::lanes::blocks;
 use crate::refill::{GROUP, NONE, Refill, read_group};
 use rand_chacha::ChaCha20Rng;
 use rand_core::SeedableRng;
@@ -36,7 +36,7 @@ impl Model for KeyStream {
 }
 
 impl KeyStream {
-    ghost use Rattle.pop_stacks.specs.Words.{AreWordsOf, AreFirstWords};
+    ghost use Rattle.pop_stacks.specs.Words.{AreWordsOf, AreBlockWords};
 
     /// The key stream of the key with these bytes.
     pub fn new(key: [u8; 32]) -> KeyStream
@@ -58,13 +58,13 @@ impl KeyStream {
         }
     }
 
-    /// Reads the first 16 words of each of the four streams from this one on, one stream after
-    /// another: one block each, in the time of one refill.
-    pub fn read_first(&self, stream: u64, words: &mut [u32; 64])
+    /// Reads the 16 words of a block of each of the four streams from this one on, one stream after
+    /// another, in the time of one refill.
+    pub fn read_block(&self, stream: u64, block: u32, words: &mut [u32; 64])
         requires { stream + 3 < 2 ^ 64 }
-        ensures { AreFirstWords self.now stream words.new }
+        ensures { AreBlockWords self.now stream block words.new }
     {
-        first_blocks(DOUBLE_ROUNDS, &self.key, stream, words);
+        blocks(DOUBLE_ROUNDS, &self.key, block as u64, stream, words);
     }
 
     /// Reads the words of a group of entries of a stream, and keeps none of them.

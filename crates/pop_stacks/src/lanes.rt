@@ -1,4 +1,4 @@
-// The block function of ChaCha20 on the first blocks of four streams at a time, one in each lane. The
+// The block function of ChaCha20 on a block of each of four streams at a time, one in each lane. The
 // generator of `rand_chacha` has four blocks of one stream there. Contracts are by its definition of
 // a block, so what is made here are its words.
 ghost use Rattle.std.specs.Prelude.{◌≡◌, ℕ, ◌+◌, ◌*◌, ◌/◌, ◌%◌, ◌^◌, ◌<◌, slice_index};
@@ -103,9 +103,9 @@ fn diagonal_round(x: [u32x4; 16]) -> [u32x4; 16]
 }
 
 #[inline(always)]
-fn first_states(key: &[u32; 8], stream: u64) -> [u32x4; 16]
+fn states(key: &[u32; 8], block: u64, stream: u64) -> [u32x4; 16]
     requires { stream + 3 < 2 ^ 64 }
-    ensures { (j : ℕ) → j < 4 → lane j result ≡ initial_state key.now 0 (stream + j) }
+    ensures { (j : ℕ) → j < 4 → lane j result ≡ initial_state key.now block (stream + j) }
 {
     let s1 = stream + 1;
     let s2 = stream + 2;
@@ -123,8 +123,8 @@ fn first_states(key: &[u32; 8], stream: u64) -> [u32x4; 16]
         u32x4::splat(key[5]),
         u32x4::splat(key[6]),
         u32x4::splat(key[7]),
-        u32x4::splat(0),
-        u32x4::splat(0),
+        u32x4::splat(low(block)),
+        u32x4::splat(high(block)),
         u32x4::from_array([low(stream), low(s1), low(s2), low(s3)]),
         u32x4::from_array([high(stream), high(s1), high(s2), high(s3)]),
     ]
@@ -144,13 +144,13 @@ fn high(x: u64) -> u32
     (x >> 32) as u32
 }
 
-/// Writes the first blocks of the four streams from `stream` on, one after another.
-pub fn first_blocks(double_rounds: u32, key: &[u32; 8], stream: u64, out: &mut [u32; 64])
+/// Writes this block of each of the four streams from `stream` on, one after another.
+pub fn blocks(double_rounds: u32, key: &[u32; 8], block: u64, stream: u64, out: &mut [u32; 64])
     requires { stream + 3 < 2 ^ 64 }
     ensures { (j k : ℕ) → j < 4 → k < 16
-        → slice_index out.new (16 * j + k) ≡ block_word double_rounds key.now 0 (stream + j) k }
+        → slice_index out.new (16 * j + k) ≡ block_word double_rounds key.now block (stream + j) k }
 {
-    let first = first_states(key, stream);
+    let first = states(key, block, stream);
     let mut x = first;
     'rounds: for _round in 0..double_rounds {
         x = diagonal_round(column_round(x));

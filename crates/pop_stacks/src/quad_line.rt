@@ -1,36 +1,81 @@
-ghost use Rattle.std.specs.Prelude.{◌≡◌, slice_get};
+ghost use Rattle.std.specs.Prelude.{◌≡◌, ◌<◌, ◌≤◌, ◌+◌, ◌^◌, ℕ, slice_get, slice_index};
 ghost use Rattle.std.specs.Option.{option_and_then};
-ghost use Rattle.pop_stacks.specs.KeptValues.{kept_in, two_bits_at};
+ghost use Rattle.pop_stacks.specs.KeptValues.{AreBelow, IsBehind, kept_in, two_bits_at, quad_in};
 
 use crate::mark::{NOTHING, place_of};
+use crate::refill::{BLOCK, BLOCKS};
 
 /// Values of entries of a variable with at most four values, two bits each.
 #[derive(Clone, Copy)]
 pub struct QuadLine {
     /// Which entries are kept.
     pub mark: u32,
-    /// The lower bit of each value; that of the value at the first place is the lowest bit.
-    pub low: u32,
-    /// The upper bit of each value, in the same order.
-    pub high: u32,
+    /// The values of each block of the group. Those of its first entry are the lowest bits.
+    pub blocks: [u16; 4],
 }
 
 /// Nothing is kept.
 pub const EMPTY: QuadLine = QuadLine {
     mark: NOTHING,
-    low: 0,
-    high: 0,
+    blocks: [0; 4],
 };
 
+// The values of a block, below 4, from a place on: two bits each, side by side.
+fn quads<const N: usize>(values: &[u8; N], at: usize) -> u16
+    requires place { at + 8 ≤ N }
+    requires below { AreBelow 4 N values.now }
+    ensures { (i : ℕ) → i < 8 → two_bits_at result i ≡ slice_index values.now (at + i) }
+{
+    let mut bits: u16 = 0;
+    for i in 0..8 {
+        bits = 4 * bits + values[at + 7 - i] as u16;
+    }
+    bits
+}
+
 impl QuadLine {
-    /// The value of entry k of variable v, where its line keeps it.
+    /// A line with this mark and the values of a group, below 4.
+    pub fn of(mark: u32, values: &[u8; 32]) -> QuadLine
+        requires { AreBelow 4 32 values.now }
+        ensures mark { result.mark ≡ mark }
+        ensures values { (i : ℕ) → i < 32 → quad_in result.blocks i ≡ slice_index values.now i }
+    {
+        QuadLine {
+            mark,
+            blocks: [
+                quads(values, 0),
+                quads(values, 8),
+                quads(values, 16),
+                quads(values, 24),
+            ],
+        }
+    }
+
+    /// The value of entry k of variable v, if its line keeps it.
     #[inline]
     pub fn value_in(lines: &[QuadLine], v: u32, k: u32) -> Option<u32>
         ensures { result ≡
-            option_and_then (λ l. kept_in l.mark (two_bits_at l.low l.high) k) (slice_get lines.now v) }
+            option_and_then (λ l. kept_in l.mark (quad_in l.blocks) k) (slice_get lines.now v) }
     {
         let line = lines.get(v as usize)?;
         let place = place_of(line.mark, k)?;
-        Some(((line.low >> place) & 1) + 2 * ((line.high >> place) & 1))
+        let values = line.blocks[(place / BLOCK % BLOCKS) as usize];
+        Some(((values >> (2 * (place % BLOCK))) % 4) as u32)
+    }
+
+    /// The line with the values of a block, below 4, after those that it keeps before it.
+    #[inline]
+    pub fn with(self, block: u32, values: &[u8; 8]) -> QuadLine
+        requires small { block < 2 ^ 28 }
+        requires below { AreBelow 4 8 values.now }
+        ensures mark { result.mark ≡ block + 1 }
+        ensures values { IsBehind block (quad_in self.blocks) values.now (quad_in result.blocks) }
+    {
+        let mut blocks = self.blocks;
+        blocks[(block % BLOCKS) as usize] = quads(values, 0);
+        QuadLine {
+            mark: block + 1,
+            blocks,
+        }
     }
 }

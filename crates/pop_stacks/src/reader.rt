@@ -47,9 +47,9 @@ impl Reader {
         }
     }
 
-    /// A reader of these stacks that keeps for each variable the values of the group of 32 entries
-    /// that was looked at last; before that the eight of its first block are kept, until an entry
-    /// behind them is looked at. Its memory is linear in the number of variables.
+    /// A reader of these stacks that keeps for each variable values of the group of 32 entries that was
+    /// looked at last: all of them, or those of its blocks of eight that were drawn so far. The next
+    /// block is drawn for four variables at once. Its memory is linear in the number of variables.
     pub fn keeping(alloc: Global, stacks: &Stacks) -> Result<Reader, AllocError>
         ensures { IfOk result (Belongs stacks.now) }
     {

@@ -11,6 +11,9 @@ pub const GROUP: u32 = 32;
 /// How many entries a block of the cipher holds.
 pub const BLOCK: u32 = 8;
 
+/// How many blocks a group has.
+pub const BLOCKS: u32 = 4;
+
 /// The words of one group of entries of a stream.
 #[derive(Clone, Copy)]
 pub struct Refill {

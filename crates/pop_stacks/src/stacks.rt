@@ -3,8 +3,7 @@ ghost use Rattle.pop_model.specs.Stacks.{variables_of, domain_of, height_of, val
 
 use crate::kept_values::KeptValues;
 use crate::key_stream::KeyStream;
-use crate::mark::FIRST_BLOCK;
-use crate::refill::{BLOCK, GROUP};
+use crate::refill::{BLOCK, BLOCKS, GROUP};
 use crate::sums::Sums;
 use crate::{StackFault, StackSpec, Weights};
 use std::alloc::{AllocError, Global};
@@ -167,33 +166,35 @@ impl Stacks {
         KeptValues::bytes(alloc, count)
     }
 
-    // Entry k of variable v, one of its first block. The first blocks of four variables are drawn at
-    // once, for a quarter of a refill each, and kept where nothing is kept yet. It is no part of
-    // `value`, whose other ways want no room for lanes.
+    // Entry k of variable v, whose line keeps the entries before the block of this one. That block of
+    // four variables is drawn at once, for a quarter of a refill each, and kept where it is the next
+    // one: a line gives up no values for a block that it wasn't asked for. It is no part of `value`,
+    // whose other ways want no room for lanes.
     #[inline(never)]
     fn begin(&self, stream: &KeyStream, kept: &mut KeptValues, v: u32, k: u32) -> u32
         requires keyed { IsKeyed self.now.origin }
         requires streams { Streams self.now.origin stream.now }
         requires kept { KeepsValues self.now kept.old }
         requires variable { v < variables_of self.now }
-        requires place { k < 8 }
+        requires short { k < 2 ^ 31 }
         ensures value { result ≡ value_at self.now v k }
         ensures within { result < domain_of self.now v }
         ensures kept { KeepsValues self.now kept.new }
         ensures keeping { keeps kept.new ≡ keeps kept.old }
     {
         let first = v - v % 4;
+        let block = k / BLOCK;
         let mut words = [0; 64];
-        stream.read_first(stream_number(self.sample, first), &mut words);
+        stream.read_block(stream_number(self.sample, first), block, &mut words);
         let end = self.sums.count().min(first + 4);
         for u in first..end {
             let domain = self.sums.slots(u);
-            if kept.can_begin(u, domain) {
+            if kept.awaits(u, domain, block, u == v) {
                 let values: [u8; 8] = self.sums.draw_many(u, &words, 16 * (u - first) as usize);
-                kept.keep(u, domain, FIRST_BLOCK, &values);
+                kept.append(u, domain, block, &values);
             }
         }
-        let at = (16 * (v - first) + 2 * k) as usize;
+        let at = (16 * (v - first) + 2 * (k % BLOCK)) as usize;
         self.sums.draw(v, words[at], words[at + 1])
     }
 
@@ -214,14 +215,14 @@ impl Stacks {
         match &self.spec {
             StackSpec::Key(_) => {
                 let domain = self.sums.slots(v);
-                if k < BLOCK && kept.can_begin(v, domain) {
+                if kept.awaits(v, domain, k / BLOCK, true) {
                     return self.begin(stream, kept, v, k);
                 }
                 if kept.can_keep(v, domain) {
                     let mut words = [0; 64];
                     stream.read(stream_number(self.sample, v), k / GROUP, &mut words);
                     let values: [u8; 32] = self.sums.draw_many(v, &words, 0);
-                    kept.keep(v, domain, k / GROUP + 1, &values);
+                    kept.keep(v, domain, BLOCKS * (k / GROUP) + BLOCKS, &values);
                     return values[(k % GROUP) as usize] as u32;
                 }
                 let (low, high) = stream.words(stream_number(self.sample, v), k);

@@ -8,7 +8,7 @@ use Rattle.pop_stacks.proofs.stacks.Stacks.value.Goals as goal
 use Rattle.pop_stacks.proofs.stacks.Stacks.value.Goals.{After-keep}
 
 -- the values of the group are drawn
-drawn : (c : After-keep) → AreValuesOf c.args.self.now c.args.v (c.args.k / 32 + 1) c.draw_many-values.result
+drawn : (c : After-keep) → AreValuesOf c.args.self.now c.args.v (4 * (c.args.k / 32) + 4) c.draw_many-values.result
 drawn c =
     group_values c.args.self.now c.self.inside.spec c.in-Key.field-0 c.args.stream.now c.self.inside.sample c.self.inside.height
     c.self.inside.sums c.args.v (c.args.k / 32) c.read.new.words c.draw_many-values.result
@@ -17,24 +17,19 @@ drawn c =
     c.draw_many-values.ensures
 
 pub keep-requires : goal.keep-requires
-keep-requires c = (
-  omega arith,
-  (
-    c.if-can_keep.ensures.0 refl,
-    (
-      λ i within. omega (arith, (c.draw_many-values.ensures i within).1, c.slots-domain.ensures),
-      (λ k i at. (group_entry (c.args.k / 32) k i (omega arith) at).1, omega arith),
-    ),
-  ),
-)
+keep-requires c = record {
+  known = c.if-can_keep.ensures.0 refl;
+  below = λ i within. omega (arith, (c.draw_many-values.ensures i within).1, c.slots-domain.ensures);
+  places = λ k i at. (group_entry (c.args.k / 32) k i at).1;
+}
 
 pub returns-then-can_keep-clause-value : goal.returns-then-can_keep-clause-value
 returns-then-can_keep-clause-value c =
-    (drawn c c.args.k (c.args.k % 32) (place_in_group c.args.k c.requires.short)).0
+    (drawn c c.args.k (c.args.k % 32) (place_in_group c.args.k)).0
 
 pub returns-then-can_keep-clause-kept : goal.returns-then-can_keep-clause-kept
 returns-then-can_keep-clause-kept c =
-    keeps_replaced c.args.self.now c.args.kept.now c.keep.new.self c.args.v (c.args.k / 32 + 1)
+    keeps_replaced c.args.self.now c.args.kept.now c.keep.new.self c.args.v (4 * (c.args.k / 32) + 4)
     c.draw_many-values.result c.requires.kept c.keep.ensures.replaced (drawn c)
 
 pub returns-else-can_keep-clause-value : goal.returns-else-can_keep-clause-value

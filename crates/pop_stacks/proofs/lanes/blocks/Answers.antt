@@ -1,7 +1,7 @@
 use Rattle.std.proofs.Common.{◌≡◌, ◌<◌, refl, sym, ap, ap₂, slice_index, ◌∙◌, arith, add-one}
 use Rattle.rand_chacha.specs.Block.{add32, column_round, diagonal_round, double_rounds, block_word}
 use Rattle.rand_chacha.proofs.LaneLemmas.{slice_index-lane}
-use Rattle.pop_stacks.proofs.lanes.first_blocks.Goals as goal
+use Rattle.pop_stacks.proofs.lanes.blocks.Goals as goal
 
 pub rounds-init : goal.rounds-init
 unfolding double_rounds
@@ -18,8 +18,8 @@ unfolding block_word
 returns c j k lane word =
     let written : k < c.words.k = omega arith in
     let done : c.rounds._round ≡ c.args.double_rounds = omega arith in
-    let first = c.first_states-first.ensures j lane in
+    let first = c.states-first.ensures j lane in
     c.words.invariant.1 j k lane written
     ∙ ap₂ add32
     (sym (slice_index-lane c.rounds.x j k word) ∙ ap (λ x. slice_index x k) (c.rounds.invariant j lane ∙ ap₂ double_rounds done first))
-    (sym (slice_index-lane c.first_states-first.result j k word) ∙ ap (λ x. slice_index x k) first)
+    (sym (slice_index-lane c.states-first.result j k word) ∙ ap (λ x. slice_index x k) first)

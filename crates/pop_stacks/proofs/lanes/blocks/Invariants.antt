@@ -1,7 +1,7 @@
 use Rattle.std.proofs.Common.{◌≡◌, ℕ, ◌+◌, ◌*◌, ◌<◌, length, slice_index}
 use Rattle.rand_chacha.specs.Block.{add32, double_rounds}
 use Rattle.rand_chacha.specs.Lanes.{lane, lane_at}
-use Rattle.pop_stacks.proofs.lanes.first_blocks.Given as goal
+use Rattle.pop_stacks.proofs.lanes.blocks.Given as goal
 
 abbrev pub invariant-rounds : goal.invariant-rounds
 invariant-rounds l = (j : ℕ) → j < 4 → lane j l.x ≡ double_rounds l._round (lane j l.first)
