@@ -27,3 +27,5 @@ pub mod GrownSets
 pub mod MovesLemmas
 pub mod RoundsLemmas
 pub mod RoundRoom
+-- Runs that stop and go on
+pub mod GoingOn

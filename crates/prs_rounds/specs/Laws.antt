@@ -1,14 +1,14 @@
 -- The laws of resampling sets and of rounds.
-use Rattle.std.specs.Prelude.{◌≡◌, ◌≢◌, ◌⊎◌, ◌↔◌, ℕ, List, [], Option, None}
+use Rattle.std.specs.Prelude.{◌≡◌, ◌≢◌, ◌⊎◌, ◌↔◌, ℕ, ◌+◌, List, [], Option, None}
 use Rattle.pop_model.specs.Stacks.{StackTable}
 use Rattle.pop_model.specs.Popping.{Cube, Occurs}
 use Rattle.pop_model.specs.Families.{Event, IsEvent}
 use Rattle.pop_model.specs.Families.Family.{Listed}
 use Rattle.pop_model.specs.Instances.{Instance}
 use Rattle.pop_model.specs.Extremal.{IsExtremal}
-use Rattle.pop_model.specs.Runs.{IsFirstEnd}
+use Rattle.pop_model.specs.Runs.{IsFirstEnd, start_of}
 use Rattle.prs_rounds.specs.Resampling.{OccursIn, Touches, Differs, IsResampled, IsExcluded}
-use Rattle.prs_rounds.specs.Rounds.{IsRoundsEnd}
+use Rattle.prs_rounds.specs.Rounds.{IsRoundsEnd, IsRoundsStop, Rounds}
 
 -- what the resampling set is, whatever the steps were: it has the events that occur; what shares a
 -- variable with an event of it is in it or excluded; and what is excluded isn't in it, and demands
@@ -61,3 +61,16 @@ RoundsEndLikeFirst = (s : StackTable) (rows : List (ℕ × Cube)) → IsExtremal
     → (firsts : List ℕ) (pops : ℕ) (stuck : List Event)
     → IsFirstEnd (record { stacks = s; family = Listed rows }) firsts pops stuck
     → EndsLikeFirst c firsts short stuck
+
+-- a run by rounds that goes on from where rounds have led has the end of the whole run, once no event occurs or a
+-- variable is short; its rounds are those before and those since
+abbrev pub GoesOn : Type 0
+GoesOn = (i : Instance) (between c : List ℕ) (n limit rounds : ℕ) (stuck : List Event) (short : Option ℕ)
+    → Rounds i n (start_of i) between → IsRoundsStop i between limit c rounds stuck short
+    → (short ≢ None) ⊎ (stuck ≡ []) → IsRoundsEnd i c (n + rounds) stuck short
+
+-- a run that stopped leads on by rounds from the beginning
+abbrev pub StopsOnTheWay : Type 0
+StopsOnTheWay = (i : Instance) (between c : List ℕ) (n limit rounds : ℕ) (stuck : List Event) (short : Option ℕ)
+    → Rounds i n (start_of i) between → IsRoundsStop i between limit c rounds stuck short
+    → Rounds i (n + rounds) (start_of i) c

@@ -1,5 +1,5 @@
 -- The run by rounds: in each, every variable of the resampling set moves on by one entry.
-use Rattle.std.specs.Prelude.{◌≡◌, ℕ, zero, suc, ◌+◌, ◌<◌, ◌≤◌, List, length, Option, MatchOption}
+use Rattle.std.specs.Prelude.{◌≡◌, ◌⊎◌, ℕ, zero, suc, ◌+◌, ◌<◌, ◌≤◌, ◌^◌, List, length, Option, MatchOption}
 use Rattle.pop_model.specs.Stacks.{variables_of, height_of}
 use Rattle.pop_model.specs.Popping.{AreWithin, cursor, values_at}
 use Rattle.pop_model.specs.Families.{Event}
@@ -35,6 +35,24 @@ pub record IsRoundsEnd (i : Instance) (cursors : List ℕ) (rounds : ℕ) (stuck
   pub run : Rounds i rounds (start_of i) cursors
   pub end : MatchOption short (IsFinished i cursors) (IsLeast (HasNoNext i cursors))
   pub stuck_list : IsStuckList i cursors stuck
+
+-- Rounds from the first cursors, at most so many, lead to these. No event occurs there, or so many rounds were made, or
+-- the short variable is the least of the resampling set that is at its last entry. The stuck list has all events that
+-- occur.
+pub record IsRoundsStop (i : Instance) (from : List ℕ) (limit : ℕ) (cursors : List ℕ) (rounds : ℕ) (stuck : List Event)
+    (short : Option ℕ) : Type 0 where
+  pub run : Rounds i rounds from cursors
+  pub end : MatchOption short (IsFinished i cursors ⊎ (rounds ≡ limit)) (IsLeast (HasNoNext i cursors))
+  pub stuck_list : IsStuckList i cursors stuck
+  pub most : rounds ≤ limit
+  pub few : rounds < 2 ^ 62
+
+-- what a run by rounds leaves that may stop: where it stopped, and the value of each variable there
+pub record LeavesStop (i : Instance) (from : List ℕ) (limit : ℕ) (left : RoundEnd) : Type 0 where
+  pub stop : IsRoundsStop i from limit left.cursors left.rounds left.stuck left.short
+  pub count : length left.cursors ≡ variables_of i.stacks
+  pub within : AreWithin i.stacks left.cursors
+  pub values : left.values.items ≡ values_at i.stacks left.cursors
 
 -- what a run by rounds leaves: its end, and the value of each variable there
 pub record LeavesEnd (i : Instance) (left : RoundEnd) : Type 0 where

@@ -1,5 +1,5 @@
 //! The laws of resampling sets and of rounds. The contract of each function is the law.
-ghost use Rattle.prs_rounds.specs.Laws.{ResampledClosed, OneRoundsEnd, ResampledOccur, RoundsEndLikeFirst};
+ghost use Rattle.prs_rounds.specs.Laws.{GoesOn, OneRoundsEnd, ResampledClosed, ResampledOccur, RoundsEndLikeFirst, StopsOnTheWay};
 
 /// The resampling set has the events that occur. Each listed event that shares a variable with one
 /// of it is in it, or is excluded: it demands another value than the current one of a variable that
@@ -19,4 +19,11 @@ pub fn one_rounds_end()
 pub fn rounds_extremal()
     ensures set { ResampledOccur }
     ensures ends { RoundsEndLikeFirst }
+{}
+
+/// Runs by rounds that stop and go on from there have the end of the whole run, however often they
+/// stop.
+pub fn goes_on()
+    ensures stops { StopsOnTheWay }
+    ensures ends { GoesOn }
 {}

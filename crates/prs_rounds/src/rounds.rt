@@ -1,4 +1,4 @@
-ghost use Rattle.std.specs.Prelude.{◌≡◌, ◌<◌, length, map, All, IfOk};
+ghost use Rattle.std.specs.Prelude.{◌≡◌, ◌<◌, length, map, replicate, All, IfOk};
 ghost use Rattle.pop_model.specs.Stacks.{variables_of};
 ghost use Rattle.pop_model.specs.Popping.{AreWithin, values_at};
 ghost use Rattle.pop_model.specs.Families.Family.{Listed as ListedEvents};
@@ -6,7 +6,7 @@ ghost use Rattle.pop_model.specs.Instances.{FitsStacks};
 ghost use Rattle.pop_model.specs.Runs.{IsStuckList};
 ghost use Rattle.pop_instance.specs.Events.{cube_at};
 ghost use Rattle.pop_instance.specs.Index.{IsIndex};
-ghost use Rattle.prs_rounds.specs.Rounds.{IsRoundsEnd, LeavesEnd};
+ghost use Rattle.prs_rounds.specs.Rounds.{IsRoundsEnd, LeavesEnd, LeavesStop};
 ghost use Rattle.prs_rounds.specs.Units.{IsIndexOf};
 
 use crate::RoundEnd;
@@ -14,7 +14,7 @@ use crate::alone::Alone;
 use crate::looker::Looker;
 use crate::on_threads::OnThreads;
 use crate::sight::see_all;
-use crate::state::{start, turn};
+use crate::state::{State, start, turn};
 use confluence_core::Stuck;
 use pop_instance::{Cursors, Events, Family, Index, Instance};
 use pop_stacks::Stacks;
@@ -80,10 +80,23 @@ fn rounds_by<L: Looker>(
     ensures { IfOk result (LeavesEnd instance.now) }
 {
     let _units = instance.units();
+    let stacks = instance.stacks();
+    let zeros = zeros_of(alloc, stacks)?;
     match instance.family() {
-        Family::Listed(events) => rounds_of(looker, alloc, instance.stacks(), events, index),
+        Family::Listed(events) => {
+            rounds_of(looker, alloc, stacks, events, index, zeros, u64::MAX)
+        }
         Family::Cycles(_) => unreachable!(),
     }
+}
+
+/// The cursors before any round.
+pub(crate) fn zeros_of(alloc: Global, stacks: &Stacks) -> Result<Cursors, AllocError>
+    ensures zeros { IfOk result (λ zeros. zeros ≡ replicate (variables_of stacks.now) 0) }
+    ensures count { IfOk result (λ zeros. variables_of stacks.now ≡ length zeros) }
+    ensures within { IfOk result (AreWithin stacks.now) }
+{
+    Cursors::zeros(alloc, stacks.count())
 }
 
 // The events of these places.
@@ -118,35 +131,66 @@ fn stuck_at<L: Looker>(
     copies(alloc, events, &seen.found)
 }
 
-// The run of listed events.
-fn rounds_of<L: Looker>(
+// Where a run is at these cursors, with the events that occur there.
+fn stopped_at<L: Looker>(
+    looker: &L,
+    alloc: Global,
+    stacks: &Stacks,
+    events: &Events,
+    state: State,
+    rounds: u64,
+    short: Option<u32>,
+) -> Result<RoundEnd, AllocError>
+    requires can_look { L.can_look }
+    requires fits { All (λ r. FitsStacks stacks.now r.1) events.now }
+    requires count { variables_of stacks.now ≡ length state.cursors }
+    requires within { AreWithin stacks.now state.cursors }
+    ensures cursors { IfOk result (λ end. end.cursors ≡ state.cursors) }
+    ensures values { IfOk result (λ end. end.values ≡ state.values) }
+    ensures rounds { IfOk result (λ end. end.rounds ≡ rounds) }
+    ensures short { IfOk result (λ end. end.short ≡ short) }
+    ensures stuck { IfOk result (λ end. IsStuckList
+        (record { stacks = stacks.now; family = ListedEvents events.now }) state.cursors end.stuck) }
+{
+    let stuck = stuck_at(looker, alloc, stacks, events, &state.cursors)?;
+    Ok(RoundEnd {
+        cursors: state.cursors,
+        rounds,
+        stuck,
+        values: state.values,
+        short,
+    })
+}
+
+/// The run of listed events from these cursors, to its end or to so many rounds.
+pub(crate) fn rounds_of<L: Looker>(
     looker: &L,
     alloc: Global,
     stacks: &Stacks,
     events: &Events,
     index: &Index,
+    from: Cursors,
+    limit: u64,
 ) -> Result<RoundEnd, AllocError>
     requires can_look { L.can_look }
     requires fits { All (λ r. FitsStacks stacks.now r.1) events.now }
     requires index { IsIndex events.now index.now }
     requires variables { length index.now ≡ variables_of stacks.now }
-    ensures { IfOk result
-        (LeavesEnd (record { stacks = stacks.now; family = ListedEvents events.now })) }
+    requires count { variables_of stacks.now ≡ length from }
+    requires within { AreWithin stacks.now from }
+    ensures { IfOk result (LeavesStop
+        (record { stacks = stacks.now; family = ListedEvents events.now }) from limit) }
 {
     let _table = stacks.count();
     let _events = events.count();
-    let mut state = start(looker, alloc, stacks, events)?;
+    let mut state = start(looker, alloc, stacks, events, from)?;
     let mut rounds: u64 = 0;
     'rounds: while 0 < state.found.len() {
+        if rounds >= limit {
+            return stopped_at(looker, alloc, stacks, events, state, rounds, None);
+        }
         if let Some(v) = turn(looker, alloc, stacks, events, index, &mut state)? {
-            let stuck = stuck_at(looker, alloc, stacks, events, &state.cursors)?;
-            return Ok(RoundEnd {
-                cursors: state.cursors,
-                rounds,
-                stuck,
-                values: state.values,
-                short: Some(v),
-            });
+            return stopped_at(looker, alloc, stacks, events, state, rounds, Some(v));
         }
         rounds += 1;
     }

@@ -1,5 +1,6 @@
-ghost use Rattle.std.specs.Prelude.{◌≡◌, ◌<◌, length, replicate, All, IfOk};
+ghost use Rattle.std.specs.Prelude.{◌≡◌, ◌<◌, length, All, IfOk};
 ghost use Rattle.pop_model.specs.Stacks.{variables_of};
+ghost use Rattle.pop_model.specs.Popping.{AreWithin};
 ghost use Rattle.pop_model.specs.Instances.{FitsStacks};
 ghost use Rattle.pop_instance.specs.Index.{IsIndex};
 ghost use Rattle.prs_rounds.specs.States.{IsAt, Turns};
@@ -24,19 +25,21 @@ pub(crate) struct State {
     pub growth: Growth,
 }
 
-/// The state before any round. Each variable and each event is looked at.
+/// The state at these cursors. Each variable and each event is looked at.
 pub(crate) fn start<L: Looker>(
     looker: &L,
     alloc: Global,
     stacks: &Stacks,
     events: &Events,
+    cursors: Cursors,
 ) -> Result<State, AllocError>
     requires can_look { L.can_look }
     requires fits { All (λ r. FitsStacks stacks.now r.1) events.now }
+    requires count { variables_of stacks.now ≡ length cursors }
+    requires within { AreWithin stacks.now cursors }
     ensures at { IfOk result (IsAt stacks.now events.now) }
-    ensures zeros { IfOk result (λ state. state.cursors ≡ replicate (variables_of stacks.now) 0) }
+    ensures cursors { IfOk result (λ state. state.cursors ≡ cursors) }
 {
-    let cursors = Cursors::zeros(alloc, stacks.count())?;
     let seen = see_all(looker, alloc, stacks, events, &cursors)?;
     let growth = Growth::blank(alloc, events.count(), stacks.count())?;
     Ok(State {

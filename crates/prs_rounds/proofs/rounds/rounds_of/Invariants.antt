@@ -1,5 +1,4 @@
-use Rattle.std.proofs.Common.{◌+◌, ◌≤◌, replicate}
-use Rattle.pop_model.specs.Stacks.{variables_of}
+use Rattle.std.proofs.Common.{◌+◌, ◌≤◌}
 use Rattle.confluence_core.proofs.Places.{listed}
 use Rattle.pop_model.proofs.Room.{left_from}
 use Rattle.prs_rounds.specs.Rounds.{Rounds}
@@ -10,8 +9,9 @@ use Rattle.prs_rounds.proofs.rounds.rounds_of.Given as goal
 abbrev pub invariant-rounds : goal.invariant-rounds
 invariant-rounds g l = record {
   at : IsAt l.stacks l.events l.state;
-  run : Rounds (listed l.stacks l.events) l.rounds (replicate (variables_of l.stacks) 0) l.state.cursors;
-  room : l.rounds + left_from l.stacks 0 l.state.cursors ≤ left_from l.stacks 0 (replicate (variables_of l.stacks) 0);
+  run : Rounds (listed l.stacks l.events) l.rounds l.initial.state.cursors l.state.cursors;
+  room : l.rounds + left_from l.stacks 0 l.state.cursors ≤ left_from l.stacks 0 l.initial.state.cursors;
+  most : l.rounds ≤ l.limit;
 }
 
 abbrev pub decreases-rounds : goal.decreases-rounds
