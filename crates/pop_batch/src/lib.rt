@@ -8,7 +8,11 @@
 mod batches;
 mod ends;
 pub mod laws;
+mod part;
 mod samples;
+mod stopping;
 
 pub use batches::{batch, batch_alone};
 pub use ends::Ends;
+pub use part::Part;
+pub use samples::Samples;

@@ -1,10 +1,14 @@
-ghost use Rattle.std.specs.Prelude.{◌≡◌, IfOk};
+ghost use Rattle.std.specs.Prelude.{◌≡◌, IfOk, Some};
 ghost use Rattle.pop_model.specs.Stacks.{IsKeyed};
 ghost use Rattle.pop_model.specs.Extremal.{IsExtremal};
+ghost use Rattle.pop_instance.specs.Index.{IsFamilyIndex};
 ghost use Rattle.pop_batch.specs.Batches.{IsSampleEnd};
+ghost use Rattle.pop_batch.specs.Parts.{CanStart, IsPart};
 
+use crate::part::Part;
+use crate::stopping::part_of;
 use confluence_core::{End, Indexed, Keep};
-use pop_instance::{Index, Instance};
+use pop_instance::{Cursors, Index, Instance};
 use pop_stacks::Reader;
 use std::alloc::{AllocError, Global};
 use std::marker::Model;
@@ -12,7 +16,7 @@ use std::marker::Model;
 /// The samples of an extremal instance under a key, which are run by the index of its family.
 /// Several threads may share them. Contracts see the instance.
 #[derive(Drop)]
-pub(crate) struct Samples<'i> {
+pub struct Samples<'i> {
     instance: &'i Instance,
     index: Option<Index>,
 }
@@ -42,6 +46,19 @@ impl<'i> Samples<'i> {
         Ok(Samples { instance, index })
     }
 
+    /// The samples of an instance of listed events, the index of which is at hand.
+    pub fn with(instance: &'i Instance, index: Index) -> Samples<'i>
+        requires keyed { IsKeyed instance.now.stacks.origin }
+        requires extremal { IsExtremal instance.now.family }
+        requires index { IsFamilyIndex instance.now.family (Some index) }
+        ensures { result ≡ instance.now }
+    {
+        Samples {
+            instance,
+            index: Some(index),
+        }
+    }
+
     /// The end of sample j.
     pub fn run(&self, alloc: Global, j: u32) -> Result<End, AllocError>
         ensures { IfOk result (IsSampleEnd self.now j) }
@@ -51,5 +68,23 @@ impl<'i> Samples<'i> {
         let sample = Indexed::of(self.instance, &self.index).for_sample(&stacks, j);
         let opening = sample.opening(alloc, Keep::Nothing)?;
         Ok(sample.run(alloc, &mut reader, opening)?.end)
+    }
+
+    /// The run of sample j from these cursors, or from its beginning where none are given, to its
+    /// end or to so many pops.
+    pub fn run_part(
+        &self,
+        alloc: Global,
+        j: u32,
+        from: Option<Cursors>,
+        limit: u64,
+    ) -> Result<Part, AllocError>
+        requires start { CanStart self.now from }
+        ensures { IfOk result (IsPart self.now j from limit) }
+    {
+        let own = self.instance.stacks().for_sample(alloc, j)?;
+        let mut reader = Reader::keeping(alloc, &own)?;
+        let sample = Indexed::of(self.instance, &self.index).for_sample(&own, j);
+        part_of(alloc, &sample, &mut reader, from, limit)
     }
 }
