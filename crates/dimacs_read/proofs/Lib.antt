@@ -10,5 +10,7 @@ pub mod GrammarLaw
 pub mod LiteralsLemmas
 pub mod CubesOfClauses
 pub mod EventsOfClauses
+-- Arrays of literals, number by number
+pub mod ArrayClauses
 -- Worked values
 mod Vectors

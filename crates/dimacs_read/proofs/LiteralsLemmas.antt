@@ -101,7 +101,7 @@ onto_literals n l (c ∷ cs) is all =
     All-cons P (l ∷ c) cs (All-cons (IsLiteral n) l c is (All-head P c cs all)) (All-tail P c cs all)
 
 -- words of the grammar make clauses of literals of declared variables
-clauses_literals : (n : ℕ) (tokens : List (Option Token)) → AreTokens n tokens → AreSome tokens
+pub clauses_literals : (n : ℕ) (tokens : List (Option Token)) → AreTokens n tokens → AreSome tokens
     → AreLiterals n (clauses_of tokens)
 clauses_literals n [] h k = All-nil (λ clause. All (IsLiteral n) clause)
 clauses_literals n (None ∷ tokens) h k = absurd h.0

@@ -82,13 +82,11 @@ literal_fits v ends literals l h =
     ltb-true literals (2 ^ 25) (chosen_some _ _ _ two.1).0
 
 -- the clauses hold an end more, which closes the one that is open
-holds_end : (a b : Clauses) (tokens : List (Option Token)) (v : ℕ) → Holds a tokens
-    → word_fault v (length a.ends.items) (length a.literals.items) (Some End) ≡ None → Adds a b (Some End)
-    → Holds b (tokens ++ Some End ∷ [])
-holds_end a b tokens v h fault add =
+pub holds_end : (a b : Clauses) (tokens : List (Option Token)) → Holds a tokens → length a.ends.items < 2 ^ 22
+    → Adds a b (Some End) → Holds b (tokens ++ Some End ∷ [])
+holds_end a b tokens h few add =
     let literals : List ℤ = a.literals.items in
     let ends : List ℕ = a.ends.items in
-    let few : length ends < 2 ^ 22 = end_fits v (length ends) (length literals) fault in
     let last : ℕ = last_end 0 ends in
     record {
       ends = omega (
@@ -118,14 +116,11 @@ holds_end a b tokens v h fault add =
     }
 
 -- the clauses hold a literal more, in the one that is open
-holds_literal : (a b : Clauses) (tokens : List (Option Token)) (v : ℕ) (l : ℤ) → Holds a tokens
-    → word_fault v (length a.ends.items) (length a.literals.items) (Some (Literal l)) ≡ None
-    → Adds a b (Some (Literal l))
-    → Holds b (tokens ++ Some (Literal l) ∷ [])
-holds_literal a b tokens v l h fault add =
+pub holds_literal : (a b : Clauses) (tokens : List (Option Token)) (l : ℤ) → Holds a tokens
+    → length a.literals.items < 2 ^ 25 → Adds a b (Some (Literal l)) → Holds b (tokens ++ Some (Literal l) ∷ [])
+holds_literal a b tokens l h room add =
     let literals : List ℤ = a.literals.items in
     let ends : List ℕ = a.ends.items in
-    let room : length literals < 2 ^ 25 = literal_fits v (length ends) (length literals) l fault in
     let last : ℕ = last_end 0 ends in
     let size = length-append literals (l ∷ []) in
     record {
@@ -149,8 +144,10 @@ holds_literal a b tokens v l h fault add =
 pub holds_more : (a b : Clauses) (tokens : List (Option Token)) (v : ℕ) (t : Option Token) → Holds a tokens
     → word_fault v (length a.ends.items) (length a.literals.items) t ≡ None → Adds a b t → Holds b (tokens ++ t ∷ [])
 holds_more a b tokens v None h fault add = absurd add
-holds_more a b tokens v (Some End) h fault add = holds_end a b tokens v h fault add
-holds_more a b tokens v (Some (Literal l)) h fault add = holds_literal a b tokens v l h fault add
+holds_more a b tokens v (Some End) h fault add =
+    holds_end a b tokens h (end_fits v (length a.ends.items) (length a.literals.items) fault) add
+holds_more a b tokens v (Some (Literal l)) h fault add =
+    holds_literal a b tokens l h (literal_fits v (length a.ends.items) (length a.literals.items) l fault) add
 
 -- the fault of a word goes by the counts alone
 fault_by_counts : (v : ℕ) (before : List (Option Token)) (t : Option Token)

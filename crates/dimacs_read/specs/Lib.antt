@@ -5,4 +5,5 @@ pub mod CnfText
 pub mod Grammar
 pub mod Laws
 pub mod Flat
+pub mod Literals
 pub mod Reading

@@ -16,6 +16,7 @@ use Rattle.dimacs_read.specs.Cnf.{Cnf, AreLiterals, first_empty}
 use Rattle.dimacs_read.specs.Tokens.{token_of, is_literal, is_clause_end}
 use Rattle.dimacs_read.specs.CnfText.{declared, header_fault, body, line_refusal, whole_refusal, formula_in, token_fault, clauses_of}
 use Rattle.dimacs_read.specs.Flat.{parts, Rises}
+use Rattle.dimacs_read.specs.Literals.{IsEnded, token_at}
 
 -- what is wrong with a word behind so many ends and literals
 abbrev pub word_fault : ℕ → ℕ → ℕ → Option Token → Option Fault
@@ -192,3 +193,8 @@ FinishesClauses header clauses (Err (EmptyClause n)) =
     × ((k : ℕ) × (n ≡ k + 1) × (first_empty (with_clauses header clauses) ≡ Some k))
 FinishesClauses header clauses (Err OutOfMemory) = ⊤
 FinishesClauses header clauses (Err _) = ⊥
+
+-- the clauses hold these numbers of an array, and none of them is open if the last number ends one
+pub record HoldsArray (c : Clauses) (literals : List ℤ) : Type 0 where
+  pub holds : Holds c (map token_at literals)
+  pub closed : IsEnded literals → last_end 0 c.ends.items ≡ length c.literals.items

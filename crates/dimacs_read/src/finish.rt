@@ -30,8 +30,8 @@ fn close(size: u32, ends: &mut Vec<u32>) -> Result<(), AllocError>
     Ok(())
 }
 
-// The first clause without literals, from 0.
-fn first_empty_clause(ends: &[u32]) -> Option<u32>
+/// The first clause without literals, from 0.
+pub fn first_empty_clause(ends: &[u32]) -> Option<u32>
     requires { length ends.now ≤ 2 ^ 22 }
     ensures first { result ≡ empty_from 0 0 ends.now }
     ensures bound { IfSome result (λ k. k < length ends.now) }

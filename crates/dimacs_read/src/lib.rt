@@ -9,9 +9,11 @@ mod finish;
 mod formula;
 mod header;
 pub mod laws;
+mod literals;
 mod read;
 mod reader;
 mod token;
 
 pub use formula::Formula;
+pub use literals::{LiteralFault, formula_of_literals};
 pub use read::read_formula;

@@ -1,4 +1,5 @@
 pub mod Graphs
+pub mod Ends
 pub mod Grids
 pub mod Incidence
 pub mod Paths

@@ -1,4 +1,4 @@
-ghost use Rattle.std.specs.Prelude.{◌≡◌, ◌<◌, ◌≤◌, ◌^◌, [], ◌∷◌, ◌++◌, length, slice_index_or, OnOk, OnErr};
+ghost use Rattle.std.specs.Prelude.{◌≡◌, ◌<◌, ◌≤◌, ◌^◌, [], ◌∷◌, ◌++◌, length, slice_index_or, IfOk, OnOk, OnErr};
 
 use crate::Edge;
 use std::alloc::{AllocError, Global};
@@ -34,6 +34,17 @@ impl Graph {
             vertices,
             edges: Vec::new(alloc),
         }
+    }
+
+    // The same, with room for so many edges.
+    pub(crate) fn with_room(alloc: Global, vertices: u32, edges: usize) -> Result<Graph, AllocError>
+        requires { vertices ≤ 2 ^ 22 }
+        ensures { IfOk result (λ graph. graph ≡ record { vertices = vertices; edges = [] }) }
+    {
+        Ok(Graph {
+            vertices,
+            edges: Vec::with_capacity(alloc, edges)?,
+        })
     }
 
     // Adds an edge behind the others.

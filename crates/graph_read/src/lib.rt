@@ -7,6 +7,7 @@ mod adjacency;
 mod edge;
 mod edge_line;
 mod end_rows;
+mod ends;
 mod graph;
 mod grid;
 mod grid_adjacency;
@@ -24,6 +25,7 @@ mod vertices;
 
 pub use adjacency::Adjacency;
 pub use edge::Edge;
+pub use ends::{EndsFault, graph_of_ends};
 pub use graph::Graph;
 pub use grid_adjacency::Grid;
 pub use incidence::Incidence;
