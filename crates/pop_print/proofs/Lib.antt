@@ -1,6 +1,8 @@
 -- The text of an end. OutputLemmas: its lines, one after another. EndLemmas: each event that occurs can be printed.
 pub mod OutputLemmas
 pub mod EndLemmas
+-- Stretches: ends that are printed each for itself, one behind another.
+mod Stretches
 -- The words of a line. NamedCubes: the names of a cube's variables. TreePlaces: the vertices of a tree's variables.
 -- SignedLiterals: the literal of a variable by its value.
 mod NamedCubes

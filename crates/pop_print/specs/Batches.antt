@@ -1,6 +1,6 @@
 -- The text of a batch: that of each end behind the number of its sample.
-use Rattle.std.specs.Prelude.{ℕ, List, ◌++◌, length, flat_map, decimal, codes}
-use Rattle.std.specs.List.{enumerate_from}
+use Rattle.std.specs.Prelude.{◌≡◌, ℕ, ◌-◌, List, ◌++◌, length, slice_get, Some, Vec, flat_map, decimal, codes}
+use Rattle.std.specs.List.{enumerate_from, AllZip, range_with_len}
 use Rattle.pop_model.specs.Instances.{Instance, instance_for}
 use Rattle.pop_model.specs.Text.{line}
 use Rattle.confluence_core.specs.declared.end.End.{End}
@@ -24,3 +24,13 @@ numbered_text facts i p =
 abbrev pub batch_text : Facts → Instance → List End → List ℕ
 batch_text facts i ends =
     batch_line (length ends) ++ flat_map (numbered_text facts i) (enumerate_from 0 ends)
+
+-- the text is that of the end at a place, under its number
+abbrev pub IsOfPlace : Facts → Instance → List End → ℕ → {A : Type 0} → Vec ℕ A → Type 0
+IsOfPlace facts i ends j text =
+    (p : ℕ × End) → slice_get (enumerate_from 0 ends) j ≡ Some p → text.items ≡ numbered_text facts i p
+
+-- the texts are those of the ends from a place on before another
+abbrev pub AreOfPlaces : Facts → Instance → List End → ℕ → ℕ → {A : Type 0} → List (Vec ℕ A) → Type 0
+AreOfPlaces facts i ends from to texts =
+    AllZip (λ j text. IsOfPlace facts i ends j text) (range_with_len from (to - from)) texts

@@ -18,7 +18,7 @@ mod stuck;
 mod summary;
 mod tree;
 
-pub use batches::text_of_batch;
+pub use batches::{text_of_batch, text_of_batch_alone};
 pub use counts::push_used;
 pub use facts::Facts;
 pub use line::push_line;

@@ -9,6 +9,7 @@ use crate::stretch::{Stretch, index_of};
 use confluence_core::{Indexed, Reached};
 use pop_batch::{Ends, batch_alone};
 use pop_instance::{Index, Instance};
+use pop_print::{Facts, text_of_batch_alone};
 use pop_stacks::Reader;
 use pop_workers::Outcome;
 use prs_rounds::{RoundEnd, run_rounds_alone};
@@ -71,6 +72,16 @@ impl Maker for Alone {
 
     fn batch(&self, alloc: Global, instance: &Instance, count: u32) -> Result<Ends, AllocError> {
         batch_alone(alloc, instance, count)
+    }
+
+    fn text_of_batch(
+        &self,
+        alloc: Global,
+        facts: &Facts,
+        instance: &Instance,
+        ends: &Ends,
+    ) -> Result<Vec<u8>, AllocError> {
+        text_of_batch_alone(alloc, facts, instance, ends)
     }
 
     fn rounds(

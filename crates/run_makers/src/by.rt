@@ -6,6 +6,7 @@ use crate::stretch::Stretch;
 use confluence_core::Reached;
 use pop_batch::{Ends, batch};
 use pop_instance::{Index, Instance};
+use pop_print::{Facts, text_of_batch};
 use pop_workers::Outcome;
 use prs_rounds::{RoundEnd, run_rounds};
 use std::alloc::{AllocError, Global};
@@ -79,6 +80,17 @@ impl<
     // Each sample is run on one thread, beside others.
     fn batch(&self, alloc: Global, instance: &Instance, count: u32) -> Result<Ends, AllocError> {
         batch(self.rt, alloc, instance, count)
+    }
+
+    // Each end is printed on one thread, beside others.
+    fn text_of_batch(
+        &self,
+        alloc: Global,
+        facts: &Facts,
+        instance: &Instance,
+        ends: &Ends,
+    ) -> Result<Vec<u8>, AllocError> {
+        text_of_batch(self.rt, alloc, facts, instance, ends)
     }
 
     // What they look at is looked at on threads of their own.

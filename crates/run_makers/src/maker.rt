@@ -1,11 +1,13 @@
 //! Who makes runs.
-ghost use Rattle.std.specs.Prelude.{◌≡◌, length, IfOk};
+ghost use Rattle.std.specs.Prelude.{◌≡◌, ℕ, length, IfOk};
 ghost use Rattle.pop_model.specs.Stacks.{IsKeyed, variables_of};
 ghost use Rattle.pop_model.specs.Extremal.{IsExtremal};
 ghost use Rattle.confluence_core.specs.Kept.{keeps_log};
 ghost use Rattle.pop_batch.specs.Batches.{AreEnds};
 ghost use Rattle.prs_rounds.specs.Rounds.{IsRoundsEnd};
 ghost use Rattle.prs_rounds.specs.Units.{IsIndexOf};
+ghost use Rattle.pop_print.specs.Ends.{AreFactsOf};
+ghost use Rattle.pop_print.specs.Batches.{batch_text};
 ghost use Rattle.pop_print.specs.Rounds.{IsShownAt};
 ghost use Rattle.run_makers.specs.Makers.{IsRunTo, MayGoOn, IsBroughtOn};
 
@@ -13,6 +15,7 @@ use crate::opening::Opening;
 use crate::stretch::Stretch;
 use pop_batch::Ends;
 use pop_instance::{Index, Instance};
+use pop_print::Facts;
 use pop_workers::Outcome;
 use prs_rounds::RoundEnd;
 use std::alloc::{AllocError, Global};
@@ -40,6 +43,20 @@ pub trait Maker {
         requires keyed { IsKeyed instance.now.stacks.origin }
         requires extremal { IsExtremal instance.now.family }
         ensures { IfOk result (AreEnds instance.now count) };
+
+    /// The text of the ends of a batch.
+    fn text_of_batch(
+        &self,
+        alloc: Global,
+        facts: &Facts,
+        instance: &Instance,
+        ends: &Ends,
+    ) -> Result<Vec<u8>, AllocError>
+        requires fits { fits self.now }
+        requires facts { AreFactsOf facts.now instance.now }
+        requires ends { (count : ℕ) × AreEnds instance.now count ends.now }
+        ensures { IfOk result (λ bytes. bytes.items
+            ≡ batch_text facts.now instance.now ends.now) };
 
     /// The run of the instance by rounds, by the index of its listed events.
     fn rounds(

@@ -17,7 +17,7 @@ use growing_instances::GrowingInstance;
 use job_subjects::Answer;
 use pop_batch::Ends;
 use pop_instance::Instance;
-use pop_print::{Facts, text_of_batch};
+use pop_print::Facts;
 use run_makers::Maker;
 use std::alloc::AllocError;
 
@@ -43,7 +43,7 @@ fn tell_batch<M: Maker>(
         × Tells (Batched facts.now instance.now ends) a.status a.text.items) }
 {
     let ends = call.maker.batch(call.alloc, instance, count)?;
-    let text = text_of_batch(call.alloc, facts, instance, &ends);
+    let text = call.maker.text_of_batch(call.alloc, facts, instance, &ends);
     let status = status_of_batch(&ends);
     drop(ends);
     Ok(Answer {
