@@ -98,7 +98,7 @@ pub of_rows : (job : Job) (rows : Rows) (text : List ℕ) (s : Subject)
 of_rows job rows text s is = same_subject job.command (wanted_by job) (wanted_by (over_rows job rows)) text s refl refl is
 
 -- words over rows are answered by the end of the run over these
-sampled_by : (words : List (List ℕ)) (watchers : List Watcher) (text : List ℕ) (job : Job) (rows : Rows) (s : Subject)
+pub sampled_by : (words : List (List ℕ)) (watchers : List Watcher) (text : List ℕ) (job : Job) (rows : Rows) (s : Subject)
     (x c : List ℕ) (pops : ℕ) (a : Telling) → Asks words (over_rows job rows) → IsOrdered job.command
     → IsSubjectOf job.command (wanted_by job) text s → IsSound (GivenRows rows) s.weights
     → IsFirstEnd (instance_over (GivenRows rows) s) c pops []

@@ -177,7 +177,7 @@ batch_begins words job asks count is ws text (Batched t i ends) h low =
     begins words job asks count is ws text t i ends h
 
 -- a command that has batches reads no certificate
-batched_line : (k : Command) → is_batched k ≡ true → IsOfLine k
+pub batched_line : (k : Command) → is_batched k ≡ true → IsOfLine k
 batched_line Formula is = tt
 batched_line Orient is = tt
 batched_line Tree is = tt

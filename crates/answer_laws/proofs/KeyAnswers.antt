@@ -27,6 +27,8 @@ use Rattle.key_samples.specs.Keys.{EndsWith, RoundsEndWith, batch_numbers, numbe
 use Rattle.key_samples.proofs.Exact.{exact_numbers, exact_round_numbers}
 use Rattle.key_samples.proofs.KeyedRuns.{keyed_rounds, keyed_runs}
 use Rattle.key_samples.proofs.KeyedEnds.{keyed_ends}
+use Rattle.drawn_samples.proofs.Drawing as D
+use Rattle.drawn_samples.proofs.Drawing.{drawn_samples}
 use Rattle.pop_words.specs.declared.command.Command.{Command}
 use Rattle.pop_words.specs.declared.command.Command.TheVariants.{Check}
 use Rattle.pop_words.specs.declared.job.Job.{Job}
@@ -60,7 +62,7 @@ use Rattle.rand_chacha.specs.ChaCha.{key_of}
 -- ---- stacks of one height under a key
 
 -- the height of a key's stacks is above 0
-height_some : (words : List (List ℕ)) (job : Job) → Asks words job → 0 < last_height job
+pub height_some : (words : List (List ℕ)) (job : Job) → Asks words job → 0 < last_height job
 height_some words job asks = by_grow job.grow (asked_grow words job asks)
   where
     by_grow : (grow : Option ℕ) → IfSome grow (λ last. (0 < last) × (last < 2 ^ 31)) → 0 < unwrap_or grow job.height
@@ -68,7 +70,7 @@ height_some words job asks = by_grow job.grow (asked_grow words job asks)
     by_grow (Some n) is = is.0
 
 -- equal heights above 0
-heights_above : (n height : ℕ) → 0 < height → All (λ h. 0 < h) (replicate n height)
+pub heights_above : (n height : ℕ) → 0 < height → All (λ h. 0 < h) (replicate n height)
 heights_above n height some k d within =
     let size = length-replicate n height in
     let at = get_or-replicate n k height d (omega (arith, within, size)) in
@@ -90,7 +92,7 @@ slots_have g root is at joined k d within =
     some_sum (get_or (weights_of_tree g root) k d) (weights.some k d within) (weights.positive k d within)
 
 -- and so has whatever is sampled
-subject_has : (k : Command) (w : Wanted) (text : List ℕ) (s : Subject) → IsSubjectOf k w text s → HaveWeights s.weights
+pub subject_has : (k : Command) (w : Wanted) (text : List ℕ) (s : Subject) → IsSubjectOf k w text s → HaveWeights s.weights
 subject_has k w text s =
     let Have : Subject → Type 0 = λ t. HaveWeights t.weights in
     holds_of text Have (with_arrows text Have (λ f events spelled are. pairs_have f.variables)
@@ -179,6 +181,7 @@ module _ (s : Subject) (family : HasFamily s) (extremal : IsExtremal s.family) (
       → IsDrawn f (Samples f) key height 1 (Ended facts i c pops stuck a)
   drawn_run facts i c pops stuck a is end = record {
     exact = exact_numbers f frame have extremal;
+    from_all = drawn_samples f frame have extremal;
     ends = λ samples.
         subst (λ (j : Instance). ((stuck ≡ []) × (values_at j.stacks c ∷ [] ≡ samples))
         ↔ TablesOf f (Samples f) samples (batch_numbers key height (length f.weights) 1)) (sym is)
@@ -191,13 +194,14 @@ module _ (s : Subject) (family : HasFamily s) (extremal : IsExtremal s.family) (
       → IsDrawn f (Samples f) key height count (Batched facts i ends)
   drawn_batch facts i count ends are = record {
     exact = exact_numbers f frame have extremal;
+    from_all = drawn_samples f frame have extremal;
     ends = keyed_ends f frame have extremal key height count refl ends are;
   }
 
 -- ---- what comes of a job
 
 -- a job's stacks under a key
-keyed_origin : (job : Job) (key : List ℕ) → job.stacks ≡ Key key
+pub keyed_origin : (job : Job) (key : List ℕ) → job.stacks ≡ Key key
     → origin_for job ≡ Keyed (key_of key) 0 (last_height job)
 keyed_origin job key given = ap (λ spec. origin_of spec (last_height job)) given
 
@@ -293,6 +297,7 @@ drawn_rounds words job asks key given text facts i c rounds stuck short own =
       of_formula = e.of_formula;
       drawn = record {
         exact = exact_round_numbers f frame have tt;
+        from_all = D.drawn_rounds f frame have tt;
         ends = λ samples.
             subst (λ (j : Instance). ((stuck ≡ []) × (values_at j.stacks c ∷ [] ≡ samples))
             ↔ TablesOf f (Sampled f) samples (batch_numbers (key_of key) height (length f.weights) 1)) (sym e.instance_is)

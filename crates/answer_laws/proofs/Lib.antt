@@ -4,25 +4,26 @@
 -- ToldLogs: one thing is told of a layered log, and something where no pop was. OneEnd: so what is made has one end, by
 -- rounds too, or two where the order is free, or a pause beside these. OneOutcome: so one outcome of a job.
 -- OneReplay: of certificates (MadeBounds: what one runs is an instance). OneWords: of words, and one for each log.
-mod OneSubject
+pub mod OneSubject
 mod RefusedStacks
 mod RefusedSubjects
 mod RefusedOr
 mod OneRefusal
 mod ToldLogs
 mod OneEnd
-mod OneOutcome
+pub mod OneOutcome
 mod MadeBounds
 mod OneReplay
 mod OneWords
 -- ToldSubjects: what an outcome tells of a run, it tells of what is sampled.
-mod ToldSubjects
+pub mod ToldSubjects
 -- OptionKinds: words without some options, and what options of one kind alone set. AlikeWords: words of which the same
 -- comes, for any number of workers, and in stages or not.
 -- PausedCerts: a run that may stop does so where each has more pops, and leaves a certificate. ResumedUnpaused: it is
 -- resumed as its line, so a run that paused goes on as one that didn't.
 -- CutLogs: where the text of a log begins and ends. ShownLogs: so an output determines the log that it shows.
--- FirstSample: a batch begins with the sample of its job without a number. RoundsLikeFormula: rounds of extremal events
+-- FirstSample: a batch begins with the sample of its job without a number. BatchFront: and with a smaller batch.
+-- RoundsLikeFormula: rounds of extremal events
 -- end as their run.
 mod OptionKinds
 mod AlikeWords
@@ -31,7 +32,10 @@ mod ResumedUnpaused
 mod CutLogs
 mod ShownLogs
 mod FirstSample
+pub mod BatchFront
 mod RoundsLikeFormula
+mod ResampleLikeFormula
+mod SameReading
 -- Statuses. Finished: with 0 no event occurs; and there is one of a run where nothing stands against words and text.
 -- ShownSamples: with 0 and 1 an end is shown, of all that is sampled, by rounds too (ShownSubjects), and of a batch
 -- (ShownBatches), whatever stands behind it (ShownBehind).
@@ -44,18 +48,30 @@ mod ShownSamples
 -- the events and weights fit rows of any heights. ExactAnswers: another sample is answered in the place of the printed one.
 -- EverySample: what satisfies a formula, leaves no sink or leads to the root is a sample; of a formula nothing else is.
 mod AskedRows
-mod SubjectKinds
+pub mod SubjectKinds
 mod ExactAnswers
-mod EverySample
+pub mod EverySample
 -- So it is of rounds, for every formula. RoundAnswers: another assignment is answered in the place of the printed one.
 -- RoundOutputs: what is printed.
 mod RoundAnswers
 mod RoundOutputs
--- KeyAnswers: the law of keys, said of answers.
-mod KeyAnswers
+-- KeyAnswers: the law of keys, said of answers. StoppedAnswers: and of runs that are given up.
+-- StatisticAnswers: and of functions of a sample.
+-- TallerAnswers, TallerBatches, TallerRounds: samples stay what they are over taller stacks.
+-- MixedAnswers: batches of which some samples are exhausted. ExhaustedAnswers: when there is no sample.
+pub mod KeyAnswers
+mod StoppedAnswers
+mod StatisticAnswers
+mod TallerAnswers
+mod TallerBatches
+mod TallerRounds
+mod MixedAnswers
+mod ExhaustedAnswers
 -- Printed samples. PrintedApart: different ones print different lines. SpanningTrees: each spanning tree is printed.
--- LoopedEdges: loops of a graph that is oriented. PrintedCounts: equally many words print each sample.
-mod PrintedApart
+-- LoopedEdges: loops of a graph that is oriented. PrintedCounts: equally many words print each sample. ListedOutputs: these
+-- are finitely many.
+pub mod PrintedApart
 mod SpanningTrees
 mod LoopedEdges
 mod PrintedCounts
+mod ListedOutputs

@@ -19,12 +19,12 @@ use Rattle.job_subjects.specs.Made.{IsMade}
 use Rattle.job_subjects.specs.Refused.{RefusesText}
 use Rattle.told_runs.specs.declared.asked.Asked.{Asked}
 use Rattle.told_runs.specs.Asking.{asked_by}
-use Rattle.told_runs.specs.Outcomes.{Outcome}
+use Rattle.told_runs.specs.Outcomes.{Outcome, status_of}
 use Rattle.told_runs.specs.Outcomes.Outcome.{Refused, Extremal}
 use Rattle.top_call.specs.Checks.{IsExtremalCnf, IsExtremalText}
 use Rattle.top_call.specs.Pauses.{Pauses}
 use Rattle.top_call.specs.Answers.{wanted_by, EndsAs, ComesOfRun, ComesOf, ComesBy, ComesOfJob, IsOutcome, IsOfLine}
-use Rattle.top_call.proofs.ReadCases.{read_cases}
+use Rattle.top_call.proofs.ReadCases.{paused_as, read_cases}
 use Rattle.top_call.proofs.ByCommand.{of_line}
 use Rattle.answer_laws.specs.Orders.{HasOneEnd}
 use Rattle.answer_laws.specs.Laws.{ReportAlike, Agree}
@@ -142,6 +142,28 @@ run_once job ws vs text ordered out like facts i o p made (inl a) (inr b) =
     absurd (none-some b.pops (sym out ∙ b.asked))
 run_once job ws vs text ordered out like facts i o p made (inr a) b = absurd (none-some a.pops (sym out ∙ a.asked))
 
+-- outcomes are one, if neither stops before its end
+abbrev EndAsOne : Outcome → Outcome → Type 0
+EndAsOne o p = status_of o ≢ 10 → status_of p ≢ 10 → o ≡ p
+
+-- one that stops has status 10
+pause_status : (job : Job) (text : List ℕ) (facts : Facts) (i : Instance) (o : Outcome) → Pauses job text facts i o
+    → status_of o ≡ 10
+pause_status job text facts i o a =
+    let (placed, o_is, pause) = paused_as job text facts i a.pops o a.at in
+    ap status_of o_is
+
+-- and one, of those that end
+run_ended : (job : Job) (ws vs : List Watcher) (text : List ℕ) → HasOneEnd job.command text
+    → ReportAlike job.reports ws vs → RunAlike EndAsOne job ws vs text
+run_ended job ws vs text ordered like facts i o p made (inl a) (inl b) = λ ends end.
+    same_ends job.command (asked_by job) ws vs facts i like (made_cubes (wanted_by job) text facts i made)
+    (λ other. made_ordered (wanted_by job) text facts i ordered other made) o p a b
+run_ended job ws vs text ordered like facts i o p made (inl a) (inr b) =
+    λ ends end. absurd (end (pause_status job text facts i p b))
+run_ended job ws vs text ordered like facts i o p made (inr a) b =
+    λ ends end. absurd (ends (pause_status job text facts i o a))
+
 -- ---- outcomes
 
 -- two outcomes of a job and a text
@@ -156,6 +178,13 @@ pub one_read : (job : Job) (ws vs : List Watcher) (text : List ℕ) (o p : Outco
     → job.pops ≡ None → ReportAlike job.reports ws vs → ComesOf job ws text o → ComesOf job vs text p → o ≡ p
 one_read job ws vs text o p ordered out like =
     alike_outcomes (λ o p. o ≡ p) (λ o p is. is) job ws vs text (run_once job ws vs text ordered out like) o p
+
+-- where runs may stop, there is one of those that end
+pub one_ended : (job : Job) (ws vs : List Watcher) (text : List ℕ) (o p : Outcome) → HasOneEnd job.command text
+    → ReportAlike job.reports ws vs → ComesOf job ws text o → ComesOf job vs text p → status_of o ≢ 10
+    → status_of p ≢ 10 → o ≡ p
+one_ended job ws vs text o p ordered like =
+    alike_outcomes EndAsOne (λ o p is ends end. is) job ws vs text (run_ended job ws vs text ordered like) o p
 
 -- what comes of words and a text is their first bad word, or comes of their job
 pub word_cases : (words : List (List ℕ)) (ws : List Watcher) (text : List ℕ) (o : Outcome) → IsOutcome words ws text o

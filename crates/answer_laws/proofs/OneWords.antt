@@ -24,8 +24,8 @@ use Rattle.top_call.specs.Answers.{ComesBy, IsOutcome, ComesOf}
 use Rattle.top_call.specs.Replays.{job_of}
 use Rattle.top_call.specs.Pauses.{IsPause}
 use Rattle.answer_laws.specs.Orders.{HasOneEnd, LeadsToOneEnd}
-use Rattle.answer_laws.specs.Laws.{AskForOneEnd, AskForLikeReports, ReportAlike, AskForLike, Agree, shown_log}
-use Rattle.answer_laws.proofs.OneOutcome.{alike_read, one_read, alike_words}
+use Rattle.answer_laws.specs.Laws.{AskForOneEnd, AskForLikeReports, ReportAlike, AskForLike, Agree, OneEndedAnswer, shown_log}
+use Rattle.answer_laws.proofs.OneOutcome.{alike_read, one_ended, one_read, alike_words, line_comes}
 use Rattle.answer_laws.proofs.OneReplay.{one_replaying, alike_resuming, one_resuming, alike_resumed}
 use Rattle.answer_laws.proofs.ToldLogs.{one_telling}
 use Rattle.answer_laws.proofs.ToldSubjects.{IsHistoryOfMade, resampled_made}
@@ -139,3 +139,13 @@ pub one_logged : (words : List (List ℕ)) (ws : List Watcher) (text : List ℕ)
 one_logged words ws text o p =
     alike_words ShowOnce (λ o p is shown agree. is) words ws ws text
     (λ job asks o p. logged_by job.command job ws text o p) o p
+
+-- ---- runs that may stop, and come to their end
+
+-- the law
+pub one_ended_answer : OneEndedAnswer
+one_ended_answer job words ws vs text status other out out' asks line ordered like (o, comes, tells) (p, comes', tells') ends
+    end =
+    told_alike o p (one_ended job ws vs text o p ordered like (line_comes words job ws text o asks line comes)
+    (line_comes words job vs text p asks line comes') (λ ten. ends (tells.status_is ∙ ten))
+    (λ ten. end (tells'.status_is ∙ ten))) tells tells'

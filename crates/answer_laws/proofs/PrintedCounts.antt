@@ -78,7 +78,7 @@ use Rattle.dimacs_read.proofs.GrammarLaw as cnf
 -- ---- samples at ends
 
 -- rows finish with a sample
-sample_at : (f : Frame) → IsFrame f → (w c : List ℕ) (rows : Rows) → SamplesAt f w c rows → IsSampleOf f w
+pub sample_at : (f : Frame) → IsFrame f → (w c : List ℕ) (rows : Rows) → SamplesAt f w c rows → IsSampleOf f w
 sample_at f frame w c rows s =
     let suit : SuitsEnd f rows c = suits_end f frame rows s.shape c s.finishes in
     let count : length rows ≡ length f.weights = rows_count f frame rows s.shape in
@@ -107,12 +107,12 @@ few_variables : (text : List ℕ) → cnf_refusal text ≡ None → (cnf_of text
 few_variables text none = let fit = (cnf.sound text none).variables_fit in omega (arith, fit)
 
 -- samples that print the same lines: they are the same, but at loops of a graph that is oriented
-abbrev IsLike : Facts → List ℕ → List ℕ → Type 0
+abbrev pub IsLike : Facts → List ℕ → List ℕ → Type 0
 IsLike (OrientFacts g) x y = DifferAtLoops g.edges x y
 IsLike facts x y = x ≡ y
 
 -- so they do
-like_lines : (facts : Facts) (x y : List ℕ) → IsLike facts x y → sample_lines facts x ≡ sample_lines facts y
+pub like_lines : (facts : Facts) (x y : List ℕ) → IsLike facts x y → sample_lines facts x ≡ sample_lines facts y
 like_lines (OrientFacts g) x y same = same_lines g x y same
 like_lines facts x y same = ap (sample_lines facts) same
 
@@ -131,13 +131,13 @@ slots_of g root heights x is =
     }
 
 -- two samples of a subject, and the lines of them that begin one text
-abbrev BeginOneText : List ℕ → List ℕ → List ℕ → List ℕ → List ℕ → Subject → Type 0
+abbrev pub BeginOneText : List ℕ → List ℕ → List ℕ → List ℕ → List ℕ → Subject → Type 0
 BeginOneText heights x y more other t =
     IsSampleOf (frame_over t heights) x × IsSampleOf (frame_over t heights) y
     × (sample_lines t.facts x ++ more ≡ sample_lines t.facts y ++ other)
 
 -- what a subject's samples print tells them
-abbrev LinesTell : Subject → Type 0
+abbrev pub LinesTell : Subject → Type 0
 LinesTell s = AreTelling s.facts → (heights x y more other : List ℕ) → BeginOneText heights x y more other s
     → IsLike s.facts x y
 
@@ -168,7 +168,7 @@ arrows_tell g root is root_is tells heights x y more other both =
     both.2
 
 -- and of whatever is sampled
-lines_tell : (k : Command) (w : Wanted) (text : List ℕ) (s : Subject) → IsSubjectOf k w text s → LinesTell s
+pub lines_tell : (k : Command) (w : Wanted) (text : List ℕ) (s : Subject) → IsSubjectOf k w text s → LinesTell s
 lines_tell k w text s = holds_of text LinesTell (record {
   assignments_hold = λ f events spelled are. assignments_tell text f events spelled;
   orientations_hold = λ g events spelled are. orientations_tell g events (graph_known text g spelled);
@@ -263,7 +263,7 @@ begins_so facts i c pops a tells = (
 )
 
 -- an end with status 0 has no stuck event
-none_left : (stuck : List Event) → end_status stuck ≡ 0 → stuck ≡ []
+pub none_left : (stuck : List Event) → end_status stuck ≡ 0 → stuck ≡ []
 none_left [] zero = refl
 none_left (e ∷ stuck) zero = absurd (omega (arith, zero))
 
@@ -272,25 +272,25 @@ module _ (job : Job) (text : List ℕ) (s : Subject) (has : Contains quiet job.c
     (count : length heights ≡ length s.weights) (some : All (λ h. 0 < h) heights) (words : Rows → List (List ℕ))
     (ws : List Watcher) (ask : AskOver job s.weights heights words) where
   -- the frame of these heights
-  abbrev f : Frame
+  abbrev pub f : Frame
   f = frame_over s heights
 
   -- its family is extremal
-  extremal : IsExtremal s.family
+  pub extremal : IsExtremal s.family
   extremal = ordered_extremal job.command (wanted_by job) text s (quiet_ordered job.command has) is
 
   -- and it is one
-  frame : IsFrame f
+  pub frame : IsFrame f
   frame = subject_frame s (subject_family job.command (wanted_by job) text s is) heights count some
 
   -- rows whose words are answered by this sample, at these cursors
-  abbrev Answered : List ℕ → List ℕ → Rows → Type 0
+  abbrev pub Answered : List ℕ → List ℕ → Rows → Type 0
   Answered w c rows =
       AreRows s.weights heights rows
       × ((pops : ℕ) × (a : Telling) × IsSampledBy (words rows) ws text s.facts w c pops a)
 
   -- the instance is that of rows, and its one-thread run ends so
-  abbrev EndsRows : Rows → Instance → List ℕ → ℕ → List Event → Type 0
+  abbrev pub EndsRows : Rows → Instance → List ℕ → ℕ → List Event → Type 0
   EndsRows rows i c pops stuck = (i ≡ over f rows) × IsFirstEnd (over f rows) c pops stuck
 
   -- an end of what is sampled over rows is that of the rows
@@ -308,13 +308,13 @@ module _ (job : Job) (text : List ℕ) (s : Subject) (has : Contains quiet job.c
       )
 
   -- what words over rows are answered by comes of the job
-  comes_of_rows : (rows : Rows) → AreRows s.weights heights rows → (o : Outcome) → IsOutcome (words rows) ws text o
+  pub comes_of_rows : (rows : Rows) → AreRows s.weights heights rows → (o : Outcome) → IsOutcome (words rows) ws text o
       → ComesOf (over_rows job rows) ws text o
   comes_of_rows rows shape o outcome =
       line_comes (words rows) (over_rows job rows) ws text o (ask rows shape) (quiet_line job.command has) outcome
 
   -- so a sample that answers them is at the end of the rows
-  answered_end : (w c : List ℕ) (rows : Rows) → AreRows s.weights heights rows → (pops : ℕ) (a : Telling)
+  pub answered_end : (w c : List ℕ) (rows : Rows) → AreRows s.weights heights rows → (pops : ℕ) (a : Telling)
       → (by : IsSampledBy (words rows) ws text s.facts w c pops a) → EndsRows rows by.instance c pops []
   answered_end w c rows shape pops a by =
       (end_of_rows rows s.facts by.instance c pops [] a
@@ -322,7 +322,7 @@ module _ (job : Job) (text : List ℕ) (s : Subject) (has : Contains quiet job.c
       (comes_of_rows rows shape (Ended s.facts by.instance c pops [] a) by.outcome))).1
 
   -- rows that are answered so finish with the sample
-  samples_there : (w c : List ℕ) (rows : Rows) → Answered w c rows → SamplesAt f w c rows
+  pub samples_there : (w c : List ℕ) (rows : Rows) → Answered w c rows → SamplesAt f w c rows
   samples_there w c rows (shape, (pops, a, by)) =
       let known : EndsRows rows by.instance c pops [] = answered_end w c rows shape pops a by in
       let there : by.instance ≡ over f rows = known.0 in
@@ -352,7 +352,7 @@ module _ (job : Job) (text : List ℕ) (s : Subject) (has : Contains quiet job.c
       record { there = (to.samples.shape, (pops, a, there)); back = to.back; weight = to.weight }
 
   -- rows are answered at one place, by one sample
-  one_end : (u v c d : List ℕ) (rows : Rows) → Answered u c rows → Answered v d rows → (c ≡ d) × (u ≡ v)
+  pub one_end : (u v c d : List ℕ) (rows : Rows) → Answered u c rows → Answered v d rows → (c ≡ d) × (u ≡ v)
   one_end u v c d rows a b =
       let at = samples_there u c rows a in
       let at' = samples_there v d rows b in
@@ -360,12 +360,12 @@ module _ (job : Job) (text : List ℕ) (s : Subject) (has : Contains quiet job.c
       (place, sym at.entries ∙ ap (entries_under rows) place ∙ at'.entries)
 
   -- rows whose words print the lines of a sample: they are answered by one like it
-  abbrev Found : List ℕ → Rows → Type 0
+  abbrev pub Found : List ℕ → Rows → Type 0
   Found w rows =
       (c : List ℕ) × (u : List ℕ) × IsSampleOf f u × IsLike s.facts u w × Answered u c rows
 
   -- words that are answered so print it
-  to_prints : (w : List ℕ) (rows : Rows) → Found w rows → PrintsOver s.weights heights words ws text s.facts w rows
+  pub to_prints : (w : List ℕ) (rows : Rows) → Found w rows → PrintsOver s.weights heights words ws text s.facts w rows
   to_prints w rows (c, u, is_u, like, (shape, (pops, a, by))) =
       let front = begins_so s.facts by.instance c pops a tells in
       let head : List ℕ = line (codes "s SAMPLE") in
@@ -415,7 +415,7 @@ module _ (job : Job) (text : List ℕ) (s : Subject) (has : Contains quiet job.c
       (c, v, is_v, like, mine)
 
   -- so are words that print it
-  from_prints : (w : List ℕ) (rows : Rows) → IsSampleOf f w → PrintsOver s.weights heights words ws text s.facts w rows
+  pub from_prints : (w : List ℕ) (rows : Rows) → IsSampleOf f w → PrintsOver s.weights heights words ws text s.facts w rows
       → Found w rows
   from_prints w rows is_w p =
       let (o, outcome, tell) = p.prints.answer in
@@ -519,11 +519,11 @@ module _ (job : Job) (text : List ℕ) (events : List (ℕ × Cube)) (heights : 
     (are : AreEventsOf (cnf_of text).clauses events) (count : length heights ≡ (cnf_of text).variables)
     (some : All (λ h. 0 < h) heights) (ask : AskOver job (pair_weights (cnf_of text).variables) heights words) where
   -- the frame of the formula's events
-  abbrev g : Frame
+  abbrev pub g : Frame
   g = frame_over (assignments (cnf_of text) events) heights
 
   -- it is one
-  g_frame : IsFrame g
+  pub g_frame : IsFrame g
   g_frame = rounds_frame text events heights spelled are count some
 
   -- the values of an assignment that satisfies the formula
@@ -531,7 +531,7 @@ module _ (job : Job) (text : List ℕ) (events : List (ℕ × Cube)) (heights : 
   satisfied_bits x is = record { count_is = is.count; bits = is.bits }
 
   -- rows that words over them are answered by rounds with an assignment are finished with it
-  rounded_rows : (w c : List ℕ) (n : ℕ) (rows : Rows) → AreRows g.weights heights rows
+  pub rounded_rows : (w c : List ℕ) (n : ℕ) (rows : Rows) → AreRows g.weights heights rows
       → IsRoundedBy (words rows) ws text w c n → SampledBy g w c n rows
   rounded_rows w c n rows shape r =
       let mine : Job = over_rows job rows in
@@ -554,7 +554,7 @@ module _ (job : Job) (text : List ℕ) (events : List (ℕ × Cube)) (heights : 
       }
 
   -- words that print an assignment are over rows that rounds finish with it
-  prints_sampled : (w : List ℕ) (rows : Rows) → Satisfies (cnf_of text) w
+  pub prints_sampled : (w : List ℕ) (rows : Rows) → Satisfies (cnf_of text) w
       → PrintsOver g.weights heights words ws text (FormulaFacts (cnf_of text).variables) w rows → Sampled g w rows
   prints_sampled w rows ok p =
       let o : IsRoundedOutput (words rows) ws text p.prints.out =
@@ -578,7 +578,7 @@ module _ (job : Job) (text : List ℕ) (events : List (ℕ × Cube)) (heights : 
       )
 
   -- and the other way round
-  sampled_prints : (w : List ℕ) (rows : Rows) → Satisfies (cnf_of text) w → Sampled g w rows
+  pub sampled_prints : (w : List ℕ) (rows : Rows) → Satisfies (cnf_of text) w → Sampled g w rows
       → PrintsOver g.weights heights words ws text (FormulaFacts (cnf_of text).variables) w rows
   sampled_prints w rows ok (c, (n, s)) =
       let size : length c ≡ length rows = (rounds_suit g g_frame rows s.shape c n s.end).size in

@@ -21,6 +21,7 @@ use Rattle.pop_log.specs.Layered.{AreInLayers}
 use Rattle.pop_watch.specs.Telling.{Watcher}
 use Rattle.pop_print.specs.declared.facts.Facts.{Facts}
 use Rattle.job_subjects.specs.declared.wanted.Wanted.{Wanted}
+use Rattle.job_subjects.specs.StackFaults.{AreFew}
 use Rattle.job_subjects.specs.Subjects.{Subject, IsSubjectOf, instance_over}
 use Rattle.job_subjects.proofs.MadeExtremal.{subject_extremal}
 use Rattle.job_subjects.specs.Made.{IsMade}
@@ -129,6 +130,7 @@ pub record IsBatchOfSubject (job : Job) (text : List ℕ) (facts : Facts) (i : I
   pub facts_are : facts ≡ subject.facts
   pub instance_is : i ≡ instance_over (origin_for job) subject
   pub sound : IsSound (origin_for job) subject.weights
+  pub few : AreFew job.count (length subject.weights)
   pub batch : IsBatchOf job.count (instance_over (origin_for job) subject) ends
 
 -- so is a batch that comes of one
@@ -149,6 +151,7 @@ batched_subject job ws text facts i ends h =
       facts_are = end.0 ∙ over.facts_are;
       instance_is = end.1 ∙ over.instance_is;
       sound = over.sound;
+      few = over.few;
       batch = subst (λ j. IsBatchOf job.count j ends) over.instance_is end.2;
     }
 

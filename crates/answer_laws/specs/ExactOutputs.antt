@@ -1,10 +1,11 @@
 -- The exact law on printed bytes: of all words that differ in their rows alone, as many make the
 -- program print one sample as another (Propp and Wilson 1998; Guo, Jerrum and Liu 2019).
-use Rattle.std.specs.Prelude.{◌≡◌, ℕ, ◌<◌, List, ◌++◌, length, codes, All, Contains, Ok, ⊤}
+use Rattle.std.specs.Prelude.{◌≡◌, ℕ, ◌<◌, List, ◌++◌, length, codes, All, Contains, None, Ok, ⊤}
 use Rattle.pop_model.specs.Popping.{Cube}
 use Rattle.pop_model.specs.Text.{line}
 use Rattle.dimacs_read.specs.CnfText.{AnswersCnf, cnf_of}
 use Rattle.dimacs_read.specs.Falsifying.{AreEventsOf}
+use Rattle.pop_stacks.specs.Faults.{AreLight}
 use Rattle.pop_samples.specs.Frames.{Rows, AreRows, IsSampleOf}
 use Rattle.pop_samples.specs.Lists.{AreAll}
 use Rattle.pop_samples.specs.ExactLaws.{AreProportional}
@@ -79,3 +80,26 @@ ExactRoundOutputs = (job : Job) (text : List ℕ) (events : List (ℕ × Cube)) 
     → AreAll (PrintsOver (assignments (cnf_of text) events).weights heights words watchers text
     (FormulaFacts (cnf_of text).variables) x) others
     → length all ≡ length others
+
+-- The rows of which such words print a sample are a finite list, where no witness is asked for: so what
+-- the law counts is there.
+abbrev pub ListedOutputs : Type 0
+ListedOutputs = (job : Job) (text : List ℕ) (s : Subject) (heights : List ℕ)
+    (words : Rows → List (List ℕ)) (watchers : List Watcher)
+    → Contains quiet job.command → IsSubjectOf job.command (wanted_by job) text s
+    → AreTelling s.facts → AreLight s.weights → job.witness ≡ None
+    → length heights ≡ length s.weights → All (λ h. 0 < h) heights
+    → AskOver job s.weights heights words → (w : List ℕ) → IsSampleOf (frame_over s heights) w
+    → (all : List Rows) × AreAll (PrintsOver s.weights heights words watchers text s.facts w) all
+
+-- So are those of which words for `rounds` print an assignment that satisfies the formula.
+abbrev pub ListedRoundOutputs : Type 0
+ListedRoundOutputs = (job : Job) (text : List ℕ) (events : List (ℕ × Cube)) (heights : List ℕ)
+    (words : Rows → List (List ℕ)) (watchers : List Watcher)
+    → job.command ≡ Rounds → AnswersCnf text (Ok (cnf_of text))
+    → AreEventsOf (cnf_of text).clauses events
+    → length heights ≡ (cnf_of text).variables → All (λ h. 0 < h) heights
+    → AskOver job (assignments (cnf_of text) events).weights heights words → (w : List ℕ)
+    → Satisfies (cnf_of text) w
+    → (all : List Rows) × AreAll (PrintsOver (assignments (cnf_of text) events).weights heights words
+    watchers text (FormulaFacts (cnf_of text).variables) w) all

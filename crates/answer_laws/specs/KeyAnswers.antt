@@ -12,6 +12,7 @@ use Rattle.pop_samples.specs.Exchange.{Samples}
 use Rattle.round_samples.specs.Sampled.{Sampled}
 use Rattle.key_samples.specs.Exact.{AreExact, TablesOf}
 use Rattle.key_samples.specs.Keys.{AreSamples, batch_numbers}
+use Rattle.drawn_samples.specs.Drawn.{AreDrawn}
 use Rattle.pop_words.specs.declared.command.Command.TheVariants.{Rounds}
 use Rattle.pop_words.specs.declared.job.Job.{Job}
 use Rattle.pop_words.specs.Options.{quiet}
@@ -45,6 +46,8 @@ pub record IsDrawn (f : Frame) (Kind : List ℕ → Rows → Type 0) (key : List
     (o : Outcome) : Type 0 where
   -- Of all tables of numbers that the entries may be made of, those for each sample are counted.
   pub exact : AreExact f Kind
+  -- Of all that end with a sample, those for each are to all as its share to that of all samples.
+  pub from_all : AreDrawn f Kind
   -- The outcome ends with samples just where the key's own tables are among those for them.
   pub ends : (samples : List (List ℕ)) → EndsWithSamples o samples
       ↔ TablesOf f Kind samples (batch_numbers key height (length f.weights) count)

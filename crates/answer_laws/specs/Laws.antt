@@ -17,7 +17,7 @@ use Rattle.pop_log.specs.Layers.{Placed}
 use Rattle.told_runs.specs.Reports.{reports_text}
 use Rattle.told_runs.specs.Tellings.{records_of, LeadsToEnd}
 use Rattle.top_call.specs.Pauses.{IsPause}
-use Rattle.top_call.specs.Answers.{IsOutcome, IsAnswer}
+use Rattle.top_call.specs.Answers.{IsOutcome, IsAnswer, IsOfLine}
 use Rattle.answer_laws.specs.Orders.{HasOneEnd, LeadsToOneEnd}
 
 -- All orders of the pops that the words ask for lead to one end of this text: a resampling is one
@@ -50,6 +50,15 @@ OneAnswer = (words : List (List ℕ)) (watchers others : List Watcher) (text : L
     → AskForLikeReports words watchers others
     → IsAnswer words watchers text status out → IsAnswer words others text other out'
     → (status ≡ other) × (out ≡ out')
+
+-- So do words whose run may stop, of the answers that don't tell a stop, where all orders of pops lead to
+-- one end.
+abbrev pub OneEndedAnswer : Type 0
+OneEndedAnswer = (job : Job) (words : List (List ℕ)) (watchers others : List Watcher)
+    (text : List ℕ) (status other : ℕ) (out out' : List ℕ) → Asks words job
+    → IsOfLine job.command → HasOneEnd job.command text → ReportAlike job.reports watchers others
+    → IsAnswer words watchers text status out → IsAnswer words others text other out'
+    → status ≢ 10 → other ≢ 10 → (status ≡ other) × (out ≡ out')
 
 -- a run to an end, and one of the same instance that stopped after so many pops, of which the first
 -- has no more

@@ -1,13 +1,18 @@
 //! Laws of answers. Each function's contract is the law.
-ghost use Rattle.answer_laws.specs.Laws.{OneAnswer, OneOutcome, OneLoggedAnswer, PausedExactly, SampleFinished};
+ghost use Rattle.answer_laws.specs.Laws.{OneAnswer, OneEndedAnswer, OneOutcome, OneLoggedAnswer, PausedExactly, SampleFinished};
 ghost use Rattle.answer_laws.specs.ShownLogs.{OneShownLog, OneStoppedRun};
 ghost use Rattle.answer_laws.specs.Shown.{SampleShown, ExhaustedShown};
 ghost use Rattle.answer_laws.specs.Workers.{WorkersAgree};
 ghost use Rattle.answer_laws.specs.Resumed.{ResumedAlike};
 ghost use Rattle.answer_laws.specs.Unpaused.{ResumedUnpaused};
 ghost use Rattle.answer_laws.specs.Stages.{GrownAlike, StagesAgree};
+ghost use Rattle.answer_laws.specs.TallerAnswers.{TallerAnswers};
+ghost use Rattle.answer_laws.specs.ExhaustedAnswers.{ExhaustedAnswers};
 ghost use Rattle.answer_laws.specs.FirstSample.{FirstSample, FirstSampleOfWords};
+ghost use Rattle.answer_laws.specs.BatchFront.{BatchFront};
 ghost use Rattle.answer_laws.specs.RoundsLikeFormula.{RoundsLikeFormula};
+ghost use Rattle.answer_laws.specs.ResampleLikeFormula.{ResampleLikeFormula};
+ghost use Rattle.answer_laws.specs.SameReading.{SameReading};
 ghost use Rattle.answer_laws.specs.Complete.{Complete};
 ghost use Rattle.answer_laws.specs.ExactAnswers.{AskedRows, ExchangedAnswers, ReachedAnswers};
 ghost use Rattle.answer_laws.specs.EverySample.{EveryAssignment, EveryOrientation, EveryTree};
@@ -18,6 +23,12 @@ ghost use Rattle.answer_laws.specs.EverySample.{EveryAssignment, EveryOrientatio
 /// no choice where neither a device nor memory fails.
 pub fn one_answer()
     ensures { OneAnswer }
+{}
+
+/// Words whose run may stop after so many pops have with a text one answer that tells no stop, also of a
+/// resampling, if all orders of its pops lead to one end.
+pub fn one_ended_answer()
+    ensures { OneEndedAnswer }
 {}
 
 /// Words and a text have one outcome, but for the pops of a resampling, also of one that is gone on
@@ -122,6 +133,26 @@ pub fn first_sample_of_words()
     ensures { FirstSampleOfWords }
 {}
 
+/// A batch begins with each smaller batch of the same job: behind the lines that tell how many samples
+/// there are, the output of the more begins with that of the fewer. So sample j doesn't hang on how
+/// many are asked for.
+pub fn batch_front()
+    ensures { BatchFront }
+{}
+
+/// A sample or a batch of samples that `formula`, `orient`, `tree` or `make` answers under a key is the
+/// answer with each greater height as well, byte for byte. So trying once more with taller stacks, if
+/// stacks were exhausted, changes no sample.
+pub fn taller_answers()
+    ensures { TallerAnswers }
+{}
+
+/// An end of `formula`, `orient`, `tree` or `make` has status 1 exactly if no legal log within the heights
+/// of the stacks leads to a sample, and so has a batch if this holds of some sample.
+pub fn exhausted_answers()
+    ensures { ExhaustedAnswers }
+{}
+
 /// Where `formula` is answered by a sample or an exhausted end, so that its events are extremal,
 /// `rounds` is answered with the same status over stacks of the same origin. The output of a sample
 /// is then the same up to the line `used`, behind which the one tells its pops and the other its
@@ -167,4 +198,17 @@ pub fn every_sample()
     ensures assignments { EveryAssignment }
     ensures orientations { EveryOrientation }
     ensures trees { EveryTree }
+{}
+
+/// If `formula` with its log is answered by a sample or an exhausted end, `resample` prints the same
+/// bytes, with the same status, or with 6 if the witness that is asked for isn't there. It has no other
+/// answer then (`one_answer`), so its sample is drawn as that of `formula`.
+pub fn resample_like_formula()
+    ensures { ResampleLikeFormula }
+{}
+
+/// An answer to a text that is no refusal is one to each other text that is read as the same formula or
+/// graph. So comments, blanks and line ends don't show, except in certificates, which hold the text.
+pub fn same_reading()
+    ensures { SameReading }
 {}

@@ -2,6 +2,7 @@
 ghost use Rattle.answer_laws.specs.PrintedOnce.{AssignmentsApart, OrientationsApart, TreesApart};
 ghost use Rattle.answer_laws.specs.PrintedOnce.{EverySpanningTree};
 ghost use Rattle.answer_laws.specs.ExactOutputs.{ExactOutputs, ExactRoundOutputs};
+ghost use Rattle.answer_laws.specs.ExactOutputs.{ListedOutputs, ListedRoundOutputs};
 
 /// Different samples print different lines, whatever stands behind them: of two orientations, but
 /// where they differ at loops alone, whose two directions are one. Edges may be parallel.
@@ -27,4 +28,14 @@ pub fn exact_outputs()
 /// satisfies the formula as another, whether or not its clauses clash.
 pub fn exact_round_outputs()
     ensures { ExactRoundOutputs }
+{}
+
+/// The rows of which such words print a sample are finitely many, where no witness is asked for.
+pub fn listed_outputs()
+    ensures { ListedOutputs }
+{}
+
+/// So are those of which words for `rounds` print an assignment that satisfies the formula.
+pub fn listed_round_outputs()
+    ensures { ListedRoundOutputs }
 {}

@@ -2,6 +2,7 @@
 //!
 //! Partial rejection sampling by rounds samples exactly, whether or not clauses clash (Guo, Jerrum
 //! and Liu 2019).
+ghost use Rattle.answer_laws.specs.TallerAnswers.{TallerRoundAnswers};
 ghost use Rattle.answer_laws.specs.RoundAnswers.{RoundOutputs, ExchangedRoundAnswers};
 ghost use Rattle.answer_laws.specs.RoundAnswers.{ReachedRoundAnswers, SamplesSatisfy};
 
@@ -26,4 +27,10 @@ pub fn reached_round_answers()
 /// The samples of a formula's events are just the assignments that satisfy it.
 pub fn samples_satisfy()
     ensures { SamplesSatisfy }
+{}
+
+/// An assignment that `rounds` answers under a key is the answer with each greater height as well, byte
+/// for byte.
+pub fn taller_round_answers()
+    ensures { TallerRoundAnswers }
 {}
