@@ -1,0 +1,3 @@
+pub mod Converse
+pub mod SpanningSets
+pub mod DrawnTrees
