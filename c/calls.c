@@ -1,54 +1,12 @@
 /* Calls of the library: each status, what is left of the output, memory that is refused, and calls on many threads. It
-   is linked with libpopsample.a, and with --wrap for malloc, realloc and free. */
+   is linked with libpopsample.a and memory.c. */
+#include "memory.h"
 #include <popsample.h>
 #include <pthread.h>
-#include <stdatomic.h>
 #include <stdio.h>
-#include <stdlib.h>
 #include <string.h>
 
-enum { ROOM = 4096, THREADS = 8, ROUNDS = 25, KEYS = 16, UNTOUCHED = 0xa5, NONE_REFUSED = -1 };
-
-/* How many blocks the library holds, and how many more it is given before one is refused. */
-static atomic_long held = 0;
-static atomic_long left = NONE_REFUSED;
-
-void *__real_malloc(size_t size);
-void *__real_realloc(void *block, size_t size);
-void __real_free(void *block);
-void *__wrap_malloc(size_t size);
-void *__wrap_realloc(void *block, size_t size);
-void __wrap_free(void *block);
-
-static int is_refused(void)
-{
-    return left != NONE_REFUSED && (left == 0 || left-- == 0);
-}
-
-void *__wrap_malloc(size_t size)
-{
-    void *block = is_refused() ? NULL : __real_malloc(size);
-
-    held += block != NULL;
-    return block;
-}
-
-void *__wrap_realloc(void *block, size_t size)
-{
-    return is_refused() ? NULL : __real_realloc(block, size);
-}
-
-void __wrap_free(void *block)
-{
-    held -= block != NULL;
-    __real_free(block);
-}
-
-static void fail(const char *what)
-{
-    fprintf(stderr, "c/calls.c: %s\n", what);
-    exit(1);
-}
+enum { ROOM = 4096, THREADS = 8, ROUNDS = 25, KEYS = 16, UNTOUCHED = 0xa5 };
 
 /* A call, and what it left. */
 struct call {

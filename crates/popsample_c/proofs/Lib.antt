@@ -1,2 +1,3 @@
 -- Lemmas of the crate.
 mod Pushed
+mod Utf8Words

@@ -1,5 +1,5 @@
 -- What a call is told.
-use Rattle.std.specs.Prelude.{◌≡◌, ◌⊎◌, ◌<◌, ℕ, List, [], ◌∷◌, length, replicate}
+use Rattle.std.specs.Prelude.{◌≡◌, ◌⊎◌, ◌<◌, ℕ, List, [], ◌∷◌, length, replicate, All, IsUtf8}
 use Rattle.joined_words.specs.Joined.{AreJoined}
 use Rattle.pop_watch.specs.Telling.{Watcher}
 use Rattle.top_call.specs.Answers.{IsAnswer}
@@ -9,10 +9,11 @@ use Rattle.told_runs.specs.Outcomes.{IsAnswerStatus}
 abbrev pub fresh_watchers : List Watcher
 fresh_watchers = (1, 0 ∷ 0 ∷ 0 ∷ []) ∷ (2, replicate 33 0) ∷ (3, 0 ∷ []) ∷ []
 
--- the status and the output are those of an answer to the words in these bytes and to the text,
--- with three new watchers, one of each kind
+-- the status and the output are those of an answer to the words in UTF-8 in these bytes and to the
+-- text, with three new watchers, one of each kind
 pub record IsTold (bytes text : List ℕ) (status : ℕ) (out : List ℕ) : Type 0 where
   pub words : List (List ℕ)
+  pub utf8 : All IsUtf8 words
   pub are_words : AreJoined bytes words
   pub answer : IsAnswer words fresh_watchers text status out
 

@@ -27,6 +27,7 @@ fn watched_answer(alloc: Global, words: &[String], text: &[u8]) -> Result<Answer
 }
 
 /// The answer to the words in these bytes and to a text; None where no words are in them.
+#[tactic(auto, using(crate::proofs::Utf8Words::words_utf8))]
 pub fn answer_of(alloc: Global, words: &[u8], text: &[u8]) -> Result<Option<Answer>, AllocError>
     ensures told { IfOk result (λ found. MatchOption found (AreNoWords words.now)
         (λ a. IsTold words.now text.now a.status a.text.items)) }

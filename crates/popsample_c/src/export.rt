@@ -1,4 +1,4 @@
-//! The export.
+//! The export for command words and a text.
 ghost use Rattle.std.specs.Prelude.{◌≡◌, ◌≢◌, ◌<◌, ◌≤◌, ◌↔◌, ◌⊎◌, IsTrue, drop, length, take};
 ghost use Rattle.joined_words.specs.Joined.{AreNoWords};
 ghost use Rattle.popsample_c.specs.Told.{IsTold, IsTooLong, IsCallStatus};

@@ -1,7 +1,10 @@
-//! The answers of popsample for programs in C, as a static library: the words and the text lie in
-//! memory, and so does what is answered. All work is done on the calling thread, and nothing is
-//! kept from one call to the next. `c/include/popsample.h` declares the export.
+//! popsample for programs in C, as a static library: its answers to words and a text in memory, and
+//! samples of graphs in arrays. All work is done on the calling thread, and nothing is kept from one
+//! call to the next. `c/include/popsample.h` declares the exports.
 #![tactic(auto)]
 
 mod answering;
+mod drawing;
 mod export;
+mod orientations_export;
+mod trees_export;

@@ -1,0 +1,9 @@
+pub mod Carrying
+pub mod PutRows
+pub mod Budgets
+pub mod TreeParts
+pub mod TreeRows
+pub mod ValueRows
+pub mod GoingOn
+pub mod RoundRows
+pub mod FormulaCarrying

@@ -1,0 +1,32 @@
+//! Samples of what lies in arrays, put into arrays: the trees of a graph, its orientations without
+//! sinks, and the assignments of a formula.
+//!
+//! Contracts see the graph or the formula that the arrays have, and say of each row the end of
+//! which sample it has.
+#![tactic(auto)]
+
+mod assigning;
+mod calls;
+mod counts;
+mod draw;
+mod formula_refusal;
+mod instances;
+pub mod laws;
+mod orienting;
+mod outcome;
+mod refusal;
+mod round_rows;
+mod rounding;
+mod rows;
+#[cfg(test)]
+mod tests;
+mod value_rows;
+
+pub use assigning::{ArrayFormula, assignments};
+pub use calls::{TreeGraph, trees};
+pub use draw::Draw;
+pub use formula_refusal::FormulaRefusal;
+pub use orienting::{OrientedGraph, orientations};
+pub use outcome::Outcome;
+pub use refusal::ArrayRefusal;
+pub use rounding::assignments_by_rounds;

@@ -1,0 +1,2 @@
+pub mod BatchTexts
+pub mod PrintedRows
