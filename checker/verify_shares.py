@@ -1,12 +1,18 @@
 #!/usr/bin/env python3
-"""Tries the law of keys by brute force on small instances, by the checker's definitions alone: no program is run.
+"""Tries the exact distribution by brute force on small instances, by the checker's definitions; no program is run.
 
     python3 checker/verify_shares.py
 
-Each entry of keyed stacks is made of a number below 2^64. Here there are 8 numbers or 4 in the place of 2^64, and all
-tables of them are counted. Those whose run ends with one sample are to those whose run ends with another as the
-products of the shares of their values, where a share is how many of the numbers give the value: so it is in all, and of
-those that end at the same cursors. One line is printed: how many were counted; else the first count that is wrong.
+Each entry of keyed stacks is made of a number below 2^64. Here there are 8 numbers or 4 in place of 2^64, and all
+tables of them are counted. The share of a value is how many of the numbers give it; the share of a sample is the
+product of the shares of its values.
+
+- Of all tables whose run ends with a sample, those for one sample are to all as its share to the sum of all shares.
+- The same holds of the tables that end at given cursors, or after so many steps, or within so many steps.
+- The tables of one whole run are as many as the product of the shares that its log and its sample use.
+- Each spanning tree, as a set of edges, is drawn by the product of its edges' weights, whatever the root is.
+
+One line is printed: how many tables were counted; otherwise the first count that is wrong.
 """
 
 from __future__ import annotations
@@ -14,7 +20,7 @@ from __future__ import annotations
 import argparse
 import sys
 from collections import Counter
-from itertools import accumulate, islice, product
+from itertools import accumulate, combinations, islice, product
 from math import prod
 from typing import Callable, NamedTuple, Optional, Union
 
@@ -30,6 +36,14 @@ from verifier.trees import TreeSetting
 
 Values = tuple  # of a value for each variable
 Rows = tuple  # of the entries of each variable
+Tree = frozenset  # of the numbers of its edges
+
+
+class Steps(NamedTuple):
+    """How many pops or rounds a run had, and of pops its log: the cube and the entries of each record."""
+
+    count: int
+    log: tuple
 
 
 class Case(NamedTuple):
@@ -41,7 +55,7 @@ class Case(NamedTuple):
     family: Union[Listed, Cycles]
     weights: list[list[int]]
     heights: list[int]
-    run: Callable[[Board], int]
+    run: Callable[[Board], Steps]
     bits: int = 3
 
     def numbers(self) -> int:
@@ -59,21 +73,22 @@ class Case(NamedTuple):
 
 
 class End(NamedTuple):
-    """The values at a run's end, its cursors, and how many pops or rounds it had."""
+    """The values at a run's end, its cursors, and its steps."""
 
     values: Values
     cursors: tuple[int, ...]
-    steps: int
+    steps: Steps
 
 
-def by_pops(board: Board) -> int:
-    """Makes the one-thread run, and tells its pops."""
-    return len(board.run_first())
+def by_pops(board: Board) -> Steps:
+    """Makes the one-thread run. Returns its pops."""
+    records = board.run_first()
+    return Steps(len(records), tuple((record.event.cube, tuple(record.entries)) for record in records))
 
 
-def by_rounds(board: Board) -> int:
-    """Makes the run by rounds, and tells how many there are."""
-    return run_rounds(board)[0]
+def by_rounds(board: Board) -> Steps:
+    """Makes the run by rounds. Returns how many there are."""
+    return Steps(run_rounds(board)[0], ())
 
 
 def events_of(variables: int, *clauses: list[int]) -> Listed:
@@ -89,6 +104,12 @@ CHAINED = events_of(3, [1, 2], [2, 3], [-1, 3])
 PARTLY = events_of(4, [1, 2], [2, 3], [-3, 4])
 # Two edges between 1 and 2; the root is 1.
 TREES = TreeSetting(Graph(3, [Edge(1, 2, 1), Edge(2, 1, 2), Edge(2, 3, 3), Edge(3, 1, 2)]), 1)
+# Two edges between 1 and 2, and a self-loop at 3. Without the loop, the weights at each vertex sum to 4 or 8.
+EVEN_GRAPH = Graph(4, [
+    Edge(1, 2, 1), Edge(2, 1, 2), Edge(2, 3, 1), Edge(3, 3, 7), Edge(3, 4, 3), Edge(4, 1, 5)])
+# The same edges, whose weights have other sums.
+ROUNDED_GRAPH = Graph(4, [
+    Edge(1, 2, 1), Edge(2, 1, 1), Edge(2, 3, 1), Edge(3, 3, 1), Edge(3, 4, 2), Edge(4, 1, 3)])
 COINS = [[1, 1], [1, 1], [1, 1]]
 # Sums that divide 8.
 EVEN = [[1, 3], [1, 1], [5, 3]]
@@ -178,55 +199,150 @@ def check_rows(case: Case, tables: Counter[Rows]) -> None:
         require(count == made, case, count, "tables give", rows, "and not", made)
 
 
+def sums_divide(case: Case) -> bool:
+    """Whether the weights of each variable sum to a number that divides how many numbers there are."""
+    return not any(case.numbers() % sum(weights) for weights in case.weights)
+
+
+def bounds(case: Case) -> tuple[int, int]:
+    """The factors between which counts are as weights, where the sums of the weights don't divide the numbers."""
+    numbers, most = case.numbers(), max(map(sum, case.weights))
+    return max(0, numbers - most) ** len(case.weights), (numbers + most) ** len(case.weights)
+
+
+def require_near(case: Case, left: int, right: int, *told: object) -> None:
+    """Two products are equal where the sums of the weights divide the numbers, and otherwise within the factors."""
+    low, high = bounds(case)
+    near = left * low <= right * high and right * low <= left * high
+    require(left == right if sums_divide(case) else near, case, *told, "by weights")
+
+
 def check_counts(case: Case, counts: Counter[Values]) -> None:
-    """The counts of tables for any two samples are as the products of their shares; so as those of their weights where
-    these divide the numbers, and else within a factor for each variable.
+    """The run ends with samples alone. The tables for each are to all as its share to the sum of all shares, and so by
+    weights, exactly or nearly. Any samples together are drawn so: it is seen of all fronts of their list.
     """
-    shares = case.shares()
-    totals = [sum(weights) for weights in case.weights]
-    numbers, most = case.numbers(), max(totals)
-    is_even = not any(numbers % total for total in totals)
-    low, high = max(0, numbers - most) ** len(totals), (numbers + most) ** len(totals)
-    for one, other in product(samples_of(case), repeat=2):
-        told = (counts[one], "tables end with", one, "and", counts[other], "with", other)
-        require(counts[one] * sample_weight(shares, other) == counts[other] * sample_weight(shares, one), case, *told)
-        left = counts[one] * sample_weight(case.weights, other)
-        right = counts[other] * sample_weight(case.weights, one)
-        require(left == right if is_even else left * low <= right * high, case, *told, "by weights")
+    samples = samples_of(case)
+    require(set(counts) <= set(samples), case, "the ends are", sorted(counts))
+    ended, shares = sum(counts.values()), case.shares()
+    by_share = [sample_weight(shares, values) for values in samples]
+    by_weight = [sample_weight(case.weights, values) for values in samples]
+    for first, last in combinations(range(len(samples) + 1), 2):
+        some = slice(first, last)
+        count = sum(counts[values] for values in samples[some])
+        told = (count, "of", ended, "tables end with one of", samples[some])
+        require(count * sum(by_share) == ended * sum(by_share[some]), case, *told)
+        require_near(case, count * sum(by_weight), ended * sum(by_weight[some]), *told)
+
+
+def check_given_up(case: Case, ends: Counter[End]) -> None:
+    """Of the tables whose run ends within so many steps, as many are for each sample as the law says."""
+    for most in range(max(end.steps.count for end in ends)):
+        counts: Counter[Values] = Counter()
+        for end, count in ends.items():
+            if end.steps.count <= most:
+                counts[end.values] += count
+        check_counts(case, counts)
+
+
+def check_whole_runs(case: Case, ends: Counter[End]) -> None:
+    """The tables of a log and a sample are as many as the shares of the values that the log's records demand, times
+    the share of the sample, times all numbers for each entry that isn't read; and the sample doesn't hang on the log.
+    """
+    shares, samples = case.shares(), samples_of(case)
+    with_log: Counter[tuple] = Counter()
+    with_sample: Counter[Values] = Counter()
+    both: Counter[tuple] = Counter()
+    for end, count in ends.items():
+        with_log[end.steps.log] += count
+        with_sample[end.values] += count
+        both[end.steps.log, end.values] += count
+    ended = sum(ends.values())
+    for log, values in product(with_log, samples):
+        demanded = [shares[variable][value] for cube, _ in log for variable, value in cube]
+        unread = sum(case.heights) - len(demanded) - len(values)
+        made = prod(demanded) * sample_weight(shares, values) * case.numbers() ** unread
+        count = both[log, values]
+        require(count == made, case, count, "tables end by", log, "with", values, "and not", made)
+        require(count * ended == with_log[log] * with_sample[values], case, values, "hangs on", log)
 
 
 def judge(case: Case) -> tuple[int, int]:
-    """Sees that the law holds of a case, and tells how many tables there are, and how many end with a sample."""
+    """Sees that the law holds of a case. Returns how many tables there are, and how many end with a sample."""
     check_shares(case)
     tables = tables_by_rows(case)
     check_rows(case, tables)
     in_all: Counter[Values] = Counter()
     places: dict[tuple, Counter[Values]] = {}
-    for end, count in ends_of(case, tables).items():
+    ends = ends_of(case, tables)
+    for end, count in ends.items():
         in_all[end.values] += count
-        places.setdefault((end.cursors, end.steps), Counter())[end.values] += count
+        places.setdefault((end.cursors, end.steps.count), Counter())[end.values] += count
     for counts in (in_all, *places.values()):
         require(set(counts) == set(samples_of(case)), case, "the ends are", sorted(counts))
         check_counts(case, counts)
+    check_given_up(case, ends)
+    if case.run is by_pops:
+        check_whole_runs(case, ends)
     return sum(tables.values()), sum(in_all.values())
+
+
+def spanning_trees(graph: Graph) -> dict[Tree, int]:
+    """The spanning trees of a graph, as sets of edges that join all vertices and are one fewer than these, and the
+    product of the weights of each. No root and no arrows are in that.
+    """
+    found = {}
+    for numbers in combinations(range(1, len(graph.edges) + 1), graph.vertices - 1):
+        part = {vertex: vertex for vertex in range(1, graph.vertices + 1)}
+        edges = [graph.edges[number - 1] for number in numbers]
+        for edge in edges:
+            old, new = part[edge.first], part[edge.second]
+            part = {vertex: new if each == old else each for vertex, each in part.items()}
+        if len(set(part.values())) == 1:
+            found[Tree(numbers)] = prod(edge.weight for edge in edges)
+    return found
+
+
+def judge_trees(name: str, graph: Graph, root: int) -> tuple[int, int]:
+    """Sees that each spanning tree is drawn by its weight. Returns how many tables there are, and how many end."""
+    setting = TreeSetting(graph, root)
+    case = Case(f"{name}, root {root}", setting.family, setting.weights, [2] * len(setting.names), by_pops)
+    tables = tables_by_rows(case)
+    counts: Counter[Tree] = Counter()
+    for end, count in ends_of(case, tables).items():
+        counts[Tree(slot[value][2] for slot, value in zip(setting.slots, end.values))] += count
+    trees = spanning_trees(graph)
+    require(set(counts) == set(trees), case, "the trees are", sorted(map(sorted, counts)))
+    ended, whole = sum(counts.values()), sum(trees.values())
+    for tree, weight in trees.items():
+        require_near(case, counts[tree] * whole, ended * weight, counts[tree], "tables end with", sorted(tree))
+    return sum(tables.values()), ended
+
+
+def is_lawless(case: Case) -> bool:
+    """Whether the law is found to fail of a case."""
+    counts: Counter[Values] = Counter()
+    for end, count in ends_of(case, tables_by_rows(case)).items():
+        counts[end.values] += count
+    try:
+        check_counts(case, counts)
+    except ValueError:
+        return True
+    return False
 
 
 def judge_all() -> str:
     """Judges all cases, and sees that the law is found to fail where it does."""
-    tables, ended = map(sum, zip(*map(judge, CASES)))
-    counts: Counter[Values] = Counter()
-    for end, count in ends_of(LAWLESS, tables_by_rows(LAWLESS)).items():
-        counts[end.values] += count
-    try:
-        check_counts(LAWLESS, counts)
-    except ValueError:
-        return f"agrees: {len(CASES)} instances, {tables} tables of numbers, of which {ended} end with a sample"
-    raise ValueError(f"{LAWLESS.name}: the law is found to hold")
+    require(is_lawless(LAWLESS), LAWLESS, "the law is found to hold")
+    judged = [judge(case) for case in CASES]
+    for name, graph in (("trees, even weights", EVEN_GRAPH), ("trees, rounded weights", ROUNDED_GRAPH)):
+        judged += [judge_trees(name, graph, root) for root in range(1, graph.vertices + 1)]
+    tables, ended = map(sum, zip(*judged))
+    return f"agrees: {len(judged)} instances, {tables} tables of numbers, of which {ended} end with a sample"
 
 
 def main() -> int:
     """Runs the call, and tells its status."""
-    argparse.ArgumentParser(description="Tries the law of keys by brute force on small instances.").parse_args()
+    argparse.ArgumentParser(description=__doc__.splitlines()[0]).parse_args()
     return status_of(judge_all)
 
 
