@@ -14,7 +14,7 @@ _popsample_options() {
     esac
 }
 
-# The options beside which an option can't stand: itself, and what it excludes.
+# The options that an option cannot be combined with: itself, and what it excludes.
 _popsample_apart() {
     case $1 in
         --stacks) echo --stacks --key --height --grow --count ;;
@@ -27,13 +27,13 @@ _popsample_apart() {
     esac
 }
 
-# The words that may stand behind a word: the commands, the options that don't stand yet and aren't excluded, or the
-# values of one; and the names of files behind a redirection alone, since the program takes none.
+# The arguments that may follow an argument: the commands, the options that aren't given yet and aren't excluded, or the
+# values of one. File names are offered only after a redirection, since the program takes none.
 _popsample() {
     local word=${COMP_WORDS[COMP_CWORD]} at standing option other choices="" words=()
     for ((at = 1; at < COMP_CWORD; at++)); do
         if [[ ${COMP_WORDS[at]} == *[\<\>]* ]]; then
-            # Where an option would stand, a digit is the file descriptor that is redirected.
+            # In the place of an option, a digit is the file descriptor that is redirected.
             ((${#words[@]} > 0 && ${#words[@]} % 2 == 0)) && [[ ${words[-1]} == [0-9] ]] && unset "words[-1]"
             ((at += 1))
         else

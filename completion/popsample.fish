@@ -20,7 +20,7 @@ function __popsample_options
     end
 end
 
-# The options beside which an option can't stand: itself, and what it excludes.
+# The options that an option cannot be combined with: itself, and what it excludes.
 function __popsample_apart
     switch $argv[1]
         case --stacks
@@ -43,46 +43,46 @@ end
 # The commands, with what they do.
 function __popsample_commands
     printf '%s\t%s\n' \
-        formula 'sample an assignment of an extremal formula' \
-        orient 'sample an orientation without sinks' \
-        tree 'sample a spanning tree' \
-        resample 'sample an assignment of any formula, and tell its log' \
-        check 'say whether a formula is extremal' \
-        make 'sample a spanning tree of a square grid' \
-        rounds 'sample an assignment of any formula, by rounds' \
-        replay 'judge the log of a certificate' \
-        resume 'go on from the log of a certificate'
+        formula 'sample a satisfying assignment of an extremal formula' \
+        orient 'sample a sink-free orientation' \
+        tree 'sample a spanning tree, with arrows to its root' \
+        resample 'find a satisfying assignment of any formula, and print the log' \
+        check 'check whether a formula is extremal' \
+        make 'sample a spanning tree of a square grid, and print a summary' \
+        rounds 'sample a satisfying assignment of any formula, in synchronous rounds' \
+        replay 'verify the log of a certificate, and print the state that it reaches' \
+        resume 'continue the run of a certificate to its end'
 end
 
-# What an option's value is.
+# What an option means.
 function __popsample_meaning
     switch $argv[1]
         case --stacks
-            echo "rows of entries, joined by ';', of numbers joined by ','"
+            echo "stack entries of each variable: rows joined by ';', their numbers by ','"
         case --key
-            echo '64 hexadecimal digits'
+            echo 'random key, 64 hexadecimal digits (default: 64 zeros)'
         case --height
-            echo 'entries of each stack'
+            echo 'stack length, from 1 to 2147483647 (default: 1048576)'
         case --grow
-            echo 'the last height of a run in stages'
+            echo 'increase the stack length in stages, up to N'
         case --workers
-            echo 'workers that share the pops, from 1 to 64'
+            echo 'threads for one run, from 1 to 64 (default: 1)'
         case --board
-            echo 'how workers keep apart'
+            echo 'synchronisation between workers: words (lock-free, default) or lock'
         case --root
-            echo 'the root, from 1'
+            echo 'root of the tree, from 1 (default: 1)'
         case --log
-            echo 'whether the log is printed'
+            echo 'print the log of the pops (default: off)'
         case --witness
-            echo 'a variable and one of its entries, as V,K'
+            echo 'print the witness tree of the pop that used entry K, from 0, of variable V'
         case --report
-            echo 'reports on the log'
+            echo "print statistics of the log: some of totals, heights, layers, joined by ','"
         case --count
-            echo 'samples of a batch'
+            echo 'draw N samples on all processors, from 1 to 65536'
         case --pops
-            echo 'pops after which the run is stopped'
+            echo 'stop the run after N pops, and print its certificate'
         case grid
-            echo 'rows, and columns, from 1 to 2048'
+            echo 'number of rows and of columns, from 1 to 2048'
     end
 end
 
@@ -98,7 +98,7 @@ function __popsample_values
     end
 end
 
-# The options that don't stand yet and aren't excluded, behind the words of the command line.
+# The options that aren't given yet and aren't excluded, after the arguments of the command line.
 function __popsample_left
     for option in (__popsample_options $argv[1])
         set -l free yes
@@ -109,7 +109,7 @@ function __popsample_left
     end
 end
 
-# The words behind the program's name and before the one at the cursor, without redirections.
+# The arguments after the program's name and before the one at the cursor, without redirections.
 function __popsample_before
     set -l line (string replace --all --regex '&?\d?[<>]+[&|?]?\s*\S*' '' -- (commandline -pc))
     set -l words (string split --no-empty ' ' -- $line)
@@ -118,7 +118,7 @@ function __popsample_before
     string join \n -- $words[2..]
 end
 
-# The words that may stand behind the words before the cursor.
+# The arguments that may follow the arguments before the cursor.
 function __popsample_choices
     set -l words (__popsample_before)
     if test (count $words) -eq 0
@@ -130,5 +130,5 @@ function __popsample_choices
     end
 end
 
-# A file is none of them, since the program takes no name of one.
+# The program takes no file names, so none is offered.
 complete --command popsample --no-files --arguments '(__popsample_choices)'

@@ -29,8 +29,15 @@ def caller(description: str) -> argparse.ArgumentParser:
 
 
 def printed_by(program: str, words: list[str], text: str) -> str:
-    """What the program prints. Ends with its first line where it isn't a sample or a batch of samples."""
-    ran = subprocess.run([program, *words], input=text, stdout=subprocess.PIPE, text=True, check=False)
+    """What the program prints. Ends with its first line where it isn't a sample or a batch of samples.
+
+    Raises OSError if there is no such program, or it can't be run.
+    """
+    try:
+        ran = subprocess.run([program, *words], input=text, stdout=subprocess.PIPE, text=True, check=False)
+    except OSError as error:
+        remedy = "Install popsample, or name its path after --program."
+        raise OSError(f"the program {program!r} can't be run ({error.strerror}). {remedy}") from error
     if ran.returncode:
         sys.exit(f"popsample answers {ran.stdout.splitlines()[:1]}, with status {ran.returncode}")
     return ran.stdout

@@ -1,11 +1,11 @@
 #!/usr/bin/env bash
-# Runs the tests of the Python module with a built program, where there is a python3 that the module takes, and once more
-# with a built library, where one is named:
+# Checks the text of the Python module, as `python/lint.sh` does, and runs its tests with a built program, if there is a
+# python3 that the module takes, and once more with a built library, if one is named:
 #
 #     python/test.sh PROGRAM [LIBRARY]
 #
-# LIBRARY is a libpopsample.so. The status is 0 where all passed or there is no such python3, 1 where some failed, and 2
-# where the call is wrong.
+# LIBRARY is a libpopsample.so. The status is 0 if all passed or there is no such python3, 1 if some failed, and 2 if the
+# call is wrong.
 set -euo pipefail
 
 if [ $# -lt 1 ] || [ $# -gt 2 ] || [ ! -x "$1" ] || [ -d "$1" ] || [ ! -f "${2:-$1}" ]; then
@@ -23,6 +23,7 @@ export POPSAMPLE
 # The empty name says that there is none.
 libraries=("" ${2:+"$(realpath "$2")"})
 cd "$(dirname "$0")"
+./lint.sh
 for POPSAMPLE_LIBRARY in "${libraries[@]}"; do
     export POPSAMPLE_LIBRARY
     python3 -m unittest discover -s tests -t .

@@ -1,16 +1,14 @@
-"""Sampling by popping: spanning trees, orientations without sinks, and satisfying assignments.
+"""Sampling by popping: random spanning trees, sink-free orientations and satisfying assignments.
 
     >>> import popsample
     >>> tree = popsample.spanning_tree([("Ann", "Bob"), ("Bob", "Cem"), ("Cem", "Ann")], key="0" * 64)
     >>> tree.parents
     {'Bob': 'Cem', 'Cem': 'Ann'}
 
-The functions run the program `popsample`, which is what the environment variable POPSAMPLE names, else what was
-installed with the module, else what the PATH has, else what is built in the checkout that this module stands in; or
-they call its library in this process, where that is there and serves (`find_library`). A result has the key that it
-came from: the same call with that key gives the same result. All that is raised is an `Error`, whose message says what
-was refused, where, and what to do: an `ArgumentError` before the program runs, and a `Refusal` of what the program
-refuses.
+The functions call the library `libpopsample` in this process, if it is found (`find_library`), and otherwise run the
+program `popsample` (`find_program`). A result has the key that it came from: the same call with that key gives the same
+result. All exceptions are an `Error`, whose message says what is wrong, where, and what to do. An `ArgumentError` is
+raised before anything runs, and a `Refusal` if the library or the program rejects the input.
 """
 
 from .argument_errors import (
@@ -38,6 +36,7 @@ from .errors import (
     IsolatedError,
     LimitError,
     MalformedError,
+    NeedsLibraryError,
     NoAnswerError,
     NoLibraryError,
     NoProgramError,
@@ -51,40 +50,18 @@ from .errors import (
     RootError,
     RowsError,
     RunTimeoutError,
+    StacksError,
     TooLongError,
     TooManySamplesError,
     UsageError,
     WriteError,
 )
-from .formulas import check, formula_samples, resample, rounds, sample_formula
-from .graph_input import from_adjacency
-from .graphs import sink_free_orientation, sink_free_orientations, spanning_tree, spanning_trees
-from .keys import batch_key, derived_key, draw_key, seed_key
+from .formula_input import Formula, Method
+from .formulas import find_clash, is_extremal, resample, solution, solutions
+from .graph_input import GraphInput, from_adjacency, from_edges
+from .graphs import GraphLike, sink_free_orientation, sink_free_orientations, spanning_tree, spanning_trees
+from .keys import Key, KeyLike, SeedLike, derived_key, draw_key, seed_key
 from .library import find_library
-from .old_names import (
-    Clash,
-    Count,
-    CutOff,
-    Empty,
-    EmptyRow,
-    Exhausted,
-    Isolated,
-    Limit,
-    Malformed,
-    Memory,
-    NoAnswer,
-    NoProgram,
-    NotLegal,
-    NoWitness,
-    ReadFault,
-    Root,
-    Rows,
-    TooLong,
-    TooManySamples,
-    Usage,
-    Value,
-    WriteFault,
-)
 from .program import find_program
 from .results import (
     Arrow,
@@ -94,56 +71,51 @@ from .results import (
     Orientation,
     Pop,
     Replayed,
-    Resampled,
-    Rounded,
     Totals,
     Tree,
     WitnessVertex,
 )
-from .samples import Samples
+from .run_options import RunOptions
+from .sample_iterator import Samples
 from .sampling import samples
+from .version import version as _version
+
+__version__ = _version()
 
 __all__ = [
     "ArgumentError",
     "Arrow",
     "Assignment",
     "AssignmentArrays",
-    "Clash",
     "ClashError",
-    "Count",
     "CountError",
-    "CutOff",
     "CutOffError",
-    "Empty",
     "EmptyClauseError",
     "EmptyGraphError",
-    "EmptyRow",
     "EmptyRowError",
     "EntryError",
     "Error",
-    "Exhausted",
     "ExhaustedError",
+    "Formula",
+    "GraphInput",
+    "GraphLike",
     "History",
     "InputRefusal",
     "InputTypeError",
-    "Isolated",
     "IsolatedError",
+    "Key",
+    "KeyLike",
     "Layers",
-    "Limit",
     "LimitError",
-    "Malformed",
     "MalformedError",
-    "Memory",
-    "NoAnswer",
+    "Method",
+    "NeedsLibraryError",
     "NoAnswerError",
     "NoLibraryError",
-    "NoProgram",
     "NoProgramError",
     "NoWeightError",
-    "NoWitness",
     "NoWitnessError",
     "NotInstalledError",
-    "NotLegal",
     "NotLegalError",
     "OptionError",
     "Orientation",
@@ -152,50 +124,44 @@ __all__ = [
     "Paused",
     "Pop",
     "ReadError",
-    "ReadFault",
     "Refusal",
     "Replayed",
-    "Resampled",
-    "Root",
     "RootError",
-    "Rounded",
-    "Rows",
     "RowsError",
+    "RunOptions",
     "RunTimeoutError",
     "Samples",
-    "TooLong",
+    "SeedLike",
+    "StacksError",
     "TooLongError",
-    "TooManySamples",
     "TooManySamplesError",
     "Totals",
     "Tree",
     "TreeArrays",
     "TreeComponentError",
     "UnsatisfiableError",
-    "Usage",
     "UsageError",
-    "Value",
     "WeightError",
     "WitnessVertex",
     "WriteError",
-    "WriteFault",
-    "batch_key",
-    "check",
+    "__version__",
     "derived_key",
     "draw_key",
+    "find_clash",
     "find_library",
     "find_program",
-    "formula_samples",
     "from_adjacency",
+    "from_edges",
+    "is_extremal",
     "replay",
     "resample",
     "resume",
-    "rounds",
-    "sample_formula",
     "samples",
     "seed_key",
     "sink_free_orientation",
     "sink_free_orientations",
+    "solution",
+    "solutions",
     "spanning_tree",
     "spanning_trees",
 ]

@@ -1,4 +1,4 @@
-"""Runs the front end: `python -m popsample`."""
+"""Run the command-line wrapper: `python -m popsample`."""
 
 import sys
 

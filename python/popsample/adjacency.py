@@ -6,6 +6,7 @@ from collections.abc import Hashable, Iterable, Iterator, Mapping, Sequence
 from typing import Any
 
 from .argument_errors import ArgumentError, InputTypeError
+from .graph_parts import GraphParts, parts_of
 from .results import Edge
 from .weights import attribute_weights
 
@@ -16,7 +17,7 @@ WANTED = (
 
 
 def neighbours(vertex: Hashable, given: Any) -> Iterator[tuple[Hashable, Any]]:
-    """The neighbours of a vertex, each with its weight or attributes; none of these in a list."""
+    """Return the neighbours of a vertex, each with its weight or attributes; none of these in a list."""
     if isinstance(given, Mapping):
         yield from given.items()
         return
@@ -30,13 +31,14 @@ def neighbours(vertex: Hashable, given: Any) -> Iterator[tuple[Hashable, Any]]:
     yield from ((name, {}) for name in names)
 
 
-def read_mapping(graph: Mapping[Hashable, Any], weight: str | None) -> tuple[list[Hashable], list[Edge]]:
-    """The vertices and the edges of a dict of lists or of dicts, as `networkx.to_dict_of_lists` and `to_dict_of_dicts`
-    make them of an undirected graph.
+def read_mapping(graph: Mapping[Hashable, Any], weight: str | None) -> GraphParts:
+    """Return the parts of a dict of lists or of dicts.
 
-    Two vertices are joined where one has the other among its neighbours, by one edge, whose name is the pair of its
-    ends. `weight` names the attribute that has the weights. Raises ArgumentError where an edge has another weight at
-    its second end, InputTypeError where a value is none of these, and NoWeightError where no edge has the attribute.
+    It is as `networkx.to_dict_of_lists` and `to_dict_of_dicts` make it of an undirected graph.
+
+    Two vertices are joined if one has the other among its neighbours, by one edge, whose name is the pair of its
+    ends. `weight` names the attribute that has the weights. Raises ArgumentError if an edge has another weight at
+    its second end, InputTypeError if a value is none of these, and NoWeightError if no edge has the attribute.
     """
     vertices = dict.fromkeys(graph)
     edges: dict[tuple[Hashable, Hashable], Edge] = {}
@@ -44,11 +46,11 @@ def read_mapping(graph: Mapping[Hashable, Any], weight: str | None) -> tuple[lis
         for other, attributes in neighbours(vertex, given):
             vertices.setdefault(other)
             add_edge(edges, (vertex, other), attributes)
-    return list(vertices), attribute_weights(edges.values(), weight)
+    return parts_of(list(vertices), attribute_weights(edges.values(), weight))
 
 
 def add_edge(edges: dict[tuple[Hashable, Hashable], Edge], pair: tuple[Hashable, Hashable], weight: Any) -> None:
-    """Adds the edge of a pair, unless its other end had it already, with the same weight or attributes."""
+    """Add the edge of a pair, unless its other end had it already, with the same weight or attributes."""
     if isinstance(weight, Mapping) and weight and all(isinstance(value, Mapping) for value in weight.values()):
         raise InputTypeError(
             f"the edge {pair!r} has attributes by key, {weight!r}, as in a multigraph: hand in the multigraph itself"
@@ -64,39 +66,57 @@ def add_edge(edges: dict[tuple[Hashable, Hashable], Edge], pair: tuple[Hashable,
 
 
 def matrix_rows(matrix: Any) -> list[list[Any]]:
-    """The rows of a matrix of numpy, or of a list of lists. Raises ArgumentError where it isn't square."""
-    rows = matrix.tolist() if hasattr(matrix, "tolist") else [list(row) for row in matrix]
-    if any(not isinstance(row, list) or len(row) != len(rows) for row in rows):
-        raise ArgumentError("an adjacency matrix is square: hand in as many rows as columns")
+    """Return the rows of a matrix of numpy, or of a list of lists. Raise ArgumentError if it isn't square."""
+    try:
+        rows = matrix.tolist() if hasattr(matrix, "tolist") else [list(row) for row in matrix]
+    except TypeError:
+        raise InputTypeError(f"An adjacency matrix must be an array or a list of lists, not {matrix!r}.") from None
+    if not isinstance(rows, list) or any(not isinstance(row, list) or len(row) != len(rows) for row in rows):
+        raise ArgumentError("An adjacency matrix must be square: pass as many rows as columns.")
     return rows
 
 
 def row_names(names: Sequence[Hashable] | None, rows: int) -> list[Hashable]:
-    """The names of the rows, or their numbers from 0 on. Raises ArgumentError where they are of another number."""
+    """Return the names of the rows, or their numbers from 0. Raise ArgumentError if they don't fit."""
     if names is None:
         return list(range(rows))
     vertices = list(names)
-    if len(vertices) != rows or len(dict.fromkeys(vertices)) != rows:
-        raise ArgumentError(f"names= has one for each of the {rows} rows, none twice")
+    try:
+        count = len(dict.fromkeys(vertices))
+    except TypeError:
+        raise InputTypeError("`names` must be names that can be hashed: numbers, strings or tuples.") from None
+    if len(vertices) != rows or count != rows:
+        raise ArgumentError(f"`names` must have one name for each of the {rows} rows, none twice.")
     return vertices
 
 
-def read_matrix(matrix: Any, names: Sequence[Hashable] | None) -> tuple[list[Hashable], list[Edge]]:
-    """The vertices and the edges of a symmetric matrix of weights, where 0 says that there is no edge.
+def check_rows(rows: list[list[Any]]) -> None:
+    """Raise ArgumentError if the matrix has a NaN or isn't symmetric."""
+    for place, row in enumerate(rows):
+        column = next((column for column, weight in enumerate(row) if weight != weight), None)
+        if column is not None:
+            raise ArgumentError(f"The adjacency matrix must have no NaN, and has one in row {place}, column {column}.")
+    for place, row in enumerate(rows):
+        if row[place:] != [other[place] for other in rows[place:]]:
+            raise ArgumentError(
+                "The adjacency matrix of an undirected graph must be symmetric, and row "
+                f"{place} of this one, from 0, isn't its column."
+            )
+
+
+def read_matrix(matrix: Any, names: Sequence[Hashable] | None) -> GraphParts:
+    """Return the parts of a symmetric matrix of weights, in which 0 is no edge.
 
     The vertices have the names, or are the numbers from 0 on, and an edge's name is the pair of its ends. Raises
-    ArgumentError where the matrix isn't square or symmetric, or the names are of another number.
+    ArgumentError if the matrix isn't square or symmetric, has a NaN, or the names don't fit.
     """
     rows = matrix_rows(matrix)
     vertices = row_names(names, len(rows))
+    check_rows(rows)
     edges: list[Edge] = []
     for place, row in enumerate(rows):
-        if row[place:] != [behind[place] for behind in rows[place:]]:
-            raise ArgumentError(
-                f"an undirected graph has a symmetric matrix, and row {place} of this one, from 0, isn't its column"
-            )
         for other, weight in enumerate(row[place:], place):
             if weight:
                 pair = (vertices[place], vertices[other])
                 edges.append((*pair, weight, pair))
-    return vertices, edges
+    return parts_of(vertices, edges)

@@ -12,8 +12,9 @@ ARROW = b"\na "
 
 @dataclass(frozen=True)
 class Answer:
-    """What the program answered to its words: the status, the lines of the arrows, and for every other line the words
-    behind its first one.
+    """What the program answered to its words.
+
+    It has the status, the lines of the arrows, and for every other line the words after its first one.
     """
 
     words: Sequence[str]
@@ -22,36 +23,36 @@ class Answer:
     arrows: bytes = b""
 
     def row(self, first: str) -> list[str]:
-        """The words behind the first word, in its only line; none where there is no such line."""
+        """Return the words after the first word, in its only line; none if there is no such line."""
         rows = self.lines.get(first, [[]])
         return rows[0]
 
     def rows(self, first: str) -> list[list[str]]:
-        """The words behind the first word, for each line that it begins."""
+        """Return the words after the first word, for each line that it begins."""
         return self.lines.get(first, [])
 
     def numbers(self, first: str) -> list[int]:
-        """The numbers behind the first word, in its only line."""
+        """Return the numbers after the first word, in its only line."""
         return list(map(int, self.row(first)))
 
     def pops(self) -> int:
-        """The number of pops of a run."""
+        """Return the number of pops of a run."""
         return int(self.row("pops")[0])
 
     def number(self, first: str) -> int | None:
-        """The number behind the first word, in its only line, where there is such a line."""
+        """Return the number after the first word, in its only line, if there is such a line."""
         row = self.row(first)
         return int(row[0]) if row else None
 
     def arrow_columns(self) -> tuple[list[int], list[int], list[int]]:
-        """The tails, the heads and the edges of the arrows, by their numbers."""
+        """Return the tails, the heads and the edges of the arrows, by their numbers."""
         words = self.arrows.split()
         tails, heads, edges = (list(map(int, words[place::4])) for place in (1, 2, 3))
         return tails, heads, edges
 
 
 def cut_arrows(text: bytes) -> tuple[bytes, bytes]:
-    """The lines of the arrows, which stand together in an answer, and the text without them."""
+    """Return the lines of the arrows, which are together in an answer, and the text without them."""
     begin = text.find(ARROW) + 1
     if not begin:
         return b"", text
@@ -60,7 +61,7 @@ def cut_arrows(text: bytes) -> tuple[bytes, bytes]:
 
 
 def read_answer(words: Sequence[str], status: int, text: bytes) -> Answer:
-    """The answer that a text is. It may be any text: what can't be read is left to who looks at it."""
+    """Return the answer that a text is. It may be any text: what can't be read is left to who looks at it."""
     arrows, others = cut_arrows(text)
     lines: dict[str, list[list[str]]] = {}
     for line in others.decode("utf-8", "replace").split("\n"):
@@ -71,8 +72,10 @@ def read_answer(words: Sequence[str], status: int, text: bytes) -> Answer:
 
 
 def sample_texts(chunks: Iterable[bytes]) -> Iterator[tuple[bytes, bool]]:
-    """The parts of a text that comes in chunks, and whether each is the last: what stands before the first sample of a
-    batch, and then each sample, from its number on. No more is kept than a part and a chunk.
+    """Return the parts of a text that comes in chunks, and whether each is the last.
+
+    They are what comes before the first sample of a batch, and then each sample, from its number on. No more is kept
+    than a part and a chunk.
     """
     kept = bytearray()
     looked = 0
@@ -88,10 +91,15 @@ def sample_texts(chunks: Iterable[bytes]) -> Iterator[tuple[bytes, bool]]:
 
 
 def is_whole(text: bytes) -> bool:
-    """Whether the text of a sample of a batch tells a sample, and no end of a stack."""
+    """Return whether the text of a sample of a batch has a sample, and no end of a stack."""
     return text.startswith(b"s SAMPLE\n", text.find(b"\n") + 1)
 
 
 def read_sample(words: Sequence[str], text: bytes) -> Answer:
-    """The answer of a sample of a batch, as of a run by itself."""
+    """Return the answer of a sample of a batch, as of a run by itself."""
     return read_answer(words, 0 if is_whole(text) else 1, text[text.find(b"\n") + 1 :])
+
+
+def is_answer(answer: Answer) -> bool:
+    """Return whether an answer has a sample, or how its run was exhausted."""
+    return answer.row("s") == (["SAMPLE"] if answer.status == 0 else ["EXHAUSTED"]) and answer.status in (0, 1)

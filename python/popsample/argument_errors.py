@@ -7,18 +7,38 @@ from typing import Any
 
 from .base_error import Error
 
+# How much of a value a message shows.
+LONGEST = 200
+
 
 class ArgumentError(Error, ValueError):
-    """What was handed in can't be taken: the message says what to hand in."""
+    """What was passed can't be taken: the message says what to pass."""
 
 
 class OptionError(ArgumentError):
-    """An argument has no value that it may have: `argument` is its name, and `value` what was handed in."""
+    """An argument has a value that it may not have.
+
+    Attributes
+    ----------
+    argument : str
+        The name of the argument.
+    value : object
+        What was passed.
+    """
 
     def __init__(self, argument: str, value: Any, wanted: str) -> None:
-        super().__init__(f"{argument}={value!r} can't be taken: {wanted}.")
+        super().__init__(f"`{argument}` must be {wanted}, not {shown(value)}.")
         self.argument = argument
         self.value = value
+
+
+def shown(value: Any) -> str:
+    """Return a value as a message shows it, cut off if it is long."""
+    try:
+        text = repr(value)
+    except ValueError:  # an integer of more digits than Python converts
+        return f"one of type {type(value).__name__} that has too many digits to be shown"
+    return text if len(text) <= LONGEST else f"{text[:LONGEST]}..."
 
 
 class InputTypeError(ArgumentError, TypeError):
@@ -33,7 +53,7 @@ class EmptyGraphError(ArgumentError):
 
 
 class WeightError(ArgumentError):
-    """A weight can't be taken: `edge` is the name of its edge, and `weight` what was handed in."""
+    """A weight can't be taken: `edge` is the name of its edge, and `weight` what was passed."""
 
     def __init__(self, edge: Hashable, weight: Any, reason: str) -> None:
         super().__init__(f"The weight {weight!r} of edge {edge!r} can't be taken: {reason}.")
@@ -42,8 +62,9 @@ class WeightError(ArgumentError):
 
 
 class NoWeightError(ArgumentError, KeyError):
-    """No edge has the attribute that is to have the weights, or in a call of networkx some edge hasn't: `attribute` is
-    its name, and `edge` that edge.
+    """No edge has the attribute that is to have the weights.
+
+    In a call of networkx, some edge hasn't. `attribute` is its name, and `edge` that edge.
     """
 
     def __init__(self, attribute: Hashable, edge: Hashable = None) -> None:
@@ -56,7 +77,7 @@ class NoWeightError(ArgumentError, KeyError):
         self.edge = edge
 
     def __str__(self) -> str:
-        """The message as it is; a KeyError shows it as Python writes a string."""
+        """Return the message as it is; a KeyError shows it as Python writes a string."""
         return str(self.args[0])
 
 
@@ -75,8 +96,9 @@ class TreeComponentError(ArgumentError):
 
 
 class UnsatisfiableError(ArgumentError):
-    """These clauses, by number, can't all be true: they have one variable less than they are, and each of these can
-    make one of them true at a time.
+    """These clauses, by number, can't all be true.
+
+    They have one variable less than they are, and each of these can make one of them true at a time.
     """
 
     def __init__(self, clauses: Sequence[int]) -> None:

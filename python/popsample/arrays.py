@@ -1,18 +1,17 @@
-"""Many samples as arrays of numpy, and as sparse ones of scipy, where these are installed.
+"""Many samples as arrays of numpy, and as sparse ones of scipy, if these are installed.
 
-Vertices, edges and variables stand by their places, from 0, in the tuples of names beside the arrays; -1 is none.
+Vertices, edges and variables are given by their places, from 0, in the sequences of names beside the arrays.
+-1 is none.
 """
 
 from __future__ import annotations
 
-import importlib
-from collections.abc import Hashable, Iterable, Sequence
-from dataclasses import dataclass, fields, replace
-from typing import TYPE_CHECKING, Any, TypeVar
+from collections.abc import Hashable, Iterator, Sequence
+from dataclasses import dataclass
+from typing import TYPE_CHECKING, Any
 
-from .errors import NotInstalledError
-from .history import place_of
-from .subject import NUMBERS
+from .conversions import imported
+from .rows import Rows
 
 if TYPE_CHECKING:
     import numpy
@@ -22,27 +21,29 @@ if TYPE_CHECKING:
 
     Array = numpy.ndarray[Any, Any]
 
-Arrays = TypeVar("Arrays")
 
-# Words become blanks, so that numbers are left.
-BLANKS = bytes.maketrans(bytes(range(ord("A"), ord("z") + 1)), b" " * (ord("z") - ord("A") + 1))
-
-
-def library(name: str) -> Any:
-    """A library that the module doesn't need otherwise. Raises NotInstalledError where it isn't installed."""
-    try:
-        return importlib.import_module(name)
-    except ImportError:
-        raise NotInstalledError(name) from None
-
-
-@dataclass(frozen=True)
+@dataclass(frozen=True, eq=False)
 class TreeArrays:
     """Spanning trees, one in each row, with a column for each vertex.
 
-    `parents` has the next vertex on the way to the root, `edges` the edge to it, and `used` how many of the vertex's
-    entries were popped; at the root they are -1, -1 and 0. `pops` has the number of pops of each tree. `vertices` are
-    the names of the columns, and `edge_names` those of the edges.
+    Attributes
+    ----------
+    vertices : sequence of hashable
+        The names of the columns.
+    edge_names : sequence of hashable
+        The names of the graph's edges.
+    parents : numpy.ndarray of int32
+        The place of the next vertex on the way to the root; -1 at the root.
+    edges : numpy.ndarray of int32
+        The place of the edge to it; -1 at the root.
+    used : numpy.ndarray of uint32
+        How many of the vertex's values were passed; 0 at the root.
+    pops : numpy.ndarray of int64
+        The number of pops of each tree.
+    samples : numpy.ndarray of int64
+        The number of each tree under the key.
+    weight_error : float or None
+        The greatest relative error of a weight that ``weight_bits=`` rounded.
     """
 
     vertices: Sequence[Hashable]
@@ -51,114 +52,181 @@ class TreeArrays:
     edges: Array
     used: Array
     pops: Array
+    samples: Array
+    weight_error: float | None = None
+
+    def __len__(self) -> int:
+        """Return the number of trees."""
+        return len(self.pops)
+
+    def __iter__(self) -> Iterator[dict[Hashable, Hashable]]:
+        """Yield the parents of each tree, by their names."""
+        return (self.tree(row) for row in range(len(self)))
+
+    def tree(self, row: int) -> dict[Hashable, Hashable]:
+        """Return the parents in the tree of a row, by their names.
+
+        Parameters
+        ----------
+        row : int
+            The row, from 0.
+
+        Returns
+        -------
+        dict
+            For each vertex but the root its parent.
+        """
+        names = self.vertices
+        heads = enumerate(self.parents[row].tolist())
+        return {names[tail]: names[head] for tail, head in heads if head >= 0}
 
     def incidence(self) -> scipy.sparse.csr_array:
-        """A sparse array with a row for each tree and a column for each edge, which is 1 where it is the tree's."""
+        """Return which edges each tree has.
+
+        Returns
+        -------
+        scipy.sparse.csr_array
+            A row for each tree and a column for each edge: 1 if the edge is the tree's.
+        """
         chosen = self.edges >= 0
         ends = chosen.sum(axis=1).cumsum()
         return sparse_rows(self.edges[chosen], ends, (len(self.edges), len(self.edge_names)))
 
-    def adjacency(self, sample: int) -> scipy.sparse.csr_array:
-        """A sparse array with a row and a column for each vertex, which is 1 where an arrow of the tree leads from the
-        vertex of the row to that of the column.
+    def adjacency(self, row: int) -> scipy.sparse.csr_array:
+        """Return the arrows of the tree of a row.
+
+        Parameters
+        ----------
+        row : int
+            The row, from 0.
+
+        Returns
+        -------
+        scipy.sparse.csr_array
+            A row and a column for each vertex: 1 if an arrow leads from the one to the other.
         """
-        chosen = self.parents[sample] >= 0
+        chosen = self.parents[row] >= 0
         shape = (len(self.vertices), len(self.vertices))
-        return sparse_rows(self.parents[sample][chosen], chosen.cumsum(), shape)
+        return sparse_rows(self.parents[row][chosen], chosen.cumsum(), shape)
 
 
-@dataclass(frozen=True)
+@dataclass(frozen=True, eq=False)
 class OrientationArrays:
     """Orientations without sinks, one in each row, with a column for each edge.
 
-    `tails` has the vertex that the edge leaves, `heads` the one to which it points, and `used` how many of its entries
-    were popped. `pops` has the number of pops of each orientation. `vertices` are the names of the vertices, and
-    `edge_names` those of the columns.
+    Attributes
+    ----------
+    vertices : sequence of hashable
+        The names of the vertices.
+    edge_names : sequence of hashable
+        The names of the columns.
+    directions : numpy.ndarray of uint8
+        0 if the edge points from its first end to its second, and else 1.
+    tails, heads : numpy.ndarray of int32
+        The place of the vertex that the edge leaves, and of the one to which it points.
+    used : numpy.ndarray of uint32
+        How many of the edge's values were passed.
+    pops, samples : numpy.ndarray of int64
+        As those of `TreeArrays`.
     """
 
     vertices: Sequence[Hashable]
     edge_names: Sequence[Hashable]
-    tails: Array
-    heads: Array
+    directions: Array
     used: Array
     pops: Array
+    samples: Array
+    ends: Array
+
+    def __len__(self) -> int:
+        """Return the number of orientations."""
+        return len(self.pops)
+
+    @property
+    def tails(self) -> Array:
+        """The places of the vertices that the edges leave."""
+        numpy = imported("numpy")
+        chosen: Array = numpy.where(self.directions == 0, self.ends[:, 0], self.ends[:, 1])
+        return chosen
+
+    @property
+    def heads(self) -> Array:
+        """The places of the vertices to which the edges point."""
+        numpy = imported("numpy")
+        chosen: Array = numpy.where(self.directions == 0, self.ends[:, 1], self.ends[:, 0])
+        return chosen
 
 
-@dataclass(frozen=True)
+@dataclass(frozen=True, eq=False)
 class AssignmentArrays:
     """Assignments, one in each row, with a column for each variable: the first is that of variable 1.
 
-    `values` says whether it is true, and `used` how many of its entries were popped. `pops` has the number of pops of
-    each assignment.
+    Attributes
+    ----------
+    values : numpy.ndarray of bool
+        Whether the variable is true.
+    used : numpy.ndarray of uint32
+        How many of its values were passed.
+    pops : numpy.ndarray of int64
+        The number of pops of each assignment; of a run by rounds the number of rounds.
+    samples : numpy.ndarray of int64
+        The number of each assignment under the key.
     """
 
     values: Array
     used: Array
     pops: Array
+    samples: Array
+
+    def __len__(self) -> int:
+        """Return the number of assignments."""
+        return len(self.pops)
 
 
 def sparse_rows(columns: Array, ends: Array, shape: tuple[int, int]) -> scipy.sparse.csr_array:
-    """A sparse array with ones in these columns, row by row, where a row ends before these places."""
-    numpy, sparse = library("numpy"), library("scipy.sparse")
+    """Return a sparse array with ones in these columns, row by row, if a row ends before these places."""
+    numpy, sparse = imported("numpy"), imported("scipy.sparse")
     starts = numpy.concatenate([[0], ends])
     return sparse.csr_array((numpy.ones(len(columns), dtype=numpy.int8), columns, starts), shape=shape)
 
 
-def sample_numbers(texts: Iterable[bytes]) -> Array:
-    """The numbers in the texts of samples that aren't exhausted, in a row for each sample: they are equally many."""
-    numpy = library("numpy")
-    parts = list(texts)
-    numbers = numpy.fromstring(b"".join(parts).translate(BLANKS), dtype=numpy.int64, sep=" ")
-    return numbers.reshape(len(parts), -1)
+def matrix(parts: Sequence[Rows], name: str, dtype: str, width: int) -> Array:
+    """Return the numbers of this name in all rows, in a row for each sample."""
+    numpy = imported("numpy")
+    found = [numpy.frombuffer(getattr(part, name), dtype=dtype).reshape(part.count, width) for part in parts]
+    if len(found) != 1:
+        found = [numpy.concatenate([numpy.zeros((0, width), dtype=dtype), *found])]
+    made: Array = found[0]
+    return made
 
 
-def arrow_columns(numbers: Array, variables: int) -> tuple[Array, Array, Array, Array, Array]:
-    """The tails, the heads and the edges of arrows, from 0, the numbers of popped entries, and those of the pops."""
-    numpy = library("numpy")
-    arrows = numbers[:, 1 : 1 + 3 * variables].reshape(len(numbers), variables, 3).astype(numpy.int32) - 1
-    used = numbers[:, 1 + 3 * variables : -1].astype(numpy.uint32)
-    return arrows[:, :, 0], arrows[:, :, 1], arrows[:, :, 2], used, numbers[:, -1]
+def counted(parts: Sequence[Rows]) -> tuple[Array, Array]:
+    """Return the numbers of pops, and the numbers of the samples."""
+    numpy = imported("numpy")
+    numbers = [numpy.arange(part.first, part.first + part.count) for part in parts]
+    return matrix(parts, "counts", "uint64", 2)[:, 0].astype("int64"), numpy.concatenate([*numbers, []]).astype("int64")
 
 
-def tree_arrays(given: GraphInput, root: Hashable, numbers: Array) -> TreeArrays:
-    """The spanning trees in the numbers of samples, of a graph with the root of that name."""
-    numpy = library("numpy")
-    count = given.vertex_count()
-    place = 0 if root is None else place_of(root, given.vertices)
-    _, heads, edges, used, pops = arrow_columns(numbers, count - 1)
-    others = numpy.delete(numpy.arange(count), place)
-
-    def widened(columns: Array, empty: int) -> Array:
-        wide = numpy.full((len(numbers), count), empty, dtype=columns.dtype)
-        wide[:, others] = columns
-        return wide
-
-    names = first_names(given.vertices, count), first_names(given.edges, given.edge_count())
-    return TreeArrays(*names, widened(heads, -1), widened(edges, -1), widened(used, 0), pops)
+def tree_arrays(given: GraphInput, parts: Sequence[Rows]) -> TreeArrays:
+    """Return the spanning trees in rows."""
+    width = given.vertex_count()
+    pops, samples = counted(parts)
+    parents, edges = matrix(parts, "values", "int32", width), matrix(parts, "edges", "int32", width)
+    used = matrix(parts, "used", "uint32", width)
+    return TreeArrays(given.vertices, given.edges, parents, edges, used, pops, samples, given.weight_error)
 
 
-def orientation_arrays(given: GraphInput, numbers: Array) -> OrientationArrays:
-    """The orientations in the numbers of samples."""
-    vertices = first_names(given.vertices, given.vertex_count())
-    edges = first_names(given.edges, given.edge_count())
-    tails, heads, _, used, pops = arrow_columns(numbers, given.edge_count())
-    return OrientationArrays(vertices, edges, tails, heads, used, pops)
+def orientation_arrays(given: GraphInput, parts: Sequence[Rows]) -> OrientationArrays:
+    """Return the orientations in rows."""
+    numpy, width = imported("numpy"), given.edge_count()
+    pops, samples = counted(parts)
+    ends = numpy.asarray(given.ends if given.ends is not None else [], dtype="int32").reshape(-1, 2)
+    directions, used = matrix(parts, "values", "uint8", width), matrix(parts, "used", "uint32", width)
+    return OrientationArrays(given.vertices, given.edges, directions, used, pops, samples, ends)
 
 
-def assignment_arrays(variables: int, numbers: Array) -> AssignmentArrays:
-    """The assignments of so many variables in the numbers of samples."""
-    used = numbers[:, 2 + variables : -1].astype(library("numpy").uint32)
-    return AssignmentArrays(numbers[:, 1 : 1 + variables] > 0, used, numbers[:, -1])
-
-
-def first_names(names: Sequence[Hashable], count: int) -> Sequence[Hashable]:
-    """The first so many names; where names are numbers, there may be more of them."""
-    return names[:count] if names is NUMBERS else names
-
-
-def joined(parts: Sequence[Arrays]) -> Arrays:
-    """The arrays of all parts, one behind the other."""
-    numpy = library("numpy")
-    first: Any = parts[0]
-    names = [field.name for field in fields(first) if isinstance(getattr(first, field.name), numpy.ndarray)]
-    return replace(first, **{name: numpy.concatenate([getattr(part, name) for part in parts]) for name in names})
+def assignment_arrays(width: int, parts: Sequence[Rows]) -> AssignmentArrays:
+    """Return the assignments of so many variables in rows."""
+    pops, samples = counted(parts)
+    values = matrix(parts, "values", "uint8", width).astype(bool)
+    return AssignmentArrays(values, matrix(parts, "used", "uint32", width), pops, samples)

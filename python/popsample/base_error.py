@@ -5,6 +5,10 @@ from __future__ import annotations
 from typing import Any
 
 
+# The flag of a class that isn't of C.
+HEAP_TYPE = 1 << 9
+
+
 class Error(Exception):
     """The base of all exceptions that this module raises."""
 
@@ -14,8 +18,12 @@ class Error(Exception):
 
 
 def made_again(kind: type[Error], words: tuple[Any, ...], values: dict[str, Any]) -> Error:
-    """An exception of this kind that has the same words and values."""
-    made = kind.__new__(kind, *words)
+    """Return an exception of this kind that has the same words and values."""
+    # The class of C below decides how an instance is made; another base may hide it, as MemoryError does.
+    static: Any = kind
+    while static.__flags__ & HEAP_TYPE:
+        static = static.__base__
+    made: Error = static.__new__(kind, *words)
     made.args = words
     made.__dict__.update(values)
     return made

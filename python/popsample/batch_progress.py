@@ -1,19 +1,20 @@
-"""How far a batch is, told on standard error where that is a terminal."""
+"""How far a batch is, shown on standard error if that is a terminal."""
 
 from __future__ import annotations
 
-import sys
 import time
 
+from .standard_streams import write_error
+
 START_OF_LINE = "\r\x1b[K"
-# The line is written at most once in so many seconds, but at the end.
+# The line is written at most once in so many seconds, except for the last sample.
 PAUSE = 0.1
 
 
 class BatchProgress:
-    """A line that tells how many of the samples of a batch have come, and until the first one how long it took.
+    """A line that shows how many samples of a batch are printed, and before the first one how long the batch takes.
 
-    The program makes all samples before it prints the first one.
+    The program draws all samples before it prints the first one.
     """
 
     def __init__(self, count: str) -> None:
@@ -23,24 +24,24 @@ class BatchProgress:
         self.come = 0
 
     def __call__(self, come: int) -> None:
-        """Tells that so many samples have come, or still as many as before."""
+        """Show that so many samples are printed, or that the run goes on."""
         self.come = max(self.come, come)
         now = time.monotonic()
         if now - self.written < PAUSE and str(self.come) != self.count:
             return
         self.written = now
         seconds = f"{now - self.begun:.0f} s"
-        told = f"{self.come} of {self.count} samples" if self.come else f"{self.count} samples are made: {seconds}"
-        self.write(f"popsample: {told}")
+        shown = f"{self.come} of {self.count} samples" if self.come else f"drawing {self.count} samples: {seconds}"
+        self.write(f"popsample: {shown}")
 
     def end(self) -> None:
-        """Takes the line away."""
+        """Remove the line."""
         self.write("")
 
     def write(self, line: str) -> None:
-        """Writes the line in place of the one before."""
-        print(START_OF_LINE + line, end="", file=sys.stderr, flush=True)
+        """Write the line over the one before."""
+        write_error(START_OF_LINE + line)
 
 
 def no_progress(come: int) -> None:
-    """Tells nothing."""
+    """Show nothing."""

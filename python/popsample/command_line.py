@@ -8,16 +8,18 @@ from dataclasses import dataclass
 from typing import Any
 
 from .keys import seed_key
-from .program_words import COMMANDS, OPTIONS, Command
+from .program_words import COMMANDS, GRID, OPTIONS, Command
 from .version import version
 
-DESCRIPTION = "Samples by popping: spanning trees, orientations without sinks, and satisfying assignments."
+DESCRIPTION = "Draw random spanning trees, sink-free orientations and satisfying assignments."
 EPILOG = (
-    "What is printed, and the status, are those of the program popsample, which is what POPSAMPLE names, else what was "
-    "installed with the module, else what is on the PATH. What it refuses is told on standard error, with what to do."
+    "The output and the exit status are those of the program popsample. It is the program that the environment "
+    "variable POPSAMPLE names, the one installed with this package, or the one on the PATH. If the program reports an "
+    "error, standard error says what it means and what to do."
 )
+SAME_SAMPLE = "Without --key and --seed every call prints the same sample."
 
-# Where the entries come from, beside a seed.
+# The options that say where the entries come from, beside a seed.
 ORIGINS = ("--key", "--stacks")
 
 
@@ -25,8 +27,9 @@ ORIGINS = ("--key", "--stacks")
 class Called:
     """What the command line asks for.
 
-    `words` are those of the program, the command first. `path` is the file that is read, and None for standard input;
-    `output` is the file that is written, and None for standard output. Where there is a seed, its key is in the words.
+    `words` are the arguments of the program, the command first. `path` is the file that is read, or None for standard
+    input; `output` is the file that is written, or None for standard output. If there is a seed, its key is in the
+    arguments.
     """
 
     words: tuple[str, ...]
@@ -41,27 +44,29 @@ class Called:
         return self.words[0]
 
     def value(self, option: str) -> str | None:
-        """The value of an option of the program, where it stands in the words."""
+        """Return the value of an option of the program, or None if it isn't given."""
         return self.words[self.words.index(option) + 1] if option in self.words else None
 
 
 class Passed(argparse.Action):
-    """Keeps an option of the program and its value, in the order of the command line."""
+    """Keep an option of the program and its value, in the order of the command line."""
 
     def __call__(self, parser: Any, namespace: Any, values: Any, option_string: str | None = None) -> None:
+        """Keep the option, under the first of its names, and its value."""
         namespace.passed = [*namespace.passed, self.option_strings[0], values]
 
 
 class Seeded(argparse.Action):
-    """Keeps a seed, and its key as an option of the program."""
+    """Keep a seed, and its key as an option of the program."""
 
     def __call__(self, parser: Any, namespace: Any, values: Any, option_string: str | None = None) -> None:
+        """Keep the seed, and its key."""
         namespace.seed = values
         namespace.passed = [*namespace.passed, "--key", seed_key(values)]
 
 
 def read_seed(word: str) -> int:
-    """A seed: a whole number from 0 on. Raises ValueError where it is none."""
+    """Return a seed: a non-negative integer. Raises ValueError if the argument is none."""
     seed = int(word)
     if seed < 0:
         raise ValueError(word)
@@ -73,53 +78,58 @@ read_seed.__name__ = "seed"
 
 
 def command_line() -> argparse.ArgumentParser:
-    """The parser of all commands."""
+    """Return the parser of all commands."""
     parser = argparse.ArgumentParser("python -m popsample", description=DESCRIPTION, epilog=EPILOG, allow_abbrev=False)
     parser.add_argument("--version", action="version", version=f"popsample {version()}")
     commands = parser.add_subparsers(dest="command", metavar="COMMAND", required=True, title="commands")
     for name, command in COMMANDS.items():
         does = f"{command.does[0].upper()}{command.does[1:]}."
-        add_words(commands.add_parser(name, help=command.does, description=does, allow_abbrev=False), name, command)
+        epilog = SAME_SAMPLE if name in OPTIONS["--key"].commands else None
+        below = commands.add_parser(name, help=command.does, description=does, epilog=epilog, allow_abbrev=False)
+        add_words(below, name, command)
     return parser
 
 
 def add_words(parser: argparse.ArgumentParser, name: str, command: Command) -> None:
-    """Adds what may stand behind a command."""
+    """Add the arguments that a command takes."""
     parser.set_defaults(passed=[], seed=None, path=None)
     if command.reads is None:
-        parser.add_argument("grid", choices=["grid"], help="what is made")
-        parser.add_argument("size", metavar="N", help="the number of its rows, and of its columns, from 1 to 2048")
+        parser.add_argument("grid", choices=["grid"], help="the kind of graph")
+        parser.add_argument("size", metavar="N", help=GRID)
     else:
-        told = f"{command.reads}, which may be compressed by gzip; standard input where it is missing or -"
-        parser.add_argument("path", metavar="FILE", nargs="?", help=told)
+        meaning = f"{command.reads}; it may be compressed by gzip (default, and if FILE is -: standard input)"
+        parser.add_argument("path", metavar="FILE", nargs="?", help=meaning)
     if name in OPTIONS["--key"].commands:
         add_origins(parser.add_mutually_exclusive_group())
     for option, meant in OPTIONS.items():
         if name in meant.commands and option not in ORIGINS:
             add_option(parser, option)
-    parser.add_argument("--output", metavar="FILE", help="the file that is written, in place of standard output")
-    parser.add_argument("--quiet", action="store_true", help="tell nothing on standard error but what is refused")
+    meaning = "write to FILE instead of standard output; an error leaves FILE as it was"
+    parser.add_argument("--output", metavar="FILE", help=meaning)
+    parser.add_argument("--quiet", action="store_true", help="print only errors to standard error")
 
 
 def add_origins(group: Any) -> None:
-    """Adds the options that say where the entries come from, of which one may stand."""
-    told = "a whole number from 0 on, of which a key is made; the key is told on standard error"
-    group.add_argument("--seed", metavar="SEED", type=read_seed, action=Seeded, help=told)
+    """Add the options that say where the entries come from, of which at most one is allowed."""
+    meaning = "non-negative integer from which a key is made; standard error shows the key"
+    group.add_argument("--seed", metavar="SEED", type=read_seed, action=Seeded, help=meaning)
     for option in ORIGINS:
         add_option(group, option)
 
 
 def add_option(group: Any, option: str) -> None:
-    """Adds an option of the program."""
+    """Add an option of the program."""
     meant = OPTIONS[option]
     group.add_argument(option, metavar=meant.value, action=Passed, default=argparse.SUPPRESS, help=meant.meaning)
 
 
 def read_command_line(arguments: Sequence[str] | None = None) -> Called:
-    """What the words ask for; those of the process where there are none. Leaves with status 2, and a line on standard
-    error, where they are no command line, and with status 0 behind a help text or the version.
+    """Return what the arguments ask for; by default those of the process.
+
+    If they are not a valid command line, print why to standard error and exit with status 2. After a help text or the
+    version exit with status 0.
     """
-    told = command_line().parse_args(arguments)
-    made = ["grid", told.size] if COMMANDS[told.command].reads is None else []
-    path = None if told.path == "-" else told.path
-    return Called((told.command, *told.passed, *made), path, told.output, told.seed, told.quiet)
+    asked = command_line().parse_args(arguments)
+    made = ["grid", asked.size] if COMMANDS[asked.command].reads is None else []
+    path = None if asked.path == "-" else asked.path
+    return Called((asked.command, *asked.passed, *made), path, asked.output, asked.seed, asked.quiet)

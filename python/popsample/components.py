@@ -8,7 +8,7 @@ Pair = tuple[int, int]
 
 
 def find(above: list[int], vertex: int) -> int:
-    """The vertex that stands for a connected part (disjoint sets, with path halving)."""
+    """Return the vertex that represents a connected part (disjoint sets, with path halving)."""
     while above[vertex] != vertex:
         above[vertex] = above[above[vertex]]
         vertex = above[vertex]
@@ -16,7 +16,7 @@ def find(above: list[int], vertex: int) -> int:
 
 
 def heads_of_parts(vertices: int, pairs: Iterable[Pair]) -> tuple[list[int], list[int]]:
-    """For each vertex, from 1 on, the one that stands for its part, and for each such vertex its part's edges."""
+    """Return for each vertex, from 1, the one that represents its part, and the edges of each part."""
     above = list(range(vertices + 1))
     edges = [0] * (vertices + 1)
     for first, second in pairs:
@@ -29,7 +29,7 @@ def heads_of_parts(vertices: int, pairs: Iterable[Pair]) -> tuple[list[int], lis
 
 
 def tree_part(vertices: int, pairs: Iterable[Pair]) -> list[int]:
-    """The vertices of the first connected part that is a tree with an edge, in rising order; none where none is.
+    """Return the vertices of the first connected part that is a tree with an edge, in rising order; none if none is.
 
     Vertices count from 1, and the pairs are the edges, loops and parallel ones among them: a part is a tree where it
     has one edge less than vertices.
@@ -43,9 +43,9 @@ def tree_part(vertices: int, pairs: Iterable[Pair]) -> list[int]:
 
 
 def clause_pairs(clauses: Sequence[Sequence[int]]) -> Iterator[Pair]:
-    """The clauses, by numbers from 1, as vertices of a graph: an edge joins those that share a variable.
+    """Return the clauses, by numbers from 1, as vertices of a graph: an edge joins those that share a variable.
 
-    A variable that stands in just two clauses, with opposite signs, is one edge: it makes at most one of them true.
+    A variable that is in exactly two clauses, with opposite signs, is one edge: it makes at most one of them true.
     Any other one is a loop at its clauses besides, so that no part with such a variable is taken for a tree.
     """
     places: dict[int, set[Pair]] = {}

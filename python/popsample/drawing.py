@@ -1,4 +1,4 @@
-"""Pictures of trees by matplotlib, which is imported where one is drawn."""
+"""Pictures of trees by matplotlib, which is imported when one is drawn."""
 
 from __future__ import annotations
 
@@ -19,7 +19,7 @@ VERTEX = "tab:blue"
 
 
 def drawing_library() -> Any:
-    """The module pyplot of matplotlib. Raises NotInstalledError, an ImportError, where it isn't installed."""
+    """Return the module pyplot of matplotlib. Raises NotInstalledError, an ImportError, if it isn't installed."""
     try:
         from matplotlib import pyplot
     except ImportError:
@@ -30,7 +30,7 @@ def drawing_library() -> Any:
 def draw(
     tree: Tree, axes: Any = None, positions: Mapping[Hashable, Place] | None = None, names: bool | None = None
 ) -> Any:
-    """Draws a tree, as `Tree.draw` says."""
+    """Draw a tree, as `Tree.draw` says."""
     chosen = drawing_library().gca() if axes is None else axes
     places = tree_layout(tree.root, tree.parents) if positions is None else positions
     vertices = [tree.root, *tree.parents]
@@ -44,7 +44,7 @@ def draw(
 
 
 def draw_arrows(axes: Any, lines: list[tuple[Place, Place]]) -> None:
-    """Draws an arrow for each pair of places, from the first to the second, all of them as one artist."""
+    """Draw an arrow for each pair of places, from the first to the second, all of them as one artist."""
     begins = [(tail[0], tail[1]) for tail, _ in lines]
     ways = [(head[0] - tail[0], head[1] - tail[1]) for tail, head in lines]
     across, up = [way[0] for way in ways], [way[1] for way in ways]
@@ -53,7 +53,7 @@ def draw_arrows(axes: Any, lines: list[tuple[Place, Place]]) -> None:
 
 
 def draw_vertex(axes: Any, place: Place, name: str | None, color: str) -> None:
-    """Draws a vertex as a dot, or as a box with its name."""
+    """Draw a vertex as a dot, or as a box with its name."""
     if name is None:
         axes.plot([place[0]], [place[1]], "o", color=color, markersize=4, zorder=2)
         return

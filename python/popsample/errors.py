@@ -1,7 +1,7 @@
 """Refusals: an exception for each answer that is no sample.
 
-The sentence of an exception is that of `docs/FORMATS.md`, word for word. What stands in capitals in it is a number of
-the first line, or another word that is told there, and the message has in its place what it stands for.
+The sentence of an exception is that of `docs/FORMATS.md`, word for word. What is in capitals in it is a number of
+the first line, or another word of that line, and the message has in its place what it means.
 """
 
 from __future__ import annotations
@@ -12,26 +12,26 @@ from typing import Any, ClassVar
 
 from .base_error import Error
 
-# Why a line is malformed, by code.
+# Why a line is invalid, by code.
 REASONS = {
-    1: "it is no header of a formula",
-    2: "it has a word that is neither a literal nor an end",
-    3: "it has a literal above the number of variables",
-    4: "it is the header and has more than four words",
-    11: "it is no header of a graph",
-    12: "a word that is to be a vertex or a weight is no number",
-    13: "a vertex isn't from 1 to the number of vertices",
+    1: "not a CNF header (`p cnf VARIABLES CLAUSES`)",
+    2: "a token is neither a literal nor 0",
+    3: "a literal exceeds the declared number of variables",
+    4: "the header has extra tokens",
+    11: "not a graph header (`p edge N M` or `p col N M`)",
+    12: "a vertex or weight is not a number",
+    13: "a vertex is outside 1..N",
     14: "the weight is 0",
-    15: "it is a later line and no edge",
-    21: "it is no line of a certificate's head",
-    22: "fewer bytes of input follow than it says",
-    31: "it is no line of a log's text",
-    32: "its record has another layer, or belongs before the last one",
+    15: "not an edge line (`e U V` or `e U V W`)",
+    21: "not a valid certificate header line",
+    22: "the input is shorter than declared",
+    31: "not a valid log line",
+    32: "wrong layer, or records out of order",
 }
 
 # The limits, by kind.
 LIMITS = {
-    1: "268435456 bytes of text",
+    1: "268435456 bytes of input",
     2: "4194304 variables or vertices",
     3: "4194304 clauses",
     4: "33554432 literals",
@@ -39,14 +39,15 @@ LIMITS = {
     6: "4294967295 for the sum of the weights of a vertex's edges",
     7: "268435456 bytes of a certificate's log",
     8: "536870912 bytes of a certificate",
+    9: "33554432 variables of all samples of a batch together",
 }
 
 
 class Refusal(Error):
-    """The program answered with something else than a sample.
+    """The program answered with something other than a sample.
 
     `status` is its status, and `form` its first line, of which the exception has the numbers. `key` is the key of the
-    call, or None where rows were given: under the same key the same call is refused alike.
+    call, or None if rows were given: under the same key the same call is refused alike.
     """
 
     status: ClassVar[int]
@@ -59,7 +60,7 @@ class Refusal(Error):
 
 
 class InputRefusal(Refusal, ValueError):
-    """The program refused what was handed in: the input, or an argument."""
+    """The program refused what was passed: the input, or an argument."""
 
 
 class ExhaustedError(Refusal):
@@ -68,15 +69,15 @@ class ExhaustedError(Refusal):
     `stuck` has for each of them the number of its clause, its vertex, or the vertices of its cycle. `used` has the
     numbers of popped entries, in the order of the variables, `pops` that of the pops, and `log` the pops where they are
     told.
-    Of rounds `pops` is None, `rounds` tells how many there were, and `short` is the variable that has no next entry.
+    Of rounds `pops` is None, `rounds` is how many there were, and `short` is the variable that has no next entry.
     `sample` is the number of the run's sample: 0, but in a batch.
     """
 
     status = 1
     form = "s EXHAUSTED"
     sentence = (
-        "The run came to the end of a stack while events still occur, the first at STUCK: give longer rows or a "
-        "greater height, and where the default height doesn't do, there is most likely no sample."
+        "A stack ran out while bad events remain; the first is STUCK. Use a greater height or longer rows. If the "
+        "default height is not enough, there is most likely no sample."
     )
 
     def __init__(
@@ -100,7 +101,7 @@ class ExhaustedError(Refusal):
 
 
 class Paused(Refusal):
-    """The run was stopped after so many pops as were asked for, where an event can still be popped.
+    """The run was stopped after so many pops as were asked for, when an event can still be popped.
 
     `certificate` is its certificate, as the bytes of a text: it holds the command, the stacks, the input and the log.
     """
@@ -108,8 +109,7 @@ class Paused(Refusal):
     status = 10
     form = "cert 1 C"
     sentence = (
-        "The run isn't at its end after so many pops, and its certificate follows: go on from it by resume, or allow "
-        "more pops."
+        "The run has not finished within the requested number of pops. Continue it with resume, or allow more pops."
     )
 
     def __init__(self, certificate: bytes) -> None:
@@ -123,8 +123,8 @@ class UsageError(InputRefusal):
     status = 2
     form = "s USAGE P"
     sentence = (
-        "Word P of the command line, WORD, can't stand there: look for another spelling, an option that this command "
-        "hasn't, that stands already or that is excluded, or a value out of its range."
+        "Argument P, WORD, is not valid here. Check the spelling, whether this command has the option, whether it is "
+        "repeated or conflicts with another option, and whether its value is in range."
     )
 
     def __init__(self, place: int, word: str | None) -> None:
@@ -134,18 +134,18 @@ class UsageError(InputRefusal):
 
 
 class MalformedError(InputRefusal):
-    """A line can't stand in the text: `line` is its number, `code` says why, and `text` is the line itself.
+    """A line of the input is invalid: `line` is its number, `code` says why, and `text` is the line itself.
 
     Of a certificate `part` says in which part of it lines are counted.
     """
 
     status = 3
     form = "s MALFORMED L C"
-    sentence = "Line L of PART, TEXT, can't stand there, since WHY (code C): mend the line."
+    sentence = "Line L of PART is invalid: WHY (code C). It reads TEXT."
 
-    def __init__(self, line: int, code: int, text: str | None, part: str = "the text") -> None:
-        shown = "behind its end" if text is None else repr(text)
-        super().__init__(L=line, C=code, PART=part, TEXT=shown, WHY=REASONS.get(code, "of its form"))
+    def __init__(self, line: int, code: int, text: str | None, part: str = "the input") -> None:
+        shown = "nothing, since the lines end before it" if text is None else repr(text)
+        super().__init__(L=line, C=code, PART=part, TEXT=shown, WHY=REASONS.get(code, "it has another form"))
         self.line = line
         self.code = code
         self.text = text
@@ -158,8 +158,8 @@ class CountError(InputRefusal):
     status = 3
     form = "s COUNT D F"
     sentence = (
-        "The header says D clauses and the text has F: see whether the text was cut off or a clause lacks the 0 at "
-        "its end, or else write F into the header."
+        "The header declares D clauses, but there are F. Check whether the file is truncated or a clause lacks its "
+        "final 0; otherwise write F into the header."
     )
 
     def __init__(self, declared: int, found: int) -> None:
@@ -168,14 +168,18 @@ class CountError(InputRefusal):
         self.found = found
 
 
-class RowsError(InputRefusal):
+class StacksError(InputRefusal):
+    """The rows of `stacks=` don't fit the variables."""
+
+
+class RowsError(StacksError):
     """There are `given` rows of entries for `wanted` variables."""
 
     status = 3
     form = "s ROWS G W"
     sentence = (
-        "There are G rows of entries for W variables: give a row for each, in the order of the variables of the "
-        "header, of the edges, or of the vertices but the root."
+        "There are G rows of entries for W variables. Give one row per variable, in the order of the variables, of "
+        "the edges, or of the vertices without the root."
     )
 
     def __init__(self, given: int, wanted: int) -> None:
@@ -184,26 +188,26 @@ class RowsError(InputRefusal):
         self.wanted = wanted
 
 
-class EmptyRowError(InputRefusal):
+class EmptyRowError(StacksError):
     """The row of this variable has no entry; it is the first such."""
 
     status = 3
     form = "s EMPTYROW V"
-    sentence = "The row of variable V has no entry: give it at least one."
+    sentence = "The row of variable V is empty. Give it at least one entry."
 
     def __init__(self, variable: Hashable) -> None:
         super().__init__(V=repr(variable))
         self.variable = variable
 
 
-class EntryError(InputRefusal):
+class EntryError(StacksError):
     """Entry `entry`, from 0, of a variable is none of its values."""
 
     status = 3
     form = "s VALUE V K"
     sentence = (
-        "Entry K of variable V is none of its values: give 0 or 1, and in a tree 0 up to one less than the number of "
-        "the vertex's edges, without loops."
+        "Entry K of variable V is out of range. Use 0 or 1; in a tree, use 0 to one less than the vertex's number of "
+        "edges, not counting self-loops."
     )
 
     def __init__(self, variable: Hashable, entry: int) -> None:
@@ -213,15 +217,23 @@ class EntryError(InputRefusal):
 
 
 class LimitError(InputRefusal):
-    """A limit of this kind is passed, at the line of this number; of kind 6 `place` is a vertex."""
+    """The input exceeds a limit of this kind, at the line of this number.
+
+    Of kind 6 `place` is a vertex. If no text was read, it is that of the first vertex, clause or edge too many.
+    `advice` follows the sentence.
+    """
 
     status = 4
     form = "s LIMIT K L"
-    sentence = "The limit of WHICH is passed at PLACE: use a smaller input, or divide all weights by a common number."
+    sentence = (
+        "The input exceeds the limit of WHICH at PLACE. Use a smaller input, or divide all weights by a common "
+        "factor."
+    )
 
-    def __init__(self, kind: int, place: Hashable) -> None:
-        where = f"vertex {place!r}" if kind == 6 else f"line {place}"
-        super().__init__(WHICH=LIMITS.get(kind, f"kind {kind}"), PLACE=where)
+    def __init__(self, kind: int, place: Hashable, noun: str | None = None, advice: str = "") -> None:
+        named = noun or ("vertex" if kind == 6 else "line")
+        super().__init__(WHICH=LIMITS.get(kind, f"kind {kind}"), PLACE=f"{named} {place!r}")
+        self.args = (self.args[0] + advice,)
         self.kind = kind
         self.place = place
 
@@ -231,7 +243,7 @@ class TooLongError(InputRefusal):
 
     status = 4
     form = "s LIMIT 7 1"
-    sentence = "The limit of WHICH is passed: stop the run after fewer pops, or make it whole."
+    sentence = "The certificate exceeds the limit of WHICH. Stop the run after fewer pops, or let it finish."
 
     def __init__(self, kind: int) -> None:
         super().__init__(WHICH=LIMITS[kind])
@@ -244,8 +256,8 @@ class TooManySamplesError(InputRefusal):
     status = 4
     form = "s LIMIT 9 N"
     sentence = (
-        "N samples of this input have more than 33554432 variables together: ask for fewer at a time, under a key for "
-        "each time."
+        "N samples of this input have more than 33554432 variables in total. Request fewer samples per run, with a "
+        "different key for each run."
     )
 
     def __init__(self, count: int) -> None:
@@ -259,9 +271,9 @@ class ClashError(InputRefusal):
     status = 5
     form = "s CLASH I J"
     sentence = (
-        "Clauses I (FIRST) and J (SECOND) share a variable and can both be false, so the formula isn't extremal: use "
-        "rounds, which samples exactly, or resample, whose log tells the pops, but how many stacks give each of its "
-        "samples depends on their order."
+        "Clauses I (FIRST) and J (SECOND) share a variable and can both be false, so the formula is not extremal. "
+        "Use rounds, which samples every formula exactly; resample also accepts it, but its distribution is "
+        "unspecified."
     )
 
     def __init__(self, first: int, second: int, texts: tuple[str, str]) -> None:
@@ -276,7 +288,7 @@ class EmptyClauseError(InputRefusal):
 
     status = 6
     form = "s EMPTY N"
-    sentence = "Clause N has no literal, so nothing satisfies it: look for a 0 too many before its end."
+    sentence = "Clause N is empty, so the formula is unsatisfiable. Look for a stray 0."
 
     def __init__(self, clause: int) -> None:
         super().__init__(N=clause)
@@ -288,7 +300,7 @@ class IsolatedError(InputRefusal):
 
     status = 6
     form = "s ISOLATED V"
-    sentence = "No edge touches vertex V, so none can leave it: leave the vertex out."
+    sentence = "Vertex V has no edges, so no edge can leave it. Remove the vertex."
 
     def __init__(self, vertex: Hashable) -> None:
         super().__init__(V=repr(vertex))
@@ -300,7 +312,7 @@ class RootError(InputRefusal):
 
     status = 6
     form = "s ROOT R"
-    sentence = "The root R is no vertex of the graph: choose another."
+    sentence = "The root R is not a vertex of the graph. Choose another root."
 
     def __init__(self, root: Hashable) -> None:
         super().__init__(R=repr(root))
@@ -313,7 +325,7 @@ class CutOffError(InputRefusal):
     status = 6
     form = "s CUTOFF V"
     sentence = (
-        "No path joins vertex V to the root: choose another root, or sample each connected part of the graph by itself."
+        "Vertex V is not connected to the root. Choose another root, or sample each connected component separately."
     )
 
     def __init__(self, vertex: Hashable) -> None:
@@ -326,7 +338,7 @@ class NoWitnessError(InputRefusal):
 
     status = 6
     form = "witness none V K C"
-    sentence = "No pop used entry K of variable V, of whose entries the first C were popped: ask for one of these."
+    sentence = "No pop used entry K of variable V; only its first C entries were used. Ask for one of those."
 
     def __init__(self, variable: int, entry: int, cursor: int) -> None:
         super().__init__(V=variable, K=entry, C=cursor)
@@ -335,29 +347,30 @@ class NoWitnessError(InputRefusal):
         self.cursor = cursor
 
 
-class ReadError(Refusal):
+class ReadError(Refusal, OSError):
     """Reading the input failed."""
 
     status = 7
     form = "s READFAULT"
-    sentence = "Reading the input failed: look at what the input is, as a folder in place of a file."
+    sentence = "The input could not be read. Check that it is a readable file and not a directory."
 
 
-class WriteError(Refusal):
+class WriteError(Refusal, OSError):
     """Writing the output failed."""
 
     status = 8
     form = ""
-    sentence = "Writing the output failed: look at where it goes, as a full disk or a pipe that was closed."
+    sentence = "The output could not be written. Check for a full disk or a closed pipe."
 
 
-class OutOfMemoryError(Refusal):
+class OutOfMemoryError(Refusal, MemoryError):
     """Memory ran out, or a word isn't UTF-8."""
 
     status = 9
     form = "s MEMORY"
     sentence = (
-        "Memory ran out, or a word isn't UTF-8: give more memory, use a smaller input or one worker, or mend the word."
+        "Out of memory, or an argument is not valid UTF-8. Use more memory, a smaller input or one worker, or "
+        "correct the argument."
     )
 
 
@@ -367,8 +380,9 @@ class NotLegalError(InputRefusal):
     status = 11
     form = "s NOTLEGAL I"
     sentence = (
-        "Record I of the certificate's log, TEXT, isn't legal, since behind the records before it its event doesn't "
-        "occur, can't be popped or has other entries: take the log as it was written, or the records before this one."
+        "Record I of the certificate's log, TEXT, is not valid: after the records before it, its event does not "
+        "occur, cannot be popped, or used other entries. Use the log as written, or only the records before this "
+        "one."
     )
 
     def __init__(self, record: int, text: str | None) -> None:
@@ -381,9 +395,9 @@ class NoProgramError(Error):
     """The program isn't found."""
 
     def __init__(self, named: str | None) -> None:
-        missing = "there is no popsample among the commands of this Python or on the PATH"
+        missing = "There is no popsample among the commands of this Python or on the PATH"
         where = f"POPSAMPLE names {named!r}, which is no program" if named else missing
-        super().__init__(f"{where}: install or build it, and name it by POPSAMPLE or put its folder on the PATH.")
+        super().__init__(f"{where}. Install or build it, and name it by POPSAMPLE or put its folder on the PATH.")
 
 
 class NoLibraryError(Error):
@@ -391,9 +405,21 @@ class NoLibraryError(Error):
 
     def __init__(self, named: str) -> None:
         super().__init__(
-            f"POPSAMPLE_LIBRARY names {named!r}, which is no library of popsample: name another one, or, by an empty "
-            "value, none, so that the program runs."
+            f"POPSAMPLE_LIBRARY names {named!r}, which is no library of popsample. Name another one, or set it to an "
+            "empty value, so that the program runs."
         )
+
+
+class NeedsLibraryError(Error):
+    """The program alone can't make the sample of this number (`sample`), and no call of a library can."""
+
+    def __init__(self, sample: int) -> None:
+        super().__init__(
+            f"Sample {sample} needs a call of the library that isn't found. Install a release, or name the library by "
+            "POPSAMPLE_LIBRARY. The program alone makes samples below 65536, of fewer than 33554432 variables together. "
+            "By rounds it makes sample 0 alone: derive a key for each sample, by `derived_key`."
+        )
+        self.sample = sample
 
 
 class NoAnswerError(Error):
@@ -405,10 +431,10 @@ class NoAnswerError(Error):
 
 
 class RunTimeoutError(Error, TimeoutError):
-    """The program had no answer after so many seconds (`timeout`), and was ended."""
+    """A call had no result after so many seconds (`timeout`), and what it ran was ended."""
 
     def __init__(self, timeout: float) -> None:
-        super().__init__(f"The program had no answer after timeout={timeout!r} seconds, and was ended: allow more.")
+        super().__init__(f"There was no result after timeout={timeout!r} seconds, and the run was ended. Allow more.")
         self.timeout = timeout
 
 
@@ -416,5 +442,5 @@ class NotInstalledError(Error, ImportError):
     """A library that was asked for isn't installed; what doesn't ask for it needs none."""
 
     def __init__(self, library: str, otherwise: str = ", or take the samples one by one") -> None:
-        super().__init__(f"{library} isn't installed, and this needs it: install it{otherwise}.")
+        super().__init__(f"{library} isn't installed, and this needs it. Install it{otherwise}.")
         self.library = library

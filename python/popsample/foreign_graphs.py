@@ -15,5 +15,5 @@ LIBRARIES: tuple[ModuleType, ...] = (networkx_input, igraph_input, graph_tool_in
 
 
 def library_of(graph: Any) -> ModuleType | None:
-    """The module for the library that the graph is of; none where it is of none of them."""
+    """Return the module for the library that the graph is of; none if it is of none of them."""
     return next((library for library in LIBRARIES if library.takes(graph)), None)

@@ -2,170 +2,297 @@
 
 from __future__ import annotations
 
-from collections.abc import Sequence
-from dataclasses import replace
+from collections.abc import Mapping
 from functools import partial
+from typing import Any, Unpack
 
-from .answer import Answer
-from .arguments import Course, Source, Stacks, origin_words
+from .argument_errors import OptionError
+from .arguments import Source, checked_timeout, course_of
 from .arrays import AssignmentArrays, assignment_arrays
-from .formula_input import Formula, FormulaInput, read_formula, sampled_formula
+from .assignment_rows import assignment_in
+from .errors import ClashError
+from .formula_input import Formula, FormulaInput, Method, read_formula, sampled_formula
 from .history import Asked
+from .keys import Key, KeyLike, SeedLike
+from .one_sample import one_sample
+from .progress import Progress
 from .refusing import ask
-from .results import Assignment, Resampled, Rounded
-from .samples import Samples, one_run
-from .subject import Subject
+from .results import Assignment
+from .rows import Rows
+from .run_options import OPTIONS, RESAMPLE_OPTIONS, ROUNDS_OPTIONS, RunOptions, check_names
+from .sample_iterator import Executor, OnExhausted, Samples
+from .series import series
+from .subject import NUMBERS
 from .target import Target
 
-
-def used_of(answer: Answer) -> dict[int, int]:
-    """How many entries of each variable were popped."""
-    return dict(enumerate(answer.numbers("used"), 1))
+COMMANDS = {"rounds": "rounds", "extremal": "formula"}
 
 
-def sample_formula(
+def solution(
     clauses: Formula,
-    key: str | None = None,
-    workers: int = 1,
+    method: Method = "rounds",
+    key: KeyLike | None = None,
     *,
-    height: int | None = None,
-    grow: int | None = None,
-    stacks: Stacks | None = None,
-    log: bool = False,
-    witness: tuple[int, int] | None = None,
-    reports: Sequence[str] = (),
-    pops: int | None = None,
     variables: int | None = None,
-    seed: int | None = None,
-    timeout: float | None = None,
+    seed: SeedLike | None = None,
+    sample: int = 0,
+    **options: Unpack[RunOptions],
 ) -> Assignment:
-    """Samples a satisfying assignment of an extremal formula: of all stacks that give one, equally many give each.
+    """Draw a random satisfying assignment of a formula.
 
-    A clause is a list of literals: the number of a variable, from 1, or its negative. `variables` says how many
-    variables there are, where some stand in no clause; else they are those up to the greatest in a clause, or as many
-    as a CNF of python-sat says, which may be handed in as well. So may the path of a DIMACS CNF file. The formula is
-    extremal where any two clauses that share a variable share one with opposite signs; `ClashError` is raised where it
-    isn't. Where clauses of a list hang together like a tree, by one variable less than they are, each in two of them,
-    nothing satisfies all, and `UnsatisfiableError` is raised before the program runs.
+    Each satisfying assignment has the same probability.
 
-    `key` has 64 hexadecimal digits, and is drawn from the system's randomness where neither it nor `seed` is given, a
-    whole number from 0 on, of which the key comes: the SHA-256 hash of the text `popsample seed N`. The result has the
-    key. `height` is the number of entries of each variable, and `stacks` gives rows of entries in place of a key. With
-    `grow` the run is made in stages, at heights from `height` on that double up to `grow`, and the result is that of
-    the height `grow`. `workers` changes no result.
+    Parameters
+    ----------
+    clauses : Formula
+        A list of clauses, each a list of literals: the number of a variable, from 1, or the negative of it; a CNF of
+        python-sat; or the path of a DIMACS CNF file.
+    method : {"rounds", "extremal"}
+        By synchronous rounds, which any formula allows; or by popping one clause after the other, which takes an
+        extremal formula. Under one key both give the same assignment of an extremal formula.
+    key : str or bytes, optional
+        64 hexadecimal digits or 32 bytes, from which all random values come. Default: a random key, which the result
+        has.
+    variables : int, optional
+        How many variables there are, if some are in no clause. Default: the greatest number in a clause.
+    seed : int, bytes or generator, optional
+        What makes the key: a non-negative integer, 32 bytes, a random.Random, or a Generator, RandomState or
+        SeedSequence of numpy.
+    sample : int
+        The number of the sample under the key, from 0. Samples of different numbers are independent.
+    **options : RunOptions
+        ``height`` and ``timeout``; for "extremal" also what few callers need: see `RunOptions`.
 
-    With `log` the result has the log of the pops. `witness` is the number of a variable and one of its entries, from 0:
-    the result has the witness tree of the pop that used it. `reports` names what is reported on the log: `totals`,
-    `heights` and `layers`.
+    Returns
+    -------
+    Assignment
+        A mapping of each variable to whether it is true, with the ``key`` that gives it again.
 
-    With `pops` the run is stopped after so many. Where it isn't at its end, `Paused` is raised, which has its
-    certificate. Neither `grow`, several workers, `log`, `witness` nor `reports` goes with it.
+    Raises
+    ------
+    ClashError
+        If `method` is "extremal" and the formula isn't: two clauses share a variable and can both be false.
+    UnsatisfiableError
+        If clauses of a list that are joined like a tree by their variables can't all be true.
+    ExhaustedError
+        If a stack of ``height`` values runs out. Most likely the formula has no solution then.
+    ArgumentError
+        If an argument can't be taken. It is a ValueError, raised before anything runs.
 
-    After `timeout` seconds the program is ended, and `RunTimeoutError` raised, a TimeoutError. What is wrong with the
-    arguments is raised as an `ArgumentError`, a ValueError, before the program runs.
+    See Also
+    --------
+    solutions : Many assignments under one key.
+    resample : One assignment and the log of its pops, whose distribution is unspecified.
+    is_extremal, find_clash
+
+    References
+    ----------
+    .. [1] H. Guo, M. Jerrum and J. Liu, "Uniform sampling through the Lovász local lemma", J. ACM 66(3), 2019.
+
+    Examples
+    --------
+    >>> import popsample
+    >>> popsample.solution([[1], [-1, 2]], key="0" * 64).literals
+    (1, 2)
     """
-    used, words = origin_words(Source(key, seed, height, stacks), Course(workers, grow, pops))
-    asked = Asked(log, witness, reports)
-    subject = sampled_formula(clauses, variables).subject
-    answer = ask(["formula", *words, *asked.words_beside(subject.variables, pops)], subject, used, timeout)
-    return replace(assignment_of(answer, used), **asked.told(answer, subject))
+    target = assignment_target(sampled_formula(clauses, variables), method)
+    known = ROUNDS_OPTIONS if method == "rounds" else OPTIONS
+    return one_sample("solution", target, NUMBERS, key, seed, sample, options, known)
 
 
-def formula_samples(
+def solutions(
     clauses: Formula,
-    count: int,
-    key: str | None = None,
+    count: int | None = None,
+    method: Method = "rounds",
+    key: KeyLike | None = None,
     *,
-    height: int | None = None,
     variables: int | None = None,
-    seed: int | None = None,
+    seed: SeedLike | None = None,
+    first: int = 0,
+    executor: Executor | None = None,
+    progress: bool | Progress | None = None,
+    on_exhausted: OnExhausted = "raise",
+    height: int | None = None,
     timeout: float | None = None,
+    ahead: int | None = None,
 ) -> Samples[Assignment, AssignmentArrays]:
-    """Samples so many satisfying assignments of an extremal formula, by one run of the program on all processors.
+    """Draw many random satisfying assignments of a formula.
 
-    They have the numbers from 0 on, as `sample`, and assignment 0 is that of `sample_formula` under the key. A longer
-    batch begins with a shorter one. Where the run of one is exhausted, `ExhaustedError` is raised in its place, and the
-    next call goes on behind it. There are at most 65536; `TooManySamplesError` is raised where they have more than
-    33554432 variables together, and `samples` has no such limits. `timeout` counts the time that the program is waited
-    for. The other arguments are those of `sample_formula`.
+    Assignment I is that of ``solution(clauses, method, key=key, sample=I)``, whatever makes it.
+
+    Parameters
+    ----------
+    clauses, method, key, variables, seed : object
+        As of `solution`.
+    count, first : int, optional
+        As of `spanning_trees`.
+    executor, progress, on_exhausted, height, timeout, ahead : object
+        As of `samples`.
+
+    Returns
+    -------
+    Samples
+        An iterator over `Assignment`. Its ``arrays()`` are all of them as `AssignmentArrays`.
+
+    Raises
+    ------
+    ArgumentError, InputRefusal
+        As `solution` does, before the first one.
+    NeedsLibraryError
+        If `method` is "rounds" and `count` isn't 1, unless a library with the call `popsample_assignments` is found.
+        The library of this version doesn't have it yet: draw each assignment under a key of its own, by `derived_key`.
+
+    See Also
+    --------
+    solution, samples
+
+    Examples
+    --------
+    >>> import popsample
+    >>> found = popsample.solutions([[1, 2], [-1, 2]], 100, "extremal", key="0" * 64)
+    >>> {assignment.literals for assignment in found} == {(1, 2), (-1, 2)}
+    True
     """
-    return one_run(assignment_target(sampled_formula(clauses, variables)), count, Source(key, seed, height), timeout)
+    target = assignment_target(sampled_formula(clauses, variables), method)
+    return series(target, count, key, seed, first, height, timeout, executor, ahead, progress, on_exhausted).begun()
 
 
-def assignment_target(given: FormulaInput) -> Target[Assignment, AssignmentArrays]:
-    """The assignments of a formula."""
-    arrays = partial(assignment_arrays, given.variables)
-    return Target(("formula",), given.subject, given.variables, assignment_of, arrays)
+def assignment_target(given: FormulaInput, method: str) -> Target[Assignment, AssignmentArrays]:
+    """Return the assignments of a formula, by this method. Raises OptionError if there is no such method."""
+    if method not in COMMANDS:
+        raise OptionError("method", method, f"one of {', '.join(map(repr, COMMANDS))}")
+    by_rounds = method == "rounds"
+    result, arrays = partial(assignment_of, by_rounds), partial(assignment_arrays, given.variables)
+    return Target(given.problem(by_rounds), given.subject, (COMMANDS[method],), result, arrays)
 
 
-def assignment_of(answer: Answer, key: str | None, sample: int = 0) -> Assignment:
-    """The assignment of an answer."""
-    return Assignment(tuple(answer.numbers("v")[:-1]), used_of(answer), answer.pops(), key, sample)
+def assignment_of(
+    by_rounds: bool, rows: Rows, row: int, key: Key | None, told: Mapping[str, Any] | None = None
+) -> Assignment:
+    """Return the assignment of a row, of a run by rounds or by popping."""
+    return Assignment(rows, row, key, by_rounds, told)
 
 
 def resample(
     clauses: Formula,
-    key: str | None = None,
-    workers: int = 1,
+    key: KeyLike | None = None,
     *,
-    height: int | None = None,
-    grow: int | None = None,
-    stacks: Stacks | None = None,
-    witness: tuple[int, int] | None = None,
-    reports: Sequence[str] = (),
-    pops: int | None = None,
     variables: int | None = None,
-    seed: int | None = None,
-    timeout: float | None = None,
-) -> Resampled:
-    """Makes a satisfying assignment of any formula by resampling, and tells the log of the pops.
+    seed: SeedLike | None = None,
+    **options: Unpack[RunOptions],
+) -> Assignment:
+    """Find a satisfying assignment of a formula by resampling, with the log of its pops.
 
-    Of an extremal formula it is distributed as that of `sample_formula`. Where the formula isn't extremal, it satisfies
-    each clause, but unlike `rounds`, which samples any formula exactly, it has no exact law: how likely each assignment
-    is hangs on the order of the pops, which is free. With one worker the result is that of the key, with several it may
-    differ from call to call.
+    The distribution of the result is unspecified, unless the formula is extremal: it depends on the order of the pops.
+    `solution` samples any formula exactly.
 
-    The arguments are those of `sample_formula`, but that the log is always told, and `NoWitnessError` is raised where
-    no pop used the entry of `witness`.
+    Parameters
+    ----------
+    clauses, key, variables, seed : object
+        As of `solution`.
+    **options : RunOptions
+        All but ``log``: the result always has the log. With several ``workers`` it may differ from call to call.
+
+    Returns
+    -------
+    Assignment
+        The assignment, whose ``log`` has the pops.
+
+    Raises
+    ------
+    NoWitnessError
+        If no pop used the value of ``witness``.
+    ExhaustedError, ArgumentError
+        As of `solution`.
+
+    See Also
+    --------
+    solution
+
+    References
+    ----------
+    .. [1] R. A. Moser and G. Tardos, "A constructive proof of the general Lovász local lemma", J. ACM 57(2), 2010.
+
+    Examples
+    --------
+    >>> import popsample
+    >>> popsample.resample([[1]], stacks=[[0, 0, 1]]).log
+    (Pop(event=1, entries={1: 0}, layer=1), Pop(event=1, entries={1: 1}, layer=2))
     """
-    used, words = origin_words(Source(key, seed, height, stacks), Course(workers, grow, pops))
-    asked = Asked(False, witness, reports)
-    subject = sampled_formula(clauses, variables).subject
-    answer = ask(["resample", *words, *asked.words_beside(subject.variables, pops)], subject, used, timeout)
-    return resampled_of(answer, used, subject, replace(asked, log=True))
+    check_names("resample", options, RESAMPLE_OPTIONS)
+    source = Source(key, seed, options.get("height"), options.get("stacks"))
+    made = source.made_key()
+    words = [*source.words(made), *course_of(options).words(source)]
+    given = sampled_formula(clauses, variables)
+    asked = Asked(False, options.get("witness"), options.get("reports", ()))
+    words += asked.words_beside(NUMBERS, options.get("pops"))
+    timeout = checked_timeout(options.get("timeout"))
+    return resampled(given, ["resample", *words], made, Asked(True, asked.witness, asked.reports), timeout)
 
 
-def resampled_of(answer: Answer, key: str | None, subject: Subject, asked: Asked) -> Resampled:
-    """The resampled assignment of an answer, with what is told of its log."""
-    literals = tuple(answer.numbers("v")[:-1])
-    return Resampled(literals, used_of(answer), answer.pops(), key, **asked.told(answer, subject))
+def resampled(
+    given: FormulaInput, words: list[str], key: Key | None, asked: Asked, timeout: float | None
+) -> Assignment:
+    """Return the assignment that a run of the program with these words has, with what is printed of its log."""
+    answer = ask(words, given.subject, key, timeout)
+    return assignment_in(answer, key, asked.told(answer, given.subject))
 
 
-def rounds(
-    clauses: Formula,
-    key: str | None = None,
-    *,
-    height: int | None = None,
-    stacks: Stacks | None = None,
-    variables: int | None = None,
-    seed: int | None = None,
-    timeout: float | None = None,
-) -> Rounded:
-    """Samples a satisfying assignment of any formula by synchronous rounds, whose result is that of the key.
+def is_extremal(clauses: Formula, *, timeout: float | None = None) -> bool:
+    """Return whether a formula is extremal: any two clauses that share a variable can't both be false.
 
-    It is exactly distributed, whatever the formula, extremal or not: of all stacks that give one, equally many give
-    each. Of an extremal formula the assignment is the same as that of `sample_formula`. The arguments are those of
-    `sample_formula`.
+    Parameters
+    ----------
+    clauses : Formula
+        A formula, as of `solution`.
+    timeout : float, optional
+        The greatest number of seconds that the call waits. Then `RunTimeoutError` is raised.
+
+    Returns
+    -------
+    bool
+        Whether ``solution(clauses, method="extremal")`` takes it.
+
+    See Also
+    --------
+    find_clash
+
+    Examples
+    --------
+    >>> import popsample
+    >>> popsample.is_extremal([[1, 2], [-1, 3]]), popsample.is_extremal([[1, 2], [1, 3]])
+    (True, False)
     """
-    used, words = Source(key, seed, height, stacks).words()
-    answer = ask(["rounds", *words], sampled_formula(clauses, variables).subject, used, timeout)
-    literals = tuple(answer.numbers("v")[:-1])
-    return Rounded(literals, used_of(answer), answer.numbers("rounds")[0], used)
+    return find_clash(clauses, timeout=timeout) is None
 
 
-def check(clauses: Formula, *, timeout: float | None = None) -> int:
-    """The number of events of a formula, of which no two clash. Raises `ClashError` where two do: it isn't extremal.
+def find_clash(clauses: Formula, *, timeout: float | None = None) -> tuple[int, int] | None:
+    """Return the first two clauses that share a variable and can both be false, so that a formula isn't extremal.
 
-    After `timeout` seconds the program is ended, and `RunTimeoutError` raised.
+    Parameters
+    ----------
+    clauses : Formula
+        A formula, as of `solution`.
+    timeout : float, optional
+        The greatest number of seconds that the call waits. Then `RunTimeoutError` is raised.
+
+    Returns
+    -------
+    tuple of int, or None
+        The numbers of the two clauses, from 1; None if the formula is extremal.
+
+    See Also
+    --------
+    is_extremal
+
+    Examples
+    --------
+    >>> import popsample
+    >>> popsample.find_clash([[1, 2], [-1, 3], [1, 3]])
+    (1, 3)
     """
-    return int(ask(["check"], read_formula(clauses).subject, None, timeout).row("s")[1])
+    try:
+        ask(["check"], read_formula(clauses).subject, None, timeout)
+    except ClashError as clash:
+        return clash.first, clash.second
+    return None

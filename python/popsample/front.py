@@ -1,4 +1,4 @@
-"""The front end of the program: `python -m popsample`."""
+"""The command-line wrapper of the program: `python -m popsample`."""
 
 from __future__ import annotations
 
@@ -7,25 +7,40 @@ from collections.abc import Sequence
 
 from .batch_progress import BatchProgress, no_progress
 from .command_line import Called, read_command_line
-from .errors import NoProgramError, ReadError, Refusal, UsageError, WriteError
-from .output_file import Output
+from .ended_by_signal import SIGNALLED, ended_by_signals
+from .errors import ExhaustedError, NoProgramError, Paused, ReadError, Refusal, UsageError, WriteError
+from .output_file import Output, is_one_file
 from .program_words import COMMANDS
 from .refusal_told import refusal_told
 from .relay import relay
+from .standard_streams import is_terminal, write_error
 from .text_files import read_text, reason_of
 
-# The statuses of a shell: of a program that can't be run, of one that isn't found, and of one that was stopped from the
-# keyboard.
+# The status of a command line that isn't valid, as argparse has it.
+USAGE = 2
+# The statuses of a shell: of a program that cannot be run, of one that isn't found, and of one that was stopped from
+# the keyboard.
 NOT_RUN = 126
 NOT_FOUND = 127
 INTERRUPTED = 130
-# A program that a signal ended has the negative of its number, and in a shell this and the number.
-SIGNALLED = 128
+# The statuses with which an output is complete: a sample or a batch, one in which a run was exhausted, a certificate.
+COMPLETE = frozenset({0, ExhaustedError.status, Paused.status})
 
 
 def main(arguments: Sequence[str] | None = None) -> int:
-    """Does what the words ask for, those of the process where there are none, and gives back the status."""
+    """Do what the command line asks for, by default that of the process, and return the status.
+
+    Raises SystemExit for a help text, a command line that isn't valid, and a signal that asks the process to end.
+    """
     called = read_command_line(arguments)
+    with ended_by_signals():
+        status = ended(called)
+    # A program that a signal ended has the negative of the signal's number.
+    return status if status >= 0 else SIGNALLED - status
+
+
+def ended(called: Called) -> int:
+    """Run, and return the status, also of a run that fails or is stopped from the keyboard."""
     try:
         status = run(called)
     except ReadError as error:
@@ -33,28 +48,33 @@ def main(arguments: Sequence[str] | None = None) -> int:
     except WriteError as error:
         status = fault(error, called.output)
     except NoProgramError as error:
-        status = told(str(error), NOT_FOUND)
+        status = report(str(error), NOT_FOUND)
     except OSError as error:
-        status = told(f"The program can't be run: {reason_of(error)}.", NOT_RUN)
+        status = report(f"The program cannot be run: {reason_of(error)}.", NOT_RUN)
     except KeyboardInterrupt:
         status = INTERRUPTED
-    return status if status >= 0 else SIGNALLED - status
+    return status
 
 
 def run(called: Called) -> int:
-    """Reads the input, runs the program, passes its output on, and tells what is refused: the status."""
+    """Read the input, run the program, pass its output on, and explain an error: the status."""
+    reads = COMMANDS[called.command].reads is not None
+    if reads and called.output is not None and is_one_file(called.output, called.path):
+        return report(f"{called.output}: This file is the input. Name another file after --output.", USAGE)
     give_notice(called)
     with Output(called.output) as output:
         text = read_input(called, output)
         status, telling = relayed(called, text, output)
+        if called.output is None or status in COMPLETE:
+            output.keep()
     named = "" if called.path is None or status == UsageError.status else f"{called.path}: "
     for line in refusal_told(called.words, text, status, telling):
-        told(named + line)
+        report(named + line)
     return status
 
 
 def read_input(called: Called, output: Output) -> bytes:
-    """The text that the command reads. Raises ReadError, behind the program's line for it."""
+    """Return the input of the command. If it cannot be read, write the program's line for that, and raise ReadError."""
     if COMMANDS[called.command].reads is None:
         return b""
     try:
@@ -65,9 +85,9 @@ def read_input(called: Called, output: Output) -> bytes:
 
 
 def relayed(called: Called, text: bytes, output: Output) -> tuple[int, bytes]:
-    """The status of the program, whose output is written, and what of the output tells what it means."""
+    """Run the program and write its output: the status, and the part of the output that says what it means."""
     count = called.value("--count")
-    if count is None or called.quiet or not sys.stderr.isatty():
+    if count is None or called.quiet or not is_terminal(sys.stderr):
         return relay(called.words, text, output.write, no_progress)
     progress = BatchProgress(count)
     try:
@@ -77,22 +97,22 @@ def relayed(called: Called, text: bytes, output: Output) -> tuple[int, bytes]:
 
 
 def give_notice(called: Called) -> None:
-    """Tells the key of a seed, and that a terminal is read."""
+    """Print the key of a seed, and that a terminal is read."""
     if called.quiet:
         return
     if called.seed is not None:
-        told(f"The key of seed {called.seed} is {called.value('--key')}.")
+        report(f"The key of seed {called.seed} is {called.value('--key')}.")
     reads = COMMANDS[called.command].reads
-    if reads is not None and called.path is None and sys.stdin.isatty():
-        told(f"Standard input is a terminal, and {reads} is read from it: end it by Ctrl-D, or name a file.")
+    if reads is not None and called.path is None and is_terminal(sys.stdin):
+        report(f"Standard input is a terminal. Type {reads} and press Ctrl-D, or name a file.")
 
 
 def fault(refusal: Refusal, path: str | None) -> int:
-    """Tells that the input or the output failed, and why, which the cause says: the status."""
-    return told(f"{'' if path is None else f'{path}: '}{reason_of(refusal.__cause__)}. {refusal}", refusal.status)
+    """Report that the input or the output failed, and why, which the cause says: the status."""
+    return report(f"{'' if path is None else f'{path}: '}{reason_of(refusal.__cause__)}. {refusal}", refusal.status)
 
 
-def told(line: str, status: int = 0) -> int:
-    """Tells a line on standard error, and gives back the status."""
-    print(f"popsample: {line}", file=sys.stderr)
+def report(line: str, status: int = 0) -> int:
+    """Print a line to standard error, and return the status."""
+    write_error(f"popsample: {line}\n")
     return status

@@ -1,4 +1,4 @@
-"""Graphs as they are handed in: edge lists, adjacencies, files, and graphs of other libraries."""
+"""Graphs as they are passed: edge lists, adjacencies, files, and graphs of other libraries."""
 
 from __future__ import annotations
 
@@ -6,156 +6,192 @@ import os
 from collections.abc import Callable, Hashable, Iterable, Mapping, Sequence, Set
 from dataclasses import dataclass
 from functools import cached_property, partial
-from itertools import chain
-from operator import itemgetter
 from pathlib import Path
 from typing import Any
 
 from .adjacency import read_mapping, read_matrix
-from .argument_errors import ArgumentError, InputTypeError, OptionError
+from .argument_errors import OptionError
+from .arguments import whole
+from .edge_lists import read_edges, read_list
+from .flat_numbers import Flat
 from .foreign_graphs import library_of
-from .graph_text import Ends, read_ends
+from .graph_parts import GraphParts
+from .graph_text import graph_text, read_ends
 from .networkx_input import viewed_edges
-from .results import Arrow, Edge
+from .results import Arrow
 from .subject import NUMBERS, Subject
-from .weights import attribute_weights, is_hashable, whole_weights
+from .text_input import file_text
+from .weights import BITS, rounded_weights, whole_weights
 
 Arrows = Sequence[Arrow]
-
-# What an edge of a list may be: the abstract class, behind those that most are, which are told in a tenth of its time.
-PAIRS = (tuple, list, Sequence)
-# The ends of an edge.
-ENDS = itemgetter(0, 1)
-
-KINDS = (
-    "a graph is a list of edges (pairs, or triples with a weight), a dict of lists or of dicts, an undirected graph of "
-    "networkx, igraph or graph-tool, a sparse matrix of scipy, or the path of a graph file"
-)
 
 
 @dataclass(frozen=True)
 class GraphInput:
-    """A graph: its text, the names of its vertices and edges as the program counts them, and the way back.
+    """A graph that was read: names, the ends of the edges and weights by number, and the way back.
 
-    `directed` makes of arrows a directed graph of the library whose graph was handed in; where it is None, there is no
-    such library.
+    `ends` is None if the graph is of a file that has errors, which the program finds. `directed` makes of arrows a
+    directed graph of the library that the graph is of; it is None if there is no such library. `weight_error` is the
+    greatest relative error of a weight that was rounded, and None if none was.
     """
 
-    text: bytes
     vertices: Sequence[Hashable]
     edges: Sequence[Hashable]
+    ends: Flat | None
+    weights: Flat | None = None
     directed: Callable[[Arrows], Any] | None = None
-
-    def subject(self, variables: Sequence[Hashable], root: Hashable = None) -> Subject:
-        """The text, where these are the variables."""
-        return Subject(self.text, self.vertices, variables, root)
+    source: bytes | None = None
+    weight_error: float | None = None
 
     @cached_property
-    def ends(self) -> Ends | None:
-        """The number of vertices, and the ends of each edge; None where the text is none that the program takes."""
-        return read_ends(self.text)
+    def text(self) -> bytes:
+        """The graph as the program reads it."""
+        if self.source is not None or self.ends is None:
+            return self.source or b""
+        return graph_text(len(self.vertices), self.ends, self.weights)
+
+    def subject(self, variables: Sequence[Hashable], root: Hashable = None) -> Subject:
+        """Return the text, if these are the variables."""
+        return Subject(partial(getattr, self, "text"), self.vertices, variables, root)
 
     def vertex_count(self) -> int:
-        """The number of vertices; 1 where the text is none that the program takes."""
-        return len(self.vertices) if self.vertices is not NUMBERS else self.ends.vertices if self.ends else 1
+        """Return the number of vertices; 1 if the text isn't one that the program takes."""
+        return 1 if self.ends is None else len(self.vertices)
 
     def edge_count(self) -> int:
-        """The number of edges; 0 where the text is none that the program takes."""
-        return len(self.edges) if self.edges is not NUMBERS else len(self.ends.pairs) if self.ends else 0
+        """Return the number of edges; 0 if the text isn't one that the program takes."""
+        return 0 if self.ends is None else len(self.edges)
 
 
-def read_graph(graph: Any, weight: str | None = None) -> GraphInput:
-    """The graph of what was handed in. `weight` names the attribute of the edges that has their weights.
+def read_graph(graph: Any, weight: Any = None, weight_bits: int | None = None) -> GraphInput:
+    """Return the graph that was passed.
 
-    Raises InputTypeError where it is of a kind that isn't read, and ArgumentError where it can't be taken.
+    `weight` names the attribute of the edges that has their weights, which are rounded to `weight_bits` bits if that is
+    given.
+
+    Raises InputTypeError if it is of a kind that isn't read, and ArgumentError if it can't be taken.
     """
     if isinstance(graph, GraphInput):
-        if weight is not None:
-            raise OptionError("weight", weight, "the weights of from_adjacency(..) are named there")
+        for argument, value in (("weight", weight), ("weight_bits", weight_bits)):
+            if value is not None:
+                raise OptionError(argument, value, "passed to from_adjacency or from_edges")
         return graph
     library = library_of(graph)
     if library is not None:
-        vertices, edges = library.read(graph, weight)
-        return listed(vertices, edges, partial(library.directed, graph))
+        return made(library.read(graph, weight), weight_bits, partial(library.directed, graph))
     if isinstance(graph, (str, os.PathLike)):
-        return GraphInput(Path(graph).read_bytes(), NUMBERS, NUMBERS)
+        return read_text(file_text(Path(graph)))
     if isinstance(graph, Mapping) and isinstance(graph, Set):
-        return listed(*read_list(viewed_edges(graph), weight), None)
+        return made(read_list(viewed_edges(graph), weight, is_edges=True), weight_bits)
     if isinstance(graph, Mapping):
-        return listed(*read_mapping(graph, weight), None)
-    return listed(*read_list(graph, weight), None)
+        return made(read_mapping(graph, weight), weight_bits)
+    return made(read_list(graph, weight), weight_bits)
 
 
-def from_adjacency(adjacency: Any, names: Sequence[Hashable] | None = None, weight: str | None = None) -> GraphInput:
-    """The undirected graph of an adjacency, for each function that takes a graph.
+def read_text(text: bytes) -> GraphInput:
+    """Return the graph of a text, in which vertices and edges are named by their numbers, from 1."""
+    found = read_ends(text)
+    if found is None:
+        return GraphInput(NUMBERS, NUMBERS, None, source=text)
+    edges = range(1, len(found.ends) // 2 + 1)
+    return GraphInput(range(1, found.vertices + 1), edges, found.ends, found.weights, source=text)
 
-    It is a symmetric matrix of weights, as an array of numpy or a list of lists, in which 0 says that there is no edge;
-    `names` are those of its rows, which else have their numbers, from 0. Or it is a dict of lists or of dicts, in which
-    `weight` names the attribute of the edges that has their weights. An edge's name is the pair of its ends.
 
-    Raises ArgumentError where a matrix isn't square or symmetric.
+def made(parts: GraphParts, bits: int | None = None, directed: Callable[[Arrows], Any] | None = None) -> GraphInput:
+    """Return the graph of these parts, with weights that are exact, or rounded to so many bits."""
+    vertices, edges, ends, given = parts
+    if bits is not None:
+        whole("weight_bits", bits, 1, BITS)
+    if not given:
+        return GraphInput(vertices, edges, ends, None, directed)
+    if bits is None:
+        return GraphInput(vertices, edges, ends, whole_weights(given, edges.__getitem__), directed)
+    weights, error = rounded_weights(given, ends, bits, edges.__getitem__)
+    return GraphInput(vertices, edges, ends, weights, directed, weight_error=error)
+
+
+def from_adjacency(
+    adjacency: Any,
+    names: Sequence[Hashable] | None = None,
+    weight: str | None = None,
+    *,
+    weight_bits: int | None = None,
+) -> GraphInput:
+    """Read the undirected graph of an adjacency matrix.
+
+    Parameters
+    ----------
+    adjacency : array, list of lists, or dict
+        A symmetric matrix of weights, in which 0 is no edge; or a dict of lists or of dicts.
+    names : sequence of hashable, optional
+        The names of the rows. Default: their numbers, from 0.
+    weight : str, optional
+        The attribute of the edges that has their weights, if `adjacency` is a dict.
+    weight_bits : int, optional
+        Round the weights, as `spanning_tree` does.
+
+    Returns
+    -------
+    GraphInput
+        A graph for each function that takes one. An edge is named by the pair of its ends.
+
+    Raises
+    ------
+    ArgumentError
+        If the matrix isn't square or symmetric, has a NaN, or `names` has another length.
+
+    See Also
+    --------
+    from_edges
+
+    Examples
+    --------
+    >>> import popsample
+    >>> graph = popsample.from_adjacency([[0, 2], [2, 0]], names=["a", "b"])
+    >>> popsample.spanning_tree(graph, root="a").parents
+    {'b': 'a'}
     """
     if isinstance(adjacency, Mapping):
-        return read_graph(adjacency, weight)
+        return read_graph(adjacency, weight, weight_bits)
     if weight is not None:
-        raise OptionError("weight", weight, "the entries of a matrix are its weights")
-    return listed(*read_matrix(adjacency, names), None)
+        raise OptionError("weight", weight, "None for a matrix, whose entries are the weights")
+    return made(read_matrix(adjacency, names), weight_bits)
 
 
-def read_list(graph: Any, weight: str | None) -> tuple[list[Hashable], list[Edge]]:
-    """The vertices and the edges of an edge list, or of an array with an edge in each row. Edges are named by their
-    places, from 0.
-    """
-    if isinstance(graph, (bytes, bytearray)) or not isinstance(graph, Iterable):
-        raise InputTypeError(f"{graph!r} is no graph: {KINDS}")
-    rows = array_rows(graph) if hasattr(graph, "shape") and hasattr(graph, "dtype") else graph
-    # Most edges are plain pairs, which are told here and spare a call.
-    named = (
-        (edge[0], edge[1], {}, place) if type(edge) is tuple and len(edge) == 2 else named_edge(place, edge)
-        for place, edge in enumerate(rows)
-    )
-    edges = attribute_weights(named, weight)
-    try:
-        return list(dict.fromkeys(chain.from_iterable(map(ENDS, edges)))), edges
-    except TypeError:
-        wrong = next(vertex for vertex in chain.from_iterable(map(ENDS, edges)) if not is_hashable(vertex))
-        raise InputTypeError(f"the vertex {wrong!r} can't be hashed: a name is a number, a string or a tuple") from None
-
-
-def array_rows(array: Any) -> list[list[int]]:
-    """The rows of an array that can only be edges: of whole numbers, with 2 or 3 columns, and not square.
-
-    Raises ArgumentError where it isn't, since it may be an adjacency matrix as well.
-    """
-    shape = tuple(array.shape)
-    if getattr(array.dtype, "kind", "") in "iu" and len(shape) == 2 and shape[1] in (2, 3) and shape[0] != shape[1]:
-        return array.tolist()
-    raise ArgumentError(
-        f"an array of shape {shape} and type {array.dtype} isn't read as edges, which are whole numbers in 2 columns, "
-        "or 3 with weights, and not as many rows: for an adjacency matrix hand in popsample.from_adjacency(array), and "
-        "for edges array.tolist()"
-    )
-
-
-def named_edge(place: int, edge: Any) -> Edge:
-    """The edge at a place of an edge list: two names, and behind them nothing, a weight, or a dict of attributes."""
-    if isinstance(edge, (str, bytes, bytearray)) or not isinstance(edge, PAIRS) and not hasattr(edge, "tolist"):
-        raise InputTypeError(f"the edge {edge!r} is no pair or triple: {KINDS}")
-    if len(edge) not in (2, 3):
-        raise ArgumentError(f"the edge {edge!r} has neither two nor three parts: {KINDS}")
-    return edge[0], edge[1], edge[2] if len(edge) == 3 else {}, place
-
-
-def listed(
-    vertices: Sequence[Hashable], edges: Iterable[Edge], directed: Callable[[Arrows], Any] | None
+def from_edges(
+    edges: Any, weights: Any = None, vertices: Iterable[Hashable] | None = None, *, weight_bits: int | None = None
 ) -> GraphInput:
-    """The graph of these vertices and edges."""
-    given = list(edges)
-    # As text, so that each is written once and not for every edge.
-    numbers = {name: str(number) for number, name in enumerate(vertices, 1)}
-    lines = [
-        f"e {numbers[tail]} {numbers[head]} {weight}"
-        for (tail, head, _, _), weight in zip(given, whole_weights(given))
-    ]
-    text = "\n".join([f"p edge {len(vertices)} {len(lines)}", *lines, ""])
-    return GraphInput(text.encode(), vertices, [edge[3] for edge in given], directed)
+    """Read a graph from its edges, whatever the form of their list or array.
+
+    Parameters
+    ----------
+    edges : iterable of pairs or triples, or array
+        An edge in each row. Vertices count in the order in which they first occur.
+    weights : sequence of numbers, optional
+        A weight for each edge. Default: the third parts of the edges, or 1.
+    vertices : iterable of hashable, optional
+        The vertices in order, among which are all ends of edges.
+    weight_bits : int, optional
+        Round the weights, as `spanning_tree` does.
+
+    Returns
+    -------
+    GraphInput
+        A graph for each function that takes one. An edge is named by its place, from 0.
+
+    Raises
+    ------
+    ArgumentError
+        If an edge has another form, or `weights` or `vertices` don't fit.
+
+    See Also
+    --------
+    from_adjacency
+
+    Examples
+    --------
+    >>> import popsample
+    >>> popsample.spanning_tree(popsample.from_edges([[0, 1], [1, 0]]), root=0).parents
+    {1: 0}
+    """
+    return made(read_edges(edges, weights, vertices), weight_bits)

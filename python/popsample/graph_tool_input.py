@@ -3,36 +3,47 @@
 from __future__ import annotations
 
 import sys
-from collections.abc import Hashable, Iterator, Sequence
+from collections.abc import Sequence
 from typing import Any
 
 from .argument_errors import InputTypeError, NoWeightError, OptionError
-from .results import Arrow, Edge
+from .flat_numbers import as_flat, numbers_of
+from .graph_parts import GraphParts
+from .results import Arrow
 from .weights import WANTED, is_hashable
 
 
 def takes(graph: Any) -> bool:
-    """Whether it is a graph of graph-tool, or a view of one."""
+    """Return whether it is a graph of graph-tool, or a view of one."""
     library = sys.modules.get("graph_tool")
     return library is not None and isinstance(graph, library.Graph)
 
 
-def read(graph: Any, weight: Any) -> tuple[list[Hashable], Iterator[Edge]]:
-    """The vertices and the edges, both named by their indices, from 0. What is filtered out is passed over.
+def read(graph: Any, weight: Any) -> GraphParts:
+    """Return the parts of a graph: vertices and edges named by their indices, from 0. What is filtered out is left out.
 
-    `weight` is an edge property map of the graph, or the name of one. Raises InputTypeError where the graph is
-    directed, OptionError where `weight` is neither, and NoWeightError, a KeyError, where no map has the name.
+    `weight` is an edge property map of the graph, or the name of one. Raises InputTypeError if the graph is directed,
+    OptionError if `weight` is neither, and NoWeightError, a KeyError, if no map has the name.
     """
     if graph.is_directed():
-        raise InputTypeError("the graph is directed: hand in graph_tool.GraphView(graph, directed=False)")
-    rows = sorted(graph.get_edges([graph.edge_index]).tolist(), key=lambda row: row[2])
-    values = None if weight is None else values_by_number(graph, property_map(graph, weight))
-    edges = ((first, second, 1 if values is None else values[place], place) for first, second, place in rows)
-    return graph.get_vertices().tolist(), edges
+        raise InputTypeError("The graph must be undirected: pass graph_tool.GraphView(graph, directed=False).")
+    rows = graph.get_edges([graph.edge_index])
+    places = rows[:, 2]
+    if len(places) > 1 and not bool((places[1:] > places[:-1]).all()):
+        rows = rows[places.argsort()]
+    names = rows[:, 2].tolist()
+    weights = None
+    if weight is not None:
+        values = values_by_number(graph, property_map(graph, weight))
+        weights = [values[name] for name in names]
+    vertices = graph.get_vertices().tolist()
+    if vertices and vertices[-1] == len(vertices) - 1:
+        return GraphParts(vertices, names, as_flat(rows[:, :2], "uint32"), weights)
+    return GraphParts(vertices, names, numbers_of(rows[:, :2].tolist(), vertices), weights)
 
 
 def property_map(graph: Any, weight: Any) -> Any:
-    """The edge property map of the graph that this is, or that has this name."""
+    """Return the edge property map of the graph that this is, or that has this name."""
     if isinstance(weight, sys.modules["graph_tool"].EdgePropertyMap):
         if base_of(weight.get_graph()) is base_of(graph):
             return weight
@@ -44,14 +55,14 @@ def property_map(graph: Any, weight: Any) -> Any:
 
 
 def base_of(graph: Any) -> Any:
-    """The graph of which this is a view; itself where it is none."""
+    """Return the graph of which this is a view; itself if it is none."""
     while isinstance(graph, sys.modules["graph_tool"].GraphView):
         graph = graph.base
     return graph
 
 
 def values_by_number(graph: Any, values: Any) -> Any:
-    """The values of an edge property map, by the edges' indices: a list of numbers, else a dict."""
+    """Return the values of an edge property map, by the edges' indices: a list of numbers, else a dict."""
     numbers = values.get_array()
     if numbers is not None:
         return numbers.tolist()
@@ -59,7 +70,10 @@ def values_by_number(graph: Any, values: Any) -> Any:
 
 
 def directed(graph: Any, arrows: Sequence[Arrow]) -> Any:
-    """The arrows as a directed graph, with the vertices, the filter of vertices and the property maps of the graph."""
+    """Return the arrows as a directed graph.
+
+    It has the vertices, the filter of vertices and the property maps of the graph.
+    """
     made = sys.modules["graph_tool"].Graph(directed=True)
     made.add_vertex(graph.num_vertices(ignore_filter=True))
     number = made.new_edge_property("int64_t")
@@ -77,7 +91,7 @@ def directed(graph: Any, arrows: Sequence[Arrow]) -> Any:
 
 
 def carried(made: Any, number: Any, values: Any, kind: str) -> Any:
-    """The property map of the made graph whose edges have the values of the edges of these numbers."""
+    """Return the property map of the made graph whose edges have the values of the edges of these numbers."""
     map_made = made.new_edge_property(kind)
     for edge in made.edges():
         map_made[edge] = values[number[edge]]
@@ -85,7 +99,7 @@ def carried(made: Any, number: Any, values: Any, kind: str) -> Any:
 
 
 def hide_all_but(made: Any, vertices: Sequence[int]) -> None:
-    """Filters out all vertices but these."""
+    """Filter out out all vertices but these."""
     shown = made.new_vertex_property("bool", False)
     for vertex in vertices:
         shown[vertex] = True

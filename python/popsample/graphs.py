@@ -2,199 +2,349 @@
 
 from __future__ import annotations
 
-from collections.abc import Hashable, Sequence
-from dataclasses import replace
+import os
+from collections.abc import Hashable, Iterable, Mapping, Sequence
 from functools import partial
-from typing import Any
+from typing import Any, TypeAlias, Union, Unpack
 
-from .answer import Answer
 from .argument_errors import EmptyGraphError, TreeComponentError
-from .arguments import Course, Source, Stacks, origin_words
 from .arrays import OrientationArrays, TreeArrays, orientation_arrays, tree_arrays
 from .components import tree_part
 from .errors import RootError
+from .flat_numbers import degrees
 from .graph_input import GraphInput, read_graph
-from .history import Asked, place_of
-from .refusing import ask
-from .results import Arrow, Orientation, Tree
-from .samples import Samples, one_run
+from .history import place_of
+from .keys import Key, KeyLike, SeedLike
+from .one_sample import one_sample
+from .problems import OrientationProblem, TreeProblem
+from .progress import Progress
+from .results import Orientation, Tree
+from .rows import Rows
+from .run_options import RunOptions
+from .sample_iterator import Executor, OnExhausted, Samples
+from .series import series
 from .subject import NUMBERS
 from .target import Target
 
+# What the functions take as a graph: a list of edges (pairs, or triples with a weight or a dict of attributes), an
+# array of numpy with an edge in each row, a dict of lists or of dicts, the path of a graph file, what `from_adjacency`
+# and `from_edges` return, or a graph of networkx, igraph, graph-tool or scipy.
+GraphLike: TypeAlias = Union[
+    Iterable[Sequence[Any]], Mapping[Hashable, Any], str, "os.PathLike[str]", GraphInput, Any
+]
+
 
 def spanning_tree(
-    graph: Any,
+    graph: GraphLike,
     root: Hashable = None,
-    weight: str | None = None,
-    key: str | None = None,
-    workers: int = 1,
+    weight: Any = None,
+    key: KeyLike | None = None,
     *,
-    height: int | None = None,
-    grow: int | None = None,
-    stacks: Stacks | None = None,
-    log: bool = False,
-    witness: tuple[Hashable, int] | None = None,
-    reports: Sequence[str] = (),
-    pops: int | None = None,
-    seed: int | None = None,
-    timeout: float | None = None,
+    seed: SeedLike | None = None,
+    sample: int = 0,
+    weight_bits: int | None = None,
+    **options: Unpack[RunOptions],
 ) -> Tree:
-    """Samples a spanning tree of a connected graph: of all stacks that give one, equally many give each.
+    """Draw a random spanning tree of a connected graph.
 
-    The graph is an edge list, of pairs or of triples with a weight or a dict of attributes, or an array of whole
-    numbers with an edge in each row; a dict of lists or of dicts, as networkx has them; the path of a graph file in the
-    manner of DIMACS; what `from_adjacency` makes of a matrix; or an undirected graph of networkx, igraph or graph-tool
-    or a symmetric sparse matrix of scipy, of which a directed one comes back, as `graph` of the result. Vertices keep
-    their names. `root` is one of them, and the first where it is None.
+    Each spanning tree has a probability proportional to the product of its edges' weights. If all weights are equal,
+    each has the same probability.
 
-    With weights the stacks that give a tree weigh as the product of its edges' weights. These are numbers above 0:
-    fractions, and floats, which are the fractions that they are exactly, are all scaled to whole numbers, where they
-    fit. `weight` names the attribute of the edges that has them; the weights of an edge list or a file are always seen.
+    Parameters
+    ----------
+    graph : GraphLike
+        A connected undirected graph: a list of edges (pairs, or triples with a weight or a dict of attributes), an
+        array with an edge in each row, a dict of lists or of dicts, the path of a graph file, what `from_edges` or
+        `from_adjacency` returns, a graph of networkx, igraph or graph-tool, or a symmetric sparse matrix of scipy.
+    root : hashable, optional
+        The root of the tree. Default: the first vertex.
+    weight : str, optional
+        The attribute of the edges that has their weights (or an edge property map of graph-tool). Default: each edge
+        weighs 1, unless the graph has weights of its own: the third parts of edges, or the entries of a matrix.
+    key : str or bytes, optional
+        64 hexadecimal digits or 32 bytes, from which all random values come. Default: a random key, which the result
+        has.
+    seed : int, bytes or generator, optional
+        What makes the key: a non-negative integer, 32 bytes, a random.Random, or a Generator, RandomState or
+        SeedSequence of numpy.
+    sample : int
+        The number of the sample under the key, from 0. Samples of different numbers are independent.
+    weight_bits : int, optional
+        Round real weights to integers of at most so many bits, from 1 to 32. The result has the greatest relative error
+        of a weight as `weight_error`. Default: weights are exact, and `WeightError` is raised if they can't be.
+    **options : RunOptions
+        ``height``, ``timeout``, and what few callers need: see `RunOptions`.
 
-    `key` has 64 hexadecimal digits, and is drawn from the system's randomness where neither it nor `seed` is given, a
-    whole number from 0 on, of which the key comes: the SHA-256 hash of the text `popsample seed N`. The result has the
-    key. `height` is the number of entries of each vertex, and `stacks` gives rows of entries in place of a key. With
-    `grow` the run is made in stages, at heights from `height` on that double up to `grow`, and the result is that of
-    the height `grow`. `workers` changes no result.
+    Returns
+    -------
+    Tree
+        The tree, with ``parents``, ``edges``, ``arrows``, ``pops`` and the ``key`` that gives it again.
 
-    With `log` the result has the log of the pops. `witness` is a vertex and one of its entries, from 0: the result has
-    the witness tree of the pop that used it. `reports` names what is reported on the log: `totals`, `heights` and
-    `layers`.
+    Raises
+    ------
+    CutOffError
+        If the graph is not connected.
+    RootError
+        If `root` is not a vertex.
+    WeightError
+        If weights aren't positive, or can't be scaled to integers up to 2**32 - 1.
+    ExhaustedError
+        If a stack of ``height`` values runs out.
+    ArgumentError
+        If an argument can't be taken. It is a ValueError, raised before anything runs.
 
-    With `pops` the run is stopped after so many. Where it isn't at its end, `Paused` is raised, which has its
-    certificate. Neither `grow`, several workers, `log`, `witness` nor `reports` goes with it.
+    See Also
+    --------
+    spanning_trees : Many trees under one key.
+    sink_free_orientation : An orientation in which an edge leaves each vertex.
 
-    After `timeout` seconds the program is ended, and `RunTimeoutError` raised, a TimeoutError. What is wrong with the
-    arguments is raised as an `ArgumentError`, a ValueError, before the program runs.
+    Notes
+    -----
+    Weights are positive numbers. Integers are taken as they are. If some are fractions or floats, all are scaled to
+    integers in the same proportions. A float is the binary fraction that it is exactly, so 0.1 hardly fits:
+    `weight_bits` rounds it.
+
+    References
+    ----------
+    .. [1] J. G. Propp and D. B. Wilson, "How to get a perfectly random sample from a generic Markov chain and generate
+       a random spanning tree of a directed graph", J. Algorithms 27(2), 1998.
+
+    Examples
+    --------
+    >>> import popsample
+    >>> triangle = [("a", "b"), ("b", "c"), ("a", "c")]
+    >>> tree = popsample.spanning_tree(triangle, root="a", key="0" * 64)
+    >>> sorted(tree.parents)
+    ['b', 'c']
+    >>> popsample.spanning_tree(triangle, root="a", key=tree.key) == tree
+    True
     """
-    used, words = origin_words(Source(key, seed, height, stacks), Course(workers, grow, pops))
-    given = read_graph(graph, weight)
-    asked = Asked(log, witness, reports)
-    target = tree_target(given, root)
-    answer = ask([*target.words, *words, *asked.words_beside(given.vertices, pops)], target.subject, used, timeout)
-    return replace(target.tell(answer, used, 0), **asked.told(answer, target.subject))
+    target = tree_target(read_graph(graph, weight, weight_bits), root)
+    return one_sample("spanning_tree", target, target.subject.vertices, key, seed, sample, options)
 
 
 def spanning_trees(
-    graph: Any,
-    count: int,
+    graph: GraphLike,
+    count: int | None = None,
     root: Hashable = None,
-    weight: str | None = None,
-    key: str | None = None,
+    weight: Any = None,
+    key: KeyLike | None = None,
     *,
+    seed: SeedLike | None = None,
+    first: int = 0,
+    weight_bits: int | None = None,
+    executor: Executor | None = None,
+    progress: bool | Progress | None = None,
+    on_exhausted: OnExhausted = "raise",
     height: int | None = None,
-    seed: int | None = None,
     timeout: float | None = None,
+    ahead: int | None = None,
 ) -> Samples[Tree, TreeArrays]:
-    """Samples so many spanning trees, by one run of the program on all processors.
+    """Draw many random spanning trees of a connected graph.
 
-    They have the numbers from 0 on, as `sample`, and tree 0 is that of `spanning_tree` under the key. A longer batch
-    begins with a shorter one. Where the run of one is exhausted, `ExhaustedError` is raised in its place, and the next
-    call goes on behind it. There are at most 65536; `TooManySamplesError` is raised where they have more than 33554432
-    variables together, and `samples` has no such limits. `timeout` counts the time that the program is waited for. The
-    other arguments are those of `spanning_tree`.
+    Tree I is that of ``spanning_tree(graph, .., key=key, sample=I)``, whatever makes it.
+
+    Parameters
+    ----------
+    graph, root, weight, key, seed, weight_bits : object
+        As of `spanning_tree`.
+    count : int, optional
+        How many trees. Default: they don't end.
+    first : int
+        The number of the first tree under the key.
+    executor, progress, on_exhausted, height, timeout, ahead : object
+        As of `samples`.
+
+    Returns
+    -------
+    Samples
+        An iterator over `Tree`. Its ``arrays()`` are all trees as `TreeArrays`.
+
+    Raises
+    ------
+    ArgumentError, InputRefusal
+        As `spanning_tree` does, before the first tree.
+
+    See Also
+    --------
+    spanning_tree, samples
+
+    Examples
+    --------
+    >>> import popsample
+    >>> triangle = [("a", "b"), ("b", "c"), ("a", "c")]
+    >>> trees = list(popsample.spanning_trees(triangle, 3, key="0" * 64))
+    >>> [tree.sample for tree in trees]
+    [0, 1, 2]
+    >>> trees[2] == popsample.spanning_tree(triangle, key="0" * 64, sample=2)
+    True
     """
-    return one_run(tree_target(read_graph(graph, weight), root), count, Source(key, seed, height), timeout)
+    target = tree_target(read_graph(graph, weight, weight_bits), root)
+    return series(target, count, key, seed, first, height, timeout, executor, ahead, progress, on_exhausted).begun()
 
 
-def root_number(given: GraphInput, root: Hashable) -> int:
-    """The number of the root of that name, or of the first vertex. Raises RootError where there is no such vertex."""
+def root_place(given: GraphInput, root: Hashable) -> int:
+    """Return the place of the root of that name, or of the first vertex.
+
+    Raises RootError if there is no such vertex.
+    """
     place = 0 if root is None else place_of(root, given.vertices)
     if place == len(given.vertices) and given.vertices is not NUMBERS:
         raise RootError(root) if place else EmptyGraphError()
-    return place + 1
+    return place
 
 
 def tree_target(given: GraphInput, root: Hashable) -> Target[Tree, TreeArrays]:
-    """The spanning trees of a graph with the root of that name."""
-    number = root_number(given, root)
+    """Return the spanning trees of a graph with the root of that name."""
+    place = root_place(given, root)
     subject = given.subject(given.vertices, root)
-    tell, arrays = partial(tree_of, given, subject.vertex(number)), partial(tree_arrays, given, root)
-    return Target(("tree", "--root", str(number)), subject, given.vertex_count() - 1, tell, arrays)
+    problem = None if given.ends is None else TreeProblem(len(given.vertices), given.ends, given.weights, place)
+    words = ("tree", "--root", str(place + 1))
+    result, arrays = partial(tree_of, given, place), partial(tree_arrays, given)
+    return Target(problem, subject, words, result, arrays, given.weight_error)
 
 
-def tree_of(given: GraphInput, root: Hashable, answer: Answer, key: str | None, sample: int = 0) -> Tree:
-    """The spanning tree of an answer, in a graph with the root of that name."""
-    arrows = arrows_of(answer, given)
-    used = dict(zip((arrow.tail for arrow in arrows), answer.numbers("used")))
-    return Tree(root, arrows, used, answer.pops(), key, given.directed, sample)
-
-
-def arrows_of(answer: Answer, given: GraphInput) -> tuple[Arrow, ...]:
-    """The arrows of an answer, by the names of the graph."""
-    tails, heads, edges = answer.arrow_columns()
-    return tuple(map(Arrow, named(tails, given.vertices), named(heads, given.vertices), named(edges, given.edges)))
-
-
-def named(numbers: Sequence[int], names: Sequence[Hashable]) -> Sequence[Hashable]:
-    """The names of these numbers, from 1."""
-    if names is NUMBERS:
-        return numbers
-    return [names[number - 1] for number in numbers]
+def tree_of(
+    given: GraphInput, root: int, rows: Rows, row: int, key: Key | None, told: Mapping[str, Any] | None = None
+) -> Tree:
+    """Return the spanning tree of a row, in a graph with the root of that place."""
+    return Tree(rows, row, key, given, root, told)
 
 
 def sink_free_orientation(
-    graph: Any,
-    key: str | None = None,
-    workers: int = 1,
+    graph: GraphLike,
+    key: KeyLike | None = None,
     *,
-    height: int | None = None,
-    grow: int | None = None,
-    stacks: Stacks | None = None,
-    log: bool = False,
-    witness: tuple[Hashable, int] | None = None,
-    reports: Sequence[str] = (),
-    pops: int | None = None,
-    seed: int | None = None,
-    timeout: float | None = None,
+    seed: SeedLike | None = None,
+    sample: int = 0,
+    **options: Unpack[RunOptions],
 ) -> Orientation:
-    """Samples an orientation of a graph in which some edge leaves each vertex: of all stacks that give one, as many
-    give each.
+    """Draw a random orientation of a graph in which some edge leaves each vertex.
 
-    The graph, and what comes back, is as for `spanning_tree`; weights have no effect. A connected part that is a tree
-    has a sink however it is oriented, so `TreeComponentError` is raised, before the program runs. `witness` is an edge,
-    as the arrows name it, and one of its entries. The other arguments are those of `spanning_tree`.
+    Each such orientation has the same probability.
+
+    Parameters
+    ----------
+    graph : GraphLike
+        A graph, as of `spanning_tree`. Weights have no effect.
+    key, seed, sample : object
+        As of `spanning_tree`.
+    **options : RunOptions
+        ``height``, ``timeout``, and what few callers need: see `RunOptions`.
+
+    Returns
+    -------
+    Orientation
+        The orientation, with an arrow for each edge.
+
+    Raises
+    ------
+    TreeComponentError
+        If a connected component is a tree, which has a sink in each orientation.
+    IsolatedError
+        If a vertex has no edges.
+    ExhaustedError
+        If a stack of ``height`` values runs out.
+    ArgumentError
+        If an argument can't be taken.
+
+    See Also
+    --------
+    sink_free_orientations : Many orientations under one key.
+
+    References
+    ----------
+    .. [1] H. Cohn, R. Pemantle and J. G. Propp, "Generating a random sink-free orientation in quadratic time",
+       Electronic J. Combinatorics 9(1), 2002.
+
+    Examples
+    --------
+    >>> import popsample
+    >>> found = popsample.sink_free_orientation([("a", "b"), ("b", "c"), ("a", "c")])
+    >>> sorted({arrow.tail for arrow in found.arrows})
+    ['a', 'b', 'c']
     """
-    used, words = origin_words(Source(key, seed, height, stacks), Course(workers, grow, pops))
     target = orientation_target(read_graph(graph))
-    asked = Asked(log, witness, reports)
-    beside = asked.words_beside(target.subject.variables, pops)
-    answer = ask([*target.words, *words, *beside], target.subject, used, timeout)
-    return replace(target.tell(answer, used, 0), **asked.told(answer, target.subject))
+    return one_sample("sink_free_orientation", target, target.subject.variables, key, seed, sample, options)
 
 
 def sink_free_orientations(
-    graph: Any,
-    count: int,
-    key: str | None = None,
+    graph: GraphLike,
+    count: int | None = None,
+    key: KeyLike | None = None,
     *,
+    seed: SeedLike | None = None,
+    first: int = 0,
+    executor: Executor | None = None,
+    progress: bool | Progress | None = None,
+    on_exhausted: OnExhausted = "raise",
     height: int | None = None,
-    seed: int | None = None,
     timeout: float | None = None,
+    ahead: int | None = None,
 ) -> Samples[Orientation, OrientationArrays]:
-    """Samples so many orientations in which some edge leaves each vertex, by one run of the program.
+    """Draw many random orientations of a graph in which some edge leaves each vertex.
 
-    Their numbers, and what is raised, are as for `spanning_trees`. The other arguments are those of
-    `sink_free_orientation`.
+    Orientation I is that of ``sink_free_orientation(graph, key=key, sample=I)``, whatever makes it.
+
+    Parameters
+    ----------
+    graph, key, seed : object
+        As of `sink_free_orientation`.
+    count, first : int, optional
+        As of `spanning_trees`.
+    executor, progress, on_exhausted, height, timeout, ahead : object
+        As of `samples`.
+
+    Returns
+    -------
+    Samples
+        An iterator over `Orientation`. Its ``arrays()`` are all of them as `OrientationArrays`.
+
+    Raises
+    ------
+    ArgumentError, InputRefusal
+        As `sink_free_orientation` does, before the first one.
+
+    See Also
+    --------
+    sink_free_orientation, samples
     """
-    return one_run(orientation_target(read_graph(graph)), count, Source(key, seed, height), timeout)
+    target = orientation_target(read_graph(graph))
+    return series(target, count, key, seed, first, height, timeout, executor, ahead, progress, on_exhausted).begun()
 
 
 def orientation_target(given: GraphInput) -> Target[Orientation, OrientationArrays]:
-    """The orientations of a graph without sinks. Raises TreeComponentError where a part of it is a tree with an edge,
-    unless some vertex has none, which the program tells.
+    """Return the orientations of a graph without sinks.
+
+    Raises TreeComponentError if a component of it is a tree with an edge, unless some vertex has none, which is told as
+    it is found.
     """
-    ends = given.ends
-    part = tree_part(ends.vertices, ends.pairs) if ends and ends.touch_all() else []
-    if part:
-        raise TreeComponentError(list(named(part, given.vertices)))
+    if given.ends is not None:
+        part = tree_component(given)
+        if part:
+            raise TreeComponentError([given.vertices[number - 1] for number in part])
     subject = given.subject(given.edges)
-    tell, arrays = partial(orientation_of, given), partial(orientation_arrays, given)
-    return Target(("orient",), subject, given.edge_count(), tell, arrays)
+    problem = None if given.ends is None else OrientationProblem(len(given.vertices), given.ends)
+    result = partial(orientation_of, given)
+    return Target(problem, subject, ("orient",), result, partial(orientation_arrays, given))
 
 
-def orientation_of(given: GraphInput, answer: Answer, key: str | None, sample: int = 0) -> Orientation:
-    """The orientation of an answer, of a graph."""
-    arrows = arrows_of(answer, given)
-    used = dict(zip((arrow.edge for arrow in arrows), answer.numbers("used")))
-    return Orientation(arrows, used, answer.pops(), key, given.directed, sample)
+def tree_component(given: GraphInput) -> Sequence[int]:
+    """Return the vertices, from 1, of the first component that is a tree.
+
+    There are none if no component is a tree, or a vertex has no edges.
+    """
+    assert given.ends is not None
+    counts = degrees(len(given.vertices), given.ends)
+    # A tree has leaves. Most graphs have none, and aren't gone through further.
+    if 0 in counts or 1 not in counts:
+        return []
+    ends = given.ends.tolist()
+    return tree_part(len(given.vertices), [(tail + 1, head + 1) for tail, head in zip(ends[0::2], ends[1::2])])
+
+
+def orientation_of(
+    given: GraphInput, rows: Rows, row: int, key: Key | None, told: Mapping[str, Any] | None = None
+) -> Orientation:
+    """Return the orientation of a row, of a graph."""
+    return Orientation(rows, row, key, given, told)

@@ -5,11 +5,14 @@ from __future__ import annotations
 import numbers
 import operator
 import sys
-from collections.abc import Hashable, Iterator, Sequence
+from array import array
+from collections.abc import Hashable, Sequence
+from itertools import chain
 from typing import Any
 
 from .argument_errors import InputTypeError, NoWeightError
-from .results import Arrow, Edge
+from .graph_parts import GraphParts
+from .results import Arrow
 from .weights import attribute_name
 
 
@@ -17,44 +20,43 @@ class VertexNames(list[Hashable]):
     """The names of vertices, each of which may be asked for by its index too, as everywhere in igraph."""
 
     def index(self, vertex: Any, *bounds: Any) -> int:
-        """The index of a vertex, from 0, by its name or its index. Raises ValueError where there is none."""
+        """Return the index of a vertex, from 0, by its name or its index. Raises ValueError if there is none."""
         is_index = isinstance(vertex, numbers.Integral) and not isinstance(vertex, bool)
         number = operator.index(vertex) if is_index else -1
         return number if 0 <= number < len(self) else super().index(vertex, *bounds)
 
 
 def takes(graph: Any) -> bool:
-    """Whether it is a graph of igraph."""
+    """Return whether it is a graph of igraph."""
     library = sys.modules.get("igraph")
     return library is not None and isinstance(graph, library.Graph)
 
 
 def vertex_names(graph: Any) -> list[Hashable]:
-    """The names of the vertices, where each has a string of its own as `name`, else their indices, from 0."""
+    """Return the names of the vertices, if each has a string of its own as `name`, otherwise their indices, from 0."""
     names = graph.vs["name"] if "name" in graph.vs.attributes() else []
     if names and all(isinstance(name, str) for name in names) and len(set(names)) == len(names):
         return VertexNames(names)
     return list(range(graph.vcount()))
 
 
-def read(graph: Any, weight: str | None) -> tuple[list[Hashable], Iterator[Edge]]:
-    """The vertices, by their names or else by their indices, and the edges, by their indices, from 0.
+def read(graph: Any, weight: Any) -> GraphParts:
+    """Return the parts of a graph: vertices by their names or otherwise by their indices, and edges by their indices.
 
-    Raises InputTypeError where the graph is directed, NoWeightError, a KeyError, where its edges have no attribute
-    `weight`, and OptionError where that is no name.
+    Raises InputTypeError if the graph is directed, NoWeightError, a KeyError, if its edges have no attribute
+    `weight`, and OptionError if that is no name.
     """
     if graph.is_directed():
-        raise InputTypeError("the graph is directed: hand in graph.as_undirected()")
+        raise InputTypeError("The graph must be undirected: pass graph.as_undirected().")
     if attribute_name(weight) is not None and weight not in graph.es.attributes():
         raise NoWeightError(weight)
-    weights = [1] * graph.ecount() if weight is None else graph.es[weight]
-    names = vertex_names(graph)
-    ends = enumerate(graph.get_edgelist())
-    return names, ((names[first], names[second], weights[place], place) for place, (first, second) in ends)
+    ends = array("I", chain.from_iterable(graph.get_edgelist()))
+    weights = None if weight is None else graph.es[weight]
+    return GraphParts(vertex_names(graph), range(graph.ecount()), ends, weights)
 
 
 def directed(graph: Any, arrows: Sequence[Arrow]) -> Any:
-    """The arrows as a directed graph, with the attributes of the graph."""
+    """Return the arrows as a directed graph, with the attributes of the graph."""
     igraph = sys.modules["igraph"]
     numbers = {name: number for number, name in enumerate(vertex_names(graph))}
     edges = [(numbers[arrow.tail], numbers[arrow.head]) for arrow in arrows]

@@ -1,4 +1,4 @@
-"""What is sampled of something that was handed in: trees or orientations of a graph, or assignments of a formula."""
+"""What is sampled of something that was passed: trees or orientations of a graph, or assignments of a formula."""
 
 from __future__ import annotations
 
@@ -9,48 +9,51 @@ from typing import Any
 
 from .argument_errors import ArgumentError, OptionError
 from .formula_input import is_cnf, literal
+from .text_input import file_text
 
 KINDS = ("tree", "orientation", "assignment")
 ASKED = "say which by kind='tree', kind='orientation' or kind='assignment'"
 
 
 def kind_of(subject: Any, kind: str | None) -> str:
-    """What is sampled: what `kind` says, and where it is None, assignments of a formula and spanning trees of a graph.
+    """Return what is sampled.
 
-    A list of clauses is told from a list of edges by what it has in it: a negative number stands in clauses alone, and
-    what is no pair or triple, or has something else than numbers other than 0, in one of them alone. Raises OptionError
-    where `kind` is none, and ArgumentError where a list may be either.
+    That is what `kind` says. If it is None, a formula has assignments and a graph spanning trees.
+
+    A list of clauses is distinguished from a list of edges by what it has in it. Negative numbers are in clauses alone,
+    pairs and triples alone are edges, and names are in edges alone. Raises OptionError if `kind` is none, and
+    ArgumentError if a list may be either.
     """
     if kind is not None:
         if kind not in KINDS:
-            raise OptionError("kind", kind, f"it is one of {', '.join(KINDS)}")
+            raise OptionError("kind", kind, f"one of {', '.join(map(repr, KINDS))}")
         return kind
     if is_cnf(subject):
         return "assignment"
     if isinstance(subject, (str, os.PathLike)):
-        return kind_of_text(Path(subject).read_bytes())
+        return kind_of_text(file_text(Path(subject)))
     if isinstance(subject, (list, tuple)):
         return kind_of_list(subject)
     return "tree"
 
 
 def kind_of_text(text: bytes) -> str:
-    """That of a file, by the header of a formula; else it is of a graph, or of none."""
+    """Return that of a file, by the header of a formula; else it is of a graph, or of none."""
     headers = (line.split()[:2] for line in text.split(b"\n") if line.lstrip()[:1] == b"p")
     return "assignment" if next(headers, []) == [b"p", b"cnf"] else "tree"
 
 
 def kind_of_list(subject: Sequence[Any]) -> str:
-    """That of a list of clauses or of edges."""
+    """Return that of a list of clauses or of edges."""
     if not all(isinstance(item, (list, tuple)) and all(map(is_literal, item)) for item in subject):
         return "tree"
     if any(len(item) not in (2, 3) or any(part < 0 for part in item) for item in subject):
         return "assignment"
-    raise ArgumentError(f"a list of {len(subject)} pairs or triples of numbers may be of edges or of clauses: {ASKED}")
+    raise ArgumentError(f"A list of {len(subject)} pairs or triples of numbers may be of edges or of clauses: {ASKED}.")
 
 
 def is_literal(part: Any) -> bool:
-    """Whether something may be a literal."""
+    """Return whether something may be a literal."""
     try:
         return literal(part) != 0
     except (TypeError, ValueError):

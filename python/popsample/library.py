@@ -10,6 +10,7 @@ from pathlib import Path
 from typing import Any
 
 from .errors import NoLibraryError, OutOfMemoryError
+from .waiting import in_thread
 
 # Beside the module, as a wheel has it; where the system's loader finds it; and where a build in the checkout leaves it.
 BESIDE = Path(__file__).with_name("libpopsample.so")
@@ -18,7 +19,7 @@ BUILT = Path(__file__).resolve().parents[2] / "crates" / "popsample_c" / "out" /
 
 # What a call answers that the program doesn't: the output has too little room, and the words are none.
 NO_ROOM, NO_WORDS = 12, 13
-# Where the work on a longer text is, starting the program is nothing beside it, and the keyboard can stop that.
+# For a longer input the start of the program takes little beside the work, and a run of the program can be ended.
 LONGEST = 1 << 20
 # How many bytes there is room for at first, for each sample: so many, and so many for each byte of the text.
 ROOM, ROOM_FOR_BYTE = 1024, 4
@@ -28,7 +29,7 @@ PROCESS = os.getpid()
 
 @cache
 def loaded(place: str) -> Any:
-    """The library's function, or None where the library isn't there or can't be loaded."""
+    """Return the library's function, or None if the library isn't there or can't be loaded."""
     try:
         run = ctypes.CDLL(place).popsample_run
     except (OSError, AttributeError):
@@ -40,11 +41,24 @@ def loaded(place: str) -> Any:
 
 
 def find_library() -> str | None:
-    """The library: what POPSAMPLE_LIBRARY names, and else, where POPSAMPLE names no program, what was installed with
-    the module, what the system's loader finds, or what is built in the checkout. There is none where that variable is
-    empty, or nothing is found.
+    """Return the library that is called in this process.
 
-    Raises NoLibraryError where what the variable names can't be loaded.
+    It is what POPSAMPLE_LIBRARY names. If that isn't set, and POPSAMPLE names no program, it is the library that was
+    installed with the package, what the system's loader finds, or what is built in the checkout.
+
+    Returns
+    -------
+    str or None
+        The path or the name of the library; None if POPSAMPLE_LIBRARY is empty, or none is found.
+
+    Raises
+    ------
+    NoLibraryError
+        If what POPSAMPLE_LIBRARY names can't be loaded.
+
+    See Also
+    --------
+    find_program
     """
     named = os.environ.get("POPSAMPLE_LIBRARY")
     if named and not loaded(named):
@@ -57,8 +71,9 @@ def find_library() -> str | None:
 
 
 def takes(words: Sequence[str], text: bytes) -> bool:
-    """Whether the library may answer these words and this input, here: one worker does, the input is short, and the
-    module was imported by this process.
+    """Return whether the library may answer these words and this input, here.
+
+    One worker must do, the input must be short, and this process must have imported the module.
     """
     workers = words[words.index("--workers") + 1] if "--workers" in words else "1"
     is_plain = not any("\0" in word for word in words)
@@ -66,9 +81,16 @@ def takes(words: Sequence[str], text: bytes) -> bool:
 
 
 def answered(place: str, words: Sequence[str], text: bytes) -> tuple[int, bytes]:
-    """Has the library of this place answer these words and this input: the status of the program, and what it prints.
-    Other threads of Python go on meanwhile.
+    """Return the status of the program and what it prints, by a call of the library of this place.
+
+    Other threads of Python go on meanwhile, and so does the handling of signals: how long a run takes has little to do
+    with the length of its input.
     """
+    return in_thread(lambda: called(place, words, text))
+
+
+def called(place: str, words: Sequence[str], text: bytes) -> tuple[int, bytes]:
+    """Return the same, by a call in this thread."""
     run, line, written = loaded(place), b"".join(os.fsencode(word) + b"\0" for word in words), ctypes.c_size_t()
     samples = int(words[words.index("--count") + 1]) if "--count" in words else 1
     room = samples * (ROOM + ROOM_FOR_BYTE * len(text))

@@ -10,10 +10,10 @@ from __future__ import annotations
 from typing import Any
 
 from .argument_errors import NoWeightError, WeightError
-from .errors import NoProgramError
+from .engine import has_program
 from .graph_input import GraphInput, read_graph
 from .graphs import spanning_tree
-from .program import find_program
+from .library import find_library
 
 NAME = "popsample"
 FUNCTION = "random_spanning_tree"
@@ -21,42 +21,41 @@ KEY_BYTES = 32
 
 
 def can_run(name: str, args: tuple[Any, ...], kwargs: dict[str, Any]) -> bool | str:
-    """Whether a call of networkx can be answered here, or why it can't."""
+    """Return whether a call of networkx can be answered here, or why it can't."""
     if name != FUNCTION:
         return f"there is no {name} here"
     return refused(*bound(*args, **kwargs)) or True
 
 
 def should_run(name: str, args: tuple[Any, ...], kwargs: dict[str, Any]) -> bool | str:
-    """Whether a call that can be answered here and elsewhere is answered here: wherever the program is found."""
-    try:
-        find_program()
-    except NoProgramError as error:
-        return str(error)
-    return True
+    """Return whether a call that can be answered here and elsewhere is answered here, or why not.
+
+    The library or the program must be found.
+    """
+    return True if find_library() or has_program() else "neither the library nor the program of popsample is found"
 
 
 def convert_from_nx(graph: Any, **asked: Any) -> Any:
-    """The graph itself: it is read at each call, so that whatever was changed in it since is seen."""
+    """Return the graph itself: it is read at each call, so that whatever was changed in it since is seen."""
     return graph
 
 
 def convert_to_nx(result: Any, **asked: Any) -> Any:
-    """The result itself, which is a graph of networkx."""
+    """Return the result itself, which is a graph of networkx."""
     return result
 
 
 def random_spanning_tree(
     G: Any, weight: Any = None, *, multiplicative: bool = True, seed: Any = None, **named: Any
 ) -> Any:
-    """Samples a spanning tree, of which the probability is the product of its edges' weights over the sum of all.
+    """Sample a spanning tree, of which the probability is the product of its edges' weights over the sum of all.
 
     The arguments, and the graph that comes back, are those of the function of networkx of this name: the edges of the
     tree, without attributes. The seed may be all that networkx takes, and 32 bytes of it are the key of the run.
 
-    Raises NotImplementedError where `multiplicative` is False, where the graph is directed, and where weights can't be
-    scaled to whole numbers, of which the cause has the edge; NoWeightError, a KeyError, where an edge has no weight;
-    and what `spanning_tree` raises, as CutOffError where the graph isn't connected.
+    Raises NotImplementedError if `multiplicative` is False, if the graph is directed, and if weights can't be
+    scaled to whole numbers, of which the cause has the edge; NoWeightError, a KeyError, if an edge has no weight;
+    and what `spanning_tree` raises, as CutOffError if the graph isn't connected.
     """
     import networkx
 
@@ -69,14 +68,14 @@ def random_spanning_tree(
         # What is refused here leaves the seed as it was, for networkx to go on with.
         given = weighted_input(G, weight)
         key = drawn_key(networkx.utils.create_py_random_state(seed))
-        tree.add_edges_from((arrow.tail, arrow.head) for arrow in spanning_tree(given, key=key).arrows)
+        tree.add_edges_from(spanning_tree(given, key=key).parents.items())
     return tree
 
 
 def weighted_input(graph: Any, weight: Any) -> GraphInput:
-    """The graph as it is sampled.
+    """Return the graph as it is sampled.
 
-    Raises NoWeightError, a KeyError, where an edge has no weight, and NotImplementedError where the weights can't be
+    Raises NoWeightError, a KeyError, if an edge has no weight, and NotImplementedError if the weights can't be
     scaled to whole numbers.
     """
     for *edge, attributes in graph.edges(data=True) if weight is not None else ():
@@ -89,12 +88,12 @@ def weighted_input(graph: Any, weight: Any) -> GraphInput:
 
 
 def bound(G: Any, weight: Any = None, *, multiplicative: bool = True, **named: Any) -> tuple[Any, bool]:
-    """What a refusal is about, of the arguments of a call."""
+    """Return what a refusal is about, of the arguments of a call."""
     return G, multiplicative
 
 
 def refused(graph: Any, multiplicative: bool) -> str:
-    """Why a call can't be answered; empty where it can."""
+    """Return why a call can't be answered; empty if it can."""
     if not multiplicative:
         return "popsample samples by the product of weights, and not by their sum: multiplicative=False is refused"
     if graph.is_directed():
@@ -103,13 +102,14 @@ def refused(graph: Any, multiplicative: bool) -> str:
 
 
 def drawn_key(random: Any) -> str:
-    """A key of 32 bytes drawn from a generator that networkx made of a seed."""
+    """Return a key of 32 bytes drawn from a generator that networkx made of a seed."""
     return bytes(int(random.randrange(256)) for _ in range(KEY_BYTES)).hex()
 
 
 def forget(graph: Any) -> None:
-    """Takes the graph out of the cache of converted graphs that networkx keeps at it: there is nothing converted, and
-    networkx would warn of what is cached.
+    """Take the graph out of the cache of converted graphs that networkx keeps at it.
+
+    There is nothing converted, and networkx would warn of what is cached.
     """
     cache = getattr(graph, "__networkx_cache__", None)
     if cache:

@@ -3,54 +3,61 @@
 from __future__ import annotations
 
 import sys
-from collections.abc import Hashable, Iterator, Sequence
+from collections.abc import Iterator, Sequence
 from typing import Any
 
 from .argument_errors import InputTypeError
+from .flat_numbers import numbers_of
+from .graph_parts import GraphParts, parts_of
 from .results import Arrow, Edge
-from .weights import attribute_weights
+from .weights import attribute_name, attribute_weights
 
 
 def takes(graph: Any) -> bool:
-    """Whether it is a graph of networkx."""
+    """Return whether it is a graph of networkx."""
     library = sys.modules.get("networkx")
     return library is not None and isinstance(graph, library.Graph)
 
 
-def read(graph: Any, weight: str | None) -> tuple[list[Hashable], list[Edge]]:
-    """The vertices and the edges. An edge's name is the pair of its ends, or the triple with its key.
+def read(graph: Any, weight: Any) -> GraphParts:
+    """Return the parts of a graph. An edge's name is the pair of its ends, or the triple with its key.
 
-    An edge without the attribute `weight` has the weight 1, as elsewhere in networkx, where others have it. Raises
-    NoWeightError, a KeyError, where no edge has it, and InputTypeError where the graph is directed.
+    An edge without the attribute `weight` has the weight 1, as elsewhere in networkx, if others have it. Raises
+    NoWeightError, a KeyError, if no edge has it, and InputTypeError if the graph is directed.
     """
     if graph.is_directed():
-        raise InputTypeError("the graph is directed: hand in graph.to_undirected()")
-    return list(graph.nodes), attribute_weights(read_edges(graph), weight)
+        raise InputTypeError("The graph must be undirected: pass graph.to_undirected().")
+    vertices = list(graph.nodes)
+    if attribute_name(weight) is None:
+        names = list(graph.edges(keys=True)) if graph.is_multigraph() else list(graph.edges)
+        pairs = [edge[:2] for edge in names] if graph.is_multigraph() else names
+        return GraphParts(vertices, names, numbers_of(pairs, vertices), None)
+    return parts_of(vertices, attribute_weights(read_edges(graph), weight))
 
 
 def read_edges(graph: Any) -> Iterator[Edge]:
-    """The edges in the graph's order: two ends, the attributes in the weight's place, and a name."""
+    """Return the edges in the graph's order: two ends, the attributes in the weight's place, and a name."""
     named = {"keys": True} if graph.is_multigraph() else {}
     for *edge, attributes in graph.edges(data=True, **named):
         yield edge[0], edge[1], attributes, tuple(edge)
 
 
 def viewed_edges(view: Any) -> list[tuple[Any, ...]]:
-    """The edges of a view of them, as `graph.edges` is: two ends, and the attributes.
+    """Return the edges of a view of them, as `graph.edges` is: two ends, and the attributes.
 
-    Raises InputTypeError where it is another view, as one of vertices or of the edges of a directed graph.
+    Raises InputTypeError if it is another view, as one of vertices or of the edges of a directed graph.
     """
     kinds = sys.modules.get("networkx.classes.reportviews")
     if kinds is None or not isinstance(view, (kinds.EdgeView, kinds.MultiEdgeView)):
         raise InputTypeError(
-            f"what is handed in, {type(view).__name__}, is no view of the edges of an undirected graph: hand in the "
-            "graph itself"
+            f"what is handed in, {type(view).__name__}, is no view of the edges of an undirected graph: pass the graph "
+            "itself"
         )
     return [(*edge[:2], view[edge]) for edge in view]
 
 
 def directed(graph: Any, arrows: Sequence[Arrow]) -> Any:
-    """The arrows as a DiGraph, or as a MultiDiGraph of a multigraph, with the attributes of the graph."""
+    """Return the arrows as a DiGraph, or as a MultiDiGraph of a multigraph, with the attributes of the graph."""
     networkx = sys.modules["networkx"]
     made = networkx.MultiDiGraph() if graph.is_multigraph() else networkx.DiGraph()
     made.graph.update(graph.graph)

@@ -1,4 +1,4 @@
-"""What a refusal of the program means, and what to do: the lines for standard error."""
+"""What an error of the program means, and what to do: the lines for standard error."""
 
 from __future__ import annotations
 
@@ -16,15 +16,14 @@ NUMBERED = re.compile(rb"([0-9]+)\n(?=s )")
 
 
 def subject_of(command: str, text: bytes) -> Subject:
-    """What the numbers in an answer stand for: in a text as it is handed in, these numbers themselves."""
+    """Return what the numbers in an answer mean: for the input as it is, these numbers themselves."""
     return read_certificate(text, None, None).subject if command in ("replay", "resume") else Subject(text)
 
 
 def refusal_told(words: Sequence[str], text: bytes, status: int, telling: bytes) -> list[str]:
-    """The lines that tell what an answer of this status means, and what to do; none where it refuses nothing.
+    """Return the lines that say what an answer of this status means, and what to do; none if it is no error.
 
-    `telling` is what tells it: the output, and of a batch in which a sample is exhausted the first such, from its
-    number on.
+    `telling` is the output or, if a sample of a batch is exhausted, the first such sample, from its number on.
     """
     if status == 0 or telling.startswith(b"s LEGAL "):
         return []

@@ -1,17 +1,17 @@
-"""From an answer of the program to the exception that tells it."""
+"""From an answer of the program, or of a call of the library, to the exception for it."""
 
 from __future__ import annotations
 
-from collections.abc import Callable, Generator, Iterable, Iterator, Sequence
+from collections.abc import Callable, Sequence
 from typing import Any
 
 from . import errors
-from .answer import Answer, read_answer, read_sample, sample_texts
+from .answer import Answer, read_answer
 from .arguments import checked_timeout
 from .errors import Refusal
+from .refused import CallRefusedError, TextRefusedError
 from .history import read_log
 from .program import printed
-from .stream import Stream
 from .subject import Subject
 
 Numbers = list[int]
@@ -41,19 +41,65 @@ REFUSALS: dict[str, Callable[[Numbers, Answer, Subject], Refusal]] = {
 }
 
 
+# What follows the sentence of a limit of weights in Python.
+ADVICE = " With weight_bits=, weights are rounded so that they fit."
+
+# For each kind of refusal of a call of the library, what it is raised as; places count from 0.
+CALL_REFUSALS: dict[int, Callable[[int, Subject], Exception]] = {
+    1: lambda place, _: errors.LimitError(2, 4194305, "vertex"),
+    3: lambda place, _: errors.LimitError(5, 8388609, "edge"),
+    7: lambda place, subject: errors.RootError(place if subject.root is None else subject.root),
+    8: lambda place, subject: errors.CutOffError(subject.vertex(place + 1)),
+    9: lambda place, subject: errors.LimitError(6, subject.vertex(place + 1), advice=ADVICE),
+    10: lambda place, subject: errors.IsolatedError(subject.vertex(place + 1)),
+    11: lambda place, _: errors.LimitError(2, 4194305, "variable"),
+    12: lambda place, _: errors.LimitError(4, 33554433, "literal"),
+    15: lambda place, _: errors.EmptyClauseError(place),
+    16: lambda place, subject: clash([place >> 32, place & 0xFFFFFFFF], subject),
+}
+
+
+def call_refusal(kind: int, place: int, subject: Subject) -> Exception:
+    """Return the exception for a refusal of a call of the library."""
+    if kind in CALL_REFUSALS:
+        return CALL_REFUSALS[kind](place, subject)
+    return errors.NoAnswerError(2, f"refusal {kind} at {place}")
+
+
+def told_refusal(refused: CallRefusedError | TextRefusedError, subject: Subject, key: str | None) -> Exception:
+    """Return the exception for what was answered in place of a sample, by the names of the subject."""
+    if isinstance(refused, TextRefusedError):
+        return advised(under_key(refused.words, (refused.status, refused.text), subject, key))
+    raised = call_refusal(refused.kind, refused.place, subject)
+    if isinstance(raised, Refusal):
+        raised.key = key
+    return raised
+
+
+def advised(raised: Exception) -> Exception:
+    """Return the exception, with what to do in Python about weights that are too large."""
+    if isinstance(raised, errors.LimitError) and raised.kind == 6:
+        told = errors.LimitError(6, raised.place, advice=ADVICE)
+        told.key = raised.key
+        return told
+    return raised
+
+
 def word_at(answer: Answer, place: int) -> str | None:
-    """The word at a place, from 1; none behind the last one."""
+    """Return the word at a place, from 1; none after the last one."""
     return answer.words[place - 1] if place <= len(answer.words) else None
 
 
 def malformed(line: int, code: int, subject: Subject) -> Refusal:
-    """The line that can't stand where it stands."""
+    """Return the line that is invalid."""
     return errors.MalformedError(line, code, subject.line(line, code), subject.part(code)[0])
 
 
 def limit(numbers: Numbers, subject: Subject) -> Refusal:
-    """The limit that is passed: of kind 6 at a vertex, of the kinds 7 and 8 by a certificate, of kind 9 by the samples
-    of a batch, else at a line.
+    """Return the limit that is exceeded.
+
+    Of kind 6 it is so at a vertex, of the kinds 7 and 8 by a certificate, of kind 9 by the samples of a batch, and
+    otherwise at a line.
     """
     kind, place = numbers
     if kind == 9:
@@ -64,13 +110,13 @@ def limit(numbers: Numbers, subject: Subject) -> Refusal:
 
 
 def clash(numbers: Numbers, subject: Subject) -> Refusal:
-    """The two clauses that clash, with their literals."""
+    """Return the two clauses that clash, with their literals."""
     first, second = numbers
     return errors.ClashError(first, second, (subject.clause(first), subject.clause(second)))
 
 
 def stuck_events(answer: Answer, subject: Subject) -> list[Any]:
-    """What stands behind each `stuck`: the number of a clause, a vertex, or the vertices of a cycle."""
+    """Return what follows each `stuck`: the number of a clause, a vertex, or the vertices of a cycle."""
     rows = [[int(word) for word in row] for row in answer.rows("stuck")]
     command = subject.command_of(answer.words)
     if command == "orient":
@@ -81,7 +127,7 @@ def stuck_events(answer: Answer, subject: Subject) -> list[Any]:
 
 
 def exhausted(answer: Answer, subject: Subject) -> errors.ExhaustedError:
-    """The end of a run that came to the end of a stack."""
+    """Return the end of a run that came to the end of a stack."""
     stuck = stuck_events(answer, subject)
     command = subject.command_of(answer.words)
     if command == "tree":
@@ -93,7 +139,7 @@ def exhausted(answer: Answer, subject: Subject) -> errors.ExhaustedError:
 
 
 def refusal(answer: Answer, subject: Subject) -> Exception:
-    """The exception that tells an answer without a sample."""
+    """Return the exception for an answer without a sample."""
     first = answer.row("s")
     if answer.status == errors.WriteError.status:
         return errors.WriteError()
@@ -109,7 +155,7 @@ def refusal(answer: Answer, subject: Subject) -> Exception:
 
 
 def under_key(words: Sequence[str], told: Told, subject: Subject, key: str | None) -> Exception:
-    """The same of a status and a printed text, with the key of the call. Of a certificate no line is read."""
+    """Return the same of a status and a printed text, with the key of the call. Of a certificate no line is read."""
     status, text = told
     is_certificate = status == errors.Paused.status and text.startswith(b"cert ")
     raised = errors.Paused(text) if is_certificate else refusal(read_answer(words, status, text), subject)
@@ -119,55 +165,25 @@ def under_key(words: Sequence[str], told: Told, subject: Subject, key: str | Non
 
 
 def ask(words: list[str], subject: Subject, key: str | None = None, timeout: float | None = None) -> Answer:
-    """The program's answer with status 0; any other is raised, with the key of the call."""
+    """Return the program's answer with status 0; any other is raised, with the key of the call."""
     status, text = printed(words, subject.given, checked_timeout(timeout))
     if status == 0:
-        return read_answer(words, status, text)
-    raise under_key(words, (status, text), subject, key)
+        return checked_answer(words, text)
+    raise advised(under_key(words, (status, text), subject, key))
+
+
+def checked_answer(words: Sequence[str], text: bytes) -> Answer:
+    """Return the answer with status 0 that a text is. Raise NoAnswerError if it is none."""
+    answer = read_answer(words, 0, text)
+    if not answer.row("s"):
+        raise errors.NoAnswerError(0, text[:40].decode("utf-8", "replace"))
+    return answer
 
 
 def ask_replay(subject: Subject, key: str | None, timeout: float | None = None) -> Answer:
-    """The program's answer that the log of a certificate is legal, with status 0, 1 or 10; any other is raised."""
+    """Return the answer that the log of a certificate is legal; any other is raised."""
     words = ["replay"]
     status, text = printed(words, subject.given, checked_timeout(timeout))
     if status in (0, 1, errors.Paused.status) and text.startswith(b"s LEGAL "):
         return read_answer(words, status, text)
     raise under_key(words, (status, text), subject, key)
-
-
-def stream_batch(
-    words: Sequence[str], subject: Subject, key: str, timeout: float | None
-) -> Generator[bytes, None, None]:
-    """The texts of the samples of a batch, as the program prints them; a refusal is raised."""
-    stream = Stream(words, subject.text, timeout)
-    try:
-        yield from batch_samples(words, stream.chunks(), stream.status, subject, key)
-    finally:
-        stream.end()
-
-
-def batch_samples(
-    words: Sequence[str], chunks: Iterable[bytes], status: Callable[[], int], subject: Subject, key: str
-) -> Iterator[bytes]:
-    """The texts of the samples in what the program prints of a batch. The last one is told when its status is known,
-    and where that is none of a batch, this is raised.
-    """
-    head: bytes | None = None
-    for text, is_last in sample_texts(chunks):
-        first = text if head is None else head
-        ended = status() if is_last else 0
-        if ended not in (0, 1) or not first.startswith(b"batch "):
-            raise under_key(words, (ended, first), subject, key)
-        if head is not None:
-            yield text
-        head = first
-
-
-def sample_answer(words: Sequence[str], text: bytes, subject: Subject, key: str, number: int) -> Answer:
-    """The answer of a sample of a batch. Raises ExhaustedError where its run was."""
-    answer = read_sample(words, text)
-    if answer.status == 0:
-        return answer
-    raised = exhausted(answer, subject)
-    raised.key, raised.sample = key, number
-    raise raised

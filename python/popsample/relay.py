@@ -1,13 +1,14 @@
-"""A run of the program whose output is passed on as it comes, and what of it tells what it means."""
+"""A run of the program whose output is passed on as it comes, and the part of it that says what it means."""
 
 from __future__ import annotations
 
 from collections.abc import Callable, Iterator, Sequence
 
 from .answer import sample_texts
+from .ended_by_signal import check_signals, signals_held
 from .stream import Stream, comes_within
 
-# After so many seconds without output it is told that the run goes on.
+# After so many seconds without output it is shown that the run goes on.
 TICK = 0.5
 
 Write = Callable[[bytes], None]
@@ -16,12 +17,13 @@ Come = Callable[[int], None]
 
 
 def relay(words: Sequence[str], text: bytes, write: Write, come: Come) -> tuple[int, bytes]:
-    """Runs the program with these words and this input, writes what it prints, and gives back the status and what of
-    the output tells what it means.
+    """Run the program with these arguments and this input, and write what it prints.
 
-    Raises NoProgramError where there is no program, OSError where it can't be run, and what `write` raises.
+    Return the status, and the part of the output that says what it means. Raises NoProgramError if there is no program,
+    OSError if it cannot be run, and what `write` raises.
     """
-    stream = Stream(words, text, None)
+    with signals_held():
+        stream = Stream(words, text, None)
     try:
         telling = telling_part(sample_texts(passed_on(stream, write, come)), come)
         return stream.status(), telling
@@ -30,8 +32,9 @@ def relay(words: Sequence[str], text: bytes, write: Write, come: Come) -> tuple[
 
 
 def passed_on(stream: Stream, write: Write, come: Come) -> Iterator[bytes]:
-    """What the program prints, piece by piece, each of which was written. `come` is called while nothing comes."""
+    """Yield what the program prints, piece by piece, after it was written. `come` is called while nothing comes."""
     while True:
+        check_signals()
         if not comes_within(stream.output, TICK):
             come(0)
             continue
@@ -43,8 +46,10 @@ def passed_on(stream: Stream, write: Write, come: Come) -> Iterator[bytes]:
 
 
 def telling_part(parts: Iterator[tuple[bytes, bool]], come: Come) -> bytes:
-    """What tells what an output means, of which these are the parts, as of `sample_texts`: of a batch the first sample
-    that is exhausted, from its number on, or nothing; and else the whole output.
+    """Return the part that says what an output means, of the parts that `sample_texts` yields.
+
+    For a batch this is the first sample that is exhausted, from its number on, or nothing. Otherwise it is the whole
+    output.
     """
     head, _ = next(parts)
     found = b""

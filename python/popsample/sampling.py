@@ -1,99 +1,131 @@
-"""Samples of anything, as many as are wanted, shared out by whatever runs calls."""
+"""Samples of anything, as many as are wanted."""
 
 from __future__ import annotations
 
-from collections.abc import Hashable, Iterable, Iterator
+from collections.abc import Hashable, Iterator
 from typing import Any
 
 from .argument_errors import OptionError
-from .arguments import Source, checked_timeout, whole
-from .batches import Executor, Task, tasks_of
-from .formula_input import sampled_formula
+from .formula_input import Method, sampled_formula
 from .formulas import assignment_target
 from .graph_input import read_graph
 from .graphs import orientation_target, tree_target
+from .keys import KeyLike, SeedLike
 from .kinds import kind_of
-from .progress import Progress, progress_of
-from .runs import Runs, SharedOut, Streamed
-from .samples import Samples
+from .progress import Progress
+from .sample_iterator import Executor, OnExhausted, Samples
+from .series import series
 from .target import Target
 
 
 def samples(
     subject: Any,
     count: int | None = None,
-    key: str | None = None,
+    key: KeyLike | None = None,
     executor: Executor | None = None,
     progress: bool | Progress | None = None,
     *,
     kind: str | None = None,
     root: Hashable = None,
-    weight: str | None = None,
+    weight: Any = None,
+    weight_bits: int | None = None,
     variables: int | None = None,
-    seed: int | None = None,
+    method: Method | None = None,
+    seed: SeedLike | None = None,
+    first: int = 0,
     height: int | None = None,
     timeout: float | None = None,
     ahead: int | None = None,
+    on_exhausted: OnExhausted = "raise",
 ) -> Samples[Any, Any]:
-    """Samples of a graph or of an extremal formula: so many, or without end where `count` is None.
+    """Draw many samples of a graph or of a formula, optionally in parallel through an executor.
 
-    `subject` is a graph as of `spanning_tree`, or a formula as of `sample_formula`. `kind` says what is sampled:
-    `tree`, `orientation` or `assignment`. Where it is None, it is assignments of a formula and trees of a graph; a list
-    that may be of clauses as well as of edges, as `[[1, 2], [2, 3]]`, is refused then. `root` and `weight` are of
-    trees, and `variables` of assignments.
+    Sample I under a key is the same through every door: it is that of the function for one sample with ``sample=I``,
+    and doesn't depend on the executor, the number of threads or processes, or the order in which they end.
 
-    The samples are made in batches, each by a run of the program on all processors. Where a sample has V variables, a
-    batch has 1048576 // V samples, but at least 1 and at most 1024. Batch N, from 0, has a key of its own, which
-    `batch_key` makes: the HMAC-SHA-256, under the 32 bytes of the key, of the text `popsample batch N`, with N in
-    decimal digits. So the samples are those of the key (or of the `seed`, or of a key that is drawn, which the result
-    has), whatever runs the batches, and a longer series begins with a shorter one. A sample has its batch's key, and
-    its number there, as `key` and `sample`: the function for many samples by one run gives it again.
+    Parameters
+    ----------
+    subject : GraphLike or Formula
+        A graph, as of `spanning_tree`, or a formula, as of `solution`.
+    count : int, optional
+        How many samples. Default: they don't end.
+    key : str or bytes, optional
+        64 hexadecimal digits or 32 bytes. Default: a random key, which the result has.
+    executor : concurrent.futures.Executor, optional
+        What makes samples side by side: threads, processes, joblib's loky, ``client.get_executor()`` of
+        dask.distributed, or mpi4py.futures. Default: they are made in this thread.
+    progress : bool or callable, optional
+        What is called with the number of samples so far and of all; a class such as ``tqdm.tqdm``; or True for a bar
+        of tqdm, if that is installed.
+    kind : {"tree", "orientation", "assignment"}, optional
+        What is sampled. Default: assignments of a formula, and trees of a graph. A list that may be of clauses or of
+        edges needs it.
+    root, weight, weight_bits : object
+        Of trees, as of `spanning_tree`.
+    variables, method : object
+        Of assignments, as of `solution`.
+    seed : int, bytes or generator, optional
+        What makes the key, as of `spanning_tree`.
+    first : int
+        The number of the first sample under the key.
+    height : int, optional
+        How many random values each variable has. Default: 1048576.
+    timeout : float, optional
+        The greatest number of seconds that one call waits: for the next sample, or for the next part of the arrays.
+        Then `RunTimeoutError` is raised.
+    ahead : int, optional
+        How many parts are submitted to the executor and not yet read, which bounds the memory. Default: twice the
+        number of this machine's processors.
+    on_exhausted : {"raise", "skip", "yield"}
+        What is done with a sample whose run was exhausted: raise `ExhaustedError` in its place (the next call goes on
+        after it), leave it out, or yield the exception. Leaving out doesn't change the probabilities of the others.
 
-    `executor` is what runs batches side by side: any `concurrent.futures.Executor`, of threads or processes, of loky,
-    dask.distributed (`client.get_executor()`) or mpi4py.futures; the program must be there where they run. No more than
-    `ahead` batches are handed in and not told, which bounds the memory; of None that is twice the number of this
-    machine's processors. Without an executor each batch is read as the program prints it, sample by sample.
+    Returns
+    -------
+    Samples
+        An iterator, with ``arrays()`` for all samples as arrays of numpy.
 
-    `progress` is called with the number of samples that were handed out and with `count`, behind each; True shows a bar
-    of tqdm, where that is installed. `timeout` is for each batch: after so many seconds the program is ended, and
-    `RunTimeoutError` raised.
+    Raises
+    ------
+    ArgumentError
+        If an argument can't be taken. What the program or the library rejects is raised with the first sample.
 
-    The result is an iterator, with `len` where there is a count, and its `arrays()` are all samples as arrays of numpy.
-    Where the run of a sample is exhausted, `ExhaustedError` is raised in its place, and the next call goes on behind.
-    What the program refuses is raised when the first sample is asked for.
+    See Also
+    --------
+    spanning_trees, sink_free_orientations, solutions
+
+    Examples
+    --------
+    >>> import popsample
+    >>> from concurrent.futures import ThreadPoolExecutor
+    >>> circle = [("a", "b"), ("b", "c"), ("c", "a")]
+    >>> with ThreadPoolExecutor(2) as threads:
+    ...     shared = list(popsample.samples(circle, 300, seed=42, executor=threads))
+    >>> shared == list(popsample.samples(circle, 300, seed=42))
+    True
     """
-    if count is not None:
-        count = whole("count", count, 1)
-    if ahead is not None:
-        whole("ahead", ahead, 1)
-    used, _ = Source(key, seed, height).words()
-    assert used is not None
     given = list(subject) if isinstance(subject, Iterator) else subject
-    target = target_of(given, kind_of(given, kind), root, weight, variables)
-    tasks = tasks_of(target, used, count, height, checked_timeout(timeout))
-    return Samples(target, used, count, runs_of(target, tasks, executor, ahead), progress_of(progress, count))
+    options = {
+        "root": root, "weight": weight, "weight_bits": weight_bits, "variables": variables, "method": method
+    }  # fmt: skip
+    target = target_of(given, kind_of(given, kind), options)
+    return series(target, count, key, seed, first, height, timeout, executor, ahead, progress, on_exhausted)
 
 
-def runs_of(target: Target[Any, Any], tasks: Iterable[Task], executor: Executor | None, ahead: int | None) -> Runs:
-    """The runs of these batches, in this process where there is no executor."""
-    if executor is None:
-        return Streamed(target, tasks)
-    if isinstance(executor, type) or not callable(getattr(executor, "submit", None)):
-        raise OptionError("executor", executor, "it is a concurrent.futures.Executor")
-    return SharedOut(target, tasks, executor, ahead)
+WANTED: dict[str, tuple[str, ...]] = {
+    "tree": ("root", "weight", "weight_bits"),
+    "orientation": (),
+    "assignment": ("variables", "method"),
+}
 
 
-def target_of(
-    subject: Any, kind: str, root: Hashable, weight: str | None, variables: int | None
-) -> Target[Any, Any]:
-    """What is sampled of this kind. Raises OptionError where it has an argument of another kind."""
-    given = {"root": root, "weight": weight, "variables": variables}
-    wanted = {"tree": ("root", "weight"), "orientation": (), "assignment": ("variables",)}[kind]
-    for argument, value in given.items():
-        if value is not None and argument not in wanted:
-            raise OptionError(argument, value, f"samples of the kind {kind!r} have no such argument")
+def target_of(subject: Any, kind: str, options: dict[str, Any]) -> Target[Any, Any]:
+    """Return what is sampled of this kind. Raises OptionError if it has an argument of another kind."""
+    for argument, value in options.items():
+        if value is not None and argument not in WANTED[kind]:
+            raise OptionError(argument, value, f"left out for samples of the kind {kind!r}")
     if kind == "tree":
-        return tree_target(read_graph(subject, weight), root)
+        return tree_target(read_graph(subject, options["weight"], options["weight_bits"]), options["root"])
     if kind == "orientation":
         return orientation_target(read_graph(subject))
-    return assignment_target(sampled_formula(subject, variables))
+    return assignment_target(sampled_formula(subject, options["variables"]), options["method"] or "rounds")

@@ -11,31 +11,41 @@ from collections.abc import Callable
 from pathlib import Path
 
 from .errors import ReadError
+from .standard_streams import closed
 
-# So many bytes are read, one more than the longest input has: what is as long is refused, whatever follows.
+# So many bytes are read, one more than the longest input has: an input of this length is refused, whatever follows.
 MOST = 536870912 + 1
 PIECE = 1 << 20
 GZIP = b"\x1f\x8b"
 
 
 def read_text(path: str | None) -> bytes:
-    """The text of a file, or of standard input where there is no path: unpacked, where its first bytes say that gzip
-    packed it, and without a byte-order mark. Raises ReadError, whose cause says why.
+    """Return the contents of a file, or of standard input if there is no path.
+
+    They have no byte-order mark, and are decompressed if their first bytes say that gzip compressed them. Raises
+    ReadError, whose cause says why.
     """
     try:
-        return plain(bounded(sys.stdin.buffer.read) if path is None else file_bytes(Path(path)))
+        return plain(input_bytes() if path is None else file_bytes(Path(path)))
     except (OSError, EOFError, zlib.error) as error:
         raise ReadError() from error
 
 
+def input_bytes() -> bytes:
+    """Return the bytes of standard input, up to as many as are read."""
+    if sys.stdin is None:
+        raise closed("standard input")
+    return bounded(sys.stdin.buffer.read)
+
+
 def file_bytes(path: Path) -> bytes:
-    """The bytes of a file, up to as many as are read."""
+    """Return the bytes of a file, up to as many as are read."""
     with path.open("rb") as file:
         return bounded(file.read)
 
 
 def plain(given: bytes) -> bytes:
-    """The bytes of a text, unpacked and without a byte-order mark."""
+    """Return the bytes of an input, decompressed and without a byte-order mark."""
     if given.startswith(GZIP):
         with gzip.open(io.BytesIO(given)) as packed:
             given = bounded(packed.read)
@@ -43,9 +53,9 @@ def plain(given: bytes) -> bytes:
 
 
 def bounded(read: Callable[[int], bytes]) -> bytes:
-    """What can be read, up to as many bytes as are read.
+    """Return what can be read, up to as many bytes as are read.
 
-    It ends at the first piece that is shorter than asked for, since at a terminal the end is told once.
+    It ends at the first piece that is shorter than asked for, since a terminal reports its end once.
     """
     text = bytearray()
     is_more = True
@@ -58,5 +68,5 @@ def bounded(read: Callable[[int], bytes]) -> bytes:
 
 
 def reason_of(error: BaseException | None) -> str:
-    """Why something can't be read or written, in words."""
+    """Return why something cannot be read or written, in words."""
     return error.strerror if isinstance(error, OSError) and error.strerror else str(error)

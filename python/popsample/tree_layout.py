@@ -1,4 +1,4 @@
-"""Where the vertices of a rooted tree stand in a picture."""
+"""Where the vertices of a rooted tree are in a picture."""
 
 from __future__ import annotations
 
@@ -8,8 +8,10 @@ Place = tuple[float, float]
 
 
 def tree_layout(root: Hashable, parents: Mapping[Hashable, Hashable]) -> dict[Hashable, Place]:
-    """A place for each vertex: its height is the negative of its distance to the root, leaves stand side by side at
-    whole numbers from 0 on, and every other vertex stands in the middle above its first and last child.
+    """Return a place for each vertex.
+
+    Its height is the negative of its distance to the root. Leaves are side by side at whole numbers from 0 on, and
+    every other vertex is in the middle above its first and last child.
     """
     children: dict[Hashable, list[Hashable]] = {}
     for child, parent in parents.items():
@@ -23,7 +25,7 @@ def tree_layout(root: Hashable, parents: Mapping[Hashable, Hashable]) -> dict[Ha
 
 
 def preorder(root: Hashable, children: Mapping[Hashable, list[Hashable]]) -> list[Hashable]:
-    """The vertices, each before its children, and all below one child before the next child."""
+    """Return the vertices, each before its children, and all below one child before the next child."""
     order, ahead = [], [root]
     while ahead:
         vertex = ahead.pop()
@@ -33,7 +35,7 @@ def preorder(root: Hashable, children: Mapping[Hashable, list[Hashable]]) -> lis
 
 
 def columns(order: list[Hashable], children: Mapping[Hashable, list[Hashable]]) -> dict[Hashable, float]:
-    """How far to the right each vertex stands, where this is the preorder."""
+    """Return how far to the right each vertex is, if this is the preorder."""
     leaves = [vertex for vertex in order if vertex not in children]
     across = {vertex: float(place) for place, vertex in enumerate(leaves)}
     for vertex in reversed(order):

@@ -9,8 +9,9 @@ FILE = Path(__file__).resolve().parents[2] / "VERSION"
 
 
 def version() -> str:
-    """The version: that of the checkout that the module stands in, else that of the installed package, and `unknown`
-    where there is neither.
+    """Return the version.
+
+    It is that of the checkout that the module is in, or of the installed package, and `unknown` if there is neither.
     """
     from importlib import metadata
 

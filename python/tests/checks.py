@@ -106,3 +106,18 @@ class Refusing(unittest.TestCase):
         with self.assertRaises(kind) as caught:
             call(*words, **named)
         return caught.exception
+
+
+def extremal_solution(clauses, key=None, **named):
+    """An assignment of an extremal formula, by popping."""
+    return popsample.solution(clauses, "extremal", key, **named)
+
+
+def extremal_solutions(clauses, count, key=None, **named):
+    """Assignments of an extremal formula, by popping."""
+    return popsample.solutions(clauses, count, "extremal", key, **named)
+
+
+def rounds_solution(clauses, key=None, **named):
+    """An assignment of any formula, by rounds."""
+    return popsample.solution(clauses, "rounds", key, **named)

@@ -6,6 +6,7 @@ import io
 import os
 import pty
 import re
+import signal
 import subprocess
 import sys
 import tempfile
@@ -49,11 +50,18 @@ def called(*words: str | Path, given: bytes = b"", **changed: str) -> Ended:
         return Ended(status, written.read(), shown.read().decode())
 
 
+def heed_signals() -> None:
+    """Do on a signal what the system does. Whoever runs the tests may ignore some, and so would what they start."""
+    for number in (signal.SIGINT, signal.SIGHUP, signal.SIGTERM, signal.SIGQUIT):
+        signal.signal(number, signal.SIG_DFL)
+
+
 @contextmanager
 def running(*words: str | Path, **streams: Any) -> Iterator[subprocess.Popen[bytes]]:
-    """A process of the front end, with pipes where no other streams are named."""
+    """A process of the front end, with pipes where no other streams are named, which heeds all signals."""
     path = os.pathsep.join([str(PYTHON), *filter(None, [os.environ.get("PYTHONPATH")])])
-    named = {"stdin": subprocess.DEVNULL, "stdout": subprocess.PIPE, "stderr": subprocess.PIPE, **streams}
+    pipes = {"stdin": subprocess.DEVNULL, "stdout": subprocess.PIPE, "stderr": subprocess.PIPE}
+    named = {**pipes, "preexec_fn": heed_signals, **streams}
     command = [sys.executable, "-m", "popsample", *map(str, words)]
     with subprocess.Popen(command, env={**os.environ, "PYTHONPATH": path}, **named) as process:
         yield process

@@ -8,6 +8,7 @@ import unittest
 from collections import Counter
 from collections.abc import Callable, Hashable, Iterator, Sequence
 from fractions import Fraction
+from types import SimpleNamespace
 
 import popsample
 
@@ -71,7 +72,7 @@ def trees(pairs: Sequence[tuple[int, int]]) -> dict[Values, list[popsample.Arrow
     found = {}
     for edges in itertools.product(*edges_at(pairs)):
         arrows = [popsample.Arrow(w, sum(pairs[edge]) - w, edge) for w, edge in enumerate(edges, 2)]
-        if is_tree_to(1, (1, 2, 3), pairs, popsample.Tree(1, tuple(arrows), {}, 0, None)):
+        if is_tree_to(1, (1, 2, 3), pairs, SimpleNamespace(arrows=arrows)):
             found[tuple(at.index(edge) for at, edge in zip(edges_at(pairs), edges))] = arrows
     return found
 

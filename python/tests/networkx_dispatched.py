@@ -160,7 +160,7 @@ class Refusals(unittest.TestCase):
             self.assertIn(f"Edge ({lacking}, {lacking + 1}) has no attribute {name!r}", str(missing.exception))
 
     def test_a_graph_in_parts(self):
-        with self.assertRaises(popsample.CutOff) as apart:
+        with self.assertRaises(popsample.CutOffError) as apart:
             sample(networkx.Graph([(0, 1), (2, 3)]))
         self.assertEqual(apart.exception.vertex, 2)
 

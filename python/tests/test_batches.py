@@ -1,11 +1,13 @@
 """Batches: many samples of one input, by one run."""
 
+import os
 import unittest
+from unittest import mock
 
 import popsample
-from popsample import formula_samples, sink_free_orientations, spanning_trees
+from popsample import sink_free_orientations, spanning_trees
 
-from .checks import ZEROS, Refusing, has_no_sink, is_tree_to, program_of, satisfies
+from .checks import ZEROS, Refusing, extremal_solution, extremal_solutions, has_no_sink, is_tree_to, program_of, satisfies
 
 TRIANGLE = [("Ann", "Bob"), ("Bob", "Cem"), ("Cem", "Ann")]
 TEAMS = [(first, second) for first in range(5) for second in range(first)]
@@ -19,7 +21,7 @@ class Batches(Refusing):
         trees = list(spanning_trees(TRIANGLE, 60, key=ZEROS))
         self.assertEqual([tree.sample for tree in trees], list(range(60)))
         self.assertTrue(all(is_tree_to("Ann", ["Ann", "Bob", "Cem"], TRIANGLE, tree) for tree in trees))
-        self.assertEqual({frozenset(tree.edges) for tree in trees}, {frozenset(x) for x in ((0, 1), (0, 2), (1, 2))})
+        self.assertEqual({frozenset(tree.edge_indices) for tree in trees}, {frozenset(x) for x in ((0, 1), (0, 2), (1, 2))})
         self.assertEqual({tree.key for tree in trees}, {ZEROS})
 
     def test_orientations(self):
@@ -27,20 +29,20 @@ class Batches(Refusing):
             self.assertTrue(has_no_sink(range(5), orientation.arrows), orientation)
 
     def test_assignments(self):
-        for assignment in formula_samples(RING, 30):
+        for assignment in extremal_solutions(RING, 30):
             self.assertTrue(satisfies(RING, assignment.literals), assignment)
 
     def test_three_thousand_assignments_of_a_chain(self):
         chain = [[2 * place - 1, 2 * place, -(2 * place + 1)] for place in range(1, 100)]
-        samples = list(formula_samples(chain, 3000, ZEROS))
+        samples = list(extremal_solutions(chain, 3000, ZEROS))
         self.assertEqual([sample.sample for sample in samples], list(range(3000)))
         self.assertTrue(all(satisfies(chain, sample.literals) for sample in samples))
-        self.assertEqual(samples[0], popsample.sample_formula(chain, ZEROS))
+        self.assertEqual(samples[0], extremal_solution(chain, ZEROS))
 
     def test_the_first_sample_is_that_of_one_run(self):
         self.assertEqual(next(spanning_trees(TEAMS, 3, 2, key=ZEROS)), popsample.spanning_tree(TEAMS, 2, key=ZEROS))
         self.assertEqual(next(sink_free_orientations(TEAMS, 3, ZEROS)), popsample.sink_free_orientation(TEAMS, ZEROS))
-        self.assertEqual(next(formula_samples(RING, 3, ZEROS)), popsample.sample_formula(RING, ZEROS))
+        self.assertEqual(next(extremal_solutions(RING, 3, ZEROS)), extremal_solution(RING, ZEROS))
 
     def test_a_longer_batch_begins_with_a_shorter_one(self):
         trees = list(spanning_trees(TEAMS, 9))
@@ -51,7 +53,7 @@ class Batches(Refusing):
         self.assertEqual(len({next(spanning_trees(TRIANGLE, 1)).key for _ in range(5)}), 5)
 
     def test_an_exhausted_sample_is_raised_in_its_place(self):
-        samples = formula_samples([[1]], 4, **ONE_EXHAUSTED)
+        samples = extremal_solutions([[1]], 4, **ONE_EXHAUSTED)
         self.assertEqual(next(samples).sample, 0)
         error = self.refused(popsample.ExhaustedError, next, samples)
         told = (error.sample, error.stuck, error.used, error.pops, error.key)
@@ -60,13 +62,15 @@ class Batches(Refusing):
 
     def test_what_refuses_the_batch_is_raised_at_once(self):
         self.refused(popsample.CutOffError, spanning_trees, [("Ann", "Bob"), ("Cem", "Dan")], 2)
-        self.refused(popsample.ClashError, formula_samples, [[1, 2], [1, 3]], 2)
+        self.refused(popsample.ClashError, extremal_solutions, [[1, 2], [1, 3]], 2)
 
-    def test_too_many_samples(self):
+    def test_what_needs_the_library(self):
         # 600 variables, since the last one has this number, and so 600 times 65536 of all samples.
-        error = self.refused(popsample.TooManySamplesError, formula_samples, [[600]], 65536, ZEROS)
-        self.assertEqual((error.count, error.key), (65536, ZEROS))
-        self.assertIn("65536 samples of this input", str(error))
+        with mock.patch.dict(os.environ, {"POPSAMPLE_LIBRARY": ""}):
+            error = self.refused(popsample.NeedsLibraryError, extremal_solutions, [[600]], 65536, ZEROS)
+            self.assertEqual(error.sample, 65535)
+            self.refused(popsample.NeedsLibraryError, popsample.spanning_tree, TRIANGLE, sample=65536)
+            self.refused(popsample.NeedsLibraryError, popsample.solutions, [[1]], 2)
 
     def test_a_batch_that_was_cut_off(self):
         with program_of("printf 'batch 2\\nsample 0\\ns SAMPLE\\n'; exit 8"):

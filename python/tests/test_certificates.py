@@ -7,9 +7,9 @@ import unittest
 from pathlib import Path
 
 import popsample
-from popsample import Pop, replay, resample, resume, sample_formula, sink_free_orientation, spanning_tree
+from popsample import Pop, replay, resample, resume, sink_free_orientation, spanning_tree
 
-from .checks import ZEROS, Refusing, program_of
+from .checks import ZEROS, Refusing, extremal_solution, program_of
 
 TRIANGLE = [("a", "b"), ("b", "c"), ("a", "c")]
 # After two pops of the one clause there is a third, and then it is true.
@@ -25,29 +25,29 @@ TREE_STOPPED = (
 
 class Stopped(Refusing):
     def test_a_run_that_is_not_at_its_end(self):
-        error = self.refused(popsample.Paused, sample_formula, [[1]], stacks=ROWS, pops=2)
+        error = self.refused(popsample.Paused, extremal_solution, [[1]], stacks=ROWS, pops=2)
         self.assertEqual((error.certificate, error.status, error.key), (STOPPED, 10, None))
-        self.assertIn("isn't at its end", str(error))
+        self.assertIn("has not finished within the requested number of pops", str(error))
         error = self.refused(popsample.Paused, spanning_tree, TRIANGLE, "a", stacks=TREE_ROWS, pops=1)
         self.assertEqual(error.certificate, TREE_STOPPED)
 
     def test_a_key_is_told(self):
-        error = self.refused(popsample.Paused, sample_formula, [[-1], [-2], [-3], [-4]], ZEROS, height=9, pops=1)
+        error = self.refused(popsample.Paused, extremal_solution, [[-1], [-2], [-3], [-4]], ZEROS, height=9, pops=1)
         self.assertEqual(error.key, ZEROS)
 
     def test_a_run_that_ends_before(self):
         for pops in (3, 2**32 - 1):
-            self.assertEqual(sample_formula([[1]], stacks=ROWS, pops=pops), sample_formula([[1]], stacks=ROWS))
+            self.assertEqual(extremal_solution([[1]], stacks=ROWS, pops=pops), extremal_solution([[1]], stacks=ROWS))
             whole = spanning_tree(TRIANGLE, "a", stacks=TREE_ROWS)
             self.assertEqual(spanning_tree(TRIANGLE, "a", stacks=TREE_ROWS, pops=pops), whole)
-        error = self.refused(popsample.ExhaustedError, sample_formula, [[1]], stacks=[[0, 0]], pops=1)
+        error = self.refused(popsample.ExhaustedError, extremal_solution, [[1]], stacks=[[0, 0]], pops=1)
         self.assertEqual((error.stuck, error.pops), ((1,), 1))
 
     def test_what_pops_excludes(self):
         excluded = ({"grow": 9}, {"workers": 2}, {"log": True}, {"witness": (1, 0)}, {"reports": ["totals"]})
         for named in excluded:
             with self.subTest(**named):
-                self.refused(popsample.OptionError, sample_formula, [[1]], ZEROS, pops=1, **named)
+                self.refused(popsample.OptionError, extremal_solution, [[1]], ZEROS, pops=1, **named)
 
     def test_a_certificate_goes_along(self):
         error = self.refused(popsample.Paused, resample, [[1]], stacks=ROWS, pops=2)
@@ -58,11 +58,11 @@ class Stopped(Refusing):
         # Bytes of an input may be any, and its last line may be unended.
         text = b"cert 1 formula\nstacks\ninput 14\nc \xff\r\np cnf 0 0log 2 1\n"
         with program_of(f"printf '{octal(text)}'; exit 10"):
-            self.assertEqual(self.refused(popsample.Paused, sample_formula, []).certificate, text)
+            self.assertEqual(self.refused(popsample.Paused, extremal_solution, []).certificate, text)
 
     def test_another_text_of_this_status(self):
         with program_of("echo s NONE; exit 10"):
-            self.refused(popsample.NoAnswerError, sample_formula, [])
+            self.refused(popsample.NoAnswerError, extremal_solution, [])
 
 
 class Replayed(Refusing):
@@ -95,7 +95,7 @@ class Replayed(Refusing):
 class Resumed(Refusing):
     def test_the_result_is_that_of_the_whole_run(self):
         for workers in (1, 2, 8):
-            self.assertEqual(resume(STOPPED, workers), sample_formula([[1]], stacks=ROWS))
+            self.assertEqual(resume(STOPPED, workers), extremal_solution([[1]], stacks=ROWS))
             whole = spanning_tree(TRIANGLE, "a", stacks=TREE_ROWS)
             self.assertEqual(resume(TREE_STOPPED, workers, graph=TRIANGLE), whole)
 
@@ -112,9 +112,9 @@ class Resumed(Refusing):
 
     def test_a_chain_of_clauses_after_ten_pops(self):
         chain = [[2 * place - 1, 2 * place, -(2 * place + 1)] for place in range(1, 100)]
-        whole = sample_formula(chain, ZEROS)
+        whole = extremal_solution(chain, ZEROS)
         self.assertGreater(whole.pops, 10)
-        error = self.refused(popsample.Paused, sample_formula, chain, ZEROS, pops=10)
+        error = self.refused(popsample.Paused, extremal_solution, chain, ZEROS, pops=10)
         for workers in (1, 2, 8):
             self.assertEqual(resume(error.certificate, workers), whole)
 
@@ -166,7 +166,7 @@ class Refused(Refusing):
             with self.subTest(code=code, line=line):
                 error = self.refused(popsample.MalformedError, replay, text)
                 self.assertEqual((error.line, error.code, error.text, error.part), (line, code, shown, part))
-                self.assertIn(f"Line {line} of {part}, ", str(error))
+                self.assertIn(f"Line {line} of {part} is invalid: ", str(error))
 
     def test_what_refuses_the_input(self):
         error = self.refused(popsample.RootError, resume, TREE_STOPPED.replace(b"root 1", b"root 9"))
@@ -179,7 +179,7 @@ class Refused(Refusing):
             with program_of(f"echo s LIMIT {kind} 1; exit 4"):
                 error = self.refused(popsample.TooLongError, replay, STOPPED)
             self.assertEqual(error.kind, kind)
-            self.assertIn(f"The limit of {told} is passed", str(error))
+            self.assertIn(f"The certificate exceeds the limit of {told}.", str(error))
 
     def test_another_graph(self):
         for graph in (TRIANGLE[:2], [("a", "c"), *TRIANGLE]):
@@ -188,6 +188,11 @@ class Refused(Refusing):
 
     def test_a_text_that_is_no_certificate(self):
         self.refused(popsample.MalformedError, resume, b"", graph=TRIANGLE)
+
+    def test_what_is_neither_bytes_nor_a_path(self):
+        for call in (replay, resume):
+            for certificate in (5, None, [b"cert"]):
+                self.refused(popsample.InputTypeError, call, certificate)
 
     def test_more_workers_than_there_may_be(self):
         self.assertEqual(self.refused(popsample.OptionError, resume, STOPPED, 65).value, 65)

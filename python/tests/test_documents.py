@@ -38,7 +38,7 @@ class Formats(unittest.TestCase):
 
     def test_each_exception_has_its_row(self):
         rows = {getattr(popsample, row[3].strip("`")): row for row in self.rows if row[3].startswith("`")}
-        self.assertEqual(set(rows), kinds_below(errors.Refusal) - {errors.InputRefusal})
+        self.assertEqual(set(rows), kinds_below(errors.Refusal) - {errors.InputRefusal, errors.StacksError})
         for kind, (status, form, sentence, _) in rows.items():
             with self.subTest(kind.__name__):
                 self.assertEqual((int(status), sentence), (kind.status, kind.sentence))
@@ -53,7 +53,7 @@ class Formats(unittest.TestCase):
         for code, reason in errors.REASONS.items():
             self.assertIn(f"\n| {code} | {reason} |", self.text)
         for kind, limit in errors.LIMITS.items():
-            self.assertIn(f"\n| {kind} | {limit}", self.text)
+            self.assertIn(f"\n| {kind} | {limit} |", self.text)
 
     def test_all_names_are_told(self):
         raised = {kind for kind in kinds_below(popsample.Error) if kind.__module__ in RAISING}

@@ -50,7 +50,7 @@ class WithoutMatplotlib(unittest.TestCase):
         with mock.patch.dict("sys.modules", {"matplotlib": None}), self.assertRaises(ImportError) as missing:
             tree.draw()
         self.assertIsInstance(missing.exception, popsample.Error)
-        self.assertEqual(str(missing.exception), "matplotlib isn't installed, and this needs it: install it.")
+        self.assertEqual(str(missing.exception), "matplotlib isn't installed, and this needs it. Install it.")
 
 
 @unittest.skipUnless(matplotlib, "matplotlib isn't installed")

@@ -9,6 +9,7 @@ from typing import NamedTuple
 
 import popsample
 
+from .checks import extremal_solution, rounds_solution
 from .instances import (
     CHAINED,
     CLASHING,
@@ -43,7 +44,7 @@ def assignment(sample: Callable, clauses: list[list[int]]) -> Callable[[Rows], E
     def ended(rows: Rows) -> Ended:
         result = sample(clauses, stacks=rows)
         values = tuple(int(literal > 0) for literal in result.literals)
-        steps = result.rounds if isinstance(result, popsample.Rounded) else result.pops
+        steps = result.pops if result.rounds is None else result.rounds
         return Ended(values, tuple(result.used.values()), steps)
 
     return ended
@@ -89,13 +90,13 @@ class Exact(Proportional):
                 self.assertEqual(answers[exchanged(rows, end.used, values)], end._replace(values=values))
 
     def test_assignments(self):
-        answers = finished(assignment(popsample.sample_formula, CLAUSES), all_rows([2] * 3, 2))
+        answers = finished(assignment(extremal_solution, CLAUSES), all_rows([2] * 3, 2))
         self.judge(answers, assignments(CLAUSES), all_alike)
 
     def test_assignments_by_rounds_whether_or_not_clauses_clash(self):
         for clauses in (CLAUSES, CLASHING, CHAINED):
             with self.subTest(clauses=clauses):
-                answers = finished(assignment(popsample.rounds, clauses), all_rows([2] * 3, 2))
+                answers = finished(assignment(rounds_solution, clauses), all_rows([2] * 3, 2))
                 self.judge(answers, assignments(clauses), all_alike)
 
     def test_orientations(self):

@@ -7,6 +7,7 @@ import sys
 import tempfile
 import unittest
 from pathlib import Path
+from unittest import mock
 from xml.etree import ElementTree
 
 from .checks import ZEROS
@@ -64,6 +65,13 @@ class Drawings(unittest.TestCase):
             self.assertEqual((ran.returncode, ran.stdout), (2, ""), words)
             self.assertIn(" value: ", ran.stderr)
 
+    def test_a_program_that_is_missing(self):
+        with mock.patch.dict(os.environ, {"PATH": str(self.folder)}):
+            for name, file in (("null_model.py", "advice.txt"), ("test_inputs.py", "options.cnf")):
+                ran = drawn(name, str(TOP / "examples" / file))
+                self.assertEqual((ran.returncode, ran.stdout), (1, ""), name)
+                self.assertRegex(ran.stderr, f"^{name}: the program 'popsample' can't be run .* after --program")
+
     @unittest.skipUnless(importlib.util.find_spec("networkx"), "networkx isn't installed")
     def test_a_tree_of_a_graph_of_networkx(self):
         picture = ElementTree.fromstring(drawn("draw_networkx.py", ZEROS).stdout)
@@ -77,7 +85,7 @@ class Drawings(unittest.TestCase):
     def test_a_key_of_another_form(self):
         ran = drawn("draw_networkx.py", "12")
         self.assertEqual((ran.returncode, ran.stdout), (1, ""))
-        self.assertIn("key='12' can't be taken", ran.stderr)
+        self.assertIn("`key` must be 32 bytes or a string of 64 hexadecimal digits", ran.stderr)
 
     def test_an_orientation(self):
         ran = drawn("draw_orientation.py", str(TOP / "examples" / "petersen.col"), self.printed("petersen-orient"))

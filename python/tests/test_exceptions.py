@@ -8,9 +8,8 @@ import pkgutil
 import unittest
 
 import popsample
-from popsample import old_names
 
-from .checks import ZEROS, Refusing, kinds_below
+from .checks import ZEROS, Refusing, extremal_solution, kinds_below
 
 # For the annotation of each parameter of an exception, something that may be handed in.
 GIVEN = {
@@ -24,6 +23,7 @@ GIVEN = {
     "Hashable": ("v", 1),
     "Sequence[Any]": (3, "v"),
     "Sequence[int]": (1, 2),
+    "Sequence[str]": ("tree", "--root"),
     "Sequence[Hashable]": ("v", "w"),
     "tuple[str, str]": ("1 2", "-1 3"),
 }
@@ -67,13 +67,9 @@ class Exceptions(Refusing):
         wrong = {kind.__name__ for kind in kinds_below(popsample.Error) if not kind.__name__.endswith("Error")}
         self.assertEqual(wrong, NO_ERRORS)
 
-    def test_old_names(self):
-        names = [name for name in vars(old_names) if name[0].isupper()]
-        self.assertEqual(len(names), 22)
-        for name in names:
-            self.assertIs(getattr(popsample, name), getattr(old_names, name))
-            self.assertTrue(getattr(popsample, name).__name__.endswith("Error"))
-            self.assertIn(name, popsample.__all__)
+    def test_no_old_names(self):
+        for name in ("Exhausted", "CutOff", "Memory", "batch_key", "rounds", "check", "sample_formula"):
+            self.assertFalse(hasattr(popsample, name), name)
 
     def test_all_pickle(self):
         for kind in {popsample.Error, *kinds_below(popsample.Error)}:
@@ -93,6 +89,9 @@ class Exceptions(Refusing):
             popsample.NoWeightError: KeyError,
             popsample.RunTimeoutError: TimeoutError,
             popsample.NotInstalledError: ImportError,
+            popsample.ReadError: OSError,
+            popsample.WriteError: OSError,
+            popsample.OutOfMemoryError: MemoryError,
         }
         for kind, base in builtin.items():
             self.assertTrue(issubclass(kind, base), kind)
@@ -100,7 +99,7 @@ class Exceptions(Refusing):
     def test_what_was_raised_goes_along(self):
         raised = [
             self.refused(popsample.RootError, popsample.spanning_tree, [("Ann", "Bob")], "Zoe"),
-            self.refused(popsample.ExhaustedError, popsample.sample_formula, [[1]], stacks=[[0]]),
+            self.refused(popsample.ExhaustedError, extremal_solution, [[1]], stacks=[[0]]),
             self.refused(popsample.CutOffError, popsample.spanning_tree, [("Ann", "Bob"), ("Cem", "Dan")], key=ZEROS),
         ]
         for error in raised:

@@ -2,10 +2,11 @@
 
 import random
 import unittest
+from collections.abc import Mapping
 
 import popsample
 
-from .checks import ZEROS, file_of, satisfies
+from .checks import ZEROS, extremal_solution, file_of, rounds_solution, satisfies
 
 # Each variable stands in two clauses, with either sign, so the formula is extremal.
 RING = [[1, 2, -3], [3, 4, -5], [5, 6, -1]]
@@ -25,7 +26,7 @@ def extremal_clauses(chance: random.Random, clauses: int) -> list[list[int]]:
 
 class Formulas(unittest.TestCase):
     def test_rows_that_were_worked_by_hand(self):
-        assignment = popsample.sample_formula([[1, 2], [-1, 2]], stacks=[[0, 1], [0, 1]])
+        assignment = extremal_solution([[1, 2], [-1, 2]], stacks=[[0, 1], [0, 1]])
         self.assertEqual((assignment.literals, assignment.used, assignment.pops), ((1, 2), {1: 1, 2: 1}, 1))
         self.assertIsNone(assignment.key)
         self.assertTrue(assignment[1] and assignment[2])
@@ -34,7 +35,7 @@ class Formulas(unittest.TestCase):
         chance = random.Random(11)
         for size in range(3, 25):
             clauses = extremal_clauses(chance, size)
-            assignment = popsample.sample_formula(clauses)
+            assignment = extremal_solution(clauses)
             self.assertTrue(satisfies(clauses, assignment.literals), (clauses, assignment))
 
     def test_the_check_sees_what_satisfies_not(self):
@@ -43,7 +44,7 @@ class Formulas(unittest.TestCase):
         self.assertFalse(satisfies([[1]], (1, -1)))
 
     def test_values_are_those_of_the_literals(self):
-        assignment = popsample.sample_formula(RING)
+        assignment = extremal_solution(RING)
         for variable in range(1, 7):
             self.assertEqual(assignment[variable], variable in assignment.literals)
         for variable in (0, -1, 7):
@@ -51,38 +52,63 @@ class Formulas(unittest.TestCase):
                 assignment[variable]
 
     def test_a_key_gives_the_same_assignment_whatever_the_workers(self):
-        first = popsample.sample_formula(RING)
-        self.assertEqual(first, popsample.sample_formula(RING, first.key, 8))
+        first = extremal_solution(RING)
+        self.assertEqual(first, extremal_solution(RING, first.key, workers=8))
 
     def test_heights_that_grow_worked_by_hand(self):
         # Under this key the entries of the variable are 1, 0, ..: it is popped once, if there is a next entry.
-        grown = popsample.sample_formula([[-1]], ZEROS, height=1, grow=8)
+        grown = extremal_solution([[-1]], ZEROS, height=1, grow=8)
         self.assertEqual((grown.literals, grown.used, grown.pops), ((-1,), {1: 1}, 1))
         with self.assertRaises(popsample.ExhaustedError) as caught:
-            popsample.sample_formula([[-1]], ZEROS, height=5, grow=1)
+            extremal_solution([[-1]], ZEROS, height=5, grow=1)
         self.assertEqual((caught.exception.stuck, caught.exception.used), ((1,), (0,)))
 
     def test_heights_that_grow_change_nothing(self):
         for workers in (1, 4):
-            grown = popsample.sample_formula(RING, ZEROS, workers, height=1, grow=64)
-            self.assertEqual(grown, popsample.sample_formula(RING, ZEROS, height=64))
+            grown = extremal_solution(RING, ZEROS, workers=workers, height=1, grow=64)
+            self.assertEqual(grown, extremal_solution(RING, ZEROS, height=64))
 
     def test_files(self):
         with file_of("c by hand\np cnf 2 2\n1 2 0\n-1 2 0\n") as path:
-            self.assertEqual(popsample.sample_formula(path, stacks=[[1], [1]]).literals, (1, 2))
-            self.assertEqual(popsample.check(str(path)), 2)
+            self.assertEqual(extremal_solution(path, stacks=[[1], [1]]).literals, (1, 2))
+            self.assertTrue(popsample.is_extremal(str(path)))
 
     def test_what_is_no_literal(self):
         for value, kind in ((0, ValueError), (True, TypeError), (1.0, TypeError), ("1", TypeError)):
             with self.assertRaises(kind, msg=repr(value)):
-                popsample.sample_formula([[value]])
+                extremal_solution([[value]])
 
     def test_no_clause(self):
-        self.assertEqual(popsample.sample_formula([]).literals, ())
+        self.assertEqual(extremal_solution([]).literals, ())
 
-    def test_check_counts_events(self):
+    def test_extremal_formulas(self):
         # The first two clauses are one event, and the third is never false.
-        self.assertEqual(popsample.check([[1, 2], [2, 1], [1, -1]]), 1)
+        self.assertIsNone(popsample.find_clash([[1, 2], [2, 1], [1, -1]]))
+        self.assertIs(popsample.is_extremal([[1, 2], [2, 1], [1, -1]]), True)
+        self.assertEqual(popsample.find_clash(CHANNELS), (1, 3))
+        self.assertEqual(popsample.find_clash([[3], [1, 2], [-1, 4], [2, 5]]), (2, 4))
+        self.assertIs(popsample.is_extremal([[1], [1, 2]]), False)
+
+    def test_an_assignment_is_a_mapping(self):
+        found = popsample.solution([[1], [-2]])
+        self.assertIsInstance(found, Mapping)
+        self.assertEqual((list(found), len(found), dict(found)), ([1, 2], 2, {1: True, 2: False}))
+        self.assertTrue(1 in found and 3 not in found and "1" not in found)
+        self.assertEqual((found, found.get(7)), ({1: True, 2: False}, None))
+        for name in ("1", 1.0, True, None, 0):
+            with self.assertRaises(KeyError, msg=name):
+                found[name]
+        self.assertEqual((found.rounds is None, found.pops), (False, None))
+
+    def test_methods(self):
+        for wrong in ("round", None, 5):
+            with self.assertRaises(popsample.OptionError):
+                popsample.solution([[1]], wrong)
+        with self.assertRaises(popsample.ClashError):
+            popsample.solution([[1, 2], [1, 3]], "extremal")
+        with self.assertRaises(TypeError) as unknown:
+            popsample.solution([[1]], log=True)
+        self.assertIn("solution() got an unexpected keyword argument 'log'", str(unknown.exception))
 
 
 class Resampling(unittest.TestCase):
@@ -127,24 +153,24 @@ class Resampling(unittest.TestCase):
 class Rounds(unittest.TestCase):
     def test_rows_that_were_worked_by_hand(self):
         # The second event agrees at variable 2, and joins; in the second formula it differs there, and is excluded.
-        told = popsample.rounds([[1, 2], [2, 3]], stacks=[[0, 1], [0, 0], [1, 1]])
+        told = rounds_solution([[1, 2], [2, 3]], stacks=[[0, 1], [0, 0], [1, 1]])
         self.assertEqual((told.literals, told.used, told.rounds), ((1, -2, 3), {1: 1, 2: 1, 3: 1}, 1))
-        told = popsample.rounds([[1, 2], [-2, 3]], stacks=[[0, 1], [0, 0], [0]])
+        told = rounds_solution([[1, 2], [-2, 3]], stacks=[[0, 1], [0, 0], [0]])
         self.assertEqual((told.literals, told.used, told.rounds), ((1, -2, -3), {1: 1, 2: 1, 3: 0}, 1))
         self.assertTrue(told[1] and not told[2])
         self.assertIsNone(told.key)
 
     def test_formulas_that_clash_are_satisfied(self):
-        told = popsample.rounds(CHANNELS)
+        told = rounds_solution(CHANNELS)
         self.assertTrue(satisfies(CHANNELS, told.literals), told)
-        self.assertEqual(told, popsample.rounds(CHANNELS, told.key))
+        self.assertEqual(told, rounds_solution(CHANNELS, told.key))
 
     def test_extremal_formulas_have_the_same_assignment(self):
         chance = random.Random(12)
         for size in range(3, 25):
             clauses = extremal_clauses(chance, size)
-            popped = popsample.sample_formula(clauses, ZEROS)
-            told = popsample.rounds(clauses, ZEROS)
+            popped = extremal_solution(clauses, ZEROS)
+            told = rounds_solution(clauses, ZEROS)
             self.assertEqual((told.literals, told.used), (popped.literals, popped.used), clauses)
 
 

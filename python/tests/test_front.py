@@ -109,14 +109,14 @@ class Read(unittest.TestCase):
         ):
             ended = called("tree", path)
             self.assertEqual((ended.status, ended.output), (7, b"s READFAULT\n"), path)
-            self.assertRegex(ended.told, f"^popsample: {path}: .*{reason}.* Reading the input failed: look at what")
+            self.assertRegex(ended.told, f"^popsample: {path}: .*{reason}.* The input could not be read. Check")
 
     def test_a_terminal(self):
         with terminal() as (outer, inner), running("tree", stdin=inner) as process:
             os.write(outer, TRIANGLE + b"\x04")
             output, told = process.communicate(timeout=60)
         self.assertEqual((process.returncode, output), self.wanted)
-        self.assertIn("Standard input is a terminal, and a graph", told.decode())
+        self.assertIn("Standard input is a terminal. Type a graph in ", told.decode())
 
 
 class Written(unittest.TestCase):
@@ -131,14 +131,14 @@ class Written(unittest.TestCase):
             for path, reason in ((folder, "Is a directory"), ("/dev/full", "No space left on device")):
                 ended = called("tree", "--output", path, given=TRIANGLE)
                 self.assertEqual((ended.status, ended.output), (8, b""))
-                self.assertIn(f"popsample: {path}: {reason}. Writing the output failed: look at where", ended.told)
+                self.assertIn(f"popsample: {path}: {reason}. The output could not be written. Check", ended.told)
 
     def test_a_pipe_that_was_closed(self):
         with running("make", "grid", "60", "--log", "on") as process:
             process.stdout.close()
             told = process.stderr.read().decode()
         self.assertEqual(process.returncode, 8)
-        self.assertRegex(told, r"^popsample: Broken pipe\. Writing the output failed: [^\n]*\n$")
+        self.assertRegex(told, r"^popsample: Broken pipe\. The output could not be written\. [^\n]*\n$")
 
 
 class Seeds(unittest.TestCase):
@@ -172,7 +172,7 @@ class Progress(unittest.TestCase):
     def test_seconds_are_told_until_the_first(self):
         with program_of('sleep 1.2; exec "$PROGRAM" "$@"'):
             told, output = self.seen("tree", "--count", "5")
-        self.assertRegex(told, r"popsample: 5 samples are made: 1 s")
+        self.assertRegex(told, r"popsample: drawing 5 samples: 1 s")
         self.assertEqual((0, output), by_program("tree", "--count", "5", given=TRIANGLE))
 
     def test_nowhere_else(self):
@@ -202,12 +202,8 @@ class Programs(unittest.TestCase):
             self.assertEqual(called("make", "grid", "2", POPSAMPLE=str(path)).status, 126)
 
     def test_the_keyboard_ends_it(self):
-        # Where a shell runs the tests in the background, they ignore interrupts, and so would what they start.
-        def heeds_interrupts():
-            signal.signal(signal.SIGINT, signal.SIG_DFL)
-
         with program_of("echo begun; exec sleep 60"):
-            with running("make", "grid", "2", preexec_fn=heeds_interrupts) as process:
+            with running("make", "grid", "2") as process:
                 self.assertEqual(os.read(process.stdout.fileno(), 6), b"begun\n")
                 process.send_signal(signal.SIGINT)
                 told = process.communicate(timeout=60)[1]
@@ -232,6 +228,15 @@ class Help(unittest.TestCase):
     def test_all_commands_are_told(self):
         told = called("--help").output.decode()
         self.assertEqual(re.findall(r"(?m)^    ([a-z]+) ", told), list(COMMANDS))
+
+    def test_a_formula_that_is_resampled_is_not_sampled(self):
+        row = next(line for line in called("--help").output.decode().splitlines() if line.startswith("    resample "))
+        self.assertEqual(row.split()[1], "find")
+
+    def test_the_words_are_plain(self):
+        for words in ([], *([command] for command in COMMANDS)):
+            page = called(*words, "--help").output.decode()
+            self.assertNotRegex(page, r"(?i)\b(tell|tells|told|stands?|behind|else|so many|where)\b", words)
 
     def test_the_version(self):
         with file_of("1.2.3\n") as path, mock.patch("popsample.version.FILE", path):

@@ -11,28 +11,28 @@ UNIT = "p cnf 1 1\n1 0\n"
 CLASHING = "p cnf 3 2\n1 2 0\n1 3 0\n"
 # The words, the input, the status, the first line in docs/FORMATS.md, and what the sentence names.
 REFUSED: tuple[tuple[list[str], str, int, str, str], ...] = (
-    (["formula", "--height", "0"], UNIT, 2, "`s USAGE", "Word 3 of the command line, '0', can't"),
-    (["tree", "--count", "2", "--log", "on"], GRAPH, 2, "`s USAGE", "Word 4 of the command line, '--log', can't"),
-    (["tree"], "p edge 2 1\ne 1 x\n", 3, "`s MALFORMED", "Line 2 of the text, 'e 1 x', can't stand there"),
-    (["formula"], "p cnf 1 2\n1 0\n", 3, "`s COUNT", "The header says 2 clauses and the text has 1"),
+    (["formula", "--height", "0"], UNIT, 2, "`s USAGE", "Argument 3, '0', is not valid"),
+    (["tree", "--count", "2", "--log", "on"], GRAPH, 2, "`s USAGE", "Argument 4, '--log', is not valid"),
+    (["tree"], "p edge 2 1\ne 1 x\n", 3, "`s MALFORMED", "Line 2 of the input is invalid: a vertex or weight"),
+    (["formula"], "p cnf 1 2\n1 0\n", 3, "`s COUNT", "The header declares 2 clauses, but there are 1"),
     (["formula", "--stacks", "0;1"], UNIT, 3, "`s ROWS", "There are 2 rows of entries for 1 variables"),
-    (["formula", "--stacks", "0;"], "p cnf 2 0\n", 3, "`s EMPTYROW", "The row of variable 2 has no entry"),
-    (["formula", "--stacks", "0,2"], UNIT, 3, "`s VALUE", "Entry 1 of variable 1 is none of its values"),
-    (["check"], "p cnf 4194305 0\n", 4, "`s LIMIT K", "The limit of 4194304 variables or vertices is passed at line 1"),
+    (["formula", "--stacks", "0;"], "p cnf 2 0\n", 3, "`s EMPTYROW", "The row of variable 2 is empty"),
+    (["formula", "--stacks", "0,2"], UNIT, 3, "`s VALUE", "Entry 1 of variable 1 is out of range"),
+    (["check"], "p cnf 4194305 0\n", 4, "`s LIMIT K", "exceeds the limit of 4194304 variables or vertices at line 1"),
     (["formula", "--count", "9"], "p cnf 4194304 0\n", 4, "`s LIMIT 9", "9 samples of this input have more than"),
     (["formula"], CLASHING, 5, "`s CLASH", "Clauses 1 (1 2) and 2 (1 3) share a variable"),
     (["check"], CLASHING, 5, "`s CLASH", "Clauses 1 (1 2) and 2 (1 3) share a variable"),
-    (["formula"], "p cnf 1 2\n1 0\n0\n", 6, "`s EMPTY N", "Clause 2 has no literal"),
-    (["orient"], "p edge 3 1\ne 1 2\n", 6, "`s ISOLATED", "No edge touches vertex 3"),
-    (["tree", "--root", "9"], GRAPH, 6, "`s ROOT", "The root 9 is no vertex of the graph"),
-    (["tree"], "p edge 3 1\ne 1 2\n", 6, "`s CUTOFF", "No path joins vertex 3 to the root"),
+    (["formula"], "p cnf 1 2\n1 0\n0\n", 6, "`s EMPTY N", "Clause 2 is empty"),
+    (["orient"], "p edge 3 1\ne 1 2\n", 6, "`s ISOLATED", "Vertex 3 has no edges"),
+    (["tree", "--root", "9"], GRAPH, 6, "`s ROOT", "The root 9 is not a vertex of the graph"),
+    (["tree"], "p edge 3 1\ne 1 2\n", 6, "`s CUTOFF", "Vertex 3 is not connected to the root"),
     (["resample", "--stacks", "0,1", "--witness", "1,1"], UNIT, 6, "`witness none", "No pop used entry 1"),
-    (["formula", "--stacks", "0,0,1", "--pops", "1"], UNIT, 10, "`cert 1 C`", "and its certificate follows"),
-    (["formula", "--stacks", "0,0"], UNIT, 1, "`s EXHAUSTED`", "the first at clause 1: give longer rows"),
-    (["rounds", "--stacks", "0,0"], UNIT, 1, "`s EXHAUSTED`", "the first at clause 1: give longer rows"),
-    (["tree", "--stacks", "1;0"], GRAPH, 1, "`s EXHAUSTED`", "the first at the cycle of 2, 3: give longer rows"),
-    (["orient", "--height", "3"], PATH, 1, "`s EXHAUSTED`", "the first at vertex "),
-    (["make", "grid", "2", "--stacks", "1;0;0"], "", 1, "`s EXHAUSTED`", "the first at one of 1 cycles: give longer"),
+    (["formula", "--stacks", "0,0,1", "--pops", "1"], UNIT, 10, "`cert 1 C`", "Continue it with resume"),
+    (["formula", "--stacks", "0,0"], UNIT, 1, "`s EXHAUSTED`", "the first is clause 1. Use a greater height"),
+    (["rounds", "--stacks", "0,0"], UNIT, 1, "`s EXHAUSTED`", "the first is clause 1. Use a greater height"),
+    (["tree", "--stacks", "1;0"], GRAPH, 1, "`s EXHAUSTED`", "the first is the cycle of 2, 3. Use a greater height"),
+    (["orient", "--height", "3"], PATH, 1, "`s EXHAUSTED`", "the first is vertex "),
+    (["make", "grid", "2", "--stacks", "1;0;0"], "", 1, "`s EXHAUSTED`", "the first is one of 1 cycles. Use a greater"),
 )
 
 
@@ -59,17 +59,17 @@ class Told(unittest.TestCase):
         first = output.partition(b"\ns EXHAUSTED\n")[0].rpartition(b"sample ")[2].decode()
         ended = called(*words, given=UNIT.encode())
         self.assertEqual((ended.status, ended.output), (1, output))
-        self.assertIn(f"Sample {first}: The run came to the end", ended.told)
+        self.assertIn(f"Sample {first}: A stack ran out", ended.told)
 
     def test_the_file_is_named(self):
         with file_of(CLASHING) as path:
             self.assertRegex(called("check", path).told, f"^popsample: {path}: Clauses 1 ")
-            self.assertRegex(called("formula", path, "--height", "0").told, "^popsample: Word 3 ")
+            self.assertRegex(called("formula", path, "--height", "0").told, "^popsample: Argument 3, ")
 
     def test_certificates(self):
         for name, command, status, first_line, named in (
             ("illegal.cert", "replay", 11, "`s NOTLEGAL", "Record 2 of the certificate's log"),
-            ("roads.col", "resume", 3, "`s MALFORMED", "Line 1 of the certificate, "),
+            ("roads.col", "resume", 3, "`s MALFORMED", "Line 1 of the certificate is invalid: "),
         ):
             ended = called(command, example(name))
             self.assertEqual(ended.status, status)

@@ -89,7 +89,7 @@ class Graphs(unittest.TestCase):
         view = graph_tool.GraphView(graph, vfilt=shown)
         tree = popsample.spanning_tree(view, 4, key=ZEROS)
         self.assertEqual({tree.root, *tree.parents}, {0, 1, 3, 4})
-        self.assertTrue({1, 2}.isdisjoint(tree.edges))
+        self.assertTrue({1, 2}.isdisjoint(arrow.edge for arrow in tree.arrows))
         self.assertEqual((tree.graph.num_vertices(), tree.graph.num_edges()), (4, 3))
         self.assertEqual(tree.graph.get_vertices().tolist(), [0, 1, 3, 4])
 
@@ -133,7 +133,7 @@ class Graphs(unittest.TestCase):
         with self.assertRaises(TypeError) as directed:
             popsample.spanning_tree(graph_tool.GraphView(graph, directed=True))
         self.assertIn("directed=False", str(directed.exception))
-        with self.assertRaises(popsample.CutOff) as apart:
+        with self.assertRaises(popsample.CutOffError) as apart:
             popsample.spanning_tree(graph)
         self.assertEqual(apart.exception.vertex, 2)
 

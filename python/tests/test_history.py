@@ -6,7 +6,7 @@ import unittest
 import popsample
 from popsample import Layers, Pop, WitnessVertex
 
-from .checks import ZEROS
+from .checks import ZEROS, extremal_solution
 
 TRIANGLE = [("a", "b"), ("b", "c"), ("a", "c")]
 KINDS = ["layers", "totals", "heights"]
@@ -29,7 +29,7 @@ def replayed(log: tuple[Pop, ...]) -> dict:
 
 class Histories(unittest.TestCase):
     def test_an_assignment_worked_by_hand(self):
-        told = popsample.sample_formula([[1], [2]], stacks=[[0, 0, 1], [0, 1]], log=True, reports=["layers"])
+        told = extremal_solution([[1], [2]], stacks=[[0, 0, 1], [0, 1]], log=True, reports=["layers"])
         self.assertEqual(told.log, (Pop(1, {1: 0}, 1), Pop(2, {2: 0}, 1), Pop(1, {1: 1}, 2)))
         self.assertEqual((told.layers, told.totals, told.witness), (Layers(2, 2), None, None))
 
@@ -76,12 +76,12 @@ class Histories(unittest.TestCase):
 
     def test_an_exhausted_run_has_its_log(self):
         with self.assertRaises(popsample.ExhaustedError) as caught:
-            popsample.sample_formula([[1]], stacks=[[0, 0]], log=True)
+            extremal_solution([[1]], stacks=[[0, 0]], log=True)
         self.assertEqual(caught.exception.log, (Pop(1, {1: 0}, 1),))
 
     def test_a_report_of_no_name(self):
         with self.assertRaises(popsample.OptionError) as caught:
-            popsample.sample_formula([[1]], reports=["widths"])
+            extremal_solution([[1]], reports=["widths"])
         self.assertEqual(caught.exception.value, ["widths"])
 
 

@@ -37,9 +37,9 @@ class Graphs(unittest.TestCase):
             with self.subTest(number=number, key=tree.key):
                 self.assertTrue(tree.graph.is_directed() and tree.graph.is_tree(mode="in"))
                 self.assertEqual(tree.graph.outdegree(root), 0)
-                self.assertTrue(graph.subgraph_edges(tree.edges, delete_vertices=False).is_tree())
+                self.assertTrue(graph.subgraph_edges(list(tree.edge_indices), delete_vertices=False).is_tree())
                 self.assertEqual(tree.graph.vs["name"], graph.vs["name"])
-                self.assertEqual(tree.graph.es["buses"], graph.es[tree.edges]["buses"])
+                self.assertEqual(tree.graph.es["buses"], graph.es[list(tree.edge_indices)]["buses"])
 
     def test_weights_are_an_attribute(self):
         # A tree with the light edge comes once in about 2^30 times.

@@ -54,11 +54,11 @@ class Names(unittest.TestCase):
     def test_refusals_have_names(self):
         graph = igraph.Graph.TupleList(ROADS)
         graph.add_vertex("Quarry")
-        with self.assertRaises(popsample.CutOff) as apart:
+        with self.assertRaises(popsample.CutOffError) as apart:
             popsample.spanning_tree(graph, "Mill")
         self.assertEqual(apart.exception.vertex, "Quarry")
         for root in ("Abbey", 5, -1):
-            with self.assertRaises(popsample.Root) as unknown:
+            with self.assertRaises(popsample.RootError) as unknown:
                 popsample.spanning_tree(graph, root)
             self.assertEqual(unknown.exception.root, root)
 

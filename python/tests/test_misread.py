@@ -6,9 +6,9 @@ from fractions import Fraction
 from types import SimpleNamespace
 
 import popsample
-from popsample import from_adjacency, sample_formula, sink_free_orientation, spanning_tree, spanning_trees
+from popsample import from_adjacency, from_edges, sink_free_orientation, spanning_tree, spanning_trees
 
-from .checks import ZEROS, Refusing, is_tree_to
+from .checks import ZEROS, Refusing, extremal_solution, extremal_solutions, is_tree_to, rounds_solution
 
 HAS_NUMPY = importlib.util.find_spec("numpy") is not None
 HAS_NETWORKX = importlib.util.find_spec("networkx") is not None
@@ -84,7 +84,7 @@ class Views(Refusing):
             for view in (graph.edges, graph.edges(data=True)):
                 place = [{*edge[:2]} for edge in view].index({"b", "c"})
                 for tree in spanning_trees(view, 20, "b", "w", ZEROS):
-                    self.assertIn(place, tree.edges)
+                    self.assertIn(place, tree.edge_indices)
 
     def test_other_views(self):
         import networkx
@@ -92,7 +92,7 @@ class Views(Refusing):
         graph = networkx.grid_2d_graph(2, 2)
         for view in (graph.nodes, graph.to_directed().edges, networkx.MultiDiGraph([(1, 2)]).edges):
             error = self.refused(TypeError, spanning_tree, view)
-            self.assertIn("is no view of the edges of an undirected graph: hand in the graph itself", str(error))
+            self.assertIn("is no view of the edges of an undirected graph: pass the graph itself", str(error))
 
 
 class Strings(Refusing):
@@ -100,17 +100,17 @@ class Strings(Refusing):
         for graph in (["ab", "bc"], [b"ab", b"bc"], {"ab", "bc"}, [("a", "b"), "bc"]):
             with self.subTest(graph=graph):
                 error = self.refused(TypeError, spanning_tree, graph)
-                self.assertIn("is no pair or triple: a graph is a list of edges", str(error))
+                self.assertIn("must be a pair or a triple. A graph is a list of edges", str(error))
 
     def test_what_is_no_graph(self):
         for graph in (b"ab", 5, None):
             error = self.refused(TypeError, spanning_tree, graph)
-            self.assertIn(f"{graph!r} is no graph: a graph is a list of edges", str(error))
-        self.assertIn("the edge {'a': 'b'} is no pair", str(self.refused(TypeError, spanning_tree, [{"a": "b"}])))
+            self.assertIn(f"{graph!r} is no graph. A graph is a list of edges", str(error))
+        self.assertIn("The edge {'a': 'b'} must be a pair", str(self.refused(TypeError, spanning_tree, [{"a": "b"}])))
 
     def test_a_vertex_that_is_a_list(self):
         error = self.refused(TypeError, spanning_tree, [(["a"], "b")])
-        self.assertIn("the vertex ['a'] can't be hashed", str(error))
+        self.assertIn("The vertex ['a'] can't be hashed", str(error))
 
 
 class Rows(list):
@@ -126,13 +126,31 @@ class Rows(list):
         return list(self)
 
 
+class Lists(Refusing):
+    def test_what_may_be_an_adjacency_matrix(self):
+        for rows in ([[0, 1], [1, 0]], [[0, 5], [5, 0]], [[0, 1, 2], [1, 0, 3], [2, 3, 0]]):
+            error = self.refused(popsample.ArgumentError, spanning_tree, rows)
+            self.assertIn("may be an adjacency matrix or a list of edges", str(error))
+        self.assertEqual(spanning_tree(from_edges([[0, 1], [1, 0]])).parents, {1: 0})
+        for rows in ([[0, 1], [1, 2]], [(0, 1), (1, 0)], [["a", "b"], ["b", "a"]]):
+            self.assertEqual(len(spanning_tree(rows).edges), len({name for row in rows for name in row}) - 1)
+
+    def test_edges_with_weights_and_vertices_beside(self):
+        pairs = [("a", "b"), ("b", "c")]
+        tree = spanning_tree(from_edges(pairs, [1, 2], "cba"))
+        self.assertEqual((tree.root, tree.parents), ("c", {"b": "c", "a": "b"}))
+        self.refused(popsample.ArgumentError, from_edges, pairs, [1])
+        self.refused(popsample.ArgumentError, from_edges, pairs, None, "ab")
+        self.refused(popsample.CutOffError, spanning_tree, from_edges(pairs, vertices="abcd"))
+
+
 class LikeArrays(Refusing):
     """As below, where numpy isn't installed."""
 
     def test_square_ones_are_refused(self):
         for matrix in ([[0, 1], [1, 0]], [[0, 1, 1], [1, 0, 1], [1, 1, 0]]):
             error = self.refused(popsample.ArgumentError, spanning_tree, Rows(matrix))
-            self.assertIn("for an adjacency matrix hand in popsample.from_adjacency(array)", str(error))
+            self.assertIn("pass popsample.from_adjacency(..) or popsample.from_edges(..) of it", str(error))
             self.assertEqual(set(spanning_tree(from_adjacency(Rows(matrix))).parents), set(range(1, len(matrix))))
         self.refused(popsample.ArgumentError, spanning_tree, Rows([(0.0, 1.0)], "f"))
 
@@ -145,9 +163,37 @@ class ArraysOfNumbers(Refusing):
     def test_square_ones_are_refused(self):
         import numpy
 
-        for matrix in ([[0, 1], [1, 0]], [[0, 1, 1], [1, 0, 1], [1, 1, 0]], [[1, 2], [2, 3]]):
+        for matrix in ([[0, 1], [1, 0]], [[0, 1, 1], [1, 0, 1], [1, 1, 0]]):
             error = self.refused(popsample.ArgumentError, spanning_tree, numpy.array(matrix))
-            self.assertIn("for an adjacency matrix hand in popsample.from_adjacency(array)", str(error))
+            self.assertIn("pass popsample.from_adjacency(..) or popsample.from_edges(..) of it", str(error))
+
+    def test_as_many_edges_as_columns(self):
+        import numpy
+
+        for pairs in ([[0, 1], [1, 2]], [[0, 1, 1], [1, 2, 3], [0, 2, 4]]):
+            listed = spanning_tree(list(map(tuple, pairs)), key=ZEROS)
+            self.assertEqual(spanning_tree(numpy.array(pairs), key=ZEROS), listed, pairs)
+        for pairs in (numpy.array([[0, 1], [1, 0]]), [[0, 1], [1, 0]]):
+            self.assertEqual(spanning_tree(from_edges(pairs)).parents, {1: 0})
+
+    def test_floats_beside_weights(self):
+        import numpy
+
+        edges, weights = numpy.array([(0, 1), (1, 2), (2, 0)]), numpy.array([1.0, 2.0, 2.5])
+        stacked = spanning_tree(numpy.column_stack([edges, weights]), key=ZEROS)
+        self.assertEqual(stacked, spanning_tree(from_edges(edges, weights), key=ZEROS))
+        self.assertEqual({type(vertex) for vertex in stacked.parents}, {int})
+        wrong = numpy.array([(0.5, 1, 1)])
+        self.assertIn("must be integers", str(self.refused(popsample.ArgumentError, spanning_tree, wrong)))
+
+    def test_large_and_negative_names(self):
+        import numpy
+
+        pairs = [(-5, 2**40), (2**40, 7), (7, -5)] * 40
+        self.assertEqual(spanning_tree(numpy.array(pairs), key=ZEROS), spanning_tree(pairs, key=ZEROS))
+        many = [(vertex * 7 % 100, vertex * 7 % 100 + 1) for vertex in range(1000)]
+        for kind in (numpy.uint32, numpy.int32, numpy.int64):
+            self.assertEqual(spanning_tree(numpy.array(many, dtype=kind), key=ZEROS), spanning_tree(many, key=ZEROS))
 
     def test_others_that_are_no_edges(self):
         import numpy
@@ -165,7 +211,7 @@ class ArraysOfNumbers(Refusing):
             self.assertTrue(is_tree_to(3, range(4), pairs, tree))
             self.assertEqual({type(vertex) for vertex in tree.parents}, {int})
         heavy = numpy.array([(7, 8, 1), (7, 8, 2**32 - 3)])
-        self.assertEqual({tree.edges[0] for tree in spanning_trees(heavy, 20, key=ZEROS)}, {1})
+        self.assertEqual({tree.edge_indices[0] for tree in spanning_trees(heavy, 20, key=ZEROS)}, {1})
 
     def test_a_matrix_by_name(self):
         import numpy
@@ -173,7 +219,7 @@ class ArraysOfNumbers(Refusing):
         matrix = numpy.array([[0, 5, 0], [5, 0, 0.5], [0, 0.5, 0]])
         self.assertEqual(spanning_tree(from_adjacency(matrix)).parents, {1: 0, 2: 1})
         tree = spanning_tree(from_adjacency(numpy.ones((2, 2), dtype=bool), names=["a", "b"]), "b")
-        self.assertEqual((tree.parents, tree.edges), ({"a": "b"}, [("a", "b")]))
+        self.assertEqual((tree.parents, tree.edges), ({"a": "b"}, (("a", "b"),)))
 
 
 class Matrices(Refusing):
@@ -191,14 +237,26 @@ class Matrices(Refusing):
 
     def test_what_is_no_undirected_graph(self):
         self.assertIn("row 0 of this one, from 0, isn't its column", str(self.wrong([[0, 1], [0, 0]])))
-        self.assertIn("an adjacency matrix is square", str(self.wrong([[0, 1]])))
-        self.assertIn("names= has one for each of the 2 rows", str(self.wrong([[0, 1], [1, 0]], names="a")))
-        self.assertIn("the entries of a matrix are its weights", str(self.wrong([[0]], weight="w")))
+        self.assertIn("An adjacency matrix must be square", str(self.wrong([[0, 1]])))
+        self.assertIn("`names` must have one name for each of the 2 rows", str(self.wrong([[0, 1], [1, 0]], names="a")))
+        self.assertIn("whose entries are the weights", str(self.wrong([[0]], weight="w")))
         self.assertIn("weight -1 of edge (0, 1)", str(self.wrong([[0, -1], [-1, 0]])))
+        nan = float("nan")
+        self.assertIn("has one in row 1, column 0", str(self.wrong([[0, 1], [nan, 0]])))
+        for matrix in (None, 3, [3]):
+            self.refused(TypeError, from_adjacency, matrix)
+        self.refused(TypeError, from_adjacency, [[0, 1], [1, 0]], [[1], [2]])
 
     def wrong(self, *words, **named):
         """What is raised of these."""
         return self.refused(popsample.ArgumentError, from_adjacency, *words, **named)
+
+
+class LikeArray:
+    """What has the look of an array of one number."""
+
+    def __index__(self):
+        raise TypeError("only integer scalar arrays can be converted to a scalar index")
 
 
 class Weights(Refusing):
@@ -241,51 +299,51 @@ class Weights(Refusing):
             self.assertIn(f"The weight {wrong!r} of edge 1 can't be taken: it is exactly ", str(error))
         error = self.refused(popsample.WeightError, spanning_tree, [("a", "b", 0.5), ("b", "c", 2.0**40)])
         self.assertEqual((error.edge, error.weight), (1, 2.0**40))
-        self.assertIn("can't all be scaled to whole numbers up to 4294967295", str(error))
+        self.assertIn("can't all be scaled exactly to integers up to 4294967295", str(error))
         self.refused(popsample.WeightError, spanning_tree, [("a", "b", 2**32)])
 
     def test_what_is_not_above_zero(self):
         for weight in (0, -1, -0.5, float("nan"), float("inf"), Fraction(0), False):
             error = self.refused(ValueError, spanning_tree, [("a", "b"), ("b", "c", weight)])
-            self.assertIn(f"The weight {weight!r} of edge 1 can't be taken: it is no number above 0", str(error))
+            self.assertIn(f"The weight {weight!r} of edge 1 can't be taken: it must be a number above 0", str(error))
 
     def test_what_is_no_number(self):
-        for weight in ("3", None, (1, 2)):
+        for weight in ("3", None, (1, 2), LikeArray()):
             error = self.refused(TypeError, spanning_tree, [("a", "b", weight)])
-            self.assertIn(f"the weight {weight!r} of edge 0 is no number", str(error))
+            self.assertIn(f"The weight of edge 0 must be an int, a float, a fractions.Fraction or a decimal.Decimal, not {weight!r}.", str(error))
 
 
 class Variables(Refusing):
     def test_variables_in_no_clause(self):
-        told = sample_formula([[1, 2]], variables=5)
+        told = extremal_solution([[1, 2]], variables=5)
         self.assertEqual([abs(literal) for literal in told.literals], [1, 2, 3, 4, 5])
-        self.assertEqual(popsample.rounds([], variables=3, stacks=[[0], [1], [0]]).literals, (-1, 2, -3))
+        self.assertEqual(rounds_solution([], variables=3, stacks=[[0], [1], [0]]).literals, (-1, 2, -3))
         self.assertEqual(len(popsample.resample([[2]], variables=3).literals), 3)
-        self.assertEqual(len(next(popsample.formula_samples([], 2, variables=4)).literals), 4)
+        self.assertEqual(len(next(extremal_solutions([], 2, variables=4)).literals), 4)
 
     def test_fewer_than_the_clauses_have(self):
-        error = self.refused(popsample.OptionError, sample_formula, [[1, -7]], variables=6)
-        self.assertEqual(str(error), "variables=6 can't be taken: the clauses have variable 7.")
-        self.refused(ValueError, sample_formula, [[1]], variables=-1)
+        error = self.refused(popsample.OptionError, extremal_solution, [[1, -7]], variables=6)
+        self.assertEqual(str(error), "`variables` must be at least 7, a variable of the clauses, not 6.")
+        self.refused(ValueError, extremal_solution, [[1]], variables=-1)
 
     def test_a_file_says_it_itself(self):
-        self.refused(popsample.OptionError, sample_formula, "none.cnf", variables=3)
+        self.refused(popsample.OptionError, extremal_solution, "none.cnf", variables=3)
 
     def test_a_formula_of_python_sat(self):
         # As pysat.formula.CNF: it has the clauses, and the number of variables, some of which stand in none.
         formula = SimpleNamespace(clauses=[[1, -2]], nv=4)
-        self.assertEqual(len(sample_formula(formula).literals), 4)
-        self.assertEqual(len(sample_formula(formula, variables=6).literals), 6)
-        self.assertEqual(popsample.check(formula), 1)
-        error = self.refused(ValueError, sample_formula, SimpleNamespace(clauses=[], nv=2, atmosts=[[[1, 2], 1]]))
+        self.assertEqual(len(extremal_solution(formula).literals), 4)
+        self.assertEqual(len(extremal_solution(formula, variables=6).literals), 6)
+        self.assertEqual(popsample.is_extremal(formula), 1)
+        error = self.refused(ValueError, extremal_solution, SimpleNamespace(clauses=[], nv=2, atmosts=[[[1, 2], 1]]))
         self.assertIn("cardinality constraints", str(error))
 
     def test_what_is_no_formula(self):
         for formula in (5, b"p cnf", {1: [2]}):
-            self.assertIn(f"{formula!r} is no formula: ", str(self.refused(TypeError, sample_formula, formula)))
+            self.assertIn(f"{formula!r} is no formula. ", str(self.refused(TypeError, extremal_solution, formula)))
         for clause in (3, "12", {1: 2}):
-            error = self.refused(TypeError, sample_formula, [[1, 2], clause])
-            self.assertIn(f"the clause {clause!r} is no list of whole numbers", str(error))
+            error = self.refused(TypeError, extremal_solution, [[1, 2], clause])
+            self.assertIn(f"The clause {clause!r} must be a list of integers", str(error))
 
 
 if __name__ == "__main__":

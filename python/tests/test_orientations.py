@@ -39,13 +39,13 @@ class Orientations(unittest.TestCase):
 
     def test_a_key_gives_the_same_orientation_whatever_the_workers(self):
         first = popsample.sink_free_orientation(TEAMS)
-        self.assertEqual(first, popsample.sink_free_orientation(TEAMS, first.key, 8))
+        self.assertEqual(first, popsample.sink_free_orientation(TEAMS, first.key, workers=8))
         self.assertNotEqual(first, popsample.sink_free_orientation(TEAMS, ZEROS))
 
     def test_heights_that_grow_change_nothing(self):
         whole = popsample.sink_free_orientation(TEAMS, ZEROS, height=4096)
         for workers in (1, 8):
-            self.assertEqual(popsample.sink_free_orientation(TEAMS, ZEROS, workers, height=1, grow=4096), whole)
+            self.assertEqual(popsample.sink_free_orientation(TEAMS, ZEROS, workers=workers, height=1, grow=4096), whole)
 
     def test_files_name_by_number(self):
         with file_of("p col 2 2\ne 1 2\ne 2 1\n") as path:

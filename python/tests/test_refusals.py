@@ -5,16 +5,16 @@ import unittest
 from unittest import mock
 
 import popsample
-from popsample import check, resample, rounds, sample_formula, sink_free_orientation, spanning_tree
+from popsample import find_clash, resample, sink_free_orientation, spanning_tree
 
-from .checks import ZEROS, Refusing, file_of, program_of
+from .checks import ZEROS, Refusing, extremal_solution, file_of, program_of, rounds_solution
 
 TRIANGLE = [("Ann", "Bob"), ("Bob", "Cem"), ("Cem", "Ann")]
 
 
 class OfRuns(Refusing):
     def test_exhausted_formula(self):
-        error = self.refused(popsample.ExhaustedError, sample_formula, [[1]], stacks=[[0]])
+        error = self.refused(popsample.ExhaustedError, extremal_solution, [[1]], stacks=[[0]])
         self.assertEqual((error.stuck, error.used, error.pops, error.log), ((1,), (0,), 0, ()))
         self.assertIn("clause 1", str(error))
 
@@ -22,7 +22,7 @@ class OfRuns(Refusing):
         pair = [("Ann", "Bob"), ("Bob", "Ann")]
         error = self.refused(popsample.ExhaustedError, sink_free_orientation, pair, stacks=[[0, 0], [1, 1]])
         self.assertEqual((error.stuck, error.used, error.pops), (("Bob",), (1, 1), 1))
-        self.assertIn("the first at vertex 'Bob'", str(error))
+        self.assertIn("the first is vertex 'Bob'", str(error))
 
     def test_exhausted_tree(self):
         error = self.refused(popsample.ExhaustedError, spanning_tree, TRIANGLE, stacks=[[1], [0]])
@@ -34,7 +34,7 @@ class OfRuns(Refusing):
         self.assertEqual((error.stuck, error.pops, error.log), ((1,), 1, (popsample.Pop(1, {1: 0}, 1),)))
 
     def test_exhausted_rounds(self):
-        error = self.refused(popsample.ExhaustedError, rounds, [[1]], stacks=[[0, 0]])
+        error = self.refused(popsample.ExhaustedError, rounds_solution, [[1]], stacks=[[0, 0]])
         self.assertEqual((error.stuck, error.used, error.pops, error.log), ((1,), (1,), None, ()))
         self.assertEqual((error.rounds, error.short), (1, 1))
 
@@ -49,11 +49,11 @@ class OfWords(Refusing):
         with program_of("echo s USAGE 5; exit 2"):
             error = self.refused(popsample.UsageError, spanning_tree, TRIANGLE, key=ZEROS, workers=64)
         self.assertEqual((error.place, error.word, error.key), (5, ZEROS, ZEROS))
-        self.assertIn(f"Word 5 of the command line, '{ZEROS}',", str(error))
+        self.assertIn(f"Argument 5, '{ZEROS}',", str(error))
 
     def test_words_that_end_too_early(self):
         error = popsample.UsageError(1, None)
-        self.assertIn("Word 1 of the command line, the end,", str(error))
+        self.assertIn("Argument 1, the end,", str(error))
 
 
 class OfTexts(Refusing):
@@ -65,7 +65,7 @@ class OfTexts(Refusing):
             ("p cnf 1 1\n2 0\n", 2, 3, "2 0"),
             ("p cnf 1 1 1\n", 1, 4, "p cnf 1 1 1"),
         }
-        self.malformed(texts, sample_formula)
+        self.malformed(texts, extremal_solution)
 
     def test_malformed_graphs(self):
         texts = {
@@ -84,21 +84,21 @@ class OfTexts(Refusing):
                 error = self.refused(popsample.MalformedError, call, path)
                 self.assertEqual((error.line, error.code), (line, code))
                 self.assertEqual(error.text or "", shown or "")
-                self.assertIn(f"Line {line} of the text", str(error))
+                self.assertIn(f"Line {line} of the input", str(error))
 
     def test_malformed_weight(self):
         with file_of("p edge 2 1\ne 1 2 0\n") as path:
             error = self.refused(popsample.MalformedError, spanning_tree, path)
-        self.assertIn("'e 1 2 0', can't stand there, since the weight is 0 (code 14)", str(error))
+        self.assertIn("Line 2 of the input is invalid: the weight is 0 (code 14). It reads 'e 1 2 0'.", str(error))
 
     def test_count(self):
         with file_of("p cnf 1 2\n1 0\n") as path:
-            error = self.refused(popsample.CountError, check, path)
+            error = self.refused(popsample.CountError, find_clash, path)
         self.assertEqual((error.declared, error.found), (2, 1))
 
     def test_limits(self):
         with file_of("p cnf 4194305 0\n") as path:
-            error = self.refused(popsample.LimitError, check, path)
+            error = self.refused(popsample.LimitError, find_clash, path)
         self.assertEqual((error.kind, error.place), (2, 1))
         error = self.refused(popsample.LimitError, spanning_tree, [("Ann", "Bob", 2**32 - 1), ("Ann", "Bob", 1)])
         self.assertEqual((error.kind, error.place), (6, "Bob"))
@@ -115,7 +115,7 @@ class OfRows(Refusing):
         self.assertEqual(error.variable, "Cem")
         error = self.refused(popsample.EmptyRowError, sink_free_orientation, TRIANGLE, stacks=[[0], [], [0]])
         self.assertEqual(error.variable, 1)
-        error = self.refused(popsample.EmptyRowError, sample_formula, [[1, 2]], stacks=[[0], []])
+        error = self.refused(popsample.EmptyRowError, extremal_solution, [[1, 2]], stacks=[[0], []])
         self.assertEqual(error.variable, 2)
 
     def test_value(self):
@@ -126,17 +126,19 @@ class OfRows(Refusing):
 
 class OfInstances(Refusing):
     def test_clash(self):
-        for call in (check, sample_formula):
-            error = self.refused(popsample.ClashError, call, [[-3], [1, 2], [2, 3]])
+        clauses = [[-3], [1, 2], [2, 3]]
+        for key in (None, ZEROS):
+            error = self.refused(popsample.ClashError, extremal_solution, clauses, key)
             self.assertEqual((error.first, error.second, error.clauses), (2, 3, ("1 2", "2 3")))
+        self.assertEqual(find_clash(clauses), (2, 3))
 
     def test_clash_in_a_file(self):
         with file_of("c two\np cnf 3 3\n-3 0 1\nc within\n2 0 2 3\n") as path:
-            error = self.refused(popsample.ClashError, check, path)
+            error = self.refused(popsample.ClashError, extremal_solution, path)
         self.assertEqual((error.first, error.second, error.clauses), (2, 3, ("1 2", "2 3")))
 
     def test_empty(self):
-        error = self.refused(popsample.EmptyClauseError, sample_formula, [[1], []])
+        error = self.refused(popsample.EmptyClauseError, extremal_solution, [[1], []])
         self.assertEqual(error.clause, 2)
 
     def test_isolated(self):
@@ -155,14 +157,14 @@ class OfInstances(Refusing):
     def test_cut_off(self):
         error = self.refused(popsample.CutOffError, spanning_tree, [("Ann", "Bob"), ("Cem", "Dan")])
         self.assertEqual(error.vertex, "Cem")
-        self.assertIn("vertex 'Cem'", str(error))
+        self.assertIn("Vertex 'Cem' is not connected", str(error))
 
 
 class OfGraphs(Refusing):
     def test_edges_of_another_form(self):
         for edge in (("a",), ("a", "b", 1, 2), []):
             error = self.refused(ValueError, spanning_tree, [edge])
-            self.assertIn(f"the edge {edge!r} has neither two nor three parts", str(error))
+            self.assertIn(f"The edge {edge!r} must have two or three parts", str(error))
 
 
 class OfDevices(Refusing):
@@ -170,27 +172,30 @@ class OfDevices(Refusing):
 
     def test_read_fault(self):
         with program_of('exec "$PROGRAM" "$@" < /'):
-            self.refused(popsample.ReadError, check, [[1]])
+            self.refused(popsample.ReadError, find_clash, [[1]])
 
     @unittest.skipUnless(os.path.exists("/dev/full"), "there is no /dev/full")
     def test_write_fault(self):
         with program_of('exec "$PROGRAM" "$@" > /dev/full'):
-            self.refused(popsample.WriteError, check, [[1]])
+            self.refused(popsample.WriteError, find_clash, [[1]])
 
     def test_memory(self):
         with program_of("echo s MEMORY; exit 9"):
-            error = self.refused(popsample.OutOfMemoryError, check, [[1]])
+            error = self.refused(popsample.OutOfMemoryError, find_clash, [[1]])
         self.assertEqual(error.status, 9)
 
     def test_no_program(self):
         with mock.patch.dict(os.environ, {"POPSAMPLE": "/nowhere/popsample", "POPSAMPLE_LIBRARY": ""}):
-            error = self.refused(popsample.NoProgramError, check, [[1]])
+            error = self.refused(popsample.NoProgramError, find_clash, [[1]])
         self.assertIn("'/nowhere/popsample'", str(error))
 
     def test_ends_that_are_no_answers(self):
-        for script in ("exit 1", "kill -9 $$", "echo s NONE; exit 3", "echo nothing; exit 2"):
+        for script in ("exit 1", "kill -9 $$", "echo s NONE; exit 3", "echo nothing; exit 2", "exit 0", "echo nothing"):
             with self.subTest(script), program_of(script):
-                self.refused(popsample.NoAnswerError, check, [[1]])
+                self.refused(popsample.NoAnswerError, find_clash, [[1]])
+                self.refused(popsample.NoAnswerError, spanning_tree, TRIANGLE)
+                self.refused(popsample.NoAnswerError, spanning_tree, TRIANGLE, log=True)
+                self.refused(popsample.NoAnswerError, popsample.spanning_trees, TRIANGLE, 3)
 
 
 if __name__ == "__main__":

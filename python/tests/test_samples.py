@@ -1,11 +1,16 @@
-"""Samples in batches: the same ones whatever runs them, one by one and as arrays."""
+"""Series of samples: the same ones through every door, one by one and as arrays."""
 
 import importlib.util
 import itertools
 import multiprocessing
+import operator
 import os
+import pickle
+import subprocess
+import sys
 import tempfile
 import threading
+import time
 import unittest
 import warnings
 from concurrent.futures import Future, ProcessPoolExecutor, ThreadPoolExecutor
@@ -13,16 +18,43 @@ from pathlib import Path
 from unittest import mock
 
 import popsample
-from popsample import batch_key, formula_samples, samples, sink_free_orientations, spanning_trees
+from popsample import (
+    samples,
+    sink_free_orientation,
+    sink_free_orientations,
+    spanning_tree,
+    spanning_trees,
+    typed_calls,
+)
 from popsample.answer import sample_texts
-from popsample.batches import batch_size
+from popsample.chunks import chunk_size
 
-from .checks import ZEROS, Refusing, file_of, has_no_sink, is_tree_to, program_of, satisfies
+from .checks import (
+    ZEROS,
+    Refusing,
+    extremal_solution,
+    extremal_solutions,
+    file_of,
+    has_no_sink,
+    is_tree_to,
+    program_of,
+    rounds_solution,
+    satisfies,
+)
 
 TRIANGLE = [("Ann", "Bob"), ("Bob", "Cem"), ("Cem", "Ann")]
 TEAMS = [(first, second) for first in range(5) for second in range(first)]
 RING = [[1, 2, -3], [3, 4, -5], [5, 6, -1]]
-KINDS = ((TEAMS, "tree"), (TEAMS, "orientation"), (RING, "assignment"))
+# What is sampled, and the function for one sample of it.
+KINDS = (
+    (TEAMS, {"kind": "tree"}, spanning_tree),
+    (TEAMS, {"kind": "orientation"}, sink_free_orientation),
+    (RING, {"kind": "assignment", "method": "extremal"}, extremal_solution),
+)
+# Whether there is a library that makes samples of any number.
+LIBRARY = popsample.find_library()
+BY_ROUNDS = LIBRARY is not None and typed_calls.functions(LIBRARY)[2] is not None
+FOLDER = str(Path(popsample.__file__).resolve().parents[1])
 
 
 class Backwards:
@@ -48,60 +80,72 @@ class Backwards:
             future.set_result(call(*arguments))
 
 
-def small_batches():
-    """Batches of at most three samples, so that few samples are many batches."""
-    return mock.patch("popsample.batches.MOST_SAMPLES", 3)
+def small_chunks():
+    """Chunks of at most three samples, so that few samples are many chunks."""
+    return mock.patch("popsample.chunks.MOST_SAMPLES", 3)
 
 
-class Batches(Refusing):
-    def test_keys(self):
-        # By openssl dgst -sha256 -mac HMAC -macopt hexkey:00.., of the texts "popsample batch 0" and so on.
-        wanted = {
-            0: "7e130bea1ede9ec1c356c3a741513a0f28fe5082bd7599d677e9b22853032fca",
-            1: "b84a8f7b5629b38a6c9dce8edabfd2f382c2632f961ec9001dc5d21fd93d3649",
-            12: "86edf0ecf77fdc6d52a3042e04166ed11811604eed6a571f16d7b2969b48b7dd",
-        }
-        self.assertEqual({number: batch_key(ZEROS, number) for number in wanted}, wanted)
-        self.refused(ValueError, batch_key, "0", 0)
+def with_executors():
+    """No executor, and some that end tasks in another order."""
+    return (None, Backwards(), ThreadPoolExecutor(3))
 
-    def test_sizes_are_below_the_limits(self):
-        for variables in (0, 1, 99, 1024, 1025, 2**20 - 1, 2**20, 2**22):
-            size = batch_size(variables)
-            self.assertTrue(1 <= size <= 65536 and size * variables <= 33554432, variables)
-        self.assertEqual([batch_size(count) for count in (99, 2**11, 2**21)], [1024, 512, 1])
 
-    def test_a_batch_is_a_run_under_its_key(self):
-        with small_batches():
-            told = list(samples(TRIANGLE, 7, ZEROS))
-        wanted = [
-            tree
-            for number, count in ((0, 3), (1, 3), (2, 1))
-            for tree in spanning_trees(TRIANGLE, count, key=batch_key(ZEROS, number))
-        ]
-        self.assertEqual(told, wanted)
-        self.assertEqual([tree.sample for tree in told], [0, 1, 2, 0, 1, 2, 0])
+class Series(Refusing):
+    def test_sizes_of_chunks(self):
+        self.assertEqual([chunk_size(count) for count in (0, 99, 2**11, 2**21)], [1024, 1024, 512, 1])
+
+    def test_a_sample_is_the_same_through_every_door(self):
+        for subject, named, one in KINDS:
+            alone = [one(subject, key=ZEROS, sample=number) for number in range(11)]
+            self.assertEqual([each.sample for each in alone], list(range(11)))
+            for executor in with_executors():
+                with small_chunks():
+                    found = list(samples(subject, 11, ZEROS, executor, **named))
+                    self.assertEqual(found, alone)
+                    self.assertEqual([each.used for each in found], [each.used for each in alone])
+                    self.assertEqual([(each.sample, each.key) for each in found], [(n, ZEROS) for n in range(11)])
+                    later = samples(subject, 4, ZEROS, executor, first=5, **named)
+                    self.assertEqual([(each, each.sample) for each in later], [(alone[n], n) for n in range(5, 9)])
+                    with samples(subject, None, ZEROS, executor, **named) as endless:
+                        self.assertEqual(list(itertools.islice(endless, 11)), alone)
+
+    def test_the_functions_for_many_are_doors_too(self):
+        calls = ((spanning_trees, TEAMS), (sink_free_orientations, TEAMS), (extremal_solutions, RING))
+        for (subject, named, _), (call, _) in zip(KINDS, calls):
+            wanted = list(samples(subject, 9, ZEROS, **named))
+            self.assertEqual(list(call(subject, 9, key=ZEROS)), wanted)
+            self.assertEqual(list(call(subject, 4, key=ZEROS, first=3)), wanted[3:7])
+
+    @unittest.skipUnless(BY_ROUNDS, "no library has the call for assignments")
+    def test_rounds_are_a_series_too(self):
+        wanted = [rounds_solution(RING, ZEROS, sample=number) for number in range(9)]
+        self.assertEqual(list(popsample.solutions(RING, 9, key=ZEROS)), wanted)
+        self.assertEqual(list(samples(RING, 9, ZEROS)), wanted)
+        self.assertEqual(wanted, [extremal_solution(RING, ZEROS, sample=number) for number in range(9)])
+
+    @unittest.skipUnless(LIBRARY, "the library isn't there")
+    def test_numbers_go_to_the_greatest(self):
+        last = 2**32 - 1
+        tree = spanning_tree(TEAMS, key=ZEROS, sample=last)
+        self.assertEqual((tree.sample, [tree]), (last, list(spanning_trees(TEAMS, 1, key=ZEROS, first=last))))
+        self.refused(popsample.OptionError, spanning_trees, TEAMS, 2, first=last)
+        self.assertEqual(len(list(spanning_trees(TRIANGLE, 70_000, key=ZEROS))), 70_000)
 
     def test_each_kind(self):
         for tree in samples(TEAMS, 20, kind="tree", root=3):
             self.assertTrue(is_tree_to(3, range(5), TEAMS, tree))
         for orientation in samples(TEAMS, 20, kind="orientation"):
             self.assertTrue(has_no_sink(range(5), orientation.arrows))
-        for assignment in samples(RING, 20, variables=8, kind="assignment"):
+        for assignment in samples(RING, 20, variables=8, kind="assignment", method="extremal"):
             self.assertTrue(satisfies(RING, assignment.literals) and len(assignment.literals) == 8)
 
-    def test_a_longer_series_begins_with_a_shorter_one(self):
-        with small_batches():
-            for subject, kind in KINDS:
-                longer = list(samples(subject, 11, ZEROS, kind=kind))
-                self.assertEqual(list(samples(subject, 4, ZEROS, kind=kind)), longer[:4])
-                self.assertEqual(list(itertools.islice(samples(subject, None, ZEROS, kind=kind), 11)), longer)
-
-    def test_len(self):
+    def test_how_many_are_left(self):
         counted = samples(TRIANGLE, 5)
-        self.assertEqual((len(counted), len(list(counted))), (5, 5))
-        self.assertEqual(len(spanning_trees(TRIANGLE, 3)), 3)
-        self.refused(TypeError, len, samples(TRIANGLE))
-        self.assertTrue(samples(TRIANGLE))
+        self.assertEqual((counted.count, operator.length_hint(counted)), (5, 5))
+        next(counted)
+        self.assertEqual((counted.done, operator.length_hint(counted), len(list(counted))), (1, 4, 4))
+        self.assertEqual(operator.length_hint(samples(TRIANGLE), 7), 7)
+        self.assertFalse(hasattr(counted, "__len__"))
 
     def test_the_key_is_told(self):
         self.assertEqual(samples(TRIANGLE, 1, ZEROS).key, ZEROS)
@@ -109,52 +153,65 @@ class Batches(Refusing):
         self.assertEqual(list(samples(TRIANGLE, 4, first.key)), list(first))
         self.assertNotEqual(samples(TRIANGLE).key, samples(TRIANGLE).key)
 
-    def test_an_exhausted_sample_is_raised_in_its_place(self):
-        for executor in (None, Backwards()):
-            with small_batches():
-                told = samples([[1]], 40, ZEROS, executor, height=2, kind="assignment")
-                raised = [self.tried(told) for _ in range(40)]
-            wrong = [place for place, result in enumerate(raised) if isinstance(result, popsample.ExhaustedError)]
-            self.assertTrue(wrong)
-            for place in wrong:
-                self.assertEqual((raised[place].sample, raised[place].key), (place % 3, batch_key(ZEROS, place // 3)))
-            self.assertEqual(self.tried(told), "end")
-
-    def tried(self, told):
-        """The next sample, what is raised in its place, or that there is none."""
-        try:
-            return next(told, "end")
-        except popsample.ExhaustedError as error:
-            return error
+    def test_what_is_closed_has_no_more(self):
+        for executor in with_executors():
+            with samples(TRIANGLE, None, ZEROS, executor) as trees:
+                next(trees)
+            self.refused(StopIteration, next, trees)
 
     def test_refusals(self):
-        for executor in (None, Backwards()):
+        for executor in with_executors():
             apart = samples([("Ann", "Bob"), ("Cem", "Dan")], 2, ZEROS, executor)
             error = self.refused(popsample.CutOffError, next, apart)
-            self.assertEqual((error.vertex, error.key), ("Cem", batch_key(ZEROS, 0)))
-            clashing = samples([[1, 2], [1, 3]], 2, None, executor, kind="assignment")
+            self.assertEqual((error.vertex, error.key), ("Cem", ZEROS))
+            clashing = samples([[1, 2], [1, 3]], 2, ZEROS, executor, kind="assignment", method="extremal")
             self.assertEqual(self.refused(popsample.ClashError, next, clashing).clauses, ("1 2", "1 3"))
 
-    def test_a_batch_that_was_cut_off(self):
-        text = "batch 2\\nsample 0\\ns SAMPLE\\na 2 1 1\\nused 0\\npops 0\\nsample 1\\n"
-        for executor in (None, Backwards()):
-            with program_of(f"cat > /dev/null; printf '{text}'; exit 8"):
-                told = samples([("a", "b")], 2, ZEROS, executor)
-                self.assertEqual(next(told).parents, {"b": "a"})
-                self.refused(popsample.WriteError, next, told)
 
-    def test_what_is_left_is_ended(self):
-        # The program would print for ever.
-        sample = "sample 0\\ns SAMPLE\\nused\\npops 0\\n"
-        loop = f"cat > /dev/null; echo $$ > '{{}}'; echo batch 9; while :; do printf '{sample}'; done"
-        for leave in (lambda told: told.close(), lambda told: None):
-            with file_of("") as file, program_of(loop.format(file)):
-                told = samples({"a": []}, 9)
-                self.assertEqual(next(told).root, "a")
-                leave(told)
-                del told
-                with self.assertRaises(ProcessLookupError):
-                    os.kill(int(file.read_text()), 0)
+class OnExhausted(Refusing):
+    """Some samples of one variable with two values are exhausted."""
+
+    @classmethod
+    def setUpClass(cls):
+        named = {"kind": "assignment", "method": "extremal", "height": 2}
+        cls.call = staticmethod(lambda *words, **more: samples([[1]], *words, **named, **more))
+        cls.told = []
+        trying = cls.call(40, ZEROS)
+        for _ in range(40):
+            try:
+                cls.told.append(next(trying))
+            except popsample.ExhaustedError as error:
+                cls.told.append(error)
+        cls.wrong = [place for place, told in enumerate(cls.told) if isinstance(told, popsample.ExhaustedError)]
+
+    def test_it_is_raised_in_its_place(self):
+        self.assertTrue(0 < len(self.wrong) < 40)
+        for place, told in enumerate(self.told):
+            self.assertEqual((told.sample, told.key), (place, ZEROS))
+        error = self.told[self.wrong[0]]
+        self.assertEqual((error.stuck, error.used, error.pops), ((1,), (1,), 1))
+        same = self.refused(popsample.ExhaustedError, extremal_solution, [[1]], ZEROS, height=2, sample=error.sample)
+        self.assertEqual((str(same), vars(same)), (str(error), vars(error)))
+
+    def test_it_is_left_out_or_yielded(self):
+        whole = [told.sample for told in self.told if told.sample not in self.wrong]
+        for executor in with_executors():
+            with small_chunks():
+                skipped = self.call(40, ZEROS, executor, on_exhausted="skip")
+                self.assertEqual([told.sample for told in skipped], whole)
+                yielded = list(self.call(40, ZEROS, executor, on_exhausted="yield"))
+                self.assertEqual([type(told) for told in yielded], [type(told) for told in self.told])
+        self.refused(popsample.OptionError, self.call, 3, on_exhausted="pass")
+
+    @unittest.skipUnless(importlib.util.find_spec("numpy"), "numpy isn't installed")
+    def test_arrays(self):
+        for executor in with_executors():
+            with small_chunks():
+                self.refused(popsample.ExhaustedError, self.call(40, ZEROS, executor).arrays)
+                told = self.call(40, ZEROS, executor, on_exhausted="skip").arrays()
+            self.assertEqual(told.samples.tolist(), [n for n in range(40) if n not in self.wrong])
+            self.assertEqual((len(told), told.values.all()), (40 - len(self.wrong), True))
+        self.refused(popsample.OptionError, self.call(4, on_exhausted="yield").arrays)
 
 
 class Streams(unittest.TestCase):
@@ -183,6 +240,11 @@ class Streams(unittest.TestCase):
                     self.assertEqual([tree.sample for tree in told], [1, 2])
                 go_on.unlink()
 
+    def test_a_series_without_end_is_made_by_longer_and_longer_runs(self):
+        with mock.patch("popsample.engine.FIRST_RUN", 2), mock.patch.dict(os.environ, {"POPSAMPLE_LIBRARY": ""}):
+            found = list(itertools.islice(spanning_trees(TEAMS, key=ZEROS), 30))
+            self.assertEqual(found, list(spanning_trees(TEAMS, 30, key=ZEROS)))
+
 
 class Kinds(Refusing):
     def test_lists_that_can_be_read_in_one_way_alone(self):
@@ -195,7 +257,7 @@ class Kinds(Refusing):
     def test_files(self):
         for text, kind in (("c\np cnf 1 1\n1 0\n", popsample.Assignment), ("p edge 2 1\ne 1 2\n", popsample.Tree)):
             with file_of(text) as path:
-                self.assertIsInstance(next(samples(path, 2)), kind)
+                self.assertIsInstance(next(samples(path)), kind)
         with file_of("p edge 3 3\ne 1 2\ne 2 3\ne 3 1\n") as path:
             self.assertIsInstance(next(samples(path, kind="orientation")), popsample.Orientation)
 
@@ -206,26 +268,16 @@ class Kinds(Refusing):
 
 
 class Executors(Refusing):
-    def test_the_samples_are_the_same(self):
-        with small_batches():
-            wanted = {kind: list(samples(subject, 20, ZEROS, kind=kind)) for subject, kind in KINDS}
-            for workers in (1, 3):
-                with ThreadPoolExecutor(workers) as threads:
-                    for subject, kind in KINDS:
-                        self.assertEqual(list(samples(subject, 20, ZEROS, threads, kind=kind)), wanted[kind])
-            for subject, kind in KINDS:
-                self.assertEqual(list(samples(subject, 20, ZEROS, Backwards(), kind=kind)), wanted[kind])
-
     def test_processes(self):
         wanted = list(samples(TEAMS, 3000, ZEROS, kind="tree"))
-        for workers in (1, 2):
-            with ProcessPoolExecutor(workers, multiprocessing.get_context("spawn")) as processes:
+        for method in ("spawn", "fork"):
+            with ProcessPoolExecutor(2, multiprocessing.get_context(method)) as processes:
                 self.assertEqual(list(samples(TEAMS, 3000, ZEROS, processes, kind="tree")), wanted)
 
-    def test_few_batches_are_handed_in(self):
+    def test_few_tasks_are_submitted(self):
         for ahead in (1, 4):
             executor = Backwards()
-            with small_batches():
+            with small_chunks():
                 told = samples(TRIANGLE, 60, ZEROS, executor, ahead=ahead)
                 self.assertEqual(executor.most, 0)
                 self.assertEqual(len(list(told)), 60)
@@ -233,7 +285,7 @@ class Executors(Refusing):
 
     def test_what_is_left_is_cancelled(self):
         begun, go_on = threading.Event(), threading.Event()
-        with small_batches(), ThreadPoolExecutor(1) as threads:
+        with small_chunks(), ThreadPoolExecutor(1) as threads:
             threads.submit(lambda: begun.set() or go_on.wait(60))
             begun.wait(60)
             told = samples(TRIANGLE, None, ZEROS, threads, ahead=4)
@@ -242,15 +294,121 @@ class Executors(Refusing):
             told.close()
             self.refused(StopIteration, next, told)
 
+    def test_a_task_goes_to_another_process(self):
+        told = samples(TRIANGLE, 3, ZEROS)
+        request = pickle.loads(pickle.dumps(told._request))
+        self.assertEqual((request.key, request.words), (told.key, ("tree", "--root", "1")))
+
+
+# A cycle, on which a walk is long, and what is done with it.
+CYCLE = """
+import os, signal, sys, threading, time
+from concurrent.futures import ThreadPoolExecutor
+import popsample
+edges = [(vertex, (vertex + 1) % 60_000) for vertex in range(60_000)]
+# Whoever runs the tests may ignore interrupts, and so would this process.
+signal.signal(signal.SIGINT, signal.default_int_handler)
+threading.Timer(1.5, os.kill, (os.getpid(), signal.SIGINT)).start()
+"""
+LONG = {
+    "one": "popsample.spanning_tree(edges)",
+    "rounds": "popsample.solution([[1, 2], [-1, 2], [1, -2], [-1, -2]], height=10**9)",
+    "series": "list(popsample.spanning_trees(edges, 9))",
+    "threads": "with ThreadPoolExecutor(2) as threads: list(popsample.samples(edges, 9, executor=threads))",
+}
+
+
+class Interrupted(Refusing):
+    def test_the_keyboard_stops_each_call(self):
+        for name, call in LONG.items():
+            with self.subTest(name):
+                began = time.monotonic()
+                ran = subprocess.run(
+                    [sys.executable, "-c", CYCLE + call],
+                    env={**os.environ, "PYTHONPATH": FOLDER},
+                    stderr=subprocess.PIPE,
+                    timeout=100,
+                    start_new_session=True,
+                )
+                self.assertIn(b"KeyboardInterrupt", ran.stderr)
+                self.assertLess(time.monotonic() - began, 20)
+
+    @unittest.skipUnless(LIBRARY, "the library isn't there")
+    def test_a_timeout_stops_each_call(self):
+        edges = [(vertex, (vertex + 1) % 60_000) for vertex in range(60_000)]
+        never = [[1, 2], [-1, 2], [1, -2], [-1, -2]]
+        with ThreadPoolExecutor(2) as threads:
+            for call in (
+                lambda: spanning_tree(edges, timeout=0.3),
+                lambda: spanning_trees(edges, 3, timeout=0.3),
+                lambda: next(samples(edges, 3, executor=threads, timeout=0.3)),
+                lambda: rounds_solution(never, height=10**9, timeout=0.3),
+            ):
+                began = time.monotonic()
+                error = self.refused(popsample.RunTimeoutError, call)
+                self.assertEqual(error.timeout, 0.3)
+                self.assertLess(time.monotonic() - began, 10)
+
+    @unittest.skipUnless(LIBRARY, "the library isn't there")
+    def test_a_run_in_many_parts_has_the_same_end(self):
+        wanted = [(tree, tree.used, tree.pops) for tree in spanning_trees(TEAMS, 30, key=ZEROS)]
+        # A library may have no call for assignments; then the program makes one.
+        many = 30 if BY_ROUNDS else 1
+        found = [(told, told.used, told.rounds) for told in popsample.solutions(RING, many, key=ZEROS)]
+        for budget in (1, 2, 3, 7):
+            with (
+                mock.patch("popsample.problems.POPS", budget),
+                mock.patch("popsample.problems.LOOKS", budget * 14),
+                mock.patch("popsample.typed_calls.next_budget", lambda budget, took: budget),
+                mock.patch("popsample.problems.TreeProblem.first_budget", budget),
+            ):
+                trees = [(tree, tree.used, tree.pops) for tree in spanning_trees(TEAMS, 30, key=ZEROS)]
+                self.assertEqual(trees, wanted)
+                rounds = [(told, told.used, told.rounds) for told in popsample.solutions(RING, many, key=ZEROS)]
+                self.assertEqual(rounds, found)
+
+
+@unittest.skipUnless(LIBRARY, "the library isn't there")
+class Forked(unittest.TestCase):
+    def test_a_child_that_was_forked_has_the_same_samples(self):
+        script = (
+            "import os, popsample\n"
+            "import popsample.typed_calls as calls\n"
+            "wanted = list(popsample.spanning_trees([(1, 2), (2, 3), (3, 1)], 9, key='0' * 64))\n"
+            "calls.draw = None\n"
+            "if os.fork() == 0:\n"
+            "    found = list(popsample.spanning_trees([(1, 2), (2, 3), (3, 1)], 9, key='0' * 64))\n"
+            "    os._exit(3 if found == wanted else 4)\n"
+            "raise SystemExit(os.waitstatus_to_exitcode(os.wait()[1]))\n"
+        )
+        ran = subprocess.run([sys.executable, "-c", script], env={**os.environ, "PYTHONPATH": FOLDER}, timeout=100)
+        self.assertEqual(ran.returncode, 3)
+
 
 class Shown(Refusing):
     def test_a_callable(self):
         seen = []
         for _ in samples(TRIANGLE, 3, progress=lambda *numbers: seen.append(numbers)):
             pass
-        self.assertEqual(seen, [(1, 3), (2, 3), (3, 3)])
+        self.assertEqual((seen[0], seen[-1]), ((1, 3), (3, 3)))
         next(samples(TRIANGLE, progress=lambda *numbers: seen.append(numbers)))
         self.assertEqual(seen[-1], (1, None))
+
+    def test_it_is_called_seldom(self):
+        seen = []
+        began = time.monotonic()
+        for _ in samples(TRIANGLE, 3000, progress=lambda *numbers: seen.append(numbers)):
+            pass
+        self.assertLess(len(seen), 10 * (time.monotonic() - began) + 3)
+        self.assertEqual(seen[-1], (3000, 3000))
+
+    def test_a_class(self):
+        made = mock.Mock()
+        bar = type("Bar", (), {"__init__": lambda self, **named: bool(made(**named)) and None,
+                               "update": made.update, "close": made.close})  # fmt: skip
+        self.assertEqual(len(list(samples(TRIANGLE, 2, progress=bar))), 2)
+        made.assert_called_once_with(total=2, unit="sample")
+        made.close.assert_called_once_with()
 
     @unittest.skipUnless(importlib.util.find_spec("tqdm"), "tqdm isn't installed")
     def test_a_bar(self):
@@ -286,7 +444,7 @@ class AsArrays(Refusing):
                     else:
                         self.assertEqual(names[told.parents[row, place]], tree.parents[name])
                         self.assertEqual(told.used[row, place], tree.used[name])
-                self.assertEqual(sorted(edge for edge in told.edges[row] if edge >= 0), sorted(tree.edges))
+                self.assertEqual(sorted(edge for edge in told.edges[row] if edge >= 0), sorted(tree.edge_indices))
             self.assertEqual(told.pops.tolist(), [tree.pops for tree in trees])
 
     def test_orientations(self):
@@ -299,27 +457,27 @@ class AsArrays(Refusing):
             self.assertEqual(told.pops[row], orientation.pops)
 
     def test_assignments(self):
-        told = samples(RING, 50, ZEROS, kind="assignment", variables=7).arrays()
+        told = samples(RING, 50, ZEROS, kind="assignment", variables=7, method="extremal").arrays()
         self.assertEqual(told.values.shape, (50, 7))
-        for row, assignment in enumerate(samples(RING, 50, ZEROS, kind="assignment", variables=7)):
+        for row, assignment in enumerate(samples(RING, 50, ZEROS, kind="assignment", variables=7, method="extremal")):
             self.assertEqual(told.values[row].tolist(), [literal > 0 for literal in assignment.literals])
             self.assertEqual(told.used[row].tolist(), list(assignment.used.values()))
             self.assertEqual(told.pops[row], assignment.pops)
 
     def test_one_run(self):
-        for call, subject in ((spanning_trees, TEAMS), (sink_free_orientations, TEAMS), (formula_samples, RING)):
+        for call, subject in ((spanning_trees, TEAMS), (sink_free_orientations, TEAMS), (extremal_solutions, RING)):
             made = call(subject, 30, key=ZEROS).arrays()
             self.assertEqual(made.pops.tolist(), [sample.pops for sample in call(subject, 30, key=ZEROS)])
 
     def test_executors_change_nothing(self):
         import numpy
 
-        with small_batches():
-            for subject, kind in KINDS:
-                wanted = samples(subject, 20, ZEROS, kind=kind).arrays()
+        with small_chunks():
+            for subject, named, _ in KINDS:
+                wanted = samples(subject, 20, ZEROS, **named).arrays()
                 for executor in (Backwards(), ThreadPoolExecutor(2)):
-                    made = samples(subject, 20, ZEROS, executor, kind=kind).arrays()
-                    for name in ("pops", "used"):
+                    made = samples(subject, 20, ZEROS, executor, **named).arrays()
+                    for name in ("pops", "used", "samples"):
                         self.assertTrue(numpy.array_equal(getattr(made, name), getattr(wanted, name)))
 
     def test_files_name_by_number(self):
@@ -337,7 +495,7 @@ class AsArrays(Refusing):
         incidence = told.incidence().toarray()
         self.assertEqual(incidence.shape, (20, 10))
         for row, tree in enumerate(spanning_trees(TEAMS, 20, 3, key=ZEROS)):
-            self.assertEqual([edge for edge in range(10) if incidence[row, edge]], sorted(tree.edges))
+            self.assertEqual([edge for edge in range(10) if incidence[row, edge]], sorted(tree.edge_indices))
             matrix = told.adjacency(row).toarray()
             pairs = {(told.vertices[tail], told.vertices[head]) for tail, head in zip(*matrix.nonzero())}
             self.assertEqual(pairs, {(arrow.tail, arrow.head) for arrow in tree.arrows})
@@ -347,15 +505,16 @@ class AsArrays(Refusing):
         begun = samples(TRIANGLE, 5)
         next(begun)
         self.refused(popsample.OptionError, begun.arrays)
-        for executor in (None, Backwards()):
-            told = samples([[1]], 40, ZEROS, executor, height=2, kind="assignment")
-            self.refused(popsample.ExhaustedError, told.arrays)
 
-    def test_progress_by_batches(self):
+    def test_progress(self):
         seen = []
-        with small_batches():
-            samples(TRIANGLE, 7, progress=lambda *numbers: seen.append(numbers)).arrays()
-        self.assertEqual(seen, [(3, 7), (6, 7), (7, 7)])
+        samples(TRIANGLE, 7, progress=lambda *numbers: seen.append(numbers)).arrays()
+        self.assertEqual(seen[-1], (7, 7))
+
+    def test_trees_by_their_names(self):
+        told = spanning_trees(TRIANGLE, 7, key=ZEROS).arrays()
+        self.assertEqual(list(told), [tree.parents for tree in spanning_trees(TRIANGLE, 7, key=ZEROS)])
+        self.assertEqual((len(told), told.samples.tolist()), (7, list(range(7))))
 
 
 class WithoutNumpy(Refusing):

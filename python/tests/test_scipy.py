@@ -81,7 +81,7 @@ class Matrices(unittest.TestCase):
 
     def test_a_zero_that_stands_is_no_edge(self):
         matrix = sparse.csr_matrix(([0, 0], ([0, 1], [1, 0])), shape=(2, 2))
-        with self.assertRaises(popsample.CutOff):
+        with self.assertRaises(popsample.CutOffError):
             popsample.spanning_tree(matrix)
 
     def test_orientations(self):
@@ -95,15 +95,16 @@ class Matrices(unittest.TestCase):
         for matrix, kind, told in (
             (sparse.csr_matrix((2, 3)), ValueError, "2 rows and 3 columns"),
             (sparse.csr_matrix(numpy.array([[0, 1], [0, 0]])), ValueError, "matrix.maximum(matrix.T)"),
-            (sparse.csr_matrix(numpy.array([[0, 1], [2, 0]])), ValueError, "isn't symmetric"),
+            (sparse.csr_matrix(numpy.array([[0, 1], [2, 0]])), ValueError, "must be symmetric"),
             (sparse.csr_matrix(numpy.array([[0, -1], [-1, 0]])), ValueError, "-1"),
+            (sparse.csr_matrix(numpy.array([[0, numpy.nan], [numpy.nan, 0]])), ValueError, "must have no NaN"),
         ):
             with self.assertRaises(kind) as refused:
                 popsample.spanning_tree(matrix)
             self.assertIn(told, str(refused.exception))
         with self.assertRaises(ValueError) as named:
             popsample.spanning_tree(sparse.csr_matrix((1, 1)), weight="buses")
-        self.assertIn("weight='buses'", str(named.exception))
+        self.assertIn("`weight` must be None for a matrix", str(named.exception))
 
 
 if __name__ == "__main__":

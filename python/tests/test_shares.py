@@ -12,7 +12,7 @@ from collections.abc import Hashable, Mapping
 
 import popsample
 
-from .checks import ZEROS, has_no_sink, reached, satisfies
+from .checks import ZEROS, extremal_solutions, has_no_sink, reached, satisfies
 
 SAMPLES = 4096
 # Two edges between a and b, and weights.
@@ -42,7 +42,7 @@ class Shares(unittest.TestCase):
             if len(reached("a", [EDGES[edge][:2] for edge in chosen])) == 4
         }
         trees = popsample.spanning_trees(EDGES, SAMPLES, key=ZEROS)
-        self.judge(Counter(tuple(sorted(tree.edges)) for tree in trees), weights)
+        self.judge(Counter(tuple(sorted(tree.edge_indices)) for tree in trees), weights)
 
     def test_orientations(self):
         def arrows(turned):
@@ -58,7 +58,7 @@ class Shares(unittest.TestCase):
         signs = itertools.product((1, -1), repeat=6)
         literals = (tuple(sign * name for name, sign in enumerate(each, 1)) for each in signs)
         weights = dict.fromkeys((each for each in literals if satisfies(CLAUSES, each)), 1)
-        self.judge(Counter(each.literals for each in popsample.formula_samples(CLAUSES, SAMPLES, ZEROS)), weights)
+        self.judge(Counter(each.literals for each in extremal_solutions(CLAUSES, SAMPLES, ZEROS)), weights)
 
 
 if __name__ == "__main__":

@@ -13,6 +13,8 @@ import time
 import unittest
 from pathlib import Path
 
+from popsample import program_words
+
 from .test_completion import BATCHED, COMPLETION, CREW, EVERYWHERE, LOGGED, STACKED, TOLD, completed
 
 COMMANDS = ["formula", "orient", "tree", "resample", "check", "make", "rounds", "replay", "resume"]
@@ -55,6 +57,14 @@ CASES = (
     (["make", "--board", ""], ["words", "lock"]),
     (["tree", "--root", ""], []),
 )
+
+
+def meanings(command: str) -> dict[str, str]:
+    """Return the words that may follow a command, or nothing, with what they mean in the help of the wrapper."""
+    if not command:
+        return {name: meant.does for name, meant in program_words.COMMANDS.items()}
+    found = {name: meant.meaning for name, meant in program_words.OPTIONS.items() if command in meant.commands}
+    return {**found, "grid": program_words.GRID} if command == "make" else found
 
 
 def shown(command: list[str], **named) -> str:
@@ -133,11 +143,12 @@ class Zsh(unittest.TestCase):
             with self.subTest(words):
                 self.assertEqual(set(completed_by_zsh(*words)), set(wanted))
 
-    def test_each_option_has_its_meaning(self):
+    def test_meanings_are_those_of_the_wrapper(self):
         told = STUBS.replace("%%:*", "")
-        for words in ([""], *([command, ""] for command in COMMANDS)):
-            for row in shown(["zsh", "-f", "-c", told, str(ZSH), "popsample", *words]).splitlines():
-                self.assertRegex(row, r"^(--)?[a-z]+:.{4}")
+        for command in ("", *COMMANDS):
+            words = [command, ""] if command else [""]
+            rows = shown(["zsh", "-f", "-c", told, str(ZSH), "popsample", *words]).splitlines()
+            self.assertEqual(dict(row.split(":", 1) for row in rows), meanings(command), command)
 
     def test_a_real_shell(self):
         begun = f"fpath=({ZSH.parent} $fpath); autoload -Uz compinit; compinit -D -u"
@@ -163,10 +174,11 @@ class Fish(unittest.TestCase):
             self.assertEqual(completed_by_fish(f"popsample tree {words} --roo"), ["--root"], words)
         self.assertNotIn("--root", completed_by_fish("popsample tree --root 2 > out --roo"))
 
-    def test_each_option_has_its_meaning(self):
-        for line in ("popsample ", *(f"popsample {command} " for command in COMMANDS)):
-            for row in shown(["fish", "--no-config", "-c", COMPLETE, str(FISH), line]).splitlines():
-                self.assertRegex(row, r"^(--)?[a-z]+\t.{4}")
+    def test_meanings_are_those_of_the_wrapper(self):
+        for command in ("", *COMMANDS):
+            line = f"popsample {command} " if command else "popsample "
+            rows = shown(["fish", "--no-config", "-c", COMPLETE, str(FISH), line]).splitlines()
+            self.assertEqual(dict(row.split("\t", 1) for row in rows), meanings(command), command)
 
 
 if __name__ == "__main__":

@@ -4,6 +4,7 @@ import base64
 import csv
 import hashlib
 import io
+import re
 import tempfile
 import unittest
 import zipfile
@@ -13,13 +14,17 @@ from pathlib import Path
 from unittest import mock
 
 import wheel_backend
-from wheel_backend import HERE, LOADER, build_wheel, glibc_of, platform_of
+from wheel_backend import HERE, MACHINES, build_editable, build_wheel, glibc_of, platform_of, standalone
 
 VERSION = (HERE.parent / "VERSION").read_text(encoding="utf-8").rstrip("\n")
 INFO = f"popsample-{VERSION}.dist-info"
 # The heads of ELF files of 64 bits for x86-64 and for ARM, as far as the machine (System V ABI, 4.1).
 X86_64 = b"\x7fELF\x02\x01\x01" + bytes(11) + b"\x3e\x00"
 AARCH64 = b"\x7fELF\x02\x01\x01" + bytes(11) + b"\xb7\x00"
+RISC_V = b"\x7fELF\x02\x01\x01" + bytes(11) + b"\xf3\x00"
+ANY_X86_64 = wheel_backend.ANY_LINUX.format("x86_64")
+# The extras, and what each needs.
+NEEDED = (("arrays", "numpy"), ("arrays", "scipy"), ("plot", "matplotlib"), ("progress", "tqdm"))
 BACKENDS = {"networkx.backends": {"popsample": "popsample.backend:Interface"}, "others": {"a": "b", "c": "d:e"}}
 
 
@@ -73,19 +78,50 @@ class Wheels(unittest.TestCase):
         said = message_from_bytes(files[f"{INFO}/METADATA"][1])
         self.assertEqual((said["Name"], said["Version"]), ("popsample", VERSION))
 
+    def test_what_the_project_says_is_in_the_metadata(self):
+        _, files = self.wheel()
+        said, found = wheel_backend.project(), message_from_bytes(files[f"{INFO}/METADATA"][1])
+        self.assertEqual(found["Summary"], said["description"])
+        self.assertEqual(found["Keywords"].split(","), said["keywords"])
+        self.assertEqual(found.get_all("Classifier"), said["classifiers"])
+        self.assertEqual(found.get_all("Provides-Extra"), ["arrays", "plot", "progress"])
+        needed = {f"{package}; extra == '{extra}'" for extra, package in NEEDED}
+        self.assertEqual(set(found.get_all("Requires-Dist")), needed)
+        self.assertIsNone(found["Project-URL"])
+
+    def test_the_readme_stands_alone(self):
+        _, files = self.wheel()
+        shown = files[f"{INFO}/METADATA"][1].decode().partition("\n\n")[2]
+        targets = re.findall(r"\]\(([^)]*)\)", shown)
+        self.assertTrue(all(target.startswith(("#", "https:")) for target in targets), targets)
+        self.assertNotIn("<img", shown)
+
+    def test_links_to_files_are_text(self):
+        page = "<p>\n<img src=a>\n<img src=b>\n</p>\n\n[A](b/c.md#d), [E](#f), [G](https://h.i/j)\n[K\nL](../m)\n"
+        self.assertEqual(standalone(page), "A, [E](#f), [G](https://h.i/j)\nK\nL\n")
+
+    def test_an_editable_wheel_leads_to_this_folder(self):
+        name = build_editable(str(self.folder), {"program": self.file(X86_64), "library": self.file(X86_64)})
+        with zipfile.ZipFile(self.folder / name) as wheel:
+            names = set(wheel.namelist())
+            self.assertEqual(wheel.read("__editable__.popsample.pth").decode(), f"{HERE}\n")
+        infos = {f"{INFO}/{file}" for file in ("METADATA", "WHEEL", "RECORD", "entry_points.txt")}
+        scripts = {f"popsample-{VERSION}.data/scripts/popsample"}
+        self.assertEqual(names, {"__editable__.popsample.pth", *infos, *scripts})
+
     def test_a_program_is_a_command(self):
         name, files = self.wheel(program=self.file(X86_64))
-        self.assertEqual(name, f"popsample-{VERSION}-py3-none-{wheel_backend.ANY_LINUX}.whl")
+        self.assertEqual(name, f"popsample-{VERSION}-py3-none-{ANY_X86_64}.whl")
         info, content = files[f"popsample-{VERSION}.data/scripts/popsample"]
         self.assertEqual((content, info.external_attr >> 16), (X86_64, 0o100755))
         said = message_from_bytes(files[f"{INFO}/WHEEL"][1])
         self.assertEqual(said["Root-Is-Purelib"], "false")
-        self.assertEqual(said.get_all("Tag"), [f"py3-none-{tag}" for tag in wheel_backend.ANY_LINUX.split(".")])
+        self.assertEqual(said.get_all("Tag"), [f"py3-none-{tag}" for tag in ANY_X86_64.split(".")])
 
     def test_a_library_stands_beside_the_module(self):
         for settings in ({"library": self.file(X86_64)}, {"library": self.file(X86_64), "program": self.file(X86_64)}):
             name, files = self.wheel(**settings)
-            self.assertEqual(name, f"popsample-{VERSION}-py3-none-{wheel_backend.ANY_LINUX}.whl")
+            self.assertEqual(name, f"popsample-{VERSION}-py3-none-{ANY_X86_64}.whl")
             self.assertEqual(files["popsample/libpopsample.so"][1], X86_64)
         self.assertEqual(self.wheel(library="")[0], f"popsample-{VERSION}-py3-none-any.whl")
 
@@ -112,13 +148,21 @@ class Wheels(unittest.TestCase):
 
 class Platforms(unittest.TestCase):
     def test_the_newest_version_decides(self):
-        for named, glibc in ((b"GLIBC_2.2.5\0GLIBC_2.34\0", "2.34"), (b"GLIBC_2.10\0GLIBC_2.9\0", "2.10")):
-            self.assertEqual(glibc_of(X86_64 + LOADER + named), glibc)
-        self.assertEqual(platform_of(X86_64 + LOADER + b"GLIBC_2.34\0"), "manylinux_2_34_x86_64")
+        for head, machine in ((X86_64, "x86_64"), (AARCH64, "aarch64")):
+            named, loader = MACHINES[head[-2:]]
+            self.assertEqual(named, machine)
+            for named, glibc in ((b"GLIBC_2.2.5\0GLIBC_2.34\0", "2.34"), (b"GLIBC_2.10\0GLIBC_2.9\0", "2.10")):
+                self.assertEqual(glibc_of(head + loader + named), glibc)
+            self.assertEqual(platform_of(head + loader + b"GLIBC_2.34\0"), f"manylinux_2_34_{machine}")
+
+    def test_a_static_program_runs_on_old_systems_of_its_processor(self):
+        self.assertEqual(
+            platform_of(AARCH64), "manylinux_2_17_aarch64.manylinux2014_aarch64.musllinux_1_1_aarch64"
+        )
 
     def test_a_program_may_ask_for_no_library(self):
         self.assertIsNone(glibc_of(X86_64 + b"GLIBC_2.34\0"))
 
     def test_other_programs_are_refused(self):
-        for program in (b"#!/bin/sh\n", AARCH64, b"\x7fELF\x01" + X86_64[5:]):
+        for program in (b"#!/bin/sh\n", RISC_V, b"\x7fELF\x01" + X86_64[5:]):
             self.assertRaises(ValueError, platform_of, program)

@@ -1,0 +1,111 @@
+"""Numbers in flat arrays: of numpy if it is installed, otherwise of the standard library."""
+
+from __future__ import annotations
+
+from array import array
+from collections.abc import Hashable, Iterable, Sequence
+from itertools import chain
+from typing import Any, Union
+
+# An array of the module array, or of numpy, in one piece.
+Flat = Union["array[int]", Any]
+
+# What stands for no vertex and no edge.
+NONE = 2**32 - 1
+
+
+def numpy_module() -> Any:
+    """Return numpy, or None if it isn't installed."""
+    try:
+        import numpy
+    except ImportError:
+        return None
+    return numpy
+
+
+def zeros(code: str, count: int) -> array[int]:
+    """Return so many zeros, of the type code of the module array."""
+    return array(code, [0]) * count
+
+
+def address(numbers: Flat) -> int:
+    """Return where the numbers are in memory. An empty array is nowhere, and any address but 0 will do then."""
+    if isinstance(numbers, array):
+        return numbers.buffer_info()[0] or 8
+    return int(numbers.__array_interface__["data"][0]) or 8
+
+
+def listed(numbers: Flat) -> list[int]:
+    """Return the numbers as a list."""
+    found: list[int] = numbers.tolist()
+    return found
+
+
+def as_flat(numbers: Any, dtype: str) -> Flat:
+    """Return an array of numpy in one piece and of this type, without a copy if it is so already."""
+    numpy = numpy_module()
+    return numpy.ascontiguousarray(numbers, dtype=dtype).reshape(-1)
+
+
+def numbered(ends: Sequence[Sequence[Hashable]]) -> tuple[Flat, Sequence[Hashable]]:
+    """Return the ends of pairs as numbers from 0, and the names: each new name has the next number.
+
+    Raises TypeError if some name can't be hashed.
+    """
+    numpy = numpy_module()
+    if numpy is not None and len(ends) > 64 and set(map(type, chain.from_iterable(ends))) == {int}:
+        try:
+            given = numpy.fromiter(chain.from_iterable(ends), numpy.int64, 2 * len(ends))
+        except OverflowError:
+            given = None
+        if given is not None and given.min() >= 0 and given.max() <= 8 * len(given):
+            return numbered_small(given)
+    names = list(dict.fromkeys(chain.from_iterable(ends)))
+    return numbers_of(ends, names), names
+
+
+def numbers_of(ends: Iterable[Sequence[Hashable]], names: Sequence[Hashable]) -> Flat:
+    """Return the ends of pairs as numbers from 0, if these are the names in order."""
+    number = dict(zip(names, range(len(names))))
+    return array("I", map(number.__getitem__, chain.from_iterable(ends)))
+
+
+def numbered_small(given: Any) -> tuple[Any, list[int]]:
+    """Return the same for an array of small non-negative integers, in which each name is an integer."""
+    numpy = numpy_module()
+    count = len(given)
+    first = numpy.full(int(given.max()) + 1, count, dtype=numpy.int64)
+    # The last one that is put is the first one that occurs.
+    first[given[::-1]] = numpy.arange(count - 1, -1, -1)
+    begins = numpy.zeros(count, dtype=bool)
+    begins[first[first < count]] = True
+    names = given[begins]
+    number = numpy.empty(len(first), dtype=numpy.uint32)
+    number[names] = numpy.arange(len(names), dtype=numpy.uint32)
+    return number[given], names.tolist()
+
+
+def numbered_array(given: Any) -> tuple[Any, list[int]]:
+    """Return the same for a flat array of any integers."""
+    numpy = numpy_module()
+    if len(given) == 0:
+        return numpy.zeros(0, dtype=numpy.uint32), []
+    if given.min() >= 0 and given.max() <= 8 * len(given):
+        return numbered_small(given.astype(numpy.int64, copy=False))
+    values, places, inverse = numpy.unique(given, return_index=True, return_inverse=True)
+    order = numpy.argsort(places)
+    number = numpy.empty(len(values), dtype=numpy.uint32)
+    number[order] = numpy.arange(len(values), dtype=numpy.uint32)
+    return number[inverse.reshape(-1)], values[order].tolist()
+
+
+def degrees(vertices: int, ends: Flat) -> Sequence[int]:
+    """Return for each vertex how many ends it is."""
+    numpy = numpy_module()
+    if numpy is not None:
+        found: list[int] = numpy.bincount(numpy.asarray(ends, dtype=numpy.int64), minlength=vertices).tolist()
+        return found
+    counts = [0] * vertices
+    for vertex in ends:
+        counts[vertex] += 1
+    return counts
