@@ -1,5 +1,5 @@
 #!/usr/bin/env python3
-"""Prints whose a release is: popsample's licence, or that there is none, and the notices that go with the program.
+"""Prints whose a release is: the text of LICENSE, and the notices that go with the program.
 
     release/copyright.py [NOTICE]
 
@@ -51,10 +51,7 @@ def notice_of(crate: Path) -> str:
 
 def own_licence() -> str:
     """What popsample's owner says."""
-    licence = TOP / "LICENSE"
-    if licence.is_file():
-        return licence.read_text(encoding="utf-8").strip("\n")
-    return "No licence has been chosen yet: who may pass popsample on is its owner's word."
+    return (TOP / "LICENSE").read_text(encoding="utf-8").strip("\n")
 
 
 def main() -> int:

@@ -5,8 +5,8 @@
 #
 #     release/gate.sh PROGRAM RECORD [LIBRARIES]
 #
-# The words are those of release/build.sh, and LIBRARIES is its variable. The status is 0 where all is so, 1 where something isn't, and 2 where the
-# call is wrong.
+# The words are those of release/build.sh, and LIBRARIES is its variable. The status is 0 where all is so, 1 where
+# something isn't, and 2 where the call is wrong.
 set -euo pipefail
 
 if [ $# -lt 2 ] || [ $# -gt 3 ] || [ ! -x "$1" ] || [ -d "$1" ] || [ ! -f "$2" ]; then
