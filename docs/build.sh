@@ -1,0 +1,29 @@
+#!/usr/bin/env bash
+# Makes the site of the documents:
+#
+#     docs/build.sh [OUT]
+#
+# OUT is a folder, docs/_build if it is left out; its `html` has the site. Warnings are errors. Sphinx, myst-parser,
+# numpydoc and furo are looked for in the python3 of the PATH, then in that of the system.
+#
+# The status is 0 if the site was made or Sphinx is not installed, which is said, 1 if something failed, and 2 if the
+# call is wrong.
+set -euo pipefail
+
+if [ $# -gt 1 ]; then
+    echo "usage: docs/build.sh [OUT]" >&2
+    exit 2
+fi
+docs=$(cd "$(dirname "$0")" && pwd)
+out=$(realpath -m "${1:-$docs/_build}")
+for python in python3 /usr/bin/python3; do
+    if "$python" -c 'import sphinx, myst_parser, numpydoc, furo' 2> /dev/null; then
+        PYTHONDONTWRITEBYTECODE=1 "$python" -m sphinx -W -n -q --keep-going -b html -d "$out/trees" "$docs" "$out/html"
+        # Pictures that pages show by HTML, which Sphinx does not look at.
+        mkdir -p "$out/html/_images"
+        cp "$docs"/*.svg "$out/html/_images"
+        echo "site: made in $out/html"
+        exit
+    fi
+done
+echo "site: not made, since sphinx, myst-parser, numpydoc and furo are not all installed"
