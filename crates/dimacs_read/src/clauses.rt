@@ -12,8 +12,8 @@ const MAX_CLAUSES: usize = 4194304;
 
 const MAX_LITERALS: usize = 33554432;
 
-/// The literals of all clauses so far, one clause behind another, and where each clause ends.
-/// Literals behind the last end belong to a clause that is still open.
+/// The literals of all clauses so far, one clause after another, and where each clause ends.
+/// Literals after the last end belong to an unfinished clause.
 #[derive(Drop)]
 pub struct Clauses {
     pub literals: Vec<i32>,
@@ -21,7 +21,7 @@ pub struct Clauses {
 }
 
 impl Clauses {
-    // Takes a word, or refuses it: codes come before limits, and limit 3 before limit 4.
+    // Reads a token, or rejects it. Codes are reported before limits, and limit 3 before limit 4.
     fn take_word(&mut self, variables: u32, line: u64, word: &[u8]) -> Result<(), ReadRefusal>
         requires word { 0 < length word.now }
         requires few { length self.old.ends.items ≤ 2 ^ 22 }
@@ -58,7 +58,7 @@ impl Clauses {
         }
     }
 
-    /// Takes the words of a line, or refuses the first bad one.
+    /// Reads the tokens of a line, or rejects the first invalid one.
     pub fn take_words(&mut self, variables: u32, line: u64, bytes: &[u8]) -> Result<(), ReadRefusal>
         requires { IsWithin self.old }
         ensures within { IsWithin self.new }

@@ -8,17 +8,18 @@ use pop_instance::{Cube, Events};
 use std::alloc::{AllocError, Global};
 
 impl Formula {
-    /// The events of the formula, each under the number of its clause, from 1: clause k gives the
-    /// cube in which each of its variables has the value that falsifies its literal, 0 for a
-    /// variable and 1 for a negated one. Variable x of the text is variable x - 1 of the cube. A
-    /// repeated literal counts once, a clause with a variable and its negation gives no event, and
-    /// of equal cubes the first is kept. No clause may be empty.
+    /// The events of the formula, each under the number of its clause, from 1. The cube of a
+    /// clause has each variable of the clause, with the value that falsifies its literal: 0 for a
+    /// variable and 1 for a negated one. Variable x of the input is variable x - 1 of the cube.
+    ///
+    /// A repeated literal counts once. A clause with a variable and its negation gives no event.
+    /// Of equal cubes the first is kept. No clause may be empty.
     pub fn events(&self, alloc: Global) -> Result<Events, AllocError>
         requires { first_empty self.now ≡ None }
         ensures events { IfOk result (λ events. AreEventsOf self.now.clauses events) }
         ensures fit { IfOk result (λ events. FitVariables self.now.variables events) }
     {
-        // Read for its contract, which says that the literals are those of so many variables.
+        // Read for its contract, which bounds the literals by the number of variables.
         let _variables = self.variables();
         let mut rows = Vec::with_capacity(alloc, self.clauses() as usize)?;
         for i in 0..self.clauses() {
@@ -30,7 +31,7 @@ impl Formula {
     }
 }
 
-// The variable, from 0, and the value at which the literal is false.
+// The variable, from 0, and the value for which the literal is false.
 fn falsifier_of(literal: i32) -> (u32, u32)
     ensures { result ≡ falsifier literal }
 {
@@ -41,7 +42,7 @@ fn falsifier_of(literal: i32) -> (u32, u32)
     (variable, 0)
 }
 
-// The falsifiers of the literals, in just the room that they take.
+// The falsifying pairs of the literals, in a list without spare capacity.
 fn pairs_of(alloc: Global, literals: &[i32]) -> Result<Vec<(u32, u32)>, AllocError>
     ensures { IfOk result (λ pairs. pairs.items ≡ map falsifier literals.now) }
 {
@@ -52,8 +53,8 @@ fn pairs_of(alloc: Global, literals: &[i32]) -> Result<Vec<(u32, u32)>, AllocErr
     Ok(pairs)
 }
 
-// The cube of a clause, where it has one. Once equal pairs are gone, the variables rise unless one
-// of them has both values.
+// The cube of a clause, if it has one. After equal pairs are dropped, the variables rise unless
+// one of them has both values.
 fn cube_of(alloc: Global, literals: &[i32]) -> Result<Option<Cube>, AllocError>
     requires { length literals.now < 2 ^ 31 }
     ensures { IfOk result (IsCubeOf literals.now) }

@@ -9,7 +9,7 @@ use crate::header::Header;
 use pop_edge::ReadRefusal;
 use std::alloc::AllocError;
 
-// Where the last clause ends.
+// The end of the last clause.
 fn last_of(ends: &[u32]) -> u32
     ensures { result ≡ last_end 0 ends.now }
 {
@@ -19,7 +19,7 @@ fn last_of(ends: &[u32]) -> u32
     ends[ends.len() - 1]
 }
 
-// Literals behind the last end are a last clause.
+// Closes the last clause, if there are literals after the last end.
 fn close(size: u32, ends: &mut Vec<u32>) -> Result<(), AllocError>
     ensures { IfOk result (λ _. ends.new.items ≡ closed_ends size ends.old.items) }
 {
@@ -30,7 +30,7 @@ fn close(size: u32, ends: &mut Vec<u32>) -> Result<(), AllocError>
     Ok(())
 }
 
-/// The first clause without literals, from 0.
+/// The first clause without literals, counted from 0.
 pub fn first_empty_clause(ends: &[u32]) -> Option<u32>
     requires { length ends.now ≤ 2 ^ 22 }
     ensures first { result ≡ empty_from 0 0 ends.now }
@@ -48,7 +48,7 @@ pub fn first_empty_clause(ends: &[u32]) -> Option<u32>
     None
 }
 
-/// The formula of the clauses, where they are as many as declared and none is empty.
+/// The formula of the clauses, if their number is the declared one and none is empty.
 pub fn finish_clauses(header: Header, clauses: Clauses) -> Result<Formula, ReadRefusal>
     requires { HasBounds header clauses }
     ensures { (tokens : List (Option Token)) → Holds clauses tokens

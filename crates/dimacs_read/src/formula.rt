@@ -5,12 +5,12 @@ ghost use Rattle.dimacs_read.specs.Flat.{Rises, parts};
 use std::marker::Model;
 
 /// A formula in conjunctive normal form: its number of variables, and the literals of each clause
-/// as they were written, v for the variable v, from 1, and -v for its negation. It has at most 2^22
-/// variables, 2^22 clauses and 2^25 literals. Clauses count from 0 here.
+/// in the order of the input. Literal v is the variable v, from 1, and -v is its negation. It has
+/// at most 2^22 variables, 2^22 clauses and 2^25 literals. Clauses count from 0 here.
 #[derive(Drop)]
 pub struct Formula {
     variables: u32,
-    // The literals of all clauses, one clause behind another.
+    // The literals of all clauses, one clause after another.
     literals: Vec<i32>,
     // Where each clause ends.
     ends: Vec<u32>,
@@ -35,7 +35,7 @@ impl Model for Formula {
 }
 
 impl Formula {
-    // The formula of these literals, the clauses of which end at these places.
+    // The formula with these literals and with clauses that end at these places.
     pub(crate) fn of(variables: u32, literals: Vec<i32>, ends: Vec<u32>) -> Formula
         requires variables { variables ≤ 2 ^ 22 }
         requires few { length ends.items ≤ 2 ^ 22 }
@@ -52,7 +52,7 @@ impl Formula {
         }
     }
 
-    /// How many variables there are: at most 2^22. Each literal is one of them or its negation.
+    /// The number of variables, at most 2^22. Each literal is one of them or its negation.
     pub fn variables(&self) -> u32
         ensures count { result ≡ self.now.variables }
         ensures bound { result ≤ 2 ^ 22 }
@@ -61,7 +61,7 @@ impl Formula {
         self.variables
     }
 
-    /// How many clauses there are: at most 2^22.
+    /// The number of clauses, at most 2^22.
     pub fn clauses(&self) -> u32
         ensures count { result ≡ length self.now.clauses }
         ensures bound { result ≤ 2 ^ 22 }
@@ -69,7 +69,7 @@ impl Formula {
         self.ends.len() as u32
     }
 
-    /// The literals of clause i, from 0, as they were written: at most 2^25.
+    /// The literals of clause i in the order of the input, at most 2^25. Clauses count from 0.
     pub fn clause(&self, i: u32) -> &[i32]
         requires { i < length self.now.clauses }
         ensures literals { result.now ≡ slice_index_or self.now.clauses i [] }
@@ -79,7 +79,7 @@ impl Formula {
     }
 }
 
-// Where part i begins.
+// Where clause i begins.
 fn start_of(ends: &[u32], i: usize) -> usize
     requires { i < length ends.now }
     ensures { result ≡ slice_index (0 ∷ ends.now) i }

@@ -3,17 +3,17 @@ ghost use Rattle.dimacs_read.specs.Reading.{IsCounts, IsFirstByte, IsHeader};
 
 use pop_edge::{MAX_VARIABLES, ReadRefusal, next_header, next_word};
 
-// The most clauses that may be declared.
+// The largest number of clauses that a header may declare.
 const MAX_CLAUSES: u32 = 4194304;
 
-/// What a header declares.
+/// The numbers that a header declares.
 #[derive(Clone, Copy, Debug, PartialEq, Eq)]
 pub struct Header {
     pub variables: u32,
     pub clauses: u32,
 }
 
-/// The first byte of a line that isn't a blank, where there is one.
+/// The first byte of a line that is not white space, if there is one.
 pub fn first_byte(line: &[u8]) -> Option<u8>
     ensures { IsFirstByte (words_of line.now) result }
 {
@@ -23,7 +23,7 @@ pub fn first_byte(line: &[u8]) -> Option<u8>
     }
 }
 
-// What the four words at the front declare, and the bytes behind them.
+// The two numbers of the first four tokens, and the bytes after them.
 fn counts(line: &[u8]) -> Option<(u32, u32, &[u8])>
     ensures { IsCounts (words_of line.now) result }
 {
@@ -34,7 +34,7 @@ fn counts(line: &[u8]) -> Option<(u32, u32, &[u8])>
     Some((variables, clauses, rest))
 }
 
-/// The header of a line, or what is wrong with it: code 1, then code 4, then limit 2, then limit 3.
+/// The header of a line, or its error: code 1, then code 4, then limit 2, then limit 3.
 pub fn read_header(number: u64, line: &[u8]) -> Result<Header, ReadRefusal>
     ensures { IsHeader number (words_of line.now) result }
 {

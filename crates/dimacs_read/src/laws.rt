@@ -1,13 +1,13 @@
-//! Laws of the grammar. Each is a function of no argument whose contract is the law.
+//! Theorems about the grammar. Each is the contract of a function without arguments.
 ghost use Rattle.dimacs_read.specs.Laws.{AcceptsExactly, HasOneFormula};
 
-/// A text has no refusal exactly where it is in the grammar, and then its formula is the one that
-/// the grammar gives it.
+/// An input is accepted exactly if it is in the grammar. Then its formula is the one that the
+/// grammar assigns to it.
 pub fn accepts_exactly()
     ensures { AcceptsExactly }
 {}
 
-/// A text is that of one formula at most.
+/// An input denotes at most one formula.
 pub fn one_formula()
     ensures { HasOneFormula }
 {}

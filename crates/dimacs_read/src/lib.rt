@@ -1,6 +1,6 @@
-//! Formulas from DIMACS CNF text, and the events of a formula: one for each clause, which occurs
-//! where the clause is false. Contracts see a formula as its number of variables and the literals
-//! of each clause.
+//! Formulas from DIMACS CNF input, and the events of a formula. Each clause gives one event, which
+//! occurs if the clause is false. Contracts see a formula as its number of variables and the
+//! literals of each clause.
 #![tactic(auto)]
 
 mod clauses;

@@ -11,20 +11,20 @@ use crate::finish::first_empty_clause;
 use pop_edge::MAX_VARIABLES;
 use std::alloc::{AllocError, Global};
 
-/// Why an array of literals is no formula: the first in this order.
+/// Why an array of literals is no formula: the first fault in the order of these variants.
 #[derive(Clone, Copy, Debug, PartialEq, Eq)]
 pub enum LiteralFault {
     /// There are more than 2^22 variables.
     TooManyVariables,
     /// There are more than 2^25 literals, or more than 2^22 clauses.
     TooManyLiterals,
-    /// The least place, from 0, of a number that is neither 0 nor a literal of a variable.
+    /// The first place, from 0, of a number that is neither 0 nor a literal of a variable.
     NoLiteral(u32),
-    /// The last clause has no 0 at its end.
+    /// The last clause is not ended by a 0.
     Unended,
-    /// The least number, from 1, of a clause without literals.
+    /// The lowest number, from 1, of a clause without literals.
     EmptyClause(u32),
-    /// Memory ran out.
+    /// Out of memory.
     OutOfMemory,
 }
 
@@ -43,7 +43,7 @@ const MAX_CLAUSES: usize = 4194304;
 
 const MAX_LITERALS: usize = 33554432;
 
-// How many clauses have their end.
+// The number of clauses that are ended.
 fn count_ends(literals: &[i32]) -> usize
     ensures count { result ≡ count_by ends_clause literals.now }
     ensures bound { result ≤ length literals.now }
@@ -57,7 +57,7 @@ fn count_ends(literals: &[i32]) -> usize
     ends
 }
 
-// The least place of a number that is neither 0 nor a literal of so many variables.
+// The first place of a number that is neither 0 nor a literal of these variables.
 fn first_beyond(literals: &[i32], variables: u32) -> Option<u32>
     requires { length literals.now < 2 ^ 32 }
     ensures none { IfNone result (AreOfVariables variables literals.now) }
@@ -72,7 +72,7 @@ fn first_beyond(literals: &[i32], variables: u32) -> Option<u32>
     None
 }
 
-// Whether the last clause has its end.
+// Whether the last clause is ended.
 fn is_ended(literals: &[i32]) -> bool
     ensures { IsTrue result ↔ IsEnded literals.now }
 {
@@ -80,7 +80,7 @@ fn is_ended(literals: &[i32]) -> bool
 }
 
 impl Clauses {
-    // No clause yet, and room for so many literals and clauses.
+    // No clause yet, but room for this many literals and clauses.
     fn with_room(alloc: Global, literals: usize, ends: usize) -> Result<Clauses, AllocError>
         ensures { IfOk result (λ clauses. HoldsArray clauses []) }
     {
@@ -90,7 +90,7 @@ impl Clauses {
         })
     }
 
-    // Puts a number of the array behind the others.
+    // Adds the next number of the array.
     fn put(&mut self, literal: i32) -> Result<(), AllocError>
         requires room { length self.old.literals.items < 2 ^ 32 }
         ensures { OnOk result (Adds self.old self.new (token_at literal)) }
@@ -104,7 +104,7 @@ impl Clauses {
     }
 }
 
-// The clauses of the array, so many of which have their ends.
+// The clauses of the array. `ends` is the number of those that are ended.
 fn cut(alloc: Global, literals: &[i32], ends: usize) -> Result<Clauses, AllocError>
     requires count { ends ≡ count_by ends_clause literals.now }
     requires bound { ends ≤ length literals.now }
@@ -118,7 +118,7 @@ fn cut(alloc: Global, literals: &[i32], ends: usize) -> Result<Clauses, AllocErr
     Ok(clauses)
 }
 
-// How many clauses of the array have their ends, where it has the numbers of a formula.
+// The number of clauses of the array, or the first fault of the array.
 fn check_literals(variables: u32, literals: &[i32]) -> Result<usize, LiteralFault>
     ensures clauses { OnOk result (AreClauses variables literals.now) }
     ensures count { IfOk result (λ ends. ends ≡ count_by ends_clause literals.now) }
@@ -141,8 +141,8 @@ fn check_literals(variables: u32, literals: &[i32]) -> Result<usize, LiteralFaul
     Ok(ends)
 }
 
-/// The formula of so many variables with the clauses that lie one behind another in `literals`,
-/// each ended by a 0: v stands for the variable v, from 1, and -v for its negation.
+/// The formula with this many variables and with the clauses in `literals`, one after another.
+/// Each clause is ended by a 0. Literal v is the variable v, from 1, and -v is its negation.
 pub fn formula_of_literals(
     alloc: Global,
     variables: u32,

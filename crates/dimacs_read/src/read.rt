@@ -12,18 +12,24 @@ use std::alloc::Global;
 
 /// Reads a formula in the DIMACS CNF format, to the end of the source.
 ///
-/// Lines without words and comments, lines that begin with `c`, are passed over. The first other
-/// line is the header, `p cnf V C`. The words of the lines behind it are literals, from 1 to V or a
-/// `-` and such a number, and `0` at the end of each clause; the last clause may lack it. A line
-/// that begins with `%` ends the clauses, and what follows is read and ignored.
+/// Lines without tokens are skipped, and so are comments, which begin with `c`. The first other
+/// line is the header, `p cnf V C`. The tokens of the lines after it are literals and ends of
+/// clauses. A literal is a number from 1 to V, or `-` and such a number; `0` ends a clause and may
+/// be missing after the last one. A line that begins with `%` ends the clauses, and what follows
+/// is read and ignored.
 ///
-/// The first refusal in the order of the text is answered, at its line: `Malformed` with code 1 for
-/// a header that isn't one or is missing, 4 for a header of more words, 2 for a word that is no
-/// literal and no end, 3 for a literal above V; `Limit` of kind 2 for V above 2^22, 3 for C or the
-/// clauses above 2^22, 4 for more than 2^25 literals, 1 for more than 2^28 bytes. Then comes
-/// `Count` where there aren't C clauses, and then `EmptyClause` with the least number, from 1, of a
-/// clause without literals. `ReadFault` comes only where the source failed, no more was read than
-/// the limit, and no line is refused whose end was read.
+/// # Errors
+///
+/// The first error in the order of the input is returned, with its line:
+///
+/// - `Malformed` with code 1 for an invalid or missing header, 4 for a header with extra tokens, 2
+///   for a token that is neither a literal nor `0`, 3 for a literal above V.
+/// - `Limit` with kind 2 for V above 2^22, 3 for C or the number of clauses above 2^22, 4 for more
+///   than 2^25 literals, 1 for more than 2^28 bytes.
+/// - `Count` after these, if there are not C clauses.
+/// - `EmptyClause` last, with the lowest number, from 1, of a clause without literals.
+/// - `ReadFault` only if the source failed, no more bytes were read than the limit, and no line
+///   that was read to its end is rejected.
 pub fn read_formula<S: Source>(alloc: Global, source: &mut S) -> Result<Formula, ReadRefusal>
     ensures text { (text : List ℕ) → S.left source.old ≡ Some text → AnswersCnf text result }
     ensures whole { OnOk result (IsAtEnd (S.left source.new)) }

@@ -12,11 +12,11 @@ const COMMENT: u8 = b'c';
 
 const LAST_LINE: u8 = b'%';
 
-/// What the lines so far say.
+/// What the lines so far specify.
 #[derive(Drop)]
 pub struct Reader {
     pub header: Option<Header>,
-    /// A line came that ends the clauses.
+    /// Whether a line has ended the clauses.
     pub ended: bool,
     pub clauses: Clauses,
 }
@@ -24,7 +24,7 @@ pub struct Reader {
 impl Reader {
     ghost use Rattle.dimacs_read.specs.Reading.{Finishes, IsReader};
 
-    /// No line yet.
+    /// No line was read yet.
     pub fn new(alloc: Global) -> Reader
         ensures { Knows result [] }
     {
@@ -38,8 +38,8 @@ impl Reader {
         }
     }
 
-    /// The formula of the lines, or what stands against the whole. A missing header is refused at
-    /// the line given.
+    /// The formula of the lines, or the error of the input as a whole. A missing header is
+    /// reported at this line.
     pub fn finish(self, line: u64) -> Result<Formula, ReadRefusal>
         requires { IsReader self }
         ensures { (lines : List (ℕ × List (List ℕ))) → Knows self lines
@@ -56,7 +56,7 @@ impl Reader {
         }
     }
 
-    // Takes a line behind the header that isn't passed over, and begins with this byte.
+    // Reads a line after the header that is not skipped and begins with this byte.
     fn take_words(
         &mut self,
         header: Header,

@@ -3,10 +3,10 @@ ghost use Rattle.dimacs_read.specs.Tokens.{negated, plain, token_of};
 
 use pop_edge::number;
 
-// The greatest value of a literal without its sign, and 1.
+// One more than the largest absolute value of a literal.
 const PAST_LITERALS: u32 = 2147483648;
 
-/// What a word behind the header says.
+/// What a token after the header denotes.
 #[derive(Clone, Copy, Debug, PartialEq, Eq)]
 pub enum Token {
     /// A variable, from 1, or its negation.
@@ -36,7 +36,7 @@ fn negated_token(n: u32) -> Option<Token>
     None
 }
 
-/// What the word says, or None where it says nothing.
+/// What the token denotes, or None if it is invalid.
 pub fn read_token(word: &[u8]) -> Option<Token>
     requires { 0 < length word.now }
     ensures { result ≡ token_of word.now }

@@ -5,8 +5,8 @@ ghost use Rattle.extremal_check.specs.Clashes.{DemandsOther};
 
 use pop_instance::Cube;
 
-// The value that the cube demands of variable v, where it names it. It is looked for at this place
-// first, where cubes over the same variables have it.
+// The value that the cube demands of variable v, if it names v. The search tries this place first,
+// which succeeds for cubes over the same variables.
 fn demanded(cube: &Cube, place: u32, v: u32) -> Option<u32>
     ensures { result ≡ demand cube.now v }
 {
@@ -19,7 +19,7 @@ fn demanded(cube: &Cube, place: u32, v: u32) -> Option<u32>
     cube.demand(v)
 }
 
-// Whether the cube demands another value of variable v, which is looked for at this place first.
+// Whether the cube demands another value of variable v. The search tries this place first.
 fn demands_other(cube: &Cube, place: u32, v: u32, value: u32) -> bool
     ensures { IsTrue result ↔ DemandsOther cube.now (v, value) }
 {

@@ -15,9 +15,10 @@ use crate::exclusion::exclude;
 use pop_instance::{Events, Index};
 use std::alloc::{AllocError, Global};
 
-/// Whether the events are extremal; else the numbers of the least pair that clashes. Of the pairs
-/// of events it looks at those that share a variable, once for each shared one, and compares each
-/// at most once. It takes memory for one number for each event.
+/// Whether the events are extremal. If not, the verdict has the numbers of the first pair that
+/// clashes. Only pairs of events that share a variable are looked up, once for each shared
+/// variable, and each pair is compared at most once. It takes memory for one number for each
+/// event.
 pub fn check(alloc: Global, events: &Events, index: &Index) -> Result<Verdict, AllocError>
     requires { IsIndex events.now index.now }
     ensures verdict { IfOk result (IsVerdict events.now) }
@@ -31,7 +32,7 @@ pub fn check(alloc: Global, events: &Events, index: &Index) -> Result<Verdict, A
     }
 }
 
-// The least pair of places of events that clash.
+// The first pair of places of events that clash.
 fn first_clash(events: &Events, index: &Index, stamps: &mut [u32]) -> Option<(u32, u32)>
     requires index { IsIndex events.now index.now }
     requires stamped { AreStamped events.now 0 stamps.old }
@@ -47,7 +48,7 @@ fn first_clash(events: &Events, index: &Index, stamps: &mut [u32]) -> Option<(u3
     None
 }
 
-// The least place of an event that clashes with the earlier event i.
+// The first place of a later event that clashes with event i.
 fn first_with(events: &Events, index: &Index, stamps: &mut [u32], i: u32) -> Option<u32>
     requires index { IsIndex events.now index.now }
     requires within { i < length events.now }
@@ -61,8 +62,9 @@ fn first_with(events: &Events, index: &Index, stamps: &mut [u32], i: u32) -> Opt
     if least < count { Some(least) } else { None }
 }
 
-// The same, or the number of events where none clashes. Once a row has each later event, as where
-// all events share a variable, the other rows have none that wasn't tried.
+// The first place of a later event that clashes with event i, or the number of events if none
+// does. If one row has every later event, the other rows need not be tried. This is so if all
+// events share a variable.
 fn least_with(events: &Events, index: &Index, stamps: &mut [u32], i: u32) -> u32
     requires index { IsIndex events.now index.now }
     requires within { i < length events.now }
@@ -84,7 +86,7 @@ fn least_with(events: &Events, index: &Index, stamps: &mut [u32], i: u32) -> u32
     least
 }
 
-// Whether a row has each place after place i that is below the count, one after another.
+// Whether a row has every place after place i that is below the count, one after another.
 fn has_all_later(row: &[u32], i: u32, count: u32) -> bool
     requires { i < count }
     ensures { OnTrue result ((j : ℕ) → i < j → j < count → Contains row.now j) }
@@ -101,7 +103,7 @@ fn has_all_later(row: &[u32], i: u32, count: u32) -> bool
     true
 }
 
-// The places of a row that come after place i.
+// The places of a row after place i.
 fn places_after(row: &[u32], i: u32) -> &[u32]
     requires rising { IsStrictlyIncreasing row.now }
     ensures later { (j : ℕ) → Contains result.now j ↔ (Contains row.now j × (i < j)) }
@@ -110,7 +112,7 @@ fn places_after(row: &[u32], i: u32) -> &[u32]
     &row[start..]
 }
 
-// Tries the events of a row, which come after event i and share a variable with it.
+// Tries the events of a row that come after event i and share a variable with it.
 fn least_in_row(events: &Events, row: &[u32], stamps: &mut [u32], i: u32, least: u32) -> u32
     requires within { i < length events.now }
     requires sharing { AreLaterSharing events.now i row.now }
@@ -126,8 +128,8 @@ fn least_in_row(events: &Events, row: &[u32], stamps: &mut [u32], i: u32, least:
     lowest
 }
 
-// Tries the later event j with event i, unless it was tried or is no candidate for the least that
-// clashes.
+// Tries the later event j with event i, unless this pair was tried or j cannot be the first event
+// that clashes.
 fn try_with(events: &Events, stamps: &mut [u32], i: u32, j: u32, least: u32) -> u32
     requires rising { i < j }
     requires within { j < length events.now }

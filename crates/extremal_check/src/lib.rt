@@ -1,6 +1,6 @@
-//! Whether a listed family of events is extremal: any two events that share a variable demand
-//! different values of a shared one. Where it isn't, the least pair that clashes. Contracts see
-//! events as numbered cubes.
+//! Checks whether a listed family of events is extremal: any two events that share a variable
+//! demand different values of a shared one. If it is not, the result is the first pair that
+//! clashes. Contracts see events as numbered cubes.
 #![tactic(auto)]
 
 mod exclusion;

@@ -1,9 +1,10 @@
-/// What the check of a listed family says.
+/// The result of the check of a listed family.
 #[derive(Clone, Copy, Debug, PartialEq, Eq)]
 pub enum Verdict {
     /// Any two events that share a variable demand different values of a shared variable.
     Extremal,
-    /// The numbers of the least pair of events that share a variable and demand the same value of
-    /// every shared variable: the lesser number is the least, and with it the other.
+    /// The numbers of the first pair of events that share a variable and demand the same value of
+    /// every shared variable. The first pair is the one with the lowest lower number, and among
+    /// those the one with the lowest higher number.
     Clash(u32, u32),
 }

@@ -8,11 +8,11 @@ ghost use Rattle.graph_read.specs.Reading.{AreEdgeWords, AreWeight, IsFront, in_
 use crate::Edge;
 use pop_edge::{ReadRefusal, next_word, number};
 
-// How many digits are read at most at the front of bytes: so many fit 32 bits.
+// The largest number of digits that the fast path reads: their value fits 32 bits.
 const FEW_DIGITS: usize = 9;
 
-// The number of a few digits that bytes begin with, and the bytes behind it, where just one space
-// or the end comes behind it. Where there is no such number, the bytes may still be good.
+// The number at the start of the bytes, and the bytes after it. The number has few digits, and is
+// followed by one space or by the end. If there is no such number, the bytes may still be valid.
 fn front_number(bytes: &[u8]) -> Option<(u32, &[u8])>
     ensures { IfSome result (λ front. IsFront bytes.now front.0 front.1.now) }
 {
@@ -35,7 +35,7 @@ fn front_number(bytes: &[u8]) -> Option<(u32, &[u8])>
     Some((value, &bytes[count + 1..]))
 }
 
-// The weight that bytes say which are one such number, or none.
+// The weight if the bytes are empty or are one such number.
 fn plain_weight(bytes: &[u8]) -> Option<u32>
     ensures { IfSome result (AreWeight (words_of bytes.now)) }
 {
@@ -46,9 +46,9 @@ fn plain_weight(bytes: &[u8]) -> Option<u32>
     if rest.is_empty() { Some(weight) } else { None }
 }
 
-// The edge of a line, by the bytes behind its `e`, where they are two or three numbers of a few
-// digits with a space between any two. Most lines are such, and are read in one pass; where a line
-// isn't, it may still be good.
+// The edge of a line from the bytes after its `e`, if they are two or three numbers of few digits
+// with one space between them. Most lines are of this form, and are read in one pass. A line of
+// another form may still be valid.
 fn plain_edge(vertices: u32, rest: &[u8]) -> Option<Edge>
     ensures edge { IfSome result
         (λ edge. edge_in vertices (codes "e" ∷ words_of rest.now) ≡ Ok edge) }
@@ -63,8 +63,8 @@ fn plain_edge(vertices: u32, rest: &[u8]) -> Option<Edge>
     Some(Edge { u, v, weight })
 }
 
-// The words behind the `e` of an edge's line, by its first word and the bytes behind that: its two
-// ends, and the weight where one is written.
+// The tokens after the `e` of an edge line: its two ends, and the weight if there is one. They are
+// given as the first token and the bytes after it.
 fn edge_words<'a>(first: &[u8], rest: &'a [u8]) -> Option<(&'a [u8], &'a [u8], Option<&'a [u8]>)>
     ensures { AreEdgeWords (first.now ∷ words_of rest.now) result }
 {
@@ -90,7 +90,7 @@ fn read_number(line: u64, word: &[u8]) -> Result<u32, ReadRefusal>
     number(word).ok_or(ReadRefusal::Malformed(line, 12))
 }
 
-// The end of an edge, one of so many vertices.
+// The end of an edge, which must be one of the vertices.
 fn read_end(vertices: u32, line: u64, word: &[u8]) -> Result<u32, ReadRefusal>
     ensures end { result ≡ in_line line (end_in vertices word.now) }
     ensures vertex { IfOk result (IsVertex vertices) }
@@ -102,7 +102,7 @@ fn read_end(vertices: u32, line: u64, word: &[u8]) -> Result<u32, ReadRefusal>
     Ok(end)
 }
 
-// The weight of an edge, from 1 on, which is 1 where none is written.
+// The weight of an edge, at least 1. It is 1 if there is no token.
 fn read_weight(line: u64, word: Option<&[u8]>) -> Result<u32, ReadRefusal>
     ensures weight { result ≡ in_line line (weight_in (option_copied word.entry)) }
     ensures some { IfOk result (λ weight. 1 ≤ weight) }
@@ -119,8 +119,8 @@ fn read_weight(line: u64, word: Option<&[u8]>) -> Result<u32, ReadRefusal>
     }
 }
 
-/// The edge that a line spells by its first word and the bytes behind it, in a graph of so many
-/// vertices, or what is wrong with the line: code 15 first, and then its words from left to right.
+/// The edge of a line, given as its first token and the bytes after it, or the error of the line.
+/// Code 15 is reported first, then the tokens are checked from left to right.
 pub fn read_edge(vertices: u32, number: u64, first: &[u8], rest: &[u8]) -> Result<Edge, ReadRefusal>
     ensures edge { result
         ≡ in_line number (edge_in vertices (first.now ∷ words_of rest.now)) }

@@ -1,4 +1,4 @@
-//! Rows of numbers that edges put there, one for each vertex.
+//! Rows of numbers that edges add, one row for each vertex.
 ghost use Rattle.std.specs.Prelude.{◌≡◌, ◌≤◌, ◌^◌, length, replicate, IfOk};
 ghost use Rattle.graph_read.specs.Incidence.{degrees_of, put_of, rows_by};
 
@@ -7,15 +7,16 @@ use crate::put::Put;
 use pop_rows::{FlatRows, count_at};
 use std::alloc::{AllocError, Global};
 
-/// For each vertex, from vertex 1 on, what the edges at it that aren't loops put there, in the
-/// order of the graph. One pass over the edges counts, and one puts.
+/// For each vertex, from vertex 1 on, the numbers that its edges add, in the order of the graph.
+/// Self-loops are left out. One pass over the edges counts, and a second one adds.
 pub fn rows_of(alloc: Global, graph: &Graph, put: Put) -> Result<FlatRows, AllocError>
     ensures { IfOk result (λ rows. rows.rows ≡ rows_by (put_of put) graph.now) }
 {
     put_rows(alloc, graph, degrees(alloc, graph)?, put)
 }
 
-/// The same, where it is known how many edges stand at each vertex: one pass over the edges.
+/// The rows of `rows_of` if the number of edges at each vertex is known. It takes one pass over
+/// the edges.
 pub fn put_rows(
     alloc: Global,
     graph: &Graph,
@@ -37,7 +38,7 @@ pub fn put_rows(
     Ok(rows)
 }
 
-// How many edges stand at each vertex, from vertex 1 on, loops aside.
+// The number of edges at each vertex, from vertex 1 on, without self-loops.
 fn degrees(alloc: Global, graph: &Graph) -> Result<Vec<u32>, AllocError>
     ensures degrees { IfOk result (λ degrees. degrees.items ≡ degrees_of graph.now) }
     ensures few { IfOk result (λ degrees. length degrees.items ≤ 2 ^ 22) }
@@ -47,7 +48,7 @@ fn degrees(alloc: Global, graph: &Graph) -> Result<Vec<u32>, AllocError>
     Ok(degrees)
 }
 
-// Counts at each vertex the edges that stand there, from zeros on.
+// Counts the edges at each vertex. All counts must be 0 at first.
 fn count_ends(graph: &Graph, degrees: &mut [u32])
     requires { degrees.old ≡ replicate graph.now.vertices 0 }
     ensures { degrees.new ≡ degrees_of graph.now }

@@ -7,22 +7,22 @@ ghost use Rattle.graph_read.specs.Ends.{HaveShape, IsEndsFault, edge_in, graph_i
 use crate::{Edge, Graph};
 use std::alloc::{AllocError, Global};
 
-/// Why arrays are no graph: the first in this order. Places count from 0.
+/// Why arrays are no graph: the first fault in the order of these variants. Places count from 0.
 #[derive(Clone, Copy, Debug, PartialEq, Eq)]
 pub enum EndsFault {
     /// There are more than 2^22 vertices.
     TooManyVertices,
-    /// The last end has no other.
+    /// The number of ends is odd.
     OddEnds,
     /// There are more than 2^23 edges.
     TooManyEdges,
-    /// There are weights, but not as many as edges.
+    /// There are weights, but their number is not that of the edges.
     WeightCount,
-    /// The least place of an end that is no vertex.
+    /// The first place of an end that is no vertex.
     NoVertex(u32),
-    /// The least place of a weight that is 0.
+    /// The first place of a weight that is 0.
     NoWeight(u32),
-    /// Memory ran out.
+    /// Out of memory.
     OutOfMemory,
 }
 
@@ -37,7 +37,7 @@ impl From<AllocError> for EndsFault {
     }
 }
 
-// The least place of a number that isn't below the limit.
+// The first place of a number that is not below the limit.
 fn first_not_below(numbers: &[u32], limit: u32) -> Option<u32>
     requires { length numbers.now ≤ 2 ^ 24 }
     ensures none { IfNone result (All (λ x. x < limit) numbers.now) }
@@ -52,7 +52,7 @@ fn first_not_below(numbers: &[u32], limit: u32) -> Option<u32>
     None
 }
 
-// The least place of a number that is 0.
+// The first place of a number that is 0.
 fn first_zero(numbers: &[u32]) -> Option<u32>
     requires { length numbers.now ≤ 2 ^ 24 }
     ensures none { IfNone result (All (λ x. 0 < x) numbers.now) }
@@ -67,7 +67,7 @@ fn first_zero(numbers: &[u32]) -> Option<u32>
     None
 }
 
-// Refuses arrays of another shape.
+// Rejects arrays with invalid lengths.
 fn check_shape(vertices: u32, ends: &[u32], weights: &[u32]) -> Result<(), EndsFault>
     ensures shape { OnOk result (HaveShape vertices ends.now weights.now) }
     ensures fault { IfErr result (IsEndsFault vertices ends.now weights.now) }
@@ -103,8 +103,8 @@ fn edge_of(vertices: u32, ends: &[u32], weights: &[u32], i: usize) -> Edge
     }
 }
 
-/// The graph of so many vertices with these edges: the ends of edge i are the vertices at the
-/// places 2 i and 2 i + 1, which count from 0 there, and its weight is at place i, or 1 where there
+/// The graph with this many vertices and with these edges. The ends of edge i are the vertices at
+/// the places 2 i and 2 i + 1; they count from 0 there. Its weight is at place i, or 1 if there
 /// are no weights at all.
 pub fn graph_of_ends(
     alloc: Global,

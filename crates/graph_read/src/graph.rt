@@ -5,7 +5,7 @@ use std::alloc::{AllocError, Global};
 use std::marker::Model;
 
 /// A graph of at most 2^22 vertices, which count from 1, and at most 2^23 edges, which count from
-/// 0 here. Loops and parallel edges may stand in it.
+/// 0 here. Self-loops and parallel edges are allowed.
 #[derive(Drop)]
 pub struct Graph {
     vertices: u32,
@@ -25,7 +25,7 @@ impl Model for Graph {
 impl Graph {
     ghost use Rattle.graph_read.specs.Graphs.{IsEdge, IsGraph};
 
-    // The graph of so many vertices that has no edge.
+    // The graph with this many vertices and no edges.
     pub(crate) fn without_edges(alloc: Global, vertices: u32) -> Graph
         requires { vertices ≤ 2 ^ 22 }
         ensures { result ≡ record { vertices = vertices; edges = [] } }
@@ -36,7 +36,7 @@ impl Graph {
         }
     }
 
-    // The same, with room for so many edges.
+    // The graph with this many vertices and no edges, with room for this many edges.
     pub(crate) fn with_room(alloc: Global, vertices: u32, edges: usize) -> Result<Graph, AllocError>
         requires { vertices ≤ 2 ^ 22 }
         ensures { IfOk result (λ graph. graph ≡ record { vertices = vertices; edges = [] }) }
@@ -47,7 +47,7 @@ impl Graph {
         })
     }
 
-    // Adds an edge behind the others.
+    // Adds an edge after the others.
     pub(crate) fn push(&mut self, edge: Edge) -> Result<(), AllocError>
         requires edge { IsEdge self.old.vertices edge }
         requires room { length self.old.edges < 2 ^ 23 }
@@ -59,7 +59,7 @@ impl Graph {
         Ok(())
     }
 
-    /// How many vertices there are: at most 2^22.
+    /// The number of vertices, at most 2^22.
     pub fn vertices(&self) -> u32
         ensures count { result ≡ self.now.vertices }
         ensures graph { IsGraph self.now }
@@ -67,7 +67,7 @@ impl Graph {
         self.vertices
     }
 
-    /// How many edges there are: at most 2^23.
+    /// The number of edges, at most 2^23.
     pub fn edges(&self) -> u32
         ensures count { result ≡ length self.now.edges }
         ensures graph { IsGraph self.now }
@@ -75,7 +75,7 @@ impl Graph {
         self.edges.len() as u32
     }
 
-    /// Edge i, from 0.
+    /// Edge i, counted from 0.
     pub fn edge(&self, i: u32) -> Edge
         requires { i < length self.now.edges }
         ensures edge { result ≡ slice_index_or self.now.edges i result }

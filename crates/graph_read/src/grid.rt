@@ -6,9 +6,10 @@ use crate::{Edge, Graph};
 use std::alloc::{AllocError, Global};
 
 impl Graph {
-    /// The grid of so many rows and columns, from 1 to 2048. The vertex in row r and column c, both
-    /// from 1, is (r - 1) * side + c. From each vertex in rising order the edge to its right
-    /// neighbour comes first, then the edge to the one below, where they exist. Weights are 1.
+    /// The square grid with `side` rows and columns, from 1 to 2048. The vertex in row r and
+    /// column c, both from 1, is (r - 1) * side + c. The edges are in the order of their lower
+    /// vertices: first the edge to the right neighbour, then the edge to the one below, if they
+    /// exist. All weights are 1.
     pub fn grid(alloc: Global, side: u32) -> Result<Graph, AllocError>
         requires { IsSide side }
         ensures { IfOk result (λ graph. graph ≡ grid_of side) }
@@ -21,7 +22,7 @@ impl Graph {
     }
 }
 
-// Adds an edge of weight 1, where it is there.
+// Adds an edge of weight 1, if it exists.
 fn add_where(graph: &mut Graph, there: bool, u: u32, v: u32) -> Result<(), AllocError>
     requires edge { IsTrue there → IsEdge graph.old.vertices (record { u = u; v = v; weight = 1 }) }
     requires room { length graph.old.edges < 2 ^ 23 }
@@ -33,7 +34,7 @@ fn add_where(graph: &mut Graph, there: bool, u: u32, v: u32) -> Result<(), Alloc
     Ok(())
 }
 
-// Adds the edges from a vertex, behind those from the vertices before it.
+// Adds the edges from a vertex to higher ones, after those of the vertices before it.
 fn add_edges_from(graph: &mut Graph, side: u32, row: u32, column: u32) -> Result<(), AllocError>
     requires side { IsSide side }
     requires place { IsPlace side row column }
@@ -46,7 +47,7 @@ fn add_edges_from(graph: &mut Graph, side: u32, row: u32, column: u32) -> Result
     add_where(graph, row < side, vertex, vertex + side)
 }
 
-// Adds the edges from the vertices of a row, behind those of the rows before it.
+// Adds the edges from the vertices of a row to higher ones, after those of the rows before it.
 fn add_row(graph: &mut Graph, side: u32, row: u32) -> Result<(), AllocError>
     requires side { IsSide side }
     requires row { (1 ≤ row) × (row ≤ side) }

@@ -7,8 +7,8 @@ use crate::{Adjacency, put_grid_neighbours};
 use std::alloc::AllocError;
 use std::marker::Model;
 
-/// The grid of so many rows and columns, from 1 to 2048, by that number alone: its edges aren't
-/// stored. Contracts see the graph.
+/// The square grid with `side` rows and columns, from 1 to 2048. Only this number is stored, and
+/// no edges. Contracts see the graph.
 #[derive(Drop)]
 pub struct Grid {
     side: u32,
@@ -26,7 +26,7 @@ impl Model for Grid {
 }
 
 impl Grid {
-    /// The grid of so many rows and columns.
+    /// The grid with this many rows and columns.
     pub fn of(side: u32) -> Grid
         requires { IsSide side }
         ensures { result ≡ grid_of side }
@@ -55,8 +55,8 @@ impl Adjacency for Grid {
     }
 }
 
-// How many vertices edges lead to from a vertex of the grid: those above, to the left, to the right
-// and below, where these are there.
+// The number of neighbours of a vertex of the grid: those above, to the left, to the right and
+// below that exist.
 fn grid_degree(side: u32, vertex: u32) -> u32
     requires side { IsSide side }
     requires vertex { IsVertex (side * side) vertex }
@@ -67,7 +67,7 @@ fn grid_degree(side: u32, vertex: u32) -> u32
     one_where(row > 1) + one_where(column > 1) + one_where(column < side) + one_where(row < side)
 }
 
-// 1, where it is there.
+// 1 if it exists, and otherwise 0.
 fn one_where(there: bool) -> u32
     ensures { result ≡ length (vertex_where there 0) }
 {

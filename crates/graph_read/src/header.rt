@@ -5,7 +5,7 @@ ghost use Rattle.graph_read.specs.Reading.{IsHeader};
 
 use pop_edge::{MAX_VARIABLES, ReadRefusal, next_header, next_word};
 
-// How many vertices a header declares, where the line is one.
+// The number of vertices that a header declares, if the line is a header.
 fn vertices_of(line: &[u8]) -> Option<u32>
     ensures { result ≡ declared (words_of line.now) }
 {
@@ -19,8 +19,7 @@ fn vertices_of(line: &[u8]) -> Option<u32>
     Some(vertices)
 }
 
-/// How many vertices the header of a line declares, or what is wrong with it: code 11, then limit
-/// 2.
+/// The number of vertices that the header of a line declares, or its error: code 11, then limit 2.
 pub fn read_header(number: u64, line: &[u8]) -> Result<u32, ReadRefusal>
     ensures header { IsHeader number (words_of line.now) result }
     ensures bound { IfOk result (λ n. n ≤ 2 ^ 22) }

@@ -9,14 +9,14 @@ use pop_rows::FlatRows;
 use std::alloc::{AllocError, Global};
 use std::marker::Model;
 
-/// A graph with, for each of its vertices, the edges at it that aren't loops, by their darts there
-/// (half-edges: 2 i is edge i, from 0, at its end v, and 2 i + 1 the same at its end u), rising. So
-/// it is known at which end of an edge a vertex stands, and no edge is looked up for it. Contracts
+/// A graph with, for each of its vertices, the darts at it, rising, without self-loops. A dart is
+/// a half-edge: edge i, counted from 0, has dart 2 i at its end v and dart 2 i + 1 at its end u.
+/// So a dart says at which end of its edge the vertex is, without a look at the edge. Contracts
 /// see the graph.
 #[derive(Drop)]
 pub struct Incidence<'g> {
     graph: &'g Graph,
-    // The darts at vertex w stand in row w - 1.
+    // The darts at vertex w are in row w - 1.
     rows: FlatRows,
 }
 

@@ -1,19 +1,19 @@
-//! Laws of the grammar, of paths and of grids. Each is a function of no argument whose contract is
-//! the law.
+//! Theorems about the grammar, paths and grids. Each is the contract of a function without
+//! arguments.
 ghost use Rattle.graph_read.specs.Laws.{AcceptsExactly, GridConnected, HasOneGraph, JoinedBothWays};
 
-/// A text has no refusal exactly where it is in the grammar, and then its graph is the one that the
-/// grammar gives it.
+/// An input is accepted exactly if it is in the grammar. Then its graph is the one that the
+/// grammar assigns to it.
 pub fn accepts_exactly()
     ensures { AcceptsExactly }
 {}
 
-/// A text is that of one graph at most.
+/// An input denotes at most one graph.
 pub fn one_graph()
     ensures { HasOneGraph }
 {}
 
-/// What a path joins from one side is joined from the other.
+/// If a path joins u to v, a path joins v to u.
 pub fn joined_both_ways()
     ensures { JoinedBothWays }
 {}

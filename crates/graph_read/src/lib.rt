@@ -1,6 +1,6 @@
-//! Graphs, from text in the manner of the DIMACS graph files or as grids, the edges at each vertex,
-//! and the first vertex that is cut off from a root. Contracts see a graph as its number of
-//! vertices and its edges, whether these are stored or come from the number of a grid.
+//! Graphs, read from input based on the DIMACS graph format or made as grids; the edges at each
+//! vertex; the first vertex that is not connected to a root. Contracts see a graph as its number
+//! of vertices and its edges, whether these are stored or computed from the side of a grid.
 #![tactic(auto)]
 
 mod adjacency;

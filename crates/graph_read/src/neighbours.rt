@@ -5,9 +5,9 @@ ghost use Rattle.graph_read.specs.Incidence.{neighbours_of};
 
 use std::alloc::AllocError;
 
-/// Puts into a list, in place of what it has, the vertices to which edges lead from a vertex of the
-/// grid of so many rows and columns, from 1 to 2048: those above, to the left, to the right and
-/// below, where these are there. Vertices count from 1, row by row.
+/// Replaces the contents of a list by the neighbours of a vertex of a grid: those above, to the
+/// left, to the right and below that exist. The grid has from 1 to 2048 rows and columns. Its
+/// vertices count from 1, row by row.
 pub fn put_grid_neighbours(
     neighbours: &mut Vec<u32>,
     side: u32,
@@ -20,14 +20,14 @@ pub fn put_grid_neighbours(
     let row = (vertex - 1) / side + 1;
     let column = (vertex - 1) % side + 1;
     neighbours.clear();
-    // What is subtracted is too much only in the first row, where nothing is above.
+    // The difference would be negative only in the first row, which has no neighbours above.
     add_where(neighbours, row > 1, vertex.saturating_sub(side))?;
     add_where(neighbours, column > 1, vertex - 1)?;
     add_where(neighbours, column < side, vertex + 1)?;
     add_where(neighbours, row < side, vertex + side)
 }
 
-// Adds a vertex, where it is there.
+// Adds a vertex, if it exists.
 fn add_where(list: &mut Vec<u32>, there: bool, vertex: u32) -> Result<(), AllocError>
     ensures { OnOk result (list.new.items ≡ list.old.items ++ vertex_where there vertex) }
 {

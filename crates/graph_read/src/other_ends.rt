@@ -10,12 +10,13 @@ use pop_rows::FlatRows;
 use std::alloc::{AllocError, Global};
 use std::marker::Model;
 
-/// A graph with, for each of its vertices, the vertices to which the edges at it lead, loops aside,
-/// in the order of the graph. No edge is looked up for them. Contracts see the graph.
+/// A graph with, for each of its vertices, the neighbours that its edges join to it, in the order
+/// of the graph, without self-loops. They are stored, so no edge is looked up for them. Contracts
+/// see the graph.
 #[derive(Drop)]
 pub struct OtherEnds<'g> {
     graph: &'g Graph,
-    // Where the edges at vertex w lead stands in row w - 1.
+    // The neighbours of vertex w are in row w - 1.
     rows: FlatRows,
 }
 
@@ -48,7 +49,7 @@ impl<'g> OtherEnds<'g> {
         self.graph
     }
 
-    /// Where the edges at a vertex lead. Vertices count from 1.
+    /// The neighbours of a vertex, one for each edge at it. Vertices count from 1.
     pub fn at(&self, vertex: u32) -> &[u32]
         requires { IsVertex self.now.vertices vertex }
         ensures { result.now ≡ neighbours_of self.now vertex }
@@ -56,14 +57,15 @@ impl<'g> OtherEnds<'g> {
         self.rows.row(vertex - 1)
     }
 
-    /// For each vertex, from vertex 1 on, the weights of these edges: one pass over the edges.
+    /// For each vertex, from vertex 1 on, the weights of these edges. It takes one pass over the
+    /// edges.
     pub fn weights(&self, alloc: Global) -> Result<FlatRows, AllocError>
         ensures { IfOk result (λ weights. weights.rows ≡ rows_by (put_of Weight) self.now) }
     {
         put_rows(alloc, self.graph, self.degrees(alloc)?, Put::Weight)
     }
 
-    // How many of these edges stand at each vertex, from vertex 1 on.
+    // The number of these edges at each vertex, from vertex 1 on.
     fn degrees(&self, alloc: Global) -> Result<Vec<u32>, AllocError>
         ensures degrees { IfOk result (λ degrees. degrees.items ≡ degrees_of self.now) }
         ensures few { IfOk result (λ degrees. length degrees.items ≤ 2 ^ 22) }
@@ -88,7 +90,7 @@ impl<'g> Adjacency for OtherEnds<'g> {
     }
 
     fn degree(&self, vertex: u32) -> u32 {
-        // Read for its contract, which says how many edges there are at most.
+        // Read for its contract, which bounds the number of edges.
         let _edges = self.graph.edges();
         self.at(vertex).len() as u32
     }

@@ -1,13 +1,13 @@
-//! Edges that are found by their places among those at a vertex.
+//! Finds edges by their places among the edges at a vertex.
 ghost use Rattle.std.specs.Prelude.{◌≡◌, ◌<◌, ◌-◌, ◌==◌, length, slice_index, slice_set, if◌then◌else◌, IfOk};
 ghost use Rattle.graph_read.specs.Incidence.{StandAtPlaces};
 
 use crate::Graph;
 use std::alloc::{AllocError, Global};
 
-/// For each vertex, from vertex 1 on, the edge at a place among those at it, loops aside. The
-/// places count from 1, one for each vertex; 0 asks for none. One pass over the edges finds them
-/// all, with memory for one number for each vertex.
+/// For each vertex, from vertex 1 on, the edge at a place among the edges at it, without
+/// self-loops. There is one place for each vertex, counted from 1; 0 asks for no edge. One pass
+/// over the edges finds them all, with memory for one number for each vertex.
 pub fn edges_at_places(
     alloc: Global,
     graph: &Graph,
@@ -22,7 +22,8 @@ pub fn edges_at_places(
     Ok(picked)
 }
 
-// Picks for each vertex the edge at its place: each counts down while its edges come by.
+// Picks for each vertex the edge at its place. The place of a vertex is counted down at each of
+// its edges.
 fn pick_edges(graph: &Graph, left: &mut [u32], picked: &mut [u32])
     requires left { length left.old ≡ graph.now.vertices }
     requires picked { length picked.old ≡ graph.now.vertices }
@@ -37,7 +38,7 @@ fn pick_edges(graph: &Graph, left: &mut [u32], picked: &mut [u32])
     }
 }
 
-// Counts down in a row, and picks the number that comes at 1.
+// Counts down the place of a row, and picks number i when the place is 1.
 fn pick_at(left: &mut [u32], picked: &mut [u32], row: u32, i: u32)
     requires left { row < length left.old }
     requires picked { row < length picked.old }

@@ -3,12 +3,12 @@ ghost use Rattle.graph_read.specs.Incidence.{dart_at};
 
 use crate::Edge;
 
-/// What an edge that isn't a loop puts into the rows of its two ends.
+/// The number that an edge adds to the rows of its two ends, unless it is a self-loop.
 #[derive(Clone, Copy)]
 pub enum Put {
-    /// Its dart at that end: twice its number, from 0, and 1 more at its end u.
+    /// Its dart at that end: twice the edge's number, counted from 0, plus 1 at its end u.
     Dart,
-    /// The vertex to which it leads from there.
+    /// Its other end.
     OtherEnd,
     /// Its weight.
     Weight,
@@ -18,7 +18,7 @@ impl Put {
     ghost use Rattle.std.specs.Prelude.{◌≡◌, ◌<◌, ◌^◌};
     ghost use Rattle.graph_read.specs.Incidence.{put_of};
 
-    /// What edge i puts into the row of a vertex at which it stands.
+    /// The number that edge i adds to the row of one of its ends.
     pub fn of(self, i: u32, edge: Edge, vertex: u32) -> u32
         requires { i < 2 ^ 31 }
         ensures { result ≡ put_of self i edge vertex }
@@ -31,7 +31,7 @@ impl Put {
     }
 }
 
-// The dart of edge i at an end of it.
+// The dart of edge i at one of its ends.
 fn dart_at(i: u32, edge: Edge, vertex: u32) -> u32
     requires { i < 2 ^ 31 }
     ensures { result ≡ dart_at i edge vertex }

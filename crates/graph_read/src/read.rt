@@ -11,19 +11,25 @@ use std::alloc::Global;
 
 /// Reads a graph, to the end of the source.
 ///
-/// Lines without words are passed over, comments, which begin with `c`, and lines whose first word
-/// is `n`, `d`, `v` or `x`. The first other line is the header, `p edge N M` or `p col N M`: N is
-/// the number of vertices, and M says nothing. Each line behind it is `e u v` or `e u v w`: an edge
-/// of the vertices u and v, from 1 to N, of weight w, from 1 to 2^32 - 1, which is 1 where it isn't
-/// written. Loops and parallel edges are kept.
+/// Lines without tokens are skipped, and so are comments, which begin with `c`, and lines with the
+/// first token `n`, `d`, `v` or `x`. The first other line is the header, `p edge N M` or `p col N
+/// M`. N is the number of vertices, and M is ignored. Each line after it is `e u v` or `e u v w`:
+/// an edge between the vertices u and v, from 1 to N, with weight w, from 1 to 2^32 - 1. The
+/// weight is 1 if it is not given. Self-loops and parallel edges are kept.
 ///
-/// The first refusal in the order of the text is answered, at its line: `Malformed` with code 11
-/// for a header that isn't one or is missing, 15 for a later line of another form, 12 for a word
-/// that is no number, 13 for an end that is no vertex, 14 for the weight 0; `Limit` of kind 2 for N
-/// above 2^22, 5 for more than 2^23 edges, 1 for more than 2^28 bytes. In one line code 15 comes
-/// first, then the words from left to right, then limit 5. `Count` and `EmptyClause` never come.
-/// `ReadFault` comes only where the source failed, no more was read than the limit, and no line is
-/// refused whose end was read.
+/// # Errors
+///
+/// The first error in the order of the input is returned, with its line:
+///
+/// - `Malformed` with code 11 for an invalid or missing header, 15 for a later line of another
+///   form, 12 for a token that is not a number, 13 for an end that is not a vertex, 14 for the
+///   weight 0.
+/// - `Limit` with kind 2 for N above 2^22, 5 for more than 2^23 edges, 1 for more than 2^28 bytes.
+/// - `ReadFault` only if the source failed, no more bytes were read than the limit, and no line
+///   that was read to its end is rejected.
+///
+/// In one line code 15 is reported first, then the tokens are checked from left to right, then
+/// limit 5. `Count` and `EmptyClause` are never returned.
 pub fn read_graph<S: Source>(alloc: Global, source: &mut S) -> Result<Graph, ReadRefusal>
     ensures text { (text : List ℕ) → S.left source.old ≡ Some text → AnswersGraph text result }
     ensures whole { OnOk result (IsAtEnd (S.left source.new)) }

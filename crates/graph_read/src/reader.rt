@@ -11,28 +11,28 @@ use std::alloc::Global;
 
 const COMMENT: u8 = b'c';
 
-// The most edges of a graph.
+// The largest number of edges of a graph.
 const MAX_EDGES: u32 = 8388608;
 
-/// What the lines so far say.
+/// What the lines so far specify.
 #[derive(Drop)]
 pub struct Reader {
     pub alloc: Global,
-    /// The graph so far, once the header came.
+    /// The graph so far, after the header was read.
     pub graph: Option<Graph>,
 }
 
 impl Reader {
     ghost use Rattle.graph_read.specs.Reading.{Finishes, Knows};
 
-    /// No line yet.
+    /// No line was read yet.
     pub fn new(alloc: Global) -> Reader
         ensures { Knows result [] }
     {
         Reader { alloc, graph: None }
     }
 
-    /// The graph of the lines. A missing header is refused at the line given.
+    /// The graph of the lines. A missing header is reported at this line.
     pub fn finish(self, line: u64) -> Result<Graph, ReadRefusal>
         ensures { (lines : List (ℕ × List (List ℕ))) → Knows self lines
             → Finishes line lines result }
@@ -70,7 +70,7 @@ impl LineReader for Reader {
     }
 }
 
-// Whether a line with this first word says nothing: it is a comment, or a descriptor.
+// Whether a line with this first token is skipped: it is a comment or a descriptor.
 fn passes_over(word: &[u8]) -> bool
     requires { 0 < length word.now }
     ensures { (words : List (List ℕ)) → result ≡ is_passed_over (word.now ∷ words) }
@@ -82,8 +82,8 @@ fn passes_over(word: &[u8]) -> bool
         || word == b"x".as_slice()
 }
 
-// Adds the edge of a line behind the header, by its first word and the bytes behind it, or refuses
-// the line: its codes come before the limit.
+// Adds the edge of a line after the header, given as its first token and the bytes after it, or
+// rejects the line. Its codes are reported before the limit.
 fn add_line(graph: &mut Graph, number: u64, word: &[u8], rest: &[u8]) -> Result<(), ReadRefusal>
     ensures { AddsLine graph.old graph.new number (word.now ∷ words_of rest.now) result }
 {

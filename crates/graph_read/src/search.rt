@@ -6,12 +6,12 @@ ghost use Rattle.graph_read.specs.Search.{AreJoined, Goes, HasVisited, IsMet, Is
 use crate::{Graph, OtherEnds};
 use std::alloc::{AllocError, Global};
 
-/// The vertices that a search has come to.
+/// The vertices that a search has reached.
 #[derive(Drop)]
 pub struct Search {
-    /// For each vertex, from vertex 1 on, whether the search has come to it.
+    /// For each vertex, from vertex 1 on, whether the search has reached it.
     pub met: Vec<bool>,
-    /// The vertices that were met, in the order in which they were.
+    /// The vertices that were reached, in order.
     pub found: Vec<u32>,
 }
 
@@ -20,7 +20,7 @@ impl Search {
     ghost use Rattle.graph_read.specs.Paths.{IsJoined};
     ghost use Rattle.graph_read.specs.Search.{Goes, HasVisited, IsMet, IsSearch};
 
-    // No vertex was met yet.
+    // No vertex was reached yet.
     fn new(alloc: Global, vertices: u32) -> Result<Search, AllocError>
         ensures { IfOk result (λ search. (g : GraphOf) → g.vertices ≡ vertices
             → (root : ℕ) → IsSearch g root search) }
@@ -31,7 +31,7 @@ impl Search {
         })
     }
 
-    // Comes to a vertex.
+    // Reaches a vertex.
     fn meet(&mut self, vertex: u32) -> Result<(), AllocError>
         requires first { 1 ≤ vertex }
         requires last { vertex ≤ length self.old.met.items }
@@ -49,7 +49,7 @@ impl Search {
     }
 }
 
-// Comes to the other ends of the edges at a vertex.
+// Reaches the neighbours of a vertex.
 fn visit(search: &mut Search, ends: &OtherEnds, vertex: u32) -> Result<(), AllocError>
     requires vertex { IsVertex ends.now.vertices vertex }
     requires size { length search.old.met.items ≡ ends.now.vertices }
@@ -59,7 +59,7 @@ fn visit(search: &mut Search, ends: &OtherEnds, vertex: u32) -> Result<(), Alloc
     ensures search { OnOk result ((root : ℕ) → IsSearch ends.now root search.old
         → IsSearch ends.now root search.new) }
 {
-    // Read for its contract, which says that edges lead to vertices.
+    // Read for its contract, which says that the ends of edges are vertices.
     let _edges = ends.graph().edges();
     for w in ends.at(vertex) {
         search.meet(*w)?;
@@ -67,7 +67,7 @@ fn visit(search: &mut Search, ends: &OtherEnds, vertex: u32) -> Result<(), Alloc
     Ok(())
 }
 
-// The vertices that paths join to the root: for each vertex, from vertex 1 on, whether a path does.
+// For each vertex, from vertex 1 on, whether a path joins it to the root.
 fn reach(alloc: Global, ends: &OtherEnds, root: u32) -> Result<Vec<bool>, AllocError>
     requires root { IsVertex ends.now.vertices root }
     ensures { IfOk result (λ met. AreJoined ends.now root met.items) }
@@ -91,8 +91,8 @@ fn first_unmet(met: &[bool]) -> Option<usize>
 }
 
 impl<'g> OtherEnds<'g> {
-    /// The least vertex that no path joins to the root, or None where a path joins each. The root
-    /// is a vertex.
+    /// The lowest vertex that is not connected to the root, or None if all are. The root must be a
+    /// vertex.
     pub fn first_cut_off(&self, alloc: Global, root: u32) -> Result<Option<u32>, AllocError>
         requires { IsVertex self.now.vertices root }
         ensures { IfOk result (IsFirstCutOff self.now root) }
@@ -107,7 +107,7 @@ impl<'g> OtherEnds<'g> {
     }
 }
 
-/// The least vertex that no path joins to the root, or None where a path joins each. The root is a
+/// The lowest vertex that is not connected to the root, or None if all are. The root must be a
 /// vertex. Time and memory are linear in the vertices and edges.
 pub fn first_cut_off(alloc: Global, graph: &Graph, root: u32) -> Result<Option<u32>, AllocError>
     requires { IsVertex graph.now.vertices root }

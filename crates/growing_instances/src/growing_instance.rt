@@ -1,4 +1,4 @@
-//! An instance whose stacks may grow.
+//! An instance that may have growing stacks.
 ghost use Rattle.std.specs.Prelude.{◌≡◌, MatchOption};
 ghost use Rattle.pop_model.specs.Instances.{FamilyFits};
 ghost use Rattle.pop_instance.specs.Family.{family_of};
@@ -8,8 +8,9 @@ use crate::growing_stacks::GrowingStacks;
 use pop_instance::{Family, Index, Instance};
 use std::marker::Model;
 
-/// An instance, the height to which its stacks grow: none where they are at their last height; and
-/// the index of its family, where it is at hand. Contracts see the instance at its last height.
+/// An instance, the height to which its stacks grow, and the index of its family if it is at hand.
+/// The height is None if the stacks are at their last height. Contracts see the instance at its
+/// last height.
 #[derive(Drop)]
 pub struct GrowingInstance {
     instance: Instance,
@@ -30,8 +31,8 @@ impl Model for GrowingInstance {
 }
 
 impl GrowingInstance {
-    /// The instance of these parts, with the index of the family, where it is at hand. None exactly
-    /// where the family doesn't fit the stacks.
+    /// The instance of these parts, with the index of the family if it is at hand. The result is
+    /// None exactly if the family does not fit the stacks.
     pub fn new(
         stacks: GrowingStacks,
         family: Family,
@@ -52,8 +53,8 @@ impl GrowingInstance {
         }
     }
 
-    /// The instance as it is, the height to which its stacks grow, and the index of its family,
-    /// where it is at hand.
+    /// The instance at its present height, the height to which its stacks grow, and the index of
+    /// its family if it is at hand.
     pub fn into_parts(self) -> (Instance, Option<u32>, Option<Index>)
         ensures grown { self ≡ instance_grown result.1 result.0 }
         ensures may { MayGrowTo result.1 result.0.stacks }
@@ -62,9 +63,9 @@ impl GrowingInstance {
         (self.instance, self.last, self.index)
     }
 
-    /// The instance at its last height, to which it is raised at once, for what is made without
-    /// stages, and the index of its family, where it is at hand. An entry doesn't hang on the
-    /// height, so no result tells whether there were any.
+    /// The instance, raised to its last height at once, and the index of its family if it is at
+    /// hand. This is for runs that are not made in stages. An entry does not depend on the height,
+    /// so no result shows whether there were stages.
     pub fn raised_with_index(self) -> (Instance, Option<Index>)
         ensures instance { result.0 ≡ self }
         ensures index { MayIndex result.0.family result.1 }
@@ -76,7 +77,7 @@ impl GrowingInstance {
         (instance, index)
     }
 
-    /// The same, for what needs no index. One that is at hand is let go.
+    /// The instance, raised to its last height at once. An index that is at hand is dropped.
     pub fn raised(self) -> Instance
         ensures { result ≡ self }
     {

@@ -1,12 +1,12 @@
-//! Stacks whose height may grow.
+//! Stacks that may grow.
 ghost use Rattle.std.specs.Prelude.{◌≡◌};
 ghost use Rattle.growing_instances.specs.Growing.{grown, MayGrowTo};
 
 use pop_stacks::Stacks;
 use std::marker::Model;
 
-/// Stacks, and the height to which they grow: none where they are at their last height, as given
-/// rows are. Contracts see the stacks at their last height.
+/// Stacks, and the height to which they grow. The height is None if they are at their last height,
+/// as given rows are. Contracts see the stacks at their last height.
 #[derive(Drop)]
 pub struct GrowingStacks {
     stacks: Stacks,
@@ -25,7 +25,7 @@ impl Model for GrowingStacks {
 }
 
 impl GrowingStacks {
-    /// Stacks that grow to this height, or don't.
+    /// Stacks that grow to this height. With None they do not grow.
     pub fn new(stacks: Stacks, last: Option<u32>) -> GrowingStacks
         requires { MayGrowTo last stacks }
         ensures { result ≡ grown last stacks }
@@ -33,7 +33,7 @@ impl GrowingStacks {
         GrowingStacks { stacks, last }
     }
 
-    /// The stacks as they are, and the height to which they grow.
+    /// The stacks at their present height, and the height to which they grow.
     pub fn into_parts(self) -> (Stacks, Option<u32>)
         ensures grown { self ≡ grown result.1 result.0 }
         ensures may { MayGrowTo result.1 result.0 }

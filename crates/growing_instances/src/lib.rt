@@ -1,4 +1,4 @@
-//! Instances whose stacks may grow. Contracts see them at their last height.
+//! Instances with stacks that may grow. Contracts see them at their last height.
 #![tactic(auto)]
 
 mod growing_instance;

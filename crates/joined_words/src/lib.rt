@@ -1,4 +1,5 @@
-//! Words in one array of bytes, where a byte 0 ends each, as programs in C hand them over.
+//! Command-line arguments in one array of bytes, as programs in C pass them. Each argument is
+//! ended by a byte 0.
 #![tactic(auto)]
 
 #[cfg(test)]

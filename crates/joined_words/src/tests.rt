@@ -3,7 +3,7 @@ use std::alloc::{AllocError, Global};
 use std::process::Abort;
 use std::test::Fail;
 
-// Bytes, and the words in them, or that there are none. Worked by hand.
+// Bytes, and the arguments in them, or `None`. Worked by hand.
 static TEXTS: [(&[u8], &str); 9] = [
     (b"", "[]"),
     (b"\0", r#"[""]"#),
@@ -16,7 +16,7 @@ static TEXTS: [(&[u8], &str); 9] = [
     (b"tree\0\xff\0", "none"),
 ];
 
-// What the words in the bytes are, as text.
+// The arguments in the bytes, as text.
 fn told(alloc: Global, bytes: &[u8]) -> Result<String, AllocError> {
     match words_of(alloc, bytes)? {
         Some(words) => format!(in alloc; "{words:?}"),
@@ -24,7 +24,7 @@ fn told(alloc: Global, bytes: &[u8]) -> Result<String, AllocError> {
     }
 }
 
-// Compares the words in bytes.
+// Compares the arguments in the bytes with the expected text.
 fn has_words(rt: &impl Abort, alloc: Global, bytes: &[u8], want: &str) -> Result<(), AllocError> {
     let found = told(alloc, bytes)?;
     assert_eq!(rt; found.as_str(), want);

@@ -1,11 +1,11 @@
-//! The words of a call.
+//! The arguments of a call.
 ghost use Rattle.std.specs.Prelude.{◌≡◌, ◌++◌, ◌∷◌, [], map, string_bytes, IfOk, MatchOption, IsUtf8, Ok, true, false};
 ghost use Rattle.joined_words.specs.Joined.{AreJoined, AreNoWords};
 
 use std::alloc::{AllocError, Global};
 use std::str;
 
-// Adds a word behind others, where it is UTF-8, and says whether it is.
+// Adds an argument after the others if it is UTF-8, and returns whether it is.
 fn push_word(alloc: Global, words: &mut Vec<String>, word: &[u8]) -> Result<bool, AllocError>
     ensures pushed { result ≡ Ok true → map string_bytes words.new.items
         ≡ map string_bytes words.old.items ++ word.now ∷ [] }
@@ -20,8 +20,8 @@ fn push_word(alloc: Global, words: &mut Vec<String>, word: &[u8]) -> Result<bool
     }
 }
 
-/// The words in bytes where a byte 0 ends each, which determine them. None where the last byte
-/// isn't 0, or a word isn't UTF-8. No bytes have no words.
+/// The arguments in bytes that end each with a byte 0; the bytes determine them. None if the last
+/// byte is not 0 or an argument is not UTF-8. Empty bytes have no arguments.
 pub fn words_of(alloc: Global, bytes: &[u8]) -> Result<Option<Vec<String>>, AllocError>
     ensures { IfOk result (λ found. MatchOption found (AreNoWords bytes.now)
         (λ words. AreJoined bytes.now (map string_bytes words.items))) }

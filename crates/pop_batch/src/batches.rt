@@ -11,9 +11,9 @@ use rayon::prelude::*;
 use std::alloc::{AllocError, Global};
 use std::thread::Threads;
 
-/// The ends of so many samples of an extremal instance under a key, from sample 0 on. They are run
-/// in parallel, each on one thread, and share the family. Want of memory in one of them is that of
-/// the whole.
+/// The ends of the first `count` samples of an extremal instance under a key. They are run in
+/// parallel, each on one thread, and share the family. If memory runs out in one run, the whole
+/// call returns `AllocError`.
 pub fn batch<R: Threads + Sync>(
     rt: &R,
     alloc: Global,
@@ -30,8 +30,8 @@ pub fn batch<R: Threads + Sync>(
     Ok(Ends::of(ends))
 }
 
-/// The ends that `batch` makes, of runs one after another on the calling thread, which starts no
-/// other. Want of memory in one of them is that of the whole.
+/// The ends that `batch` makes, by runs one after another on the calling thread. It starts no
+/// thread. If memory runs out in one run, the whole call returns `AllocError`.
 pub fn batch_alone(alloc: Global, instance: &Instance, count: u32) -> Result<Ends, AllocError>
     requires keyed { IsKeyed instance.now.stacks.origin }
     requires extremal { IsExtremal instance.now.family }
@@ -43,7 +43,7 @@ pub fn batch_alone(alloc: Global, instance: &Instance, count: u32) -> Result<End
     Ok(Ends::of(ends))
 }
 
-// The ends of so many samples, each by a thread that has time.
+// The ends of the first `count` samples, each made by the next free thread.
 fn run_each<R: Threads + Sync>(
     rt: &R,
     alloc: Global,
@@ -63,7 +63,7 @@ fn run_each<R: Threads + Sync>(
         .collect::<Result<Vec<End>, AllocError>>(rt, alloc)?
 }
 
-// The same, run one after another.
+// The ends of the first `count` samples, run one after another.
 fn run_in_turn(alloc: Global, samples: &Samples, count: u32) -> Result<Vec<End>, AllocError>
     ensures { IfOk result (λ ends. AreEnds samples.now count ends.items) }
 {

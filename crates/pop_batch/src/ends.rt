@@ -4,7 +4,7 @@ ghost use Rattle.pop_batch.specs.Batches.{some_stuck};
 use confluence_core::End;
 use std::marker::Model;
 
-/// The ends of samples, by the number of the sample, from 0: fewer than 2^32.
+/// The ends of fewer than 2^32 samples, in the order of the samples' numbers, from 0.
 #[derive(Drop)]
 pub struct Ends {
     ends: Vec<End>,
@@ -30,7 +30,7 @@ impl Ends {
         Ends { ends }
     }
 
-    /// How many ends there are.
+    /// The number of ends.
     pub fn len(&self) -> u32
         ensures { result ≡ length self.now }
     {
@@ -45,7 +45,7 @@ impl Ends {
         &self.ends[j as usize]
     }
 
-    /// Whether at some end an event still occurs.
+    /// Whether an event still occurs at some end.
     pub fn some_stuck(&self) -> bool
         ensures { result ≡ some_stuck self.now }
     {

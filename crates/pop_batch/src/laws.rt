@@ -1,19 +1,21 @@
-//! The laws of batches and of runs that are stopped: each function's contract is the law.
+//! Theorems about batches and about runs that are stopped. The contract of each function states
+//! one.
 ghost use Rattle.pop_batch.specs.Laws.{OneBatch, OnePartEnd, StopsKeepEnd};
 
-/// So many samples of an extremal instance have one list of ends, however they are cut among
-/// threads.
+/// The first n samples of an extremal instance have exactly one list of ends, however they are
+/// divided among threads.
 pub fn one_batch()
     ensures { OneBatch }
 {}
 
-/// A sample of an extremal instance has one end from given cursors.
+/// A sample of an extremal instance has exactly one end from given cursors.
 pub fn one_part_end()
     ensures { OnePartEnd }
 {}
 
-/// Wherever the run of a sample of an extremal instance is stopped, and goes on from there, it comes
-/// to the end of the run that isn't stopped, with as many pops in all parts together.
+/// If the run of a sample of an extremal instance is stopped anywhere and continued from there, it
+/// reaches the end of the run that is not stopped. The numbers of pops of all parts sum to that of
+/// this run.
 pub fn stops_keep_end()
     ensures { StopsKeepEnd }
 {}

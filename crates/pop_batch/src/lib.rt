@@ -1,8 +1,8 @@
-//! Batches: many samples of one instance under a key, run in parallel or one after another,
-//! each on one thread.
+//! Batches: many samples of one instance under a key, run in parallel or one after another, each
+//! on one thread.
 //!
-//! Contracts see the ends as a list, in which end j is that of the one-thread run on sample j, so
-//! that no cutting of the work shows.
+//! Contracts see the ends as a list: end j is that of the one-thread run of sample j. So the
+//! result does not depend on how the work is divided.
 #![tactic(auto)]
 
 mod batches;

@@ -1,10 +1,10 @@
 use confluence_core::End;
 
-/// How far the run of a sample came.
+/// One part of the run of a sample.
 #[derive(Drop)]
 pub struct Part {
-    /// Where it stands: the pops are those of this part, and the events are those that occur there.
+    /// The state at the end of this part: the number of its pops, and the events that occur there.
     pub at: End,
-    /// Whether it was stopped there, where some event is poppable; else it is at its end.
+    /// Whether the run was stopped before its end: some event is poppable there.
     pub is_open: bool,
 }

@@ -13,8 +13,8 @@ use pop_stacks::Reader;
 use std::alloc::{AllocError, Global};
 use std::marker::Model;
 
-/// The samples of an extremal instance under a key, which are run by the index of its family.
-/// Several threads may share them. Contracts see the instance.
+/// The samples of an extremal instance under a key, which share the index of its family. Several
+/// threads may share them. Contracts see the instance.
 #[derive(Drop)]
 pub struct Samples<'i> {
     instance: &'i Instance,
@@ -46,7 +46,7 @@ impl<'i> Samples<'i> {
         Ok(Samples { instance, index })
     }
 
-    /// The samples of an instance of listed events, the index of which is at hand.
+    /// The samples of an instance of listed events, with the index of these events.
     pub fn with(instance: &'i Instance, index: Index) -> Samples<'i>
         requires keyed { IsKeyed instance.now.stacks.origin }
         requires extremal { IsExtremal instance.now.family }
@@ -70,8 +70,8 @@ impl<'i> Samples<'i> {
         Ok(sample.run(alloc, &mut reader, opening)?.end)
     }
 
-    /// The run of sample j from these cursors, or from its beginning where none are given, to its
-    /// end or to so many pops.
+    /// The run of sample j from these cursors, or from its beginning if there are none. It ends at
+    /// its end or after at most this many pops.
     pub fn run_part(
         &self,
         alloc: Global,

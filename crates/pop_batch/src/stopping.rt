@@ -1,4 +1,4 @@
-//! Runs that begin at given cursors, and runs that stop after so many pops.
+//! Runs that begin at given cursors, and runs that stop after a number of pops.
 ghost use Rattle.std.specs.Prelude.{◌≡◌, ◌≤◌, ◌<◌, ◌^◌, [], false, Some, IsTrue, IfOk};
 ghost use Rattle.pop_model.specs.Stacks.{variables_of};
 ghost use Rattle.pop_model.specs.Popping.{AreWithin};
@@ -14,7 +14,7 @@ use pop_instance::{Cursors, Values};
 use pop_stacks::Reader;
 use std::alloc::{AllocError, Global};
 
-// A run before its first pop: from these cursors, or from zeros where none are given.
+// A run before its first pop, at these cursors, or at zeros if there are none.
 fn beginning(alloc: Global, sample: &Indexed, from: Option<Cursors>) -> Result<Reached, AllocError>
     requires start { CanStart sample.now from }
     ensures reached { IfOk result (IsReached sample.now (start_at sample.now from) false) }
@@ -28,7 +28,7 @@ fn beginning(alloc: Global, sample: &Indexed, from: Option<Cursors>) -> Result<R
     Ok(Reached::at(alloc, cursors, suspects, Keep::Nothing))
 }
 
-// Whether an event can be popped at these cursors: then a run from there makes a pop.
+// Whether an event can be popped at these cursors. If so, a run from there makes a pop.
 fn can_pop(
     alloc: Global,
     sample: &Indexed,
@@ -47,7 +47,7 @@ fn can_pop(
     Ok(left.pops > 0)
 }
 
-// Whether a run that was to make so many pops was stopped before its end.
+// Whether a run with this limit of pops was stopped before its end.
 fn is_stopped(
     alloc: Global,
     sample: &Indexed,
@@ -71,7 +71,8 @@ fn is_stopped(
     can_pop(alloc, sample, reader, &left.cursors)
 }
 
-/// The run from these cursors, or from zeros where none are given, to its end or to so many pops.
+/// The run from these cursors, or from zeros if there are none, to its end or for at most this
+/// many pops.
 pub(crate) fn part_of(
     alloc: Global,
     sample: &Indexed,

@@ -1,6 +1,6 @@
 use thiserror::Error;
 
-/// A device failed: a read or a write that took nothing.
+/// An I/O error: a read or a write that took no bytes.
 #[derive(Clone, Copy, Debug, PartialEq, Eq, Error)]
 #[error("the device failed")]
 pub struct Failed;

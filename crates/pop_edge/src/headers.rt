@@ -2,12 +2,12 @@ ghost use Rattle.pop_edge.specs.Headers.{CutsHeader};
 
 use crate::{next_word, number};
 
-/// The most variables of a formula, and the most vertices of a graph. A header that declares more
-/// passes the limit of kind 2.
+/// The largest number of variables of a formula and of vertices of a graph: 2^22. A header that
+/// declares more passes the limit of kind 2.
 pub const MAX_VARIABLES: u32 = 4194304;
 
-/// The four words at the front of a header, or None where the line is no header: `p`, the kind of
-/// the text and two numbers. Gives the kind, the numbers, and the bytes behind them.
+/// Reads the four tokens at the start of a header: `p`, the kind of the input and two numbers.
+/// Returns the kind, the numbers and the bytes after them, or None if the line is no header.
 pub fn next_header(line: &[u8]) -> Option<(&[u8], u32, u32, &[u8])>
     ensures { CutsHeader line.now result }
 {

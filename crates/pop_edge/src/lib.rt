@@ -1,6 +1,6 @@
-//! Bytes in and out: sources and sinks that count their faults, the lines of a text, and the words,
-//! numbers and header of a line. Contracts see the bytes that a source has left and a sink holds,
-//! where they are known.
+//! Input and output: sources and sinks that count their errors, the lines of an input, and the
+//! tokens, numbers and header of a line. Contracts see the bytes that a source has left and those
+//! that a sink has taken, if they are known.
 #![tactic(auto)]
 
 mod failed;

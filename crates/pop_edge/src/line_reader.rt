@@ -7,22 +7,22 @@ ghost use Rattle.pop_edge.specs.Judging.{HasTakenAll, IsInOrder, IsUnrefused, St
 use crate::{Lines, Next, ReadRefusal, Source};
 use std::alloc::Global;
 
-/// What reads a text by a grammar, line by line.
+/// A parser that reads an input by a grammar, line by line.
 pub trait LineReader {
     ghost use Rattle.std.specs.Prelude.{ℕ, List, ◌++◌};
     ghost use Rattle.pop_edge.specs.Words.{words_of};
     ghost use Rattle.pop_edge.specs.Judging.{Judgement, TakesLine, told};
 
-    /// How the grammar judges a text.
+    /// The grammar: which inputs are valid, and how others are rejected.
     ghost judgement: { Judgement };
 
-    /// What holds of it between two lines.
+    /// The parser's invariant, which holds between two lines.
     ghost is_sound: { Self → Type 0 };
 
-    /// It has read these lines.
+    /// The parser has read exactly these lines.
     ghost knows: { Self → List (ℕ × List (List ℕ)) → Type 0 };
 
-    /// Takes a line, or refuses it.
+    /// Reads a line, or rejects it. Lines count from 1.
     fn take_line(&mut self, number: u64, line: &[u8]) -> Result<(), ReadRefusal>
         requires { is_sound self.old }
         ensures sound { is_sound self.new }
@@ -31,10 +31,12 @@ pub trait LineReader {
             result };
 }
 
-/// Has each line of a source taken, to its end. Gives the number that a line behind the last would
-/// have. Else the answer is the first refusal of a line or `Limit(1, line)`, want of memory, or
-/// `ReadFault`, which comes only where the source failed, no more was read than the limit, and no
-/// line is refused whose end was read.
+/// Passes every line of the source to the parser. Returns one more than the number of the last
+/// line.
+///
+/// Errors: the first line that the parser rejects; `Limit(1, line)`; out of memory; `ReadFault`.
+/// `ReadFault` occurs only if the source failed, no more bytes were read than the limit, and no
+/// line that was read to its end is rejected.
 pub fn read_lines<S: Source, R: LineReader>(
     alloc: Global,
     source: &mut S,

@@ -9,11 +9,11 @@ use crate::{Next, ReadRefusal, Source};
 use std::alloc::{AllocError, Global};
 use std::marker::Model;
 
-/// The lines of a source, one after another. Each call is given the same source.
+/// The lines of a source, one after another. Every call must be given the same source.
 #[derive(Drop)]
 pub struct Lines {
     splitter: Splitter,
-    // The refusal of an earlier call.
+    // The error of an earlier call.
     kept: Option<ReadRefusal>,
 }
 
@@ -39,7 +39,7 @@ impl Lines {
     ghost use Rattle.pop_edge.specs.LineState.{IsNext, Repeats, fresh, opening};
     ghost use Rattle.pop_edge.specs.NeededReads.{ReadsAsNeeded};
 
-    /// No line yet. It takes the memory for one read.
+    /// No line was read yet. Allocates the memory for one read.
     pub fn new(alloc: Global) -> Result<Lines, AllocError>
         ensures { IfOk result (λ lines. lines ≡ opening) }
     {
@@ -49,25 +49,26 @@ impl Lines {
         })
     }
 
-    /// The line given last, without its end, or nothing before the first.
+    /// The line returned last, without its line end. It is empty before the first line.
     pub fn line(&self) -> &[u8]
         ensures { result.now ≡ self.now.line }
     {
         &self.splitter.line
     }
 
-    /// The place of the line given last, from 1, or 0 before the first.
+    /// The number of the line returned last, from 1, or 0 before the first line.
     pub fn number(&self) -> u64
         ensures { result ≡ self.now.number }
     {
         self.splitter.number
     }
 
-    /// Gives the next line, or says that there is none or why. Each read of a call is made only
-    /// where no whole line is at hand, and none behind a read that gave 0 or failed.
-    /// `Limit(1, line)` comes once a byte past the limit was read and every line before the line of
-    /// the first such byte was given, `ReadFault` where the source failed and no whole line was at
-    /// hand. After a refusal each call answers the same refusal and reads nothing.
+    /// Returns the next line, `Next::End` after the last one, or an error. It reads only while no
+    /// whole line is at hand, and never after a read that returned 0 bytes or failed.
+    ///
+    /// Errors: `Limit(1, line)` after all lines before the one with the first byte past the limit;
+    /// `ReadFault` if the source failed and no whole line is at hand. After an error each call
+    /// returns the same error and reads nothing.
     pub fn next<S: Source>(&mut self, source: &mut S) -> Result<Next, ReadRefusal>
         ensures kept { IfSome self.old.kept (λ refusal.
             Repeats self.old self.new (S.left source.old) (S.left source.new) result refusal) }

@@ -8,7 +8,7 @@ use crate::{Failed, Sink};
 use std::alloc::{AllocError, Global};
 use std::marker::Model;
 
-/// Takes bytes into memory, in pieces, up to a bound. Chosen writes fail.
+/// A sink in memory that takes bytes in pieces, up to a bound. Chosen writes fail.
 #[derive(Drop)]
 pub struct MemSink {
     held: Vec<u8>,
@@ -39,9 +39,9 @@ impl Model for MemSink {
 }
 
 impl MemSink {
-    /// Takes at most `room` bytes in all, at most `piece` of them in one write. The writes whose
-    /// numbers, from 1, are in `failing` fail, and each once the room is used up. It reserves the
-    /// room, so that no write takes memory.
+    /// Takes at most `room` bytes in all, and at most `piece` bytes in one write. The writes with
+    /// the numbers in `failing`, counted from 1, fail. Every write fails after the room is used
+    /// up. The room is reserved here, so no write allocates.
     pub fn new(
         alloc: Global,
         room: usize,
@@ -74,8 +74,8 @@ impl Sink for MemSink {
 
     ghost faults = { λ s. s.faults };
 
-    /// Fails exactly where its number is listed or no room is left, and else takes as many bytes as
-    /// the piece, what is offered and the room that is left allow.
+    /// Fails exactly if the number of this write is listed or no room is left. Otherwise it takes
+    /// as many bytes as are offered and as the piece and the room allow.
     fn write(&mut self, piece: &[u8]) -> Result<usize, Failed>
         requires { 0 < length piece.now }
         ensures some { TakesSome result piece.now }
@@ -97,7 +97,7 @@ impl Sink for MemSink {
             return Err(Failed);
         }
         let count = self.piece.min(piece.len().min(room));
-        // The room was reserved, so this can't fail.
+        // The room was reserved, so this cannot fail.
         match self.held.extend_from_slice(&piece[..count]) {
             Ok(()) => Ok(count),
             Err(_) => Err(Failed),

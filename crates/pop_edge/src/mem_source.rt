@@ -9,11 +9,11 @@ ghost use Rattle.pop_edge.specs.NeededReads.{given};
 use crate::{Failed, Source};
 use std::marker::Model;
 
-/// Bytes in memory, given in pieces. Chosen reads fail.
+/// A source in memory that gives its bytes in pieces. Chosen reads fail.
 #[derive(Drop)]
 pub struct MemSource {
     bytes: Vec<u8>,
-    // How many of the bytes were given.
+    // How many bytes were read.
     at: usize,
     piece: usize,
     failing: Vec<u64>,
@@ -39,8 +39,8 @@ impl Model for MemSource {
 }
 
 impl MemSource {
-    /// Gives the bytes, at most `piece` of them in one read. The reads whose numbers, from 1, are
-    /// in `failing` fail.
+    /// Gives these bytes, at most `piece` of them in one read. The reads with the numbers in
+    /// `failing`, counted from 1, fail.
     pub fn new(bytes: Vec<u8>, piece: usize, failing: Vec<u64>) -> MemSource
         requires { 1 ≤ piece }
         ensures { result ≡ new_source bytes.items piece failing.items }
@@ -63,8 +63,8 @@ impl Source for MemSource {
 
     ghost read_gives = { λ s given after. after ≡ after_piece s given };
 
-    /// Fails exactly where its number is listed, and else gives as many bytes as the piece, the
-    /// room and what is left allow.
+    /// Fails exactly if the number of this read is listed. Otherwise it gives as many of the bytes
+    /// left as the piece and the room allow.
     fn read(&mut self, room: &mut [u8]) -> Result<usize, Failed>
         requires { 0 < length room.old }
         ensures bound { ReadsAtMost result room.new }

@@ -1,8 +1,8 @@
-/// What a call for the next line gave.
+/// The result of a call for the next line.
 #[derive(Clone, Copy, Debug, PartialEq, Eq)]
 pub enum Next {
-    /// A line more.
+    /// There is another line.
     Line,
-    /// Nothing: every line was given, and the source is at its end.
+    /// There is none: every line was returned, and the source is at its end.
     End,
 }

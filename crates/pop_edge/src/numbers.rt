@@ -3,10 +3,10 @@ ghost use Rattle.std.specs.List.{list_all};
 ghost use Rattle.std.specs.Str.Parse.{digits_value};
 ghost use Rattle.pop_edge.specs.Numbers.{is_digit, number_of};
 
-// The most digits that a number is written with.
+// The largest number of digits of a number.
 const MAX_DIGITS: usize = 10;
 
-// The value of a few digits, or None where a byte isn't one.
+// The value of up to ten digits, or None if a byte is not a digit.
 fn value_of(word: &[u8]) -> Option<u64>
     requires { length word.now ≤ 10 }
     ensures { result ≡ (if list_all is_digit word.now
@@ -22,8 +22,8 @@ fn value_of(word: &[u8]) -> Option<u64>
     Some(value)
 }
 
-/// The number that a word is, or None where it is none: one to ten decimal digits, leading zeros
-/// allowed, of a value below 2^32.
+/// The number that a token denotes, or None if it denotes none. Numbers have one to ten decimal
+/// digits, leading zeros allowed, and are below 2^32.
 pub fn number(word: &[u8]) -> Option<u32>
     ensures { result ≡ number_of word.now }
 {

@@ -5,21 +5,22 @@ use crate::Failed;
 use std::alloc::{AllocError, AllocFailed};
 use thiserror::Error;
 
-/// Why a text was refused. Lines and clauses count from 1. The first refusal in the order of the
-/// text is named.
+/// Why an input was rejected: the first error in the order of the input. Lines and clauses count
+/// from 1.
 #[derive(Clone, Copy, Debug, PartialEq, Eq, Error)]
 pub enum ReadRefusal {
-    /// A line outside the grammar, and the code of what is wrong in it.
+    /// A line that the grammar does not allow, and the code of what is wrong in it.
     #[error("line {0} is malformed, code {1}")]
     Malformed(u64, u32),
-    /// How many clauses the header declares, and how many there are. It comes after every line.
+    /// The number of clauses that the header declares, and how many there are. It is reported only
+    /// after every line was read.
     #[error("{0} clauses are declared, and there are {1}")]
     Count(u32, u32),
-    /// The least number of a clause without literals. It comes last.
+    /// The lowest number of a clause without literals. It is reported last.
     #[error("clause {0} is empty")]
     EmptyClause(u32),
-    /// The kind of a limit, and the line that passes it: 1 for the bytes of the text, 2 for the
-    /// variables or vertices, 3 for the clauses, 4 for the literals, 5 for the edges.
+    /// The kind of a limit, and the line that exceeds it. Kinds: 1 bytes of the input, 2 variables
+    /// or vertices, 3 clauses, 4 literals, 5 edges.
     #[error("limit {0} is passed in line {1}")]
     Limit(u32, u64),
     /// The source failed.

@@ -5,16 +5,16 @@ ghost use Rattle.pop_edge.specs.Devices.{AppendsFront, TakesSome};
 
 use crate::Failed;
 
-/// Where bytes go to.
+/// An output that takes bytes.
 pub trait Sink {
-    /// The bytes that it has taken, where they are known.
+    /// The bytes that it has taken, if they are known.
     ghost holds: { Self → Option (List ℕ) };
 
-    /// How often a write failed.
+    /// How many writes failed.
     ghost faults: { Self → ℕ };
 
-    /// Takes some bytes from the front of the piece, at least one, and says how many. `Failed`
-    /// takes none, and comes only where the count of faults rose.
+    /// Takes at least one byte from the start of the piece, and returns how many it took. If the
+    /// result is `Failed`, it took none, and the count of faults rose.
     fn write(&mut self, piece: &[u8]) -> Result<usize, Failed>
         requires { 0 < length piece.now }
         ensures some { TakesSome result piece.now }
@@ -22,8 +22,8 @@ pub trait Sink {
         ensures cause { HasCause (faults self.old) (faults self.new) result };
 }
 
-/// Writes all the bytes, in as many pieces as the sink takes them. It takes no memory. `Failed`
-/// means that the sink took a front of the bytes and then failed.
+/// Writes all the bytes, in as many pieces as the sink takes them. It allocates nothing. If the
+/// result is `Failed`, the sink took a prefix of the bytes and then failed.
 pub fn put_all<K: Sink>(sink: &mut K, bytes: &[u8]) -> Result<(), Failed>
     ensures ok { OnOk result (Appends (K.holds sink.old) (K.holds sink.new) bytes.now) }
     ensures err { OnErr result (AppendsFront (K.holds sink.old) (K.holds sink.new) bytes.now) }

@@ -6,12 +6,12 @@ ghost use Rattle.pop_model.specs.Faults.{HasCause};
 use crate::{Failed, Source};
 use std::marker::Model;
 
-/// Bytes that are lent, given from the first on. No read fails. Contracts see the bytes that are
-/// still to come.
+/// A source over borrowed bytes, which it gives in order. No read fails. Contracts see the bytes
+/// that are still to come.
 #[derive(Drop)]
 pub struct SliceSource<'b> {
     bytes: &'b [u8],
-    // How many of the bytes were given.
+    // How many bytes were read.
     at: usize,
 }
 
@@ -26,7 +26,7 @@ impl<'b> Model for SliceSource<'b> {
 }
 
 impl<'b> SliceSource<'b> {
-    /// Gives these bytes.
+    /// A source of these bytes.
     pub fn new(bytes: &'b [u8]) -> SliceSource<'b>
         ensures { result ≡ bytes.now }
     {
@@ -39,7 +39,7 @@ impl<'b> Source for SliceSource<'b> {
 
     ghost faults = { λ _. 0 };
 
-    /// Gives as many bytes as the room and what is left allow.
+    /// Gives as many bytes as the room allows and as are left.
     fn read(&mut self, room: &mut [u8]) -> Result<usize, Failed>
         requires { 0 < length room.old }
         ensures bound { ReadsAtMost result room.new }

@@ -6,19 +6,20 @@ ghost use Rattle.pop_edge.specs.NeededReads.{given};
 
 use crate::Failed;
 
-/// Where bytes come from.
+/// An input that gives bytes.
 pub trait Source {
-    /// The bytes that are still to come, where they are known.
+    /// The bytes that are still to come, if they are known.
     ghost left: { Self → Option (List ℕ) };
 
-    /// How often a read failed.
+    /// How many reads failed.
     ghost faults: { Self → ℕ };
 
-    /// What one read does to the source, where a source tells it: it gives these bytes, or fails.
+    /// What one read does, if the source specifies it: the source before, the bytes read or None
+    /// for a failure, and the source after.
     ghost read_gives: { Self → Option (List ℕ) → Self → Type 0 } = { λ _ _ _. ⊤ };
 
-    /// Reads some bytes into the front of the room and says how many. 0 means the end of the input:
-    /// nothing is left. `Failed` takes no bytes, and comes only where the count of faults rose.
+    /// Reads some bytes into the start of the room and returns how many. 0 means the end of the
+    /// input. If the result is `Failed`, it took no bytes, and the count of faults rose.
     fn read(&mut self, room: &mut [u8]) -> Result<usize, Failed>
         requires { 0 < length room.old }
         ensures bound { ReadsAtMost result room.new }

@@ -13,10 +13,10 @@ use memchr::memchr;
 use std::alloc::{AllocError, Global};
 use std::mem;
 
-// How many bytes a text may have.
+// The largest number of bytes of an input: 2^28.
 const LIMIT: u64 = 268435456;
 
-// The room of one read.
+// The number of bytes that one read has room for.
 const ROOM: usize = 4096;
 
 const LINE_END: u8 = b'\n';
@@ -24,19 +24,19 @@ const LINE_END: u8 = b'\n';
 /// Cuts pieces of bytes into lines.
 #[derive(Drop)]
 pub struct Splitter {
-    /// The line given last.
+    /// The line returned last.
     pub line: Vec<u8>,
     /// The bytes of the next line so far.
     pub begun: Vec<u8>,
-    /// The piece read last. Its bytes from `at` to `end` belong to no line yet.
+    /// The piece read last. Its bytes from `at` up to, but without, `end` belong to no line yet.
     pub piece: Vec<u8>,
     pub at: usize,
     pub end: usize,
-    /// How many lines were given.
+    /// How many lines were returned.
     pub number: u64,
     /// How many bytes were read.
     pub taken: u64,
-    /// A read gave nothing.
+    /// True after a read that returned 0 bytes.
     pub ended: bool,
 }
 
@@ -46,8 +46,8 @@ fn first_end(bytes: &[u8]) -> Option<usize>
     memchr(LINE_END, bytes)
 }
 
-// Moves the bytes up to the first line end to the begun line. Says how many bytes that line end
-// closes, itself among them.
+// Moves the bytes up to the first line end to the begun line. Returns how many bytes this takes,
+// with the line end, or None if there is no line end.
 fn move_line(begun: &mut Vec<u8>, bytes: &[u8]) -> Result<Option<usize>, AllocError>
     ensures moved { IfOk result (Moves begun.old.items begun.new.items bytes.now) }
     ensures err { OnErr result (begun.new.items ≡ begun.old.items) }
@@ -65,7 +65,7 @@ fn move_line(begun: &mut Vec<u8>, bytes: &[u8]) -> Result<Option<usize>, AllocEr
 }
 
 impl Splitter {
-    /// Nothing was read yet. It takes the memory for one read.
+    /// Nothing was read yet. Allocates the memory for one read.
     pub fn new(alloc: Global) -> Result<Splitter, AllocError>
         ensures splitter { IfOk result IsSplitter }
         ensures nothing { IfOk result (λ s. rest_of s ≡ []) }
@@ -86,7 +86,7 @@ impl Splitter {
         })
     }
 
-    // Gives the begun line.
+    // Returns the begun line as the next line.
     fn give(&mut self)
         requires { IsSplitter self.old }
         ensures line { self.new.line.items ≡ self.old.begun.items }
@@ -101,7 +101,7 @@ impl Splitter {
         self.number += 1;
     }
 
-    // Cuts a line off the front of what is at hand, and says whether there was one.
+    // Takes a whole line off the bytes at hand. Returns whether there was one.
     fn cut(&mut self) -> Result<bool, AllocError>
         requires { IsSplitter self.old }
         ensures splitter { IsSplitter self.new }
@@ -124,7 +124,7 @@ impl Splitter {
         }
     }
 
-    // Reads a piece more, once the piece before it is used up.
+    // Reads another piece, after the piece before it is used up.
     fn fill<S: Source>(&mut self, source: &mut S) -> Result<(), Failed>
         requires splitter { IsSplitter self.old }
         requires used_up { self.old.at ≡ self.old.end }
@@ -151,8 +151,8 @@ impl Splitter {
         Ok(())
     }
 
-    /// Gives the next line, or says that there is none or why. It reads only where no whole line is
-    /// at hand.
+    /// Returns the next line, `Next::End`, or an error. It reads only while no whole line is at
+    /// hand.
     pub fn next<S: Source>(&mut self, source: &mut S) -> Result<Next, ReadRefusal>
         requires { IsSplitter self.old }
         ensures splitter { IsSplitter self.new }

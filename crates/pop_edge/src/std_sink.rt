@@ -7,7 +7,8 @@ use crate::{Failed, Sink};
 use std::io::Write;
 use std::marker::Model;
 
-/// Bytes to a writer of std, such as standard output, of which no contract tells the bytes.
+/// A sink over a writer of std, such as standard output. Contracts do not say which bytes such a
+/// writer holds.
 #[derive(Drop)]
 pub struct StdSink<O: Write> {
     writer: O,
@@ -23,7 +24,7 @@ impl<O: Write> Model for StdSink<O> {
 }
 
 impl<O: Write> StdSink<O> {
-    /// Writes to the writer. No fault is counted yet.
+    /// A sink over this writer. No fault is counted yet.
     pub fn new(writer: O) -> StdSink<O>
         ensures { result ≡ record { bytes = O.contents writer; faults = 0 } }
     {

@@ -8,7 +8,8 @@ use crate::{Failed, Source};
 use std::io::Read;
 use std::marker::Model;
 
-/// Bytes from a reader of std, such as standard input, of which no contract tells the bytes.
+/// A source over a reader of std, such as standard input. Contracts do not say which bytes such a
+/// reader gives.
 #[derive(Drop)]
 pub struct StdSource<I: Read> {
     reader: I,
@@ -24,7 +25,7 @@ impl<I: Read> Model for StdSource<I> {
 }
 
 impl<I: Read> StdSource<I> {
-    /// Reads from the reader. No fault is counted yet.
+    /// A source over this reader. No fault is counted yet.
     pub fn new(reader: I) -> StdSource<I>
         ensures { result ≡ record { bytes = I.remaining reader; faults = 0 } }
     {

@@ -19,7 +19,7 @@ fn first_other(line: &[u8]) -> Option<usize>
     line.iter().position(|b| !is_blank_byte(*b))
 }
 
-// The word at the front of bytes that begin with no blank, and the bytes behind it.
+// The token at the start of bytes that begin with no white space, and the bytes after it.
 fn front_word(bytes: &[u8]) -> (&[u8], &[u8])
     requires some { 0 < length bytes.now }
     requires no_blank { IsTrue (not (is_blank (slice_index bytes.now 0))) }
@@ -33,7 +33,7 @@ fn front_word(bytes: &[u8]) -> (&[u8], &[u8])
     }
 }
 
-/// The first word of a line and the bytes behind it, or None where there is no word. Blanks are
+/// The first token of a line and the bytes after it, or None if there is no token. White space is
 /// space, tab and carriage return.
 pub fn next_word(line: &[u8]) -> Option<(&[u8], &[u8])>
     ensures { CutsWord line.now result }

@@ -13,8 +13,8 @@ use pop_rows::RowList;
 use std::alloc::{AllocError, Global};
 use std::marker::Model;
 
-/// For each variable the heads of its slots: the variable to which a slot leads, or None where it
-/// leads to the root. Each variable has a slot. Variables and slots count from 0.
+/// For each variable the heads of its slots. The head of a slot is the variable that the slot
+/// points to, or None for the root. Each variable has a slot. Variables and slots count from 0.
 #[derive(Drop)]
 pub struct Arrows {
     heads: KeptHeads,
@@ -35,8 +35,9 @@ impl Model for Arrows {
 }
 
 impl Arrows {
-    /// The arrows with these heads, for each variable those of its slots, at most 2^31 - 1 each.
-    /// None exactly where a row is empty or a head is not below the number of rows.
+    /// The arrows with these heads, one row for each variable and one head for each slot. A
+    /// variable has at most 2^31 - 1 slots. The result is None exactly if a row is empty or a head
+    /// is not below the number of rows.
     pub fn new(heads: Vec<Vec<Option<u32>>>) -> Option<Arrows>
         requires short { length heads.items < 2 ^ 31 }
         requires short_rows { All (λ row. length row < 2 ^ 31) (heads_of heads.items) }
@@ -51,9 +52,10 @@ impl Arrows {
         })
     }
 
-    /// The arrows whose heads lie in one array, for each variable those of its slots: a number
-    /// below the number of rows is a variable, and the number of rows itself is the root. None
-    /// exactly where a row is empty or a number is greater than the number of rows.
+    /// The arrows with these heads, which lie in one array: one row for each variable and one
+    /// number for each slot. A number below the number of rows is a variable; the number of rows
+    /// itself is the root. The result is None exactly if a row is empty or a number is greater
+    /// than the number of rows.
     pub fn flat(rows: RowList) -> Option<Arrows>
         requires short { length rows < 2 ^ 31 }
         requires short_rows { All (λ row. length row < 2 ^ 31) rows }
@@ -68,8 +70,8 @@ impl Arrows {
         })
     }
 
-    /// The same arrows. Where their heads lie in one array, and there are at most 256 kinds of
-    /// variables by how far from them their slots lead, as in a grid, they take a byte a variable.
+    /// The same arrows, compressed to one byte a variable. This is done if the heads lie in one
+    /// array and have at most 256 patterns relative to their variables, as in a grid.
     pub fn packed(self, alloc: Global) -> Result<Arrows, AllocError>
         ensures { IfOk result (λ arrows. arrows ≡ self) }
     {
@@ -78,7 +80,7 @@ impl Arrows {
         })
     }
 
-    /// Equal arrows.
+    /// A copy of these arrows.
     pub fn copy(&self, alloc: Global) -> Result<Arrows, AllocError>
         ensures { IfOk result (λ arrows. arrows ≡ self.now) }
     {
@@ -87,7 +89,7 @@ impl Arrows {
         })
     }
 
-    /// How many variables there are: at most 2^31 - 1.
+    /// The number of variables, at most 2^31 - 1.
     pub fn count(&self) -> u32
         ensures count { result ≡ length self.now }
         ensures arrows { AreArrows self.now }
@@ -96,7 +98,7 @@ impl Arrows {
         self.heads.count()
     }
 
-    /// How many slots a variable has: from 1 to 2^31 - 1.
+    /// The number of slots of a variable, from 1 to 2^31 - 1.
     #[inline]
     pub fn slots(&self, v: u32) -> u32
         requires known { v < length self.now }
@@ -107,7 +109,7 @@ impl Arrows {
         self.heads.slots(v)
     }
 
-    /// Where a slot of a variable leads: to a variable, or to the root.
+    /// The head of a slot: a variable, or None for the root.
     #[inline]
     pub fn head(&self, v: u32, slot: u32) -> Option<u32>
         requires known { v < length self.now }
@@ -140,14 +142,14 @@ fn are_below(row: &[Option<u32>], count: u32) -> bool
     true
 }
 
-// Whether a row has a slot, and each head of it is the root or below the count.
+// Whether a row has a slot and each of its heads is the root or below the count.
 fn is_row(row: &[Option<u32>], count: u32) -> bool
     ensures { IsTrue result ↔ IsRow count row.now }
 {
     !row.is_empty() && are_below(row, count)
 }
 
-// Whether each row has a slot, and each head is the root or below the number of rows.
+// Whether each row has a slot and each head is the root or below the number of rows.
 fn are_rows(rows: &[Vec<Option<u32>>]) -> bool
     requires { length rows.now < 2 ^ 31 }
     ensures { IsTrue result ↔ All (IsRow (length rows.now)) (heads_of rows.now) }

@@ -17,7 +17,7 @@ use std::marker::Model;
 // The base of the digests (Knuth's multiplier for MMIX).
 const DIGEST_BASE: u64 = 6364136223846793005;
 
-/// What an event demands: pairs of a variable and the value that it is to have. There is at least
+/// What an event demands: pairs of a variable and the value that it must have. There is at least
 /// one pair, and the variables rise. Variables and values count from 0.
 #[derive(Drop)]
 pub struct Cube {
@@ -36,9 +36,9 @@ impl Model for Cube {
 }
 
 impl Cube {
-    /// The cube of these pairs, at most 2^31 - 1. Up to four are kept in place, and more in a list
-    /// without room to spare. None exactly where there is no pair or the variables don't rise
-    /// strictly.
+    /// The cube of these pairs, at most 2^31 - 1. Up to four pairs are stored in place, and more
+    /// in a list without spare capacity. The result is None exactly if there is no pair or the
+    /// variables do not rise strictly.
     pub fn new(pairs: Vec<(u32, u32)>) -> Option<Cube>
         requires short { length pairs.items < 2 ^ 31 }
         ensures { MatchOption result (IsCube pairs.items → ⊥) (λ cube. cube ≡ pairs.items) }
@@ -51,8 +51,8 @@ impl Cube {
         })
     }
 
-    /// The cube of pairs whose variables rise strictly: one at least, and at most 2^31 - 1. The
-    /// room of the list is kept, so that `into_pairs` gives it back.
+    /// The cube of these pairs, with variables that rise strictly: at least one pair, and at most
+    /// 2^31 - 1. The list is kept with its capacity, and `into_pairs` returns it.
     pub fn of(pairs: Vec<(u32, u32)>) -> Cube
         requires cube { IsCube pairs.items }
         requires short { length pairs.items < 2 ^ 31 }
@@ -63,7 +63,8 @@ impl Cube {
         }
     }
 
-    /// The pairs in a list: that of `of` itself, and a new one of pairs that are kept in place.
+    /// The pairs in a list: the list that was passed to `of`, or a new one for pairs that are
+    /// stored in place.
     pub fn into_pairs(self, alloc: Global) -> Result<Vec<(u32, u32)>, AllocError>
         ensures { IfOk result (λ pairs. pairs.items ≡ self) }
     {
@@ -71,7 +72,7 @@ impl Cube {
         pairs.into_list(alloc)
     }
 
-    /// How many pairs there are: from 1 to 2^31 - 1.
+    /// The number of pairs, from 1 to 2^31 - 1.
     pub fn len(&self) -> u32
         ensures len { result ≡ length self.now }
         ensures cube { IsCube self.now }
@@ -88,7 +89,8 @@ impl Cube {
         self.pairs.as_slice()[i as usize]
     }
 
-    /// The value that the cube demands of a variable, where it names it. It is found by halving.
+    /// The value that the cube demands of a variable, if it names the variable. It is found by
+    /// binary search.
     pub fn demand(&self, v: u32) -> Option<u32>
         ensures { result ≡ demand self.now v }
     {
@@ -106,15 +108,15 @@ impl Cube {
         share(self.pairs.as_slice(), other.pairs.as_slice())
     }
 
-    /// A number by which cubes are told apart: equal cubes have one, and different ones the same
-    /// only by a rare chance.
+    /// A hash of the cube. Equal cubes have equal digests, and different cubes almost always have
+    /// different ones.
     pub(crate) fn digest(&self) -> u64
         ensures { result ≡ digest self.now }
     {
         digest_of(self.pairs.as_slice())
     }
 
-    /// An equal cube.
+    /// A copy of this cube.
     pub fn copy(&self, alloc: Global) -> Result<Cube, AllocError>
         ensures { IfOk result (λ cube. cube ≡ self.now) }
     {
@@ -152,7 +154,7 @@ impl PartialOrd for Cube {
     }
 }
 
-// Cubes are ordered as lists of pairs, and these by variable, then by value.
+// Cubes are ordered as lists of pairs, and pairs by variable, then by value.
 impl Ord for Cube {
     ghost cmp = { cube_cmp };
 

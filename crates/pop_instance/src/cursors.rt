@@ -8,7 +8,8 @@ use pop_stacks::{Reader, Stacks};
 use std::alloc::{AllocError, Global};
 use std::marker::Model;
 
-/// For each variable the number of its current entry. Variables and entries count from 0.
+/// The cursor of each variable: the number of its current entry. Variables and entries count from
+/// 0.
 #[derive(Drop)]
 pub struct Cursors {
     entries: Vec<u32>,
@@ -32,14 +33,14 @@ impl Cursors {
         })
     }
 
-    /// Cursors with these entries. It takes no memory.
+    /// Cursors with these entries. It allocates nothing.
     pub fn of(entries: Vec<u32>) -> Cursors
         ensures { result ≡ entries.items }
     {
         Cursors { entries }
     }
 
-    /// Equal cursors.
+    /// A copy of these cursors.
     pub fn copy(&self, alloc: Global) -> Result<Cursors, AllocError>
         ensures { IfOk result (λ cursors. cursors ≡ self.now) }
     {
@@ -65,7 +66,7 @@ impl Cursors {
         self.entries[v as usize] += 1;
     }
 
-    /// Whether each variable of the cube has the cube's value at its cursor.
+    /// Whether the event occurs: each variable of the cube has the cube's value at its cursor.
     pub fn occurs(&self, stacks: &Stacks, reader: &mut Reader, cube: &Cube) -> bool
         requires known { NamesBelow cube.now (length self.now) }
         requires count { variables_of stacks.now ≡ length self.now }
@@ -77,7 +78,8 @@ impl Cursors {
         occurs_at(&self.entries, stacks, reader, cube)
     }
 
-    /// Whether the cube occurs and each of its variables has an entry behind its cursor.
+    /// Whether the event can be popped: the cube occurs, and each of its variables has an entry
+    /// after its cursor.
     pub fn poppable(&self, stacks: &Stacks, reader: &mut Reader, cube: &Cube) -> bool
         requires known { NamesBelow cube.now (length self.now) }
         requires count { variables_of stacks.now ≡ length self.now }
@@ -129,7 +131,7 @@ fn occurs_at(entries: &[u32], stacks: &Stacks, reader: &mut Reader, cube: &Cube)
     true
 }
 
-// Whether a variable has an entry behind its cursor.
+// Whether a variable has an entry after its cursor.
 fn has_entry_behind(entries: &[u32], stacks: &Stacks, v: u32) -> bool
     requires known { v < length entries.now }
     requires count { variables_of stacks.now ≡ length entries.now }
@@ -140,7 +142,7 @@ fn has_entry_behind(entries: &[u32], stacks: &Stacks, v: u32) -> bool
     entries[v as usize] + 1 < height
 }
 
-// Whether each variable of the cube has an entry behind its cursor.
+// Whether each variable of the cube has an entry after its cursor.
 fn has_next_at(entries: &[u32], stacks: &Stacks, cube: &Cube) -> bool
     requires known { NamesBelow cube.now (length entries.now) }
     requires count { variables_of stacks.now ≡ length entries.now }
@@ -156,7 +158,7 @@ fn has_next_at(entries: &[u32], stacks: &Stacks, cube: &Cube) -> bool
     true
 }
 
-// Adds 1 at each variable of the cube.
+// Adds 1 to the cursor of each variable of the cube.
 pub(crate) fn raise(entries: &mut [u32], cube: &Cube)
     requires known { NamesBelow cube.now (length entries.old) }
     requires room { All (λ p. cursor entries.old p.0 < 2 ^ 31 - 1) cube.now }

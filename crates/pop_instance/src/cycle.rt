@@ -3,8 +3,8 @@ ghost use Rattle.pop_model.specs.Cycles.{IsCycle, arrow_in};
 
 use crate::{Arrows, Cube};
 
-// Where the slot leads that the cube demands of a variable. None where it leads to the root, where
-// the cube doesn't name the variable, and where there is no such slot.
+// The head of the slot that the cube demands of a variable. None if the head is the root, if the
+// cube does not name the variable, or if there is no such slot.
 fn arrow_in(arrows: &Arrows, cube: &Cube, v: u32) -> Option<u32>
     ensures { result ≡ arrow_in arrows.now cube.now v }
 {
@@ -16,9 +16,9 @@ fn arrow_in(arrows: &Arrows, cube: &Cube, v: u32) -> Option<u32>
     }
 }
 
-/// Whether the cube is a cycle of the arrows. From its first variable they are followed for as many
-/// steps as it has pairs. They meet each of its variables just where they come back at the last of
-/// these steps and at none before.
+/// Whether the cube is a cycle of the arrows. The arrows are followed from its first variable for
+/// as many steps as it has pairs. They pass each of its variables exactly if they return to the
+/// first at the last of these steps and not before.
 pub fn is_cycle(arrows: &Arrows, cube: &Cube) -> bool
     ensures { IsTrue result ↔ IsCycle arrows.now cube.now }
 {

@@ -9,8 +9,8 @@ use crate::Cube;
 use std::alloc::{AllocError, Global};
 use std::marker::Model;
 
-/// Cubes that differ from one another, under rising numbers. An event is printed by its number; its
-/// place, which counts from 0, is its unit.
+/// Different cubes under rising numbers. An event is printed by its number. Its place, which
+/// counts from 0, is its unit.
 #[derive(Drop)]
 pub struct Events {
     rows: Vec<(u32, Cube)>,
@@ -29,9 +29,9 @@ impl Model for Events {
 
 impl Events {
     /// The events of these rows, at most 2^31 - 1. Of equal cubes the first is kept, under its
-    /// number. The time is linear in all pairs, and beside that n log n for n rows; for a while 8
-    /// bytes of memory a row are taken. The rows themselves are sorted, where they stand, only if
-    /// two cubes are equal or, by a rare chance, have equal digests.
+    /// number. The time is linear in the number of pairs, plus n log n for n rows. It takes 8
+    /// bytes a row of temporary memory. The rows are sorted, in place, only if two cubes are equal
+    /// or have equal digests, which is rare.
     pub fn gather(alloc: Global, rows: Vec<(u32, Cube)>) -> Result<Events, AllocError>
         requires rising { IsStrictlyIncreasing (map (λ r. r.0) rows.items) }
         requires short { length rows.items < 2 ^ 31 }
@@ -46,7 +46,8 @@ impl Events {
         Ok(Events { rows })
     }
 
-    /// These rows, at most 2^31 - 1, which are events already. It takes no memory.
+    /// The events of these rows, at most 2^31 - 1, which must be events already. It allocates
+    /// nothing.
     pub fn of(rows: Vec<(u32, Cube)>) -> Events
         requires events { AreEvents rows.items }
         requires short { length rows.items < 2 ^ 31 }
@@ -55,7 +56,7 @@ impl Events {
         Events { rows }
     }
 
-    /// Equal events.
+    /// A copy of these events.
     pub fn copy(&self, alloc: Global) -> Result<Events, AllocError>
         ensures { IfOk result (λ events. events ≡ self.now) }
     {
@@ -64,7 +65,7 @@ impl Events {
         })
     }
 
-    /// How many events there are: at most 2^31 - 1.
+    /// The number of events, at most 2^31 - 1.
     pub fn count(&self) -> u32
         ensures count { result ≡ length self.now }
         ensures events { AreEvents self.now }
@@ -89,7 +90,7 @@ impl Events {
         &self.rows[place as usize].1
     }
 
-    /// Whether some event has this cube. It looks at each event.
+    /// Whether some event has this cube. It compares every event.
     pub fn has(&self, cube: &Cube) -> bool
         ensures { IsTrue result ↔ HasCube self.now cube.now }
     {
@@ -97,7 +98,7 @@ impl Events {
     }
 }
 
-// Equal rows.
+// A copy of these rows.
 fn copy_rows(alloc: Global, rows: &[(u32, Cube)]) -> Result<Vec<(u32, Cube)>, AllocError>
     ensures { IfOk result (λ copies. copies.items ≡ rows.now) }
 {
@@ -114,7 +115,7 @@ fn has_cube(rows: &[(u32, Cube)], cube: &Cube) -> bool
     ensures { IsTrue result ↔ HasCube rows.now cube.now }
 {
     for (_, other) in rows {
-        // The clause `same` is that of the method; `==` has only the trait's.
+        // Here `eq` has the clause `same` of the method; `==` has only that of the trait.
         if other.eq(cube) {
             return true;
         }
@@ -133,7 +134,8 @@ fn digests_of(alloc: Global, rows: &[(u32, Cube)]) -> Result<Vec<u64>, AllocErro
     Ok(digests)
 }
 
-// Whether the digests of any two rows' cubes differ: whether they rise once they are sorted.
+// Whether the digests of any two rows' cubes differ. That is so if the sorted digests rise
+// strictly.
 fn digests_differ(alloc: Global, rows: &[(u32, Cube)]) -> Result<bool, AllocError>
     ensures { IfOk result (λ differ.
         IsTrue differ ↔ AllPairs (λ r q. digest r.1 ≢ digest q.1) rows.now) }
@@ -143,8 +145,8 @@ fn digests_differ(alloc: Global, rows: &[(u32, Cube)]) -> Result<bool, AllocErro
     Ok(digests.is_sorted_by(|digest, next| *digest < *next))
 }
 
-// Keeps the first of the rows with one cube. Cubes whose digests differ are different, so mostly
-// the rows stay as they are.
+// Keeps the first row of each cube. Cubes with different digests are different, so usually the
+// rows stay as they are.
 fn drop_repeated(alloc: Global, rows: &mut Vec<(u32, Cube)>) -> Result<(), AllocError>
     requires { IsStrictlyIncreasing (map (λ r. r.0) rows.old.items) }
     ensures kept { IfOk result (λ _. KeepsFirst rows.old.items rows.new.items) }
@@ -156,8 +158,8 @@ fn drop_repeated(alloc: Global, rows: &mut Vec<(u32, Cube)>) -> Result<(), Alloc
     Ok(())
 }
 
-// Keeps the first of the rows with one cube. Sorted by cube and then by number, they stand together
-// with the first in front.
+// Keeps the first row of each cube. The rows are sorted by cube and then by number, so rows of one
+// cube are adjacent and the first comes first.
 fn keep_first(rows: &mut Vec<(u32, Cube)>)
     requires { IsStrictlyIncreasing (map (λ r. r.0) rows.old.items) }
     ensures kept { KeepsFirst rows.old.items rows.new.items }

@@ -9,19 +9,19 @@ use crate::{Arrows, Cube, Events};
 use pop_stacks::Stacks;
 use std::alloc::{AllocError, Global};
 
-/// A family of events. Each has a unit, by which it is found again.
+/// A family of events. Each event has a unit, which identifies it.
 #[derive(Drop)]
 pub enum Family {
-    /// Events one by one; the unit of an event is its place.
+    /// A list of events. The unit of an event is its place.
     Listed(Events),
-    /// The cycles of arrows; the unit of a cycle is its least variable.
+    /// The cycles of arrows. The unit of a cycle is its lowest variable.
     Cycles(Arrows),
 }
 
 impl Family {
     ghost use Rattle.pop_instance.specs.Family.{family_of, HasEvent};
 
-    /// An equal family. Its time and its memory are those of the whole family.
+    /// A copy of this family. Its time and memory are linear in the size of the family.
     pub fn copy(&self, alloc: Global) -> Result<Family, AllocError>
         ensures { IfOk result (λ family. family_of family ≡ family_of self.now) }
     {
@@ -31,7 +31,7 @@ impl Family {
         })
     }
 
-    /// How many units there are: all places, or all variables. At most 2^31 - 1.
+    /// The number of units, at most 2^31 - 1: the number of places or of variables.
     pub fn units(&self) -> u32
         ensures units { result ≡ units_of (family_of self.now) }
         ensures family { IsFamily (family_of self.now) }
@@ -43,8 +43,8 @@ impl Family {
         }
     }
 
-    /// Whether each event names variables and values that the stacks have, or each variable of the
-    /// stacks has one slot for each of its values.
+    /// Whether the family fits the stacks. Listed events must name variables and values that the
+    /// stacks have; arrows must have one slot for each value of each variable of the stacks.
     pub fn fits(&self, stacks: &Stacks) -> bool
         ensures { IsTrue result ↔ FamilyFits stacks.now (family_of self.now) }
     {
@@ -54,8 +54,8 @@ impl Family {
         }
     }
 
-    /// Whether the cube is that of an event. A listed family looks at each event; in a cycle family
-    /// the arrows are followed once round.
+    /// Whether the cube is that of an event. In a listed family every event is compared; in a
+    /// cycle family the arrows are followed once around.
     pub fn is_event(&self, cube: &Cube) -> bool
         ensures { IsTrue result ↔ HasEvent (family_of self.now) cube.now }
     {
@@ -66,7 +66,7 @@ impl Family {
     }
 }
 
-// Whether a variable is there and has this value.
+// Whether a variable exists and has this value.
 fn fits_pair(stacks: &Stacks, v: u32, x: u32) -> bool
     ensures { IsTrue result ↔ ((v < variables_of stacks.now) × (x < domain_of stacks.now v)) }
 {
@@ -98,7 +98,8 @@ fn fit(stacks: &Stacks, events: &Events) -> bool
     true
 }
 
-// Whether there are as many variables as the stacks have, each with a slot for each of its values.
+// Whether there are as many variables as the stacks have, each with one slot for each of its
+// values.
 fn fit_slots(stacks: &Stacks, arrows: &Arrows) -> bool
     ensures { IsTrue result ↔ FamilyFits stacks.now (CyclesOfHeads arrows.now) }
 {

@@ -10,12 +10,12 @@ use pop_rows::{FlatRows, RowList};
 use std::alloc::{AllocError, Global};
 use std::marker::Model;
 
-// How the places of all variables are kept.
+// The two ways of storing the places of all variables.
 #[derive(Drop)]
 enum KeptRows {
-    // In the order of the events, with room for those of each variable.
+    // Filled in the order of the events, with room for the places of each variable.
     Roomy(FlatRows),
-    // Variable by variable.
+    // Filled variable by variable.
     EndToEnd(RowList),
 }
 
@@ -52,7 +52,7 @@ impl Index {
     }
 
     /// The index with these rows: for each variable the places of the events that name it, rising.
-    /// Where they can be made in the order of the variables, that is faster than `build`.
+    /// If the rows can be made in the order of the variables, this is faster than `build`.
     pub fn of(rows: RowList) -> Index
         ensures { result ≡ rows }
     {
@@ -73,7 +73,7 @@ impl Index {
     }
 }
 
-// For each variable how many events name it.
+// For each variable the number of events that name it.
 fn tally(alloc: Global, events: &Events, count: u32) -> Result<Vec<u32>, AllocError>
     requires known { All (λ r. NamesBelow r.1 count) events.now }
     ensures { IfOk result (λ tallies.
@@ -86,7 +86,7 @@ fn tally(alloc: Global, events: &Events, count: u32) -> Result<Vec<u32>, AllocEr
     Ok(tallies)
 }
 
-// Puts the place at the end of the row of each of the cube's variables.
+// Adds the place at the end of the row of each of the cube's variables.
 fn push_at_each(rows: &mut FlatRows, cube: &Cube, place: u32)
     requires known { NamesBelow cube.now (length rows.old.rows) }
     requires room { All (λ p. HasRoom rows.old p.0) cube.now }

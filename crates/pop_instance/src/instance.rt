@@ -9,7 +9,7 @@ use pop_stacks::Stacks;
 use std::alloc::{AllocError, Global};
 use std::marker::Model;
 
-/// Stacks, and a family of events whose variables and values the stacks have.
+/// An instance: stacks, and a family of events over their variables and values.
 #[derive(Drop)]
 pub struct Instance {
     stacks: Stacks,
@@ -32,10 +32,11 @@ impl Model for Instance {
 impl Instance {
     ghost use Rattle.pop_instance.specs.Family.{family_of, HasEvent};
 
-    /// The instance of these parts. None exactly where an event of a listed family names a variable
-    /// that is not below the stacks' count, or a value that is not below its variable's domain, or
-    /// where there are not as many arrows' variables as the stacks have or not as many slots of
-    /// some variable as it has values.
+    /// The instance of these parts, or None exactly if the family does not fit the stacks. A
+    /// listed family does not fit if an event names a variable that is not below the stacks'
+    /// count, or a value that is not below its variable's domain. Arrows do not fit if they have
+    /// another number of variables than the stacks, or if some variable has another number of
+    /// slots than of values.
     pub fn new(stacks: Stacks, family: Family) -> Option<Instance>
         ensures { MatchOption result (FamilyFits stacks (family_of family) → ⊥)
             (λ i. i ≡ record { stacks = stacks; family = family_of family }) }
@@ -57,7 +58,7 @@ impl Instance {
         &self.stacks
     }
 
-    /// The instance under the same key for sample j, which has streams of its own. It copies the
+    /// The instance of sample j under the same key. Each sample has its own streams. It copies the
     /// family.
     pub fn for_sample(&self, alloc: Global, j: u32) -> Result<Instance, AllocError>
         requires keyed { IsKeyed self.now.stacks.origin }
@@ -75,8 +76,8 @@ impl Instance {
         }
     }
 
-    /// Gives each variable this height, which is at least the present one. It takes no memory, and
-    /// a reader of the stacks may go on reading them.
+    /// Gives each variable this height, which must be at least the present one. It allocates
+    /// nothing. A reader of the stacks can continue to read them.
     pub fn raise(&mut self, height: u32)
         requires keyed { IsKeyed self.old.stacks.origin }
         requires higher { (v : ℕ) → height_of self.old.stacks v ≤ height }
@@ -93,7 +94,7 @@ impl Instance {
         &self.family
     }
 
-    /// How many units there are: at most 2^31 - 1.
+    /// The number of units, at most 2^31 - 1.
     pub fn units(&self) -> u32
         ensures units { result ≡ units_of self.now.family }
         ensures instance { IsInstance self.now }
@@ -101,7 +102,7 @@ impl Instance {
         self.family.units()
     }
 
-    /// The index of the family, which several runs may share: that of listed events, and none of
+    /// The index of the family, which several runs may share: one for listed events, and None for
     /// cycles. Time and memory are linear in the variables and the pairs of all cubes.
     pub fn index(&self, alloc: Global) -> Result<Option<Index>, AllocError>
         ensures { IfOk result (IsFamilyIndex self.now.family) }
@@ -115,8 +116,8 @@ impl Instance {
         }
     }
 
-    /// Whether the cube is that of an event of the family. A listed family looks at each event; in
-    /// a cycle family the arrows are followed once round.
+    /// Whether the cube is that of an event of the family. In a listed family every event is
+    /// compared; in a cycle family the arrows are followed once around.
     pub fn is_event(&self, cube: &Cube) -> bool
         ensures { IsTrue result ↔ HasEvent self.now.family cube.now }
     {

@@ -6,19 +6,20 @@ use crate::shifted_rows::ShiftedRows;
 use pop_rows::{RowList, copy_lists};
 use std::alloc::{AllocError, Global};
 
-// How the heads of all variables are kept.
+// The three ways of storing the heads of all variables.
 #[derive(Drop)]
 pub(crate) enum KeptHeads {
     // A list for each variable.
     Nested(Vec<Vec<Option<u32>>>),
-    // Numbers in one array: one below the count of variables is a variable, the count is the root.
+    // Numbers in one array. A number below the count of variables is a variable, and the count is
+    // the root.
     Flat(RowList),
-    // The same numbers, where they have few patterns.
+    // The same numbers as a few patterns.
     Shifted(ShiftedRows),
 }
 
 impl KeptHeads {
-    // Equal heads.
+    // A copy of these heads.
     pub(crate) fn copy(&self, alloc: Global) -> Result<KeptHeads, AllocError>
         ensures { IfOk result (λ kept. heads_kept kept ≡ heads_kept self.now) }
     {
@@ -38,7 +39,7 @@ impl KeptHeads {
         }
     }
 
-    // The same heads, by their patterns where they lie in one array and have few.
+    // The same heads as patterns, if they lie in one array and have few patterns.
     pub(crate) fn packed(self, alloc: Global) -> Result<KeptHeads, AllocError>
         ensures { IfOk result (λ kept. heads_kept kept ≡ heads_kept self) }
     {
@@ -58,7 +59,7 @@ impl KeptHeads {
         }
     }
 
-    // How many variables there are.
+    // The number of variables.
     #[inline]
     pub(crate) fn count(&self) -> u32
         requires { length (heads_kept self.now) < 2 ^ 31 }
@@ -71,7 +72,7 @@ impl KeptHeads {
         }
     }
 
-    // How many slots a variable has.
+    // The number of slots of a variable.
     #[inline]
     pub(crate) fn slots(&self, v: u32) -> u32
         requires known { v < length (heads_kept self.now) }
@@ -85,7 +86,7 @@ impl KeptHeads {
         }
     }
 
-    // Where a slot of a variable leads.
+    // The head of a slot: a variable, or None for the root.
     #[inline]
     pub(crate) fn head(&self, v: u32, slot: u32) -> Option<u32>
         requires known { v < length (heads_kept self.now) }

@@ -4,14 +4,14 @@ ghost use Rattle.pop_instance.specs.KeptPairs.{pairs_kept, AreKept};
 use std::alloc::{AllocError, Global};
 use std::marker::Model;
 
-// How many pairs are kept in place.
+// The largest number of pairs that are stored in place.
 const FEW: usize = 4;
 
-// How the pairs are kept: few of them in place, so that a list of cubes is one array, and many in a
-// list of their own.
+// The two ways of storing pairs. A few are stored in place, so that a list of cubes is one array.
+// Many are stored in a list of their own.
 #[derive(Drop)]
 enum KeptPairs {
-    // So many of these pairs; the others are of no use.
+    // The first of these pairs, as many as the number says. The others are unused.
     Few(u32, [(u32, u32); FEW]),
     Many(Vec<(u32, u32)>),
 }
@@ -34,7 +34,7 @@ impl Model for Pairs {
 }
 
 impl Pairs {
-    /// These pairs, in place or in a list without room to spare.
+    /// These pairs, stored in place or in a list without spare capacity.
     pub fn new(pairs: Vec<(u32, u32)>) -> Pairs
         ensures { result ≡ pairs.items }
     {
@@ -48,7 +48,7 @@ impl Pairs {
         }
     }
 
-    /// These pairs in the list that they have, whose room is kept.
+    /// These pairs, stored in this list with its capacity.
     pub fn of(pairs: Vec<(u32, u32)>) -> Pairs
         ensures { result ≡ pairs.items }
     {
@@ -68,7 +68,7 @@ impl Pairs {
         }
     }
 
-    /// Equal pairs.
+    /// A copy of these pairs.
     pub fn copy(&self, alloc: Global) -> Result<Pairs, AllocError>
         ensures { IfOk result (λ pairs. pairs ≡ self.now) }
     {
@@ -79,7 +79,8 @@ impl Pairs {
         Ok(Pairs { kept })
     }
 
-    /// The pairs in a list: that of `of` itself, and a new one of pairs that lie in place.
+    /// The pairs in a list: the list that was passed to `of`, or a new one for pairs that are
+    /// stored in place.
     pub fn into_list(self, alloc: Global) -> Result<Vec<(u32, u32)>, AllocError>
         ensures { IfOk result (λ list. list.items ≡ self) }
     {
@@ -91,7 +92,7 @@ impl Pairs {
     }
 }
 
-// These pairs, at most `FEW`, kept in place.
+// These pairs, at most `FEW`, stored in place.
 fn few_of(pairs: &[(u32, u32)]) -> Pairs
     requires { length pairs.now ≤ 4 }
     ensures { result ≡ pairs.now }

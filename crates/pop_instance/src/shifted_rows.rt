@@ -7,12 +7,12 @@ use pop_rows::RowList;
 use std::alloc::{AllocError, Global};
 use std::marker::Model;
 
-/// Rows of numbers that have few patterns, as the heads of a grid's variables have. Rows count from
-/// 0; there are at most 2^32 - 1.
+/// Rows of numbers that have few patterns, such as the heads of a grid's variables. Rows count
+/// from 0; there are at most 2^32 - 1.
 #[derive(Drop)]
 pub(crate) struct ShiftedRows {
-    // For each row its pattern: a row has the numbers of its pattern, and to each the number of the
-    // row itself is added, modulo 2^32.
+    // The pattern of each row. The numbers of row v are those of its pattern, with v added to
+    // each, modulo 2^32.
     kinds: Vec<u8>,
     patterns: RowList,
 }
@@ -29,8 +29,8 @@ impl Model for ShiftedRows {
 }
 
 impl ShiftedRows {
-    /// Equal rows, where they have at most 256 patterns. The time is linear in the numbers, and for
-    /// each row in the patterns.
+    /// These rows by their patterns, or None if they have more than 256. The time is linear in the
+    /// numbers, and in the patterns for each row.
     pub fn of(alloc: Global, rows: &RowList) -> Result<Option<ShiftedRows>, AllocError>
         ensures { IfOk result (λ found. IfSome found (λ copy. copy ≡ rows.now)) }
     {
@@ -42,7 +42,7 @@ impl ShiftedRows {
         Ok(None)
     }
 
-    /// Equal rows.
+    /// A copy of these rows.
     pub fn copy(&self, alloc: Global) -> Result<ShiftedRows, AllocError>
         ensures { IfOk result (λ copy. copy ≡ self.now) }
     {
@@ -52,7 +52,7 @@ impl ShiftedRows {
         })
     }
 
-    /// How many rows there are.
+    /// The number of rows.
     #[inline]
     pub fn count(&self) -> u32
         ensures { result ≡ length self.now }
@@ -60,7 +60,7 @@ impl ShiftedRows {
         self.kinds.len() as u32
     }
 
-    /// How many numbers row v has.
+    /// The length of row v.
     #[inline]
     pub fn row_len(&self, v: u32) -> u32
         requires { v < length self.now }
@@ -69,7 +69,7 @@ impl ShiftedRows {
         self.pattern(v).len() as u32
     }
 
-    /// A number of row v, from 0.
+    /// Number i of row v, counted from 0.
     #[inline]
     pub fn number(&self, v: u32, i: u32) -> u32
         requires known { v < length self.now }
@@ -90,8 +90,8 @@ impl ShiftedRows {
     }
 }
 
-// Adds the kind of each row, to none so far, and the patterns that aren't there yet; false where a
-// kind doesn't fit a byte.
+// Adds the kind of each row to `kinds`, which is empty at first, and adds the patterns that are
+// missing. Returns false if a kind does not fit a byte.
 fn add_kinds(
     alloc: Global,
     rows: &RowList,
@@ -112,8 +112,8 @@ fn add_kinds(
     Ok(true)
 }
 
-// The kind of row v among the patterns, where its own is added if it isn't there; none where its
-// number doesn't fit a byte.
+// The place of the pattern of row v. If the pattern is missing, it is added. None if its place
+// does not fit a byte.
 fn kind_in(
     alloc: Global,
     patterns: &mut RowList,
@@ -131,7 +131,7 @@ fn kind_in(
     Ok(u8::try_from(kind).ok())
 }
 
-// The least kind of row v among the patterns.
+// The first place of the pattern of row v, if it is among the patterns.
 fn find_kind(patterns: &RowList, row: &[u32], v: u32) -> Option<u32>
     ensures { IfSome result (IsKind v row.now patterns.now) }
 {

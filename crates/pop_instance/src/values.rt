@@ -9,15 +9,15 @@ use pop_stacks::{Reader, Stacks};
 use std::alloc::{AllocError, Global};
 use std::marker::Model;
 
-// Numbers, a byte or a word each.
+// Numbers, stored as one byte or four bytes each.
 #[derive(Drop)]
 enum KeptNumbers {
     Bytes(Vec<u8>),
     Words(Vec<u32>),
 }
 
-/// For each variable a value. It takes a byte where no variable has more than 256 values, and else
-/// four. Contracts see the list of values.
+/// One value for each variable. A value takes one byte if no variable has more than 256 values,
+/// and otherwise four. Contracts see the list of values.
 #[derive(Drop)]
 pub struct Values {
     kept: KeptNumbers,
@@ -33,7 +33,7 @@ impl Model for Values {
 }
 
 impl Values {
-    /// The value of each variable at its cursor, which is below its domain. Each is looked at once.
+    /// The value of each variable at its cursor. Each is read once.
     pub fn at(
         alloc: Global,
         stacks: &Stacks,
@@ -58,9 +58,10 @@ impl Values {
         })
     }
 
-    /// The same by several readers, in whose order blocks of the variables are looked up, about as
-    /// many by each. So what each keeps of its block isn't drawn again. Readers keep nothing of
-    /// more than 256 values, and the last one looks all of them up.
+    /// The value of each variable at its cursor, read by several readers. The variables are cut
+    /// into blocks of about equal size, one for each reader in order, so that each reader can use
+    /// its cache for its block. Readers cache no variables with more than 256 values. If there are
+    /// such variables, the last reader reads all.
     pub fn at_by(
         alloc: Global,
         stacks: &Stacks,
@@ -98,7 +99,7 @@ impl Values {
     }
 }
 
-// The value of each variable at its cursor, a byte each.
+// The value of each variable at its cursor, one byte each.
 fn bytes_at(
     alloc: Global,
     stacks: &Stacks,
@@ -118,7 +119,8 @@ fn bytes_at(
     Ok(bytes)
 }
 
-// The same by several readers. The last one looks up what the others leave.
+// The value of each variable at its cursor, one byte each, by several readers. The last one reads
+// what the others leave.
 fn bytes_by(
     alloc: Global,
     stacks: &Stacks,
@@ -145,7 +147,7 @@ fn bytes_by(
     Ok(bytes)
 }
 
-// Adds to the values of the first variables those of the next ones, up to below `end`.
+// Adds the values of the next variables, up to but without `end`.
 fn add_bytes(
     bytes: &mut Vec<u8>,
     stacks: &Stacks,
@@ -171,7 +173,7 @@ fn add_bytes(
     Ok(())
 }
 
-// The value of each variable at its cursor, a word each.
+// The value of each variable at its cursor, four bytes each.
 fn words_at(
     alloc: Global,
     stacks: &Stacks,

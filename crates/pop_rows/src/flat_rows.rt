@@ -6,12 +6,12 @@ use crate::parts::part;
 use std::alloc::{AllocError, Global};
 use std::marker::Model;
 
-/// Rows of numbers in one array, each with room for so many. Rows count from 0; there are at most
-/// 2^32 - 1.
+/// Rows of numbers in one array. Each row has room for a fixed number of them. Rows count from 0;
+/// there are at most 2^32 - 1.
 #[derive(Drop)]
 pub struct FlatRows {
-    // Row v has its numbers in `items` from starts[v] up to below ends[v], and room up to below
-    // starts[v + 1].
+    // Row v has its numbers in `items` from starts[v] up to, but without, ends[v]. Its room ends
+    // before starts[v + 1].
     starts: Vec<u32>,
     ends: Vec<u32>,
     items: Vec<u32>,
@@ -29,7 +29,8 @@ impl Model for FlatRows {
 }
 
 impl FlatRows {
-    /// Empty rows with these rooms. Rooms that sum to 2^32 or more find no memory.
+    /// Makes empty rows with these rooms. If the rooms sum to 2^32 or more, the result is
+    /// `AllocError`.
     pub fn with_rooms(alloc: Global, rooms: Vec<u32>) -> Result<FlatRows, AllocError>
         requires { length rooms.items < 2 ^ 32 }
         ensures rooms { IfOk result (λ f. f.rooms ≡ rooms.items) }
@@ -38,7 +39,7 @@ impl FlatRows {
         let count = rooms.len();
         let starts = starts_of(alloc, &rooms)?;
         let items = vec![in alloc; 0; starts[count] as usize]?;
-        // The array of the rooms is used again: the end of an empty row is its start.
+        // The array of the rooms is reused: an empty row ends at its start.
         let mut ends = rooms;
         ends.copy_from_slice(&starts[..count]);
         Ok(FlatRows {
@@ -48,7 +49,7 @@ impl FlatRows {
         })
     }
 
-    /// How many rows there are.
+    /// The number of rows.
     pub fn count(&self) -> u32
         ensures count { result ≡ length self.now.rows }
         ensures roomy { AreRoomy self.now }
@@ -56,7 +57,7 @@ impl FlatRows {
         self.ends.len() as u32
     }
 
-    /// Puts a number at the end of a row. It takes no memory.
+    /// Adds a number at the end of a row. It allocates nothing.
     pub fn push(&mut self, row: u32, x: u32)
         requires { HasRoom self.old row }
         ensures rows { self.new.rows ≡ push_at self.old.rows row x }
@@ -77,7 +78,7 @@ impl FlatRows {
     }
 }
 
-// The sums of the first rooms: of none, of one, and so on up to that of all.
+// The running sums of the rooms, from 0 for no room to the sum of all rooms.
 fn starts_of(alloc: Global, rooms: &[u32]) -> Result<Vec<u32>, AllocError>
     requires { length rooms.now < 2 ^ 32 }
     ensures { IfOk result (λ starts. AreStarts rooms.now starts.items) }

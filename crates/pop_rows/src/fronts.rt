@@ -8,8 +8,8 @@ use crate::prefix_sums::accumulate;
 use std::alloc::{AllocError, Global};
 use std::marker::Model;
 
-/// Rows that are fronts of one list, as rows of equal numbers are. Rows count from 0; there are at
-/// most 2^32 - 1.
+/// Rows that are prefixes of one list, such as rows of equal numbers. Rows count from 0; there are
+/// at most 2^32 - 1.
 #[derive(Drop)]
 pub struct Fronts {
     // Row v has the first lengths[v] numbers of the list.
@@ -29,7 +29,7 @@ impl Model for Fronts {
 }
 
 impl Fronts {
-    /// Rows of ones, of these lengths. Memory is that of the longest row.
+    /// Rows of ones with these lengths. They take the memory of the longest row.
     pub fn ones(alloc: Global, lengths: Vec<u32>) -> Result<Fronts, AllocError>
         requires { length lengths.items < 2 ^ 32 }
         ensures { IfOk result (λ rows. rows ≡ map (λ n. replicate n 1) lengths.items) }
@@ -38,7 +38,7 @@ impl Fronts {
         Ok(Fronts { lengths, list })
     }
 
-    /// Equal rows.
+    /// A copy of these rows.
     pub fn copy(&self, alloc: Global) -> Result<Fronts, AllocError>
         ensures { IfOk result (λ rows. rows ≡ self.now) }
     {
@@ -48,14 +48,14 @@ impl Fronts {
         })
     }
 
-    /// How many rows there are.
+    /// The number of rows.
     pub fn count(&self) -> u32
         ensures { result ≡ length self.now }
     {
         self.lengths.len() as u32
     }
 
-    /// Row v.
+    /// The numbers of row v. Rows count from 0.
     #[inline]
     pub fn row(&self, v: u32) -> &[u32]
         requires known { v < length self.now }
@@ -65,8 +65,8 @@ impl Fronts {
         part(&self.list, 0, self.lengths[v as usize])
     }
 
-    /// Puts running sums in the place of each row; the least row whose sum passes 32 bits, where
-    /// there is one, and then the rows stay.
+    /// Replaces each row by its running sums. If a sum exceeds 32 bits, it returns the first row
+    /// with such a sum and leaves the rows as they were.
     pub fn accumulate(&mut self) -> Option<u32>
         ensures sums { IfNone result (self.new ≡ map (running 0) self.old) }
         ensures light { IfNone result (AreLight self.old) }
@@ -77,14 +77,14 @@ impl Fronts {
         if let Some(v) = first_above(&self.lengths, light) {
             return Some(v);
         }
-        // What is behind the light front is in no row. The fronts of the sums are the sums of the
-        // fronts.
+        // No row has numbers after the light front. The running sums of a prefix are a prefix of
+        // the running sums.
         sum_front(&mut self.list, light);
         None
     }
 }
 
-// The greatest of these numbers; 0 where there is none.
+// The largest of these numbers, or 0 if there are none.
 fn greatest(numbers: &[u32]) -> u32
     ensures { All (λ n. n ≤ result) numbers.now }
 {
@@ -95,7 +95,7 @@ fn greatest(numbers: &[u32]) -> u32
     most
 }
 
-// How many numbers at the front have sums of 32 bits.
+// How many numbers from the start have a sum of at most 32 bits.
 fn light_front(list: &[u32]) -> usize
     ensures within { result ≤ length list.now }
     ensures light { sum (take result list.now) < 2 ^ 32 }
@@ -111,7 +111,7 @@ fn light_front(list: &[u32]) -> usize
     list.len()
 }
 
-// The least place of a number above the limit.
+// The first place of a number above the limit.
 fn first_above(numbers: &[u32], limit: usize) -> Option<u32>
     requires { length numbers.now < 2 ^ 32 }
     ensures none { IfNone result (All (λ n. n ≤ limit) numbers.now) }
@@ -126,7 +126,7 @@ fn first_above(numbers: &[u32], limit: usize) -> Option<u32>
     None
 }
 
-// Puts running sums in the place of the first numbers, and drops the others.
+// Replaces the first `count` numbers by their running sums, and drops the others.
 fn sum_front(list: &mut Vec<u32>, count: usize)
     requires within { count ≤ length list.old.items }
     requires light { sum (take count list.old.items) < 2 ^ 32 }

@@ -1,7 +1,7 @@
-//! Rows of numbers kept in one array. `FlatRows` have room for so many numbers each: a pass over
-//! what comes into the rows counts their rooms, and a second one pushes. A `RowList` gets its rows
-//! one after another, and `Fronts` are rows of one list. Contracts see the rooms and the rows as
-//! lists.
+//! Rows of numbers that are kept in one array. Each row of `FlatRows` has room for a fixed number
+//! of them: a first pass counts this room, and a second one pushes the numbers. A `RowList` gets
+//! its rows one after another, and `Fronts` are prefixes of one list. Contracts see the rooms and
+//! the rows as lists.
 #![tactic(auto)]
 
 mod counting;

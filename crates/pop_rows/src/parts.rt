@@ -1,7 +1,7 @@
 // Parts of an array.
 ghost use Rattle.std.specs.Prelude.{◌≡◌, ◌≤◌, length, slice_range};
 
-/// The items from a place up to below another.
+/// The items from place `start` up to, but without, place `end`.
 #[inline]
 pub fn part(items: &[u32], start: u32, end: u32) -> &[u32]
     requires begun { start ≤ end }

@@ -2,7 +2,8 @@ ghost use Rattle.std.specs.Prelude.{◌<◌, ◌^◌, ◌↔◌, ◌≡◌, sum,
 ghost use Rattle.std.specs.Bool.{OnTrue};
 ghost use Rattle.pop_rows.specs.PrefixSums.{running};
 
-/// Puts the sum of the numbers so far in the place of each; false where it passes 32 bits.
+/// Replaces each number by the sum of the numbers up to it. Returns false if a sum exceeds 32
+/// bits.
 pub fn accumulate(row: &mut [u32]) -> bool
     ensures sums { OnTrue result (row.new ≡ running 0 row.old) }
     ensures light { IsTrue result ↔ (sum row.old < 2 ^ 32) }

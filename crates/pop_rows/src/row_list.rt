@@ -9,12 +9,12 @@ use crate::prefix_sums::accumulate;
 use std::alloc::{AllocError, Global};
 use std::marker::Model;
 
-/// Rows of numbers in one array, added one after another at the end. Rows count from 0; there are
-/// at most 2^32 - 1, and as many numbers.
+/// Rows of numbers in one array, added one after another at the end. Rows count from 0. There are
+/// at most 2^32 - 1 rows and at most 2^32 - 1 numbers.
 #[derive(Drop)]
 pub struct RowList {
-    // Row v has its numbers in `items` from starts[v] up to below starts[v + 1]. The last start is
-    // the end of `items`.
+    // Row v has its numbers in `items` from starts[v] up to, but without, starts[v + 1]. The last
+    // start is the end of `items`.
     starts: Vec<u32>,
     items: Vec<u32>,
 }
@@ -31,7 +31,7 @@ impl Model for RowList {
 }
 
 impl RowList {
-    /// No rows, with room for so many rows and numbers.
+    /// No rows yet, but room for this many rows and numbers.
     pub fn with_room(alloc: Global, rows: usize, numbers: usize) -> Result<RowList, AllocError>
         ensures { IfOk result (λ list. list ≡ []) }
     {
@@ -42,7 +42,7 @@ impl RowList {
         Ok(RowList { starts, items })
     }
 
-    /// Adds a row at the end. Rows or numbers that are 2^32 or more find no memory.
+    /// Adds a row at the end. If there would be 2^32 rows or numbers, the result is `AllocError`.
     pub fn push_row(&mut self, row: &[u32]) -> Result<(), AllocError>
         ensures added { OnOk result (self.new ≡ self.old ++ row.now ∷ []) }
         ensures kept { OnErr result (self.new ≡ self.old) }
@@ -50,7 +50,7 @@ impl RowList {
         let Some(end) = next_end(&self.starts, &self.items, row.len()) else {
             return Err(AllocError);
         };
-        // The start comes first: a failure of the second step then takes it back.
+        // The start is pushed first, so that it can be taken back if the second step fails.
         self.starts.push(end)?;
         if self.items.extend_from_slice(row).is_err() {
             self.starts.pop();
@@ -59,7 +59,7 @@ impl RowList {
         Ok(())
     }
 
-    /// Equal rows.
+    /// A copy of these rows.
     pub fn copy(&self, alloc: Global) -> Result<RowList, AllocError>
         ensures { IfOk result (λ list. list ≡ self.now) }
     {
@@ -69,14 +69,14 @@ impl RowList {
         })
     }
 
-    /// How many rows there are.
+    /// The number of rows.
     pub fn count(&self) -> u32
         ensures { result ≡ length self.now }
     {
         (self.starts.len() - 1) as u32
     }
 
-    /// Row v.
+    /// The numbers of row v. Rows count from 0.
     #[inline]
     pub fn row(&self, v: u32) -> &[u32]
         requires known { v < length self.now }
@@ -87,8 +87,8 @@ impl RowList {
         part(&self.items, self.starts[place], self.starts[place + 1])
     }
 
-    /// Puts running sums in the place of each row; the least row whose sum passes 32 bits, where
-    /// there is one, and then the rows are of no more use.
+    /// Replaces each row by its running sums. If a sum exceeds 32 bits, it returns the first row
+    /// with such a sum. The rows must not be used after that.
     pub fn accumulate(&mut self) -> Option<u32>
         ensures sums { IfNone result (self.new ≡ map (running 0) self.old) }
         ensures light { IfNone result (AreLight self.old) }
@@ -98,7 +98,7 @@ impl RowList {
     }
 }
 
-// Puts running sums in the place of each row between these starts.
+// Replaces each row between these starts by its running sums.
 fn accumulate_between(starts: &[u32], items: &mut [u32]) -> Option<u32>
     requires { AreEndToEnd starts.now items.old }
     ensures sums { IfNone result
@@ -115,7 +115,8 @@ fn accumulate_between(starts: &[u32], items: &mut [u32]) -> Option<u32>
     None
 }
 
-// Where the items end with so many more, if places and the number of starts still fit 32 bits.
+// Where the items end after `more` of them are added. None if this place or the number of starts
+// exceeds 32 bits.
 fn next_end(starts: &[u32], items: &[u32], more: usize) -> Option<u32>
     ensures end { IfSome result (λ end. end ≡ length items.now + more) }
     ensures few { OnSome result (length starts.now < 2 ^ 32) }

@@ -7,7 +7,7 @@ use crate::bit_planes::{behind, plane};
 use crate::mark::{NOTHING, place_of};
 use crate::refill::{BLOCK, BLOCKS};
 
-/// Values of entries of a variable with at most two values, a bit each.
+/// Values of entries of a variable with at most two values, one bit each.
 #[derive(Clone, Copy)]
 pub struct BitLine {
     /// Which entries are kept.
@@ -16,14 +16,14 @@ pub struct BitLine {
     pub bits: u32,
 }
 
-/// Nothing is kept.
+/// A line that keeps no entries.
 pub const EMPTY: BitLine = BitLine {
     mark: NOTHING,
     bits: 0,
 };
 
 impl BitLine {
-    /// The value of entry k of variable v, where its line keeps it.
+    /// The value of entry k of variable v, if its line keeps it.
     #[inline]
     pub fn value_in(lines: &[BitLine], v: u32, k: u32) -> Option<u32>
         ensures { result ≡
@@ -34,7 +34,8 @@ impl BitLine {
         Some((line.bits >> place) & 1)
     }
 
-    /// The line with the values of a block, below 2, behind those that it keeps before it.
+    /// The line with the values of a block added after those that it keeps. The values are below
+    /// 2.
     #[inline]
     pub fn with(self, block: u32, values: &[u8; 8]) -> BitLine
         requires small { block < 2 ^ 28 }

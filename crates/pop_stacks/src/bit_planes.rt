@@ -1,8 +1,8 @@
-// Words made of one bit of each of at most 32 values.
+// Machine words with one bit of each of at most 32 values.
 ghost use Rattle.std.specs.Prelude.{◌≡◌, ◌<◌, ◌≤◌, ◌+◌, ℕ, slice_index};
 ghost use Rattle.std.specs.Int.{bit_at};
 
-/// The bit of weight 2^bit of each value; that of the first value is the lowest bit.
+/// Bit number `bit` of each value. The bit of the first value becomes the lowest bit.
 pub fn plane<const N: usize>(values: &[u8; N], bit: u32) -> u32
     requires few { N ≤ 32 }
     requires bit { bit < 8 }
@@ -17,7 +17,7 @@ pub fn plane<const N: usize>(values: &[u8; N], bit: u32) -> u32
     bits
 }
 
-/// The bits of a word below a place, and from there on those of another.
+/// The bits of a word below a place, followed by those of another word from that place on.
 #[inline]
 pub fn behind(bits: u32, place: u32, more: u32) -> u32
     requires { place < 32 }

@@ -5,7 +5,7 @@ ghost use Rattle.pop_stacks.specs.KeptValues.{IsBehind, kept_in};
 use crate::mark::{NOTHING, place_of};
 use crate::refill::{BLOCK, BLOCKS};
 
-/// Values of entries of a variable, a byte each.
+/// Values of entries of a variable, one byte each.
 #[derive(Clone, Copy)]
 pub struct ByteLine {
     /// Which entries are kept.
@@ -13,7 +13,7 @@ pub struct ByteLine {
     pub values: [u8; 32],
 }
 
-/// Nothing is kept.
+/// A line that keeps no entries.
 pub const EMPTY: ByteLine = ByteLine {
     mark: NOTHING,
     values: [0; 32],
@@ -33,7 +33,7 @@ impl ByteLine {
         ByteLine { mark, values }
     }
 
-    /// The value of entry k of variable v, where its line keeps it.
+    /// The value of entry k of variable v, if its line keeps it.
     #[inline]
     pub fn value_in(lines: &[ByteLine], v: u32, k: u32) -> Option<u32>
         ensures { result ≡
@@ -44,7 +44,7 @@ impl ByteLine {
         Some(line.values[place as usize] as u32)
     }
 
-    /// The line with the values of a block behind those that it keeps before it.
+    /// The line with the values of a block added after those that it keeps.
     #[inline]
     pub fn with(self, block: u32, values: &[u8; 8]) -> ByteLine
         requires small { block < 2 ^ 28 }

@@ -2,7 +2,7 @@ ghost use Rattle.std.specs.Prelude.{◌≡◌, ◌<◌, ◌≤◌, ◌+◌, ◌-
 ghost use Rattle.pop_model.specs.Stacks.{weighted, scaled};
 ghost use Rattle.pop_stacks.specs.Draws.{differences, RisesFrom};
 
-/// The least place of a sum above m. A variable may have a million values, so it halves.
+/// The first place of a sum above m, by binary search: a variable may have a million values.
 pub fn first_above(sums: &[u32], m: u32) -> usize
     requires some { 0 < length sums.now }
     requires rising { RisesFrom 0 sums.now }
@@ -24,7 +24,8 @@ pub fn first_above(sums: &[u32], m: u32) -> usize
     low
 }
 
-/// The number of two words, scaled to a total: the product of 96 bits by its halves.
+/// The 64-bit number of two words, scaled to a total: the top 32 bits of the 96-bit product,
+/// computed by halves.
 pub fn scale(low: u32, high: u32, total: u32) -> u32
     requires { 0 < total }
     ensures scaled { result ≡ scaled (low + 2 ^ 32 * high) total }
@@ -34,7 +35,7 @@ pub fn scale(low: u32, high: u32, total: u32) -> u32
     ((high as u64 * total as u64 + carried) >> 32) as u32
 }
 
-/// The value that the number of two words, low word first, gives under the weights with these
+/// The value that the number of two words, low word first, selects under the weights with these
 /// running sums.
 pub fn draw(sums: &[u32], low: u32, high: u32) -> u32
     requires some { 0 < length sums.now }
@@ -45,7 +46,7 @@ pub fn draw(sums: &[u32], low: u32, high: u32) -> u32
 {
     let total = sums[sums.len() - 1];
     let m = scale(low, high, total);
-    // Weights of 1 have the sums 1, 2, 3 and so on.
+    // Weights of 1 have the running sums 1, 2, 3 and so on.
     if total as usize == sums.len() {
         return m;
     }

@@ -1,17 +1,18 @@
-// Values of many entries at once: of the 32 of a group, or of the eight of a block. Each step goes over
-// all of them in a loop of constant length, and but for halving none has a branch that depends on the
-// words. The words of the first entry stand at a place of the words that were read.
+// Computes the values of many entries at once: of the 32 of a group, or of the eight of a block.
+// Each step goes over all of them in a loop of constant length. Except in the binary search, no
+// branch depends on the words. `at` is the place of the first entry's words.
 ghost use Rattle.std.specs.Prelude.{◌≡◌, ◌<◌, ◌≤◌, ◌+◌, ◌-◌, ◌*◌, ℕ, [], ◌∷◌, length, slice_index};
 ghost use Rattle.pop_stacks.specs.Draws.{differences, past, RisesFrom, AreDrawn, AreScaled, AreFirstAbove, MayPass};
 ghost use Rattle.pop_stacks.specs.KeptValues.{AreBelow};
 
 use crate::drawing::{first_above, scale};
 
-// As many sums are passed one after another; where there are more, halving takes fewer steps.
+// Up to this many sums are passed one after another. If there are more, binary search takes fewer
+// steps.
 const FEW: usize = 24;
 
-/// The values that these words give a variable with two values of weight 1: the top bit of each
-/// number.
+/// The values that these words select for a variable with two values of weight 1: the top bit of
+/// each number.
 pub fn draw_pairs<const N: usize>(words: &[u32; 64], at: usize) -> [u8; N]
     requires { at + 2 * N ≤ 64 }
     ensures { AreDrawn (1 ∷ 1 ∷ []) words.now at N result }
@@ -49,8 +50,8 @@ fn narrow<const N: usize>(numbers: &[u32; N]) -> [u8; N]
     values
 }
 
-// The places, each moved past a sum that is not above its number. Were it inlined, the loop over
-// the sums would be taken apart for many sums at once, of which there are few.
+// Each place, increased by 1 if this sum is not above its number. It is not inlined: otherwise the
+// compiler would prepare the loop over the sums for many sums at once, and there are few.
 #[inline(never)]
 fn pass<const N: usize>(sum: u32, numbers: &[u32; N], places: &[u8; N]) -> [u8; N]
     requires { AreBelow 255 N places.now }
@@ -64,7 +65,7 @@ fn pass<const N: usize>(sum: u32, numbers: &[u32; N], places: &[u8; N]) -> [u8; 
     moved
 }
 
-// The place of the first sum above each number, by passing the sums before it.
+// The place of the first sum above each number, found by passing the sums before it.
 fn pass_all<const N: usize>(sums: &[u32], numbers: &[u32; N]) -> [u8; N]
     requires { MayPass sums.now N numbers.now }
     ensures { AreFirstAbove sums.now numbers.now N result }
@@ -76,7 +77,7 @@ fn pass_all<const N: usize>(sums: &[u32], numbers: &[u32; N]) -> [u8; N]
     places
 }
 
-// The place of the first sum above each number, by halving.
+// The place of the first sum above each number, found by binary search.
 fn halve_all<const N: usize>(sums: &[u32], numbers: &[u32; N]) -> [u8; N]
     requires { MayPass sums.now N numbers.now }
     ensures { AreFirstAbove sums.now numbers.now N result }
@@ -88,7 +89,7 @@ fn halve_all<const N: usize>(sums: &[u32], numbers: &[u32; N]) -> [u8; N]
     places
 }
 
-/// The values that these words give under the weights with these running sums.
+/// The values that these words select under the weights with these running sums.
 pub fn draw_all<const N: usize>(sums: &[u32], words: &[u32; 64], at: usize) -> [u8; N]
     requires place { at + 2 * N ≤ 64 }
     requires some { 0 < length sums.now }
@@ -98,7 +99,7 @@ pub fn draw_all<const N: usize>(sums: &[u32], words: &[u32; 64], at: usize) -> [
 {
     let total = sums[sums.len() - 1];
     let numbers = scale_all(words, at, total);
-    // Weights of 1 have the sums 1, 2, 3 and so on.
+    // Weights of 1 have the running sums 1, 2, 3 and so on.
     if total as usize == sums.len() {
         return narrow(&numbers);
     }

@@ -7,17 +7,17 @@ use crate::quad_line::{self, QuadLine};
 use crate::refill::BLOCKS;
 use std::alloc::{AllocError, Global};
 
-/// For each variable that has a line the values of the group of entries that was looked at last, up to
-/// the last block that was read.
+/// A cache of values. For each variable with a line it keeps values of the group of entries that
+/// was read last, up to the last block that was drawn.
 #[derive(Drop)]
 pub enum KeptValues {
     /// No variable has a line.
     Nothing,
-    /// A line for each variable; it is not used for one with more than two values.
+    /// A line for each variable. It is not used for a variable with more than two values.
     Bits(Vec<BitLine>),
-    /// A line for each variable; it is not used for one with more than four values.
+    /// A line for each variable. It is not used for a variable with more than four values.
     Quads(Vec<QuadLine>),
-    /// A line for each variable; it is not used for one with more than 256 values.
+    /// A line for each variable. It is not used for a variable with more than 256 values.
     Bytes(Vec<ByteLine>),
 }
 
@@ -48,7 +48,7 @@ impl KeptValues {
         Ok(KeptValues::Bytes(lines))
     }
 
-    /// The value of entry k of variable v, where it is kept.
+    /// The value of entry k of variable v, if it is kept.
     pub fn value(&self, v: u32, k: u32) -> Option<u32>
         ensures { result ≡ kept_at self.now v k }
     {
@@ -60,7 +60,7 @@ impl KeptValues {
         }
     }
 
-    /// Whether variable v has a line, and a line has room for values below `domain`.
+    /// Whether variable v has a line with room for values below `domain`.
     pub fn can_keep(&self, v: u32, domain: u32) -> bool
         ensures { IsTrue result ↔ CanKeep self.now v domain }
     {
@@ -72,8 +72,9 @@ impl KeptValues {
         }
     }
 
-    /// Whether `can_keep`, and this block of variable v is its next one. The first block of a later
-    /// group takes the place of the values that are kept, so it counts only if it was asked for.
+    /// Whether `can_keep` holds and this block of variable v is the next one to keep. The first
+    /// block of a later group replaces the values that are kept, so it counts only if it was asked
+    /// for.
     pub fn awaits(&self, v: u32, domain: u32, block: u32, asked: bool) -> bool
         ensures { IsTrue result ↔ Awaits self.now v domain block asked }
     {
@@ -87,8 +88,8 @@ impl KeptValues {
             }
     }
 
-    /// Keeps the values of the next block of variable v, which are below `domain`, after those of its
-    /// group that are kept. Values of another group are no longer kept.
+    /// Keeps the values of the next block of variable v, which are below `domain`. They follow the
+    /// kept values of the same group; those of another group are dropped.
     pub fn append(&mut self, v: u32, domain: u32, block: u32, values: &[u8; 8])
         requires known { CanKeep self.old v domain }
         requires next { mark_at self.old v ≡ Some block }
@@ -105,8 +106,8 @@ impl KeptValues {
         }
     }
 
-    /// Keeps the values that this mark says of variable v, which are below `domain`, in the place of
-    /// what was kept of it.
+    /// Replaces what is kept of variable v by these values, which are below `domain`. The mark
+    /// says which entries they are.
     pub fn keep(&mut self, v: u32, domain: u32, mark: u32, values: &[u8; 32])
         requires known { CanKeep self.old v domain }
         requires below { AreBelow domain 32 values.now }

@@ -11,11 +11,12 @@ use std::marker::Model;
 // ChaCha20 has ten double rounds.
 const DOUBLE_ROUNDS: u32 = 10;
 
-// How many refills are kept, each at its stream's number modulo this.
+// The number of refills that are kept, each at its stream's number modulo this.
 const KEPT: usize = 16;
 
-/// The key stream of ChaCha20, with the last refills of some variables: an entry is mostly looked
-/// at again, and a seek to another stream costs a refill. Contracts see the words of the key.
+/// The key stream of ChaCha20, with the last refills of some variables. They are kept because most
+/// entries are read more than once, and a change of stream costs a refill. Contracts see the words
+/// of the key.
 #[derive(Drop)]
 pub struct KeyStream {
     rng: ChaCha20Rng,
@@ -38,7 +39,7 @@ impl Model for KeyStream {
 impl KeyStream {
     ghost use Rattle.pop_stacks.specs.Words.{AreWordsOf, AreBlockWords};
 
-    /// The key stream of the key with these bytes.
+    /// The key stream of this key of 32 bytes.
     pub fn new(key: [u8; 32]) -> KeyStream
         ensures { result ≡ key_of key }
     {
@@ -58,8 +59,8 @@ impl KeyStream {
         }
     }
 
-    /// Reads the 16 words of a block of each of the four streams from this one on, one stream after
-    /// another, in the time of one refill.
+    /// Reads one block of 16 words of each of four streams, `stream` and the next three, one
+    /// stream after another. It takes the time of one refill.
     pub fn read_block(&self, stream: u64, block: u32, words: &mut [u32; 64])
         requires { stream + 3 < 2 ^ 64 }
         ensures { AreBlockWords self.now stream block words.new }
@@ -67,7 +68,7 @@ impl KeyStream {
         blocks(DOUBLE_ROUNDS, &self.key, block as u64, stream, words);
     }
 
-    /// Reads the words of a group of entries of a stream, and keeps none of them.
+    /// Reads the words of a group of entries of a stream, without keeping them.
     pub fn read(&mut self, stream: u64, group: u32, words: &mut [u32; 64])
         requires { group < 2 ^ 26 }
         ensures words { AreWordsOf self.old stream group words.new }
@@ -76,7 +77,7 @@ impl KeyStream {
         read_group(&mut self.rng, stream, group, words);
     }
 
-    /// The two words of entry k of a stream, the low word first.
+    /// The two words of entry k of a stream, low word first.
     pub fn words(&mut self, stream: u64, k: u32) -> (u32, u32)
         requires { k < 2 ^ 31 }
         ensures low { result.0 ≡ word_at 10 self.old stream (2 * k) }

@@ -1,6 +1,6 @@
-// The block function of ChaCha20 on a block of each of four streams at a time, one in each lane. The
-// generator of `rand_chacha` has four blocks of one stream there. Contracts are by its definition of
-// a block, so what is made here are its words.
+// The block function of ChaCha20 on one block of each of four streams at a time, one stream in
+// each lane. The generator of `rand_chacha` puts four blocks of one stream there instead.
+// Contracts use its definition of a block, so the words made here are proved to be the same.
 ghost use Rattle.std.specs.Prelude.{◌≡◌, ℕ, ◌+◌, ◌*◌, ◌/◌, ◌%◌, ◌^◌, ◌<◌, slice_index};
 ghost use Rattle.rand_chacha.specs.Block.{add32, xor_rotate, quarter_round, column_round, diagonal_round, initial_state, block_word};
 ghost use Rattle.rand_chacha.specs.Lanes.{lane};
@@ -144,7 +144,7 @@ fn high(x: u64) -> u32
     (x >> 32) as u32
 }
 
-/// Writes this block of each of the four streams from `stream` on, one after another.
+/// Writes block number `block` of each of the four streams from `stream` on, one after another.
 pub fn blocks(double_rounds: u32, key: &[u32; 8], block: u64, stream: u64, out: &mut [u32; 64])
     requires { stream + 3 < 2 ^ 64 }
     ensures { (j k : ℕ) → j < 4 → k < 16

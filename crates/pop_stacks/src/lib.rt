@@ -1,5 +1,5 @@
-//! The stacks of entries: which value each variable has at each entry, read off given rows or off
-//! a ChaCha20 key stream. Contracts see stacks as `StackTable`, rows and weights as lists of
+//! The stacks of entries: which value each variable has at each entry, read from given rows or
+//! from a ChaCha20 key stream. Contracts see stacks as `StackTable`, rows and weights as lists of
 //! lists, and a reader as the stacks that it reads.
 #![tactic(auto)]
 

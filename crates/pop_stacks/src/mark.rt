@@ -1,5 +1,5 @@
-// Which entries of a variable its line keeps, in one word: how many blocks of its entries were read. Of
-// those the ones of the last block's group are kept.
+// A mark says in one machine word which entries of a variable its line keeps. It is the number of
+// blocks that were read; those in the group of the last block are kept.
 ghost use Rattle.std.specs.Prelude.{◌≡◌};
 ghost use Rattle.pop_stacks.specs.KeptValues.{place_in};
 
@@ -8,7 +8,7 @@ use crate::refill::{BLOCK, BLOCKS, GROUP};
 /// No entry is kept.
 pub const NOTHING: u32 = 0;
 
-/// The place of entry k in a line with this mark, where it is kept.
+/// The place of entry k in a line with this mark, if it is kept.
 #[inline]
 pub fn place_of(mark: u32, k: u32) -> Option<u32>
     ensures { result ≡ place_in mark k }

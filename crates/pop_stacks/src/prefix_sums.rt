@@ -5,8 +5,8 @@ ghost use Rattle.pop_stacks.specs.Rows.{lists_of, AreShort};
 
 use pop_rows::accumulate;
 
-/// Puts running sums in the place of each row; the least row whose sum passes 32 bits, where there
-/// is one.
+/// Replaces each row by its running sums. If a sum exceeds 32 bits, it returns the first row with
+/// such a sum.
 pub fn accumulate_rows(rows: &mut Vec<Vec<u32>>) -> Option<u32>
     requires { AreShort (lists_of rows.old.items) }
     ensures sums { IfNone result

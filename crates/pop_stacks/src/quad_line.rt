@@ -10,17 +10,17 @@ use crate::refill::{BLOCK, BLOCKS};
 pub struct QuadLine {
     /// Which entries are kept.
     pub mark: u32,
-    /// The values of each block of the group. Those of its first entry are the lowest bits.
+    /// The values of each block of the group, with the block's first entry in the lowest bits.
     pub blocks: [u16; 4],
 }
 
-/// Nothing is kept.
+/// A line that keeps no entries.
 pub const EMPTY: QuadLine = QuadLine {
     mark: NOTHING,
     blocks: [0; 4],
 };
 
-// The values of a block, below 4, from a place on: two bits each, side by side.
+// The values of a block, from place `at` on, packed two bits each. They are below 4.
 fn quads<const N: usize>(values: &[u8; N], at: usize) -> u16
     requires place { at + 8 ≤ N }
     requires below { AreBelow 4 N values.now }
@@ -34,7 +34,7 @@ fn quads<const N: usize>(values: &[u8; N], at: usize) -> u16
 }
 
 impl QuadLine {
-    /// A line with this mark and the values of a group, below 4.
+    /// A line with this mark and the values of a group, which are below 4.
     pub fn of(mark: u32, values: &[u8; 32]) -> QuadLine
         requires { AreBelow 4 32 values.now }
         ensures mark { result.mark ≡ mark }
@@ -63,7 +63,8 @@ impl QuadLine {
         Some(((values >> (2 * (place % BLOCK))) % 4) as u32)
     }
 
-    /// The line with the values of a block, below 4, after those that it keeps before it.
+    /// The line with the values of a block added after those that it keeps. The values are below
+    /// 4.
     #[inline]
     pub fn with(self, block: u32, values: &[u8; 8]) -> QuadLine
         requires small { block < 2 ^ 28 }

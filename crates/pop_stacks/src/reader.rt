@@ -8,9 +8,9 @@ use std::alloc::{AllocError, Global};
 use std::marker::Model;
 use std::snapshot::Snapshot;
 
-/// Reads the entries of stacks; each worker has one of its own. It owns its key stream and the
-/// values that it keeps, and holds no stacks: they may be raised while it lives. Contracts see what
-/// it was made of, and nothing of what it keeps.
+/// Reads the entries of stacks; each thread has its own reader. It owns its key stream and its
+/// cache of values. It holds no stacks, so they may be raised while it lives. Contracts see which
+/// stacks it was made for, and nothing of its cache.
 #[derive(Drop)]
 pub struct Reader {
     stream: KeyStream,
@@ -34,8 +34,8 @@ impl Model for Reader {
 impl Reader {
     ghost use Rattle.pop_stacks.specs.Readers.{Belongs, plain_reader};
 
-    /// A reader of these stacks. It takes no memory, and keeps no values: so it reads stacks of the
-    /// same source with other weights, too.
+    /// A reader of these stacks without a cache. It allocates nothing, and it also reads stacks of
+    /// the same source with other weights.
     pub fn new(stacks: &Stacks) -> Reader
         ensures made { result ≡ plain_reader stacks.now }
         ensures belongs { Belongs stacks.now result }
@@ -47,9 +47,9 @@ impl Reader {
         }
     }
 
-    /// A reader of these stacks that keeps for each variable values of the group of 32 entries that was
-    /// looked at last: all of them, or those of its blocks of eight that were drawn so far. The next
-    /// block is drawn for four variables at once. Its memory is linear in the number of variables.
+    /// A reader of these stacks with a cache. For each variable it keeps values of the group of 32
+    /// entries that was read last: all of them, or the blocks of eight drawn so far. It draws the
+    /// next block for four variables at once. Its memory is linear in the number of variables.
     pub fn keeping(alloc: Global, stacks: &Stacks) -> Result<Reader, AllocError>
         ensures { IfOk result (Belongs stacks.now) }
     {
@@ -61,9 +61,9 @@ impl Reader {
         })
     }
 
-    /// Entry k of variable v of stacks of the same source: the same key and sample, or the same
-    /// given rows; and of the same weights, where values are kept. It is the same whatever was read
-    /// before. It takes no memory.
+    /// Entry k of variable v. The stacks must have the source of the reader: the same key and
+    /// sample, or the same given rows. With a cache they must also have the same weights. The
+    /// result does not depend on earlier reads. It allocates nothing.
     #[inline]
     pub fn entry(&mut self, stacks: &Stacks, v: u32, k: u32) -> u32
         requires belongs { Belongs stacks.now self.old }

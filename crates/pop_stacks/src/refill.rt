@@ -4,20 +4,20 @@ ghost use Rattle.pop_stacks.specs.Words.{AreRead, AreWordsOf};
 use rand_chacha::ChaCha20Rng;
 use rand_core::utils::NextWord;
 
-/// How many entries a refill of the cipher holds: it makes four blocks of 16 words, and an entry
-/// has two words.
+/// The number of entries of one refill of the cipher. A refill makes four blocks of 16 words, and
+/// an entry has two words.
 pub const GROUP: u32 = 32;
 
-/// How many entries a block of the cipher holds.
+/// The number of entries of one block of the cipher.
 pub const BLOCK: u32 = 8;
 
-/// How many blocks a group has.
+/// The number of blocks of a group.
 pub const BLOCKS: u32 = 4;
 
 /// The words of one group of entries of a stream.
 #[derive(Clone, Copy)]
 pub struct Refill {
-    /// Whether there are words yet.
+    /// Whether it holds words yet.
     pub filled: bool,
     pub stream: u64,
     /// The entries are those from 32 * group on.
@@ -25,7 +25,7 @@ pub struct Refill {
     pub words: [u32; 64],
 }
 
-/// No words yet.
+/// A refill that holds no words.
 pub const NONE: Refill = Refill {
     filled: false,
     stream: 0,
@@ -33,7 +33,7 @@ pub const NONE: Refill = Refill {
     words: [0; 64],
 };
 
-// Reads a word more, to this place of a list of words.
+// Reads one more word, to place `at` of the array.
 #[inline(always)]
 fn read_word(rng: &mut ChaCha20Rng, words: &mut [u32; 64], at: usize)
     requires room { at < 64 }
@@ -45,7 +45,7 @@ fn read_word(rng: &mut ChaCha20Rng, words: &mut [u32; 64], at: usize)
     words[at] = rng.next_word();
 }
 
-// Reads four words more.
+// Reads four more words.
 #[inline(always)]
 fn read_four(rng: &mut ChaCha20Rng, words: &mut [u32; 64], at: usize)
     requires room { at + 4 ≤ 64 }
@@ -60,7 +60,7 @@ fn read_four(rng: &mut ChaCha20Rng, words: &mut [u32; 64], at: usize)
     read_word(rng, words, at + 3);
 }
 
-// Reads sixteen words more, a block.
+// Reads sixteen more words, which are a block.
 #[inline(always)]
 fn read_block(rng: &mut ChaCha20Rng, words: &mut [u32; 64], at: usize)
     requires room { at + 16 ≤ 64 }
@@ -75,8 +75,8 @@ fn read_block(rng: &mut ChaCha20Rng, words: &mut [u32; 64], at: usize)
     read_four(rng, words, at + 12);
 }
 
-/// Reads the words of a group of entries of a stream: one refill of the cipher. The place is set
-/// before the stream, and both stand at a block's start, so that neither refills by itself.
+/// Reads the words of a group of entries of a stream, by one refill of the cipher. The position is
+/// set before the stream. Both are at the start of a block, so setting them causes no refill.
 pub fn read_group(rng: &mut ChaCha20Rng, stream: u64, group: u32, words: &mut [u32; 64])
     requires { group < 2 ^ 26 }
     ensures words { AreWordsOf rng.old.key stream group words.new }
@@ -84,8 +84,8 @@ pub fn read_group(rng: &mut ChaCha20Rng, stream: u64, group: u32, words: &mut [u
 {
     rng.set_word_pos(64 * group as u128);
     rng.set_stream(stream);
-    // Written out and not in a loop, so that the compiler sees that only the first word refills,
-    // and moves the others many at a time.
+    // Written out instead of a loop. This way the compiler sees that only the first word causes a
+    // refill, and moves the other words many at a time.
     let mut read = [0; 64];
     read_block(rng, &mut read, 0);
     read_block(rng, &mut read, 16);

@@ -4,7 +4,7 @@ ghost use Rattle.pop_stacks.specs.Faults.{HaveEntries, HaveValues, IsEmptyRow, I
 
 use crate::{Rows, Weights};
 
-/// The least row without an entry.
+/// The first row without an entry.
 pub fn first_empty(rows: &Rows) -> Option<u32>
     ensures none { IfNone result (HaveEntries rows.now) }
     ensures found { IfSome result (IsLeast (IsEmptyRow rows.now)) }
@@ -17,7 +17,7 @@ pub fn first_empty(rows: &Rows) -> Option<u32>
     None
 }
 
-// The least place of a number that isn't below the limit.
+// The first place of a number that is not below the limit.
 fn first_at_least(row: &[u32], limit: u32) -> Option<u32>
     requires { length row.now < 2 ^ 31 }
     ensures none { IfNone result (All (λ x. x < limit) row.now) }
@@ -32,7 +32,8 @@ fn first_at_least(row: &[u32], limit: u32) -> Option<u32>
     None
 }
 
-/// The least row, and in it the least entry, that is no value of its variable.
+/// The first row with an entry that is not a value of its variable, and the first such entry in
+/// it.
 pub fn first_too_large(rows: &Rows, weights: &Weights) -> Option<(u32, u32)>
     requires { length rows.now ≡ length weights.now }
     ensures none { IfNone result (HaveValues rows.now weights.now) }

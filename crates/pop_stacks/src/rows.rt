@@ -9,7 +9,8 @@ use pop_rows::{Fronts, RowList, copy_lists};
 use std::alloc::{AllocError, Global};
 use std::marker::Model;
 
-// How rows are kept: each in an array of its own, all in one, or as fronts of one list.
+// The three ways of storing rows: an array for each row, one array for all, or prefixes of one
+// list.
 #[derive(Drop)]
 enum KeptRows {
     Nested(Vec<Vec<u32>>),
@@ -36,7 +37,7 @@ impl Model for Rows {
 }
 
 impl Rows {
-    /// These rows, as they are handed over.
+    /// These rows, stored as they are passed.
     pub fn of(rows: Vec<Vec<u32>>) -> Rows
         requires { AreShort (lists_of rows.items) }
         ensures { result ≡ lists_of rows.items }
@@ -46,7 +47,7 @@ impl Rows {
         }
     }
 
-    /// These rows, which lie in one array.
+    /// These rows, stored in one array.
     pub fn flat(rows: RowList) -> Rows
         requires { AreShort rows }
         ensures { result ≡ rows }
@@ -56,7 +57,7 @@ impl Rows {
         }
     }
 
-    /// Rows of ones, of these lengths. Memory is that of the longest row.
+    /// Rows of ones with these lengths. They take the memory of the longest row.
     pub fn ones(alloc: Global, lengths: Vec<u32>) -> Result<Rows, AllocError>
         requires few { length lengths.items < 2 ^ 31 }
         requires short { All (λ n. n < 2 ^ 31) lengths.items }
@@ -68,7 +69,7 @@ impl Rows {
         })
     }
 
-    /// How many rows there are.
+    /// The number of rows.
     pub fn count(&self) -> u32
         ensures count { result ≡ length self.now }
         ensures short { AreShort self.now }
@@ -80,7 +81,7 @@ impl Rows {
         }
     }
 
-    /// Row v. Rows count from 0.
+    /// The numbers of row v. Rows count from 0.
     pub fn row(&self, v: u32) -> &[u32]
         requires { v < length self.now }
         ensures row { result.now ≡ row_of self.now v }
@@ -93,7 +94,7 @@ impl Rows {
         }
     }
 
-    /// Equal rows.
+    /// A copy of these rows.
     pub fn copy(&self, alloc: Global) -> Result<Rows, AllocError>
         ensures { IfOk result (λ rows. rows ≡ self.now) }
     {
@@ -115,7 +116,8 @@ impl Rows {
         }
     }
 
-    // The running sums of each row, made in its place; else the least row whose sum passes 32 bits.
+    // The running sums of each row, made in place. If a sum exceeds 32 bits, the error is the
+    // first row with such a sum.
     pub(crate) fn into_sums(self) -> Result<Rows, u32>
         ensures made { IfOk result (λ sums. sums ≡ map (running 0) self) }
         ensures light { OnOk result (AreLight self) }
@@ -133,8 +135,8 @@ impl Rows {
 impl KeptRows {
     ghost use Rattle.pop_stacks.specs.KeptRows.{rows_of};
 
-    // Puts running sums in the place of each row; the least row whose sum passes 32 bits, where there
-    // is one, and then the rows are of no more use.
+    // Replaces each row by its running sums. If a sum exceeds 32 bits, it returns the first row
+    // with such a sum. The rows must not be used after that.
     fn accumulate(&mut self) -> Option<u32>
         requires { AreShort (rows_of self.old) }
         ensures sums { IfNone result (rows_of self.new ≡ map (running 0) (rows_of self.old)) }

@@ -1,22 +1,23 @@
 use thiserror::Error;
 
-/// Why an origin and weights make no stacks: the first fault in this order, at its least place.
+/// Why stacks cannot be made: the first fault in the order of these variants, at its lowest place.
 /// Variables and entries count from 0.
 #[derive(Clone, Copy, Debug, PartialEq, Eq, Error)]
 pub enum StackFault {
     /// The number of rows that were given, and the number of variables.
     #[error("{0} rows for {1} variables")]
     RowCount(u32, u32),
-    /// The least variable whose row has no entry.
+    /// The lowest variable whose row has no entry.
     #[error("the row of variable {0} has no entry")]
     EmptyRow(u32),
-    /// The least variable, and of it the least entry, that isn't below the number of its weights.
+    /// The lowest variable with an entry that is not below the number of its weights, and the
+    /// first such entry.
     #[error("entry {1} of variable {0} is no value of it")]
     ValueTooLarge(u32, u32),
-    /// The least variable whose weights sum to more than 2^32 - 1.
+    /// The lowest variable with weights that sum to more than 2^32 - 1.
     #[error("the weights of variable {0} pass 32 bits")]
     WeightSum(u32),
-    /// Memory ran out. `Stacks::new` works in the memory that it is handed, and never answers this.
+    /// Out of memory. `Stacks::new` uses the memory that it is passed, and never returns this.
     #[error("out of memory")]
     OutOfMemory,
 }

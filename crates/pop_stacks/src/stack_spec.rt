@@ -4,12 +4,12 @@ ghost use Rattle.pop_model.specs.Stacks.{IsTable};
 use crate::row_faults::{first_empty, first_too_large};
 use crate::{Rows, StackFault, Weights};
 
-/// Where the entries come from.
+/// The source of the entries.
 #[derive(Drop)]
 pub enum StackSpec {
-    /// The key stream of these 32 bytes, the key of ChaCha20 (RFC 8439).
+    /// The ChaCha20 key stream of this key of 32 bytes (RFC 8439).
     Key([u8; 32]),
-    /// Row v has the entries of variable v.
+    /// Given rows: row v has the entries of variable v.
     Given(Rows),
 }
 
@@ -17,7 +17,7 @@ impl StackSpec {
     ghost use Rattle.pop_stacks.specs.Tables.{origin_of, table_of};
     ghost use Rattle.pop_stacks.specs.Faults.{HasSoundRows, IsCause};
 
-    // Refuses given rows at their first fault.
+    // Rejects given rows that have a fault, and returns the first one.
     pub(crate) fn check(&self, weights: &Weights, height: u32) -> Result<(), StackFault>
         requires some { 0 < height }
         requires short { height < 2 ^ 31 }

@@ -13,13 +13,13 @@ use std::marker::Model;
 #[derive(Drop)]
 pub struct Stacks {
     spec: StackSpec,
-    // The number of the sample: with a key each has streams of its own.
+    // The number of the sample. Under a key each sample has its own streams.
     sample: u32,
     sums: Sums,
     height: u32,
 }
 
-// The number of a variable's stream, for a sample.
+// The number of the stream of variable v in a sample.
 fn stream_number(sample: u32, v: u32) -> u64
     ensures { result ≡ stream_of sample v }
 {
@@ -45,15 +45,16 @@ impl Stacks {
     ghost use Rattle.pop_stacks.specs.Readers.{Streams, KeepsOfKeys};
     ghost use Rattle.pop_stacks.specs.KeptValues.{keeps, KeepsValues};
 
-    /// The stacks with entries of this origin, under these weights. With a key each variable has
-    /// this height; with given rows it is its row's length, and `height` has no effect.
+    /// The stacks with entries of this source, under these weights. Under a key each variable has
+    /// `height` entries. With given rows a variable has as many entries as its row, and `height`
+    /// has no effect.
     pub fn new(spec: StackSpec, weights: Weights, height: u32) -> Result<Stacks, StackFault>
         requires some { 0 < height }
         requires short { height < 2 ^ 31 }
         ensures made { IfOk result (λ stacks. stacks ≡ table_of spec height weights) }
         ensures sound { OnOk result (IsSound (origin_of spec height) weights) }
 
-        // The first cause in the order of `StackFault`, at its least place.
+        // The first fault in the order of `StackFault`, at its lowest place.
         ensures cause { IfErr result (IsCause (origin_of spec height) weights) }
     {
         if let Err(fault) = spec.check(&weights, height) {
@@ -75,7 +76,7 @@ impl Stacks {
         }
     }
 
-    /// The stacks under the same key and weights for sample j, which has streams of its own.
+    /// The stacks of sample j under the same key and weights. Each sample has its own streams.
     pub fn for_sample(&self, alloc: Global, j: u32) -> Result<Stacks, AllocError>
         requires keyed { IsKeyed self.now.origin }
         ensures { IfOk result (λ stacks. stacks ≡ stacks_for j self.now) }
@@ -92,8 +93,8 @@ impl Stacks {
         })
     }
 
-    /// Gives each variable this height, which is at least the present one. It takes no memory, and
-    /// a reader of these stacks may go on reading them.
+    /// Gives each variable this height, which must be at least the present one. It allocates
+    /// nothing. A reader of these stacks can continue to read them.
     pub fn raise(&mut self, height: u32)
         requires keyed { IsKeyed self.old.origin }
         requires higher { (v : ℕ) → height_of self.old v ≤ height }
@@ -103,7 +104,7 @@ impl Stacks {
         self.height = height;
     }
 
-    /// How many variables there are.
+    /// The number of variables.
     pub fn count(&self) -> u32
         ensures count { result ≡ variables_of self.now }
         ensures table { IsTable self.now }
@@ -111,7 +112,7 @@ impl Stacks {
         self.sums.count()
     }
 
-    /// How many entries variable v has.
+    /// The number of entries of variable v.
     pub fn height(&self, v: u32) -> u32
         requires { v < variables_of self.now }
         ensures { result ≡ height_of self.now v }
@@ -122,7 +123,7 @@ impl Stacks {
         }
     }
 
-    /// How many values variable v has.
+    /// The number of values of variable v.
     pub fn domain(&self, v: u32) -> u32
         requires { v < variables_of self.now }
         ensures { result ≡ domain_of self.now v }
@@ -130,7 +131,7 @@ impl Stacks {
         self.sums.slots(v)
     }
 
-    /// Whether no variable has more values than this.
+    /// Whether every variable has at most this many values.
     pub fn have_at_most(&self, values: u32) -> bool
         ensures { IsTrue result
             ↔ ((v : ℕ) → v < variables_of self.now → domain_of self.now v ≤ values) }
@@ -138,7 +139,7 @@ impl Stacks {
         self.sums.have_at_most(values)
     }
 
-    // The key stream of keyed stacks; with given rows any, which is never read.
+    // The key stream of keyed stacks. With given rows it is an arbitrary one that is never read.
     pub(crate) fn stream(&self) -> KeyStream
         ensures { Streams self.now.origin result }
     {
@@ -148,7 +149,7 @@ impl Stacks {
         }
     }
 
-    // Room for values of each variable; given rows are at hand anyway.
+    // An empty cache for the values of each variable. Given rows need none.
     pub(crate) fn room_for_values(&self, alloc: Global) -> Result<KeptValues, AllocError>
         ensures none { IfOk result (KeepsValues self.now) }
         ensures of_keys { IfOk result (λ kept. KeepsOfKeys self.now.origin (keeps kept)) }
@@ -166,10 +167,10 @@ impl Stacks {
         KeptValues::bytes(alloc, count)
     }
 
-    // Entry k of variable v, whose line keeps the entries before the block of this one. That block of
-    // four variables is drawn at once, for a quarter of a refill each, and kept where it is the next
-    // one: a line gives up no values for a block that it wasn't asked for. It is no part of `value`,
-    // whose other ways want no room for lanes.
+    // Entry k of variable v, if the line of v keeps the entries before the block of k. The block
+    // is drawn for four variables at once, for a quarter of a refill each. Another variable keeps
+    // its block only if it is the next one: no line drops values for a block that it was not asked
+    // for. This is apart from `value`, since the other cases there need no room for lanes.
     #[inline(never)]
     fn begin(&self, stream: &KeyStream, kept: &mut KeptValues, v: u32, k: u32) -> u32
         requires keyed { IsKeyed self.now.origin }
@@ -198,7 +199,7 @@ impl Stacks {
         self.sums.draw(v, words[at], words[at + 1])
     }
 
-    // Entry k of variable v. The values of its group are kept, where there is a line for them.
+    // Entry k of variable v. If there is a line for the values of its group, they are kept.
     #[inline(never)]
     pub(crate) fn value(&self, stream: &mut KeyStream, kept: &mut KeptValues, v: u32, k: u32) -> u32
         requires streams { Streams self.now.origin stream.old }

@@ -11,14 +11,15 @@ use crate::{Rows, Weights};
 use std::alloc::{AllocError, Global};
 use std::marker::Model;
 
-// How running sums are kept: those of pairs of weights 1 are 1 and 2.
+// How running sums are stored. Two weights of 1 have the sums 1 and 2, which take no memory.
 #[derive(Drop)]
 enum KeptSums {
     Pairs(u32),
     Rows(Rows),
 }
 
-/// Weights by their running sums, so that a value is drawn by halving. Contracts see the weights.
+/// Weights, stored as running sums so that binary search can draw a value. Contracts see the
+/// weights.
 #[derive(Drop)]
 pub struct Sums {
     kept: KeptSums,
@@ -36,7 +37,7 @@ impl Model for Sums {
     ghost invariant = { λ a. AreRunning (sums_of a.kept) };
 }
 
-// The sums of rows of weights, made in their place.
+// The sums of rows of weights, made in place.
 fn sums_of_rows(rows: Rows) -> Result<Sums, u32>
     requires { AreWeights rows }
     ensures made { IfOk result (λ sums. sums ≡ rows) }
@@ -50,7 +51,8 @@ fn sums_of_rows(rows: Rows) -> Result<Sums, u32>
 }
 
 impl Sums {
-    /// The sums of these weights; else the least variable whose weights sum to more than 2^32 - 1.
+    /// The sums of these weights. The error is the lowest variable with weights that sum to more
+    /// than 2^32 - 1.
     pub fn of(weights: Weights) -> Result<Sums, u32>
         ensures made { IfOk result (λ sums. sums ≡ weights) }
         ensures light { OnOk result (AreLight weights) }
@@ -65,7 +67,7 @@ impl Sums {
         }
     }
 
-    /// Equal sums.
+    /// A copy of these sums.
     pub fn copy(&self, alloc: Global) -> Result<Sums, AllocError>
         ensures { IfOk result (λ sums. sums ≡ self.now) }
     {
@@ -82,7 +84,7 @@ impl Sums {
         }
     }
 
-    /// How many variables there are.
+    /// The number of variables.
     pub fn count(&self) -> u32
         ensures count { result ≡ length self.now }
         ensures short { result < 2 ^ 31 }
@@ -93,7 +95,7 @@ impl Sums {
         }
     }
 
-    /// Whether no variable has more values than this.
+    /// Whether every variable has at most this many values.
     pub fn have_at_most(&self, values: u32) -> bool
         ensures { IsTrue result
             ↔ ((v : ℕ) → v < length self.now → length (row_of self.now v) ≤ values) }
@@ -106,7 +108,7 @@ impl Sums {
         true
     }
 
-    /// How many values variable v has.
+    /// The number of values of variable v.
     pub fn slots(&self, v: u32) -> u32
         requires { v < length self.now }
         ensures { result ≡ length (row_of self.now v) }
@@ -117,20 +119,21 @@ impl Sums {
         }
     }
 
-    /// The value that the two words of an entry, low word first, give variable v.
+    /// The value that the two words of an entry, low word first, select for variable v.
     pub fn draw(&self, v: u32, low: u32, high: u32) -> u32
         requires { v < length self.now }
         ensures value { result ≡ weighted (row_of self.now v) (low + 2 ^ 32 * high) }
         ensures within { result < length (row_of self.now v) }
     {
         match &self.kept {
-            // Of two equal weights the top bit of the number chooses.
+            // With two equal weights the top bit of the number chooses.
             KeptSums::Pairs(_) => high >> 31,
             KeptSums::Rows(rows) => draw(rows.row(v), low, high),
         }
     }
 
-    /// The values that the words of entries, from a place on, give variable v, which has at most 256.
+    /// The values that the words of entries, from place `at` on, select for variable v. It has at
+    /// most 256 values.
     pub fn draw_many<const N: usize>(&self, v: u32, words: &[u32; 64], at: usize) -> [u8; N]
         requires known { v < length self.now }
         requires small { length (row_of self.now v) ≤ 256 }

@@ -5,7 +5,7 @@ ghost use Rattle.pop_stacks.specs.Rows.{AreWeights};
 use crate::Rows;
 use std::marker::Model;
 
-// How weights are kept: two weights of 1 for each variable take no memory.
+// How weights are stored. Two weights of 1 for each variable take no memory.
 #[derive(Drop)]
 enum KeptWeights {
     Pairs(u32),
@@ -54,7 +54,7 @@ impl Weights {
         }
     }
 
-    // How many variables there are.
+    // The number of variables.
     pub(crate) fn count(&self) -> u32
         ensures count { result ≡ length self.now }
         ensures weights { AreWeights self.now }
@@ -65,7 +65,7 @@ impl Weights {
         }
     }
 
-    // How many values variable v has.
+    // The number of values of variable v.
     pub(crate) fn slots(&self, v: u32) -> u32
         requires { v < length self.now }
         ensures { result ≡ length (row_of self.now v) }
@@ -76,7 +76,7 @@ impl Weights {
         }
     }
 
-    // The rows again; None where each variable has two values of weight 1.
+    // The rows of weights, or None if each variable has two values of weight 1.
     pub(crate) fn into_rows(self) -> Option<Rows>
         ensures rows { MatchOption result (self ≡ replicate (length self) (1 ∷ 1 ∷ []))
             (λ rows. self ≡ rows) }

@@ -1,10 +1,10 @@
-// On which board workers meet.
+// How threads that share a run are synchronised.
 
-/// What keeps the pops of workers apart.
+/// The board: what keeps the pops of several threads apart.
 #[derive(Clone, Copy, Debug, PartialEq, Eq)]
 pub enum BoardKind {
-    /// A book of the pops under one lock.
+    /// A log of the pops under one lock.
     Lock,
-    /// Claims on lock-free words, one a variable.
+    /// Lock-free claims, with one machine word for each variable.
     Words,
 }

@@ -1,57 +1,56 @@
-// The commands: a table, a row each.
+// The commands, as a table with one row each.
 ghost use Rattle.std.specs.Prelude.{◌≡◌};
 ghost use Rattle.pop_words.specs.Options.{command_row, command_word, input_of};
 ghost use Rattle.pop_words.specs.Reading.{command_named};
 
-/// What is to be done with the formula, the graph or the certificate on the input, or with a graph
-/// that is made.
+/// What to do with the formula, the graph or the certificate on the input, or with a grid that is
+/// made.
 #[derive(Clone, Copy, Debug, PartialEq, Eq)]
 pub enum Command {
-    /// `formula`: sample a valuation that satisfies the formula.
+    /// `formula`: sample a satisfying assignment of the formula.
     Formula,
-    /// `orient`: sample an orientation of the graph that has no sink.
+    /// `orient`: sample a sink-free orientation of the graph.
     Orient,
     /// `tree`: sample a spanning tree of the graph, with its arrows to a root.
     Tree,
-    /// `resample`: sample a valuation as `formula` does, of clauses that may clash, and tell the
-    /// log of the pops.
+    /// `resample`: find a satisfying assignment of any formula, also if clauses clash, and print
+    /// the log of the pops.
     Resample,
-    /// `check`: say whether the clauses of the formula are extremal.
+    /// `check`: check whether the clauses of the formula are extremal.
     Check,
-    /// `make`: sample a spanning tree of a square grid that is made from a number, and tell it in
-    /// short.
+    /// `make`: sample a spanning tree of a square grid that is made from a number, and print a
+    /// summary.
     Make,
-    /// `rounds`: sample a valuation as `formula` does, of clauses that may clash, by synchronous
-    /// rounds.
+    /// `rounds`: sample a satisfying assignment by synchronous rounds, also if clauses clash.
     Rounds,
-    /// `replay`: judge the log of a certificate, and say where its run stands.
+    /// `replay`: verify the log of a certificate, and print the state that its run reached.
     Replay,
-    /// `resume`: go on to an end with the run of a certificate, and tell what the certificate's
-    /// command tells.
+    /// `resume`: continue the run of a certificate to its end, and print what the certificate's
+    /// command prints.
     Resume,
 }
 
-/// What a command reads.
+/// The kind of input that a command reads.
 #[derive(Clone, Copy, Debug, PartialEq, Eq)]
 pub enum Input {
     /// A formula.
     Formula,
     /// A graph.
     Graph,
-    /// No byte.
+    /// No input.
     Nothing,
     /// A certificate: a command, its stacks and its input, with the log of a run.
     Certificate,
 }
 
-// What there is to say of a command.
+// The properties of a command.
 #[derive(Clone, Copy)]
 struct CommandRow {
-    // As it is written.
+    // Its name on the command line.
     word: &'static str,
-    // What it reads.
+    // The kind of input that it reads.
     input: Input,
-    // Whether it tells its log unasked.
+    // Whether it prints its log by default.
     log: bool,
 }
 
@@ -68,7 +67,7 @@ impl Command {
         Command::Resume,
     ];
 
-    // Its row of the table.
+    // The row of this command in the table.
     fn row(self) -> CommandRow
         ensures word { result.word.now ≡ (command_row self).word }
         ensures input { result.input ≡ (command_row self).input }
@@ -88,28 +87,28 @@ impl Command {
         CommandRow { word, input, log }
     }
 
-    /// The word that stands for it.
+    /// The name of this command on the command line.
     pub fn word(self) -> &'static str
         ensures { result.now ≡ command_word self }
     {
         self.row().word
     }
 
-    /// What it reads.
+    /// The kind of input that it reads.
     pub fn input(self) -> Input
         ensures { result ≡ input_of self }
     {
         self.row().input
     }
 
-    /// Whether it tells its log unasked.
+    /// Whether it prints its log by default.
     pub fn tells_log(self) -> bool
         ensures { result ≡ (command_row self).log }
     {
         self.row().log
     }
 
-    // The command that a word stands for.
+    // The command with this name.
     pub(crate) fn named(word: &str) -> Option<Command>
         ensures { result ≡ command_named word.now }
     {

@@ -1,4 +1,4 @@
-// A command line, read word by word.
+// A command line, read argument by argument.
 ghost use Rattle.std.specs.Prelude.{◌≡◌, ◌+◌, ◌<◌, map, length, string_bytes, Ok, IfOk, IfErr, OnOk};
 ghost use Rattle.pop_words.specs.CommandLines.{Asks, IsWordFault};
 ghost use Rattle.pop_words.specs.Options.{default_job};
@@ -8,7 +8,7 @@ use crate::option::{are_complete, next_option};
 use crate::{Command, Job, WordFault};
 use std::alloc::Global;
 
-// Reads the options behind the command word, and sets what they say.
+// Reads the options after the command, and sets their values in the job.
 fn set_options(
     alloc: Global,
     command: Command,
@@ -43,7 +43,7 @@ fn set_options(
     }
 }
 
-// The job of a command with the options behind it.
+// The job of a command with the options after it.
 fn read_options(alloc: Global, command: Command, words: &[String]) -> Result<Job, WordFault>
     requires { 0 < length words.now }
     ensures { IsRead (behind command (map string_bytes words.now)) result }
@@ -58,11 +58,11 @@ fn read_options(alloc: Global, command: Command, words: &[String]) -> Result<Job
     }
 }
 
-/// Reads the words into the job that they ask for.
+/// Reads the arguments into the job that they specify.
 ///
 /// # Errors
 ///
-/// `Usage` with the place of the first bad word exactly where the words ask for no job.
+/// `Usage` with the place of the first invalid argument, exactly if the arguments specify no job.
 pub fn read_words(alloc: Global, words: &[String]) -> Result<Job, WordFault>
     ensures job { IfOk result (λ job. Asks (map string_bytes words.now) job) }
     ensures fault { IfErr result (IsWordFault (map string_bytes words.now)) }

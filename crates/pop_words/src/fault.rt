@@ -1,12 +1,13 @@
-// Why words are refused.
+// Why arguments are rejected.
 use std::alloc::{AllocError, AllocFailed};
 use thiserror::Error;
 
-/// Why words are no job.
+/// Why arguments specify no job.
 #[derive(Clone, Copy, Debug, PartialEq, Eq, Error)]
 pub enum WordFault {
-    /// The place of the first bad word, from 1: the least number such that so many first words
-    /// begin no command line. Where the words end too early, it is their number plus 1.
+    /// The place of the first invalid argument, from 1: the smallest n such that no command line
+    /// begins with the first n arguments. If arguments are missing at the end, it is their number
+    /// plus 1.
     #[error("bad word {0}")]
     Usage(u32),
     #[error("out of memory")]

@@ -1,4 +1,4 @@
-// The fields of the job that options set, each by values of one grammar.
+// The fields of a job that options set. Each field has values of one grammar.
 ghost use Rattle.std.specs.Prelude.{◌≡◌, option_map, IfOk};
 ghost use Rattle.pop_words.specs.Options.{value_of};
 ghost use Rattle.pop_words.specs.Settings.{sets};
@@ -8,22 +8,22 @@ use crate::value::{board_in, key_in, number_between, pair_in, reports_in, rows_i
 use pop_stacks::StackSpec;
 use std::alloc::{AllocError, Global};
 
-// The greatest height of keyed stacks, and so the greatest to which they grow.
+// The largest height of keyed stacks, and the largest height to which they can grow.
 const MAX_HEIGHT: u32 = (1 << 31) - 1;
 
-// How many samples a batch may have.
+// The largest number of samples of a batch.
 const MAX_COUNT: u32 = 65536;
 
-// After how many pops a run may stop.
+// The largest number of pops after which a run can be stopped.
 const MAX_POPS: u32 = u32::MAX;
 
-// How many workers there may be.
+// The largest number of threads that share a run.
 const MAX_WORKERS: u32 = 64;
 
-// How many rows, and columns, a grid may have.
+// The largest number of rows, and of columns, of a grid.
 const MAX_SIZE: u32 = 2048;
 
-/// What an option sets. `Stacks` and `Key` both set the job's stacks.
+/// The field that an option sets. `Stacks` and `Key` both set the job's stacks.
 #[derive(Clone, Copy, Debug, PartialEq, Eq)]
 pub enum Field {
     Stacks,
@@ -42,7 +42,8 @@ pub enum Field {
 }
 
 impl Field {
-    /// What a word sets as the value of the field; None where it is no value of it.
+    /// The setting that an argument makes as the value of this field, or None if it is not a value
+    /// of it.
     pub fn value(self, alloc: Global, word: &[u8]) -> Result<Option<Setting>, AllocError>
         ensures { IfOk result (λ read. option_map sets read ≡ value_of self word.now) }
     {

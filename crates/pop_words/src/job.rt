@@ -1,45 +1,46 @@
-// What the words ask for.
+// What the arguments specify.
 ghost use Rattle.std.specs.Prelude.{◌≡◌};
 
 use crate::setting::Setting;
 use crate::{BoardKind, Command, Reports};
 use pop_stacks::StackSpec;
 
-/// What the words ask for. What no option says holds its default.
+/// What the arguments specify. A field that no option sets has its default.
 #[derive(Drop)]
 pub struct Job {
     pub command: Command,
-    /// Where the entries of the stacks come from: the rows of `--stacks`, or the key of `--key`,
-    /// which is 32 bytes of 0 by default.
+    /// The source of the stack entries: the rows of `--stacks`, or the key of `--key`. The default
+    /// key is 32 bytes 0.
     pub stacks: StackSpec,
-    /// The number of entries of each keyed stack, from 1 to 2^31 - 1: that of `--height`, which is
-    /// 2^20 by default.
+    /// The number of entries of each keyed stack, from 1 to 2^31 - 1, set by `--height`. The
+    /// default is 2^20.
     pub height: u32,
-    /// The last height of keyed stacks that grow, from 1 to 2^31 - 1: that of `--grow`. They begin
-    /// with the lesser of the two heights. None by default: they don't grow.
+    /// The last height of keyed stacks that grow, from 1 to 2^31 - 1, set by `--grow`. They start
+    /// at the lower of the two heights. By default it is None, and they do not grow.
     pub grow: Option<u32>,
-    /// How many samples are drawn, from 1 to 65536: that of `--count`. None by default: one sample
-    /// is drawn, and it isn't told as a batch.
+    /// The number of samples, from 1 to 65536, set by `--count`. By default it is None: one sample
+    /// is drawn, and it is not printed as a batch.
     pub count: Option<u32>,
-    /// After how many pops a run stops, from 1 to 2^32 - 1: that of `--pops`. None by default: it
-    /// runs to its end.
+    /// The number of pops after which a run stops, from 1 to 2^32 - 1, set by `--pops`. By default
+    /// it is None, and the run continues to its end.
     pub pops: Option<u32>,
-    /// How many workers share the pops, from 1 to 64: that of `--workers`, which is 1 by default.
+    /// The number of threads that share the pops, from 1 to 64, set by `--workers`. The default is
+    /// 1.
     pub workers: u32,
-    /// The board on which the workers meet: that of `--board`, which is the claim words by default.
+    /// The synchronisation of these threads, set by `--board`. The default is the lock-free claim
+    /// words.
     pub board: BoardKind,
-    /// The vertex to which the arrows of a tree lead, from 1 to 2^32 - 1: that of `--root`, which
-    /// is 1 by default.
+    /// The root of the tree, a vertex from 1 to 2^32 - 1, set by `--root`. The default is 1.
     pub root: u32,
-    /// Whether the log of the pops is told: for `resample`, and where `--log on` stands.
+    /// Whether the log of the pops is printed: for `resample`, and if `--log on` is given.
     pub log: bool,
-    /// The pop whose witness tree is asked for, by the printed name of a variable and the entry
-    /// that the pop used, which counts from 0: those of `--witness`. None by default.
+    /// The pop of the witness tree to print, set by `--witness`: the printed name of a variable,
+    /// and the entry that the pop used, which counts from 0. None by default.
     pub witness: Option<(u32, u32)>,
-    /// The reports of the log that are asked for: those of `--report`. None by default.
+    /// The reports of the log to print, set by `--report`. None by default.
     pub reports: Reports,
-    /// The number of rows, and of columns, of the grid that is made, from 1 to 2048: that of
-    /// `grid`. 0 by default, for every command but `make`.
+    /// The number of rows, and of columns, of the grid that is made, from 1 to 2048, set by
+    /// `grid`. It is 0 for every command except `make`.
     pub size: u32,
 }
 
@@ -47,7 +48,7 @@ impl Job {
     ghost use Rattle.pop_words.specs.Options.{default_job};
     ghost use Rattle.pop_words.specs.Settings.{sets};
 
-    // The job of a command with no option.
+    // The job of a command without options.
     pub(crate) fn of(command: Command) -> Job
         ensures { result ≡ default_job command }
     {
@@ -68,7 +69,7 @@ impl Job {
         }
     }
 
-    // Sets what a value sets.
+    // Sets the field of this setting.
     pub(crate) fn set(&mut self, setting: Setting)
         ensures { self.new ≡ sets setting self.old }
     {

@@ -1,5 +1,6 @@
-//! Command words: the job that they ask for, or the place of the first bad word. Contracts see
-//! words as lists of bytes, and cite the grammar as a set of lists of words, each with its job.
+//! Command-line arguments: the job that they specify, or the place of the first invalid argument.
+//! Contracts see arguments as lists of bytes. They use the grammar as a set of lists of arguments,
+//! each with its job.
 #![tactic(auto)]
 
 mod board_kind;

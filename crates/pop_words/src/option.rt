@@ -1,4 +1,5 @@
-// The options: a table, a row each. A later option is a row, and the field that it sets.
+// The options, as a table with one row each. A new option is another row, and the field that it
+// sets.
 ghost use Rattle.std.specs.Prelude.{◌≡◌, map, option_map};
 ghost use Rattle.std.specs.List.{list_any};
 ghost use Rattle.pop_words.specs.Reading.{seen, option_named, same_name, allows, excludes, compatible, may_follow, option_next, stands_if_needed, is_complete};
@@ -6,18 +7,18 @@ ghost use Rattle.pop_words.specs.Reading.{seen, option_named, same_name, allows,
 use crate::Command;
 use crate::field::Field;
 
-/// What there is to say of an option.
+/// The properties of an option.
 #[derive(Clone, Copy)]
 pub struct OptionRow {
-    // As it is written.
+    // Its name on the command line.
     name: &'static str,
-    /// What its value sets, and so the grammar of the value.
+    /// The field that it sets, which determines the grammar of its value.
     pub field: Field,
     // The commands that allow it.
     commands: &'static [Command],
-    // The names of the options that it excludes, and that exclude it.
+    // The names of the options that conflict with it.
     excludes: &'static [&'static str],
-    // It must stand with each command that allows it.
+    // Whether every command that allows it requires it.
     needed: bool,
 }
 
@@ -31,8 +32,8 @@ const SAMPLING: &[Command] = &[
     Command::Rounds,
 ];
 
-// The commands that pop one event after another: all that sample but rounds. Their stacks may
-// grow, and what their log shows may be told.
+// The commands that pop one event after another: those that sample, except `rounds`. Their stacks
+// may grow, and reports of their log may be printed.
 const POPPING: &[Command] = &[
     Command::Formula,
     Command::Orient,
@@ -41,7 +42,8 @@ const POPPING: &[Command] = &[
     Command::Make,
 ];
 
-// The commands whose pops workers may share: these, and the one that goes on with their runs.
+// The commands with pops that several threads may share: those above, and `resume`, which
+// continues their runs.
 const SHARED: &[Command] = &[
     Command::Formula,
     Command::Orient,
@@ -51,7 +53,7 @@ const SHARED: &[Command] = &[
     Command::Resume,
 ];
 
-// The commands whose run may stop before its end.
+// The commands with runs that may be stopped before their end.
 const PAUSED: &[Command] = &[
     Command::Formula,
     Command::Orient,
@@ -59,10 +61,10 @@ const PAUSED: &[Command] = &[
     Command::Resample,
 ];
 
-// The commands whose answer may be a batch of samples.
+// The commands that may draw a batch of samples.
 const BATCHED: &[Command] = &[Command::Formula, Command::Orient, Command::Tree];
 
-// The commands that pop, and tell no log unasked.
+// The commands that pop and do not print a log by default.
 const QUIET: &[Command] = &[
     Command::Formula,
     Command::Orient,
@@ -73,8 +75,8 @@ const QUIET: &[Command] = &[
 // The options of keyed stacks.
 const KEYED: &[&str] = &["--key", "--height", "--grow"];
 
-// The options that no batch of samples has: given rows hold the entries of one sample, and what
-// is said of one run isn't said of many.
+// The options that conflict with a batch of samples. Given rows have the entries of only one
+// sample, and the others concern a single run.
 const UNBATCHED: &[&str] = &[
     "--stacks",
     "--workers",
@@ -85,7 +87,7 @@ const UNBATCHED: &[&str] = &[
     "--grow",
 ];
 
-// The options that no run has which may stop before its end: a certificate says nothing of them.
+// The options that conflict with `--pops`. A certificate does not record them.
 const UNPAUSED: &[&str] = &[
     "--count",
     "--workers",
@@ -198,42 +200,42 @@ impl OptionRow {
         self.commands.contains(&command)
     }
 
-    // Whether it excludes a name.
+    // Whether it conflicts with the option of this name.
     fn excludes(&self, name: &str) -> bool
         ensures { result ≡ excludes (seen self.now) name.now }
     {
         self.excludes.iter().any(|excluded| *excluded == name)
     }
 
-    // Whether the two may stand in one command line.
+    // Whether the two can be combined in one command line.
     fn is_compatible(&self, other: &OptionRow) -> bool
         ensures { result ≡ compatible (seen self.now) (seen other.now) }
     {
         self.name != other.name && !self.excludes(other.name) && !other.excludes(self.name)
     }
 
-    // Whether it may stand behind others.
+    // Whether it is allowed after these options.
     fn may_follow(&self, command: Command, before: &[OptionRow]) -> bool
         ensures { result ≡ may_follow command (map seen before.now) (seen self.now) }
     {
         self.allows(command) && before.iter().all(|other| other.is_compatible(self))
     }
 
-    // Whether it is among others.
+    // Whether it is among these options.
     fn is_among(&self, chosen: &[OptionRow]) -> bool
         ensures { result ≡ list_any (same_name (seen self.now)) (map seen chosen.now) }
     {
         chosen.iter().any(|other| self.name == other.name)
     }
 
-    // Whether it stands where it is needed.
+    // Whether it is given, if this command requires it.
     fn stands_if_needed(&self, command: Command, chosen: &[OptionRow]) -> bool
         ensures { result ≡ stands_if_needed command (map seen chosen.now) (seen self.now) }
     {
         !(self.allows(command) && self.needed) || self.is_among(chosen)
     }
 
-    // The option of a name.
+    // The option with this name.
     fn named(name: &str) -> Option<OptionRow>
         ensures { option_map seen result ≡ option_named name.now }
     {
@@ -241,14 +243,14 @@ impl OptionRow {
     }
 }
 
-/// The option that may stand next under a name.
+/// The option with this name, if it is allowed after these options.
 pub fn next_option(command: Command, before: &[OptionRow], name: &str) -> Option<OptionRow>
     ensures { option_map seen result ≡ option_next command (map seen before.now) name.now }
 {
     OptionRow::named(name).filter(|row| row.may_follow(command, before))
 }
 
-/// Whether no needed option is missing.
+/// Whether no required option is missing.
 pub fn are_complete(command: Command, chosen: &[OptionRow]) -> bool
     ensures { result ≡ is_complete command (map seen chosen.now) }
 {

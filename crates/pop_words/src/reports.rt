@@ -1,15 +1,15 @@
-// Which reports are asked for.
+// Which reports are requested.
 ghost use Rattle.std.specs.Prelude.{◌≡◌};
 
-/// Which reports are asked for. They are printed in the order totals, heights, layers, whatever
-/// the order of their names in the words.
+/// Which reports are requested. They are printed in the order totals, heights, layers, whatever
+/// the order of their names in the argument.
 #[derive(Clone, Copy, Debug, PartialEq, Eq)]
 pub struct Reports {
-    /// How many records and entries there are, and how many entries in the longest record.
+    /// The number of records, the number of entries, and the length of the longest record.
     pub totals: bool,
-    /// How many entries have so many binary digits, for each number of digits.
+    /// The number of entries with each number of binary digits.
     pub heights: bool,
-    /// How many layers the log has, and how many variables it names.
+    /// The number of layers of the log, and the number of variables that it names.
     pub layers: bool,
 }
 

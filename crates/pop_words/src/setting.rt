@@ -1,8 +1,8 @@
-// What the values of options set in the job.
+// What the values of options set in a job.
 use crate::{BoardKind, Reports};
 use pop_stacks::StackSpec;
 
-/// A value that was read, and what it sets.
+/// A value that was read, and the field that it sets.
 #[derive(Drop)]
 pub enum Setting {
     Stacks(StackSpec),

@@ -1,4 +1,4 @@
-// Values of options, read from their words.
+// Reads the values of options from arguments.
 ghost use Rattle.std.specs.Prelude.{◌≡◌, ◌&&◌, IfOk, Option, option_map, vec_items};
 ghost use Rattle.pop_words.specs.Values.{number_between as number_between_of, key_in as key_of, board_in as board_of, switch_in as switch_of, row_in as row_of, rows_in as rows_of, pair_in as pair_of, reports_in as reports_of, only_if, fits_in};
 
@@ -8,7 +8,7 @@ use pop_edge::number;
 use pop_stacks::Rows;
 use std::alloc::{AllocError, Global};
 
-// How many rows there may be, and how many numbers in all of them together.
+// The largest number of rows, and the largest number of entries in all rows together.
 const MAX_ROWS: usize = 1 << 22;
 
 const MAX_NUMBERS: usize = 1 << 20;
@@ -20,14 +20,14 @@ pub fn number_between(low: u32, high: u32, word: &[u8]) -> Option<u32>
     number(word).filter(|n| low <= *n && *n <= high)
 }
 
-/// The 32 bytes of 64 hexadecimal digits.
+/// The 32 bytes that 64 hexadecimal digits denote.
 pub fn key_in(word: &[u8]) -> Option<[u8; 32]>
     ensures { result ≡ key_of word.now }
 {
     <[u8; 32] as FromHex>::from_hex(word).ok()
 }
 
-/// A board by its name.
+/// The board with this name.
 pub fn board_in(word: &[u8]) -> Option<BoardKind>
     ensures { result ≡ board_of word.now }
 {
@@ -40,7 +40,7 @@ pub fn board_in(word: &[u8]) -> Option<BoardKind>
     }
 }
 
-/// Whether something is on, by the word `on` or `off`.
+/// Whether something is on: `on` is true, `off` is false.
 pub fn switch_in(word: &[u8]) -> Option<bool>
     ensures { result ≡ switch_of word.now }
 {
@@ -74,8 +74,8 @@ fn row_in(alloc: Global, word: &[u8], room: usize) -> Result<Option<Vec<u32>>, A
     Ok(Some(row))
 }
 
-/// Rows joined by `;`; an empty word has no row. Nothing is read behind the first part that can't
-/// stand, or that is one too many.
+/// Rows joined by `;`. An empty argument has no row. Reading stops at the first part that is
+/// invalid or exceeds a limit.
 pub fn rows_in(alloc: Global, word: &[u8]) -> Result<Option<Rows>, AllocError>
     ensures { IfOk result (λ rows. rows ≡ rows_of word.now) }
 {

@@ -5,7 +5,7 @@ use crate::values::read_each;
 use pop_instance::Events;
 use std::alloc::{AllocError, Global};
 
-/// Looks on the calling thread alone, at one after another.
+/// Reads and compares on the calling thread alone, one item after another.
 #[derive(Drop)]
 pub(crate) struct Alone;
 

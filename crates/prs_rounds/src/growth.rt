@@ -10,17 +10,17 @@ use crate::mark::Mark;
 use pop_instance::{Cube, Events, Index};
 use std::alloc::{AllocError, Global};
 
-/// The search for the resampling set: a set of events that grows, step by step. Events are told by
+/// The search for the resampling set: a set of events that grows step by step. Events are given by
 /// their places, which count from 0.
 #[derive(Drop)]
 pub(crate) struct Growth {
-    /// What has become of each event.
+    /// The mark of each event.
     pub marks: Vec<Mark>,
-    /// The events that aren't free, each once.
+    /// The events that are not free, each once.
     pub looked: Vec<u32>,
-    /// Those that joined in this step, whose variables aren't covered yet.
+    /// The events that joined in this step. Their variables are not covered yet.
     pub fresh: Vec<u32>,
-    /// For each variable whether an event of the set, but for the fresh ones, names it.
+    /// For each variable whether an event of the set names it. The fresh events do not count.
     pub covered: Vec<bool>,
     /// The variables that are covered, each once.
     pub variables: Vec<u32>,
@@ -41,7 +41,7 @@ impl Growth {
         self.covered[v as usize] && values[v as usize] != x
     }
 
-    // Whether a variable of the cube that is covered has another value than the cube demands.
+    // Whether the cube names a covered variable and demands another value of it than it has.
     fn meets_other(&self, values: &[u32], cube: &Cube) -> bool
         requires known { NamesBelow cube.now (length values.now) }
         requires covered { length self.now.covered.items ≡ length values.now }
@@ -56,7 +56,7 @@ impl Growth {
         false
     }
 
-    // Excludes an event.
+    // Marks an event as excluded.
     fn exclude(&mut self, u: u32) -> Result<(), AllocError>
         requires known { u < length self.old.marks.items }
         ensures { OnOk result (IsMarked u Excluded self.old self.new) }
@@ -66,7 +66,7 @@ impl Growth {
         Ok(())
     }
 
-    // Lets an event join.
+    // Adds an event to the set.
     fn join(&mut self, u: u32) -> Result<(), AllocError>
         requires known { u < length self.old.marks.items }
         ensures { OnOk result (IsMarked u Joined self.old self.new) }
@@ -77,7 +77,7 @@ impl Growth {
         Ok(())
     }
 
-    // Looks at an event of a covered variable, where it is free.
+    // Judges an event of a covered variable, if it is free: it joins the set or is excluded.
     fn judge(&mut self, events: &Events, values: &[u32], u: u32) -> Result<(), AllocError>
         requires known { u < length events.now }
         requires fits { All (λ r. NamesBelow r.1 (length values.now)) events.now }
@@ -99,7 +99,7 @@ impl Growth {
         }
     }
 
-    // Looks at the events of a row of the index.
+    // Judges the events of a row of the index.
     fn judge_row(&mut self, events: &Events, values: &[u32], row: &[u32]) -> Result<(), AllocError>
         requires known { All (λ u. u < length events.now) row.now }
         requires fits { All (λ r. NamesBelow r.1 (length values.now)) events.now }
@@ -115,8 +115,9 @@ impl Growth {
         Ok(())
     }
 
-    // One step: looks at the events of the variables from place `from` on. The variables of those
-    // that join aren't covered before the step ends, so that each is judged by the set as it stood.
+    // One step: judges the events of the variables from place `from` on. The variables of events
+    // that join are covered only after the step, so that each event is judged by the set before
+    // the step.
     fn judge_rows(
         &mut self,
         events: &Events,
@@ -140,7 +141,7 @@ impl Growth {
         Ok(())
     }
 
-    // Covers a variable, unless it is covered.
+    // Covers a variable, unless it is covered already.
     fn cover_variable(&mut self, v: u32) -> Result<(), AllocError>
         requires known { v < length self.old.covered.items }
         ensures { OnOk result (CoversOne v self.old self.new) }
@@ -168,7 +169,7 @@ impl Growth {
         Ok(())
     }
 
-    // Covers the variables of the fresh events, of which none is fresh then.
+    // Covers the variables of the fresh events. No event is fresh after that.
     fn cover_fresh(&mut self, events: &Events) -> Result<(), AllocError>
         requires fits { All (λ r. NamesBelow r.1 (length self.old.covered.items)) events.now }
         requires listed { AreListed (length events.now) (length self.old.covered.items) self.old }
@@ -184,7 +185,7 @@ impl Growth {
         Ok(())
     }
 
-    /// No event is marked yet.
+    /// A search in which no event is marked yet.
     pub(crate) fn blank(alloc: Global, events: u32, variables: u32) -> Result<Growth, AllocError>
         ensures { IfOk result (IsBlank events variables) }
     {
@@ -197,7 +198,7 @@ impl Growth {
         })
     }
 
-    // Lets the events of these places join, which are the first, and covers their variables.
+    // Adds the events of these places, which are the first of the set, and covers their variables.
     fn begin(&mut self, events: &Events, places: &[u32]) -> Result<(), AllocError>
         requires fits { All (λ r. NamesBelow r.1 (length self.old.covered.items)) events.now }
         requires known { All (λ u. u < length events.now) places.now }
@@ -213,7 +214,7 @@ impl Growth {
         self.cover_fresh(events)
     }
 
-    // Lets the events of these places join.
+    // Adds the events of these places to the set.
     fn join_all(&mut self, events: &Events, places: &[u32]) -> Result<(), AllocError>
         requires known { All (λ u. u < length events.now) places.now }
         requires blank { IsBlank (length events.now) (length self.old.covered.items) self.old }
@@ -231,9 +232,9 @@ impl Growth {
         Ok(())
     }
 
-    /// Finds the resampling set, from the events that occur, which have these places. The row of
-    /// each covered variable is gone through once, so the time is linear in the pairs of the events
-    /// that name a variable of the set.
+    /// Finds the resampling set. The search starts from the events that occur, which have these
+    /// places. The row of each covered variable is read once, so the time is linear in the pairs
+    /// of the events that name a variable of the set.
     pub(crate) fn grow(
         &mut self,
         events: &Events,
@@ -264,7 +265,7 @@ impl Growth {
         Ok(())
     }
 
-    /// Whether an event has joined.
+    /// Whether an event is in the set.
     pub(crate) fn has_joined(&self, u: u32) -> bool
         requires known { u < length self.now.marks.items }
         ensures { result ≡ is_joined (mark_of self.now u) }
@@ -275,7 +276,7 @@ impl Growth {
         }
     }
 
-    /// Forgets all marks and variables, in time linear in those that there are.
+    /// Clears all marks and variables, in time linear in their number.
     pub(crate) fn clear(&mut self)
         requires none { self.old.fresh.items ≡ [] }
         requires listed { AreListed (length self.old.marks.items) (length self.old.covered.items)
@@ -289,7 +290,7 @@ impl Growth {
     }
 }
 
-// Frees the events of these places, which are all that aren't free.
+// Frees the events of these places, which must be all that are not free.
 fn free_all(marks: &mut [Mark], places: &[u32])
     requires known { All (λ u. u < length marks.old) places.now }
     requires all { (u : ℕ) → slice_index_or marks.old u Free ≢ Free → Contains places.now u }
@@ -301,7 +302,7 @@ fn free_all(marks: &mut [Mark], places: &[u32])
     }
 }
 
-// Sets off the flags of these variables, which are all that are set.
+// Clears the flags of these variables, which must be all that are set.
 fn uncover_all(covered: &mut [bool], variables: &[u32])
     requires known { All (λ v. v < length covered.old) variables.now }
     requires all { (v : ℕ) → slice_index_or covered.old v false ≡ true → Contains variables.now v }

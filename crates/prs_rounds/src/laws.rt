@@ -1,28 +1,27 @@
-//! The laws of resampling sets and of rounds. The contract of each function is the law.
+//! Theorems about resampling sets and rounds. The contract of each function states one.
 ghost use Rattle.prs_rounds.specs.Laws.{GoesOn, OneRoundsEnd, ResampledClosed, ResampledOccur, RoundsEndLikeFirst, StopsOnTheWay};
 
-/// The resampling set has the events that occur. Each listed event that shares a variable with one
-/// of it is in it, or is excluded: it demands another value than the current one of a variable that
-/// it shares, so it doesn't occur.
+/// The resampling set contains the events that occur. A listed event that shares a variable with
+/// an event of the set is in the set or is excluded. An excluded event demands another value than
+/// the current one of a shared variable, so it does not occur.
 pub fn resampled_closed()
     ensures { ResampledClosed }
 {}
 
-/// The run by rounds has one result.
+/// A run by rounds has exactly one result.
 pub fn one_rounds_end()
     ensures { OneRoundsEnd }
 {}
 
-/// On an extremal instance the resampling set has just the events that occur. Rounds of listed
-/// events are exhausted exactly where the one-thread run is, and where they finish, their cursors
-/// are those of its end.
+/// On an extremal instance the resampling set is the set of events that occur. Rounds of listed
+/// events are exhausted exactly if the one-thread run is. If they finish, their cursors are those
+/// at its end.
 pub fn rounds_extremal()
     ensures set { ResampledOccur }
     ensures ends { RoundsEndLikeFirst }
 {}
 
-/// Runs by rounds that stop and go on from there have the end of the whole run, however often they
-/// stop.
+/// Runs by rounds that stop and continue reach the end of the whole run, however often they stop.
 pub fn goes_on()
     ensures stops { StopsOnTheWay }
     ensures ends { GoesOn }

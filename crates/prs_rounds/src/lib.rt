@@ -1,8 +1,8 @@
 //! Partial rejection sampling by synchronous rounds, for any listed events (Guo, Jerrum and Liu
-//! 2019): in each round every variable of the resampling set moves on by one entry.
+//! 2019). In each round every variable of the resampling set moves on by one entry.
 //!
-//! Contracts see sets of events by their units, and what is looked at in parallel as the list that
-//! one thread makes, so that no cutting of the work shows.
+//! Contracts see sets of events by their units. They see the result of parallel work as the list
+//! that one thread makes, so it does not depend on how the work is divided.
 #![tactic(auto)]
 
 mod alone;

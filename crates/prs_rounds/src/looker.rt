@@ -7,12 +7,12 @@ use crate::front::Front;
 use pop_instance::Events;
 use std::alloc::{AllocError, Global};
 
-/// What looks at many variables or events: threads, or the calling thread alone.
+/// Reads many variables and judges many events, on several threads or on the calling thread alone.
 pub(crate) trait Looker {
-    // What has to hold of its type, as that threads may share what it lends them.
+    // What must hold of the implementing type, for example that threads may share what it borrows.
     ghost can_look: { Type 0 };
 
-    /// Of these places, in their order, those whose events the values show.
+    /// Those of these places, in their order, where the event has its values.
     fn occurring(
         &self,
         alloc: Global,

@@ -15,8 +15,8 @@ use pop_stacks::Stacks;
 use std::alloc::{AllocError, Global};
 use std::thread::Threads;
 
-/// The rising places of the listed events that occur, which count from 0. Each event is looked at
-/// once, in parallel, and however the work is cut the list is that which one thread makes.
+/// The places of the listed events that occur, rising; they count from 0. Each event is judged
+/// once, in parallel. The list is the one that a single thread makes.
 pub fn violated<R: Threads + Sync>(
     rt: &R,
     alloc: Global,
@@ -37,7 +37,7 @@ pub fn violated<R: Threads + Sync>(
     }
 }
 
-// The same of these events.
+// The places of those of these events that occur, rising.
 fn violated_of<R: Threads + Sync>(
     rt: &R,
     alloc: Global,

@@ -1,10 +1,10 @@
-/// What has become of an event in the search for the resampling set.
+/// The state of an event in the search for the resampling set.
 #[derive(Clone, Copy, PartialEq, Eq)]
 pub(crate) enum Mark {
-    /// It wasn't looked at yet.
+    /// It was not judged yet.
     Free,
     /// It is in the set.
     Joined,
-    /// It was looked at and is not in the set.
+    /// It was judged and is not in the set.
     Excluded,
 }

@@ -23,7 +23,7 @@ fn is_last(stacks: &Stacks, cursors: &Cursors, v: u32) -> bool
     cursors.get(v) + 1 >= height
 }
 
-// The lesser of a variable and another, where there is one.
+// The lower of two variables, or v if there is only one.
 fn lesser(least: Option<u32>, v: u32) -> u32
     ensures { MatchOption least (result ≡ v) (λ w. result ≡ min w v) }
 {
@@ -33,7 +33,7 @@ fn lesser(least: Option<u32>, v: u32) -> u32
     }
 }
 
-/// The least of these variables that is at its last entry.
+/// The lowest of these variables that is at its last entry.
 pub(crate) fn least_short(stacks: &Stacks, cursors: &Cursors, variables: &[u32]) -> Option<u32>
     requires known { All (λ v. v < length cursors.now) variables.now }
     requires count { variables_of stacks.now ≡ length cursors.now }
@@ -61,7 +61,7 @@ pub(crate) fn move_on(cursors: &mut Cursors, variables: &[u32])
     }
 }
 
-// Puts the values that were read in the places of their variables.
+// Stores the values that were read at the places of their variables.
 fn put(values: &mut Vec<u32>, variables: &[u32], read: &[u32])
     requires known { All (λ v. v < length values.old.items) variables.now }
     requires differ { AllPairs (λ v w. v ≢ w) variables.now }
@@ -73,7 +73,7 @@ fn put(values: &mut Vec<u32>, variables: &[u32], read: &[u32])
     }
 }
 
-/// Reads the values of these variables anew, whose cursors have moved on.
+/// Reads the values of these variables again, after their cursors have moved on.
 pub(crate) fn refresh<L: Looker>(
     looker: &L,
     alloc: Global,

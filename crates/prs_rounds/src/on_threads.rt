@@ -6,7 +6,7 @@ use pop_instance::Events;
 use std::alloc::{AllocError, Global};
 use std::thread::Threads;
 
-/// Looks on threads, where there is much to look at.
+/// Reads and judges on several threads, if there are many items.
 #[derive(Drop)]
 pub(crate) struct OnThreads<'a, R> {
     pub rt: &'a R,

@@ -19,10 +19,9 @@ use rayon::prelude::*;
 use std::alloc::{AllocError, Global};
 use std::thread::Threads;
 
-/// The rising places of the listed events of the resampling set, which count from 0 (Guo, Jerrum
-/// and Liu 2019). The index is that of these events. Each event is looked at once, in parallel;
-/// from those that occur on, the time is linear in the pairs of the events that name a variable of
-/// the set.
+/// The places of the listed events of the resampling set, rising; they count from 0 (Guo, Jerrum
+/// and Liu 2019). The index must be that of these events. Each event is judged once, in parallel.
+/// After that the time is linear in the pairs of the events that name a variable of the set.
 pub fn resampling_set<R: Threads + Sync>(
     rt: &R,
     alloc: Global,
@@ -43,7 +42,7 @@ pub fn resampling_set<R: Threads + Sync>(
     }
 }
 
-// The same of these events.
+// The places of the events of the resampling set, for this list of events.
 fn set_of<R: Threads + Sync>(
     rt: &R,
     alloc: Global,
@@ -67,7 +66,7 @@ fn set_of<R: Threads + Sync>(
     Ok(Units::of(joined(rt, alloc, &growth, &places)?))
 }
 
-// Of these places, in their order, those whose events have joined.
+// Those of these places, in their order, where the event is in the set.
 fn joined<R: Threads + Sync>(
     rt: &R,
     alloc: Global,

@@ -21,12 +21,12 @@ use pop_stacks::Stacks;
 use std::alloc::{AllocError, Global};
 use std::thread::Threads;
 
-/// The run by rounds (Guo, Jerrum and Liu 2019): from zeros, while some event occurs, each variable
-/// of the resampling set moves on to its next entry; where one has none, the run ends exhausted.
-/// The index is that of the instance's listed events.
+/// The run by rounds (Guo, Jerrum and Liu 2019). All cursors start at 0. While some event occurs,
+/// each variable of the resampling set moves on to its next entry. If one of them has no next
+/// entry, the run ends as exhausted. The index must be that of the instance's listed events.
 ///
-/// After the first look only events are looked at that name a variable of the last set. So the time
-/// is linear in the instance and, round by round, in the pairs of the events that share a variable
+/// After the first round only events that name a variable of the last set are judged. So the time
+/// is linear in the instance, plus for each round the pairs of the events that share a variable
 /// with a resampled one.
 pub fn run_rounds<R: Threads + Sync>(
     rt: &R,
@@ -47,8 +47,8 @@ pub fn run_rounds<R: Threads + Sync>(
     rounds_by(&OnThreads { rt }, alloc, instance, index)
 }
 
-/// The run of `run_rounds` on the calling thread, which starts no other: variables and events are
-/// looked at one after another, in time linear in the same.
+/// The run of `run_rounds` on the calling thread alone. It starts no thread and takes as much time
+/// as `run_rounds` on one thread.
 pub fn run_rounds_alone(
     alloc: Global,
     instance: &Instance,
@@ -67,7 +67,7 @@ pub fn run_rounds_alone(
     rounds_by(&Alone, alloc, instance, index)
 }
 
-// The run of an instance's listed events, looked at by either.
+// The run of an instance's listed events, on several threads or one.
 fn rounds_by<L: Looker>(
     looker: &L,
     alloc: Global,
@@ -131,7 +131,7 @@ fn stuck_at<L: Looker>(
     copies(alloc, events, &seen.found)
 }
 
-// Where a run is at these cursors, with the events that occur there.
+// The end of a run that stopped at these cursors, with the events that occur there.
 fn stopped_at<L: Looker>(
     looker: &L,
     alloc: Global,
@@ -162,7 +162,7 @@ fn stopped_at<L: Looker>(
     })
 }
 
-/// The run of listed events from these cursors, to its end or to so many rounds.
+/// The run of listed events from these cursors, to its end or for at most this many rounds.
 pub(crate) fn rounds_of<L: Looker>(
     looker: &L,
     alloc: Global,

@@ -12,8 +12,8 @@ use pop_instance::{Cursors, Family, Index, Instance};
 use std::alloc::{AllocError, Global};
 use std::marker::Model;
 
-/// The samples of listed events under a key, by rounds, which share the index of the events.
-/// Several threads may share them. Contracts see the instance.
+/// The samples of listed events under a key, by rounds. They share the index of the events, and
+/// several threads may share them. Contracts see the instance.
 #[derive(Drop)]
 pub struct RoundSamples<'i> {
     instance: &'i Instance,
@@ -46,8 +46,9 @@ impl<'i> RoundSamples<'i> {
         RoundSamples { instance, index }
     }
 
-    /// The run of sample j from these cursors, on the calling thread, to its end or to so many
-    /// rounds. A run that stopped has events that occur and no short variable.
+    /// The run of sample j from these cursors on the calling thread, to its end or for at most
+    /// this many rounds. A run that stopped before its end has events that occur and no short
+    /// variable.
     pub fn run_from(
         &self,
         alloc: Global,
@@ -69,7 +70,7 @@ impl<'i> RoundSamples<'i> {
         }
     }
 
-    /// The end of sample j.
+    /// The end of the run of sample j.
     pub fn run(&self, alloc: Global, j: u32) -> Result<RoundEnd, AllocError>
         ensures { IfOk result (LeavesEnd (instance_for j self.now)) }
     {

@@ -8,7 +8,7 @@ use rayon::prelude::*;
 use std::alloc::{AllocError, Global};
 use std::thread::Threads;
 
-/// Whether each variable of the cube has the value that it demands.
+/// Whether each variable of the cube has the value that the cube demands.
 pub(crate) fn is_shown(values: &[u32], cube: &Cube) -> bool
     requires known { NamesBelow cube.now (length values.now) }
     ensures { result ≡ shows values.now cube.now }
@@ -22,8 +22,8 @@ pub(crate) fn is_shown(values: &[u32], cube: &Cube) -> bool
     true
 }
 
-/// Of these places, in their order, those whose events the values show. They are looked at in
-/// parallel, where there are many.
+/// Those of these places, in their order, where the event has its values. They are judged in
+/// parallel if there are many.
 pub(crate) fn occurring<R: Threads + Sync>(
     rt: &R,
     alloc: Global,

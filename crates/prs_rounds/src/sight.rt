@@ -15,12 +15,12 @@ use pop_instance::{Cursors, Events};
 use pop_stacks::Stacks;
 use std::alloc::{AllocError, Global};
 
-/// What is seen at cursors.
+/// The values and the events that occur at cursors.
 #[derive(Drop)]
 pub(crate) struct Sight {
     /// The current value of each variable.
     pub values: Vec<u32>,
-    /// The rising places of the events that occur.
+    /// The places of the events that occur, rising.
     pub found: Vec<u32>,
 }
 
@@ -42,7 +42,7 @@ fn all_values<L: Looker>(
     Ok(values)
 }
 
-// The rising places of the events that the values show.
+// The places of the events that occur with these values, rising.
 fn all_shown<L: Looker>(
     looker: &L,
     alloc: Global,
@@ -59,8 +59,8 @@ fn all_shown<L: Looker>(
     Ok(found)
 }
 
-/// The current values, and the rising places of the events that occur. Each variable and each event
-/// is looked at once.
+/// The current values, and the places of the events that occur, rising. Each variable is read
+/// once, and each event is judged once.
 pub(crate) fn see_all<L: Looker>(
     looker: &L,
     alloc: Global,

@@ -13,7 +13,7 @@ use pop_instance::{Cursors, Events, Index};
 use pop_stacks::Stacks;
 use std::alloc::{AllocError, Global};
 
-/// Where a run by rounds stands between two rounds.
+/// The state of a run by rounds between two rounds.
 #[derive(Drop)]
 pub(crate) struct State {
     pub cursors: Cursors,
@@ -21,11 +21,11 @@ pub(crate) struct State {
     pub values: Vec<u32>,
     /// The places of the events that occur, in any order.
     pub found: Vec<u32>,
-    /// The search for the resampling set, in which no event is marked yet.
+    /// The search for the resampling set. No event is marked in it yet.
     pub growth: Growth,
 }
 
-/// The state at these cursors. Each variable and each event is looked at.
+/// The state at these cursors. Each variable is read and each event is judged.
 pub(crate) fn start<L: Looker>(
     looker: &L,
     alloc: Global,
@@ -50,9 +50,9 @@ pub(crate) fn start<L: Looker>(
     })
 }
 
-/// Makes a round, where each variable of the resampling set has a next entry; else names the least
-/// that has none, and the cursors stay. Only events that name a variable of the set are looked at:
-/// no other can have begun or ceased to occur.
+/// Makes a round if each variable of the resampling set has a next entry. Otherwise it returns the
+/// lowest variable that has none, and the cursors stay. Only events that name a variable of the
+/// set are judged: no other event can have begun or ceased to occur.
 pub(crate) fn turn<L: Looker>(
     looker: &L,
     alloc: Global,

@@ -9,11 +9,11 @@ use rayon::prelude::*;
 use std::alloc::{AllocError, Global};
 use std::thread::Threads;
 
-// How many variables one thread reads at a time, with a reader of its own. Where there are no more,
-// no thread is started, since that would cost more than it saves.
+// The number of variables that one thread reads at a time, with a reader of its own. If there are
+// no more variables, no thread is started, since that would cost more than it saves.
 const PIECE: usize = 512;
 
-/// The values of the variables from place `start` on, as many as there is room for.
+/// The values of the variables from place `start` on, as many as `values` has room for.
 pub(crate) fn read_piece(at: Front, variables: &[u32], start: usize, values: &mut [u32])
     requires count { variables_of at.stacks.now ≡ length at.cursors.now }
     requires within { AreWithin at.stacks.now at.cursors.now }
@@ -42,7 +42,7 @@ pub(crate) fn read_each(alloc: Global, at: Front, variables: &[u32]) -> Result<V
     Ok(values)
 }
 
-/// The values of these variables at a front, read in parallel where there are many.
+/// The values of these variables at a front, read in parallel if there are many.
 pub(crate) fn read<R: Threads + Sync>(
     rt: &R,
     alloc: Global,
