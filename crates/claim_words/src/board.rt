@@ -14,8 +14,9 @@ use confluence_core::Keep;
 use pop_instance::{Cursors, Family, Instance};
 use std::alloc::{AllocError, Global};
 
-/// Words that passes claim: the number of tickets, the cursor of each variable of an instance, and
-/// for a listed family a mark for each unit. Threads share it by `&`.
+/// A board: machine words that passes claim. They are the number of tickets, the cursor of each
+/// variable of an instance and, for a listed family, a mark for each unit. Threads share a board
+/// by `&`.
 #[derive(Drop)]
 pub struct Board<'i> {
     pub(crate) instance: &'i Instance,
@@ -43,9 +44,9 @@ impl<'i> Board<'i> {
       opening_of,
     };
 
-    /// The board whose words have these cursors, which are below the heights, and its first pass,
-    /// which is idle and has all 64 shares. For a listed family all units are marked, which is what
-    /// the view of a pass that is the only one, and has changed no mark, says.
+    /// The board with these cursors, which must be below the heights, and its first pass. The pass
+    /// is idle and has all 64 shares. For a listed family all units are marked. The view of a pass
+    /// says so if it is the only one and has changed no mark.
     pub fn start(
         alloc: Global,
         instance: &'i Instance,
@@ -87,8 +88,8 @@ impl<'i> Board<'i> {
         Ok((board, pass))
     }
 
-    /// Room for `k` claims and, where a log is kept, for `k` pairs of records, which then take no
-    /// memory. A refusal leaves the room as it was.
+    /// Makes sure that the pass has room for `k` claims and, if it keeps a log, for `k` pairs of
+    /// records. These then allocate nothing. If memory runs out, the room stays as it was.
     pub fn reserve(&self, pass: &mut Pass, k: u32) -> Result<(), AllocError>
         requires pass { IsOf self.now pass.old }
         ensures pass { IsOf self.now pass.new }
@@ -109,7 +110,7 @@ impl<'i> Board<'i> {
     }
 }
 
-// The words of a board at its start: no ticket, these cursors, and marks that are set.
+// The words of a board at its start: no ticket, these cursors, and all marks set.
 fn opening_words(
     alloc: Global,
     from: &Cursors,
@@ -130,7 +131,7 @@ fn opening_words(
     Ok(words)
 }
 
-// How many units have a mark.
+// The number of units that have a mark.
 pub(crate) fn marks_in(instance: &Instance) -> u32
     ensures marks { result ≡ marks_in instance.now.family }
     ensures short { result < 2 ^ 31 }

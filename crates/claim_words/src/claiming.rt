@@ -1,4 +1,4 @@
-//! Claims, releases and settles of variables.
+//! Steps that claim, release and settle variables.
 ghost use Rattle.std.specs.Prelude.{◌≡◌, ◌+◌, ◌<◌, ◌≤◌, false};
 ghost use Rattle.claim_words.specs.Openings.{is_listed};
 ghost use Rattle.claim_words.specs.Steps.{released_by, settled_by};
@@ -22,9 +22,9 @@ impl<'i> Board<'i> {
     };
     ghost use Rattle.claim_words.specs.Answers.{Claims, Spends};
 
-    /// Claims a variable, in one atomic step; it takes no memory. Variables count from 0. The pass
-    /// must have room for a claim (`reserve`). A variable that the pass holds already is `Busy`
-    /// too.
+    /// Claims a variable in one atomic step. It allocates nothing. Variables count from 0. The
+    /// pass must have room for a claim (`reserve`). If the pass holds the variable already, the
+    /// result is `Busy` too.
     pub fn try_claim(&self, pass: &mut Pass, v: u32) -> Claim
         requires pass { IsOf self.now pass.old }
         requires known { v < count_of self.now }
@@ -46,7 +46,7 @@ impl<'i> Board<'i> {
         Claim::Mine(cursor_of(found))
     }
 
-    /// Gives a variable back that the pass holds, in one atomic step; it takes no memory.
+    /// Releases a variable that the pass holds, in one atomic step. It allocates nothing.
     pub fn release(&self, pass: &mut Pass, v: u32)
         requires pass { IsOf self.now pass.old }
         requires held { Holds pass.old v }
@@ -59,9 +59,9 @@ impl<'i> Board<'i> {
         let_go(&mut pass.held, v);
     }
 
-    /// Settles a variable of a cycle family that the pass holds, in one atomic step; it takes no
-    /// memory. The variable must be at its last entry, or its arrow must lead to the root or to a
-    /// variable that the pass knows to be settled. No pass claims it again.
+    /// Settles a variable of a cycle family that the pass holds, in one atomic step. It allocates
+    /// nothing. The variable must be at its last entry, or its arrow must lead to the root or to a
+    /// variable that the pass knows to be settled. No pass can claim it again.
     pub fn settle(&self, pass: &mut Pass, v: u32)
         requires pass { IsOf self.now pass.old }
         requires held { Holds pass.old v }

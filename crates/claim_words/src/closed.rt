@@ -1,16 +1,16 @@
 use confluence_core::{Tickets, Units};
 use pop_instance::Cursors;
 
-/// What a board leaves.
+/// The final state of a board.
 #[derive(Drop)]
 pub struct Closed {
-    /// The cursors, to which the log leads from the board's start.
+    /// The cursors. The log leads to them from the board's start.
     pub cursors: Cursors,
-    /// How many events were popped.
+    /// The number of pops.
     pub pops: u64,
-    /// The tickets from 0 up to below `pops`, in any order, where a log is kept.
+    /// The tickets from 0 up to, but without, `pops`, in any order, if a log is kept.
     pub log: Option<Tickets>,
-    /// Where events may still be poppable: just the marked units of a listed family; just the
-    /// variables of a cycle family that are not settled. They rise.
+    /// The units at which events may still be poppable, rising. They are exactly the marked units
+    /// of a listed family, or the variables of a cycle family that are not settled.
     pub suspects: Units,
 }

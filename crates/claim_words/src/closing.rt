@@ -1,4 +1,4 @@
-//! The close of a board by its sole pass.
+//! Closes a board by its only pass.
 ghost use Rattle.std.specs.Prelude.{if◌then◌else◌, ◌≡◌, ℕ, ◌+◌, ◌++◌, ◌∷◌, [], ◌<◌, ◌≤◌, length, IfOk, IfErr, slice_index, vec_len, vec_capacity};
 ghost use Rattle.std.specs.Slots.{IsFull, slots_items, slots_len};
 ghost use Rattle.pop_model.specs.Popping.{cursor};
@@ -26,9 +26,10 @@ impl<'i> Board<'i> {
       kept_tickets,
     };
 
-    /// Ends a board: its cursors, the number of pops, the tickets where a log is kept, and where
-    /// events may still be poppable, which the pass's view tells exactly. The pass must be idle and
-    /// have all shares. Where memory is wanting, both come back as they were.
+    /// Closes a board and returns its final state: the cursors, the number of pops, the tickets if
+    /// a log is kept, and the units at which events may still be poppable. The view of the pass
+    /// determines these units exactly. The pass must be idle and have all shares. If memory runs
+    /// out, board and pass are returned unchanged.
     pub fn close(self, pass: Pass) -> Result<Closed, (Board<'i>, Pass, AllocError)>
         requires pass { IsOf self pass }
         requires sole { IsSole pass }
@@ -83,7 +84,7 @@ impl<'i> Board<'i> {
     }
 }
 
-// What is filled once a board is closed.
+// The lists that are filled after a board is closed.
 #[derive(Drop)]
 struct Room {
     cursors: Vec<u32>,
@@ -92,7 +93,7 @@ struct Room {
     log: Option<Tickets>,
 }
 
-// Room for the cursors and suspects of so many words, and the tickets.
+// Room for the cursors and suspects of this many words, and the tickets.
 fn room_for(
     alloc: Global,
     count: u32,
@@ -114,7 +115,7 @@ fn room_for(
     })
 }
 
-// The cursors of so many variables.
+// The cursors of the first `count` variables.
 fn cursors_of(words: &Words<(), Global>, count: u32, mut cursors: Vec<u32>) -> Cursors
     requires words { IsFull words.now.words × (1 + count ≤ slots_len words.now.words) }
     requires room { (length cursors.items ≡ 0) × (count ≤ vec_capacity cursors) }
@@ -129,7 +130,7 @@ fn cursors_of(words: &Words<(), Global>, count: u32, mut cursors: Vec<u32>) -> C
     Cursors::of(cursors)
 }
 
-// Those of so many variables that are not settled.
+// Those of the first `count` variables that are not settled.
 fn unsettled(words: &Words<(), Global>, count: u32, mut unset: Vec<u32>) -> Vec<u32>
     requires words { IsFull words.now.words × (1 + count ≤ slots_len words.now.words) }
     requires room { (length unset.items ≡ 0) × (count ≤ vec_capacity unset) }
@@ -142,7 +143,7 @@ fn unsettled(words: &Words<(), Global>, count: u32, mut unset: Vec<u32>) -> Vec<
     unset
 }
 
-// Those of so many units that are marked.
+// Those of the first `marks` units that are marked.
 fn set_marks(words: &Words<(), Global>, count: u32, marks: u32, mut marked: Vec<u32>) -> Vec<u32>
     requires words { IsFull words.now.words × (1 + count + marks ≤ slots_len words.now.words) }
     requires room { (length marked.items ≡ 0) × (marks ≤ vec_capacity marked) }
@@ -155,7 +156,7 @@ fn set_marks(words: &Words<(), Global>, count: u32, marks: u32, mut marked: Vec<
     marked
 }
 
-// Notes a number that passes.
+// Adds a number to a list if it passes.
 fn note(list: &mut Vec<u32>, passes: bool, n: u32)
     requires { vec_len list.old < vec_capacity list.old }
     ensures items { list.new.items
@@ -168,7 +169,7 @@ fn note(list: &mut Vec<u32>, passes: bool, n: u32)
     }
 }
 
-// The marked units of a listed family, or else the variables that are not settled.
+// The marked units of a listed family, or the variables of a cycle family that are not settled.
 fn suspects_from(listed: bool, marked: Vec<u32>, unset: Vec<u32>) -> Units
     ensures { result ≡ (if listed then marked.items else unset.items) }
 {

@@ -1,8 +1,7 @@
 ghost use Rattle.std.specs.Prelude.{◌≡◌, ◌+◌, vec_len, vec_capacity};
 ghost use Rattle.claim_words.specs.Maps.{times_in, taken_out};
 
-// Takes a variable out of those that are held. It is looked for from the end, where the last claims
-// stand.
+// Removes a variable from those that are held. The search starts at the end, with the last claims.
 pub(crate) fn let_go(held: &mut Vec<u32>, v: u32)
     requires there { times_in v held.old.items ≡ 1 }
     ensures items { held.new.items ≡ taken_out v held.old.items }

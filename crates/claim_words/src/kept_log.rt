@@ -7,14 +7,15 @@ use pop_instance::Cube;
 use std::alloc::{AllocError, Global};
 use std::marker::Model;
 
-/// The tickets of a pass where a log is kept, in two arrays with room for so many pairs more.
+/// The tickets of a pass that keeps a log. They are stored in two arrays that have room for
+/// `spare` more pairs.
 #[derive(Drop)]
 pub(crate) struct KeptLog {
     // Ticket, unit and number of pairs of each record.
     heads: Vec<(u64, u32, u32)>,
     // Variable, value and entry of each pair, record after record.
     uses: Vec<(u32, u32, u32)>,
-    // There is room for so many pairs more, and as many records.
+    // There is room for this many more pairs, and as many records.
     spare: usize,
 }
 
@@ -35,7 +36,7 @@ impl Model for KeptLog {
 }
 
 impl KeptLog {
-    // No ticket. It takes no memory.
+    // A log with no tickets. It allocates nothing.
     pub(crate) fn new(alloc: Global) -> KeptLog
         ensures { result ≡ record { tickets = []; loose = []; spare = 0 } }
     {
@@ -46,7 +47,7 @@ impl KeptLog {
         }
     }
 
-    // Room for so many pairs more, and as many records.
+    // Makes sure that there is room for this many more pairs, and as many records.
     pub(crate) fn reserve(&mut self, k: usize) -> Result<(), AllocError>
         requires { length self.old.loose ≡ 0 }
         ensures tickets { self.new.tickets ≡ self.old.tickets }
@@ -63,14 +64,14 @@ impl KeptLog {
         Ok(())
     }
 
-    // Room for how many pairs.
+    // The number of pairs that there is room for.
     pub(crate) fn spare(&self) -> usize
         ensures { result ≡ self.now.spare }
     {
         self.spare
     }
 
-    // Room for fewer pairs.
+    // Lowers the promised room to this number of pairs.
     pub(crate) fn lower(&mut self, spare: usize)
         requires { spare ≤ self.old.spare }
         ensures { self.new ≡ record self.old { spare = spare } }
@@ -78,7 +79,7 @@ impl KeptLog {
         self.spare = spare;
     }
 
-    // A pair of the next record.
+    // Adds a pair of the next record.
     pub(crate) fn add(&mut self, variable: u32, value: u32, entry: u32)
         requires { 1 ≤ self.old.spare }
         ensures tickets { self.new.tickets ≡ self.old.tickets }
@@ -89,7 +90,7 @@ impl KeptLog {
         self.spare -= 1;
     }
 
-    // The pairs are those of a record: it gets a ticket.
+    // Makes a record of the pairs added last, with this ticket.
     pub(crate) fn seal(&mut self, ticket: u64, unit: u32, pairs: u32)
         requires cube { IsCube (pairs_in self.old.loose) }
         requires pairs { pairs ≡ length self.old.loose }
@@ -102,7 +103,7 @@ impl KeptLog {
         self.heads.push_reserved((ticket, unit, pairs));
     }
 
-    // Takes in the tickets of another log, or gives it back.
+    // Takes over the tickets of another log. If memory runs out, the other log is returned.
     pub(crate) fn append(&mut self, other: KeptLog) -> Result<(), (KeptLog, AllocError)>
         requires { (length self.old.loose ≡ 0) × (length other.loose ≡ 0) }
         ensures tickets { OnOk result (self.new.tickets ≡ self.old.tickets ++ other.tickets) }
@@ -128,7 +129,7 @@ impl KeptLog {
         Ok(())
     }
 
-    // The tickets as records of their own.
+    // The tickets, with a copy of each record.
     pub(crate) fn tickets(&self, alloc: Global) -> Result<Tickets, AllocError>
         ensures { IfOk result (λ tickets. tickets ≡ self.now.tickets) }
     {
@@ -140,7 +141,7 @@ impl KeptLog {
         Ok(tickets)
     }
 
-    // Puts them into an empty list.
+    // Adds the tickets to an empty list.
     fn put_tickets(&self, tickets: &mut Tickets, alloc: Global) -> Result<(), AllocError>
         requires { tickets.old ≡ [] }
         ensures { IfOk result (λ _. tickets.new ≡ self.now.tickets) }
@@ -174,7 +175,7 @@ fn made_record(alloc: Global, unit: u32, uses: &[(u32, u32, u32)]) -> Result<Rec
     }
 }
 
-// The cube of their pairs.
+// The cube of these uses.
 fn cube_of(alloc: Global, uses: &[(u32, u32, u32)]) -> Result<Cube, AllocError>
     requires cube { IsCube (pairs_in uses.now) }
     requires short { length uses.now < 2 ^ 31 }
@@ -187,21 +188,21 @@ fn cube_of(alloc: Global, uses: &[(u32, u32, u32)]) -> Result<Cube, AllocError>
     Ok(cube)
 }
 
-// Their pairs of variable and value.
+// The pairs of variable and value of these uses.
 fn pairs_of(alloc: Global, uses: &[(u32, u32, u32)]) -> Result<Vec<(u32, u32)>, AllocError>
     ensures { IfOk result (λ pairs. pairs.items ≡ pairs_in uses.now) }
 {
     uses.iter().map(|u| (u.0, u.1)).collect(alloc)
 }
 
-// Their entries.
+// The entries of these uses.
 fn entries_of(alloc: Global, uses: &[(u32, u32, u32)]) -> Result<Vec<u32>, AllocError>
     ensures { IfOk result (λ entries. entries.items ≡ entries_in uses.now) }
 {
     uses.iter().map(|u| u.2).collect(alloc)
 }
 
-// Moves all members to the end of a list that has room for them.
+// Moves all items to the end of a list that has room for them.
 fn move_all<T>(to: &mut Vec<T>, from: &mut Vec<T>)
     requires { vec_len to.old + vec_len from.old ≤ vec_capacity to.old }
     ensures items { to.new.items ≡ to.old.items ++ from.old.items }

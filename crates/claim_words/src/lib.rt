@@ -1,8 +1,8 @@
-//! A board of lock-free words, on which passes claim variables and pop events, in callers' own
-//! threads. No call waits.
+//! A board of lock-free words. Passes claim variables on it and pop events, in the threads of the
+//! callers. No call waits.
 //!
-//! Contracts see in a board its instance and its start, and in a pass the parts of its view. The
-//! rule that holds between any two steps of any passes stands in `specs/Machine.antt`.
+//! Contracts see a board as its instance and its start, and a pass as the parts of its view. The
+//! rule that holds between any two steps of any passes is in `specs/Machine.antt`.
 #![tactic(auto)]
 
 mod board;

@@ -1,4 +1,4 @@
-//! What is done with a log, where one is kept.
+//! Operations on the log of a pass, which do nothing if no log is kept.
 ghost use Rattle.std.specs.Prelude.{◌≡◌, ◌≤◌, ◌∷◌, [], length, false, is_some, IfOk, IfSome, IsOk, OnErr, MatchResult};
 ghost use Rattle.confluence_core.specs.Kept.{keeps_log};
 ghost use Rattle.claim_words.specs.KeptLogs.{HasTickets, HasRoom, SameTickets, spare_in, Adds, Seals, IsSealable, Unites, IsTold};
@@ -7,7 +7,7 @@ use crate::kept_log::KeptLog;
 use confluence_core::{Keep, Tickets};
 use std::alloc::{AllocError, Global};
 
-// A log with no ticket, where one is kept.
+// A log with no tickets, if a log is kept.
 pub(crate) fn first_log(alloc: Global, keep: Keep) -> Option<KeptLog>
     ensures tickets { HasTickets result [] }
     ensures kept { is_some result ≡ keeps_log keep }
@@ -19,7 +19,7 @@ pub(crate) fn first_log(alloc: Global, keep: Keep) -> Option<KeptLog>
     }
 }
 
-// Room for how many pairs.
+// The number of pairs that there is room for.
 pub(crate) fn spare_of(log: &Option<KeptLog>) -> usize
     ensures { result ≡ spare_in log.now }
 {
@@ -29,7 +29,7 @@ pub(crate) fn spare_of(log: &Option<KeptLog>) -> usize
     }
 }
 
-// Room for so many pairs.
+// Makes sure that there is room for this many pairs.
 pub(crate) fn grow(log: &mut Option<KeptLog>, k: usize) -> Result<(), AllocError>
     requires { IfSome log.old (λ l. length l.loose ≡ 0) }
     ensures same { SameTickets log.old log.new }
@@ -43,7 +43,7 @@ pub(crate) fn grow(log: &mut Option<KeptLog>, k: usize) -> Result<(), AllocError
     }
 }
 
-// Room for fewer pairs.
+// Lowers the promised room to this number of pairs.
 pub(crate) fn lower(log: &mut Option<KeptLog>, spare: usize)
     requires { spare ≤ spare_in log.old }
     ensures same { SameTickets log.old log.new }
@@ -54,7 +54,7 @@ pub(crate) fn lower(log: &mut Option<KeptLog>, spare: usize)
     }
 }
 
-// A pair of the next record.
+// Adds a pair of the next record.
 pub(crate) fn add_use(log: &mut Option<KeptLog>, variable: u32, value: u32, entry: u32)
     requires { HasRoom log.old 1 }
     ensures { Adds log.old log.new ((variable, value, entry) ∷ []) }
@@ -64,7 +64,7 @@ pub(crate) fn add_use(log: &mut Option<KeptLog>, variable: u32, value: u32, entr
     }
 }
 
-// A ticket for the pairs.
+// Makes a record of the pairs added last, with this ticket.
 pub(crate) fn seal(log: &mut Option<KeptLog>, ticket: u64, unit: u32, pairs: u32)
     requires { IsSealable log.old pairs }
     ensures { Seals log.old log.new ticket unit }
@@ -74,7 +74,8 @@ pub(crate) fn seal(log: &mut Option<KeptLog>, ticket: u64, unit: u32, pairs: u32
     }
 }
 
-// The tickets of both, or the other back. It is not refused where the first isn't kept.
+// Takes over the tickets of the other log. If memory runs out, the other log is returned. This
+// cannot happen if the first log is not kept.
 pub(crate) fn unite(
     log: &mut Option<KeptLog>,
     other: Option<KeptLog>,
@@ -96,7 +97,7 @@ pub(crate) fn unite(
     }
 }
 
-// The tickets as records of their own, where they are kept.
+// The tickets, with a copy of each record, if they are kept.
 pub(crate) fn told_tickets(
     alloc: Global,
     log: &Option<KeptLog>,

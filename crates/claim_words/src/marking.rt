@@ -1,4 +1,4 @@
-//! Marks of units: taken, set, and cleared.
+//! Steps that take, set and clear the marks of units.
 ghost use Rattle.std.specs.Prelude.{◌≡◌, ◌<◌};
 ghost use Rattle.claim_words.specs.Maps.{In};
 ghost use Rattle.claim_words.specs.Steps.{cleared_by};
@@ -20,9 +20,9 @@ impl<'i> Board<'i> {
     };
     ghost use Rattle.claim_words.specs.Answers.{Takes, Marks};
 
-    /// Takes the mark of a unit of a listed family, in one atomic step: whether it was set. It
-    /// takes no memory. Units count from 0. Who takes a mark looks at the unit's event next, and
-    /// then pops it, clears the unit, or marks it again.
+    /// Takes the mark of a unit of a listed family, in one atomic step, and returns whether it was
+    /// set. It allocates nothing. Units count from 0. After it takes a mark, a pass looks at the
+    /// unit's event. Then it pops the event, clears the unit, or marks it again.
     pub fn take(&self, pass: &mut Pass, unit: u32) -> bool
         requires pass { IsOf self.now pass.old }
         requires listed { unit < marks_of self.now }
@@ -34,8 +34,8 @@ impl<'i> Board<'i> {
         self.take_step(&mut pass.seat, unit) == MARKED
     }
 
-    /// Sets the mark of a unit of a listed family, in one atomic step, which stands in the pass's
-    /// changes. It takes no memory.
+    /// Sets the mark of a unit of a listed family, in one atomic step, and records this in the
+    /// changes of the pass. It allocates nothing.
     pub fn mark(&self, pass: &mut Pass, unit: u32)
         requires pass { IsOf self.now pass.old }
         requires listed { unit < marks_of self.now }
@@ -46,8 +46,8 @@ impl<'i> Board<'i> {
         self.mark_step(&mut pass.seat, unit);
     }
 
-    /// Lets go of a unit that was taken, in one atomic step, since a variable that the pass holds
-    /// rules its event out: its value is another, or its entry is the last. It takes no memory.
+    /// Resolves a unit that was taken, in one atomic step. A variable that the pass holds must
+    /// rule its event out: it has another value, or it is at its last entry. It allocates nothing.
     pub fn clear(&self, pass: &mut Pass, unit: u32, v: u32)
         requires pass { IsOf self.now pass.old }
         requires taken { In unit (view pass.old).taken }

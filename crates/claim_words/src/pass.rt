@@ -8,19 +8,19 @@ use crate::View;
 use crate::kept_log::KeptLog;
 use atomic_table::Seat;
 
-/// The right to make steps on the words of one board. A thread has a pass of its own;
-/// `Board::split` makes a second one, and `Board::rejoin` takes it in again. A pass that is dropped
-/// keeps what it holds, and its share, so that its board can't be closed.
+/// The right to make steps on the words of one board. Each thread has a pass of its own.
+/// `Board::split` makes a second one, and `Board::rejoin` joins it to the first again. A pass that
+/// is dropped keeps what it holds, and its share, so its board cannot be closed.
 #[derive(Drop)]
 pub struct Pass {
     pub(crate) seat: Seat<(), View>,
     // The variables that it holds, in the order of its claims.
     pub(crate) held: Vec<u32>,
     pub(crate) share: u32,
-    // The tickets, where a log is kept.
+    // The tickets, if a log is kept.
     pub(crate) log: Option<KeptLog>,
     ghost tied: { held.items ≡ variables seat.me.0.held },
-    // Each is below the count of the board.
+    // Each variable is below the count of the board.
     ghost near: { many_from (count_in seat.me.0.opening) held.items ≡ 0 },
     ghost counted: { share ≡ seat.me.0.share },
     ghost few: { share ≤ 64 },

@@ -1,4 +1,4 @@
-//! The rule of a board's table, and what each kind of step tells the pass that makes it.
+//! The rule of a board's table, and what each kind of step shows the pass that makes it.
 ghost use Rattle.std.specs.Prelude.{◌≡◌, ◌≤◌, ℕ, List, []};
 ghost use Rattle.claim_words.specs.Words.{variable_at, unit_at};
 ghost use Rattle.claim_words.specs.Openings.{count_in};
@@ -11,7 +11,7 @@ use crate::{Opening, View};
 use atomic_table::{Join, Play, Split, TableRule};
 use std::marker::{Brand, PhantomData};
 
-// The rule.
+// The rule of the table.
 pub struct Machine;
 
 impl TableRule<(), View, Opening> for Machine {
@@ -20,21 +20,21 @@ impl TableRule<(), View, Opening> for Machine {
     ghost first = { fresh };
 }
 
-// A claim of a variable.
+// A step that claims a variable.
 pub struct ClaimStep;
 
 impl Play<(), View> for ClaimStep {
     ghost then = { λ st m r n. ClaimTold m (variable_at st.word) r n };
 }
 
-// A release of a variable.
+// A step that releases a variable.
 pub struct ReleaseStep;
 
 impl Play<(), View> for ReleaseStep {
     ghost then = { λ st m r n. n ≡ (released_by m.0 (variable_at st.word), m.1) };
 }
 
-// The event that a ticket is for, picked at the call.
+// The event that a ticket is for, chosen by the caller.
 pub trait Chosen {
     ghost unit: { ℕ };
 
@@ -47,7 +47,7 @@ impl Chosen for Brand {
     ghost cube = { [] };
 }
 
-// A ticket for an event.
+// A step that draws a ticket for an event.
 pub struct TicketStep<W> {
     marker: PhantomData<W>,
 }
@@ -56,35 +56,35 @@ impl<W: Chosen> Play<(), View> for TicketStep<W> {
     ghost then = { λ st m r n. TicketTold m W.unit W.cube r n };
 }
 
-// An advance of a variable.
+// A step that advances a variable.
 pub struct AdvanceStep;
 
 impl Play<(), View> for AdvanceStep {
     ghost then = { λ st m r n. AdvanceTold m (variable_at st.word) r n };
 }
 
-// A variable is settled.
+// A step that settles a variable.
 pub struct SettleStep;
 
 impl Play<(), View> for SettleStep {
     ghost then = { λ st m r n. SettleTold m (variable_at st.word) r n };
 }
 
-// A mark is taken.
+// A step that takes a mark.
 pub struct TakeStep;
 
 impl Play<(), View> for TakeStep {
     ghost then = { λ st m r n. TakeTold m (unit_at (count_in m.0.opening) st.word) r n };
 }
 
-// A mark is set.
+// A step that sets a mark.
 pub struct MarkStep;
 
 impl Play<(), View> for MarkStep {
     ghost then = { λ st m r n. MarkTold m (unit_at (count_in m.0.opening) st.word) r n };
 }
 
-// The unit that is cleared, picked at the call.
+// The unit that is cleared, chosen by the caller.
 pub trait Cleared {
     ghost unit: { ℕ };
 }
@@ -93,7 +93,7 @@ impl Cleared for Brand {
     ghost unit = { 0 };
 }
 
-// A look at a variable that rules out the event of a unit.
+// A step that reads a variable which rules out the event of a unit.
 pub struct ClearStep<W> {
     marker: PhantomData<W>,
 }
@@ -102,7 +102,7 @@ impl<W: Cleared> Play<(), View> for ClearStep<W> {
     ghost then = { λ st m r n. n ≡ (cleared_by m.0 W.unit, m.1) };
 }
 
-// The share that a split gives away, picked at the call.
+// The share that a split gives away, chosen by the caller.
 pub trait Portion {
     ghost part: { ℕ };
 }
@@ -111,7 +111,7 @@ impl Portion for Brand {
     ghost part = { 0 };
 }
 
-// A split of a pass.
+// A step that splits a pass.
 pub struct Cut<W> {
     marker: PhantomData<W>,
 }
@@ -122,7 +122,7 @@ impl<W: Portion> Split<View> for Cut<W> {
     ghost right = { λ d. cut_right d W.part };
 }
 
-// A join of two passes.
+// A step that joins two passes.
 pub struct Unite;
 
 impl Join<View> for Unite {

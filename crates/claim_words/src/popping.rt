@@ -1,4 +1,4 @@
-//! Pops of events: a ticket, and an advance for each variable.
+//! Pops of events: one ticket, and one advance for each variable.
 ghost use Rattle.std.specs.Prelude.{◌≡◌, ◌+◌, ◌<◌, length, IfSome};
 ghost use Rattle.claim_words.specs.Maps.{In};
 ghost use Rattle.claim_words.specs.Steps.{Drawn, popped_by, raised_by};
@@ -26,10 +26,10 @@ impl<'i> Board<'i> {
       instance_of,
     };
 
-    /// Pops an event of the family whose variables the pass holds, at cursors where it is poppable:
-    /// its ticket, which counts from 0 over all passes. It takes no memory. It makes a step for the
-    /// ticket and one for each variable. Where a log is kept, the pass must have room for as many
-    /// pairs as the event has (`reserve`).
+    /// Pops an event of the family, and returns its ticket, which counts from 0 over all passes.
+    /// The pass must hold the event's variables, and the event must be poppable at their cursors.
+    /// It makes one atomic step for the ticket and one for each variable, and allocates nothing.
+    /// If a log is kept, the pass must have room for as many pairs as the event has (`reserve`).
     pub fn pop(&self, pass: &mut Pass, unit: u32, cube: &Cube) -> u64
         requires pass { IsOf self.now pass.old }
         requires poppable { CanPop (instance_of self.now) (view pass.old) unit cube.now }
@@ -48,7 +48,7 @@ impl<'i> Board<'i> {
         ticket
     }
 
-    // Moves the variables of a popped event on, and notes what it used.
+    // Advances the variables of a popped event, and logs the entries that it used.
     fn advance_all(&self, seat: &mut Seat<(), View>, log: &mut Option<KeptLog>, cube: &Cube)
         requires seat { IsSeat self.now seat.old }
         requires due { IsDue (count_of self.now) seat.old.me.0 cube.now }

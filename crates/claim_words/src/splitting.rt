@@ -1,4 +1,4 @@
-//! Passes that are split and joined again.
+//! Splits passes, and joins them again.
 ghost use Rattle.std.specs.Prelude.{◌≡◌, ◌<◌, ◌≤◌, length, false, IsOk, OnOk, IfErr};
 ghost use Rattle.confluence_core.specs.Kept.{keeps_log};
 ghost use Rattle.claim_words.specs.Steps.{cut_left, cut_right, united};
@@ -23,7 +23,7 @@ impl<'i> Board<'i> {
     };
 
     /// Gives a part of the pass's share to a new pass, which is idle and has no room yet. The part
-    /// is at least 1, and less than the pass has. It takes no memory.
+    /// must be at least 1 and less than the pass has. It allocates nothing.
     pub fn split(&self, pass: &mut Pass, share: u32) -> Pass
         requires pass { IsOf self.now pass.old }
         requires share { (1 ≤ share) × (share < (view pass.old).share) }
@@ -44,7 +44,7 @@ impl<'i> Board<'i> {
         }
     }
 
-    // Splits a seat, where the share was picked.
+    // Splits a seat by the chosen share.
     fn cut<W: Portion>(&self, seat: &mut Seat<(), View>, share: u32) -> Seat<(), View>
         requires seat { IsSeat self.now seat.old }
         requires share { (1 ≤ share) × (share < seat.old.me.0.share) × (share ≡ W.part) }
@@ -56,9 +56,9 @@ impl<'i> Board<'i> {
         self.table.shared.split_seat::<Cut<W>>(seat)
     }
 
-    /// Takes in another pass of this board, which is idle and ends. Memory is taken only where a
-    /// log is kept; a pass that is refused for want of it comes back as it was. Where no log is
-    /// kept, none is refused.
+    /// Joins another pass of this board, which is idle and ends. It allocates only if a log is
+    /// kept. If memory runs out, the other pass is returned unchanged; this cannot happen if no
+    /// log is kept.
     pub fn rejoin(&self, pass: &mut Pass, other: Pass) -> Result<(), (Pass, AllocError)>
         requires pass { IsOf self.now pass.old }
         requires other { IsOf self.now other }
@@ -87,7 +87,7 @@ impl<'i> Board<'i> {
         drop(held);
         let both = pass.share + share;
         self.table.shared.join_seat::<Unite>(&mut pass.seat, seat);
-        // No run comes here, since the shares of all passes sum to 64.
+        // No run reaches this, since the shares of all passes sum to 64.
         if both > 64 {
             self.table.shared.load::<ShareStep>(&mut pass.seat, 0);
             unreachable!();

@@ -12,8 +12,8 @@ impl<'i> Board<'i> {
       opening_of,
     };
 
-    /// A look that changes nothing and takes no memory: it tells the caller that the board started
-    /// from a cursor for each variable.
+    /// Reads a word without changing it, which proves to the caller that the board started from a
+    /// cursor for each variable. It allocates nothing.
     pub fn look_at_start(&self, pass: &mut Pass)
         requires pass { IsOf self.now pass.old }
         ensures count { length (opening_of self.now).start.value ≡ count_of self.now }

@@ -1,4 +1,4 @@
-//! One atomic step each, on one word of a board, by the seat of a pass.
+//! Single atomic steps, each on one word of a board, by the seat of a pass.
 ghost use Rattle.std.specs.Prelude.{◌≡◌, ◌≤◌, ◌<◌, false, length};
 ghost use Rattle.claim_words.specs.Words.{cursor_in};
 ghost use Rattle.claim_words.specs.Maps.{In, times, look};
@@ -25,7 +25,7 @@ impl<'i> Board<'i> {
       opening_of,
     };
 
-    // Sets the claimed bit of a variable: the word that it had.
+    // Sets the claimed bit of a variable, and returns its word before.
     pub(crate) fn claim_step(&self, seat: &mut Seat<(), View>, v: u32) -> u64
         requires seat { IsSeat self.now seat.old }
         requires known { v < count_of self.now }
@@ -77,7 +77,7 @@ impl<'i> Board<'i> {
             .fetch_add::<TicketStep<W>>(seat, TICKETS, 1)
     }
 
-    // Moves a variable on whose advance is due: the word that it had.
+    // Advances a variable with an advance that is due, and returns its word before.
     pub(crate) fn advance_step(&self, seat: &mut Seat<(), View>, v: u32) -> u64
         requires seat { IsSeat self.now seat.old }
         requires known { v < count_of self.now }
@@ -108,7 +108,7 @@ impl<'i> Board<'i> {
             .fetch_or::<SettleStep>(seat, word_of(v), SETTLED);
     }
 
-    // Clears the mark of a unit: what it was.
+    // Clears the mark of a unit, and returns what it was.
     pub(crate) fn take_step(&self, seat: &mut Seat<(), View>, unit: u32) -> u64
         requires seat { IsSeat self.now seat.old }
         requires listed { unit < marks_of self.now }
@@ -123,7 +123,7 @@ impl<'i> Board<'i> {
         self.table.shared.swap::<TakeStep>(seat, at, 0)
     }
 
-    // Sets the mark of a unit: what it was.
+    // Sets the mark of a unit, and returns what it was.
     pub(crate) fn mark_step(&self, seat: &mut Seat<(), View>, unit: u32) -> u64
         requires seat { IsSeat self.now seat.old }
         requires listed { unit < marks_of self.now }
@@ -136,7 +136,7 @@ impl<'i> Board<'i> {
         self.table.shared.fetch_or::<MarkStep>(seat, at, MARKED)
     }
 
-    // Looks at the word of a variable that the pass holds, which rules the event of a unit out.
+    // Reads the word of a variable that the pass holds, which rules out the event of a unit.
     pub(crate) fn clear_step<W: Cleared>(&self, seat: &mut Seat<(), View>, unit: u32, v: u32)
         requires seat { IsSeat self.now seat.old }
         requires unit { unit ≡ W.unit }

@@ -8,33 +8,33 @@ ghost use Rattle.claim_words.specs.contracts.opening.Opening.{the_row};
 
 use std::marker::Model;
 
-/// What a pass has, knows and owes. It is there for contracts alone: no value of it is made.
+/// What a pass has, knows and owes. It exists only for contracts: no value of it is made.
 pub struct View {
-    // The board's instance and start; none in the view of a pass that has ended.
+    // The board's instance and start. It is None in the view of a pass that has ended.
     pub ghost opening: { Option Opening } by { coded_option the_row.coded },
     // How many of the 64 shares of the board it has.
     pub ghost share: { ℕ },
-    // How many splits and rejoins it has made.
+    // How many splits and joins it has made.
     pub ghost moves: { ℕ },
-    // What it claimed: variables and cursors, in the order of its claims.
+    // What it has claimed and holds: variables and cursors, in the order of its claims.
     pub ghost held: { List (ℕ × ℕ) },
-    // The cursors that its claims found, unless busy, and those of passes that it took in. A claim
-    // finds at least each of its variable's.
+    // The cursors that its claims found, unless busy, and those found by passes that it joined. A
+    // later claim of a variable finds at least the variable's cursor here.
     pub ghost found: { List (ℕ × ℕ) },
-    // What its claims and takes found, in order: the number of each word, and the word.
+    // What its claims and takes found, in order: the index of each word, and the word.
     pub ghost seen: { List (ℕ × ℕ) },
     // What it knows to be settled: variables and cursors.
     pub ghost settled: { List (ℕ × ℕ) },
-    // The units whose mark it took and hasn't resolved.
+    // The units with marks that it took and has not resolved.
     pub ghost taken: { List ℕ },
     // The units that it must still mark.
     pub ghost owed: { List ℕ },
-    // What its takes and marks did, in order, and those of passes that it took in: the unit, the
-    // mark that was found, and the mark that was left.
+    // What its takes and marks did, in order, and those of passes that it joined: the unit, the
+    // mark before, and the mark after.
     pub ghost changes: { List (ℕ × ℕ × ℕ) },
-    // The pairs of a popped event whose advance is due; between calls there is none.
+    // The pairs of a popped event with an advance that is due. Between calls there are none.
     pub ghost due: { List (ℕ × ℕ) },
-    // The tickets that it drew or took in, each with its record.
+    // The tickets that it drew or took over, each with its record.
     pub ghost mine: { List (ℕ × LogRecord) } by { mine_coded },
 }
 

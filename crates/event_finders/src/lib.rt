@@ -1,8 +1,9 @@
-//! Finders: each claims variables on a board of lock-free words until it has an event to pop, or
-//! knows that there is none, and leaves its pass idle. No call waits. `try_unit` tries the event of
-//! one unit of a listed family; `try_walk` and `walk_on` walk along the arrows of a cycle family.
+//! Finders. Each claims variables on a board of lock-free words until it has an event to pop, or
+//! knows that there is none, and leaves its pass idle. No call waits. `try_unit` tries the event
+//! of one unit of a listed family; `try_walk` and `walk_on` walk along the arrows of a cycle
+//! family.
 //!
-//! Contracts see a board and a pass as `claim_words` does: what claims and takes found stands at
+//! Contracts see a board and a pass as `claim_words` does: what claims and takes found is added at
 //! the end of `seen`. They see a walker as the path of its walk, which is empty between walks.
 #![tactic(auto)]
 

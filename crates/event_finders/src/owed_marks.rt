@@ -1,4 +1,5 @@
-//! The marks that a pop owes to the units whose events share a variable with the popped one.
+//! The marks that a pop owes: those of the units with events that share a variable with the popped
+//! one.
 ghost use Rattle.std.specs.Prelude.{◌≡◌, ◌<◌, [], length, All};
 ghost use Rattle.pop_model.specs.Popping.{NamesBelow};
 ghost use Rattle.claim_words.specs.Passes.{IsOf, view, marks_of, instance_of};
@@ -21,7 +22,8 @@ fn mark_each(board: &Board, pass: &mut Pass, units: &[u32])
     }
 }
 
-/// Marks each unit whose event shares a variable with a popped event, so that none is owed.
+/// Marks each unit with an event that shares a variable with a popped event. After that no mark is
+/// owed.
 pub(crate) fn mark_sharers(board: &Board, pass: &mut Pass, index: &Index, cube: &Cube)
     requires pass { IsOf board.now pass.old }
     requires index { Indexes (instance_of board.now) index.now }

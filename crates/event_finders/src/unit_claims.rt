@@ -1,4 +1,4 @@
-//! Claims of the variables of a listed event, in their order, and how they are given back.
+//! Claims the variables of a listed event, in their order, and releases them.
 ghost use Rattle.std.specs.Prelude.{◌≡◌, ◌+◌, ◌<◌, ◌≤◌, [], take, length, true, MatchOption};
 ghost use Rattle.pop_model.specs.Stacks.{variables_of, height_of};
 ghost use Rattle.pop_model.specs.Popping.{NamesBelow, variables};
@@ -14,7 +14,7 @@ use claim_words::{Board, Claim, Pass};
 use pop_instance::{Cube, Instance};
 use pop_stacks::{Reader, Stacks};
 
-// Claims a variable, which is to have this value.
+// Claims a variable, and compares its value with the one that the event demands.
 fn look_at(
     board: &Board,
     pass: &mut Pass,
@@ -47,7 +47,7 @@ fn look_at(
     }
 }
 
-// The variable with its cursor, where that is its last entry.
+// The variable with its cursor, if that is its last entry.
 fn at_last(stacks: &Stacks, v: u32, cursor: u32) -> Option<(u32, u32)>
     requires known { v < variables_of stacks.now }
     requires low { cursor < height_of stacks.now v }
@@ -61,8 +61,9 @@ fn at_last(stacks: &Stacks, v: u32, cursor: u32) -> Option<(u32, u32)>
     Some((v, cursor))
 }
 
-/// Claims the variables of a listed event in their order, up to the first that has another value or
-/// is refused. Those at their last entry are gone past, since the values decide first.
+/// Claims the variables of a listed event in their order, up to the first one that has another
+/// value or is busy. Variables at their last entry do not stop it, since values are compared
+/// first.
 pub(crate) fn claim_unit(
     board: &Board,
     pass: &mut Pass,
@@ -97,7 +98,8 @@ pub(crate) fn claim_unit(
     }
 }
 
-/// Gives the first variables of a cube back, from the last; they are all that the pass holds.
+/// Releases the first variables of a cube, from the last one. They must be all that the pass
+/// holds.
 pub(crate) fn release_first(board: &Board, pass: &mut Pass, cube: &Cube, n: u32)
     requires pass { IsOf board.now pass.old }
     requires short { n ≤ length cube.now }

@@ -1,4 +1,4 @@
-//! Tries at the event of one unit of a listed family.
+//! Tries to pop the event of one unit of a listed family.
 ghost use Rattle.std.specs.Prelude.{◌≡◌, ◌<◌, ◌↔◌};
 ghost use Rattle.pop_model.specs.Families.{units_of};
 ghost use Rattle.pop_stacks.specs.Readers.{Belongs};
@@ -19,20 +19,20 @@ use claim_words::{Board, Pass};
 use pop_instance::{Family, Index, Instance};
 use pop_stacks::Reader;
 
-/// Tries to pop the event of a unit of a listed family, where the unit is marked. Units count from
-/// 0. The pass is idle before the call and after it.
+/// Tries to pop the event of a unit of a listed family, if the unit is marked. Units count from 0.
+/// The pass is idle before the call and after it.
 ///
-/// The call takes the unit's mark, and claims the event's variables in rising order up to the first
-/// that rules the event out or is refused; it claims none twice.
+/// The call takes the unit's mark. Then it claims the event's variables in rising order, up to the
+/// first one that rules the event out or is busy. It claims none twice.
 ///
-/// - `Popped`: all variables were claimed, the event was poppable, and was popped; its unit and all
-///   whose event shares a variable with it are marked, and no other is.
-/// - `Cleared`: at this cursor the variable has another value. The unit has no mark, until the pop
+/// - `Popped`: all variables were claimed, and the event was poppable and was popped. Its unit and
+///   all units with events that share a variable with it are marked, and no others.
+/// - `Cleared`: at this cursor the variable has another value. The unit has no mark until the pop
 ///   of an event that shares a variable sets it again.
-/// - `Stuck`: all variables were claimed and have the event's values; this is the least of those at
-///   their last entry. The unit has no mark, as at `Cleared`.
-/// - `Busy`: this variable of the event is claimed by another pass. The unit is marked again. It
-///   never comes to a sole pass, one that has all 64 shares.
+/// - `Stuck`: all variables were claimed and have the event's values. This is the lowest of those
+///   at their last entry. The unit has no mark, as for `Cleared`.
+/// - `Busy`: this variable of the event is claimed by another pass. The unit is marked again. A
+///   pass that has all 64 shares, and so is the only one, never gets it.
 /// - `Idle`: the unit had no mark.
 /// - `OutOfMemory`: there was no room for the claims, and no step was made.
 pub fn try_unit(
@@ -76,7 +76,7 @@ pub fn try_unit(
     try_event(board, pass, instance, index, reader, &event)
 }
 
-// Tries to pop an event.
+// Tries to pop an event after the mark of its unit was taken.
 fn try_event(
     board: &Board,
     pass: &mut Pass,

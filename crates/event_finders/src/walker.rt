@@ -8,15 +8,16 @@ use std::alloc::{AllocError, Global};
 use std::marker::Model;
 use std::mem;
 
-/// What a worker keeps for its walks: it is made once, and each walk uses it again. Contracts see
-/// for how many variables it is, and the path of a walk, which is empty between walks.
+/// The memory that a thread keeps for its walks. It is made once, and each walk reuses it.
+/// Contracts see its number of variables, and the path of a walk, which is empty between walks.
 #[derive(Drop)]
 pub struct Walker {
-    // One on the path has its place there as its mark. What another has means nothing.
+    // The mark of a variable on the path is its place there. The mark of any other variable has no
+    // meaning.
     marks: Vec<u32>,
     // Each variable of the path with its cursor.
     path: Vec<(u32, u32)>,
-    // The list in which the pairs of a popped cycle are put together.
+    // The list that is used to collect the pairs of a popped cycle.
     pairs: Vec<(u32, u32)>,
     alloc: Global,
 }
@@ -33,7 +34,7 @@ impl Model for Walker {
 }
 
 impl Walker {
-    /// A walker for so many variables, with room for a path and a cycle of all of them.
+    /// A walker for this many variables, with room for a path and a cycle of all of them.
     pub fn new(alloc: Global, count: u32) -> Result<Walker, AllocError>
         requires short { count < 2 ^ 31 }
         ensures { IfOk result (λ walker. walker ≡ resting count) }
@@ -47,7 +48,7 @@ impl Walker {
         })
     }
 
-    // How many variables are on the path.
+    // The number of variables on the path.
     pub(crate) fn len(&self) -> usize
         ensures len { result ≡ length self.now.path }
         ensures trail { IsTrail self.now.count self.now.path }
@@ -55,7 +56,8 @@ impl Walker {
         self.path.len()
     }
 
-    // Where a variable stands on the path: only where its mark says so, and it stands there.
+    // The place of a variable on the path, or None if it is not there. The variable is there only
+    // if it is found at the place that its mark gives.
     pub(crate) fn place(&self, v: u32) -> Option<usize>
         requires known { v < self.now.count }
         ensures { MatchOption result (times_in v (variables self.now.path) ≡ 0)
@@ -71,7 +73,7 @@ impl Walker {
         Some(place)
     }
 
-    // What stands at a place of the path.
+    // The variable and the cursor at a place of the path.
     pub(crate) fn at(&self, j: usize) -> (u32, u32)
         requires { j < length self.now.path }
         ensures { result ≡ stand self.now.path j }
@@ -79,7 +81,7 @@ impl Walker {
         self.path[j]
     }
 
-    // What stands last.
+    // The variable and the cursor at the end of the path.
     pub(crate) fn last(&self) -> (u32, u32)
         requires { 0 < length self.now.path }
         ensures last { result ≡ last_of self.now.path }
@@ -88,7 +90,7 @@ impl Walker {
         self.path[self.path.len() - 1]
     }
 
-    // What stands from a place of the path on.
+    // The variables and cursors from a place of the path on.
     pub(crate) fn tail(&self, place: usize) -> &[(u32, u32)]
         requires { place ≤ length self.now.path }
         ensures { result.now ≡ drop place self.now.path }
@@ -96,7 +98,7 @@ impl Walker {
         &self.path[place..]
     }
 
-    // Puts a variable with its cursor onto the path.
+    // Adds a variable with its cursor at the end of the path.
     pub(crate) fn push(&mut self, v: u32, cursor: u32)
         requires known { v < self.old.count }
         requires fresh { times_in v (variables self.old.path) ≡ 0 }
@@ -107,7 +109,7 @@ impl Walker {
         self.path.push_reserved((v, cursor));
     }
 
-    // Takes the last variable off the path. Its mark stays.
+    // Removes the last variable of the path. Its mark stays.
     pub(crate) fn pop(&mut self) -> (u32, u32)
         requires { 0 < length self.old.path }
         ensures path { self.old.path ≡ self.new.path ++ result ∷ [] }
@@ -121,8 +123,8 @@ impl Walker {
         last
     }
 
-    // The list for the pairs of a cycle, empty. It is given back by `keep_pairs_of`; where it
-    // isn't, the next cycle has a list that grows anew.
+    // An empty list for the pairs of a cycle. `keep_pairs_of` gives it back to the walker;
+    // otherwise the next cycle starts with a list without capacity.
     pub(crate) fn take_pairs(&mut self) -> Vec<(u32, u32)>
         ensures empty { result.items ≡ [] }
         ensures walker { self.new ≡ self.old }
@@ -132,7 +134,7 @@ impl Walker {
         pairs
     }
 
-    // Keeps the list of a cube's pairs, so that the next cycle has its room.
+    // Takes back the list of a cube's pairs, so that the next cycle can use its capacity.
     pub(crate) fn keep_pairs_of(&mut self, cube: Cube)
         ensures { self.new ≡ self.old }
     {

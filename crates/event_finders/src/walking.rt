@@ -1,4 +1,4 @@
-//! The parts of a walk. What the pass holds is the path.
+//! The parts of a walk. The pass holds the variables of the path.
 ghost use Rattle.std.specs.Prelude.{◌≡◌, ◌≤◌, ◌<◌, ◌+◌, ◌-◌, ◌^◌, ◌++◌, ◌∷◌, [], ℕ, List, length, map, take, slice_index, All, IfOk, OnOk, MatchResult, MatchOption};
 ghost use Rattle.std.specs.List.Sorted.{IsPermutation, IsNonDecreasingBy};
 ghost use Rattle.pop_model.specs.Stacks.{height_of};
@@ -23,15 +23,16 @@ use std::alloc::AllocError;
 
 // Why a walk along arrows stops.
 pub(crate) enum WalkStop {
-    // The last variable is at its last entry, or its arrow leads to the root or to a settled one.
+    // The last variable is at its last entry, or its arrow leads to the root or to a settled
+    // variable.
     Rests,
     // The arrow of the last variable leads back to this place of the path.
     Back(usize),
-    // It leads to a variable that is claimed: its word.
+    // The arrow leads to this variable, which is busy; this is its word.
     Busy(u32, u64),
 }
 
-// Claims a variable, to which the path leads, and puts it onto the path.
+// Claims a variable that the path leads to, and adds it to the path.
 pub(crate) fn claim_on(board: &Board, pass: &mut Pass, walker: &mut Walker, v: u32) -> Claim
     requires pass { IsOf board.now pass.old }
     requires stands { Stands (opening_of board.now) (view pass.old) walker.old }
@@ -57,7 +58,7 @@ pub(crate) fn claim_on(board: &Board, pass: &mut Pass, walker: &mut Walker, v: u
     claim
 }
 
-// Goes a step along the arrows, or says why not.
+// Follows one arrow, or returns why the walk stops.
 fn step(
     board: &Board,
     pass: &mut Pass,
@@ -93,7 +94,7 @@ fn step(
     }
 }
 
-// Goes along the arrows until it must stop.
+// Follows arrows until the walk stops.
 pub(crate) fn follow(
     board: &Board,
     pass: &mut Pass,
@@ -121,7 +122,7 @@ pub(crate) fn follow(
     }
 }
 
-// Releases the path's variables from its end, down to so many.
+// Releases the path's variables from its end, until this many are left.
 pub(crate) fn release_to(board: &Board, pass: &mut Pass, walker: &mut Walker, keep: usize)
     requires pass { IsOf board.now pass.old }
     requires tied { variables (view pass.old).held ≡ variables walker.old.path }
@@ -165,7 +166,7 @@ pub(crate) fn settle_all(
     }
 }
 
-// Puts variables, each with the slot at its cursor, into an empty list.
+// Adds variables, each with the slot at its cursor, to an empty list.
 fn put_pairs(
     pairs: &mut Vec<(u32, u32)>,
     current: &CurrentArrows,
@@ -194,8 +195,8 @@ fn sort_pairs(pairs: &mut Vec<(u32, u32)>)
     pairs.sort_unstable_by_key(|pair| pair.0);
 }
 
-// The cube of the cycle of the variables from a place on. Its pairs are put together in the walker's
-// list, which the walker doesn't have until the cube is given back (`Walker::keep_pairs_of`).
+// The cube of the cycle of the variables from a place on. Its pairs are collected in the walker's
+// list. The walker is without that list until `Walker::keep_pairs_of` returns it.
 fn loop_cube(
     current: &CurrentArrows,
     reader: &mut Reader,
@@ -214,8 +215,8 @@ fn loop_cube(
     Ok(Cube::of(pairs))
 }
 
-// Pops the cycle of the variables from a place on. It takes memory for a kept log alone, since the
-// walker has room for the pairs.
+// Pops the cycle of the variables from a place on. It allocates only for a log that is kept, since
+// the walker has room for the pairs.
 pub(crate) fn pop_loop(
     board: &Board,
     pass: &mut Pass,
@@ -250,7 +251,7 @@ pub(crate) fn pop_loop(
     Ok(ticket)
 }
 
-// The cursor of the path's last variable moved on by 1.
+// Adds 1 to the cursor of the path's last variable.
 pub(crate) fn move_on(walker: &mut Walker)
     requires some { 0 < length walker.old.path }
     requires low { (last_of walker.old.path).1 < 2 ^ 31 }

@@ -1,5 +1,5 @@
-//! Walks that claim along the arrows, and pop the cycles that they close: loop-erased walks (Wilson
-//! 1996; Propp and Wilson 1998) of several passes on one board.
+//! Walks that claim variables along the arrows, and pop the cycles that they close: loop-erased
+//! walks (Wilson 1996; Propp and Wilson 1998) of several passes on one board.
 ghost use Rattle.std.specs.Prelude.{◌≡◌, ◌≤◌, ◌<◌, ◌+◌, false, ℕ, slice_index};
 ghost use Rattle.pop_model.specs.Popping.{variables};
 ghost use Rattle.pop_stacks.specs.Readers.{Belongs};
@@ -19,28 +19,31 @@ use confluence_core::CurrentArrows;
 use pop_instance::{Family, Instance};
 use pop_stacks::Reader;
 
-// What a walk comes to.
+// The result of following arrows until something happens.
 enum Round {
-    // A cycle was popped, with this ticket, and the walk stands where it closed.
+    // A cycle was popped, with this ticket, and the walk continues from the variable that closed
+    // it.
     Popped(u64),
-    // The walk is over, and all was released or settled.
+    // The walk is over, and all variables were released or settled.
     Over(Tried),
 }
 
-/// Claims from a start along the arrows of a cycle family, until the path comes back to itself or
-/// to where it can't go on.
+/// Claims variables from a start along the arrows of a cycle family, until the path closes a cycle
+/// or cannot continue.
 ///
-/// - `Popped`: the path came back to itself, and that cycle was popped; then all is released.
-/// - `Cleared`: the path came to the root, to a settled variable or to one at its last entry, and
-///   all of it was settled from its end; or the start was found settled. The variable is the start.
-/// - `Busy`: the path came to this variable, which is claimed by another pass, or the start is. All
-///   is released. It never comes to a sole pass, one that has all 64 shares.
-/// - `Stuck` and `Idle` never come.
-/// - `OutOfMemory`: there was no room for the claims, and no step was made; or, where a log is
-///   kept, none for the records of a pop, and all is released.
+/// - `Popped`: the path closed a cycle, which was popped. Then all variables are released.
+/// - `Cleared`: the path reached the root, a settled variable or a variable at its last entry, and
+///   all of it was settled from its end; or the start was settled already. The variable is the
+///   start.
+/// - `Busy`: this variable is claimed by another pass, and the path reached it or starts there.
+///   All variables are released. A pass that has all 64 shares, and so is the only one, never gets
+///   it.
+/// - `Stuck` and `Idle` are never returned.
+/// - `OutOfMemory`: there was no room for the claims, and no step was made; or there was none for
+///   the records of a pop in a log that is kept, and all variables are released.
 ///
-/// The pass is idle, and is idle again at each answer. The walker is one for the board's variables
-/// (`Walker::new`), and is between walks again.
+/// The pass must be idle, and is idle after the call. The walker must be one for the board's
+/// variables (`Walker::new`) and between walks, and is so after the call.
 pub fn try_walk(
     board: &Board,
     pass: &mut Pass,
@@ -73,10 +76,10 @@ pub fn try_walk(
     walk_on(board, pass, instance, reader, walker, bounds)
 }
 
-/// The same walk, which goes on until as many cycles were popped as the bounds say: `Popped` has
-/// the ticket of the last. After each it goes on from the variable where the cycle closed, with the
-/// path up to there still claimed, so that no part of it is walked again. The other answers come as
-/// those of `try_walk`, after fewer pops.
+/// The walk of `try_walk`, continued until as many cycles were popped as the bounds say. `Popped`
+/// has the ticket of the last. After each pop the walk continues from the variable that closed the
+/// cycle. The path up to there is still claimed, so no part of it is walked again. The other
+/// results are those of `try_walk`, after fewer pops.
 pub fn walk_on(
     board: &Board,
     pass: &mut Pass,
@@ -111,8 +114,8 @@ pub fn walk_on(
         unreachable!()
     };
     let current = CurrentArrows::of(instance.stacks(), arrows);
-    // Room for all variables, and for as many again: a pop asks for room for its cycle while the
-    // path is held, and so takes memory for a kept log alone.
+    // Room for twice the number of variables. A pop reserves room for its cycle while the path is
+    // held, and so allocates only for a log that is kept.
     let count = current.count();
     if board.reserve(pass, count + count).is_err() {
         return Tried::OutOfMemory;
@@ -134,7 +137,7 @@ pub fn walk_on(
     Tried::Popped(last)
 }
 
-// Goes along the arrows until a cycle closes, and pops it; or ends the walk.
+// Follows the arrows until they close a cycle, and pops it; or ends the walk.
 fn go_round(
     board: &Board,
     pass: &mut Pass,

@@ -1,6 +1,6 @@
-//! What a command is answered by.
+//! The result of a command.
 
-/// A status, and the whole text that goes with it.
+/// A status, and the whole output that belongs to it.
 #[derive(Drop)]
 pub struct Answer {
     pub status: u8,

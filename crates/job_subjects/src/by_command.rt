@@ -1,4 +1,4 @@
-//! What a command samples, made of the text that it reads.
+//! Makes what a command samples from its input.
 ghost use Rattle.std.specs.Prelude.{◌≡◌, ◌≢◌, ◌⊎◌, ◌≤◌, ℕ, List, Some, None, Ok, OnOk, IfOk, IfErr, IsErrOf, Contains};
 ghost use Rattle.std.specs.Io.KnownBytes.{IsAtEnd, Consumes};
 ghost use Rattle.pop_model.specs.Faults.{Rose};
@@ -26,8 +26,8 @@ use pop_edge::Source;
 use pop_words::Command;
 use std::alloc::Global;
 
-// Makes what is wanted of a formula. Its events may not clash, but where they are resampled, or
-// rounds are made.
+// Makes what is wanted of a formula. Events that clash are rejected, except for `resample` and
+// `rounds`.
 fn made_of_formula(alloc: Global, wanted: Wanted, formula: &Formula) -> Result<Made, Refusal>
     requires command { (wanted.command ≡ OfFormula)
         ⊎ ((wanted.command ≡ Resample) ⊎ (wanted.command ≡ Rounds)) }
@@ -85,8 +85,8 @@ fn made_of_graph(alloc: Global, wanted: Wanted, graph: Graph) -> Result<Made, Re
     }
 }
 
-/// Makes what is wanted of the text that the source has, or refuses it: by its text, its form or
-/// its stacks, in this order. A grid is made without the source.
+/// Makes what is wanted of the source's input, or rejects it. The input is checked first, then its
+/// structure, then the stacks. A grid is made without the source.
 pub fn made_of<S: Source>(alloc: Global, wanted: Wanted, source: &mut S) -> Result<Made, Refusal>
     requires command { Contains sampling wanted.command }
     requires root { 1 ≤ wanted.root }

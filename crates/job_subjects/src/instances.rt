@@ -9,8 +9,8 @@ ghost use Rattle.job_subjects.specs.Subjects.{pair_weights, instance_of};
 use growing_instances::{GrowingInstance, GrowingStacks};
 use pop_instance::{Arrows, Events, Family, Index};
 
-/// The instance of events over so many variables of two values, with their index, where it is at
-/// hand.
+/// The instance of events over this many variables with two values, with the index of the events
+/// if it is at hand.
 pub fn of_events(
     variables: u32,
     stacks: GrowingStacks,

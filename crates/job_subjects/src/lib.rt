@@ -1,5 +1,5 @@
-//! What a job runs: a formula, a graph or a grid is read and made into an instance, or refused, by
-//! its text, its form or its stacks; and how each refusal is told.
+//! Makes what a job runs. A formula, a graph or a grid is read and made into an instance, or
+//! rejected for its input, its structure or its stacks. Also how each error is printed.
 #![tactic(auto)]
 
 mod answer;

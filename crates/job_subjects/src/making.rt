@@ -1,4 +1,4 @@
-//! What is run: it is made of a formula, a graph or a grid, or refused.
+//! Makes what is run from a formula, a graph or a grid, or rejects it.
 ghost use Rattle.std.specs.Prelude.{◌≡◌, false, None, ◌<◌, ◌≤◌, ◌^◌, length, OnOk, IfOk, IfErr};
 ghost use Rattle.pop_model.specs.Families.Family.{Listed, Cycles};
 ghost use Rattle.pop_model.specs.Instances.{FamilyFits};
@@ -31,11 +31,12 @@ use pop_stacks::Weights;
 use sink_popping::indexed_sinks;
 use std::alloc::Global;
 
-// How many variables all samples of a batch may have together: the text of a batch is whole before
-// its first byte is written.
+// The largest number of variables of all samples of a batch together. It is bounded since the
+// whole output of a batch is made before its first byte is written.
 const MAX_VARIABLES: u64 = 1 << 25;
 
-// Refuses so many samples of so many variables where they are more than a batch may have.
+// Rejects a batch if its samples have more variables than a batch may have. There is no batch if
+// `asked` is None.
 fn refuse_too_many(asked: Option<u32>, variables: u32) -> Result<(), Refusal>
     ensures few { OnOk result (AreFew asked variables) }
     ensures many { IfErr result (AreTooMany asked variables) }
@@ -48,8 +49,8 @@ fn refuse_too_many(asked: Option<u32>, variables: u32) -> Result<(), Refusal>
     }
 }
 
-// The stacks of these weights, of which so many samples are asked for, which the facts tell; or why
-// they are refused.
+// The stacks with these weights, or the error. The facts name a variable with a fault, and `asked`
+// is the number of samples of a batch.
 fn stacks_of(
     origin: StackOrigin,
     asked: Option<u32>,
@@ -68,15 +69,15 @@ fn stacks_of(
     origin.stacks(facts, weights)
 }
 
-/// What a command runs, and the facts by which it is told.
+/// What a command runs, and the facts that its output needs.
 #[derive(Drop)]
 pub struct Made {
     pub facts: Facts,
     pub instance: GrowingInstance,
 }
 
-/// Refuses events over so many variables of which two clash, where they may not. They are searched
-/// by their index, which is handed out; where they may clash, none is built.
+/// Rejects events if two of them clash, unless that is allowed. They are checked by their index,
+/// which is returned; if clashes are allowed, none is built.
 pub fn refuse_clash(
     alloc: Global,
     may_clash: bool,
@@ -99,8 +100,8 @@ pub fn refuse_clash(
     }
 }
 
-/// Makes the events of a formula, of which so many samples are asked for. They may clash, where
-/// that is said.
+/// Makes the instance of the events of a formula. Clashes are allowed only if the flag says so,
+/// and the number of samples is for a batch.
 pub fn make_formula(
     alloc: Global,
     origin: StackOrigin,
@@ -124,7 +125,8 @@ pub fn make_formula(
     Ok(Made { facts, instance })
 }
 
-/// Makes the sinks of a graph's orientations, of which so many samples are asked for.
+/// Makes the instance of the sinks of a graph's orientations. The number of samples is for a
+/// batch.
 pub fn make_orientation(
     alloc: Global,
     origin: StackOrigin,
@@ -144,7 +146,7 @@ pub fn make_orientation(
     Ok(Made { facts, instance })
 }
 
-// Makes the cycles of arrows with these weights, of which the facts tell.
+// Makes the instance of the cycles of arrows with these weights, with these facts.
 fn make_cycles(
     origin: StackOrigin,
     count: Option<u32>,
@@ -164,8 +166,9 @@ fn make_cycles(
     Ok(Made { facts, instance })
 }
 
-// The arrows of a graph's trees to a root, and their weights; a vertex that is cut off from it is
-// refused. All are found by the other ends of its edges, which are let go behind them.
+// The arrows of a graph's trees to a root, and their weights. A vertex that is not connected to
+// the root is an error. Both are made from the other ends of the edges, which are dropped
+// afterwards.
 fn arrows_and_weights(alloc: Global, graph: &Graph, root: u32) -> Result<(Arrows, Weights), Refusal>
     requires root { IsVertex graph.now.vertices root }
     ensures connected { OnOk result (IsConnected graph.now root) }
@@ -177,14 +180,15 @@ fn arrows_and_weights(alloc: Global, graph: &Graph, root: u32) -> Result<(Arrows
     if let Some(vertex) = ends.first_cut_off(alloc, root)? {
         return Err(Refusal::CutOff(vertex));
     }
-    // What weights are made of is gone before there are arrows: both would want more memory.
+    // The temporary memory for the weights is freed before the arrows are made. Both together
+    // would need more memory.
     let weights = weights_of(alloc, &ends, root)?;
     let arrows = arrows_of(alloc, &ends, root)?;
     Ok((arrows, weights))
 }
 
-/// Makes the cycles of the arrows of a graph's trees with this root, from 1, of which so many
-/// samples are asked for.
+/// Makes the instance of the cycles of arrows of a graph's trees with this root, from 1. The
+/// number of samples is for a batch.
 pub fn make_tree(
     alloc: Global,
     origin: StackOrigin,
@@ -198,7 +202,7 @@ pub fn make_tree(
     ensures told { IfOk result (λ made. AreFactsOf made.facts made.instance) }
     ensures refused { IfErr result (IsRefusal (RefusesTree origin count root graph)) }
 {
-    // It also says that there are few vertices, so that each has a name.
+    // This also shows that there are few vertices, so that each has a name.
     if root > graph.vertices() {
         return Err(Refusal::NoRoot(root));
     }
@@ -206,8 +210,9 @@ pub fn make_tree(
     make_cycles(origin, count, Facts::Tree(graph, root), weights, arrows)
 }
 
-/// Makes the cycles of the arrows of the grid of so many rows and columns, from 1 to 2048, with its
-/// arrows to vertex 1. The graph isn't made; arrows and weights come of the side.
+/// Makes the instance of the cycles of arrows of the grid with this many rows and columns, from 1
+/// to 2048. The root is vertex 1. The graph is not made: arrows and weights are computed from the
+/// side.
 pub fn make_grid(
     alloc: Global,
     origin: StackOrigin,

@@ -1,4 +1,4 @@
-//! Where the entries of stacks come from.
+//! The source of the entries of stacks.
 ghost use Rattle.std.specs.Prelude.{◌≡◌, ◌<◌, ◌≤◌, ◌^◌, length, unwrap_or, IfOk, IfErr, OnOk, IfSome, MatchOption};
 ghost use Rattle.pop_model.specs.Stacks.{IsKeyed};
 ghost use Rattle.pop_stacks.specs.Tables.{origin_of};
@@ -13,12 +13,12 @@ use pop_stacks::{StackSpec, Stacks, Weights};
 use std::alloc::{AllocError, Global};
 use std::marker::Model;
 
-/// Where the entries of stacks come from: given rows, or a key, a first height and a last one, from
-/// 1 to 2^31 - 1. Contracts see the origin at the last height.
+/// The source of the entries of stacks: given rows, or a key with a first and a last height, from
+/// 1 to 2^31 - 1. Contracts see the source at the last height.
 #[derive(Drop)]
 pub struct StackOrigin {
     spec: StackSpec,
-    // The height with which the stacks are made, and that to which they grow.
+    // The height of the stacks when they are made, and the height to which they grow.
     first: u32,
     last: u32,
 }
@@ -35,8 +35,8 @@ impl Model for StackOrigin {
     ghost invariant = { λ a. (0 < a.first) × (a.first ≤ a.last) × (a.last < 2 ^ 31) };
 }
 
-// The last height, where stacks that are made with the first one have to grow to it: with a key,
-// where it is greater.
+// The last height, if stacks have to grow to it: they have a key, and it is greater than the first
+// height.
 fn growth(spec: &StackSpec, first: u32, last: u32) -> Option<u32>
     requires { first ≤ last }
     ensures { MatchOption result (origin_of spec.now first ≡ origin_of spec.now last)
@@ -48,7 +48,7 @@ fn growth(spec: &StackSpec, first: u32, last: u32) -> Option<u32>
     }
 }
 
-/// Equal rows, or the same key.
+/// A copy of these rows, or the same key.
 pub fn copy_spec(alloc: Global, spec: &StackSpec) -> Result<StackSpec, AllocError>
     ensures { IfOk result (λ copy. copy ≡ spec.now) }
 {
@@ -59,8 +59,8 @@ pub fn copy_spec(alloc: Global, spec: &StackSpec) -> Result<StackSpec, AllocErro
 }
 
 impl StackOrigin {
-    /// These rows, or this key with this height; or, where there is a height to grow to, up to that
-    /// one from the lesser of the two.
+    /// These rows, or this key with this height. If there is a height to grow to, the stacks grow
+    /// to it from the lower of the two heights.
     pub fn new(spec: StackSpec, height: u32, grow: Option<u32>) -> StackOrigin
         requires some { 0 < height }
         requires short { height < 2 ^ 31 }
@@ -72,8 +72,8 @@ impl StackOrigin {
         StackOrigin { spec, first, last }
     }
 
-    /// The stacks with these weights, at the first height, or their first fault, whose variable the
-    /// facts name. A fault doesn't hang on the height.
+    /// The stacks with these weights, at the first height, or their first fault. The facts name
+    /// the variable of a fault. Faults do not depend on the height.
     pub fn stacks(self, facts: &Facts, weights: Weights) -> Result<GrowingStacks, Refusal>
         requires few { length weights < 2 ^ 31 }
         ensures made { IfOk result (λ stacks.

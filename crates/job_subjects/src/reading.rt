@@ -1,4 +1,4 @@
-//! What a command reads from the source.
+//! Reads the input of a command from the source.
 ghost use Rattle.std.specs.Prelude.{◌≡◌, ℕ, List, Some, None, Ok, Err, OnOk, IfOk, IfErr, IsErrOf, MatchResult};
 ghost use Rattle.std.specs.Io.KnownBytes.{IsAtEnd, Consumes};
 ghost use Rattle.pop_model.specs.Faults.{Rose};
@@ -16,7 +16,7 @@ use graph_read::{Graph, read_graph};
 use pop_edge::Source;
 use std::alloc::Global;
 
-/// The formula that the source spells.
+/// The formula that the source contains.
 pub fn formula_of<S: Source>(alloc: Global, source: &mut S) -> Result<Formula, Refusal>
     ensures text { (text : List ℕ) → S.left source.old ≡ Some text
         → MatchResult result (λ f. AnswersCnf text (Ok f))
@@ -32,7 +32,7 @@ pub fn formula_of<S: Source>(alloc: Global, source: &mut S) -> Result<Formula, R
     Ok(read_formula(alloc, source)?)
 }
 
-/// The graph that the source spells.
+/// The graph that the source contains.
 pub fn graph_of<S: Source>(alloc: Global, source: &mut S) -> Result<Graph, Refusal>
     ensures text { (text : List ℕ) → S.left source.old ≡ Some text
         → MatchResult result (λ g. AnswersGraph text (Ok g))

@@ -1,4 +1,4 @@
-//! Refusals: why there is no run, and how it is told.
+//! Errors: why there is no run, and how this is printed.
 ghost use Rattle.std.specs.Prelude.{◌≡◌, IfOk};
 ghost use Rattle.job_subjects.specs.Refusals.{s_line, IsTold, unread, unworded, unoriented, uncertified, unlogged as unlogged_as, IsEarlyRecord};
 ghost use Rattle.job_subjects.specs.StackFaults.{unsound as unsound_as, HasName};
@@ -20,37 +20,37 @@ use std::alloc::{AllocError, Global};
 /// from 1, and entries from 0.
 #[derive(Clone, Copy, Debug, PartialEq, Eq)]
 pub enum Refusal {
-    /// The words are no command line: the place of the first bad word.
+    /// The arguments are not a command line: the place of the first invalid argument.
     Usage(u32),
-    /// A line of the text, and the code of what is wrong in it.
+    /// A line of the input, and the code of what is wrong in it.
     Malformed(u64, u32),
-    /// How many clauses the header declares, and how many there are.
+    /// The number of clauses that the header declares, and how many there are.
     Count(u32, u32),
-    /// The least clause without literals.
+    /// The lowest clause without literals.
     EmptyClause(u32),
-    /// The kind of a limit, and the line that passes it.
+    /// The kind of a limit, and the line that exceeds it.
     Limit(u32, u64),
-    /// The least vertex that no edge touches.
+    /// The lowest vertex without edges.
     Isolated(u32),
-    /// The root that is asked for is no vertex.
+    /// The requested root, which is not a vertex.
     NoRoot(u32),
-    /// The least vertex that no path joins to the root.
+    /// The lowest vertex that is not connected to the root.
     CutOff(u32),
-    /// How many samples are asked for, which are too many.
+    /// The requested number of samples, which is too large.
     TooMany(u32),
-    /// The number of rows that were given, and the number of variables.
+    /// The number of given rows, and the number of variables.
     RowCount(u32, u32),
-    /// The variable whose row has no entry.
+    /// The variable with an empty row.
     EmptyRow(u32),
-    /// The variable, and its entry that is no value of it.
+    /// The variable, and its first entry that is not one of its values.
     ValueTooLarge(u32, u32),
-    /// The variable whose weights are too heavy.
+    /// The variable with too large a sum of weights.
     WeightSum(u32),
-    /// The numbers of the least two events that clash.
+    /// The numbers of the first two events that clash.
     Clashes(u32, u32),
-    /// The first record of a certificate's log that isn't legal.
+    /// The first record of a certificate's log that is not legal.
     NotLegal(u64),
-    /// Reading failed, or memory ran out, and there is no answer.
+    /// Reading failed, or memory ran out, and there is no result.
     Stopped(Stop),
 }
 
@@ -118,7 +118,7 @@ impl From<CertRefusal> for Refusal {
     }
 }
 
-/// The refusal of a certificate's log text, whose lines and records count from 1 there.
+/// The error for the text of a certificate's log. Its lines and records count from 1.
 pub fn unlogged(refusal: LogRefusal) -> Refusal
     requires { IsEarlyRecord refusal }
     ensures { result ≡ unlogged_as refusal }
@@ -132,7 +132,7 @@ pub fn unlogged(refusal: LogRefusal) -> Refusal
     }
 }
 
-/// A fault of stacks, whose variable the facts name.
+/// The error for a fault of stacks. The facts name its variable.
 pub fn unsound(facts: &Facts, fault: StackFault) -> Refusal
     requires { HasName fault }
     ensures { result ≡ unsound_as facts.now fault }
@@ -146,7 +146,7 @@ pub fn unsound(facts: &Facts, fault: StackFault) -> Refusal
     }
 }
 
-/// The answer of a word and numbers in one line, under a status.
+/// The result with this status, and one line with a keyword and numbers.
 pub fn told_in_line(
     alloc: Global,
     status: u8,
@@ -168,7 +168,7 @@ pub fn told_in_line(
 }
 
 impl Refusal {
-    /// The refusal as an answer: its status and its line. There is none where the call was stopped.
+    /// The error as a result, with its status and its line. There is none if the call was stopped.
     pub fn told(self, alloc: Global) -> Result<Answer, Stop>
         ensures { IsTold self result }
     {

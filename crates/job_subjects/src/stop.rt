@@ -1,15 +1,15 @@
-//! What ends a call without an answer.
+//! Why a call ends without a result.
 ghost use Rattle.std.specs.Prelude.{◌≡◌};
 ghost use Rattle.job_subjects.specs.declared.stop.Stop.TheVariants.{OutOfMemory};
 
 use std::alloc::AllocError;
 
-/// What ends a call without an answer.
+/// Why a call ends without a result.
 #[derive(Clone, Copy, Debug, PartialEq, Eq)]
 pub enum Stop {
     /// Reading failed.
     ReadFault,
-    /// Memory ran out.
+    /// Out of memory.
     OutOfMemory,
 }
 

@@ -1,19 +1,19 @@
-//! What is to be made of a text.
+//! What is to be made of an input.
 use crate::origin::StackOrigin;
 use pop_words::Command;
 
-/// What is to be made of a text: what a command samples, over stacks of this origin. The root
-/// counts where a tree of a graph is asked for, and the side where a grid is made.
+/// What is to be made of an input: what a command samples, over stacks from this source. The root
+/// is used only for a tree of a graph, and the side only for a grid.
 #[derive(Drop)]
 pub struct Wanted {
     /// The command: one that samples.
     pub command: Command,
-    /// Where the entries of the stacks come from.
+    /// The source of the stack entries.
     pub origin: StackOrigin,
-    /// How many samples are asked for, where the answer is a batch of them.
+    /// The requested number of samples of a batch, or None if there is no batch.
     pub count: Option<u32>,
-    /// The root, which is to be a vertex; vertices count from 1.
+    /// The root, which must be a vertex; vertices count from 1.
     pub root: u32,
-    /// How many rows and columns the grid has, from 1 to 2048.
+    /// The number of rows, and of columns, of the grid, from 1 to 2048.
     pub side: u32,
 }

@@ -1,5 +1,6 @@
-//! Walks along the current arrows. Laps of growing length keep nothing of their way, so that a walk
-//! takes no memory and no more time than some times the arrows that it passes (Brent 1980).
+//! Walks along the current arrows. The walk is cut into laps of growing length, and only the start
+//! of a lap is kept. So a walk takes no memory, and its time is at most a constant times the
+//! number of arrows that it passes (Brent 1980).
 ghost use Rattle.std.specs.Prelude.{◌≡◌, ◌<◌, length, MatchOption};
 ghost use Rattle.pop_model.specs.Cycles.{ReachesRoot};
 ghost use Rattle.pop_stacks.specs.Readers.{Belongs};
@@ -11,16 +12,16 @@ use confluence_core::CurrentArrows;
 use pop_instance::Cursors;
 use pop_stacks::Reader;
 
-// Where a lap of so many arrows leads.
+// The end of a lap of at most a given number of arrows.
 enum Lap {
     Root,
-    // To its start.
+    // The lap returned to its start.
     Back,
-    // To this variable, and not to its start before.
+    // The lap ended at this variable, without returning to its start.
     On(u32),
 }
 
-// Follows so many arrows from a variable, unless they lead to the root or back to it before.
+// Follows this many arrows from a variable, unless they lead to the root or back to it earlier.
 fn lap_from(
     current: &CurrentArrows,
     reader: &mut Reader,
@@ -48,8 +49,8 @@ fn lap_from(
     Lap::On(v)
 }
 
-/// A variable of the cycle to which the current arrows lead from a variable; None exactly where
-/// they lead to the root. A lap as long as there are variables ends on the cycle.
+/// A variable of the cycle that the current arrows reach from a variable. None exactly if they
+/// reach the root. A lap with as many arrows as there are variables ends on the cycle.
 pub(crate) fn variable_of_cycle(
     current: &CurrentArrows,
     reader: &mut Reader,

@@ -16,8 +16,8 @@ use pop_stacks::Reader;
 use std::alloc::{AllocError, Global};
 use std::marker::{Model, PhantomData};
 
-/// The pops of an instance so far, which workers share under a lock: the cursors and the log. The
-/// instance and the cursors that it opens from are those of its site.
+/// The book: the pops of an instance so far, as cursors and a log, which threads share under a
+/// lock. Its site gives the instance and the cursors that it starts from.
 #[derive(Drop)]
 pub struct Book<'i, N: Site> {
     instance: &'i Instance,
@@ -39,7 +39,7 @@ impl<'i, N: Site> Model for Book<'i, N> {
 }
 
 impl<'i, N: Site> Book<'i, N> {
-    /// The book before any pop, that opens from zeros.
+    /// The book before any pop, starting from zeros.
     pub fn new(alloc: Global, instance: &'i Instance) -> Result<Book<'i, N>, AllocError>
         requires site { instance.now ≡ N.instance }
         requires start { N.start ≡ start_of N.instance }
@@ -50,7 +50,7 @@ impl<'i, N: Site> Book<'i, N> {
         Book::start_at(alloc, instance, &zeros)
     }
 
-    /// The book before any pop, that opens from these cursors, which are below the heights.
+    /// The book before any pop, starting from these cursors, which must be below the heights.
     pub fn start_at(
         alloc: Global,
         instance: &'i Instance,
@@ -86,7 +86,7 @@ impl<'i, N: Site> Book<'i, N> {
         &self.log
     }
 
-    /// The cursors and the log. It takes no memory.
+    /// The cursors and the log. It allocates nothing.
     pub fn into_parts(self) -> (Cursors, Log)
         ensures cursors { result.0 ≡ self.entry.cursors }
         ensures log { result.1 ≡ self.entry.log }
@@ -101,9 +101,9 @@ impl<'i, N: Site> Book<'i, N> {
         (cursors, log)
     }
 
-    /// Pops the event of a unit, where it is poppable. For a listed family that is the event of
-    /// this place; for a cycle family it is the cycle to which the current arrows lead from this
-    /// variable. All answers but `Popped` leave the book as it was.
+    /// Pops the event of a unit, if it is poppable. For a listed family that is the event at this
+    /// place. For a cycle family it is the cycle that the current arrows reach from this variable.
+    /// Every result except `Popped` leaves the book unchanged.
     pub fn attempt(&mut self, alloc: Global, reader: &mut Reader, unit: u32) -> Attempt
         requires known { unit < units_of N.instance.family }
         requires belongs { Belongs N.instance.stacks reader.old }
@@ -117,7 +117,7 @@ impl<'i, N: Site> Book<'i, N> {
         }
     }
 
-    // Pops the listed event of a unit, where it is poppable.
+    // Pops the listed event of a unit, if it is poppable.
     fn attempt_listed(
         &mut self,
         alloc: Global,
@@ -140,7 +140,7 @@ impl<'i, N: Site> Book<'i, N> {
         self.attempt_event(alloc, reader, unit, cube)
     }
 
-    // Pops the cycle to which the arrows lead from a unit, where it is poppable.
+    // Pops the cycle that the arrows reach from a unit, if it is poppable.
     fn attempt_cycle(
         &mut self,
         alloc: Global,
@@ -166,7 +166,7 @@ impl<'i, N: Site> Book<'i, N> {
         }
     }
 
-    // Pops an event that occurs, where it is poppable.
+    // Pops an event that occurs, if it is poppable.
     fn attempt_event(
         &mut self,
         alloc: Global,
@@ -191,7 +191,7 @@ impl<'i, N: Site> Book<'i, N> {
         }
     }
 
-    // Pops an event that is poppable, and puts its record behind the log.
+    // Pops a poppable event, and adds its record at the end of the log.
     fn pop(&mut self, alloc: Global, unit: u32, cube: &Cube) -> Result<(), AllocError>
         requires event { IsEvent N.instance.family (record { unit = unit; cube = cube.now }) }
         requires poppable { IsPoppable N.instance.stacks self.old.cursors cube.now }

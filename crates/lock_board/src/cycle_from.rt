@@ -9,8 +9,8 @@ use pop_instance::{Cube, Cursors};
 use pop_stacks::Reader;
 use std::alloc::{AllocError, Global};
 
-/// The cycle that occurs to which the current arrows lead from a variable; None exactly where they
-/// lead to the root.
+/// The cycle that the current arrows reach from a variable; it occurs. None exactly if they reach
+/// the root.
 pub(crate) fn cycle_from(
     alloc: Global,
     current: &CurrentArrows,

@@ -1,12 +1,12 @@
-//! What stands at a unit. The contract of each function is the law.
+//! Theorems about the event of a unit. The contract of each function states one.
 ghost use Rattle.lock_board.specs.Laws.{AbsentExactly, OneEvent};
 
-/// An attempt finds nothing at a unit exactly where no event that is found from there occurs.
+/// An attempt finds no event at a unit exactly if no event that belongs to the unit occurs.
 pub fn absent_exactly()
     ensures { AbsentExactly }
 {}
 
-/// At most one event is found from a unit.
+/// At most one event belongs to a unit.
 pub fn one_event()
     ensures { OneEvent }
 {}

@@ -1,8 +1,9 @@
-//! A book of pops that workers share under a lock: its cursors, and the log of the pops that led
-//! there.
+//! The book: the pops of a run that threads share under a lock. It has the cursors, and the log of
+//! the pops that led there.
 //!
-//! Contracts see a book as its cursors and its log. The type keeps that the log is legal from zeros
-//! and that the cursors are its replay, so that whoever takes a book from a lock knows it.
+//! Contracts see a book as its cursors and its log. The type guarantees that the log is legal from
+//! the start and that the cursors are its replay. So a thread that takes the lock knows this of
+//! the book.
 #![tactic(auto)]
 
 mod arrow_walk;

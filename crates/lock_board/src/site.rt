@@ -1,7 +1,7 @@
 use std::marker::Brand;
 
-/// Which instance a book is of, and from which cursors it opens. Who calls a function that is
-/// generic over it picks this.
+/// The instance of a book, and the cursors that it starts from. The caller of a function that is
+/// generic over it chooses the type.
 pub trait Site {
     ghost use Rattle.std.specs.Prelude.{ℕ, List};
     ghost use Rattle.pop_model.specs.Instances.{Instance};

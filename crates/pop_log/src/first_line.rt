@@ -7,8 +7,8 @@ use crate::decimals::front_number;
 use crate::log_version::LogVersion;
 use crate::printed_record::is_line_end;
 
-/// The version and the count that the first line of a log text says. None exactly where it is no
-/// first line with a count of 64 bits.
+/// The version and the number of records that the first line of a log declares. None exactly if it
+/// is not a first line with a number of 64 bits.
 pub(crate) fn read_head(line: &[u8]) -> Option<(LogVersion, u64)>
     ensures { MatchOption result
         ((v : LogVersion) (n : ℕ) → n < 2 ^ 64 → line.now ≡ head_of v n → ⊥)
@@ -23,7 +23,7 @@ pub(crate) fn read_head(line: &[u8]) -> Option<(LogVersion, u64)>
     None
 }
 
-// The number that stands behind these bytes, up to the end of the line.
+// The number after this prefix, up to the end of the line.
 fn count_behind(front: &[u8], line: &[u8]) -> Option<u64>
     ensures { MatchOption result
         ((n : ℕ) → n < 2 ^ 64 → line.now ≡ front.now ++ line_spec (decimal n) → ⊥)

@@ -13,7 +13,7 @@ use confluence_core::Log;
 use pop_instance::Instance;
 use std::alloc::{AllocError, Global};
 
-/// Refuses a log of version 2 that isn't layered as it stands, with the layers that are said.
+/// Rejects a log of version 2 that is not in layered order or does not state its layers correctly.
 pub(crate) fn check_layers(
     alloc: Global,
     instance: &Instance,
@@ -39,9 +39,8 @@ pub(crate) fn check_layers(
     }
 }
 
-// The place of the first record whose said layer isn't its layer, or whose layer and unit don't
-// follow those of the record before it. None where the log is layered as it stands, with the layers
-// that are said.
+// The place of the first record with a wrong stated layer, or with a layer and unit that do not
+// follow those of the record before it. None if the log is in layered order with correct layers.
 fn first_unlayered(
     alloc: Global,
     count: u32,
@@ -66,7 +65,7 @@ fn first_unlayered(
     Ok(None)
 }
 
-// Whether layer and unit of a record follow those of the record before it.
+// Whether the layer and unit of a record follow those of the record before it.
 fn follows(log: &Log, said: &[u64], i: u64) -> bool
     requires within { i < length log.now }
     requires each { length said.now ≡ length log.now }
@@ -84,7 +83,7 @@ fn follows(log: &Log, said: &[u64], i: u64) -> bool
     )
 }
 
-// Whether a layer and a unit come before others.
+// Whether a pair of layer and unit comes before another.
 fn comes_before(layer: u64, unit: u32, next: u64, next_unit: u32) -> bool
     ensures { IsTrue result
         ↔ ((layer < next) ⊎ ((layer ≡ next) × (unit < next_unit))) }

@@ -15,8 +15,8 @@ use std::alloc::{AllocError, Global};
 use std::marker::Model;
 
 /// The records of a log in its layered order (the Foata normal form: Cartier and Foata 1969), each
-/// with its layer: by rising layer, then by rising unit, then in their order in the log. They are
-/// lent by the log and not copied. Contracts see a list of records with their layers.
+/// with its layer. They are sorted by layer, then by unit, then by their order in the log. They
+/// are borrowed from the log and not copied. Contracts see a list of records with their layers.
 #[derive(Drop)]
 pub struct LayeredLog<'l> {
     placed: Vec<PlacedRecord<'l>>,
@@ -35,8 +35,8 @@ impl<'l> Model for LayeredLog<'l> {
 impl<'l> LayeredLog<'l> {
     ghost use Rattle.pop_log.specs.LayeredTexts.{placed_text};
 
-    /// The layered order of a log. All variables are below the count. Beside that of the layers it
-    /// takes time n log n for n records.
+    /// The layered order of a log. All variables are below the count. In addition to the time for
+    /// the layers, it takes time n log n for n records.
     pub fn of(alloc: Global, count: u32, log: &'l Log) -> Result<LayeredLog<'l>, AllocError>
         requires { All (λ r. NamesBelow r.event.cube count) log.now }
         ensures { IfOk result (AreSorted log.now) }
@@ -52,8 +52,9 @@ impl<'l> LayeredLog<'l> {
         Ok(Log::of(copies(alloc, &self.placed)?))
     }
 
-    /// The text of these records, where they are a legal log: `log 2 P` with the number of records,
-    /// and a line `pop Y E V:K V:K ..` for each, with its layer and what `print_log` says of it.
+    /// The text of these records, if they are a legal log. Its first line is `log 2 P` with the
+    /// number of records. Each record has a line `pop Y E V:K V:K ..`, with its layer and what
+    /// `print_log` prints for it.
     pub fn print(
         &self,
         alloc: Global,
@@ -66,7 +67,8 @@ impl<'l> LayeredLog<'l> {
         self.print_behind(Vec::new(alloc), instance, names)
     }
 
-    /// The same behind a text that is at hand, which isn't copied where it has the room.
+    /// The text of `print`, added after the bytes of `text`. They are not copied if there is
+    /// enough room.
     pub fn print_behind(
         &self,
         text: Vec<u8>,
@@ -94,8 +96,8 @@ fn copies(alloc: Global, placed: &[PlacedRecord]) -> Result<Vec<Record>, AllocEr
     Ok(records)
 }
 
-/// The layered log: copies of the records in the layered order, as `LayeredLog` has them. All
-/// variables are below the count.
+/// The layered log: copies of the records in the order of `LayeredLog`. All variables are below
+/// the count.
 pub fn layered(alloc: Global, count: u32, log: &Log) -> Result<Log, AllocError>
     requires { All (λ r. NamesBelow r.event.cube count) log.now }
     ensures { IfOk result (IsLayered log.now) }
@@ -104,8 +106,8 @@ pub fn layered(alloc: Global, count: u32, log: &Log) -> Result<Log, AllocError>
     placed.copy(alloc)
 }
 
-/// The text of a legal log in its layered order, as `LayeredLog::print` tells it. It copies no
-/// record.
+/// The text of a legal log in its layered order, as `LayeredLog::print` makes it. No record is
+/// copied.
 pub fn print_layered(
     alloc: Global,
     instance: &Instance,

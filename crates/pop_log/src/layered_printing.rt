@@ -11,14 +11,14 @@ use pop_instance::Family;
 use pop_text::Output;
 use std::alloc::AllocError;
 
-// About how many bytes a line has.
+// About the number of bytes of a line.
 const LINE: usize = 48;
 
-// How many records are looked at ahead of their lines.
+// For how many records the room is reserved at a time.
 const AHEAD: usize = 32;
 
-// About how many bytes the lines of these records have: for each record its layer and its number,
-// and for each of its pairs a name, about as long as that of the first, and an entry.
+// About the number of bytes of the lines of these records. Each record has its layer and its
+// number. Each of its pairs has an entry, and a name about as long as that of the first.
 fn room_for_lines(placed: &[PlacedRecord]) -> usize {
     let mut room = 0usize;
     for i in 0..placed.len() {
@@ -31,9 +31,9 @@ fn room_for_lines(placed: &[PlacedRecord]) -> usize {
     room
 }
 
-// Takes room for the lines of the next records, at every so many records. Records of one layer lie
-// anywhere among those of the log, and where several are looked at in one go, the processor fetches
-// them from memory together, and not one after another as they are printed.
+// Reserves room for the lines of the next `AHEAD` records, before the first of them. The records
+// of a layer are anywhere in memory. If several are read in one loop, the processor fetches them
+// together, and not one after another as they are printed.
 fn look_ahead(out: &mut Output, placed: &[PlacedRecord], i: usize) -> Result<(), AllocError>
     requires { i < length placed.now }
     ensures { out.new ≡ out.old }
@@ -82,7 +82,7 @@ fn push_all_placed(
     Ok(())
 }
 
-/// A text, and behind it the first line and the line of each record.
+/// A text, followed by the first line and the line of each record.
 pub(crate) fn text_behind(
     names: &Names,
     family: &Family,

@@ -1,4 +1,4 @@
-//! Logs of pops: merged from tickets, replayed, in layers, and as text both ways.
+//! Logs of pops: merging by tickets, replay, layers, printing and reading.
 //!
 //! Contracts see a log as the list of its records.
 #![tactic(auto)]

@@ -1,4 +1,4 @@
-/// The version of a log text.
+/// The version of a log as text.
 #[derive(Clone, Copy)]
 pub(crate) enum LogVersion {
     /// Version 1: the records in the order of a log.

@@ -2,7 +2,8 @@ ghost use Rattle.std.specs.Prelude.{◌≡◌};
 
 use confluence_core::Record;
 
-/// A record of a log with its layer, and with its unit, so that a sort need not look for it.
+/// A record of a log with its layer and its unit. The unit is stored so that a sort does not have
+/// to look it up.
 #[derive(Drop)]
 pub(crate) struct PlacedRecord<'l> {
     pub popped: &'l Record,

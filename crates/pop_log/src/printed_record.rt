@@ -6,7 +6,8 @@ use crate::decimals::{front_number_32, number_behind};
 use std::alloc::{AllocError, Global};
 use std::marker::Model;
 
-/// A record as it is printed: the number of its event, and of each variable the name and the entry.
+/// A record as it is printed: the number of its event, and the name and the entry of each
+/// variable.
 #[derive(Drop)]
 pub(crate) struct PrintedRecord {
     number: u32,
@@ -22,8 +23,8 @@ impl Model for PrintedRecord {
 }
 
 impl PrintedRecord {
-    /// The record that words say, up to the end of their line. None exactly where they are those of
-    /// no record whose numbers have 32 bits.
+    /// The record that these bytes denote, up to the end of their line. None exactly if they
+    /// denote no record with numbers of 32 bits.
     pub fn read(alloc: Global, words: &[u8]) -> Result<Option<PrintedRecord>, AllocError>
         ensures { IfOk result (λ found. MatchOption found
             ((p : Printed) → FitsWords p → words.now ≡ words_line p → ⊥)
@@ -58,7 +59,7 @@ impl PrintedRecord {
     }
 }
 
-// A name and an entry at the front of a text, behind a space, and the rest.
+// A name and an entry at the start of a text, after a space, and the rest.
 fn front_pair(text: &[u8]) -> Option<(u32, u32, &[u8])>
     ensures { MatchOption result ((q : ℕ × ℕ) (rest : List ℕ) → BeginsWithPair text.now q rest → ⊥)
         (λ r. BeginsWithPair text.now (r.0, r.1) r.2.now) }
@@ -68,7 +69,7 @@ fn front_pair(text: &[u8]) -> Option<(u32, u32, &[u8])>
     Some((name, entry, rest))
 }
 
-/// Whether the text is the end of a line and no more.
+/// Whether the text is exactly a line end.
 pub(crate) fn is_line_end(text: &[u8]) -> bool
     ensures { IsTrue result ↔ (text.now ≡ 10 ∷ []) }
 {

@@ -17,8 +17,8 @@ use pop_instance::{Family, Instance};
 use pop_text::Output;
 use std::alloc::{AllocError, Global};
 
-/// The printed number of an event, by its unit: a listed event has its own, and a cycle has the
-/// name of its least variable.
+/// The printed number of an event, by its unit. A listed event has its own number, and a cycle has
+/// the name of its lowest variable.
 pub fn number_of_event(names: &Names, family: &Family, unit: u32) -> u32
     requires known { unit < units_of (family_of family.now) }
     ensures { result ≡ number_of names.now (family_of family.now) unit }
@@ -85,8 +85,8 @@ fn push_records(
     Ok(())
 }
 
-// About how many bytes the text has: for each record its number, and for each of its pairs a name
-// and an entry, mostly of one or two digits.
+// About the number of bytes of the text. Each record has its number. Each of its pairs has a name
+// and an entry, usually of one or two digits.
 fn room_for(count: u32, log: &Log) -> usize {
     let digits = Buffer::new().format(count).len();
     let mut room = 32usize;
@@ -97,9 +97,9 @@ fn room_for(count: u32, log: &Log) -> usize {
     room
 }
 
-/// The text of a legal log: `log 1 P` with the number of records, and a line `pop E V:K V:K ..` for
-/// each, with the number of its event and, for each variable in rising order, its name and the
-/// entry that the pop used.
+/// The text of a legal log. Its first line is `log 1 P` with the number of records. Each record
+/// has a line `pop E V:K V:K ..`: the number of its event and, for each variable in rising order,
+/// its name and the entry that the pop used.
 pub fn print_log(
     alloc: Global,
     instance: &Instance,

@@ -4,8 +4,8 @@ ghost use Rattle.pop_log.specs.RecordWords.{HasWords, SaysLayer};
 use crate::decimals::front_number;
 use crate::log_version::LogVersion;
 
-/// The layer that a line says, 0 in version 1, and the words behind it. None exactly where the line
-/// of no record of this version begins so.
+/// The layer that a line states, 0 in version 1, and the bytes after it. None exactly if no line
+/// of a record of this version begins this way.
 pub(crate) fn cut_words(version: LogVersion, line: &[u8]) -> Option<(u64, &[u8])>
     ensures { MatchOption result ((y : ℕ) (words : List ℕ) → HasWords version line.now y words → ⊥)
         (λ r. HasWords version line.now r.0 r.1.now) }
@@ -21,7 +21,7 @@ pub(crate) fn cut_words(version: LogVersion, line: &[u8]) -> Option<(u64, &[u8])
     }
 }
 
-// The layer that a line says, from 1 on, and what stands behind it and a space.
+// The layer that a line states, at least 1, and what follows after it and a space.
 fn cut_layer(line: &[u8]) -> Option<(u64, &[u8])>
     ensures { MatchOption result ((y : ℕ) (words : List ℕ) → SaysLayer line.now y words → ⊥)
         (λ r. SaysLayer line.now r.0 r.1.now) }

@@ -9,7 +9,7 @@ use std::alloc::AllocError;
 pub fn push_arrow(out: &mut Output, tail: u32, head: u32, number: u32) -> Result<(), AllocError>
     ensures { OnOk result (out.new ≡ out.old ++ arrow_line tail head number) }
 {
-    // a run prints a line for each edge, so a line is added in one step
+    // A run prints a line for each edge, so a line is added in one step.
     let mut line = ShortText::new();
     line.put(b'\n');
     line.put_spaced(u64::from(number));

@@ -6,7 +6,7 @@ use pop_instance::Values;
 use pop_text::Output;
 use std::alloc::AllocError;
 
-// A space and a variable's name, with `-` before it where its value is 0.
+// Adds a space and a variable's name, with `-` before it if its value is 0.
 fn push_literal(out: &mut Output, v: u32, x: u32) -> Result<(), AllocError>
     ensures { OnOk result (out.new ≡ out.old ++ 32 ∷ literal_of v x) }
 {
@@ -18,7 +18,7 @@ fn push_literal(out: &mut Output, v: u32, x: u32) -> Result<(), AllocError>
     out.push_number(name)
 }
 
-/// The line of an assignment, by a row of the values of so many variables.
+/// Adds the line of an assignment, given as a row with the values of this many variables.
 pub fn push_assignment_of(out: &mut Output, values: &[u32], count: u32) -> Result<(), AllocError>
     requires { length values.now ≡ count }
     ensures { OnOk result (out.new ≡ out.old ++ assignment_line values.now) }
@@ -30,7 +30,7 @@ pub fn push_assignment_of(out: &mut Output, values: &[u32], count: u32) -> Resul
     out.push(b" 0\n")
 }
 
-/// The line of an assignment, by the values of so many variables.
+/// Adds the line of an assignment, given as the values of this many variables.
 pub fn push_assignment(out: &mut Output, values: &Values, count: u32) -> Result<(), AllocError>
     requires { length values.now ≡ count }
     ensures { OnOk result (out.new ≡ out.old ++ assignment_line values.now) }

@@ -17,13 +17,13 @@ use rayon::prelude::*;
 use std::alloc::{AllocError, Global};
 use std::thread::Threads;
 
-// About how many bytes of text are worth a thread of their own.
+// About how many bytes of text make a separate thread worthwhile.
 const WORTH: usize = 1 << 16;
 
-// About how many bytes of text are printed beside the whole before they are put behind it.
+// About how many bytes of text are printed in separate buffers before they are added to the whole.
 const BESIDE: usize = 1 << 25;
 
-// The end of sample j, behind its number.
+// Adds the line with the number of sample j, and the end after it.
 fn push_numbered(
     alloc: Global,
     out: &mut Output,
@@ -37,7 +37,7 @@ fn push_numbered(
     ensures { OnOk result
         (out.new ≡ out.old ++ numbered_text facts.now instance.now (j, end.now)) }
 {
-    // Read for its contract, which says that the units, and so all names, fit their type.
+    // Read for its contract, which bounds the units, and so all names, by their type.
     let _units = instance.units();
     push_line(out, b"sample ", u64::from(j))?;
     FullEnd {
@@ -48,20 +48,20 @@ fn push_numbered(
     .push(alloc, out)
 }
 
-// About how many bytes the text of so many ends has, as that of one.
+// About the number of bytes of the text of this many ends, estimated from one.
 fn room_for_all(facts: &Facts, instance: &Instance, count: u32) -> usize {
     let of_one = room_for(facts, instance.stacks().count());
     of_one.saturating_mul(count as usize).saturating_add(32)
 }
 
-// How many samples, from 1 on, have about so many bytes of text, where one has so many.
+// How many samples, at least 1, have about this many bytes of text, if one sample has `of_one`.
 fn samples_in(bytes: usize, of_one: usize) -> u32
     ensures one { 0 < result }
 {
     (bytes / of_one.max(1)).clamp(1, 65536) as u32
 }
 
-// The text of the end of sample j behind its number, in a buffer of its own.
+// The text of sample j with its number, in a buffer of its own.
 fn numbered(
     alloc: Global,
     facts: &Facts,
@@ -79,8 +79,8 @@ fn numbered(
     Ok(out.into_bytes())
 }
 
-// The texts of the ends from sample `from` on before sample `to`, each by a thread that has time,
-// where so many samples are worth one.
+// The texts of the ends from sample `from` up to, but without, sample `to`. If there are enough
+// samples, each text is made by the next free thread.
 fn numbered_each<R: Threads + Sync>(
     rt: &R,
     alloc: Global,
@@ -110,7 +110,7 @@ fn numbered_each<R: Threads + Sync>(
         .collect::<Result<Vec<Vec<u8>>, AllocError>>(rt, alloc)?
 }
 
-// Adds texts one behind another.
+// Adds texts one after another.
 fn push_each(out: &mut Output, texts: &[Vec<u8>]) -> Result<(), AllocError>
     ensures { OnOk result (out.new ≡ out.old ++ flat_map (λ text. text.items) texts.now) }
 {
@@ -120,7 +120,7 @@ fn push_each(out: &mut Output, texts: &[Vec<u8>]) -> Result<(), AllocError>
     Ok(())
 }
 
-// Adds the texts of the ends from sample `from` on before sample `to`.
+// Adds the texts of the ends from sample `from` up to, but without, sample `to`.
 fn push_stretch<R: Threads + Sync>(
     rt: &R,
     alloc: Global,
@@ -145,10 +145,10 @@ fn push_stretch<R: Threads + Sync>(
     push_each(out, &texts)
 }
 
-/// The text of the ends of a batch of the instance, made in one buffer: the line `batch` with how
-/// many there are; and for each the line `sample` with its number, from 0, and the text of the end
-/// in full, as `text` has it where no grid was made. They are printed in parallel, some at a time,
-/// so that little is at hand beside the whole.
+/// The text of the ends of a batch of the instance, in one buffer. It has the line `batch` with
+/// the number of ends. For each end there is the line `sample` with its number, from 0, and then
+/// the whole end, as `text` prints it if no grid was made. A limited number of ends is printed in
+/// parallel at a time, so that little memory is used in addition to the whole.
 pub fn text_of_batch<R: Threads + Sync>(
     rt: &R,
     alloc: Global,

@@ -1,4 +1,4 @@
-//! How many entries were passed.
+//! The numbers of entries that were used.
 ghost use Rattle.std.specs.Prelude.{◌≡◌, ◌++◌, length, sum, OnOk};
 ghost use Rattle.pop_print.specs.Made.{greatest, IsGreatest, totals_line};
 ghost use Rattle.pop_print.specs.Output.{used_line};
@@ -7,7 +7,7 @@ use pop_instance::Cursors;
 use pop_text::Output;
 use std::alloc::AllocError;
 
-/// The line of the cursors.
+/// Adds the line of the cursors.
 pub fn push_used(out: &mut Output, cursors: &Cursors, count: u32) -> Result<(), AllocError>
     requires { length cursors.now ≡ count }
     ensures { OnOk result (out.new ≡ out.old ++ used_line cursors.now) }
@@ -31,7 +31,7 @@ fn sum_of(cursors: &Cursors, count: u32) -> u64
     total
 }
 
-// The greatest of the cursors; 0 where there are none.
+// The largest cursor, or 0 if there are none.
 fn greatest_of(cursors: &Cursors, count: u32) -> u32
     requires { length cursors.now ≡ count }
     ensures value { result ≡ greatest cursors.now }
@@ -44,7 +44,7 @@ fn greatest_of(cursors: &Cursors, count: u32) -> u32
     most
 }
 
-/// The line of the sum of the cursors and the greatest of them.
+/// Adds the line with the sum of the cursors and the largest cursor.
 pub fn push_totals(out: &mut Output, cursors: &Cursors, count: u32) -> Result<(), AllocError>
     requires { length cursors.now ≡ count }
     ensures { OnOk result (out.new ≡ out.old ++ totals_line cursors.now) }

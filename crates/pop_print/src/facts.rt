@@ -4,21 +4,22 @@ ghost use Rattle.pop_print.specs.Names.{name_of};
 
 use graph_read::{Graph, vertex_of};
 
-/// What the source of an instance says about it.
+/// What the input says about an instance.
 #[derive(Drop)]
 pub enum Facts {
-    /// A formula, with so many variables.
+    /// A formula with this many variables.
     Formula(u32),
-    /// The orientations of a graph: its edges are the variables.
+    /// The orientations of a graph. Its edges are the variables.
     Orient(Graph),
-    /// The spanning trees of a graph with this root: its other vertices are the variables.
+    /// The spanning trees of a graph with this root. Its other vertices are the variables.
     Tree(Graph, u32),
-    /// The spanning trees of a square grid of this side, from 1 to 2048, whose root is vertex 1.
+    /// The spanning trees of the square grid of this side, from 1 to 2048, with vertex 1 as the
+    /// root.
     Made(u32),
 }
 
 impl Facts {
-    /// Whether ends are told in full: that over a made grid is told in short.
+    /// Whether ends are printed in full. For a grid that is made only a summary is printed.
     pub fn are_told_in_full(&self) -> bool
         ensures { IsTrue result ↔ IsToldInFull self.now }
     {
@@ -28,8 +29,8 @@ impl Facts {
         }
     }
 
-    /// The printed name of a variable below 2^31: its number from 1, that of the edge, or the
-    /// vertex.
+    /// The printed name of a variable below 2^31: its number from 1, the number of the edge, or
+    /// the vertex.
     pub fn name(&self, v: u32) -> u32
         requires { v < 2 ^ 31 }
         ensures { result ≡ name_of self.now v }

@@ -1,4 +1,4 @@
-//! An end in full.
+//! An end that is printed in full.
 ghost use Rattle.std.specs.Prelude.{◌≡◌, ◌++◌, OnOk};
 ghost use Rattle.pop_print.specs.Ends.{AreFactsOf, IsPrintable};
 ghost use Rattle.pop_print.specs.Output.{found_lines, used_line, pops_line};
@@ -14,7 +14,7 @@ use pop_text::Output;
 use std::alloc::{AllocError, Global};
 use std::snapshot::Snapshot;
 
-/// An end, with its instance and what the source says about that.
+/// An end, with its instance and what the input says about it.
 #[derive(Drop)]
 pub(crate) struct FullEnd<'e> {
     pub facts: &'e Facts,
@@ -23,7 +23,7 @@ pub(crate) struct FullEnd<'e> {
 }
 
 impl<'e> FullEnd<'e> {
-    // What was found: the sample, or the events that occur.
+    // Adds the result: the sample, or the events that occur.
     fn push_found(&self, alloc: Global, out: &mut Output) -> Result<(), AllocError>
         requires facts { AreFactsOf self.now.facts.now self.now.instance.now }
         requires end { IsPrintable self.now.instance.now self.now.end.now.cursors
@@ -46,8 +46,8 @@ impl<'e> FullEnd<'e> {
         }
     }
 
-    /// The text of the end: what was found, the cursors, the number of pops. The entries of the
-    /// instance don't matter, since the end has the values.
+    /// Adds the text of the end: the result, the cursors, the number of pops. The entries of the
+    /// instance are not read, since the end has the values.
     pub fn push(&self, alloc: Global, out: &mut Output) -> Result<(), AllocError>
         requires facts { AreFactsOf self.now.facts.now self.now.instance.now }
         requires end { IsPrintable self.now.instance.now self.now.end.now.cursors

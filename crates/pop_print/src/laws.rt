@@ -1,7 +1,7 @@
-//! The law of printed literals. The contract of the function is the law.
+//! The theorem about printed literals. The contract of the function states it.
 ghost use Rattle.pop_print.specs.Laws.{SignedLiterals};
 
-/// A variable is printed as the literal of it that is true.
+/// For each variable the literal that is true is printed.
 pub fn signed_literals()
     ensures { SignedLiterals }
 {}

@@ -1,4 +1,4 @@
-//! The sample of a graph that is oriented: its edges by their directions.
+//! The sample of an orientation: the edges with their directions.
 ghost use Rattle.std.specs.Prelude.{◌≡◌, ◌++◌, length, OnOk};
 ghost use Rattle.pop_print.specs.Output.{oriented_line, orientation_lines};
 
@@ -8,7 +8,7 @@ use pop_instance::Values;
 use pop_text::Output;
 use std::alloc::AllocError;
 
-// An edge by its value: 0 points from its first vertex to its second, and 1 back.
+// Adds an edge with its value: 0 points from its first vertex to its second, and 1 back.
 fn push_oriented(out: &mut Output, edge: Edge, number: u32, x: u32) -> Result<(), AllocError>
     ensures { OnOk result (out.new ≡ out.old ++ oriented_line edge number x) }
 {
@@ -18,7 +18,7 @@ fn push_oriented(out: &mut Output, edge: Edge, number: u32, x: u32) -> Result<()
     push_arrow(out, edge.v, edge.u, number)
 }
 
-/// A line for each edge, by the values of the edges.
+/// Adds a line for each edge, by the values of the edges.
 pub fn push_orientation(out: &mut Output, graph: &Graph, values: &Values) -> Result<(), AllocError>
     requires { length values.now ≡ length graph.now.edges }
     ensures { OnOk result (out.new ≡ out.old ++ orientation_lines graph.now values.now) }

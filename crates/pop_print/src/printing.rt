@@ -16,7 +16,7 @@ use pop_text::Output;
 use std::alloc::{AllocError, Global};
 use std::snapshot::Snapshot;
 
-// The text of an end: of a made grid the summary, and else in full.
+// Adds the text of an end: a summary if a grid was made, and otherwise the whole end.
 fn push_text(
     alloc: Global,
     out: &mut Output,
@@ -29,7 +29,7 @@ fn push_text(
     ensures { OnOk result (out.new ≡ out.old ++ end_text facts.now instance.now
         end.now.cursors end.now.pops end.now.stuck) }
 {
-    // Read for its contract, which says that the units, and so all names, fit their type.
+    // Read for its contract, which bounds the units, and so all names, by their type.
     let _units = instance.units();
     match facts {
         Facts::Made(side) => push_summary(out, *side, instance, end),
@@ -44,8 +44,9 @@ fn push_text(
     }
 }
 
-// About how many bytes the text has: for each variable a cursor, mostly of one digit, and its name
-// with a sign and a space, or a line of three numbers; and a few lines, which are all of a summary.
+// About the number of bytes of the text. Each variable has a cursor, usually of one digit. It also
+// has its name with a sign and a space, or a line of three numbers. There are a few more lines,
+// and only these in a summary.
 pub(crate) fn room_for(facts: &Facts, count: u32) -> usize {
     let digits = Buffer::new().format(count).len();
     let of_each = match facts {
@@ -56,14 +57,19 @@ pub(crate) fn room_for(facts: &Facts, count: u32) -> usize {
     count as usize * of_each + 128
 }
 
-/// The text of an end: `s SAMPLE` and the lines of the sample where no event occurs, else
-/// `s EXHAUSTED` and a line for each event that does; then the cursors and the number of pops.
-/// Variables, edges, vertices and events have printed numbers from 1 on.
+/// The text of an end. If no event occurs, it has `s SAMPLE` and the lines of the sample.
+/// Otherwise it has `s EXHAUSTED` and a line for each event that occurs. The cursors and the
+/// number of pops follow. Printed numbers of variables, edges, vertices and events count from 1.
 ///
-/// Of a made grid it is a summary: the status; `grid` and the side; where events occur, `stuck` and
-/// how many do; `used`, the sum of the cursors and the greatest of them; `pops` and their number;
-/// and where no event occurs, `sum` and the sum, over the vertices but the root, of the vertex
-/// times its slot, which counts from 1 here.
+/// If a grid was made, it is a summary with these lines:
+///
+/// - the status;
+/// - `grid` and the side;
+/// - `stuck` and the number of events that occur, if there are any;
+/// - `used`, the sum of the cursors and the largest cursor;
+/// - `pops` and their number;
+/// - `sum`, if no event occurs: the sum, over the vertices except the root, of the vertex times
+///   its slot. Slots count from 1 here.
 pub fn text(
     alloc: Global,
     facts: &Facts,
@@ -81,8 +87,8 @@ pub fn text(
     Ok(out.into_bytes())
 }
 
-/// The same text where no event occurs and no grid was made. Nothing is looked at in the instance, so
-/// that it may be let go of before: it had `count` variables.
+/// The text of an end at which no event occurs, if no grid was made. The instance is not read, so
+/// it may be dropped before; it had `count` variables.
 pub fn text_of_sample(
     alloc: Global,
     facts: &Facts,

@@ -16,7 +16,7 @@ use pop_text::Output;
 use prs_rounds::RoundEnd;
 use std::alloc::{AllocError, Global};
 
-// What was found: the sample, or the events that occur.
+// Adds the result: the sample, or the events that occur.
 fn push_found(
     out: &mut Output,
     variables: u32,
@@ -28,7 +28,7 @@ fn push_found(
     ensures { OnOk result (out.new ≡ out.old ++ findings (FormulaFacts variables) instance.now
         end.now.cursors end.now.stuck) }
 {
-    // Read for its contract, which says that the units fit their type.
+    // Read for its contract, which bounds the units by their type.
     let _units = instance.units();
     if end.stuck.len() == 0 {
         out.push(b"s SAMPLE\n")?;
@@ -40,7 +40,7 @@ fn push_found(
     }
 }
 
-// The line of the variable without a next entry, where there is one.
+// Adds the line of the variable without a next entry, if there is one.
 fn push_short(out: &mut Output, short: Option<u32>) -> Result<(), AllocError>
     ensures { (variables : ℕ) → OnOk result
         (out.new ≡ out.old ++ short_line (FormulaFacts variables) short) }
@@ -51,10 +51,10 @@ fn push_short(out: &mut Output, short: Option<u32>) -> Result<(), AllocError>
     }
 }
 
-/// The text of the end of a run by rounds, of the events of a formula over so many variables: what
-/// was found and the cursors, as `text` has them; then `rounds` and how many there were; and where
-/// they are exhausted `short` and the least variable of the resampling set without a next entry,
-/// which counts from 1 here.
+/// The text of the end of a run by rounds, for the events of a formula with this many variables.
+/// It has the result and the cursors, as `text` prints them, then `rounds` and their number. If
+/// the run is exhausted, `short` follows, with the lowest variable of the resampling set without a
+/// next entry. It counts from 1 here.
 pub fn text_of_rounds(
     alloc: Global,
     variables: u32,

@@ -1,4 +1,4 @@
-//! The sample, whatever the source.
+//! The sample, for every kind of input.
 ghost use Rattle.std.specs.Prelude.{◌≡◌, ◌++◌, OnOk};
 ghost use Rattle.pop_print.specs.Ends.{AreFactsOf, IsPrintable};
 ghost use Rattle.pop_print.specs.Output.{sample_lines};
@@ -13,8 +13,8 @@ use pop_text::Output;
 use std::alloc::{AllocError, Global};
 use std::snapshot::Snapshot;
 
-/// The lines of the sample of an instance, at which nothing is looked. A made grid has none: it is
-/// told in short.
+/// Adds the lines of the sample, without reading the instance. For a grid that is made there are
+/// none, since only a summary is printed.
 pub fn push_sample(
     alloc: Global,
     out: &mut Output,

@@ -27,7 +27,7 @@ fn push_names(out: &mut Output, facts: &Facts, cube: &Cube) -> Result<(), AllocE
     Ok(())
 }
 
-// The line of an event: the number of a listed one, the variables of a cycle.
+// Adds the line of an event: the number of a listed one, or the variables of a cycle.
 fn push_event(
     out: &mut Output,
     facts: &Facts,
@@ -47,7 +47,7 @@ fn push_event(
     out.push(b"\n")
 }
 
-/// A line for each event that occurs.
+/// Adds a line for each event that occurs.
 pub fn push_stuck(
     out: &mut Output,
     facts: &Facts,

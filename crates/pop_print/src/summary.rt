@@ -1,4 +1,4 @@
-//! The summary of an end over a made grid.
+//! The summary of an end if a grid was made.
 ghost use Rattle.std.specs.Prelude.{◌≡◌, ◌+◌, ◌*◌, ◌<◌, ◌++◌, ℕ, length, slice_index, OnOk};
 ghost use Rattle.pop_model.specs.Names.{vertex_of as vertex_named};
 ghost use Rattle.graph_read.specs.Grids.{IsSide, grid_of};
@@ -15,7 +15,8 @@ use pop_instance::{Instance, Values};
 use pop_text::Output;
 use std::alloc::AllocError;
 
-// The sum, over the vertices but the root, which is vertex 1, of the vertex times its slot, from 1.
+// The sum, over the vertices except the root, of the vertex times its slot, from 1. The root is
+// vertex 1.
 fn slot_sum(side: u32, values: &Values) -> u64
     requires side { IsSide side }
     requires count { length values.now + 1 ≡ side * side }
@@ -23,7 +24,7 @@ fn slot_sum(side: u32, values: &Values) -> u64
         → slice_index values.now v < length (edges_at (grid_of side) (vertex_named 1 v)) }
     ensures { result ≡ slot_sum_of values.now }
 {
-    // There are so few vertices and edges that the sum is at most 2^46.
+    // The sum is at most 2^46, by the limits of vertices and edges.
     let mut total = 0;
     for v in 0..side * side - 1 {
         total += u64::from(vertex_of(1, v)) * (u64::from(values.get(v)) + 1);
@@ -31,7 +32,7 @@ fn slot_sum(side: u32, values: &Values) -> u64
     total
 }
 
-/// The summary of an end over the grid of this side.
+/// Adds the summary of an end for the grid of this side.
 pub fn push_summary(
     out: &mut Output,
     side: u32,

@@ -1,4 +1,4 @@
-//! The sample of a rooted spanning tree: its vertices by their arrows.
+//! The sample of a rooted spanning tree: the vertices with their arrows.
 ghost use Rattle.std.specs.Prelude.{◌≡◌, ◌+◌, ◌<◌, ◌++◌, ◌^◌, ℕ, length, slice_index, IfOk, OnOk};
 ghost use Rattle.pop_model.specs.Names.{vertex_of as vertex_named};
 ghost use Rattle.graph_read.specs.Graphs.{IsVertex, edge_at};
@@ -12,7 +12,7 @@ use pop_instance::Values;
 use pop_text::Output;
 use std::alloc::{AllocError, Global};
 
-// For each of so many vertices its slot, from 1; for the root 0.
+// For each vertex its slot, counted from 1, and 0 for the root.
 fn places_of(
     alloc: Global,
     vertices: u32,
@@ -32,19 +32,19 @@ fn places_of(
     Ok(places)
 }
 
-// A vertex by its arrow, which leads along an edge.
+// Adds the line of a vertex, with its arrow along edge i.
 fn push_along(out: &mut Output, graph: &Graph, vertex: u32, i: u32) -> Result<(), AllocError>
     requires { i < length graph.now.edges }
     ensures { OnOk result (out.new ≡ out.old
         ++ arrow_line vertex (other_end (edge_at graph.now i) vertex) (i + 1)) }
 {
-    // Read for its contract, which says how many edges there are at most.
+    // Read for its contract, which bounds the number of edges.
     let _edges = graph.edges();
     push_arrow(out, vertex, graph.edge(i).other_end(vertex), i + 1)
 }
 
-/// A line for each vertex but the root, by the values of so many vertices. The edges of the slots
-/// are found in one pass over all edges.
+/// Adds a line for each vertex except the root, by the values of this many variables. The edges of
+/// the slots are found in one pass over all edges.
 pub fn push_tree(
     alloc: Global,
     out: &mut Output,

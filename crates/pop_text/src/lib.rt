@@ -1,4 +1,4 @@
-//! Text that is printed, piece by piece. Contracts see it as the list of its bytes.
+//! Output text, written piece by piece. Contracts see it as the list of its bytes.
 #![tactic(auto)]
 
 mod output;

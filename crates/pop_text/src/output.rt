@@ -4,7 +4,7 @@ use crate::short_text::ShortText;
 use std::alloc::{AllocError, Global};
 use std::marker::Model;
 
-/// The bytes of a text so far. Contracts see them as a list.
+/// The bytes of an output so far. Contracts see them as a list.
 #[derive(Drop)]
 pub struct Output {
     bytes: Vec<u8>,
@@ -19,7 +19,7 @@ impl Model for Output {
 }
 
 impl Output {
-    /// An empty text, with room for so many bytes.
+    /// An empty output, with room for this many bytes.
     pub fn with_room(alloc: Global, room: usize) -> Result<Output, AllocError>
         ensures { IfOk result (λ out. out ≡ []) }
     {
@@ -28,14 +28,14 @@ impl Output {
         })
     }
 
-    /// The text of these bytes, which goes on behind them. It takes no memory.
+    /// An output that starts with these bytes. It allocates nothing.
     pub fn behind(bytes: Vec<u8>) -> Output
         ensures { result ≡ bytes.items }
     {
         Output { bytes }
     }
 
-    /// Takes room for so many bytes more, where it isn't there.
+    /// Makes sure that there is room for this many more bytes.
     pub fn reserve(&mut self, room: usize) -> Result<(), AllocError>
         ensures { self.new ≡ self.old }
     {
@@ -67,7 +67,7 @@ impl Output {
         self.push(text.as_bytes())
     }
 
-    /// Adds a space and two numbers with a sign between them.
+    /// Adds a space and two numbers with a separator between them.
     pub fn push_pair(&mut self, first: u64, sign: u8, second: u64) -> Result<(), AllocError>
         ensures { OnOk result (self.new
             ≡ self.old ++ 32 ∷ (decimal first ++ sign ∷ decimal second)) }
@@ -79,7 +79,7 @@ impl Output {
         self.push(text.as_bytes())
     }
 
-    /// The whole text.
+    /// The whole output.
     pub fn into_bytes(self) -> Vec<u8>
         ensures { result.items ≡ self }
     {

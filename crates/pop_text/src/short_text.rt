@@ -3,12 +3,12 @@ ghost use Rattle.std.specs.Prelude.{◌≡◌, ◌+◌, ◌<◌, ◌≤◌, ◌+
 use itoa::write_digits;
 use std::marker::Model;
 
-/// A text of at most 48 bytes that is written from its end to its front. Contracts see its bytes as
-/// a list. A line that is put together here is added to a text in one step.
+/// A text of at most 48 bytes that is written backwards, from its end. Contracts see its bytes as
+/// a list. A line that is built here is added to an output in one step.
 #[derive(Drop)]
 pub struct ShortText {
     bytes: [u8; 48],
-    // where the text starts; it ends where the bytes do
+    // The start of the text. It ends where the array ends.
     start: usize,
 }
 
@@ -34,7 +34,7 @@ impl ShortText {
         }
     }
 
-    /// Puts a byte in front.
+    /// Puts a byte before the text.
     #[inline]
     pub fn put(&mut self, byte: u8)
         requires { length self.old < 48 }
@@ -44,7 +44,7 @@ impl ShortText {
         self.bytes[self.start] = byte;
     }
 
-    /// Puts a number in front, in decimal digits.
+    /// Puts a number before the text, in decimal digits.
     #[inline]
     pub fn put_number(&mut self, n: u64)
         requires { length (decimal n) + length self.old ≤ 48 }
@@ -53,7 +53,7 @@ impl ShortText {
         self.start = write_digits(n, &mut self.bytes, self.start);
     }
 
-    /// Puts a space and a number in front.
+    /// Puts a space and a number before the text.
     #[inline]
     pub fn put_spaced(&mut self, n: u64)
         requires { length (decimal n) + length self.old < 48 }

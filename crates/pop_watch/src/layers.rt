@@ -8,18 +8,17 @@ use confluence_core::Record;
 use pop_instance::Cube;
 use std::alloc::{AllocError, Global};
 
-/// The watcher of kind 3: the layers of the log that it is told (the depth of the Foata normal
-/// form: Cartier and Foata 1969). Its state has at place 0 the greatest layer, and at place 1 + v
-/// the layer of the last record that named variable v, or 0. A layer stops at the greatest number
-/// of 64 bits.
+/// The observer of kind 3: the layers of the log (the depth in the Foata normal form: Cartier and
+/// Foata 1969). Place 0 of its state is the largest layer, and place 1 + v is the layer of the
+/// last record that named variable v, or 0. Layers are capped at 2^64 - 1.
 #[derive(Debug, Drop)]
 pub struct Layers {
     places: Vec<u64>,
 }
 
 impl Layers {
-    /// A watcher that was told nothing. Unlike those of the other kinds it takes memory, here and
-    /// where it is told a record.
+    /// An observer without records. Unlike those of the other kinds it allocates memory, here and
+    /// for each record.
     pub fn new(alloc: Global) -> Result<Layers, AllocError>
         ensures kind { IfOk result (λ w. ⟦<Layers as Watch>⟧.kind w ≡ 3) }
         ensures state { IfOk result (λ w. ⟦<Layers as Watch>⟧.state w ≡ 0 ∷ []) }
@@ -56,14 +55,14 @@ impl Watch for Layers {
     }
 }
 
-// The number at a place; 0 where it is missing.
+// The number at a place, or 0 if the place is missing.
 fn number_at(places: &[u64], at: usize) -> u64
     ensures { result ≡ slice_index places.now at }
 {
     if at < places.len() { places[at] } else { 0 }
 }
 
-// 1 more than the greatest number at the places of the variables.
+// One more than the largest number at the places of the variables.
 fn layer_of(places: &[u64], cube: &Cube) -> u64
     ensures { result ≡ layer_at places.now cube.now }
 {
@@ -75,7 +74,7 @@ fn layer_of(places: &[u64], cube: &Cube) -> u64
     greatest.saturating_add(1)
 }
 
-// How many places there are, once each variable has one.
+// The number of places after each variable has one.
 fn size_with(places: &[u64], cube: &Cube) -> usize
     ensures { result ≡ places_with places.now cube.now }
 {
@@ -87,7 +86,8 @@ fn size_with(places: &[u64], cube: &Cube) -> usize
     size
 }
 
-// Puts a layer at the places of the variables, and the greater of it and what is there at place 0.
+// Stores a layer at the places of the variables. Place 0 gets the layer too, if it is larger than
+// the number there.
 fn put_layer(places: &mut [u64], cube: &Cube, layer: u64)
     requires some { 0 < length places.old }
     requires room { All (λ p. p.0 + 1 < length places.old) cube.now }
@@ -101,7 +101,7 @@ fn put_layer(places: &mut [u64], cube: &Cube, layer: u64)
     places[0] = places[0].max(layer);
 }
 
-// How many places behind the first have a number that isn't 0.
+// The number of places after the first with a number that is not 0.
 fn used(places: &[u64]) -> u64
     ensures { result ≡ used_places places.now }
 {
@@ -111,7 +111,7 @@ fn used(places: &[u64]) -> u64
     not_zeros(&places[1..])
 }
 
-// How many numbers aren't 0.
+// How many of the numbers are not 0.
 fn not_zeros(numbers: &[u64]) -> u64
     ensures { result ≡ count_by (λ n. not (n == 0)) numbers.now }
 {

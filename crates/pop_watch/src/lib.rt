@@ -1,7 +1,8 @@
-//! Watchers: each is told the records of a log, one after another, and reports on them.
+//! Log observers, called watchers here. A watcher receives the records of a log one after another,
+//! and reports on them.
 //!
-//! Contracts see a watcher as its kind and its state, a list of numbers; what a log makes of
-//! several is defined in `specs/Telling.antt`.
+//! Contracts see a watcher as its kind and its state, a list of numbers. `specs/Telling.antt`
+//! defines the states of several watchers after a log.
 #![tactic(auto)]
 
 mod heights;

@@ -4,8 +4,8 @@ use pop_stacks::StackSpec;
 use pop_words::Command;
 use std::marker::Model;
 
-/// A certificate that was read. It borrows its input and its log text from the bytes that were
-/// read. Contracts see its head, its input and its log text.
+/// A certificate that was read. It borrows its input and the text of its log from the bytes that
+/// were read. Contracts see its head, its input and the text of its log.
 #[derive(Drop)]
 pub struct Cert<'b> {
     pub(crate) command: Command,
@@ -43,21 +43,22 @@ impl<'b> Cert<'b> {
         self.command
     }
 
-    /// Where the entries come from.
+    /// The source of the stack entries.
     pub fn spec(&self) -> &StackSpec
         ensures { result.now ≡ self.now.head.stacks }
     {
         &self.stacks
     }
 
-    /// The number of entries of each keyed stack, from 1 to 2^31 - 1; 2^20 where rows are given.
+    /// The number of entries of each keyed stack, from 1 to 2^31 - 1. It is 2^20 if rows are
+    /// given.
     pub fn height(&self) -> u32
         ensures { result ≡ self.now.head.height }
     {
         self.height
     }
 
-    /// The root of a tree, from 1 to 2^32 - 1; 1 for any other command.
+    /// The root of a tree, from 1 to 2^32 - 1. It is 1 for any other command.
     pub fn root(&self) -> u32
         ensures { result ≡ self.now.head.root }
     {
@@ -71,7 +72,7 @@ impl<'b> Cert<'b> {
         self.input
     }
 
-    /// The bytes behind the input, which are to be the text of a log.
+    /// The bytes after the input, which should be the text of a log.
     pub fn log_text(&self) -> &'b [u8]
         ensures { result.now ≡ self.now.log_text }
     {

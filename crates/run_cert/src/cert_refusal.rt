@@ -1,12 +1,12 @@
 use std::alloc::AllocError;
 use thiserror::Error;
 
-/// Why bytes are no certificate.
+/// Why bytes are not a certificate.
 #[derive(Debug, Drop, Error)]
 pub enum CertRefusal {
-    /// The line, from 1, and the code. Code 21 has the first line that can't stand in a head; a
-    /// missing line has the number at which it should stand. Code 22 has the last line of the head,
-    /// which says more bytes of input than follow it.
+    /// The line, from 1, and the code. Code 21 is the first invalid line of the head; for a
+    /// missing line it is the number that the line would have. Code 22 is the last line of the
+    /// head, if it declares more bytes of input than follow.
     #[error("line {0} is refused by code {1}")]
     Malformed(u64, u32),
     #[error("out of memory")]

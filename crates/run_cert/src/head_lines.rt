@@ -1,5 +1,5 @@
-//! What a line of a head says. A line is read loosely and then spelled again, so that it is
-//! accepted only as it is printed.
+//! Reads the lines of a head. A line is parsed leniently and then printed again, and it is
+//! accepted only if the two are equal.
 ghost use Rattle.std.specs.Prelude.{◌≡◌, ◌<◌, ◌≤◌, ◌++◌, ◌↔◌, ℕ, List, drop, true, decimal, Contains, IfOk, IsTrue, MatchOption};
 ghost use Rattle.std.specs.List.{find};
 ghost use Rattle.std.specs.Str.{bytes_eq};
@@ -25,7 +25,7 @@ const PAUSED: [Command; 4] = [
     Command::Resample,
 ];
 
-// The bytes between a label at the front of a line and its end.
+// The bytes between a label at the start of a line and the line end.
 fn behind<'a>(label: &[u8], line: &'a [u8]) -> Option<&'a [u8]>
     ensures { MatchOption result ((body : List ℕ) → line.now ≡ line_of (label.now ++ body) → ⊥)
         (λ body. line.now ≡ line_of (label.now ++ body.now)) }
@@ -42,7 +42,7 @@ fn is_between(n: u64, low: u32, high: u32) -> bool
     u64::from(low) <= n && n <= u64::from(high)
 }
 
-// The number behind a label, if it is from `low` to `high`.
+// The number after a label, if it is from `low` to `high`.
 fn labeled(label: &[u8], line: &[u8], low: u32, high: u32) -> Option<u32>
     ensures { Says (λ n. (low ≤ n) × (n ≤ high)) (λ n. line_of (label.now ++ decimal n))
         line.now result }
@@ -59,28 +59,28 @@ fn labeled(label: &[u8], line: &[u8], low: u32, high: u32) -> Option<u32>
     Some(n as u32)
 }
 
-/// The height that a line says.
+/// The height that a line states.
 pub(crate) fn height_in(line: &[u8]) -> Option<u32>
     ensures { Says IsHeight height_line line.now result }
 {
     labeled(b"height ", line, 1, (1 << 31) - 1)
 }
 
-/// The root of a tree that a line says.
+/// The root of a tree that a line states.
 pub(crate) fn root_in(line: &[u8]) -> Option<u32>
     ensures { Says (MayBeRoot true) root_line line.now result }
 {
     labeled(b"root ", line, 1, u32::MAX)
 }
 
-/// How many bytes of input a line says.
+/// The number of bytes of input that a line states.
 pub(crate) fn size_in(line: &[u8]) -> Option<u32>
     ensures { Says MayBeSize input_line line.now result }
 {
     labeled(b"input ", line, 0, u32::MAX)
 }
 
-// The command of a word, if a certificate may have it.
+// The command with this name, if a certificate may have it.
 fn paused_named(word: &[u8]) -> Option<Command>
     ensures { result ≡ find (λ command. bytes_eq (command_word command) word.now) paused }
 {
@@ -90,7 +90,7 @@ fn paused_named(word: &[u8]) -> Option<Command>
         .copied()
 }
 
-/// The command that the first line says.
+/// The command that the first line states.
 pub(crate) fn command_in(line: &[u8]) -> Option<Command>
     ensures { Says (Contains paused) command_line line.now result }
 {
@@ -106,7 +106,7 @@ fn are_same(a: &[u8], b: &[u8]) -> bool
     a == b
 }
 
-// The bytes of a key that these digits are.
+// The key that these digits denote.
 fn key_of(alloc: Global, digits: &[u8]) -> Result<Option<[u8; 32]>, AllocError>
     ensures { IfOk result (Says (λ key. MayBeStacks (Key key)) encode_lower digits.now) }
 {
@@ -120,7 +120,7 @@ fn key_of(alloc: Global, digits: &[u8]) -> Result<Option<[u8; 32]>, AllocError>
     Ok(Some(key))
 }
 
-// The bytes behind the first.
+// The bytes after the first one.
 fn behind_first(text: &[u8]) -> &[u8]
     ensures { result.now ≡ drop 1 text.now }
 {
@@ -130,7 +130,7 @@ fn behind_first(text: &[u8]) -> &[u8]
     &text[1..]
 }
 
-// The rows that this text is, as they are printed.
+// The rows that this text denotes, if it is their printed form.
 fn rows_of(alloc: Global, text: &[u8]) -> Result<Option<Rows>, AllocError>
     ensures { IfOk result (Says (λ rows. MayBeStacks (Given rows)) rows_text text.now) }
 {
@@ -146,7 +146,7 @@ fn rows_of(alloc: Global, text: &[u8]) -> Result<Option<Rows>, AllocError>
     Ok(Some(rows))
 }
 
-/// The stacks that a line says.
+/// The stacks that a line states.
 pub(crate) fn stacks_in(alloc: Global, line: &[u8]) -> Result<Option<StackSpec>, AllocError>
     ensures { IfOk result (Says MayBeStacks stacks_line line.now) }
 {

@@ -1,7 +1,7 @@
-//! Certificates: one text that holds a command, its stacks, its input and the text of a log. And
-//! runs that are stopped after so many pops, with what is seen at their cursors.
+//! Certificates: one file with a command, its stacks, its input and the text of a log. Also runs
+//! that are stopped after a number of pops, with the state at their cursors.
 //!
-//! Contracts see a certificate as its head, its input and its log text.
+//! Contracts see a certificate as its head, its input and the text of its log.
 #![tactic(auto)]
 
 mod cert;

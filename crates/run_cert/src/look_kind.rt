@@ -1,4 +1,4 @@
-/// How a run stands at its cursors.
+/// The state of a run at its cursors.
 #[derive(Clone, Copy, Debug, PartialEq, Eq)]
 pub enum Look {
     /// No event occurs.

@@ -1,4 +1,4 @@
-//! What is seen at cursors, and runs that are stopped after so many pops.
+//! The state at cursors, and runs that are stopped after a number of pops.
 ghost use Rattle.std.specs.Prelude.{◌≡◌, ◌↔◌, length, IfOk, IsTrue};
 ghost use Rattle.pop_model.specs.Stacks.{variables_of};
 ghost use Rattle.pop_model.specs.Popping.{AreWithin};
@@ -12,7 +12,7 @@ use pop_instance::{Cursors, Instance};
 use pop_stacks::Reader;
 use std::alloc::{AllocError, Global};
 
-// Whether some of these events, which are those that occur, is poppable.
+// Whether one of these events is poppable. They must be those that occur.
 fn is_open(instance: &Instance, reader: &mut Reader, cursors: &Cursors, stuck: &Stuck) -> bool
     requires count { variables_of instance.now.stacks ≡ length cursors.now }
     requires within { AreWithin instance.now.stacks cursors.now }
@@ -31,7 +31,7 @@ fn is_open(instance: &Instance, reader: &mut Reader, cursors: &Cursors, stuck: &
     false
 }
 
-// How a run stands where these are the events that occur.
+// The state of a run if these are the events that occur.
 fn look_of(instance: &Instance, reader: &mut Reader, cursors: &Cursors, stuck: &Stuck) -> Look
     requires count { variables_of instance.now.stacks ≡ length cursors.now }
     requires within { AreWithin instance.now.stacks cursors.now }
@@ -48,7 +48,7 @@ fn look_of(instance: &Instance, reader: &mut Reader, cursors: &Cursors, stuck: &
     Look::Exhausted
 }
 
-/// What is seen at cursors that are below the heights. Its time is linear in the instance.
+/// The state at cursors, which must be below the heights. The time is linear in the instance.
 pub fn look(alloc: Global, instance: &Instance, cursors: &Cursors) -> Result<Seen, AllocError>
     requires count { variables_of instance.now.stacks ≡ length cursors.now }
     requires within { AreWithin instance.now.stacks cursors.now }
@@ -60,7 +60,7 @@ pub fn look(alloc: Global, instance: &Instance, cursors: &Cursors) -> Result<See
     Ok(Seen { look, stuck })
 }
 
-/// The run from zeros on one thread, to an end or to so many pops.
+/// The run from zeros on one thread, to its end or for at most this many pops.
 pub fn run_part(alloc: Global, instance: &Instance, limit: u64) -> Result<Part, AllocError>
     ensures part { IfOk result (IsStopped instance.now limit) }
     ensures count { IfOk result (λ part. variables_of instance.now.stacks ≡ length part.cursors) }

@@ -2,13 +2,13 @@ use crate::Seen;
 use confluence_core::Log;
 use pop_instance::Cursors;
 
-/// A run from zeros, as far as it went.
+/// A run from zeros, up to where it was stopped or ended.
 #[derive(Drop)]
 pub struct Part {
-    /// The cursors that the run left.
+    /// The cursors at that point.
     pub cursors: Cursors,
     /// The log of its pops.
     pub log: Log,
-    /// What is seen at the cursors.
+    /// The state at the cursors.
     pub seen: Seen,
 }

@@ -1,4 +1,4 @@
-//! The text of a certificate.
+//! Prints certificates.
 ghost use Rattle.std.specs.Prelude.{◌≡◌, ◌<◌, ◌^◌, ◌++◌, length, decimal, IfOk, OnOk};
 ghost use Rattle.std.specs.List.{concat};
 ghost use Rattle.pop_model.specs.Text.{line};
@@ -58,7 +58,7 @@ fn push_stacks(alloc: Global, out: &mut Output, stacks: &StackSpec) -> Result<()
     }
 }
 
-// The line of the height of these stacks, where they have one.
+// The line of the height of these stacks, if they have one.
 fn push_height(out: &mut Output, stacks: &StackSpec, height: u32) -> Result<(), AllocError>
     ensures { OnOk result (out.new
         ≡ out.old ++ concat (height_lines stacks.now (height_said stacks.now height))) }
@@ -69,7 +69,7 @@ fn push_height(out: &mut Output, stacks: &StackSpec, height: u32) -> Result<(), 
     }
 }
 
-// The line of the root, where there is one.
+// The line of the root, if there is one.
 fn push_root(out: &mut Output, rooted: bool, root: u32) -> Result<(), AllocError>
     ensures { OnOk result (out.new
         ≡ out.old ++ concat (root_lines rooted (root_said rooted root))) }
@@ -80,7 +80,7 @@ fn push_root(out: &mut Output, rooted: bool, root: u32) -> Result<(), AllocError
     Ok(())
 }
 
-// The head of a job, with so many bytes of input.
+// The head of a job, for this many bytes of input.
 fn head_text(alloc: Global, job: &Job, size: u64) -> Result<Vec<u8>, AllocError>
     ensures { IfOk result (λ head. head.items ≡ concat (head_lines (head_of job.now size))) }
 {
@@ -93,8 +93,8 @@ fn head_text(alloc: Global, job: &Job, size: u64) -> Result<Vec<u8>, AllocError>
     Ok(out.into_bytes())
 }
 
-/// The text of a certificate: the job's command, stacks, height and root, the input, which has
-/// fewer than 2^32 bytes, and a log text.
+/// The text of a certificate: the job's command, stacks, height and root, then the input, which
+/// has fewer than 2^32 bytes, and then the text of the log.
 pub fn print_cert(
     alloc: Global,
     job: &Job,

@@ -1,4 +1,4 @@
-//! Certificates read, line by line.
+//! Reads certificates line by line.
 ghost use Rattle.std.specs.Prelude.{◌≡◌, ◌<◌, ◌++◌, length, IfOk, IfErr, MatchOption};
 ghost use Rattle.run_cert.specs.Heads.{height_lines, root_lines, MayBeHeight, MayBeRoot};
 ghost use Rattle.run_cert.specs.HeadLines.{IsStart, Reads};
@@ -13,10 +13,10 @@ use pop_stacks::StackSpec;
 use pop_words::Command;
 use std::alloc::Global;
 
-// The height of given rows: the default of words.
+// The height of given rows, which is the default of `--height`.
 const GIVEN_HEIGHT: u32 = 1 << 20;
 
-// The command, the stacks, and the bytes behind the first line of these.
+// The command, the stacks, and the bytes after their lines.
 fn read_start(alloc: Global, bytes: &[u8]) -> Result<(Command, StackSpec, &[u8]), CertRefusal>
     ensures start { IfOk result (λ r. IsStart bytes.now r.0 r.1 r.2.now) }
     ensures refusal { IfErr result (IsCertRefusal bytes.now) }
@@ -32,7 +32,7 @@ fn read_start(alloc: Global, bytes: &[u8]) -> Result<(Command, StackSpec, &[u8])
     Ok((command, stacks, rest))
 }
 
-// The height of these stacks, how many lines say it, and the bytes behind these.
+// The height of these stacks, the number of its lines, and the bytes after them.
 fn read_height<'b>(stacks: &StackSpec, bytes: &'b [u8]) -> Option<(u32, u8, &'b [u8])>
     ensures { Reads (MayBeHeight stacks.now) (height_lines stacks.now) bytes.now result }
 {
@@ -48,7 +48,7 @@ fn read_height<'b>(stacks: &StackSpec, bytes: &'b [u8]) -> Option<(u32, u8, &'b 
     }
 }
 
-// The root, where there is one, how many lines say it, and the bytes behind these.
+// The root, if there is one, the number of its lines, and the bytes after them.
 fn read_root(rooted: bool, bytes: &[u8]) -> Option<(u32, u8, &[u8])>
     ensures { Reads (MayBeRoot rooted) (root_lines rooted) bytes.now result }
 {
@@ -62,7 +62,7 @@ fn read_root(rooted: bool, bytes: &[u8]) -> Option<(u32, u8, &[u8])>
     Some((root, 1, rest))
 }
 
-// So many bytes at the front of a text, and those behind them.
+// The first `size` bytes of a text, and those after them.
 fn cut_input(text: &[u8], size: u32) -> Option<(&[u8], &[u8])>
     ensures { MatchOption result (length text.now < size)
         (λ r. (text.now ≡ r.0.now ++ r.1.now) × (length r.0.now ≡ size)) }
@@ -73,8 +73,8 @@ fn cut_input(text: &[u8], size: u32) -> Option<(&[u8], &[u8])>
     Some(text.split_at(size as usize))
 }
 
-/// Reads a certificate. It accepts exactly the texts of certificates, and copies neither the input
-/// nor the log text, which it doesn't look at.
+/// Reads a certificate. It accepts exactly the texts of certificates. It copies neither the input
+/// nor the text of the log, and does not check that text.
 pub fn read_cert(alloc: Global, bytes: &[u8]) -> Result<Cert<'_>, CertRefusal>
     ensures cert { IfOk result (IsCertOf bytes.now) }
     ensures refusal { IfErr result (IsCertRefusal bytes.now) }

@@ -1,4 +1,4 @@
-//! The text of rows, as words and certificates have it.
+//! The printed form of rows, in arguments and certificates.
 ghost use Rattle.std.specs.Prelude.{◌≡◌, ◌++◌, [], map, if◌then◌else◌, OnOk};
 ghost use Rattle.std.specs.List.{join_with_byte};
 ghost use Rattle.run_cert.specs.Heads.{row_text, rows_text};
@@ -7,7 +7,7 @@ use pop_stacks::Rows;
 use pop_text::Output;
 use std::alloc::AllocError;
 
-// A sign, where it is wanted.
+// Adds a separator, if it is wanted.
 fn push_sign(out: &mut Output, wanted: bool, sign: &[u8]) -> Result<(), AllocError>
     ensures { OnOk result (out.new ≡ out.old ++ (if wanted then sign.now else [])) }
 {
@@ -39,7 +39,7 @@ fn push_joined_rows(out: &mut Output, rows: &Rows) -> Result<(), AllocError>
     Ok(())
 }
 
-/// Adds rows joined by `;`, behind a space; nothing where there is no row.
+/// Adds rows joined by `;`, after a space. Adds nothing if there are no rows.
 pub(crate) fn push_rows(out: &mut Output, rows: &Rows) -> Result<(), AllocError>
     ensures { OnOk result (out.new ≡ out.old ++ rows_text rows.now) }
 {

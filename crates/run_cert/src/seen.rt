@@ -1,7 +1,7 @@
 use crate::Look;
 use confluence_core::Stuck;
 
-/// What is seen at cursors.
+/// The state of a run at its cursors.
 #[derive(Drop)]
 pub struct Seen {
     pub look: Look,

@@ -11,15 +11,15 @@ use graph_read::{Graph, Incidence};
 use pop_instance::{Cube, Events};
 use std::alloc::Global;
 
-/// The events of the graph, each under the number of its vertex, from 1: the cube of vertex w has
-/// each edge that touches w, with the value at which it points to w. Edge i, from 0, is variable i;
-/// value 0 points from u to v, and 1 from v to u. A vertex with a loop is never a sink, and has no
-/// event. Time and memory are linear in vertices and edges.
+/// The events of the graph, each under the number of its vertex, from 1. The cube of vertex w has
+/// each edge at w, with the value for which the edge points to w. Edge i, from 0, is variable i;
+/// value 0 points from u to v, and 1 from v to u. A vertex with a self-loop is never a sink, and
+/// has no event. Time and memory are linear in vertices and edges.
 ///
 /// # Errors
 ///
-/// `Isolated` with the least vertex that no edge touches, exactly where there is one. A loop
-/// touches its vertex.
+/// `Isolated` with the lowest vertex that has no edges, exactly if there is one. A self-loop is an
+/// edge of its vertex.
 pub fn sinks(alloc: Global, graph: &Graph) -> Result<Events, SinkFault>
     ensures sinks { IfOk result (AreSinksOf graph.now) }
     ensures fit { IfOk result (FitVariables (length graph.now.edges)) }
@@ -30,7 +30,8 @@ pub fn sinks(alloc: Global, graph: &Graph) -> Result<Events, SinkFault>
     sinks_of(alloc, &incidence)
 }
 
-/// The events of a graph whose incidence is at hand: those of `sinks`, or its refusals.
+/// The events of a graph that is given with its incidence. The events and the errors are those of
+/// `sinks`.
 pub(crate) fn sinks_of(alloc: Global, incidence: &Incidence) -> Result<Events, SinkFault>
     ensures sinks { IfOk result (AreSinksOf incidence.now) }
     ensures fit { IfOk result (FitVariables (length incidence.now.edges)) }
@@ -48,7 +49,7 @@ pub(crate) fn sinks_of(alloc: Global, incidence: &Incidence) -> Result<Events, S
     Ok(Events::of(rows))
 }
 
-// The event of a vertex, if it has no loop.
+// The event of a vertex, or None if it has a self-loop.
 fn sink_at(
     alloc: Global,
     incidence: &Incidence,

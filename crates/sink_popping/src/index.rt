@@ -13,12 +13,13 @@ use pop_rows::RowList;
 use std::alloc::{AllocError, Global};
 
 /// The events of the graph, those of `sinks`, with their index: for each edge the places of the
-/// events of its ends. Time and memory are linear in vertices and edges. The incidence by which the
-/// events are made is let go behind the index, so that neither leaves a gap in memory.
+/// events of its ends. Time and memory are linear in vertices and edges. The incidence that the
+/// events are made from is dropped after the index is made, so that neither leaves a gap in
+/// memory.
 ///
 /// # Errors
 ///
-/// As of `sinks`.
+/// Those of `sinks`.
 pub fn indexed_sinks(alloc: Global, graph: &Graph) -> Result<(Events, Index), SinkFault>
     ensures sinks { IfOk result (λ parts. AreSinksOf graph.now parts.0) }
     ensures fit { IfOk result (λ parts. FitVariables (length graph.now.edges) parts.0) }
@@ -34,7 +35,7 @@ pub fn indexed_sinks(alloc: Global, graph: &Graph) -> Result<(Events, Index), Si
 }
 
 // The index of the events of the graph. It is made edge by edge, so that its rows are written in
-// their order.
+// order.
 fn sink_index(alloc: Global, graph: &Graph, events: &Events) -> Result<Index, AllocError>
     requires sinks { AreSinksOf graph.now events.now }
     ensures index { IfOk result (IsIndex events.now) }
@@ -55,7 +56,7 @@ fn push_places(rows: &mut RowList, places: &Places, edge: Edge) -> Result<(), Al
     requires to { edge.v < length places.now }
     ensures { OnOk result (rows.new ≡ rows.old ++ places_at places.now edge ∷ []) }
 {
-    // Places rise with the vertices.
+    // The places of events rise with their vertices.
     let first = places.at(edge.u.min(edge.v));
     let second = places.at(edge.u.max(edge.v));
     match (first, second) {

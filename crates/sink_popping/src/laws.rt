@@ -1,4 +1,4 @@
-//! The law of the events of sinks. The contract of the function is the law.
+//! The theorem about the events of sinks. The contract of the function states it.
 ghost use Rattle.sink_popping.specs.Laws.{SinksExtremal};
 
 /// Two different events that share an edge demand different directions of it.

@@ -1,5 +1,5 @@
-//! The events of sink-free orientations: an edge is a variable, whose value is its direction, and
-//! each vertex that can be a sink is an event. Contracts see the events as numbered cubes.
+//! The events of sink-free orientations. Each edge is a variable, and its value is its direction.
+//! Each vertex that can be a sink is an event. Contracts see the events as numbered cubes.
 #![tactic(auto)]
 
 mod events;

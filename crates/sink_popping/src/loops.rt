@@ -4,7 +4,7 @@ ghost use Rattle.sink_popping.specs.SinkCubes.{AreLoopMarks};
 use graph_read::Graph;
 use std::alloc::{AllocError, Global};
 
-/// For each vertex whether it has a loop. Vertices count from 1.
+/// For each vertex whether it has a self-loop. Vertices count from 1.
 pub fn loop_marks(alloc: Global, graph: &Graph) -> Result<Vec<bool>, AllocError>
     ensures { IfOk result (λ marks. AreLoopMarks graph.now marks.items) }
 {

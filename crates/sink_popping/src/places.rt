@@ -6,17 +6,18 @@ use pop_instance::Events;
 use std::alloc::{AllocError, Global};
 use std::marker::Model;
 
-// How the places are kept.
+// The two ways of storing the places.
 #[derive(Drop)]
 enum KeptPlaces {
-    // Each of so many vertices has an event, that of vertex w at place w - 1, and nothing is kept.
+    // Each of this many vertices has an event. That of vertex w is at place w - 1, so no list is
+    // stored.
     Each(u32),
-    // By vertex. Vertices count from 1, so the first place says nothing.
+    // By vertex. Vertices count from 1, so the first item is unused.
     Listed(Vec<Option<u32>>),
 }
 
-/// For each vertex the place of its event. Contracts see a list whose first member says nothing,
-/// since vertices count from 1.
+/// The place of the event of each vertex. Contracts see a list with an unused first item, since
+/// vertices count from 1.
 #[derive(Drop)]
 pub struct Places {
     kept: KeptPlaces,
@@ -32,8 +33,8 @@ impl Model for Places {
 }
 
 impl Places {
-    /// The places of the events of so many vertices. Where each vertex has one, they are known
-    /// without a list, which would be read in no order.
+    /// The places of the events of this many vertices. If each vertex has an event, no list is
+    /// stored: its items would be read in no order, which is slow.
     pub fn of_events(alloc: Global, events: &Events, vertices: u32) -> Result<Places, AllocError>
         requires { All (λ r. r.0 ≤ vertices) events.now }
         ensures count { IfOk result (λ places. length places ≡ vertices + 1) }
@@ -47,7 +48,7 @@ impl Places {
         Ok(Places { kept })
     }
 
-    /// The place of a vertex's event.
+    /// The place of the event of a vertex, if it has one.
     #[inline]
     pub fn at(&self, vertex: u32) -> Option<u32>
         requires { vertex < length self.now }
@@ -60,7 +61,7 @@ impl Places {
     }
 }
 
-// Whether each of so many vertices has an event.
+// Whether each of this many vertices has an event.
 fn have_all(events: &Events, vertices: u32) -> bool
     ensures count { IsTrue result → length events.now ≡ vertices }
     ensures numbers { IsTrue result
@@ -77,7 +78,7 @@ fn have_all(events: &Events, vertices: u32) -> bool
     true
 }
 
-// The places one by one.
+// The places, stored as a list.
 fn listed(alloc: Global, events: &Events, vertices: u32) -> Result<Vec<Option<u32>>, AllocError>
     requires { All (λ r. r.0 ≤ vertices) events.now }
     ensures count { IfOk result (λ places. length places.items ≡ vertices + 1) }

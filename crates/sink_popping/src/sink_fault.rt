@@ -4,7 +4,7 @@ use thiserror::Error;
 /// Why a graph has no events of sinks.
 #[derive(Clone, Copy, Debug, PartialEq, Eq, Error)]
 pub enum SinkFault {
-    /// The least vertex that no edge touches, from 1: it is a sink of each orientation.
+    /// The lowest vertex without edges, from 1. It is a sink in every orientation.
     #[error("vertex {0} is isolated")]
     Isolated(u32),
     #[error("out of memory")]

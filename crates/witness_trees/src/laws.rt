@@ -1,7 +1,7 @@
-//! The laws of witness trees. The contract of each function is the law.
+//! Theorems about witness trees. The contract of each function states one.
 ghost use Rattle.witness_trees.specs.Laws.{LevelsApart, OnePop, OneTree, SameTree, SiblingsDiffer, SwapKeepsTree};
 
-/// Vertices of one depth share no variable.
+/// Vertices of the same depth share no variable.
 pub fn levels_apart()
     ensures { LevelsApart }
 {}
@@ -11,23 +11,23 @@ pub fn siblings_differ()
     ensures { SiblingsDiffer }
 {}
 
-/// A record of a log has one witness tree.
+/// A record of a log has exactly one witness tree.
 pub fn one_tree()
     ensures { OneTree }
 {}
 
-/// Exchanging two neighbours of a log that share no variable changes no record's tree.
+/// If two neighbours of a log that share no variable are swapped, no record changes its tree.
 pub fn swap_keeps_tree()
     ensures { SwapKeepsTree }
 {}
 
-/// An entry of a variable is used by one pop of a legal log at most.
+/// At most one pop of a legal log uses a given entry of a variable.
 pub fn one_pop()
     ensures { OnePop }
 {}
 
-/// On an extremal instance the pop of an entry of a variable has one tree, whatever run to an end
-/// it is a part of.
+/// On an extremal instance the pop of an entry of a variable has the same tree in every run to an
+/// end.
 pub fn same_tree()
     ensures { SameTree }
 {}

@@ -1,6 +1,6 @@
-//! Hints: units at which an event may be poppable. Each worker has a deque of its own, and steals
-//! from those of the others where it is empty. Behind a turn that met another worker it takes
-//! another hint first. A hint that is lost loses no event.
+//! Hints: units at which an event may be poppable. Each worker has a deque of hints. If it is
+//! empty, the worker steals from the deques of the others. After a turn in which it met another
+//! worker, it takes another hint first. If a hint is lost, no event is lost.
 ghost use Rattle.std.specs.Prelude.{◌≡◌, ℕ, ◌+◌, ◌*◌, ◌/◌, All, ◌<◌, ◌≤◌, IfSome, length};
 
 use crate::Worker;
@@ -9,7 +9,7 @@ use crossbeam_deque::{Steal, Stealer, Worker as Deque};
 use std::alloc::{AllocError, Global};
 use std::marker::{Brand, PhantomData};
 
-/// How many units there are; it is picked where the deques are made.
+/// The number of units, chosen by the function that makes the deques.
 pub trait Range {
     ghost units: { ℕ };
 }
@@ -18,7 +18,7 @@ impl Range for Brand {
     ghost units = { 0 };
 }
 
-/// The rule of the deques: what lies in them are units.
+/// The rule of the deques: they hold only units.
 pub struct AreUnits<W> {
     range: PhantomData<W>,
 }
@@ -35,16 +35,16 @@ impl<W: Range> Outcome<u32, ()> for AreUnits<W> {
     ghost then = { λ _ items _. All (λ unit. unit < W.units) items };
 }
 
-/// The hints of a worker, in its deque, of which it takes the last first.
+/// The hints of a worker. It takes the last one from its deque first.
 pub type Own<W> = Deque<u32, Global, (), AreUnits<W>>;
 
-/// The same deque, for others.
+/// The deque of a worker, as the others see it.
 pub type Other<W> = Stealer<u32, Global, (), AreUnits<W>>;
 
-// How often a worker looks again at a deque of which others take at the same time.
+// How often a worker tries again to steal from a deque that others steal from at the same time.
 const MOST_LOOKS: u32 = 64;
 
-/// The first hints of a worker: one block of all units, of which it takes the least first.
+/// The first hints of a worker: one block of all units. It takes the lowest first.
 pub fn deal<W: Range>(alloc: Global, worker: Worker, units: u32) -> Result<Own<W>, AllocError>
     requires range { units ≡ W.units }
     requires worker { worker.number < worker.workers }
@@ -58,14 +58,14 @@ pub fn deal<W: Range>(alloc: Global, worker: Worker, units: u32) -> Result<Own<W
     Ok(own)
 }
 
-/// Puts a hint where its worker takes it next. Where no memory is found for it, it is lost.
+/// Adds a hint, which its worker takes next. If memory runs out, the hint is lost.
 pub fn give<W: Range>(own: &mut Own<W>, unit: u32)
     requires { unit < W.units }
 {
     let _ = own.push_as::<AreUnits<W>>(unit);
 }
 
-/// Puts such hints, one behind the other.
+/// Adds hints, one after another.
 pub fn give_all<W: Range>(own: &mut Own<W>, units: &[u32])
     requires { All (λ unit. unit < W.units) units.now }
 {
@@ -74,12 +74,13 @@ pub fn give_all<W: Range>(own: &mut Own<W>, units: &[u32])
     }
 }
 
-/// The next hint of a worker: the last that it put; else one of another worker. None where all
-/// deques were empty.
+/// The next hint of a worker: the last one in its own deque, or otherwise one that it steals. None
+/// if all deques were empty.
 ///
-/// `met` is the hint at which its last turn met another worker, and lies in no deque. Then the next
-/// is the first of its own deque; else one of another worker. Behind it `met` is put back; where
-/// there is no other, it comes again.
+/// `met` is the hint of the last turn if the worker met another worker in it; this hint is in no
+/// deque. In that case the next hint is the first one in its own deque, or otherwise one that it
+/// steals. After that `met` is added to its deque. If there is no other hint, `met` itself is
+/// returned.
 pub fn next<W: Range>(
     own: &mut Own<W>,
     all: &[Other<W>],
@@ -103,7 +104,8 @@ pub fn next<W: Range>(
     other
 }
 
-// This hint; else the first of the deque of another worker, from the one behind it on.
+// This hint, or otherwise the first one of the deque of another worker. The search starts with the
+// worker after this one.
 fn or_stolen<W: Range>(hint: Option<u32>, all: &[Other<W>], worker: u32) -> Option<u32>
     requires worker { worker < length all.now }
     requires hint { IfSome hint (λ unit. unit < W.units) }
@@ -119,8 +121,8 @@ fn or_stolen<W: Range>(hint: Option<u32>, all: &[Other<W>], worker: u32) -> Opti
     }
 }
 
-// Where the block of a worker begins, where all units are cut into so many blocks, as even as can
-// be.
+// The start of the block of a worker, if all units are divided into `workers` blocks as evenly as
+// possible.
 fn block_start(number: u32, workers: u32, units: u32) -> u32
     requires some { 0 < workers }
     requires number { number ≤ workers }
@@ -143,7 +145,7 @@ fn steal<W: Range>(others: &[Other<W>]) -> Option<u32>
     None
 }
 
-// A hint of a deque; None where it was empty, or others were always faster.
+// A hint of a deque. None if it was empty, or if others were always faster.
 fn steal_from<W: Range>(other: &Other<W>) -> Option<u32>
     ensures { IfSome result (λ unit. unit < W.units) }
 {

@@ -1,4 +1,5 @@
-//! Hints of workers: units at which an event may be poppable, in deques that others steal from.
+//! Hints for workers, which are the threads that share a run: units at which an event may be
+//! poppable, in deques that others steal from.
 #![tactic(auto)]
 
 mod hints;

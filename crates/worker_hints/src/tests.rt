@@ -1,4 +1,4 @@
-//! Which hint comes next.
+//! Tests which hint is next.
 ghost use Rattle.std.specs.Prelude.{◌≡◌, ◌<◌, length, IfOk, IfSome};
 ghost use Rattle.std.specs.Bool.{OnTrue};
 
@@ -16,10 +16,9 @@ fn hints_of<W: Range>(alloc: Global, number: u32) -> Result<Own<W>, AllocError>
     deal(alloc, Worker { number, workers: 2 }, 4)
 }
 
-// The hint of a meeting, if there was one, and the hint that comes next. Worked by hand: the worker
-// begins with 0 and 1, the other one with 2 and 3, and the first hint of each deque is its greatest.
-// Behind each meeting another hint comes, as long as there is one, and the hint of the meeting
-// behind it.
+// The hint of a meeting, if there was one, and the next hint. Worked by hand. The worker starts
+// with 0 and 1, the other one with 2 and 3, and the first hint of each deque is its largest. After
+// each meeting another hint is next, as long as there is one, and then the hint of the meeting.
 static NEXT: [(Option<u32>, Option<u32>); 9] = [
     (None, Some(0)),
     (Some(0), Some(1)),
@@ -32,7 +31,7 @@ static NEXT: [(Option<u32>, Option<u32>); 9] = [
     (None, None),
 ];
 
-// Whether a meeting was at one of four units, where there was one.
+// Whether a meeting, if there was one, was at one of four units.
 fn is_known(met: Option<u32>) -> bool
     ensures { OnTrue result (IfSome met (λ unit. unit < 4)) }
 {
@@ -42,12 +41,12 @@ fn is_known(met: Option<u32>) -> bool
     }
 }
 
-// Compares a hint.
+// Compares a hint with the expected one.
 fn same_hint(rt: &impl Abort, found: Option<u32>, want: Option<u32>, place: u64) {
     assert_eq!(rt; found, want, "hint {place}");
 }
 
-// Takes the hints of the table.
+// Takes the hints of the table in turn.
 fn takes_in_turn<W: Range>(rt: &impl Abort, own: &mut Own<W>, all: &[Other<W>])
     requires range { W.units ≡ 4 }
     requires workers { length all.now ≡ 2 }
@@ -59,7 +58,7 @@ fn takes_in_turn<W: Range>(rt: &impl Abort, own: &mut Own<W>, all: &[Other<W>])
     }
 }
 
-// Two deques, to steal from.
+// Two deques, each of which the other worker can steal from.
 fn for_both<W: Range>(
     alloc: Global,
     own: &Own<W>,
@@ -73,7 +72,7 @@ fn for_both<W: Range>(
     Ok(all)
 }
 
-// The same, where the number of units was picked.
+// Takes the hints of two workers, for the chosen number of units.
 fn takes_of_two<W: Range>(rt: &impl Abort, alloc: Global) -> Result<(), Fail>
     requires range { W.units ≡ 4 }
 {

@@ -1,4 +1,4 @@
-/// Which worker it is, from 0, and of how many.
+/// The number of a worker, from 0, and how many workers there are.
 #[derive(Clone, Copy)]
 pub struct Worker {
     pub number: u32,
