@@ -1,5 +1,5 @@
-//! What ends a test. Tests compare by these calls, so that what tells of values that differ is
-//! proved once.
+//! The checks that end a test. Tests compare by these calls, so that the messages about different
+//! values are proved only once.
 use std::process::Abort;
 use std::test::Fail;
 
@@ -8,7 +8,7 @@ pub fn same_text(rt: &impl Abort, found: &[u8], want: &str) {
     assert!(rt; found == want.as_bytes(), "{want}");
 }
 
-/// What was made, and stops the test where nothing was.
+/// The value that was made. Ends the test if there is none.
 pub fn made<T>(rt: &impl Abort, tried: Result<T, Fail>, what: &str) -> T {
     match tried {
         Ok(value) => value,

@@ -1,4 +1,4 @@
-//! Instances in boxes. A function that owns an instance as it is costs several times as much to
+//! Instances in boxes. A function that owns an unboxed instance costs several times as much to
 //! prove as one that owns a box.
 use crate::comparing::made;
 use pop_instance::Instance;
@@ -6,7 +6,7 @@ use std::alloc::Global;
 use std::process::Abort;
 use test_instances::{EventRow, arrows, cycles, listed};
 
-/// The instance of these rows of entries and the events of these numbers and pairs.
+/// The instance of these rows of entries and the events with these numbers and pairs.
 pub fn of_events(
     rt: &impl Abort,
     alloc: Global,

@@ -59,8 +59,8 @@ fn stand(rt: &impl Abort, alloc: Global, pops: &[Pop], want: &str) {
     drop(text);
 }
 
-// The pops of a log, the layers of its records, and these in the layered order, which were worked
-// by hand. The last are of two units, of which the greater is popped first.
+// The pops of a log, the layers of its records, and these in the layered order, worked by hand.
+// The last two have different units, and the larger one is popped first.
 static LOGS: [(&[Pop], &[u64], &str); 5] = [
     (
         &[(0, &[0]), (0, &[0, 1]), (0, &[2])],

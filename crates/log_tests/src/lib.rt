@@ -1,6 +1,6 @@
-//! Tests of logs and of what is told of them, by public calls of `pop_log`, `witness_trees` and
-//! `pop_watch`. They stand above these crates, which are proved once so, and not once more with
-//! their tests.
+//! Tests of logs, of witness trees and of reports, by public calls of `pop_log`, `witness_trees`
+//! and `pop_watch`. They are in a crate above these, so that these crates are not proved once more
+//! with their tests.
 #![tactic(auto)]
 
 #[cfg(test)]

@@ -21,7 +21,7 @@ static ROWS: [&[u32]; 2] = [&[0, 1, 1, 1], &[0, 0, 1]];
 // The clauses `1 2` and `-1 2`.
 static CLAUSES: [EventRow; 2] = [(1, &[(0, 0), (1, 0)]), (2, &[(0, 1), (1, 0)])];
 
-// Variables, entries of theirs, and the places of the pops that used them. Worked by hand: the first
+// Variables, their entries, and the places of the pops that used them. Worked by hand: the first
 // pop uses the entries 0 and 0, the second 1 and 1.
 static PLACES: [(u32, u32, Option<u64>); 3] = [(0, 0, Some(0)), (1, 1, Some(1)), (0, 2, None)];
 

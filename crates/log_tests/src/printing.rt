@@ -11,7 +11,7 @@ use std::alloc::Global;
 use std::process::Abort;
 use test_instances::EventRow;
 
-// The rows and the events of an instance, and the text of the log of its run from zeros: in layers,
+// The rows and the events of an instance, and the text of the log of its run from zeros: in layers
 // or in the order of the log.
 struct Case {
     rows: &'static [&'static [u32]],
@@ -76,7 +76,8 @@ static LAYERED: Case = Case {
     text: "log 2 3\npop 1 1 1:0\npop 1 2 2:0\npop 2 1 1:1\n",
 };
 
-// Worked by hand: the second pop of the first clause waits for its first, and no other does.
+// Worked by hand: the second pop of the first clause must follow its first, and no other pop
+// depends on another.
 #[test]
 fn a_record_stands_in_its_layer(rt: HostRuntime) {
     prints(&rt, rt.alloc(), &LAYERED);

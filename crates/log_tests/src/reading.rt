@@ -9,7 +9,7 @@ use std::process::Abort;
 use test_instances::EventRow;
 use texts::{FIRST, FORMULA, LAST, LAYERED, MIDDLE, ONE_CLAUSE, SINKS};
 
-// The clause `1`: value 0 of its one variable, whose stack is 0, 0, 1.
+// The clause `1`. Its event demands 0 of the one variable, which has the stack 0, 0, 1.
 static ONE_ROW: [&[u32]; 1] = [&[0, 0, 1]];
 
 static ONE: [EventRow; 1] = [(1, &[(0, 0)])];
@@ -19,7 +19,7 @@ static TWO_ROWS: [&[u32]; 2] = [&[0, 0, 1], &[0, 1]];
 
 static TWO: [EventRow; 2] = [(1, &[(0, 0)]), (2, &[(1, 0)])];
 
-// The clauses `1 2`, `-1 3`, `1 2` and `3`, of which the third is dropped.
+// The clauses `1 2`, `-1 3`, `1 2` and `3`. The third is dropped.
 static CLAUSE_ROWS: [&[u32]; 3] = [&[0, 1, 1], &[0, 1, 0], &[0, 0, 1]];
 
 static CLAUSES: [EventRow; 4] = [
@@ -38,13 +38,13 @@ static TRIANGLE: [EventRow; 3] = [
     (3, &[(1, 0), (2, 1)]),
 ];
 
-// The trees of the triangle to its vertex 2. Each other vertex has an arrow to it, and one to the
-// other.
+// The trees of the triangle to its vertex 2. Each other vertex has an arrow to vertex 2, and one
+// to the third vertex.
 static TREE_ROWS: [&[u32]; 2] = [&[1, 1, 0], &[1, 1, 0]];
 
 static HEADS: [[Option<u32>; 2]; 2] = [[None, Some(1)], [None, Some(0)]];
 
-// Adds a record: the unit, and of each variable its value and its entry.
+// Adds a record: the unit, and the value and the entry of each variable.
 fn push_record(rt: &impl Abort, text: &mut String, record: &Record) {
     write!(text, "{}:", record.unit()).expect(rt, "memory");
     let cube = record.cube();
@@ -55,14 +55,14 @@ fn push_record(rt: &impl Abort, text: &mut String, record: &Record) {
     text.push_str(";").expect(rt, "memory");
 }
 
-// Adds the records of a log: of each the unit, and of each variable its value and its entry.
+// Adds the records of a log: the unit of each, and the value and the entry of each variable.
 fn push_records(rt: &impl Abort, text: &mut String, log: &Log) {
     for place in 0..log.len() {
         push_record(rt, text, log.at(place));
     }
 }
 
-// Adds what is answered to a text that is refused.
+// Adds why a text is rejected.
 fn push_refusal(rt: &impl Abort, text: &mut String, refusal: &LogRefusal) {
     let pushed = match refusal {
         LogRefusal::Limit => text.push_str("limit"),
@@ -74,7 +74,7 @@ fn push_refusal(rt: &impl Abort, text: &mut String, refusal: &LogRefusal) {
     pushed.expect(rt, "memory");
 }
 
-// What is answered to a text.
+// The result of reading a text, as text.
 fn answer(
     rt: &impl Abort,
     alloc: Global,
@@ -93,7 +93,7 @@ fn answer(
     answer
 }
 
-// Compares the answer to a text.
+// Compares the result of reading a text.
 fn is_answered(
     rt: &impl Abort,
     alloc: Global,
@@ -108,7 +108,7 @@ fn is_answered(
     drop(found);
 }
 
-// Compares the answers to texts with those that were worked by hand.
+// Compares the results of reading texts with those that were worked by hand.
 fn compare(
     rt: &impl Abort,
     alloc: Global,
@@ -121,7 +121,7 @@ fn compare(
     }
 }
 
-// The same over the instance of these rows of entries and these events.
+// Compares the results over the instance of these rows of entries and these events.
 fn compare_listed(
     rt: &impl Abort,
     alloc: Global,
@@ -154,7 +154,7 @@ fn logs_of_sinks_are_read(rt: HostRuntime) {
     compare_listed(&rt, rt.alloc(), &TRIANGLE_ROWS, &TRIANGLE, &SINKS);
 }
 
-// Compares the answers by the names of each root.
+// Compares the results with the names for each root.
 fn compare_trees(rt: &impl Abort, alloc: Global, instance: &Instance) {
     compare(rt, alloc, instance, Names::Tree(2), &MIDDLE);
     compare(rt, alloc, instance, Names::Tree(1), &FIRST);
@@ -168,7 +168,7 @@ fn logs_of_trees_are_read_by_the_names_of_their_root(rt: HostRuntime) {
     drop(instance);
 }
 
-// What is to be answered to so many bytes of a text.
+// The expected result for the first n bytes of a text.
 fn cut_answer(n: usize) -> &'static str {
     match n {
         0..=7 => "malformed 1",
@@ -180,7 +180,7 @@ fn cut_answer(n: usize) -> &'static str {
 
 static CUT: [u8; 28] = *b"log 1 2\npop 1 1:0\npop 1 1:1\n";
 
-// Compares the answers to its first bytes.
+// Compares the results for its prefixes.
 fn compare_cuts(rt: &impl Abort, alloc: Global, instance: &Instance) {
     for n in 0..29 {
         is_answered(rt, alloc, instance, &Names::Plain, &CUT[..n], cut_answer(n));

@@ -7,7 +7,7 @@ use std::alloc::Global;
 use std::process::Abort;
 use test_instances::EventRow;
 
-// The log of pops, each of a unit, a variable below 10 that has value 0, and its entry.
+// The log of pops, each of a unit, a variable below 10 with value 0, and its entry.
 fn log_of(rt: &impl Abort, alloc: Global, pops: &[(u32, u32, u32)]) -> Log {
     let mut log = Log::new(alloc);
     for (unit, v, entry) in pops {
@@ -17,8 +17,7 @@ fn log_of(rt: &impl Abort, alloc: Global, pops: &[(u32, u32, u32)]) -> Log {
     log
 }
 
-// The cursor of variable 0 that a log leaves, or the place of its first record that isn't
-// legal.
+// The cursor of variable 0 after a log, or the place of its first record that is not legal.
 fn left_by(rt: &impl Abort, alloc: Global, instance: &Instance, log: &Log) -> Result<u32, u64> {
     assert!(rt; 0 < instance.stacks().count());
     let end = replay(alloc, instance, log).expect(rt, "memory");
@@ -28,8 +27,8 @@ fn left_by(rt: &impl Abort, alloc: Global, instance: &Instance, log: &Log) -> Re
     }
 }
 
-// Replays the pops. Compares the cursor of variable 0 that they leave, or the place of the
-// first that isn't legal.
+// Replays the pops. Compares the cursor of variable 0 after them, or the place of the first one
+// that is not legal.
 fn is_replay(
     rt: &impl Abort,
     alloc: Global,
@@ -43,7 +42,7 @@ fn is_replay(
     assert!(rt; found == want, "{pops:?}: {found:?}, not {want:?}");
 }
 
-// Replays each of these.
+// Replays each of these logs.
 fn are_replays(
     rt: &impl Abort,
     alloc: Global,
@@ -55,14 +54,14 @@ fn are_replays(
     }
 }
 
-// Variable 0 has the entries 0, 0, 0 and variable 1 the entries 1, 0. Events 0 and 1 are that
-// variable 0 and variable 1 have value 0.
+// Variable 0 has the entries 0, 0, 0 and variable 1 the entries 1, 0. Events 0 and 1 demand the
+// value 0 of variable 0 and of variable 1.
 static ROWS: [&[u32]; 2] = [&[0, 0, 0], &[1, 0]];
 
 static EVENTS: [EventRow; 2] = [(1, &[(0, 0)]), (2, &[(1, 0)])];
 
-// Pops of the listed events, and the cursor of variable 0 that they leave, or the place of the
-// first that isn't legal. Worked by hand.
+// Pops of the listed events, and the cursor of variable 0 after them, or the place of the first
+// one that is not legal. Worked by hand.
 static LOGS: [(&[(u32, u32, u32)], Result<u32, u64>); 9] = [
     (&[], Ok(0)),
     (&[(0, 0, 0), (0, 0, 1)], Ok(2)),
@@ -70,7 +69,7 @@ static LOGS: [(&[(u32, u32, u32)], Result<u32, u64>); 9] = [
     (&[(0, 0, 0), (0, 0, 0), (0, 0, 0)], Err(1)),
     (&[(0, 0, 1), (0, 0, 0)], Err(0)),
     (&[(0, 0, 0), (0, 0, 1), (0, 0, 2)], Err(2)),
-    // an event that doesn't occur, one under another unit, under no unit, and no event
+    // an event that does not occur, one under another unit, under no unit, and no event
     (&[(0, 0, 0), (1, 1, 0)], Err(1)),
     (&[(1, 0, 0)], Err(0)),
     (&[(2, 0, 0)], Err(0)),
@@ -89,7 +88,8 @@ static RING_ROWS: [&[u32]; 1] = [&[0, 0, 1]];
 
 static RING_HEADS: [[Option<u32>; 2]; 1] = [[Some(0), None]];
 
-// The same of pops of the ring. Worked by hand.
+// Pops of the ring, and the cursor of variable 0 after them, or the place of the first one that is
+// not legal. Worked by hand.
 static RING_LOGS: [(&[(u32, u32, u32)], Result<u32, u64>); 2] = [
     (&[(0, 0, 0), (0, 0, 1)], Ok(2)),
     (&[(1, 0, 0)], Err(0)),

@@ -47,7 +47,8 @@ const SECOND: Pop = (2, &[2, 3]);
 
 const THIRD: Pop = (3, &[1, 2]);
 
-// Two events that each share a variable with the root's and one with the last one's.
+// Two events that each share a variable with the event of the root, and one that shares a variable
+// with the last event.
 const ROOT: Pop = (1, &[0, 1]);
 
 const LESSER: Pop = (2, &[0, 5]);
@@ -70,7 +71,7 @@ static CASES: [Case; 9] = [
         t: 2,
         tree: &[(0, 3), (1, 1), (1, 2)],
     },
-    // Two vertices of depth 1 meet event 4; event 2 has the lesser label.
+    // Two vertices of depth 1 share a variable with event 4; event 2 has the lower label.
     Case {
         what: "of two vertices of one depth that with the lesser label is the parent, popped first",
         pops: &[LAST, LESSER, GREATER, ROOT],
@@ -122,7 +123,7 @@ fn trees_have_the_vertices_that_are_worked_by_hand(rt: HostRuntime) {
     }
 }
 
-// Variables, entries and cursors, and what is printed of a pop that isn't there. Worked by hand.
+// Variables, entries and cursors, and the line for a pop that is not in the log. Worked by hand.
 static MISSING: [(u32, u32, u32, &str); 2] = [
     (7, 2, 2, "witness none 7 2 2\n"),
     (1, 0, 4294967295, "witness none 1 0 4294967295\n"),
@@ -137,7 +138,7 @@ fn a_missing_pop_is_printed_with_its_entry_and_the_cursor(rt: HostRuntime) {
     }
 }
 
-// The log of so many pops of one event, of unit 3.
+// The log of this many pops of one event, of unit 3.
 fn log_of_one(rt: &impl Abort, alloc: Global, pops: u64) -> Log {
     let mut log = Log::new(alloc);
     for _ in 0..pops {
@@ -147,7 +148,7 @@ fn log_of_one(rt: &impl Abort, alloc: Global, pops: u64) -> Log {
     log
 }
 
-// Compares a tree with a path of so many vertices of unit 3.
+// Compares a tree with a path of this many vertices of unit 3.
 fn is_path(rt: &impl Abort, tree: &Tree, vertices: u64) {
     assert!(rt; tree.len() == vertices);
     for i in 0..vertices {

@@ -1,21 +1,21 @@
-//! What watchers report of pops of one unit.
+//! The reports of watchers on pops of one unit.
 use crate::comparing::same_text;
 use crate::records::popped_with;
 use pop_watch::{Heights, Layers, Totals, Watch};
 use std::alloc::Global;
 use std::process::Abort;
 
-// The variables of a pop, all below 8, the entries that it used, and what is reported behind it.
+// The variables of a pop, all below 8, the entries that it used, and the report after it.
 type Told = (&'static [u32], &'static [u32], &'static str);
 
-// Compares what a watcher reports.
+// Compares the report of a watcher.
 fn reports<W: Watch>(rt: &impl Abort, alloc: Global, watcher: &W, want: &str) {
     let text = watcher.report(alloc).expect(rt, "memory");
     same_text(rt, &text, want);
     drop(text);
 }
 
-// Tells a watcher a pop.
+// Passes a pop to a watcher.
 fn tell<W: Watch>(
     rt: &impl Abort,
     alloc: Global,
@@ -28,7 +28,7 @@ fn tell<W: Watch>(
     drop(popped);
 }
 
-// Compares what a watcher reports at first, and behind each pop that it is told.
+// Compares the report of a watcher at first, and after each pop that it receives.
 fn reports_each<W: Watch>(
     rt: &impl Abort,
     alloc: Global,
@@ -83,7 +83,7 @@ fn heights_are_counted_by_binary_digits(rt: HostRuntime) {
     reports_each(&rt, rt.alloc(), &mut heights, "report heights\n", &HEIGHTS);
 }
 
-// Worked by hand: the greatest layer so far, and how many variables were named.
+// Worked by hand: the largest layer so far, and the number of variables that were named.
 static LAYERS: [Told; 6] = [
     (&[0], &[0], "report layers 1 1\n"),
     (&[1], &[0], "report layers 1 2\n"),

@@ -106,8 +106,8 @@ fn three_alone(rt: &impl Abort, alloc: Global, instance: &Instance)
     drop(ends);
 }
 
-// Compares three samples of an instance, run in parallel and run on this thread, with one-thread
-// runs, and returns whether one is stuck.
+// Compares three samples of an instance, run in parallel and on this thread, with one-thread runs.
+// Returns whether one is stuck.
 fn three_samples<R: Threads + Abort + Sync>(rt: &R, alloc: Global, instance: &Instance) -> bool
     requires keyed { IsKeyed instance.now.stacks.origin }
     requires extremal { IsExtremal instance.now.family }
@@ -120,14 +120,14 @@ fn three_samples<R: Threads + Abort + Sync>(rt: &R, alloc: Global, instance: &In
     stuck
 }
 
-// The clauses 1 2, -1 3 and -2 -3: each is an event where its literals are false.
+// The clauses 1 2, -1 3 and -2 -3. The event of each is that its literals are false.
 static FORMULA: [EventRow; 3] = [
     (1, &[(0, 0), (1, 0)]),
     (2, &[(0, 1), (2, 0)]),
     (3, &[(1, 1), (2, 1)]),
 ];
 
-// The sinks of the triangle with the edges 1 2, 2 3 and 1 3: value 0 of an edge points to its
+// The sinks of the triangle with the edges 1 2, 2 3 and 1 3. With value 0 an edge points to its
 // second vertex.
 static SINKS: [EventRow; 3] = [
     (1, &[(0, 1), (2, 1)]),
@@ -135,7 +135,8 @@ static SINKS: [EventRow; 3] = [
     (3, &[(1, 0), (2, 0)]),
 ];
 
-// Of a square without diagonals one vertex is the root; the others have arrows both ways round.
+// A square without diagonals. One vertex is the root, and the others have an arrow in each
+// direction.
 static SQUARE: [[Option<u32>; 2]; 3] = [[None, Some(1)], [Some(0), Some(2)], [Some(1), None]];
 
 // Compares samples of events at this height, and returns whether one is stuck.
@@ -189,8 +190,8 @@ static ZEROS: [EventRow; 8] = [
     (8, &[(7, 0)]),
 ];
 
-// For samples 0 to 3 the first entry of each variable that is 1, by a ChaCha20 of its own
-// (RFC 8439, 2.3): of two equal weights the top bit of the high word chooses, and variable v of
+// For samples 0 to 3 the first entry of each variable that is 1, computed by a separate ChaCha20
+// (RFC 8439, 2.3). With two equal weights the top bit of the high word chooses. Variable v of
 // sample j has the stream j * 2^32 + v.
 static FIRST_ONES: [[u32; 8]; 4] = [
     [0, 0, 1, 2, 1, 0, 1, 0],
@@ -199,7 +200,7 @@ static FIRST_ONES: [[u32; 8]; 4] = [
     [4, 0, 0, 1, 0, 0, 0, 4],
 ];
 
-// Compares the cursors of an end, whose values are 1, with a row.
+// Compares the cursors of an end with a row. The values there must be 1.
 fn are_first_ones(rt: &impl Abort, stacks: &Stacks, end: &End, row: &[u32])
     requires over { IsEndOver stacks.now end.now }
 {
@@ -210,7 +211,7 @@ fn are_first_ones(rt: &impl Abort, stacks: &Stacks, end: &End, row: &[u32])
     }
 }
 
-// Compares sample j of the events above with its row.
+// Compares sample j of the events `ZEROS` with its row.
 fn is_sample_of_ones(rt: &impl Abort, alloc: Global, instance: &Instance, ends: &Ends, j: u32)
     requires keyed { IsKeyed instance.now.stacks.origin }
     requires ends { (count : ℕ) × AreEnds instance.now count ends.now }
@@ -223,7 +224,7 @@ fn is_sample_of_ones(rt: &impl Abort, alloc: Global, instance: &Instance, ends: 
     drop(own);
 }
 
-// Compares four samples of the events above with their rows.
+// Compares four samples of the events `ZEROS` with their rows.
 fn are_samples_of_ones(rt: &impl Abort, alloc: Global, instance: &Instance, ends: &Ends)
     requires keyed { IsKeyed instance.now.stacks.origin }
     requires ends { (count : ℕ) × AreEnds instance.now count ends.now }
@@ -234,7 +235,7 @@ fn are_samples_of_ones(rt: &impl Abort, alloc: Global, instance: &Instance, ends
     }
 }
 
-// Runs four samples of the events above, and compares them with their rows.
+// Runs four samples of the events `ZEROS`, and compares them with their rows.
 fn four_samples<R: Threads + Abort + Sync>(rt: &R, alloc: Global, instance: &Instance)
     requires keyed { IsKeyed instance.now.stacks.origin }
     requires extremal { IsExtremal instance.now.family }
@@ -244,14 +245,14 @@ fn four_samples<R: Threads + Abort + Sync>(rt: &R, alloc: Global, instance: &Ins
     drop(ends);
 }
 
-// Compares the one-thread run on the instance of the events above with the first row.
+// Compares the one-thread run of the events `ZEROS` with the first row.
 fn first_is_of_ones(rt: &impl Abort, alloc: Global, instance: &Instance) {
     let first = run_first(alloc, instance).expect(rt, "memory");
     are_first_ones(rt, instance.stacks(), &first, &FIRST_ONES[0]);
     drop(first);
 }
 
-// Compares the one-thread run and four samples of the events above with their rows.
+// Compares the one-thread run and four samples of the events `ZEROS` with their rows.
 fn all_are_of_ones<R: Threads + Abort + Sync>(rt: &R, alloc: Global, instance: &Instance)
     requires keyed { IsKeyed instance.now.stacks.origin }
     requires extremal { IsExtremal instance.now.family }
@@ -269,7 +270,7 @@ fn each_sample_has_the_entries_of_its_own_streams(rt: HostRuntime) {
     drop(instance);
 }
 
-// Compares how many ends a batch of so many samples has, and whether it is stuck.
+// Compares the number of ends of a batch of this many samples, and whether it is stuck.
 fn batch_is<R: Threads + Abort + Sync>(
     rt: &R,
     alloc: Global,
@@ -299,8 +300,8 @@ fn three_batches<R: Threads + Abort + Sync>(rt: &R, alloc: Global, instance: &In
 // The event that variable 0 has the value 0.
 static ZERO: [EventRow; 1] = [(1, &[(0, 0)])];
 
-// Variable 0 is 1 at its first entry in samples 0 to 2, and stays 0 in sample 3, where it has no
-// second one.
+// Variable 0 is 1 at its first entry in samples 0 to 2. It is 0 in sample 3, and has no second
+// entry there.
 #[test]
 fn a_batch_with_one_stuck_sample_is_stuck(rt: HostRuntime) {
     let alloc = rt.alloc();

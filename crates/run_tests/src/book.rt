@@ -13,7 +13,7 @@ use std::marker::Brand;
 use std::process::Abort;
 use test_instances::EventRow;
 
-// What attempts answered, and the parts of the book that they left.
+// The results of attempts, and the book after them.
 #[derive(Drop)]
 struct Tried {
     answers: Vec<Attempt>,
@@ -69,24 +69,24 @@ fn attempts(rt: &impl Abort, alloc: Global, instance: &Instance, units: &[u32]) 
 // The event that variable 0 has the value 0.
 static ZERO: [EventRow; 1] = [(1, &[(0, 0)])];
 
-// The instance of one variable with these entries, whose event is that it has the value 0.
+// The instance of one variable with these entries. Its event is that the variable has the value 0.
 fn clause(rt: &impl Abort, alloc: Global, entries: &[u32]) -> Instance {
     listed(rt, alloc, &[entries], &ZERO)
 }
 
-// Compares what attempts answered.
+// Compares the results of attempts.
 fn are_answers(rt: &impl Abort, answers: &[Attempt], want: &[Attempt]) {
     let same = *answers == *want;
     assert!(rt; same, "attempts");
 }
 
-// Compares what attempts answered, and how many pops they left in the log.
+// Compares the results of attempts, and the number of pops in the log after them.
 fn came_to(rt: &impl Abort, tried: &Tried, want: &[Attempt], pops: u64) {
     are_answers(rt, tried.answers.as_slice(), want);
     same(rt, tried.log.len(), pops, "records");
 }
 
-// What is attempted over these entries of each variable, and what it comes to.
+// The units that are attempted over these entries of each variable, and the expected results.
 struct Case {
     entries: &'static [u32],
     units: &'static [u32],
@@ -101,7 +101,7 @@ fn case_comes(rt: &impl Abort, alloc: Global, instance: &Instance, case: &Case) 
     drop(tried);
 }
 
-// Worked by hand: the entries 0 and 0 are popped, and at 1 the event doesn't occur.
+// Worked by hand: the entries 0 and 0 are popped, and at 1 the event does not occur.
 static POPPED_TWICE: Case = Case {
     entries: &[0, 0, 1],
     units: &[0, 0, 0],
@@ -116,7 +116,7 @@ fn is_of_event(rt: &impl Abort, popped: &Record, entry: u32) {
     same(rt, popped.entry(0) as u64, entry as u64, "entry");
 }
 
-// Compares what the two pops leave: the second record, and the cursor.
+// Compares the state after two pops: the second record, and the cursor.
 fn left_by_two_pops(rt: &impl Abort, tried: &Tried)
     requires { 1 ≡ length tried.now.cursors }
 {
@@ -125,7 +125,7 @@ fn left_by_two_pops(rt: &impl Abort, tried: &Tried)
     same(rt, tried.cursors.get(0) as u64, 2, "cursor");
 }
 
-// Compares what the case of two pops leaves of its instance.
+// Compares the state of the instance after the case of two pops.
 fn two_pops_leave(rt: &impl Abort, alloc: Global, instance: &Instance) {
     assert!(rt; instance.stacks().count() == 1);
     let tried = attempts(rt, alloc, instance, POPPED_TWICE.units);
@@ -133,7 +133,7 @@ fn two_pops_leave(rt: &impl Abort, alloc: Global, instance: &Instance) {
     drop(tried);
 }
 
-// Compares the attempts of that case, and what they leave.
+// Compares the attempts of that case, and the state after them.
 fn is_popped_twice(rt: &impl Abort, alloc: Global, instance: &Instance) {
     case_comes(rt, alloc, instance, &POPPED_TWICE);
     two_pops_leave(rt, alloc, instance);
@@ -163,8 +163,8 @@ fn a_listed_event_is_stuck_at_the_last_entry(rt: HostRuntime) {
     drop(instance);
 }
 
-// The heads of so many variables, each with an arrow to the next one and one to the root; the last
-// has one to this variable in place of the next.
+// The heads of this many variables. Each has an arrow to the next one and one to the root. The
+// last has an arrow to variable `back` instead of the next.
 fn heads(rt: &impl Abort, alloc: Global, count: u32, back: u32) -> Vec<[Option<u32>; 2]>
     requires few { count < 1000 }
 {
@@ -176,7 +176,7 @@ fn heads(rt: &impl Abort, alloc: Global, count: u32, back: u32) -> Vec<[Option<u
     heads
 }
 
-// Their arrows.
+// The arrows with the heads of `heads`.
 fn lasso_arrows(rt: &impl Abort, alloc: Global, count: u32, back: u32) -> Arrows {
     assert!(rt; count < 1000);
     let heads = heads(rt, alloc, count, back);
@@ -185,7 +185,7 @@ fn lasso_arrows(rt: &impl Abort, alloc: Global, count: u32, back: u32) -> Arrows
     arrows
 }
 
-// Such variables, each with these entries.
+// The instance of these arrows, with these entries for each variable.
 fn lasso(rt: &impl Abort, alloc: Global, count: u32, back: u32, entries: &[u32]) -> Instance {
     let arrows = lasso_arrows(rt, alloc, count, back);
     let rows = Vec::from_elem(alloc, entries, count as usize).expect(rt, "memory");
@@ -202,7 +202,7 @@ static POPPED_CYCLE: Case = Case {
     pops: 1,
 };
 
-// Compares cursors of so many variables, of which those from one on were popped once.
+// Compares cursors of this many variables. Those from `back` on must have been popped once.
 fn are_popped_from(rt: &impl Abort, cursors: &Cursors, count: u32, back: u32)
     requires { count ≡ length cursors.now }
 {
@@ -217,7 +217,7 @@ fn are_popped_from(rt: &impl Abort, cursors: &Cursors, count: u32, back: u32)
     }
 }
 
-// Compares the first record of a log: its unit, and how many variables it names.
+// Compares the first record of a log: its unit, and the number of variables that it names.
 fn is_first_cycle(rt: &impl Abort, log: &Log, unit: u32, size: u32) {
     assert!(rt; log.len() == 1);
     let popped = log.at(0);
@@ -225,7 +225,7 @@ fn is_first_cycle(rt: &impl Abort, log: &Log, unit: u32, size: u32) {
     same(rt, popped.cube().len() as u64, size as u64, "size");
 }
 
-// Compares what is left of so many variables by the pop of the cycle from one on.
+// Compares the state of this many variables after the pop of the cycle from `back` on.
 fn left_by_cycle(rt: &impl Abort, tried: &Tried, count: u32, back: u32)
     requires count { count ≡ length tried.now.cursors }
     requires back { back < count }
@@ -235,7 +235,7 @@ fn left_by_cycle(rt: &impl Abort, tried: &Tried, count: u32, back: u32)
     are_popped_from(rt, &tried.cursors, count, back);
 }
 
-// Pops the cycle of an instance of so many variables, and compares what is left.
+// Pops the cycle of an instance of this many variables, and compares the state after it.
 fn cycle_leaves(rt: &impl Abort, alloc: Global, instance: &Instance, count: u32, back: u32)
     requires back { back < count }
 {
@@ -245,7 +245,7 @@ fn cycle_leaves(rt: &impl Abort, alloc: Global, instance: &Instance, count: u32,
     drop(tried);
 }
 
-// Pops the cycle of a lasso of so many variables.
+// Pops the cycle of a lasso of this many variables.
 fn lasso_pops(rt: &impl Abort, alloc: Global, count: u32, back: u32)
     requires back { back < count }
 {
@@ -254,7 +254,7 @@ fn lasso_pops(rt: &impl Abort, alloc: Global, count: u32, back: u32)
     drop(instance);
 }
 
-// Pops the cycles of as many lassos as there are variables.
+// Pops the cycles of the lassos of this many variables, one for each `back`.
 fn lassos_of(rt: &impl Abort, alloc: Global, count: u32) {
     for back in 0..count {
         lasso_pops(rt, alloc, count, back);
@@ -263,8 +263,8 @@ fn lassos_of(rt: &impl Abort, alloc: Global, count: u32) {
 
 static COUNTS: [u32; 8] = [1, 2, 3, 4, 7, 8, 9, 40];
 
-// The arrows lead from variable 0 to the last one and back to some variable: these are the cycle,
-// which is popped once, under its least variable. Then they all lead to the root.
+// The arrows lead from variable 0 to the last one, and back to some variable. These form the
+// cycle, which is popped once, under its lowest variable. Then all arrows lead to the root.
 #[test]
 fn the_cycle_that_the_arrows_lead_to_is_popped(rt: HostRuntime) {
     let alloc = rt.alloc();

@@ -1,8 +1,8 @@
 use confluence_core::Stuck;
 use std::process::Abort;
 
-/// Compares two counts. Tests compare by this call and the next two, so that what tells of numbers
-/// that differ is proved once.
+/// Compares two counts. Tests compare by this call and the next two, so that the messages about
+/// different numbers are proved only once.
 pub fn same(rt: &impl Abort, found: u64, want: u64, what: &str) {
     assert!(rt; found == want, "{what}");
 }
@@ -12,12 +12,12 @@ pub fn same_at(rt: &impl Abort, found: u32, want: u32, what: &str, place: u64) {
     assert!(rt; found == want, "{what} {place}");
 }
 
-/// Stops the test where this isn't so at a place.
+/// Ends the test if this does not hold at a place.
 pub fn is_so(rt: &impl Abort, holds: bool, what: &str, place: u64) {
     assert!(rt; holds, "{what} {place}");
 }
 
-/// Compares two counts of what two numbers name.
+/// Compares two counts, identified by two numbers.
 pub fn same_of(rt: &impl Abort, found: u64, want: u64, what: &str, of: (u32, u32)) {
     let (one, other) = of;
     assert!(rt; found == want, "{what} {one}, {other}");

@@ -10,10 +10,10 @@ use std::alloc::Global;
 use std::process::Abort;
 use test_instances::EventRow;
 
-// How many variables the events may name.
+// The number of variables that the events may name.
 const VARIABLES: u32 = 10;
 
-// Whether the cube names variables of the tests alone.
+// Whether the cube names only variables of the tests.
 fn is_known(cube: &Cube) -> bool
     ensures { OnTrue result (NamesBelow cube.now VARIABLES) }
 {
@@ -25,7 +25,7 @@ fn is_known(cube: &Cube) -> bool
     true
 }
 
-// Whether the events name variables of the tests alone.
+// Whether the events name only variables of the tests.
 fn are_known(events: &Events) -> bool
     ensures { OnTrue result (All (λ r. NamesBelow r.1 VARIABLES) events.now) }
 {
@@ -63,7 +63,7 @@ fn case_has_verdict(rt: &impl Abort, alloc: Global, table: &[EventRow], want: Ve
     drop(family);
 }
 
-// What a case is of, its events, and the verdict on them.
+// The name of a case, its events, and the expected verdict.
 type Case = (&'static str, &'static [EventRow], Verdict);
 
 // Worked by hand.
@@ -117,7 +117,7 @@ static CASES: [Case; 13] = [
         &[(1, &[(0, 0)]), (2, &[(1, 0)]), (3, &[(0, 1), (1, 0)])],
         Verdict::Clash(2, 3),
     ),
-    // Of the clashes (3, 9) and (5, 8) the first has the lesser number.
+    // Of the clashes (3, 9) and (5, 8) the first has the lower number.
     (
         "the least first number",
         &[

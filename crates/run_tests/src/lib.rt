@@ -1,9 +1,9 @@
-//! Tests of readers, of runs on one thread and the law of their samples, of verdicts, rounds, books
-//! of pops and batches, by public calls alone. They stand above the crates that they test, so that
-//! each of those is proved once.
+//! Tests of readers, of runs on one thread and the distribution of their samples, of verdicts,
+//! rounds, books of pops and batches, by public calls only. They are in a crate above those that
+//! they test, so that these are not proved once more with their tests.
 //!
-//! A function that owns an instance or an end drops it by a call: what drops it is then proved once,
-//! and not followed through the function that owns it.
+//! A function that owns an instance or an end drops it by a call. The drop is then proved once,
+//! and not in each function that owns such a value.
 #![tactic(auto)]
 
 #[cfg(test)]

@@ -1,5 +1,5 @@
-//! What `test_instances` makes. A table that isn't one of an instance ends the test where it stands,
-//! so that no test has a way out beside its end while it owns what was made.
+//! The values of `test_instances`. A table that does not describe one ends the test at once. So no
+//! test returns early while it owns such a value.
 use pop_instance::{Arrows, Cube, Family, Instance};
 use pop_stacks::Stacks;
 use std::alloc::Global;
@@ -7,7 +7,7 @@ use std::process::Abort;
 use std::test::Fail;
 use test_instances::EventRow;
 
-// What was made, or else the end of the test.
+// The value that was made. Ends the test if there is none.
 fn made<T>(rt: &impl Abort, made: Result<T, Fail>, what: &str) -> T {
     match made {
         Ok(made) => made,
@@ -20,7 +20,7 @@ pub fn cube(rt: &impl Abort, alloc: Global, pairs: &[(u32, u32)]) -> Cube {
     made(rt, test_instances::cube(alloc, pairs), "a cube")
 }
 
-/// The family of these events, whose numbers rise.
+/// The family of these events, with rising numbers.
 pub fn family(rt: &impl Abort, alloc: Global, rows: Vec<(u32, Cube)>) -> Family {
     made(rt, test_instances::family(alloc, rows), "events")
 }
@@ -31,7 +31,7 @@ pub fn events(rt: &impl Abort, alloc: Global, table: &[EventRow]) -> Family {
     family(rt, alloc, rows)
 }
 
-/// The family of a chain of so many events.
+/// The family of a chain of this many events.
 pub fn chain(rt: &impl Abort, alloc: Global, links: u32) -> Family {
     made(rt, test_instances::chain(alloc, links), "a chain")
 }
@@ -46,8 +46,8 @@ pub fn over(rt: &impl Abort, stacks: Stacks, family: Family) -> Instance {
     made(rt, test_instances::over(stacks, family), "an instance")
 }
 
-/// The instance of a family over so many variables, with stacks of this height under a key of 32
-/// such bytes.
+/// The instance of a family over this many variables, with stacks of this height under a key that
+/// has this byte 32 times.
 pub fn over_keyed(rt: &impl Abort, key: u8, count: u32, height: u32, family: Family) -> Instance {
     let stacks = made(rt, test_instances::keyed(key, count, height), "stacks");
     over(rt, stacks, family)

@@ -15,14 +15,14 @@ mod parts;
 mod rings;
 mod units;
 
-// What an end is to be: its cursors, its pops and the units of its stuck events.
+// The expected end: its cursors, its pops and the units of its stuck events.
 struct Want {
     cursors: &'static [u32],
     pops: u64,
     stuck: &'static [u32],
 }
 
-// Compares an end over so many variables.
+// Compares an end over this many variables.
 fn is_end(rt: &impl Abort, end: &End, count: u32, want: &Want)
     requires { count ≡ length end.now.cursors }
 {
@@ -61,7 +61,7 @@ fn stuck_alike(rt: &impl Abort, stuck: &Stuck, others: &Stuck) {
     }
 }
 
-// Compares the ends of two runs over so many variables.
+// Compares the ends of two runs over this many variables.
 fn ends_alike(rt: &impl Abort, end: &End, other: &End, count: u32)
     requires end { count ≡ length end.now.cursors }
     requires other { count ≡ length other.now.cursors }
@@ -81,8 +81,8 @@ fn run_ends_as(rt: &impl Abort, alloc: Global, instance: &Instance, first: &End)
     drop(run);
 }
 
-// Runs an instance by both calls, and compares their ends. Returns the pops and how many events are
-// stuck.
+// Runs an instance by both calls, and compares their ends. Returns the numbers of pops and of
+// stuck events.
 fn pops_and_stuck(rt: &impl Abort, alloc: Global, instance: &Instance) -> (u64, u64) {
     let first = run_first(alloc, instance).expect(rt, "memory");
     run_ends_as(rt, alloc, instance, &first);
@@ -91,7 +91,7 @@ fn pops_and_stuck(rt: &impl Abort, alloc: Global, instance: &Instance) -> (u64, 
     found
 }
 
-// Rows of entries, listed events, and what the end of their run is to be. Worked by hand.
+// Rows of entries, listed events, and the expected end of their run. Worked by hand.
 struct Case {
     rows: &'static [&'static [u32]],
     events: &'static [EventRow],
@@ -150,7 +150,7 @@ fn a_pop_moves_every_variable_of_the_event(rt: HostRuntime) {
     case_ends(&rt, rt.alloc(), &EVERY_VARIABLE);
 }
 
-// The log that a run from zeros keeps, where it is asked for one.
+// The log that a run from zeros keeps, if it is asked to keep one.
 fn log_of(rt: &impl Abort, alloc: Global, instance: &Instance, keep: Keep) -> Option<Log> {
     let run = run_from_zeros(alloc, instance, keep).expect(rt, "memory");
     let Run { end, log } = run;
@@ -158,7 +158,7 @@ fn log_of(rt: &impl Abort, alloc: Global, instance: &Instance, keep: Keep) -> Op
     log
 }
 
-// Whether a run keeps a log that is asked for none.
+// Whether a run keeps a log without being asked to.
 fn logs_unasked(rt: &impl Abort, alloc: Global, instance: &Instance) -> bool {
     let log = log_of(rt, alloc, instance, Keep::Nothing);
     let answer = log.is_some();
@@ -181,7 +181,7 @@ fn is_record(rt: &impl Abort, popped: &Record, unit: u32, terms: &[Term]) {
     }
 }
 
-// Compares the records of a log, in each of which this unit is popped with these terms.
+// Compares the records of a log. Each must pop this unit with these terms.
 fn is_log(rt: &impl Abort, log: &Log, unit: u32, want: &[&[Term]]) {
     assert!(rt; log.len() == want.len() as u64);
     for (i, terms) in want.iter().enumerate() {
@@ -198,7 +198,7 @@ fn logs(rt: &impl Abort, alloc: Global, instance: &Instance, unit: u32, want: &[
 
 static TERMS: &[&[Term]] = &[&[(0, 0, 0)], &[(0, 0, 1)]];
 
-// Variable 0 has the entries 0, 0, 1, and the event has the value 0.
+// Variable 0 has the entries 0, 0, 1, and the event demands the value 0.
 static TWO_POPS: Case = Case {
     rows: &[&[0, 0, 1]],
     events: &[(1, &[(0, 0)])],
@@ -209,7 +209,7 @@ static TWO_POPS: Case = Case {
     },
 };
 
-// Compares the log of their instance, which is kept only where it is asked for.
+// Compares the log of the instance of `TWO_POPS`, which is kept only if requested.
 fn two_pops_logged(rt: &impl Abort, alloc: Global, instance: &Instance) {
     let logs_unasked = logs_unasked(rt, alloc, instance);
     assert!(rt; !logs_unasked);

@@ -37,8 +37,8 @@ fn two_and_one(alloc: Global) -> Result<Weights, AllocError> {
     Ok(Weights::of(Rows::of(rows)))
 }
 
-// The numbers of the entries are the words of RFC 8439, A.1, vector 1; they were scaled to the sums
-// of the weights 1 and 1, and 2 and 1, by hand.
+// The numbers of the entries are the words of RFC 8439, A.1, vector 1. They were scaled to the
+// sums of the weights 1 and 1, and 2 and 1, by hand.
 #[test]
 fn a_plain_reader_serves_stacks_of_the_same_key_with_other_weights(rt: HostRuntime) {
     let weights = two_and_one(rt.alloc()).expect(&rt, "memory");

@@ -16,8 +16,8 @@ use test_instances::{EventRow, has_cursors};
 mod counts;
 mod instances;
 
-// What is to come of an instance: the places of the events that occur at zeros, and of those of the
-// resampling set there; and the end of the rounds, with the units of its stuck events.
+// The expected results for an instance: the places of the events that occur at zeros, and of those
+// of the resampling set there; and the end of the rounds, with the units of its stuck events.
 struct Want {
     stacks: &'static [&'static [u32]],
     events: &'static [EventRow],
@@ -31,7 +31,7 @@ struct Want {
 
 // Worked by hand.
 static WANTS: [Want; 5] = [
-    // Both events occur, and name variable 0, which moves on once.
+    // Both events occur and name variable 0, which moves on once.
     Want {
         stacks: &[&[0, 1], &[0, 0], &[0, 0]],
         events: &[(1, &[(0, 0), (1, 0)]), (2, &[(0, 0), (2, 0)])],
@@ -42,7 +42,7 @@ static WANTS: [Want; 5] = [
         stuck: &[],
         short: None,
     },
-    // The second event doesn't occur, agrees at variable 1, and joins.
+    // The second event does not occur. It demands the current value of variable 1, and joins.
     Want {
         stacks: &[&[0, 1], &[0, 0], &[1, 1]],
         events: &[(1, &[(0, 0), (1, 0)]), (2, &[(1, 0), (2, 0)])],
@@ -53,7 +53,8 @@ static WANTS: [Want; 5] = [
         stuck: &[],
         short: None,
     },
-    // The second event differs at variable 1, and is excluded: variable 2 has no second entry.
+    // The second event demands another value of variable 1, and is excluded. Variable 2 has no
+    // second entry.
     Want {
         stacks: &[&[0, 1], &[0, 0], &[0]],
         events: &[(1, &[(0, 0), (1, 0)]), (2, &[(1, 1), (2, 0)])],
@@ -64,7 +65,8 @@ static WANTS: [Want; 5] = [
         stuck: &[],
         short: None,
     },
-    // The third event joins in the second step, beside the second, which joins in the first.
+    // The third event joins in the second step. It shares a variable with the second event, which
+    // joins in the first step.
     Want {
         stacks: &[&[0, 1], &[0, 1], &[1, 1], &[1, 1]],
         events: &[
@@ -100,7 +102,7 @@ fn are_units(rt: &impl Abort, units: &Units, want: &[u32]) {
     }
 }
 
-// Compares the end of rounds over so many variables.
+// Compares the end of rounds over this many variables.
 fn is_end(rt: &impl Abort, count: u32, end: &RoundEnd, want: &Want)
     requires { count ≡ length end.now.cursors }
 {
@@ -167,7 +169,7 @@ fn are_resampled<R: Threads + Abort + Sync>(
     drop(zeros);
 }
 
-// Compares what comes of an instance.
+// Compares the results for an instance.
 fn comes_of<R: Threads + Abort + Sync>(rt: &R, alloc: Global, instance: &Instance, want: &Want) {
     let index = index_of(rt, alloc, instance);
     are_violated(rt, alloc, instance, want.violated);
@@ -177,7 +179,7 @@ fn comes_of<R: Threads + Abort + Sync>(rt: &R, alloc: Global, instance: &Instanc
     drop(index);
 }
 
-// Makes the instance, and compares what comes of it.
+// Makes the instance, and compares its results.
 fn comes<R: Threads + Abort + Sync>(rt: &R, alloc: Global, want: &Want) {
     let instance = listed(rt, alloc, want.stacks, want.events);
     comes_of(rt, alloc, &instance, want);
@@ -191,7 +193,8 @@ fn rounds_move_each_variable_of_the_resampling_set_once(rt: HostRuntime) {
     }
 }
 
-// Compares the end of rounds over so many variables, of which just those of even number moved, once.
+// Compares the end of rounds over this many variables. Exactly the variables of even number must
+// have moved, once.
 fn even_ones_moved(rt: &impl Abort, count: u32, end: &RoundEnd)
     requires { count ≡ length end.now.cursors }
 {
@@ -203,7 +206,7 @@ fn even_ones_moved(rt: &impl Abort, count: u32, end: &RoundEnd)
     assert!(rt; end.short.is_none());
 }
 
-// Runs an instance, of which just the variables of even number move.
+// Runs an instance in which exactly the variables of even number move.
 fn even_ones_move<R: Threads + Abort + Sync>(rt: &R, alloc: Global, instance: &Instance) {
     let index = index_of(rt, alloc, instance);
     let end = run_rounds(rt, alloc, instance, &index).expect(rt, "memory");
@@ -212,7 +215,7 @@ fn even_ones_move<R: Threads + Abort + Sync>(rt: &R, alloc: Global, instance: &I
     drop(index);
 }
 
-// Worked by hand: just the variables of even number move, once.
+// Worked by hand: exactly the variables of even number move, once.
 #[test]
 fn many_events_are_looked_at_in_several_threads(rt: HostRuntime) {
     let alloc = rt.alloc();

@@ -1,4 +1,4 @@
-//! Arrows, in one array, in lists, and packed.
+//! Arrows in one array, in lists, and packed.
 ghost use Rattle.std.specs.Prelude.{◌<◌, ◌^◌, length, All};
 ghost use Rattle.pop_instance.specs.Arrows.{heads_of};
 
@@ -45,7 +45,7 @@ fn heads(rt: &impl Abort, alloc: Global, table: &[&[Option<u32>]]) -> Vec<Vec<Op
     rows
 }
 
-// Compares where the slots of a variable lead.
+// Compares the heads of the slots of a variable.
 fn leads(rt: &impl Abort, arrows: &Arrows, v: u32, want: &[Option<u32>])
     requires { v < length arrows.now }
 {
@@ -56,7 +56,7 @@ fn leads(rt: &impl Abort, arrows: &Arrows, v: u32, want: &[Option<u32>])
     }
 }
 
-// The case of the test below: variable 0 leads to the root and to variable 1.
+// The case of the test below. The slots of variable 0 lead to the root and to variable 1.
 static HEADS: [&[Option<u32>]; 3] = [&[None, Some(1)], &[Some(2)], &[Some(0), Some(0), None]];
 
 // Compares arrows with those of the case.
@@ -91,7 +91,7 @@ fn arrows_in_one_array_answer_like_lists(rt: HostRuntime) {
     are_worked_case(&rt, alloc, Arrows::new(heads(&rt, alloc, &HEADS)));
 }
 
-// For each of so many variables one number, falling to 0, so that no two lead as far.
+// One number for each variable, falling to 0, so that no two variables have the same pattern.
 fn falling(rt: &impl Abort, alloc: Global, count: u32) -> RowList
     ensures short { length result < 2 ^ 31 }
     ensures short_rows { All (λ row. length row < 2 ^ 31) result }
@@ -104,7 +104,7 @@ fn falling(rt: &impl Abort, alloc: Global, count: u32) -> RowList
     rows
 }
 
-// Compares where falling numbers lead.
+// Compares the heads that the falling numbers denote.
 fn fall(rt: &impl Abort, arrows: &Arrows, count: u32) {
     assert!(rt; arrows.count() == count);
     for v in 0..count {
@@ -112,7 +112,7 @@ fn fall(rt: &impl Abort, arrows: &Arrows, count: u32) {
     }
 }
 
-// Packs the arrows of falling numbers, and looks where they lead.
+// Packs the arrows of falling numbers, and compares their heads.
 fn packed_fall(rt: &impl Abort, alloc: Global, count: u32) {
     let arrows = Arrows::flat(falling(rt, alloc, count)).expect(rt, "arrows");
     let packed = arrows.packed(alloc).expect(rt, "memory");
@@ -120,20 +120,20 @@ fn packed_fall(rt: &impl Abort, alloc: Global, count: u32) {
     drop(packed);
 }
 
-// A byte tells 256 variables apart that lead as far as no other.
+// A byte has 256 values, for as many variables of different patterns.
 #[test]
 fn arrows_that_no_byte_tells_apart_are_packed_as_they_are(rt: HostRuntime) {
     packed_fall(&rt, rt.alloc(), 256);
     packed_fall(&rt, rt.alloc(), 257);
 }
 
-// Rows without a slot of a variable, and with a number past the root.
+// Rows with no slot for a variable, and rows with a number past the root.
 static BAD_NUMBERS: [&[&[u32]]; 2] = [&[&[3, 1], &[], &[0, 0, 3]], &[&[3, 1], &[2], &[0, 4, 3]]];
 
-// Rows without a slot of a variable, and with a head past the last variable.
+// Rows with no slot for a variable, and rows with a head past the last variable.
 static BAD_HEADS: [&[&[Option<u32>]]; 2] = [&[&[Some(0)], &[]], &[&[Some(1), None]]];
 
-// Whether numbers make no arrows.
+// Whether these numbers are rejected.
 fn are_no_arrows(rt: &impl Abort, alloc: Global, table: &[&[u32]]) -> bool {
     let made = Arrows::flat(numbers(rt, alloc, table));
     let are_none = made.is_none();
@@ -149,7 +149,7 @@ fn no_slot_and_a_number_past_the_root_are_refused(rt: HostRuntime) {
     }
 }
 
-// Whether heads make no arrows.
+// Whether these heads are rejected.
 fn make_no_arrows(rt: &impl Abort, alloc: Global, table: &[&[Option<u32>]]) -> bool {
     let made = Arrows::new(heads(rt, alloc, table));
     let are_none = made.is_none();

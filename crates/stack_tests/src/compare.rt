@@ -1,9 +1,9 @@
-//! What ends a test. Tests compare by these calls, so that what tells of values that differ is
-//! proved once.
+//! The checks that end a test. Tests compare by these calls, so that the messages about different
+//! values are proved only once.
 use std::process::Abort;
 use std::test::Fail;
 
-/// Stops the test where this isn't so of what stands at a place.
+/// Ends the test if this does not hold at a place.
 pub fn is_so(rt: &impl Abort, holds: bool, what: &str, place: u32) {
     assert!(rt; holds, "{what} {place}");
 }
@@ -18,7 +18,7 @@ pub fn same_row(rt: &impl Abort, found: &[u32], want: &[u32], v: u32) {
     assert!(rt; found == want, "row {v}: {found:?}, not {want:?}");
 }
 
-/// What was made, and stops the test where nothing was.
+/// The value that was made. Ends the test if there is none.
 pub fn made<T>(rt: &impl Abort, tried: Result<T, Fail>, what: &str) -> T {
     match tried {
         Ok(value) => value,

@@ -1,4 +1,4 @@
-//! Cubes: what makes one, what its calls read, and how they are compared.
+//! Cubes: which pairs make one, what its methods return, and how cubes are ordered.
 use crate::compare::{is_so, made};
 use pop_instance::Cube;
 use std::alloc::Global;
@@ -30,7 +30,7 @@ fn a_cube_has_pairs_and_its_variables_rise_strictly(rt: HostRuntime) {
     }
 }
 
-// Compares what a cube answers with these pairs, none of which is of variable 1.
+// Compares a cube with these pairs, none of which is of variable 1.
 fn has_pairs(rt: &impl Abort, cube: &Cube, pairs: &[(u32, u32)]) {
     assert!(rt; cube.len() as usize == pairs.len());
     for i in 0..cube.len() {
@@ -46,7 +46,7 @@ fn cube_of(rt: &impl Abort, alloc: Global, pairs: &[(u32, u32)]) -> Cube {
     made(rt, cube(alloc, pairs), "a cube")
 }
 
-// Compares the cube of these pairs, and the pairs that are taken out of it.
+// Compares a cube with these pairs, and the list that `into_pairs` returns.
 fn gives_pairs(rt: &impl Abort, alloc: Global, cube: Cube, pairs: &[(u32, u32)]) {
     has_pairs(rt, &cube, pairs);
     let taken = cube.into_pairs(alloc).expect(rt, "memory");
@@ -54,7 +54,7 @@ fn gives_pairs(rt: &impl Abort, alloc: Global, cube: Cube, pairs: &[(u32, u32)])
     drop(taken);
 }
 
-// Takes a cube's pairs out into a list, and makes the cube of this list.
+// Takes a cube's pairs as a list, and makes the cube of this list.
 fn makes_a_cube_again(rt: &impl Abort, alloc: Global, pairs: &[(u32, u32)]) {
     let cube = cube_of(rt, alloc, pairs);
     // Read for its contract, which says that the pairs are those of a cube.
@@ -63,7 +63,8 @@ fn makes_a_cube_again(rt: &impl Abort, alloc: Global, pairs: &[(u32, u32)]) {
     gives_pairs(rt, alloc, again, pairs);
 }
 
-// Pairs, less from list to list: four are kept in place, and more in a list.
+// Lists of pairs, each shorter than the one before. Four pairs are stored in place, and more in a
+// list.
 static RISING: [&[(u32, u32)]; 4] = [
     &[(0, 1), (2, 0), (5, 7), (6, 1)],
     &[(0, 1), (2, 0), (5, 7), (6, 1), (9, 3)],
@@ -104,7 +105,7 @@ fn is_less(rt: &impl Abort, alloc: Global, low: &[(u32, u32)], high: &[(u32, u32
     is_less
 }
 
-// Pairs of which each are less than those behind them, where one begins with the other or not.
+// Lists of pairs, each less than the next. One begins with the list before it, and one does not.
 static BESIDE: [&[(u32, u32)]; 3] = [&[(0, 1)], &[(0, 1), (1, 0)], &[(0, 2)]];
 
 // Compares each cube of these pairs with the next.

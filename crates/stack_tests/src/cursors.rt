@@ -1,4 +1,4 @@
-//! A pop, and what occurs before and behind it.
+//! A pop, and which events occur before and after it.
 ghost use Rattle.std.specs.Prelude.{◌≡◌, [], ◌∷◌, length};
 ghost use Rattle.pop_model.specs.Popping.{NamesBelow};
 
@@ -18,7 +18,8 @@ fn cube(rt: &impl Abort, alloc: Global) -> Cube
     Cube::new(pairs).expect(rt, "a cube")
 }
 
-// Compares whether the cube occurs at the cursors of two variables. Where it does, it is poppable.
+// Compares whether the cube occurs at the cursors of two variables. If it does, it must be
+// poppable.
 fn occurs(rt: &impl Abort, stacks: &Stacks, cursors: &Cursors, cube: &Cube, want: bool)
     requires two { length cursors.now ≡ 2 }
     requires known { NamesBelow cube.now 2 }
@@ -61,7 +62,7 @@ fn popped(rt: &impl Abort, alloc: Global, start: &Cursors, cube: &Cube) -> Curso
     cursors
 }
 
-// Pops the cube at the first entries. It occurs there, and no more behind the pop.
+// Pops the cube at the first entries. It occurs there, and does not occur after the pop.
 fn pops(rt: &impl Abort, alloc: Global, stacks: &Stacks, cube: &Cube)
     requires { cube.now ≡ (0, 0) ∷ (1, 0) ∷ [] }
 {
@@ -73,7 +74,7 @@ fn pops(rt: &impl Abort, alloc: Global, stacks: &Stacks, cube: &Cube)
     drop(cursors);
 }
 
-// Two variables with the entries 0, 1 each. Pops the cube of value 0 of both.
+// Two variables with the entries 0, 1 each. The test pops the cube that demands 0 of both.
 #[test]
 fn a_pop_moves_each_variable_of_the_event(rt: HostRuntime) {
     let stacks = made(&rt, stacks(rt.alloc(), &[&[0, 1], &[0, 1]]), "stacks");

@@ -6,8 +6,8 @@ use std::alloc::Global;
 use std::process::Abort;
 use test_instances::EventRow;
 
-// Two cubes of one digest, which `proofs/Vectors.antt` of `pop_instance` has: behind the leading 1
-// the first has the digits 0 and base + 2, the other 1 and 2.
+// Two cubes with the same digest, which are in `proofs/Vectors.antt` of `pop_instance`. After the
+// leading 1 the first has the digits 0 and base + 2, and the other 1 and 2.
 static COLLISION: [EventRow; 2] = [
     (2, &[(0, 0), (1284865839, 1481765933)]),
     (7, &[(1, 0), (2, 0)]),
@@ -15,7 +15,7 @@ static COLLISION: [EventRow; 2] = [
 
 static DIFFERENT: [EventRow; 3] = [(1, &[(8, 0)]), (4, &[(3, 0)]), (5, &[(0, 0)])];
 
-// Cubes 3 and 5 repeat: 3 at the front and in the middle, 5 at the end.
+// Cubes 3 and 5 are repeated: 3 at the start and in the middle, 5 at the end.
 static REPEATED: [EventRow; 6] = [
     (1, &[(3, 0)]),
     (2, &[(3, 0)]),

@@ -4,27 +4,27 @@ use pop_stacks::{StackFault, StackSpec, Stacks, Weights};
 use std::alloc::Global;
 use std::process::Abort;
 
-// Compares the fault of stacks with the wanted one.
+// Compares the fault of stacks with the expected one.
 fn is_refused(rt: &impl Abort, spec: StackSpec, weights: Weights, wanted: StackFault) {
     let fault = Stacks::new(spec, weights, 1).err();
     assert!(rt; fault == Some(wanted), "not refused: {wanted}");
 }
 
-// Compares the fault of rows, each variable of which has two values, with the wanted one.
+// Compares the fault of rows with the expected one. Each variable has two values.
 fn are_refused(rt: &impl Abort, alloc: Global, table: &[&[u32]], count: u32, wanted: StackFault) {
     let rows = rows(rt, alloc, table);
     assert!(rt; count < 9);
     is_refused(rt, StackSpec::Given(rows), Weights::pairs(count), wanted);
 }
 
-// Compares the fault of rows with too great a sum of weights.
+// Compares the fault of rows if a sum of weights is too large.
 fn too_heavy(rt: &impl Abort, alloc: Global, table: &[&[u32]]) {
     let heavy = weights(rt, alloc, &[&[u32::MAX], &[u32::MAX, 1], &[2, u32::MAX]]);
     let rows = rows(rt, alloc, table);
     is_refused(rt, StackSpec::Given(rows), heavy, StackFault::WeightSum(1));
 }
 
-// Each list of rows has later faults too, and a fault at a later place.
+// Each list of rows also has later faults, and the same fault at a later place.
 #[test]
 fn the_first_fault_is_named_at_its_least_place(rt: HostRuntime) {
     let alloc = rt.alloc();

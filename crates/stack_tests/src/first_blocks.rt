@@ -1,5 +1,5 @@
-//! First blocks: a reader that keeps values draws those of four variables at once, and one that keeps
-//! none reads each stream by itself.
+//! First blocks: a reader with a cache draws those of four variables at once, and one without a
+//! cache reads each stream by itself.
 ghost use Rattle.std.specs.Prelude.{◌<◌, ◌^◌};
 ghost use Rattle.pop_model.specs.Stacks.{IsKeyed};
 ghost use Rattle.pop_stacks.specs.Readers.{Belongs};
@@ -36,8 +36,8 @@ fn compare_all(rt: &impl Abort, stacks: &Stacks, keeping: &mut Reader)
     }
 }
 
-// Compares entries by readers that look at each variable first: an entry of it, whose four are drawn
-// so, and then entries of all.
+// Compares entries by readers that start with each of the variables in turn. The first look draws
+// a block for four variables; then entries of all are compared.
 fn compare_from_each(rt: &impl Abort, alloc: Global, stacks: &Stacks) {
     for v in 0..stacks.count() {
         let mut keeping = Reader::keeping(alloc, stacks).expect(rt, "memory");
@@ -47,7 +47,7 @@ fn compare_from_each(rt: &impl Abort, alloc: Global, stacks: &Stacks) {
     }
 }
 
-// Compares entries of the last sample that there is.
+// Compares entries of the sample with the largest number.
 fn compare_last(rt: &impl Abort, alloc: Global, stacks: &Stacks)
     requires { IsKeyed stacks.now.origin }
 {
@@ -67,7 +67,7 @@ fn compare_samples(rt: &impl Abort, alloc: Global, count: u32)
     drop(stacks);
 }
 
-// The last variables are one, two, three and four of their four.
+// The last group of four variables has one, two, three and four variables.
 #[test]
 fn first_blocks_of_four_variables_are_those_of_their_streams(rt: HostRuntime) {
     let alloc = rt.alloc();
@@ -78,8 +78,8 @@ fn first_blocks_of_four_variables_are_those_of_their_streams(rt: HostRuntime) {
     compare_samples(&rt, alloc, 11);
 }
 
-// Rows of weights, of which some stand in a four with rows of another length: a variable has up to two
-// values, up to four, or more.
+// Rows of weights. Some are in a group of four with rows of another length: a variable has up to
+// two values, up to four, or more.
 static TABLES: [&[&[u32]]; 3] = [
     &[&[9], &[2, 1], &[1, 5], &[1, 1], &[3, 3]],
     &[

@@ -1,4 +1,4 @@
-//! Rows with room for so many numbers each.
+//! Rows with room for a fixed number of items each.
 use crate::compare::same_row;
 use pop_rows::FlatRows;
 use std::process::Abort;
@@ -11,7 +11,7 @@ fn are_rows(rt: &impl Abort, rows: &FlatRows, want: &[&[u32]]) {
     }
 }
 
-// Room is left in the last row.
+// The last row is not filled.
 #[test]
 fn rows_have_what_was_pushed_to_them_in_order(rt: HostRuntime) {
     let alloc = rt.alloc();

@@ -1,4 +1,4 @@
-//! Rows that are fronts of one list.
+//! Rows that are prefixes of one list.
 use crate::compare::same_row;
 use pop_rows::Fronts;
 use std::alloc::Global;

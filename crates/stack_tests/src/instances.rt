@@ -23,7 +23,7 @@ fn instance(rt: &impl Abort, alloc: Global, last: (u32, u32)) -> Option<Instance
     Instance::new(stacks, family)
 }
 
-// The instance of two variables, whose event is value 1 of both.
+// The instance of two variables with the event that both have the value 1.
 fn listed(rt: &impl Abort, alloc: Global) -> Instance {
     instance(rt, alloc, (1, 1)).expect(rt, "an instance")
 }
@@ -54,21 +54,21 @@ fn an_instance_has_the_events_of_its_family(rt: HostRuntime) {
     drop(listed);
 }
 
-// Tells that there is no instance with this pair in its event.
+// Checks that there is no instance with this pair in its event.
 fn is_not_made(rt: &impl Abort, alloc: Global, last: (u32, u32)) {
     let made = instance(rt, alloc, last);
     is_so(rt, made.is_none(), "no instance with variable", last.0);
     drop(made);
 }
 
-// Value 2 of variable 1, and variable 2.
+// The pairs are value 2 of variable 1, and a pair of variable 2.
 #[test]
 fn events_name_variables_and_values_that_the_stacks_have(rt: HostRuntime) {
     is_not_made(&rt, rt.alloc(), (1, 2));
     is_not_made(&rt, rt.alloc(), (2, 1));
 }
 
-// The arrows of one variable, whose values lead to the root and to itself.
+// The arrows of one variable, with values that lead to the root and to itself.
 fn arrows(rt: &impl Abort, alloc: Global) -> Arrows {
     let row = Vec::from_slice(alloc, &[None, Some(0)]).expect(rt, "memory");
     let mut heads = Vec::new(alloc);
@@ -76,14 +76,15 @@ fn arrows(rt: &impl Abort, alloc: Global) -> Arrows {
     Arrows::new(heads).expect(rt, "arrows")
 }
 
-// The instance of the cycles of one variable with two values, which lead to the root and to itself.
+// The instance of the cycles of one variable with two values, which lead to the root and to
+// itself.
 fn loops(rt: &impl Abort, alloc: Global) -> Instance {
     let arrows = arrows(rt, alloc);
     let stacks = Stacks::new(StackSpec::Key([0; 32]), Weights::pairs(1), 1).expect(rt, "stacks");
     made(rt, over(stacks, Family::Cycles(arrows)), "an instance")
 }
 
-// Compares the places of each variable of the first event with its place alone.
+// Checks that each variable of the first event has exactly this event's place in the index.
 fn have_the_first_place(rt: &impl Abort, events: &Events, index: &Index)
     requires { IsIndex events.now index.now }
 {
@@ -113,7 +114,7 @@ fn listed_events_have_an_index(rt: HostRuntime) {
     drop(listed);
 }
 
-// Tells that an instance has no index.
+// Checks that an instance has no index.
 fn has_no_index(rt: &impl Abort, alloc: Global, instance: &Instance) {
     let index = instance.index(alloc).expect(rt, "memory");
     is_so(rt, index.is_none(), "no index of cycles", 0);

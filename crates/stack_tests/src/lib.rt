@@ -1,6 +1,6 @@
 //! Tests of rows of numbers, of stacks and their readers, and of cubes, events, arrows, indexes,
-//! instances and cursors, by public calls of `pop_rows`, `pop_stacks` and `pop_instance`. They
-//! stand above these crates, which are proved once so, and not once more with their tests.
+//! instances and cursors, by public calls of `pop_rows`, `pop_stacks` and `pop_instance`. They are
+//! in a crate above these, so that these crates are not proved once more with their tests.
 #![tactic(auto)]
 
 #[cfg(test)]

@@ -1,4 +1,4 @@
-//! Readers: what the entries are, under each kind of weights and in each order.
+//! Readers: the values of entries, under each kind of weights and in each order.
 ghost use Rattle.std.specs.Prelude.{◌<◌, ◌^◌};
 ghost use Rattle.pop_stacks.specs.Readers.{Belongs};
 
@@ -27,7 +27,7 @@ fn is_entry(rt: &impl Abort, v: u32, k: u32, found: u32, value: u32) {
     );
 }
 
-/// Looks at entry k of variable v, and compares its value.
+/// Reads entry k of variable v, and compares its value.
 pub fn look(rt: &impl Abort, stacks: &Stacks, reader: &mut Reader, v: u32, k: u32, value: u32)
     requires { Belongs stacks.now reader.old }
     ensures { Belongs stacks.now reader.new }
@@ -36,15 +36,15 @@ pub fn look(rt: &impl Abort, stacks: &Stacks, reader: &mut Reader, v: u32, k: u3
     is_entry(rt, v, k, found, value);
 }
 
-/// The same by a reader of its own, which keeps no values.
+/// Reads entry k of variable v by a new reader without a cache, and compares its value.
 pub fn look_afresh(rt: &impl Abort, stacks: &Stacks, v: u32, k: u32, value: u32) {
     let mut reader = Reader::new(stacks);
     look(rt, stacks, &mut reader, v, k, value);
     drop(reader);
 }
 
-// Looks at entries of variable 0 in this order; `values` are the values of the first ones, and those
-// of later ones aren't compared.
+// Reads entries of variable 0 in this order. `values` are the values of the first entries; later
+// entries are not compared.
 fn look_along(rt: &impl Abort, stacks: &Stacks, reader: &mut Reader, order: &[u32], values: &[u32])
     requires { Belongs stacks.now reader.old }
     ensures { Belongs stacks.now reader.new }
@@ -57,7 +57,7 @@ fn look_along(rt: &impl Abort, stacks: &Stacks, reader: &mut Reader, order: &[u3
     }
 }
 
-// A reader that keeps values, or one that keeps none.
+// A reader with a cache, or one without.
 fn reader_of(rt: &impl Abort, alloc: Global, stacks: &Stacks, keeps: bool) -> Reader
     ensures { Belongs stacks.now result }
 {
@@ -67,7 +67,7 @@ fn reader_of(rt: &impl Abort, alloc: Global, stacks: &Stacks, keeps: bool) -> Re
     Reader::new(stacks)
 }
 
-// The first entries of variable 0, forwards, backwards and between looks at a later group.
+// The first entries of variable 0, forwards, backwards, and with a later group in between.
 static ORDER: [u32; 20] = [0, 1, 2, 3, 4, 5, 6, 7, 7, 6, 5, 4, 3, 2, 1, 0, 40, 3, 0, 5];
 
 // Compares the first entries of variable 0, by a reader of this kind.
@@ -90,9 +90,9 @@ fn has_values(rt: &impl Abort, alloc: Global, weights: Weights, values: &[u32]) 
     drop(stacks);
 }
 
-// Weights of variable 0, and the values of its entries 0 to 7. The numbers of these entries are the
-// words of RFC 8439, A.1, vector 1; they are scaled and compared with the sums of the weights by
-// hand.
+// Weights of variable 0, and the values of its entries 0 to 7. The numbers of these entries are
+// the words of RFC 8439, A.1, vector 1. They were scaled and compared with the sums of the weights
+// by hand.
 static WEIGHTS: [(&[u32], &[u32]); 5] = [
     (&[1, 1], &[1, 0, 0, 1, 1, 0, 0, 1]),
     (&[1, 1, 1], &[1, 0, 0, 2, 1, 0, 0, 1]),
@@ -131,19 +131,19 @@ fn weights_in_one_array_give_the_same_values(rt: HostRuntime) {
     }
 }
 
-// Two weights of 1 of variable 0, beside those of others.
+// Two weights of 1 for variable 0, and weights of other variables.
 fn two_ones(rt: &impl Abort, alloc: Global) -> Weights {
     let lengths = Vec::from_slice(alloc, &[2, 4, 1]).expect(rt, "memory");
     Weights::of(Rows::ones(alloc, lengths).expect(rt, "memory"))
 }
 
-// Three weights of 1 of variable 0, beside one of another.
+// Three weights of 1 for variable 0, and one for another variable.
 fn three_ones(rt: &impl Abort, alloc: Global) -> Weights {
     let lengths = Vec::from_slice(alloc, &[3, 1]).expect(rt, "memory");
     Weights::of(Rows::ones(alloc, lengths).expect(rt, "memory"))
 }
 
-// The same weights as fronts of one list give the same values.
+// The same weights as prefixes of one list give the same values.
 #[test]
 fn weights_of_one_give_the_same_values(rt: HostRuntime) {
     let alloc = rt.alloc();
@@ -154,7 +154,8 @@ fn weights_of_one_give_the_same_values(rt: HostRuntime) {
 // The first values of variable 0 under the key of zeros: RFC 8439, A.1, vector 1.
 static VALUES: [u32; 8] = [1, 0, 0, 1, 1, 0, 0, 1];
 
-// Looks at variable 0 beside variables that share its place among the kept refills: 16 and 32 do.
+// Reads variable 0 alternately with variables that share its place among the kept refills: 16 and
+// 32 do.
 fn looks_beside_others(rt: &impl Abort, stacks: &Stacks, reader: &mut Reader)
     requires { Belongs stacks.now reader.old }
 {
@@ -169,7 +170,7 @@ fn looks_beside_others(rt: &impl Abort, stacks: &Stacks, reader: &mut Reader)
     look(rt, stacks, reader, 16, 1, sixteenth);
 }
 
-// The same by a reader of this kind.
+// The reads of `looks_beside_others` by a reader of this kind.
 fn read_beside(rt: &impl Abort, alloc: Global, stacks: &Stacks, keeps: bool) {
     let mut reader = reader_of(rt, alloc, stacks, keeps);
     looks_beside_others(rt, stacks, &mut reader);
@@ -189,7 +190,7 @@ fn a_look_at_another_variable_changes_no_answer(rt: HostRuntime) {
     drop(stacks);
 }
 
-/// Compares an entry as a reader that keeps values gives it with the answer of a fresh reader.
+/// Compares an entry from a reader with a cache with the entry from a new reader.
 pub fn compare(rt: &impl Abort, stacks: &Stacks, keeping: &mut Reader, v: u32, k: u32)
     requires { Belongs stacks.now keeping.old }
     ensures { Belongs stacks.now keeping.new }
@@ -212,7 +213,7 @@ fn compare_in_jumps(rt: &impl Abort, stacks: &Stacks, keeping: &mut Reader, coun
     }
 }
 
-// Compares entries of stacks of this height by a reader that keeps values.
+// Compares entries of stacks of this height by a reader with a cache.
 fn compare_kept(rt: &impl Abort, alloc: Global, stacks: &Stacks, height: u32)
     requires { 0 < height }
 {
@@ -250,7 +251,7 @@ fn compare_at_height(rt: &impl Abort, alloc: Global, height: u32)
     }
 }
 
-// A group has 32 entries, and the last of the greatest height is in the last group.
+// A group has 32 entries. The last entry at the largest height is in the last group.
 #[test]
 fn kept_values_are_the_entries_at_any_height(rt: HostRuntime) {
     let alloc = rt.alloc();
@@ -297,9 +298,9 @@ fn given_rows_are_read_as_they_stand(rt: HostRuntime) {
     drop(stacks);
 }
 
-// RFC 8439, A.1, vector 5: the key of zeros, and a nonce whose last word is 2^25. As a stream
-// number of 64 bits that is stream 0 of sample 2^25. Of two equal weights the top bit of the high
-// word chooses.
+// RFC 8439, A.1, vector 5: the key of zeros, and a nonce with the last word 2^25. As a stream
+// number of 64 bits that is stream 0 of sample 2^25. With two equal weights the top bit of the
+// high word chooses.
 #[test]
 fn each_sample_has_streams_of_its_own(rt: HostRuntime) {
     let alloc = rt.alloc();

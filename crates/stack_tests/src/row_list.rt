@@ -4,7 +4,7 @@ use pop_rows::RowList;
 use std::alloc::Global;
 use std::process::Abort;
 
-// Rows that are pushed to a list with room for so many rows and numbers.
+// A list with room for this many rows and numbers, and with these rows pushed to it.
 fn list(rt: &impl Abort, alloc: Global, room: (usize, usize), table: &[&[u32]]) -> RowList {
     let mut rows = RowList::with_room(alloc, room.0, room.1).expect(rt, "memory");
     assert!(rt; rows.count() == 0);
@@ -24,7 +24,7 @@ fn are_rows(rt: &impl Abort, rows: &RowList, want: &[&[u32]]) {
 
 static ROWS: [&[u32]; 5] = [&[5, 6], &[], &[], &[7], &[8, 8, 9]];
 
-// There are more rows and numbers than there was room for.
+// There are more rows and numbers than the list had room for.
 #[test]
 fn rows_come_back_in_order_with_empty_ones_between(rt: HostRuntime) {
     let rows = list(&rt, rt.alloc(), (3, 4), &ROWS);
@@ -32,7 +32,7 @@ fn rows_come_back_in_order_with_empty_ones_between(rt: HostRuntime) {
     drop(rows);
 }
 
-// Sums up rows, and compares the first one past 32 bits.
+// Makes running sums of rows, and compares the first row with a sum past 32 bits.
 fn sums_up_to(rt: &impl Abort, rows: &mut RowList, heavy: Option<u32>) {
     let found = rows.accumulate();
     assert!(rt; found == heavy, "the first row past 32 bits");

@@ -1,4 +1,4 @@
-//! Rows, weights and events by tables. A table that isn't one of them fails the test.
+//! Rows, weights and events, given by tables. A table that does not describe any fails the test.
 ghost use Rattle.std.specs.Prelude.{◌≡◌, ◌<◌, length, All};
 ghost use Rattle.std.specs.Bool.{OnTrue};
 ghost use Rattle.pop_model.specs.Stacks.{variables_of};
@@ -23,7 +23,8 @@ pub fn are_weights(row: &[u32]) -> bool
     !row.is_empty() && row.iter().all(|weight| *weight > 0)
 }
 
-/// The weights of these rows, fewer than nine, of fewer than nine numbers, none of which is 0.
+/// The weights of these rows. There are fewer than nine rows, each of fewer than nine numbers, and
+/// no number is 0.
 pub fn weights(rt: &impl Abort, alloc: Global, table: &[&[u32]]) -> Weights {
     let mut rows = Vec::new(alloc);
     for row in table {
@@ -36,7 +37,7 @@ pub fn weights(rt: &impl Abort, alloc: Global, table: &[&[u32]]) -> Weights {
     Weights::of(Rows::of(rows))
 }
 
-/// The family of the events of these numbers, which rise, and pairs.
+/// The family of the events with these numbers and pairs. The numbers must rise.
 pub fn listed(rt: &impl Abort, alloc: Global, table: &[EventRow]) -> Family {
     let rows = made(rt, event_rows(alloc, table), "events");
     made(rt, family(alloc, rows), "a family")

@@ -21,7 +21,7 @@ fn push_reader(rt: &impl Abort, stacks: &Stacks, readers: &mut Vec<Reader>)
     readers.push(Reader::new(stacks)).expect(rt, "memory");
 }
 
-// So many readers of the stacks, one at least.
+// This many readers of the stacks, at least one.
 fn readers_of(rt: &impl Abort, alloc: Global, stacks: &Stacks, count: u32) -> Vec<Reader>
     ensures some { 0 < length result.items }
     ensures belong { All (Belongs stacks.now) result.items }
@@ -34,7 +34,7 @@ fn readers_of(rt: &impl Abort, alloc: Global, stacks: &Stacks, count: u32) -> Ve
     readers
 }
 
-// The value of a variable at cursors, by so many readers.
+// The value of a variable at cursors, by this many readers.
 fn value_by(
     rt: &impl Abort,
     alloc: Global,
@@ -55,7 +55,7 @@ fn value_by(
     value
 }
 
-// Compares the value of a variable at its first entry, by so many readers.
+// Compares the value of a variable at its first entry, by this many readers.
 fn has_value(rt: &impl Abort, alloc: Global, stacks: &Stacks, count: u32, v: u32, want: u32) {
     let zeros = Cursors::zeros(alloc, stacks.count()).expect(rt, "memory");
     let are_there = v < stacks.count() && are_within(stacks, &zeros);
@@ -65,8 +65,8 @@ fn has_value(rt: &impl Abort, alloc: Global, stacks: &Stacks, count: u32, v: u32
     same(rt, found, want, "value by so many readers", count);
 }
 
-// Two variables with the entries 0, 1 and 1, 0: compares their first entries with 0 and 1, by one
-// reader and by more.
+// Two variables with the entries 0, 1 and 1, 0. The test compares their first entries with 0 and
+// 1, by one reader and by more.
 #[test]
 fn as_many_readers_as_there_are_see_one_value(rt: HostRuntime) {
     let stacks = made(&rt, stacks(rt.alloc(), &[&[0, 1], &[1, 0]]), "stacks");

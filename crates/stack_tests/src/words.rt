@@ -5,8 +5,8 @@ use pop_stacks::{StackSpec, Stacks};
 use std::alloc::Global;
 use std::process::Abort;
 
-// RFC 8439, A.1, vectors 1 and 2: the key of zeros, stream 0, blocks 0 and 1. Of each entry the low
-// word stands first.
+// RFC 8439, A.1, vectors 1 and 2: the key of zeros, stream 0, blocks 0 and 1. The low word of each
+// entry is first.
 static WORDS: [(u32, u32); 16] = [
     (0xade0b876, 0x903df1a0),
     (0xe56a5d40, 0x28bd8653),
@@ -26,8 +26,8 @@ static WORDS: [(u32, u32); 16] = [
     (0x1f0ae1ac, 0x6f4d794b),
 ];
 
-// The stacks of variable 0 under the key of zeros and two weights, whose sum is the greatest that
-// there is, 2^32 - 1.
+// The stacks of variable 0 under the key of zeros and two weights with the largest possible sum,
+// 2^32 - 1.
 fn stacks(rt: &impl Abort, alloc: Global, first: u32) -> Stacks {
     let weights = weights(rt, alloc, &[&[first, u32::MAX - first]]);
     Stacks::new(StackSpec::Key([0; 32]), weights, 64).expect(rt, "stacks")
@@ -40,9 +40,9 @@ fn is_value(rt: &impl Abort, alloc: Global, k: u32, first: u32, value: u32) {
     drop(stacks);
 }
 
-// What comes of the two words of an entry, scaled by that sum, by hand: the high word, or one less
-// where the low word isn't above it. With a first weight of as much the value is the second one, and
-// with one more the first.
+// The two words of an entry, scaled by that sum by hand, give the high word, or one less if the
+// low word is not above it. If the first weight is this number, the value is the second one. If
+// the first weight is one more, the value is the first one.
 #[test]
 fn the_words_are_those_of_the_standard(rt: HostRuntime) {
     let alloc = rt.alloc();

@@ -12,8 +12,9 @@ fn link(alloc: Global, i: u32) -> Result<Cube, Fail>
     cube(alloc, &[(2 * i, 0), (2 * i + 1, 0), (2 * i + 2, 1)])
 }
 
-/// The family of so many such events, fewer than 1000: each shares its last variable with the next,
-/// of which they demand different values.
+/// The family of this many events, fewer than 1000. Event i demands 0 of variables 2i and 2i + 1,
+/// and 1 of variable 2i + 2. So it shares its last variable with the next event, which demands
+/// another value of it.
 pub fn chain(alloc: Global, links: u32) -> Result<Family, Fail> {
     if links >= 1000 {
         return Err(Fail::new("too many links"));

@@ -2,7 +2,7 @@ ghost use Rattle.std.specs.Prelude.{◌≡◌, length};
 
 use pop_instance::Cursors;
 
-/// Whether the cursors of so many variables are these.
+/// Whether the cursors of this many variables are these.
 pub fn has_cursors(cursors: &Cursors, count: u32, want: &[u32]) -> bool
     requires { count ≡ length cursors.now }
 {
@@ -17,7 +17,7 @@ pub fn has_cursors(cursors: &Cursors, count: u32, want: &[u32]) -> bool
     true
 }
 
-/// Whether so many variables have the same cursors twice.
+/// Whether this many variables have the same cursors twice.
 pub fn are_cursors_alike(cursors: &Cursors, others: &Cursors, count: u32) -> bool
     requires cursors { count ≡ length cursors.now }
     requires others { count ≡ length others.now }

@@ -33,7 +33,7 @@ fn are_rising(rows: &[(u32, Cube)]) -> bool
     true
 }
 
-/// The family of these events, fewer than 9999, whose numbers rise.
+/// The family of these events, fewer than 9999, with rising numbers.
 pub fn family(alloc: Global, rows: Vec<(u32, Cube)>) -> Result<Family, Fail> {
     if rows.len() >= 9999 || !are_rising(&rows) {
         return Err(Fail::new("too many events, or numbers that don't rise"));

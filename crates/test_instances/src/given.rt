@@ -24,8 +24,8 @@ pub fn stacks(alloc: Global, table: &[&[u32]]) -> Result<Stacks, Fail> {
     Ok(Stacks::new(StackSpec::Given(rows), weights, 1)?)
 }
 
-/// The stacks of so many variables with two values each, fewer than 1000, of a height from 1 to 999,
-/// under a key of 32 such bytes.
+/// The stacks of this many variables with two values each, fewer than 1000, with a height from 1
+/// to 999. The key has this byte 32 times.
 pub fn keyed(key: u8, count: u32, height: u32) -> Result<Stacks, Fail> {
     if count >= 1000 || height == 0 || height >= 1000 {
         return Err(Fail::new("too many variables, or no such height"));

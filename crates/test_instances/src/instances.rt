@@ -13,15 +13,15 @@ pub fn over(stacks: Stacks, family: Family) -> Result<Instance, Fail> {
     }
 }
 
-/// The instance of these rows of entries and the events of these numbers and pairs, of which the
-/// numbers rise.
+/// The instance of these rows of entries and the events with these numbers and pairs. The numbers
+/// must rise.
 pub fn listed(alloc: Global, rows: &[&[u32]], table: &[EventRow]) -> Result<Instance, Fail> {
     let events = event_rows(alloc, table)?;
     let family = family(alloc, events)?;
     over(stacks(alloc, rows)?, family)
 }
 
-/// The arrows of these heads, two for each of fewer than 1000 variables; none is the root.
+/// The arrows with these heads, two for each of fewer than 1000 variables. None is the root.
 pub fn arrows(alloc: Global, heads: &[[Option<u32>; 2]]) -> Result<Arrows, Fail> {
     let mut rows = Vec::new(alloc);
     for row in heads {

@@ -1,6 +1,6 @@
-//! Instances for tests, by tables: the entries of variables with two values each, listed events and
-//! arrows; chains of events, pseudo-random numbers, and what cursors are. A table that isn't one of an
-//! instance fails the test.
+//! Instances for tests, given by tables: the entries of variables with two values each, listed
+//! events and arrows. Also chains of events, pseudo-random numbers, and checks of cursors. A table
+//! that does not describe an instance fails the test.
 #![tactic(auto)]
 
 mod chains;

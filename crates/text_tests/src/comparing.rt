@@ -1,14 +1,15 @@
-//! What tests compare. What tells of values that differ is proved once so.
+//! The comparisons of the tests. This way the messages about different values are proved only
+//! once.
 use pop_instance::{Cube, Events};
 use std::process::Abort;
 
-/// Stops the test where this isn't so at a place.
+/// Ends the test if this does not hold at a place.
 pub fn is_so(rt: &impl Abort, holds: bool, what: &str, place: u64) {
     assert!(rt; holds, "{what} {place}");
 }
 
-/// Stops the test where this isn't so of a text in pieces of so many bytes, where the read of this
-/// number fails.
+/// Ends the test if this does not hold for an input in pieces of this many bytes, if the read with
+/// this number fails.
 pub fn is_so_in_pieces(rt: &impl Abort, holds: bool, piece: usize, failing: u64) {
     assert!(rt; holds, "pieces of {piece}, read {failing} fails");
 }

@@ -11,7 +11,7 @@ use pop_instance::Events;
 use std::alloc::Global;
 use std::process::Abort;
 
-// The formula of a text in pieces of so many bytes.
+// The formula of an input in pieces of this many bytes.
 fn formula(rt: &impl Abort, alloc: Global, text: &[u8], piece: usize) -> Formula
     ensures { first_empty result ≡ None }
 {
@@ -21,12 +21,12 @@ fn formula(rt: &impl Abort, alloc: Global, text: &[u8], piece: usize) -> Formula
     formula
 }
 
-// A text with a comment within a clause, and a last clause that `%` closes.
+// An input with a comment within a clause, and with `%` after an unfinished last clause.
 static BY_HAND: &[u8] = b"c by hand\np cnf 3 2\n1 -2\nc in the middle\n0\n2 3\n%\n0\n";
 
 static CLAUSES: [&[i32]; 2] = [&[1, -2], &[2, 3]];
 
-// Compares what is read of that text in pieces of so many bytes.
+// Compares the formula of that input in pieces of this many bytes.
 fn is_read_by_hand(rt: &impl Abort, alloc: Global, piece: usize) {
     let formula = formula(rt, alloc, BY_HAND, piece);
     assert!(rt; formula.variables() == 3);
@@ -63,7 +63,7 @@ fn a_bad_text_is_refused_whatever_the_pieces(rt: HostRuntime) {
     are_refused(&rt, rt.alloc(), Grammar::Formula, &REFUSED);
 }
 
-// Texts of which the second line is read by the second read, in pieces of 10.
+// Inputs in pieces of 10 bytes, so that the second line is read by the second read.
 static FAULTS: [(&[u8], ReadRefusal); 2] = [
     (b"p cnf 1 1\n1 0\n", ReadRefusal::ReadFault),
     (b"p cnf x 1\n1 0\n", ReadRefusal::Malformed(1, 1)),
@@ -82,7 +82,7 @@ static FOUR_CLAUSES: &[u8] = b"p cnf 3 4\n2 -1 0\n-1 2 0\n1 -1 0\n3 3 -2 3 0\n";
 
 static EVENTS: [Event; 2] = [(1, &[(0, 1), (1, 0)]), (4, &[(1, 1), (2, 0)])];
 
-// The events of a text.
+// The events of an input.
 fn events_of(rt: &impl Abort, alloc: Global, text: &[u8]) -> Events {
     let formula = formula(rt, alloc, text, 4096);
     let events = formula.events(alloc).expect(rt, "events");

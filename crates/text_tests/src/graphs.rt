@@ -1,4 +1,4 @@
-//! Graphs that are read of texts, and the texts that are refused.
+//! Graphs that are read, and inputs that are rejected.
 use crate::comparing::is_so;
 use crate::refusals::{Grammar, are_refused, is_refused};
 use crate::sources::{PIECES, graph, graph_in_pieces};
@@ -24,12 +24,12 @@ fn are_edges(rt: &impl Abort, graph: &Graph, want: &[Joined]) {
     }
 }
 
-// A loop, parallel edges, lines that are passed over, and a last line without its end.
+// A self-loop, parallel edges, lines that are skipped, and a last line without a line end.
 static BY_HAND: &[u8] = b"c by hand\np edge 3 9\n\ne 2 2\nn 1 7\ne 1 2 5\r\ne\t3  1\ncol\ne 1 2";
 
 static BY_HAND_EDGES: [Joined; 4] = [(2, 2, 1), (1, 2, 5), (3, 1, 1), (1, 2, 1)];
 
-// Compares what is read of that text in pieces of so many bytes.
+// Compares the graph of that input in pieces of this many bytes.
 fn is_read_by_hand(rt: &impl Abort, alloc: Global, piece: usize) {
     let graph = graph_in_pieces(rt, alloc, BY_HAND, piece, 0);
     assert!(rt; graph.vertices() == 3);
@@ -67,15 +67,15 @@ fn a_bad_text_is_refused_whatever_the_pieces(rt: HostRuntime) {
     are_refused(&rt, rt.alloc(), Grammar::Graph, &REFUSED);
 }
 
-// Compares the edges of a text.
+// Compares the edges of the graph of an input.
 fn has_edges(rt: &impl Abort, alloc: Global, text: &[u8], want: &[Joined]) {
     let graph = graph(rt, alloc, text);
     are_edges(rt, &graph, want);
     drop(graph);
 }
 
-// Texts of one edge. Worked by hand from the grammar: a number has up to ten digits, and is below
-// 2^32.
+// Inputs with one edge. Worked by hand from the grammar: a number has up to ten digits, and is
+// below 2^32.
 static ONE_EDGE: [(&[u8], Joined); 6] = [
     (b"p edge 3 1\ne 3 2", (3, 2, 1)),
     (b"p edge 3 1\ne 3 2 ", (3, 2, 1)),
@@ -92,7 +92,7 @@ fn an_edge_is_read_however_its_numbers_are_written(rt: HostRuntime) {
     }
 }
 
-// The same of texts whose second line is bad, with the code of that.
+// Inputs with an invalid second line, and the code of its error.
 static BAD_EDGE: [(&[u8], u32); 6] = [
     (b"p edge 3 1\ne 000000003 0000000002 00", 14),
     (b"p edge 3 1\ne 3 2 4294967296", 12),
@@ -110,7 +110,7 @@ fn a_bad_edge_is_refused_at_its_line(rt: HostRuntime) {
     }
 }
 
-// The line that is bad ends with byte 16 of 23; a read gives one byte.
+// The invalid line ends with byte 16 of 23, and each read gives one byte.
 #[test]
 fn a_fault_comes_behind_the_lines_before_it(rt: HostRuntime) {
     let text = b"p col 2 1\ne 1 3\ne 1 2 0";
@@ -124,10 +124,10 @@ fn a_fault_comes_behind_the_lines_before_it(rt: HostRuntime) {
     }
 }
 
-// It has 17 bytes, and needs 18 reads of one byte, of which the last gives none.
+// It has 17 bytes, and needs 18 reads of one byte; the last read gives none.
 static GOOD: &[u8] = b"p edge 2 1\ne 1 2\n";
 
-// Compares how many edges are read of that text, where read 19 would fail.
+// Compares the number of edges of that input. Read 19 would fail.
 fn is_read_in_18(rt: &impl Abort, alloc: Global) {
     let graph = graph_in_pieces(rt, alloc, GOOD, 1, 19);
     assert!(rt; graph.edges() == 1);

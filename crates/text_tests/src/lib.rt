@@ -1,7 +1,7 @@
-//! Tests of bytes in and out and of the lines of a text, of formulas and graphs, and of the events
-//! of orientations and trees, by public calls of `pop_edge`, `dimacs_read`, `graph_read`,
-//! `sink_popping` and `cycle_popping`. They stand above these crates, which are proved once so, and
-//! not once more with their tests.
+//! Tests of sources, sinks and lines, of formulas and graphs, and of the events of orientations
+//! and trees, by public calls of `pop_edge`, `dimacs_read`, `graph_read`, `sink_popping` and
+//! `cycle_popping`. They are in a crate above these, so that these crates are not proved once more
+//! with their tests.
 #![tactic(auto)]
 
 #[cfg(test)]

@@ -1,4 +1,4 @@
-//! Sources, sinks, and the lines, words and numbers of a text.
+//! Sources, sinks, and the lines, tokens and numbers of an input.
 use crate::comparing::{is_so, is_so_in_pieces};
 use crate::sources::{PIECES, source};
 use pop_edge::{
@@ -10,8 +10,8 @@ use std::io;
 use std::io::{Error, ErrorKind, Read, Write};
 use std::process::Abort;
 
-// A text that comes in pieces of so many bytes, where the read of this number fails; its lines,
-// each with a `/` behind it, and what each call behind them answers.
+// An input in pieces of this many bytes, with a read that fails; its lines, each with a `/` after
+// it; and the result of each call after them.
 #[derive(Clone, Copy)]
 struct Case<'a> {
     text: &'a [u8],
@@ -21,14 +21,14 @@ struct Case<'a> {
     after: Result<Next, ReadRefusal>,
 }
 
-// Adds a line, and a `/` behind it.
+// Adds a line, and a `/` after it.
 fn push_line(rt: &impl Abort, all: &mut Vec<u8>, line: &[u8]) {
     all.extend_from_slice(line).expect(rt, "memory");
     all.push(b'/').expect(rt, "memory");
 }
 
-// The lines of a source up to the first call that gives none, which is made, each with a `/` behind
-// it.
+// The lines of a source, each with a `/` after it. The first call that returns no line is the last
+// one that is made.
 fn joined(rt: &impl Abort, alloc: Global, lines: &mut Lines, source: &mut MemSource) -> Vec<u8> {
     let mut all = Vec::new(alloc);
     for _ in 0..100 {
@@ -40,7 +40,8 @@ fn joined(rt: &impl Abort, alloc: Global, lines: &mut Lines, source: &mut MemSou
     all
 }
 
-// Compares the lines of a case's text, and what two calls behind the first that gave none answer.
+// Compares the lines of a case's input, and the results of the first two calls after the last
+// line.
 fn is_cut(rt: &impl Abort, alloc: Global, case: &Case) {
     let mut source = source(rt, alloc, case.text, case.piece, case.failing);
     let mut lines = Lines::new(alloc).expect(rt, "memory");
@@ -54,7 +55,8 @@ fn is_cut(rt: &impl Abort, alloc: Global, case: &Case) {
     is_so_in_pieces(rt, is_after, case.piece, case.failing);
 }
 
-// Texts and their lines. Worked by hand: the last line may have no end, and an end makes no line.
+// Inputs and their lines. Worked by hand: the last line may have no line end, and a line end at
+// the end of the input begins no line.
 static TEXTS: [(&[u8], &[u8]); 5] = [
     (b"", b""),
     (b"one\n\nthree\n", b"one//three/"),
@@ -63,7 +65,7 @@ static TEXTS: [(&[u8], &[u8]); 5] = [
     (b"\n", b"/"),
 ];
 
-// Compares the lines of a text in pieces of each size.
+// Compares the lines of an input in pieces of each size.
 fn is_cut_in_pieces(rt: &impl Abort, alloc: Global, text: &[u8], lines: &[u8]) {
     for piece in PIECES.iter() {
         let case = Case {
@@ -84,7 +86,7 @@ fn lines_are_the_same_whatever_the_pieces(rt: HostRuntime) {
     }
 }
 
-// Each read of the text in pieces of 2 fails once: only the lines before it were given.
+// Each read of the input in pieces of 2 fails once. Only the lines before it are returned.
 static FAULTS: [(u64, &[u8]); 5] = [
     (1, b""),
     (2, b""),
@@ -107,7 +109,7 @@ fn a_refusal_is_answered_again(rt: HostRuntime) {
     }
 }
 
-// Makes so many calls, each of which is answered so.
+// Makes this many calls, and compares the result of each.
 fn come(
     rt: &impl Abort,
     lines: &mut Lines,
@@ -121,8 +123,8 @@ fn come(
     }
 }
 
-// Reads the only whole line of a text in pieces of 3, and asks so often for the next, of which there
-// is none. The read of this number, which fails, is still to come.
+// Reads the only whole line of an input in pieces of 3. Then it asks this many times for the next
+// line, and there is none. The read that fails is still to come.
 fn fails_behind(rt: &impl Abort, alloc: Global, text: &[u8], failing: u64, ends: u32) {
     let mut source = source(rt, alloc, text, 3, failing);
     let mut lines = Lines::new(alloc).expect(rt, "memory");
@@ -146,7 +148,7 @@ fn no_read_is_made_behind_the_end(rt: HostRuntime) {
     fails_behind(&rt, rt.alloc(), b"ab\n", 3, 2);
 }
 
-// Compares the first word of a line, and gives what is behind it.
+// Compares the first token of a line, and returns what is after it.
 fn behind_word<'a>(rt: &impl Abort, line: &'a [u8], want: &[u8]) -> &'a [u8] {
     let (word, rest) = next_word(line).expect(rt, "a word");
     assert!(rt; word == want);
@@ -160,7 +162,7 @@ fn words_are_cut_from_a_line(rt: HostRuntime) {
     assert!(&rt; next_word(rest).is_none());
 }
 
-// Words and their numbers; with the greatest number, one more, and eleven digits.
+// Tokens and their numbers, with the largest number, one more, and eleven digits.
 static NUMBERS: [(&[u8], Option<u32>); 5] = [
     (b"0012", Some(12)),
     (b"x", None),
@@ -176,14 +178,14 @@ fn a_number_has_at_most_ten_digits_and_32_bits(rt: HostRuntime) {
     }
 }
 
-// A sink with room for nine bytes, which takes four at a time, where the write of this number
-// fails; 0 is none.
+// A sink with room for nine bytes that takes four at a time. The write with this number fails; 0
+// is none.
 fn sink(rt: &impl Abort, alloc: Global, failing: u64) -> MemSink {
     let failing = vec![in alloc; failing].expect(rt, "memory");
     MemSink::new(alloc, 9, 4, failing).expect(rt, "memory")
 }
 
-// Compares what is answered to bytes that are put, and what the sink holds then.
+// Compares the result of writing these bytes, and what the sink holds after that.
 fn puts(rt: &impl Abort, sink: &mut MemSink, bytes: &[u8], want: Result<(), Failed>, holds: &[u8]) {
     let found = put_all(sink, bytes);
     assert!(rt; found == want);
@@ -205,7 +207,7 @@ fn a_sink_that_fails_holds_a_front_of_the_bytes(rt: HostRuntime) {
     drop(failing);
 }
 
-/// Fails once and then gives a byte at a time.
+/// A reader that fails once and then gives one byte at a time.
 #[derive(Drop)]
 struct Stutter {
     failed: bool,
@@ -222,7 +224,7 @@ impl Read for Stutter {
     }
 }
 
-// Compares what a read answers, into room for four bytes.
+// Compares the result of a read into room for four bytes.
 fn reads(rt: &impl Abort, source: &mut StdSource<Stutter>, want: Result<usize, Failed>) -> u8 {
     let mut room = [0; 4];
     let found = source.read(&mut room);
@@ -239,7 +241,7 @@ fn an_error_of_a_reader_is_a_fault(rt: HostRuntime) {
     assert!(&rt; byte == b'x');
 }
 
-/// Takes a byte, then none, and then fails.
+/// A writer that takes one byte, then none, and then fails.
 #[derive(Drop)]
 struct Clog {
     writes: u8,
@@ -260,13 +262,13 @@ impl Write for Clog {
     }
 }
 
-// Compares what a write of two bytes answers.
+// Compares the result of a write of two bytes.
 fn writes(rt: &impl Abort, sink: &mut StdSink<Clog>, want: Result<usize, Failed>) {
     let found = sink.write(b"ab");
     assert!(rt; found == want);
 }
 
-// The second takes 0 bytes.
+// The second write takes 0 bytes.
 #[test]
 fn errors_of_a_writer_are_faults(rt: HostRuntime) {
     let mut sink = StdSink::new(Clog { writes: 0 });

@@ -1,4 +1,4 @@
-//! Why texts of a formula or a graph are refused.
+//! Why inputs of a formula or a graph are rejected.
 use crate::comparing::is_so_in_pieces;
 use crate::sources::{PIECES, source};
 use dimacs_read::read_formula;
@@ -7,14 +7,14 @@ use pop_edge::{MemSource, ReadRefusal};
 use std::alloc::Global;
 use std::process::Abort;
 
-/// What a text is to be of.
+/// The kind of input.
 #[derive(Clone, Copy)]
 pub enum Grammar {
     Formula,
     Graph,
 }
 
-// Why a source is refused, where it is.
+// Why a source is rejected, or None if it is not.
 fn refusal_of(alloc: Global, grammar: Grammar, source: &mut MemSource) -> Option<ReadRefusal> {
     match grammar {
         Grammar::Formula => read_formula(alloc, source).err(),
@@ -22,8 +22,8 @@ fn refusal_of(alloc: Global, grammar: Grammar, source: &mut MemSource) -> Option
     }
 }
 
-/// Compares why a text in pieces of so many bytes is refused, where the read of this number fails; 0
-/// is none.
+/// Compares why an input in pieces of this many bytes is rejected. The read with this number
+/// fails; 0 is none.
 pub fn is_refused(
     rt: &impl Abort,
     alloc: Global,
@@ -39,7 +39,7 @@ pub fn is_refused(
     is_so_in_pieces(rt, found == Some(want), piece, failing);
 }
 
-// Compares why a text is refused in pieces of each size.
+// Compares why an input is rejected in pieces of each size.
 fn is_refused_in_pieces(
     rt: &impl Abort,
     alloc: Global,
@@ -52,7 +52,7 @@ fn is_refused_in_pieces(
     }
 }
 
-/// Compares why texts are refused in pieces of each size.
+/// Compares why inputs are rejected in pieces of each size.
 pub fn are_refused(
     rt: &impl Abort,
     alloc: Global,

@@ -9,7 +9,7 @@ use sink_popping::{SinkFault, indexed_sinks, sinks};
 use std::alloc::Global;
 use std::process::Abort;
 
-// The events of the graph of a text.
+// The events of the graph of an input.
 fn sinks_of(rt: &impl Abort, alloc: Global, text: &[u8]) -> Result<Events, SinkFault> {
     let graph = graph(rt, alloc, text);
     let events = sinks(alloc, &graph);
@@ -17,7 +17,7 @@ fn sinks_of(rt: &impl Abort, alloc: Global, text: &[u8]) -> Result<Events, SinkF
     events
 }
 
-// Compares the events of the graph of a text.
+// Compares the events of the graph of an input.
 fn has_sinks(rt: &impl Abort, alloc: Global, text: &[u8], want: &[Event]) {
     let events = sinks_of(rt, alloc, text).expect(rt, "events");
     are_events(rt, &events, want);
@@ -63,7 +63,7 @@ fn index_of(rt: &impl Abort, alloc: Global, graph: &Graph) -> Index
     index
 }
 
-// Compares an index over so many edges: of each edge the places.
+// Compares an index over this many edges: the places of each edge.
 fn is_index(rt: &impl Abort, index: &Index, edges: u32, want: &[&[u32]])
     requires { length index.now ≡ edges }
 {
@@ -78,7 +78,7 @@ fn is_index(rt: &impl Abort, index: &Index, edges: u32, want: &[&[u32]])
     }
 }
 
-// Compares the index of the events of the graph of a text.
+// Compares the index of the events of the graph of an input.
 fn has_index(rt: &impl Abort, alloc: Global, text: &[u8], want: &[&[u32]]) {
     let graph = graph(rt, alloc, text);
     let index = index_of(rt, alloc, &graph);
@@ -87,7 +87,7 @@ fn has_index(rt: &impl Abort, alloc: Global, text: &[u8], want: &[&[u32]]) {
     drop(graph);
 }
 
-// Worked by hand: places count the vertices without a loop, from 0.
+// Worked by hand: places count the vertices without a self-loop, from 0.
 static PLACES: [(&[u8], &[&[u32]]); 4] = [
     (
         b"p col 3 3\ne 1 2\ne 2 3\ne 3 1\n",
@@ -108,14 +108,14 @@ fn each_edge_has_the_places_of_the_events_of_its_ends(rt: HostRuntime) {
     }
 }
 
-// Compares the isolated vertex that is named.
+// Compares the isolated vertex that is reported.
 fn is_isolated(rt: &impl Abort, alloc: Global, text: &[u8], vertex: u32) {
     let found = sinks_of(rt, alloc, text).err();
     let is_named = found == Some(SinkFault::Isolated(vertex));
     is_so(rt, is_named, "isolated vertex", vertex as u64);
 }
 
-// Worked by hand: a loop touches its vertex.
+// Worked by hand: a self-loop is an edge of its vertex.
 static ISOLATED: [(&[u8], u32); 3] = [
     (b"p edge 2 0\n", 1),
     (b"p edge 4 2\ne 1 3\ne 3 1\n", 2),

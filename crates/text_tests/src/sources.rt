@@ -1,13 +1,13 @@
-//! Texts as sources, and the graphs of texts.
+//! Inputs as sources, and the graphs of inputs.
 use graph_read::{Graph, read_graph};
 use pop_edge::MemSource;
 use std::alloc::Global;
 use std::process::Abort;
 
-/// How many bytes a source gives at a time, where texts are read in pieces.
+/// The numbers of bytes that a source gives at a time, if inputs are read in pieces.
 pub static PIECES: [usize; 5] = [1, 2, 3, 7, 4096];
 
-/// A text that comes in pieces of so many bytes, where the read of this number fails; 0 is none.
+/// An input in pieces of this many bytes. The read with this number fails; 0 is none.
 pub fn source(
     rt: &impl Abort,
     alloc: Global,
@@ -20,8 +20,8 @@ pub fn source(
     MemSource::new(bytes, piece.max(1), failing)
 }
 
-/// The graph of a text that comes in pieces of so many bytes, where the read of this number would
-/// fail; 0 is none.
+/// The graph of an input in pieces of this many bytes. The read with this number would fail; 0 is
+/// none.
 pub fn graph_in_pieces(
     rt: &impl Abort,
     alloc: Global,
@@ -35,7 +35,7 @@ pub fn graph_in_pieces(
     graph
 }
 
-/// The graph of a text.
+/// The graph of an input.
 pub fn graph(rt: &impl Abort, alloc: Global, text: &[u8]) -> Graph {
     graph_in_pieces(rt, alloc, text, 4096, 0)
 }

@@ -20,7 +20,7 @@ mod draws;
 mod grids;
 mod multigraphs;
 
-// Stops the test where a vertex is cut off from the root, or the root is no vertex.
+// Ends the test if a vertex is not connected to the root, or if the root is not a vertex.
 fn expect_joined(rt: &impl Abort, alloc: Global, graph: &Graph, root: u32)
     ensures root { IsVertex graph.now.vertices root }
     ensures joined { IsConnected graph.now root }
@@ -31,7 +31,7 @@ fn expect_joined(rt: &impl Abort, alloc: Global, graph: &Graph, root: u32)
     assert!(rt; cut_off.is_none());
 }
 
-// The stacks of the arrows to a root, by this spec, of this height where they come from a key.
+// The stacks of the arrows to a root, from this source. If it is a key, they have this height.
 fn stacks_of(
     rt: &impl Abort,
     alloc: Global,
@@ -66,7 +66,8 @@ fn trees_of(rt: &impl Abort, alloc: Global, graph: &Graph, root: u32, stacks: St
     cycles_of(rt, stacks, arrows)
 }
 
-// The trees of a graph to a root, over these stacks, of this height where they come from a key.
+// The trees of a graph to a root, over stacks from this source. If it is a key, they have this
+// height.
 fn trees(
     rt: &impl Abort,
     alloc: Global,
@@ -87,7 +88,7 @@ fn trees(
     instance
 }
 
-// What an end is to be: its cursors, its pops and the units of its stuck cycles.
+// The expected end: its cursors, its pops and the units of its stuck cycles.
 struct Want {
     cursors: &'static [u32],
     pops: u64,
@@ -102,7 +103,7 @@ fn are_stuck(rt: &impl Abort, stuck: &Stuck, units: &[u32]) {
     }
 }
 
-// Compares an end over so many variables.
+// Compares an end over this many variables.
 fn is_end(rt: &impl Abort, end: &End, count: u32, want: &Want)
     requires { count ≡ length end.now.cursors }
 {
@@ -144,7 +145,7 @@ fn rows_of(rt: &impl Abort, alloc: Global, table: &[&[u32]]) -> Rows {
     }
 }
 
-// A graph, the rows of entries over its arrows to vertex 1, and what the end is to be.
+// A graph, the rows of entries over its arrows to vertex 1, and the expected end.
 struct Case {
     text: &'static [u8],
     rows: &'static [&'static [u32]],
@@ -200,7 +201,7 @@ fn a_cycle_is_stuck_at_the_last_entry(rt: HostRuntime) {
     case_ends(&rt, rt.alloc(), &LAST_ENTRY);
 }
 
-// Worked by hand: the path 2, 3, 4, 1, whose vertices 3 and 4 lead to each other first.
+// Worked by hand: the path 2, 3, 4, 1. Its vertices 3 and 4 lead to each other first.
 static PATH: Case = Case {
     text: b"p edge 4 3\ne 2 3\ne 3 4\ne 4 1\n",
     rows: &[&[0, 0], &[1, 1], &[0, 1]],
@@ -228,7 +229,7 @@ fn first_value(rt: &impl Abort, stacks: &Stacks, v: u32) -> u32
     value
 }
 
-// Compares stacks of one variable, of two values and height 9, whose first value is 0.
+// Compares stacks of one variable with two values, height 9 and first value 0.
 fn has_two_values(rt: &impl Abort, stacks: &Stacks) {
     assert!(rt; stacks.count() == 1);
     same(rt, stacks.domain(0) as u64, 2, "values");
@@ -252,8 +253,8 @@ fn root_at_once(rt: &impl Abort, alloc: Global, instance: &Instance)
     has_two_values(rt, instance.stacks());
 }
 
-// Worked by hand from the key stream: vertex 2 has a loop, which is no slot, and two parallel edges
-// to the root of weights 5 and 1, of which the first entry takes the first.
+// Worked by hand from the key stream. Vertex 2 has a self-loop, which is no slot, and two parallel
+// edges to the root with weights 5 and 1. Its first entry selects the first of these.
 #[test]
 fn parallel_edges_are_slots_and_loops_are_none(rt: HostRuntime) {
     let alloc = rt.alloc();

@@ -1,4 +1,4 @@
-//! What is to be told of a run.
+//! What is requested of a run in addition to its end.
 ghost use Rattle.std.specs.Prelude.{◌≡◌};
 ghost use Rattle.confluence_core.specs.Kept.{keeps_log};
 ghost use Rattle.pop_words.specs.Options.{default_job};
@@ -8,26 +8,26 @@ ghost use Rattle.told_runs.specs.Tellings.{tells_watchers, looks_at_records, ask
 use confluence_core::Keep;
 use pop_words::{Command, Job, Reports};
 
-/// What is to be told of a run behind its end.
+/// What is requested of a run in addition to its end.
 #[derive(Clone, Copy, Debug, PartialEq, Eq)]
 pub struct Asked {
     /// Whether the log is printed.
     pub log: bool,
-    /// The pop whose witness tree is asked for, by the printed name of a variable and the entry
-    /// that the pop used, which counts from 0.
+    /// The pop of the requested witness tree: the printed name of a variable, and the entry that
+    /// the pop used, which counts from 0.
     pub witness: Option<(u32, u32)>,
-    /// The reports that are asked for.
+    /// The requested reports.
     pub reports: Reports,
-    /// Whether the order of the pops isn't determined, as that of a resampling: then all watchers
-    /// are told the log, and the status tells where the asked pop is missing.
+    /// True for `resample`, whose pops may be made in any order. Then all watchers receive the
+    /// log, and the status shows whether the requested pop is missing.
     pub free: bool,
-    /// How many samples are asked for, where the answer is a batch of them; else there is one run.
+    /// The requested number of samples of a batch, or None if there is only one run.
     pub count: Option<u32>,
-    /// After how many pops the run stops, where it may stop before its end.
+    /// The number of pops after which the run stops, if it may stop before its end.
     pub pops: Option<u32>,
 }
 
-// Whether the order of a command's pops isn't determined.
+// Whether the pops of a command may be made in any order.
 fn is_free(command: Command) -> bool
     ensures { result ≡ has_free_order command }
 {
@@ -38,7 +38,7 @@ fn is_free(command: Command) -> bool
 }
 
 impl Asked {
-    /// What a job asks for.
+    /// What a job requests.
     pub fn of(job: &Job) -> Asked
         ensures { result ≡ asked_by job.now }
     {
@@ -52,7 +52,7 @@ impl Asked {
         }
     }
 
-    /// What the command line of a command asks for that has no option.
+    /// What a command without options requests.
     pub fn of_line(command: Command) -> Asked
         ensures { result ≡ asked_by (default_job command) }
     {
@@ -70,8 +70,8 @@ impl Asked {
         }
     }
 
-    /// Whether the watchers are told the log: where the order of pops is free, and else where a
-    /// report is asked for.
+    /// Whether the watchers receive the log: if the pops may be made in any order, or if a report
+    /// is requested.
     pub fn tells(self) -> bool
         ensures { result ≡ tells_watchers self }
     {
@@ -83,14 +83,14 @@ impl Asked {
         self.free || totals || heights || layers
     }
 
-    /// Whether the records of the log are looked at: for a witness, or to tell the watchers.
+    /// Whether the records of the log are read: for a witness, or for the watchers.
     pub fn looks(self) -> bool
         ensures { result ≡ looks_at_records self }
     {
         self.witness.is_some() || self.tells()
     }
 
-    /// What the run has to keep: the log where it is printed or its records are looked at.
+    /// What the run has to keep: its log, if the log is printed or its records are read.
     pub fn keep(self) -> Keep
         ensures { keeps_log result ≡ asks_for_log self }
     {

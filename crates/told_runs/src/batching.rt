@@ -1,4 +1,4 @@
-//! Batches: where a number of samples is asked for, each is run on its own stacks.
+//! Batches: if a number of samples is requested, each is run on its own stacks.
 ghost use Rattle.std.specs.Prelude.{◌≡◌, List, Some, IfOk};
 ghost use Rattle.pop_model.specs.Stacks.{IsKeyed};
 ghost use Rattle.pop_model.specs.Extremal.{IsExtremal};
@@ -21,14 +21,14 @@ use pop_print::Facts;
 use run_makers::Maker;
 use std::alloc::AllocError;
 
-// The status of a batch: 1 where at some end an event still occurs.
+// The status of a batch: 1 if an event still occurs at some end.
 fn status_of_batch(ends: &Ends) -> u8
     ensures { result ≡ batch_status ends.now }
 {
     if ends.some_stuck() { 1 } else { 0 }
 }
 
-// Runs so many samples of the instance, and tells the end of each.
+// Runs this many samples of the instance, and prints the end of each.
 fn tell_batch<M: Maker>(
     call: &Call<M>,
     facts: &Facts,
@@ -52,8 +52,8 @@ fn tell_batch<M: Maker>(
     })
 }
 
-/// Runs as many samples of the instance as are asked for, at its last height, and tells the end of
-/// each. No watcher is told of them.
+/// Runs the requested number of samples of the instance, at its last height, and prints the end of
+/// each. No watcher receives their logs.
 pub fn batch_and_tell<M: Maker>(
     call: &Call<M>,
     facts: &Facts,

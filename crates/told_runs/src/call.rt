@@ -1,11 +1,11 @@
-//! What a call of `run` works with.
+//! The context of a call of `run`.
 use pop_watch::Watch;
 use run_makers::Crew;
 use std::alloc::Global;
 
-/// What a call of `run` works with, once its words are read: the memory, who makes its run, by which
-/// crew, and the watchers that are told of it. It has no model, since a view names no state of a
-/// boxed watcher: contracts see the maker, the crew, and the kind and the state of each watcher.
+/// The context of a call of `run` after its arguments are read: the memory, the maker of its run,
+/// the crew of threads, and the watchers. It has no model, since a view names no state of a boxed
+/// watcher. Contracts see the maker, the crew, and the kind and the state of each watcher.
 #[derive(Drop)]
 pub struct Call<'a, M> {
     pub alloc: Global,

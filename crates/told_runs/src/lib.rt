@@ -1,5 +1,5 @@
-//! Runs that are made and told: the end, and what is asked for of its log, its layered text, the
-//! witness of a pop, and the reports of watchers.
+//! Makes runs and prints them: the end, and the requested parts of the log, which are its layered
+//! text, the witness tree of a pop, and the reports of watchers.
 #![tactic(auto)]
 
 mod asked;

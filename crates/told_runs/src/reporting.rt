@@ -1,4 +1,4 @@
-//! What watchers report of a log.
+//! The reports of watchers on a log.
 ghost use Rattle.std.specs.Prelude.{◌≡◌, ◌++◌, map, OnOk, IfOk};
 ghost use Rattle.pop_watch.specs.Telling.{log_told};
 ghost use Rattle.told_runs.specs.Reports.{report_if, reports_text};
@@ -9,14 +9,14 @@ use pop_watch::Watch;
 use pop_words::Reports;
 use std::alloc::{AllocError, Global};
 
-// The kinds of watchers whose reports may be asked for.
+// The kinds of watchers with reports that may be requested.
 const TOTALS: u32 = 1;
 
 const HEIGHTS: u32 = 2;
 
 const LAYERS: u32 = 3;
 
-// Adds the report of the first watcher of a kind, where it is wanted and there is one.
+// Adds the report of the first watcher of a kind, if it is requested and there is one.
 fn push_report(
     alloc: Global,
     text: &mut Vec<u8>,
@@ -36,7 +36,7 @@ fn push_report(
     }
 }
 
-// The reports that are asked for, by rising kind, each from the first watcher of its kind.
+// The requested reports by rising kind, each from the first watcher of its kind.
 fn reports_of(
     alloc: Global,
     watchers: &[Box<dyn Watch>],
@@ -52,8 +52,8 @@ fn reports_of(
     Ok(text)
 }
 
-/// Tells each record of a log, in order and once, to each watcher, and then answers with the
-/// reports that are asked for, by rising kind, each from the first watcher of its kind.
+/// Passes each record of a log, in order and once, to each watcher. Then it returns the requested
+/// reports by rising kind, each from the first watcher of its kind.
 pub fn report_log(
     alloc: Global,
     watchers: &mut [Box<dyn Watch>],

@@ -1,4 +1,4 @@
-//! Rounds that are made and told.
+//! Makes runs by rounds and prints them.
 ghost use Rattle.std.specs.Prelude.{◌≡◌, length, IfOk};
 ghost use Rattle.pop_model.specs.Stacks.{variables_of};
 ghost use Rattle.pop_print.specs.declared.facts.Facts.TheVariants.{Formula as FormulaFacts};
@@ -31,7 +31,7 @@ fn index_of(alloc: Global, instance: &Instance) -> Result<Index, AllocError>
     }
 }
 
-// Makes the rounds of an instance of a formula's events, and tells their end.
+// Makes the run by rounds of an instance of a formula's events, and prints its end.
 fn tell_rounds<M: Maker>(call: &Call<M>, instance: &Instance) -> Result<Answer, AllocError>
     requires maker { M.fits call.now.maker.now }
     requires pairs { IsOfPairs (variables_of instance.now.stacks) instance.now }
@@ -52,8 +52,8 @@ fn tell_rounds<M: Maker>(call: &Call<M>, instance: &Instance) -> Result<Answer, 
     })
 }
 
-/// The same of an instance that grows. They are made at its last height: they have one result there,
-/// which stages would only come to later.
+/// Like `tell_rounds`, for an instance that may grow. The run is made at the last height at once:
+/// growing in stages would give the same result more slowly.
 pub fn round_and_tell<M: Maker>(
     call: &Call<M>,
     growing: GrowingInstance,

@@ -1,4 +1,4 @@
-//! A run of an instance, and how it is told.
+//! A run of an instance, and how it is printed.
 ghost use Rattle.std.specs.Prelude.{◌≡◌, ◌++◌, List, true, false, ◌&&◌, Some, None, map, length, IfOk, if◌then◌else◌};
 ghost use Rattle.pop_model.specs.Stacks.{variables_of};
 ghost use Rattle.pop_model.specs.Extremal.{IsExtremal};
@@ -28,14 +28,14 @@ use pop_print::{Facts, text};
 use pop_workers::Outcome;
 use std::alloc::{AllocError, Global};
 
-/// The status of a run by the events that occur at its end: 1 where there are any.
+/// The status of a run by the events that occur at its end: 1 if there are any.
 pub fn status_by(stuck: &Stuck) -> u8
     ensures { result ≡ end_status stuck.now }
 {
     if stuck.len() == 0 { 0 } else { 1 }
 }
 
-// The status of an end: where the order of pops is free, a missing witness is told first.
+// The status of an end. If the pops may be made in any order, a missing witness takes precedence.
 fn status_with(end: &End, free: bool, missing: bool) -> u8
     ensures { result ≡ (if free && missing then 6 else end_status end.now.stuck) }
 {
@@ -46,7 +46,7 @@ fn status_with(end: &End, free: bool, missing: bool) -> u8
     }
 }
 
-// What is told of a witness where it is asked for; else nothing.
+// The witness, if it is requested, and otherwise nothing.
 fn tell_witness(
     alloc: Global,
     instance: &Instance,
@@ -67,8 +67,8 @@ fn tell_witness(
     }
 }
 
-// The reports that are asked for of a layered log. Where the watchers are told it, each is told
-// each record, in order and once.
+// The requested reports of a layered log. If the watchers receive it, each is passed each record,
+// in order and once.
 fn tell_watchers<M>(call: &mut Call<M>, log: &Log, asked: Asked) -> Result<Vec<u8>, AllocError>
     ensures { IfOk result (λ bytes. bytes.items ≡ reports_text asked.reports
         (log_told log.now (map (λ b. (kind b, state b)) call.old.watchers.items))) }
@@ -79,7 +79,8 @@ fn tell_watchers<M>(call: &mut Call<M>, log: &Log, asked: Asked) -> Result<Vec<u
     report_log(call.alloc, &mut call.watchers, log, asked.reports)
 }
 
-// What is told of a layered log behind its text: the witness and the reports that are asked for.
+// What is printed of a layered log after its text: the requested witness and the requested
+// reports.
 fn tell_records<M>(
     call: &mut Call<M>,
     instance: &Instance,
@@ -105,7 +106,7 @@ fn tell_records<M>(
     })
 }
 
-// What is told of a layered log behind its text. It is copied where its records are looked at.
+// What is printed of a layered log after its text. The log is copied if its records are read.
 fn tell_in_layers<M>(
     call: &mut Call<M>,
     instance: &Instance,
@@ -130,7 +131,7 @@ fn tell_in_layers<M>(
     told
 }
 
-// A text, and behind it that of a layered log, where it is printed.
+// A text, followed by that of a layered log, if it is printed.
 fn text_if(
     text: Vec<u8>,
     instance: &Instance,
@@ -148,8 +149,7 @@ fn text_if(
     placed.print_behind(text, instance, names)
 }
 
-// A text, and behind it what is told of a layered log: its text, the witness and the reports, each
-// where it is asked for.
+// A text, followed by the requested parts of a layered log: its text, the witness and the reports.
 fn text_of_layers<M>(
     call: &mut Call<M>,
     named: &Named,
@@ -177,7 +177,7 @@ fn text_of_layers<M>(
     })
 }
 
-// The same of a log, which is put into layers.
+// Like `text_of_layers`, for a log that is put into layers first.
 fn text_of_log<M>(
     call: &mut Call<M>,
     named: &Named,
@@ -202,8 +202,8 @@ fn text_of_log<M>(
     told
 }
 
-// A text, and behind it what is told of a run behind its end. It kept its log where something of it
-// is asked for.
+// Appends to `text` the requested parts of the log of a run. The run must have kept its log if any
+// part is requested.
 fn tell_run<M>(
     call: &mut Call<M>,
     named: &Named,
@@ -226,7 +226,7 @@ fn tell_run<M>(
     }
 }
 
-/// Tells the end of a run of the instance, and behind it what is asked for.
+/// Prints the end of a run of the instance, followed by the requested parts of its log.
 pub fn tell_end<M>(
     call: &mut Call<M>,
     facts: &Facts,
@@ -264,8 +264,8 @@ pub fn tell_end<M>(
     })
 }
 
-/// Tells the end of a run of the instance, and behind it what is asked for. Where the text wants
-/// nothing of the instance, that is let go of before.
+/// Prints the end of a run of the instance, followed by the requested parts of its log. If the
+/// output does not depend on the instance, the instance is dropped first.
 pub fn tell_sampled<M>(
     call: &mut Call<M>,
     facts: &Facts,

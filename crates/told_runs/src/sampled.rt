@@ -1,5 +1,6 @@
-//! A run of which no log was kept, and at whose end no event occurs. Its text wants nothing of the
-//! instance, which mostly takes more memory than all else, so that it is let go of before.
+//! A run that kept no log and ends with no event that occurs. Its output does not depend on the
+//! instance. The instance usually takes more memory than everything else, so it is dropped before
+//! the output is made.
 ghost use Rattle.std.specs.Prelude.{◌≡◌, List, [], true, false, None, IfOk};
 ghost use Rattle.pop_model.specs.Stacks.{variables_of};
 ghost use Rattle.pop_model.specs.Extremal.{IsExtremal};
@@ -20,7 +21,7 @@ use pop_print::{Facts, text_of_sample};
 use std::alloc::{AllocError, Global};
 use std::snapshot::Snapshot;
 
-// Lets an instance go: what contracts see of it is left, and how many variables it had.
+// Drops an instance. Returns its contract view, and the number of its variables.
 fn let_go(instance: Instance) -> (Snapshot<Instance>, u32)
     ensures same { result.0.value ≡ instance }
     ensures instance { IsInstance instance }
@@ -34,7 +35,7 @@ fn let_go(instance: Instance) -> (Snapshot<Instance>, u32)
     (of, count)
 }
 
-/// Tells the end of a run of the instance, which is let go of.
+/// Prints the end of a run of the instance, which is dropped.
 pub fn tell_sample(
     alloc: Global,
     facts: &Facts,

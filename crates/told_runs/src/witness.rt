@@ -1,4 +1,4 @@
-//! The witness of a pop that is asked for.
+//! The witness tree of a requested pop.
 ghost use Rattle.std.specs.Prelude.{◌≡◌, ◌<◌, List, [], length, true, false, Some, IfOk};
 ghost use Rattle.pop_model.specs.Stacks.{variables_of};
 ghost use Rattle.pop_model.specs.Logs.{IsLegal, replay};
@@ -14,8 +14,8 @@ use pop_log::Names;
 use std::alloc::{AllocError, Global};
 use witness_trees::{find_pop, print_missing, print_tree, tree};
 
-/// What is told of a log, or a part of it, maybe behind a text that was at hand, and whether the pop
-/// whose witness is asked for is missing.
+/// What is printed of a log, or a part of it, possibly after an earlier text; and whether the pop
+/// of the requested witness is missing.
 #[derive(Drop)]
 pub struct LogText {
     pub missing: bool,
@@ -23,7 +23,7 @@ pub struct LogText {
 }
 
 impl LogText {
-    /// Nothing is told, and nothing is missing.
+    /// Nothing is printed, and nothing is missing.
     pub fn nothing(alloc: Global) -> Result<LogText, AllocError>
         ensures there { IfOk result (λ t. t.missing ≡ false) }
         ensures none { IfOk result (λ t. t.bytes.items ≡ []) }
@@ -35,7 +35,7 @@ impl LogText {
     }
 }
 
-// What is told where no pop used the entry, which isn't below the cursor.
+// What is printed if no pop used the entry, which is not below the cursor.
 fn tell_missing(alloc: Global, asked: (u32, u32), cursor: u32) -> Result<LogText, AllocError>
     ensures missing { IfOk result (λ w. w.missing ≡ true) }
     ensures text { IfOk result (λ w. w.bytes.items ≡ no_witness_text asked.0 asked.1 cursor) }
@@ -47,7 +47,7 @@ fn tell_missing(alloc: Global, asked: (u32, u32), cursor: u32) -> Result<LogText
     })
 }
 
-// What is told of the pop that used the entry: the tree of its record.
+// What is printed for the pop that used the entry: the tree of its record.
 fn tell_tree(
     alloc: Global,
     instance: &Instance,
@@ -70,8 +70,9 @@ fn tell_tree(
     })
 }
 
-/// The witness of the pop that used an entry of the variable of a printed name, in a legal log that
-/// leads to these cursors: its tree, or that there is none.
+/// The witness of the pop that used an entry of the variable with a printed name, in a legal log
+/// that leads to these cursors. It is the tree of the pop, or the line that says that there is
+/// none.
 pub fn witness_of(
     alloc: Global,
     instance: &Instance,

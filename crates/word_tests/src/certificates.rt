@@ -9,13 +9,13 @@ mod printed;
 mod rings;
 mod stopping;
 
-// Compares two numbers at a place. Tests compare by these calls, so that what tells of values that
-// differ is proved once.
+// Compares two numbers at a place. Tests compare by these calls, so that the messages about
+// different values are proved only once.
 fn same_at(rt: &impl Abort, found: u64, want: u64, what: &str, place: u64) {
     assert!(rt; found == want, "{what} {place}");
 }
 
-// Compares two looks at a place.
+// Compares two states of a run at a place.
 fn looks_at(rt: &impl Abort, found: Look, want: Look, place: u64) {
     assert!(rt; found == want, "look {place}");
 }
@@ -25,7 +25,7 @@ fn same_bytes(rt: &impl Abort, found: &[u8], want: &[u8], what: &str) {
     assert!(rt; found == want, "{what}");
 }
 
-// What was made, and stops the test where nothing was.
+// The value that was made. Ends the test if there is none.
 fn made<T>(rt: &impl Abort, tried: Result<T, Fail>, what: &str) -> T {
     match tried {
         Ok(value) => value,

@@ -1,6 +1,6 @@
-//! Tests of command words, of certificates, and of runs that are stopped, by public calls of
-//! `pop_words` and `run_cert`. They stand above these crates, which are proved once so, and not
-//! once more with their tests.
+//! Tests of command-line arguments, of certificates, and of runs that are stopped, by public calls
+//! of `pop_words` and `run_cert`. They are in a crate above these, so that these crates are not
+//! proved once more with their tests.
 #![tactic(auto)]
 
 #[cfg(test)]

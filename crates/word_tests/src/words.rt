@@ -1,4 +1,4 @@
-//! Command words, and the jobs that they ask for.
+//! Command-line arguments, and the jobs that they specify.
 mod certificates;
 mod limits;
 mod lines;
@@ -11,10 +11,10 @@ use pop_words::{BoardKind, Job, WordFault, read_words};
 use std::alloc::Global;
 use std::process::Abort;
 
-// 64 zeros, which stand as `Z` in the tables.
+// 64 zeros, which are written `Z` in the tables.
 const ZEROS: &str = "0000000000000000000000000000000000000000000000000000000000000000";
 
-// Stops the test where this isn't so.
+// Ends the test if this does not hold.
 fn is_so(rt: &impl Abort, holds: bool, what: &str) {
     assert!(rt; holds, "{what}");
 }
@@ -35,7 +35,7 @@ fn push_named(rt: &impl Abort, text: &mut String, name: &str, number: u32) {
     push_u32(rt, text, number);
 }
 
-// Tells the bytes of a key that isn't zeros.
+// Adds the bytes of a key, unless they are zeros.
 fn push_key(rt: &impl Abort, text: &mut String, key: &[u8; 32]) {
     if *key == [0; 32] {
         return;
@@ -46,7 +46,7 @@ fn push_key(rt: &impl Abort, text: &mut String, key: &[u8; 32]) {
     }
 }
 
-// Tells rows.
+// Adds rows.
 fn push_rows(rt: &impl Abort, text: &mut String, rows: &Rows) {
     push(rt, text, " rows");
     for v in 0..rows.count() {
@@ -54,7 +54,7 @@ fn push_rows(rt: &impl Abort, text: &mut String, rows: &Rows) {
     }
 }
 
-// Tells the stacks of a job.
+// Adds the stacks of a job.
 fn push_stacks(rt: &impl Abort, text: &mut String, stacks: &StackSpec) {
     match stacks {
         StackSpec::Key(key) => push_key(rt, text, key),
@@ -62,28 +62,28 @@ fn push_stacks(rt: &impl Abort, text: &mut String, stacks: &StackSpec) {
     }
 }
 
-// A number that differs from its default, with its name.
+// Adds a number with its name, if it differs from its default.
 fn push_number(rt: &impl Abort, text: &mut String, name: &str, number: u32, default: u32) {
     if number != default {
         push_named(rt, text, name, number);
     }
 }
 
-// A number that is there, with its name.
+// Adds a number with its name, if there is one.
 fn push_some(rt: &impl Abort, text: &mut String, name: &str, number: Option<u32>) {
     if let Some(number) = number {
         push_named(rt, text, name, number);
     }
 }
 
-// A word that stands where something is so.
+// Adds a word if this holds.
 fn push_if(rt: &impl Abort, text: &mut String, is_so: bool, word: &str) {
     if is_so {
         push(rt, text, word);
     }
 }
 
-// What a job runs, where it differs from the defaults.
+// Adds what a job runs, if it differs from the defaults.
 fn push_run(rt: &impl Abort, text: &mut String, job: &Job) {
     push_stacks(rt, text, &job.stacks);
     push_number(rt, text, " height", job.height, 1048576);
@@ -95,7 +95,7 @@ fn push_run(rt: &impl Abort, text: &mut String, job: &Job) {
     push_if(rt, text, job.board == BoardKind::Lock, " lock");
 }
 
-// The entry whose witness tree a job tells.
+// Adds the entry of the witness tree that a job requests.
 fn push_witness(rt: &impl Abort, text: &mut String, witness: Option<(u32, u32)>) {
     if let Some((name, entry)) = witness {
         push_named(rt, text, " witness", name);
@@ -103,7 +103,7 @@ fn push_witness(rt: &impl Abort, text: &mut String, witness: Option<(u32, u32)>)
     }
 }
 
-// What a job tells of its log.
+// Adds what a job prints of its log.
 fn push_told(rt: &impl Abort, text: &mut String, job: &Job) {
     push_if(rt, text, job.log, " log");
     push_witness(rt, text, job.witness);
@@ -112,7 +112,7 @@ fn push_told(rt: &impl Abort, text: &mut String, job: &Job) {
     push_if(rt, text, job.reports.layers, " layers");
 }
 
-// A job by its command and what differs from the defaults.
+// A job as text: its command and what differs from the defaults.
 fn shown(rt: &impl Abort, alloc: Global, job: &Job) -> String {
     let mut text = String::from_str(alloc, job.command.word()).expect(rt, "memory");
     push_run(rt, &mut text, job);
@@ -121,7 +121,8 @@ fn shown(rt: &impl Abort, alloc: Global, job: &Job) -> String {
     text
 }
 
-// The words of a line, which have one space between them: a space at the end makes an empty word.
+// The arguments of a line, which are separated by one space: a space at the end is followed by an
+// empty argument.
 fn words_of(rt: &impl Abort, alloc: Global, line: &str) -> Vec<String> {
     let mut words = Vec::new(alloc);
     for word in line.split(' ') {
@@ -132,19 +133,19 @@ fn words_of(rt: &impl Abort, alloc: Global, line: &str) -> Vec<String> {
     words
 }
 
-/// What is read of a line, whose words have one space between them.
+/// Reads a line of arguments, which are separated by one space.
 pub fn read_line(rt: &impl Abort, alloc: Global, line: &str) -> Result<Job, WordFault> {
     let words = words_of(rt, alloc, line);
     read_words(alloc, &words)
 }
 
-// Tells the job that is read of a line of the grammar.
+// The job that a valid line specifies, as text.
 fn told(rt: &impl Abort, alloc: Global, line: &str) -> String {
     let job = read_line(rt, alloc, line).expect(rt, line);
     shown(rt, alloc, &job)
 }
 
-// Reads lines of the grammar.
+// Compares the jobs of valid lines.
 fn read_each(rt: &impl Abort, alloc: Global, lines: &[(&str, &str)]) {
     for (line, want) in lines.iter() {
         let text = told(rt, alloc, line);
@@ -152,13 +153,13 @@ fn read_each(rt: &impl Abort, alloc: Global, lines: &[(&str, &str)]) {
     }
 }
 
-// Compares why a line is refused, where it is.
+// Compares why a line is rejected, or checks that it is not.
 fn is_refused(rt: &impl Abort, alloc: Global, line: &str, want: Option<WordFault>, what: &str) {
     let fault = read_line(rt, alloc, line).err();
     is_so(rt, fault == want, what);
 }
 
-// Reads lines outside the grammar.
+// Compares why invalid lines are rejected.
 fn refuse_each(rt: &impl Abort, alloc: Global, lines: &[(&str, u32)]) {
     for (line, place) in lines.iter() {
         is_refused(rt, alloc, line, Some(WordFault::Usage(*place)), line);
@@ -187,7 +188,7 @@ fn words_of_certificates_outside_the_grammar_give_their_first_bad_place(rt: Host
     refuse_each(&rt, rt.alloc(), &UNCERTIFIED);
 }
 
-// So many copies of a text behind another, and a last one behind them.
+// A text with this many copies of another text after it, and a last text after these.
 fn repeated(
     rt: &impl Abort,
     alloc: Global,
@@ -204,7 +205,7 @@ fn repeated(
     all
 }
 
-// Why rows past their limit are refused.
+// Why rows past their limit are rejected.
 fn fault_of(is_past: bool) -> Option<WordFault> {
     if is_past {
         Some(WordFault::Usage(3))
@@ -213,7 +214,7 @@ fn fault_of(is_past: bool) -> Option<WordFault> {
     }
 }
 
-// Compares whether rows are refused.
+// Checks whether rows are rejected.
 fn end(rt: &impl Abort, alloc: Global, rows: &Limit) {
     let (front, text, count, last, refused) = *rows;
     let line = repeated(rt, alloc, front, text, count, last);

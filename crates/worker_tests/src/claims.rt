@@ -34,7 +34,7 @@ fn are_two(rt: &impl Abort, instance: &Instance)
     same(rt, instance.stacks().count() as u64, 2, "variables");
 }
 
-// What a pass finds where it claims variable 0.
+// The result of a claim of variable 0 by a pass.
 fn claim_first(rt: &impl Abort, board: &Board, pass: &mut Pass) -> Claim
     requires pass { IsOf board.now pass.old }
     requires known { 0 < count_of board.now }
@@ -43,7 +43,7 @@ fn claim_first(rt: &impl Abort, board: &Board, pass: &mut Pass) -> Claim
     board.try_claim(pass, 0)
 }
 
-// What a pass with all shares and one that is split off it find, where they claim variable 0.
+// The results of claims of variable 0 by a pass with all shares and by one that is split off it.
 fn claims_of_two(rt: &impl Abort, board: &Board, pass: &mut Pass) -> (Claim, Claim)
     requires pass { IsOf board.now pass.old }
     requires share { (view pass.old).share ≡ 64 }
@@ -77,7 +77,7 @@ fn a_claimed_variable_is_busy_for_another_pass(rt: HostRuntime) {
     drop(instance);
 }
 
-// Whether the mark of unit 1 was there, where a pass takes it.
+// Takes the mark of unit 1, and returns whether it was set.
 fn takes(board: &Board, pass: &mut Pass) -> bool
     requires pass { IsOf board.now pass.old }
     requires listed { 1 < marks_of board.now }
@@ -86,7 +86,7 @@ fn takes(board: &Board, pass: &mut Pass) -> bool
     board.take(pass, 1)
 }
 
-// Tests that the mark is there at first, not where it was taken, and again where it was set.
+// Tests that the mark is set at first, not after it was taken, and again after it was set.
 fn takes_in_turn(rt: &impl Abort, board: &Board, pass: &mut Pass)
     requires pass { IsOf board.now pass.old }
     requires listed { 1 < marks_of board.now }
@@ -125,7 +125,7 @@ fn a_mark_that_was_taken_is_gone_until_it_is_set(rt: HostRuntime) {
     drop(instance);
 }
 
-// Compares what the board of two events leaves after one pop of the first.
+// Compares the board of two events after one pop of the first.
 fn is_after_one_pop(rt: &impl Abort, closed: &Closed)
     requires { length closed.now.cursors ≡ 2 }
 {
@@ -146,7 +146,7 @@ fn is_first_ticket(rt: &impl Abort, log: &Tickets) {
     same(rt, first.popped.unit() as u64, 0, "unit");
 }
 
-// Compares what is logged of one pop of the first event.
+// Compares the log of one pop of the first event.
 fn is_ticketed(rt: &impl Abort, closed: &Closed) {
     let Some(log) = &closed.log else {
         panic!(rt; "no log");
@@ -154,8 +154,8 @@ fn is_ticketed(rt: &impl Abort, closed: &Closed) {
     is_first_ticket(rt, log);
 }
 
-// Worked by hand: the first event is popped under ticket 0, and then neither is poppable, but both
-// share a variable with it and so are marked.
+// Worked by hand: the first event is popped under ticket 0, and then neither is poppable. Both
+// share a variable with it, and so are marked.
 fn leaves_one_ticket(rt: &impl Abort, alloc: Global, instance: &Instance) {
     are_two(rt, instance);
     let closed = close_after_turns(rt, alloc, instance);

@@ -1,4 +1,4 @@
-//! Comparisons. Tests compare by these calls, so that what tells of numbers that differ is proved
+//! Tests compare by these calls, so that the messages about different numbers are proved only
 //! once.
 ghost use Rattle.std.specs.Prelude.{◌≡◌};
 
@@ -11,7 +11,7 @@ pub(crate) fn same(rt: &impl Abort, found: u64, want: u64, what: &str)
     assert!(rt; found == want, "{what}");
 }
 
-/// Stops the test where this isn't so at a place.
+/// Ends the test if this does not hold at a place.
 pub(crate) fn is_so(rt: &impl Abort, holds: bool, what: &str, place: u32) {
     assert!(rt; holds, "{what} {place}");
 }

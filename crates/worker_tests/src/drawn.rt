@@ -7,8 +7,8 @@ use std::alloc::Global;
 use std::process::Abort;
 use test_instances::below;
 
-// The heads of so many variables. Each has an arrow to a variable before it or to the root, and one
-// to itself or a variable behind it.
+// The heads of this many variables. Each has an arrow to a lower variable or to the root, and one
+// to itself or a higher variable.
 fn heads(rt: &impl Abort, alloc: Global, state: &mut u64, count: u32) -> Vec<Vec<Option<u32>>>
     requires some { 0 < count }
     requires few { count < 1000 }
@@ -25,7 +25,7 @@ fn heads(rt: &impl Abort, alloc: Global, state: &mut u64, count: u32) -> Vec<Vec
     heads
 }
 
-/// The cycles of such arrows.
+/// The cycles of the arrows with the heads of `heads`.
 pub(crate) fn arrows(rt: &impl Abort, alloc: Global, state: &mut u64, count: u32) -> Family {
     assert!(rt; 0 < count);
     assert!(rt; count < 1000);

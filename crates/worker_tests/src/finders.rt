@@ -9,13 +9,13 @@ use test_instances::has_cursors;
 mod units;
 mod walks;
 
-// What a board is to leave where nothing is suspect: its cursors, and how many events were popped.
+// The expected board if nothing is suspect: its cursors, and the number of pops.
 struct Want {
     cursors: &'static [u32],
     pops: u64,
 }
 
-// Compares what a board of so many variables leaves.
+// Compares a board of this many variables.
 fn is_left(rt: &impl Abort, closed: &Closed, count: u32, want: &Want)
     requires { count ≡ length closed.now.cursors }
 {

@@ -1,9 +1,9 @@
 //! Tests of workers and of their claims, by public calls: boards of claim words, finders, and runs
-//! by workers. So `claim_words`, `event_finders` and `pop_workers`, which have no tests of their own,
-//! are proved once.
+//! by workers. `claim_words`, `event_finders` and `pop_workers` have no tests of their own, so
+//! that they are proved only once.
 //!
-//! A function that owns an instance, an end or a board drops it by a call: what drops it is then
-//! proved once, and not followed through the function that owns it.
+//! A function that owns an instance, an end or a board drops it by a call. The drop is then proved
+//! once, and not in each function that owns such a value.
 #![tactic(auto)]
 
 #[cfg(test)]

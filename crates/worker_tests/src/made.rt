@@ -1,9 +1,9 @@
-//! What `test_instances` makes, or else the end of the test: so no test has a way out beside its
-//! end while it owns what was made.
+//! The values of `test_instances`. If one is missing, the test ends at once. So no test returns
+//! early while it owns such a value.
 use std::process::Abort;
 use std::test::Fail;
 
-/// What was made.
+/// The value that was made. Ends the test if there is none.
 pub(crate) fn made<T>(rt: &impl Abort, made: Result<T, Fail>) -> T {
     match made {
         Ok(made) => made,

@@ -1,4 +1,5 @@
-//! What tests do with boards and their passes: they begin and end boards, set marks, and let go.
+//! Operations of tests on boards and their passes: they open and close boards, set marks, and
+//! release variables.
 ghost use Rattle.std.specs.Prelude.{◌≡◌, ◌<◌, [], length, IfSome};
 ghost use Rattle.std.specs.List.{range_with_len};
 ghost use Rattle.pop_model.specs.Popping.{variables};
@@ -14,7 +15,7 @@ use pop_instance::{Cursors, Family, Instance};
 use std::alloc::Global;
 use std::process::Abort;
 
-/// How many units have a mark: those of a listed family, and none of cycles.
+/// The number of units with a mark: those of a listed family, and none of cycles.
 pub(crate) fn marks_in(instance: &Instance) -> u32
     ensures { result ≡ marks_in instance.now.family }
 {
@@ -42,7 +43,7 @@ pub(crate) fn started<'i>(
     started
 }
 
-/// Sets so many marks, which are all of the board.
+/// Sets this many marks, which are all of the board.
 pub(crate) fn mark_all(board: &Board, pass: &mut Pass, marks: u32)
     requires pass { IsOf board.now pass.old }
     requires marks { marks ≡ marks_of board.now }
@@ -58,7 +59,7 @@ pub(crate) fn mark_all(board: &Board, pass: &mut Pass, marks: u32)
     }
 }
 
-/// Lets go of all variables, where these are so many.
+/// Releases all variables; there are this many.
 pub(crate) fn release_below(board: &Board, pass: &mut Pass, count: u32)
     requires pass { IsOf board.now pass.old }
     requires held { variables (view pass.old).held ≡ range_with_len 0 count }
@@ -71,7 +72,7 @@ pub(crate) fn release_below(board: &Board, pass: &mut Pass, count: u32)
     }
 }
 
-/// Ends a board by its sole pass.
+/// Closes a board by its only pass.
 pub(crate) fn close(rt: &impl Abort, board: Board, pass: Pass) -> Closed
     requires pass { IsOf board pass }
     requires sole { IsSole pass }

@@ -1,4 +1,4 @@
-//! Runs by workers, which end as the run on one thread does.
+//! Runs by workers, which must have the end of the run on one thread.
 ghost use Rattle.std.specs.Prelude.{◌≡◌, ◌<◌, ◌≤◌, ℕ, length};
 ghost use Rattle.pop_model.specs.Stacks.{variables_of, height_of, IsKeyed};
 ghost use Rattle.pop_model.specs.Popping.{AreWithin};
@@ -19,8 +19,8 @@ mod heights;
 mod schedules;
 mod trees;
 
-// Events over so many variables of two values, with stacks of this height under a key of 32 such
-// bytes.
+// Events over this many variables with two values, with stacks of this height under a key that has
+// this byte 32 times.
 fn under_key(rt: &impl Abort, count: u32, key: u8, height: u32, family: Family) -> Instance
     ensures keyed { IsKeyed result.stacks.origin }
     ensures height { (v : ℕ) → height_of result.stacks v ≡ height }
@@ -33,7 +33,7 @@ fn under_key(rt: &impl Abort, count: u32, key: u8, height: u32, family: Family) 
     Instance::new(stacks, family).expect(rt, "an instance")
 }
 
-// The run of so many workers from these cursors, on claim words or else under a lock.
+// The run of this many workers from these cursors, on claim words or under a lock.
 fn sample_from<R: Threads + Wait + Abort + Sync, G: Gate + Sync>(
     rt: &R,
     alloc: Global,
@@ -56,7 +56,7 @@ fn sample_from<R: Threads + Wait + Abort + Sync, G: Gate + Sync>(
     run.expect(rt, "memory")
 }
 
-// The same from zeros.
+// The run of this many workers from zeros, on claim words or under a lock.
 fn sample<R: Threads + Wait + Abort + Sync, G: Gate + Sync>(
     rt: &R,
     alloc: Global,
@@ -74,7 +74,7 @@ fn sample<R: Threads + Wait + Abort + Sync, G: Gate + Sync>(
     run
 }
 
-// Compares how long the log of a run is with its pops.
+// Compares the length of the log of a run with its number of pops.
 fn logs_each_pop(rt: &impl Abort, run: &Outcome) {
     let Some(log) = &run.log else {
         panic!(rt; "no log");
@@ -111,7 +111,7 @@ fn run_alike<R: Threads + Wait + Abort + Sync>(
     drop(outcome);
 }
 
-// Compares the ends of so many workers on both boards.
+// Compares the ends of this many workers on both boards.
 fn runs_alike<R: Threads + Wait + Abort + Sync>(
     rt: &R,
     alloc: Global,
@@ -144,7 +144,7 @@ fn all_alike<R: Threads + Wait + Abort + Sync>(
 }
 
 // Runs the instance on one thread and by several numbers of workers on both boards, and compares
-// their ends. Returns the pops, and how many events are stuck.
+// their ends. Returns the numbers of pops and of stuck events.
 fn ends_alike<R: Threads + Wait + Abort + Sync>(
     rt: &R,
     alloc: Global,
@@ -157,7 +157,7 @@ fn ends_alike<R: Threads + Wait + Abort + Sync>(
     found
 }
 
-// The greater of both numbers of two pairs.
+// The larger first number and the larger second number of two pairs.
 fn greater(one: (u64, u64), other: (u64, u64)) -> (u64, u64) {
     (one.0.max(other.0), one.1.max(other.1))
 }

@@ -1,5 +1,5 @@
-// Comparison with a plain search: each record against each vertex, and the preorder by the paths
-// from the root.
+// Comparison with a simple search, which compares each record with each vertex and finds the
+// preorder by the paths from the root.
 use super::COUNT;
 use crate::records::log_of;
 use confluence_core::Log;
@@ -8,7 +8,7 @@ use std::process::Abort;
 use test_instances::below;
 use witness_trees::{Tree, tree};
 
-// A vertex that was found by search: the variables of the labels from the root down to it, and its
+// A vertex that the search found: the variables of the labels from the root down to it, and its
 // unit.
 #[derive(Drop)]
 struct Found<'a> {
@@ -21,7 +21,8 @@ fn meet(variables: &[u32], others: &[u32]) -> bool {
     variables.iter().any(|v| others.contains(v))
 }
 
-// Whether the first is to be the parent: it is deeper, or as deep and its label is less.
+// Whether the first vertex takes precedence as the parent: it is deeper, or equally deep with a
+// lower label.
 fn is_before(path: &[&[u32]], other: &[&[u32]]) -> bool {
     if path.len() != other.len() {
         return path.len() > other.len();
@@ -29,7 +30,8 @@ fn is_before(path: &[&[u32]], other: &[&[u32]]) -> bool {
     path.last() < other.last()
 }
 
-// The path of the deepest vertex that meets the variables, of several that of the least label.
+// The path of the deepest vertex that shares one of these variables. If there are several, it is
+// the one with the lowest label.
 fn parent<'a, 'b>(found: &'b [Found<'a>], variables: &[u32]) -> Option<&'b [&'a [u32]]> {
     let mut best: Option<&'b [&'a [u32]]> = None;
     for vertex in found {
@@ -44,7 +46,8 @@ fn parent<'a, 'b>(found: &'b [Found<'a>], variables: &[u32]) -> Option<&'b [&'a 
     best
 }
 
-// The path to a vertex of these variables: none where they meet no vertex that was found.
+// The path to a vertex with these variables. None if they share a variable with no vertex that was
+// found.
 fn path_of<'a>(
     rt: &impl Abort,
     alloc: Global,
@@ -62,7 +65,7 @@ fn path_of<'a>(
     Some(path)
 }
 
-// Adds the vertex of a pop, unless it meets none that was found.
+// Adds the vertex of a pop, unless it shares a variable with no vertex that was found.
 fn add<'a>(
     rt: &impl Abort,
     alloc: Global,
@@ -85,7 +88,7 @@ fn search<'a>(rt: &impl Abort, alloc: Global, pops: &'a [(u32, Vec<u32>)]) -> Ve
     found
 }
 
-// One to three of six variables, with a unit of their own.
+// One to three of six variables, with their own unit.
 fn event(rt: &impl Abort, alloc: Global, state: &mut u64) -> (u32, Vec<u32>) {
     let (a, b, c) = (below(state, 6), below(state, 6), below(state, 6));
     let mut unit: u32 = 0;
@@ -110,7 +113,7 @@ fn draw_pops(rt: &impl Abort, alloc: Global, state: &mut u64) -> Vec<(u32, Vec<u
     pops
 }
 
-// Compares a tree with what is found by search.
+// Compares a tree with the result of the search.
 fn is_found(rt: &impl Abort, tree: &Tree, want: &[Found]) {
     assert!(rt; tree.len() == want.len() as u64);
     for i in 0..tree.len() {
@@ -121,7 +124,7 @@ fn is_found(rt: &impl Abort, tree: &Tree, want: &[Found]) {
     }
 }
 
-// Compares the tree of the last record of a log with what is found by search.
+// Compares the tree of the last record of a log with the result of the search.
 fn has_found(rt: &impl Abort, alloc: Global, log: &Log, want: &[Found]) {
     let count = log.len();
     assert!(rt; 0 < count);
@@ -130,7 +133,7 @@ fn has_found(rt: &impl Abort, alloc: Global, log: &Log, want: &[Found]) {
     drop(tree);
 }
 
-// Compares the tree of the last pop with what is found by search.
+// Compares the tree of the last pop with the result of the search.
 fn agree(rt: &impl Abort, alloc: Global, pops: &[(u32, Vec<u32>)]) {
     let want = search(rt, alloc, pops);
     let log = log_of(rt, alloc, COUNT, pops);

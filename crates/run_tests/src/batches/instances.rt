@@ -1,5 +1,5 @@
-//! Instances by tables, under a key: listed events over variables with two values each, and arrows
-//! with two slots each.
+//! Instances from tables, under a key: listed events over variables with two values each, and
+//! arrows with two slots each.
 ghost use Rattle.pop_model.specs.Stacks.{IsKeyed};
 ghost use Rattle.pop_model.specs.Extremal.{IsExtremal};
 ghost use Rattle.pop_model.specs.Families.Family.{Listed};
@@ -13,7 +13,7 @@ use std::alloc::Global;
 use std::process::Abort;
 use test_instances::EventRow;
 
-// The stacks of so many variables with two values each, under the key of zeros.
+// The stacks of this many variables with two values each, under the key of zeros.
 fn stacks(rt: &impl Abort, count: u32, height: u32) -> Stacks
     ensures { IsKeyed result.origin }
 {
@@ -23,7 +23,7 @@ fn stacks(rt: &impl Abort, count: u32, height: u32) -> Stacks
     Stacks::new(StackSpec::Key([0; 32]), Weights::pairs(count), height).expect(rt, "memory")
 }
 
-// Stops the test where two of these events clash.
+// Ends the test if two of these events clash.
 fn expect_no_clash(rt: &impl Abort, alloc: Global, events: &Events, index: &Index)
     requires { IsIndex events.now index.now }
     ensures { IsExtremal (Listed events.now) }
@@ -34,7 +34,7 @@ fn expect_no_clash(rt: &impl Abort, alloc: Global, events: &Events, index: &Inde
     }
 }
 
-// Stops the test where two listed events of the instance clash.
+// Ends the test if two listed events of the instance clash.
 fn expect_extremal(rt: &impl Abort, alloc: Global, instance: &Instance)
     ensures { IsExtremal instance.now.family }
 {
@@ -56,7 +56,7 @@ fn of_events(rt: &impl Abort, alloc: Global, stacks: Stacks, table: &[EventRow])
     Instance::new(stacks, family).expect(rt, "an instance")
 }
 
-/// The instance of so many variables of this height and the events of a table, no two of which
+/// The instance of this many variables of this height and the events of a table. No two events may
 /// clash.
 pub fn listed(
     rt: &impl Abort,

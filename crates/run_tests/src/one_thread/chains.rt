@@ -1,4 +1,4 @@
-//! Chains of events: each shares a variable with the next, and excludes it there.
+//! Chains of events: each shares a variable with the next, and demands another value of it.
 use super::pops_and_stuck;
 use crate::compare::is_so;
 use crate::made::{chain, over_keyed};
@@ -6,14 +6,15 @@ use pop_instance::Instance;
 use std::alloc::Global;
 use std::process::Abort;
 
-// The chain of so many links, with stacks of this height under a key of 32 such bytes.
+// The chain of this many links, with stacks of this height under a key that has this byte 32
+// times.
 fn chained(rt: &impl Abort, alloc: Global, links: u32, key: u8, height: u32) -> Instance {
     assert!(rt; links < 1000);
     let family = chain(rt, alloc, links);
     over_keyed(rt, key, 2 * links + 1, height, family)
 }
 
-// Runs such a chain. Returns its pops and how many events are stuck.
+// Runs the chain of `chained`. Returns the numbers of pops and of stuck events.
 fn run_chain(rt: &impl Abort, alloc: Global, links: u32, key: u8, height: u32) -> (u64, u64) {
     let instance = chained(rt, alloc, links, key, height);
     let answer = pops_and_stuck(rt, alloc, &instance);
@@ -23,7 +24,8 @@ fn run_chain(rt: &impl Abort, alloc: Global, links: u32, key: u8, height: u32) -
 
 static HIGH_KEYS: [u8; 4] = [0, 1, 77, 255];
 
-// Runs the chain of so many links under high stacks and several keys. Returns the most pops.
+// Runs the chain of this many links under high stacks and several keys. Returns the largest number
+// of pops.
 fn most_pops(rt: &impl Abort, alloc: Global, links: u32) -> u64 {
     let mut most = 0;
     for key in HIGH_KEYS.iter() {
@@ -47,7 +49,8 @@ fn both_runs_end_alike_under_high_stacks(rt: HostRuntime) {
     assert!(&rt; most > 50);
 }
 
-// Runs the chain of so many links under a key at several heights. Returns the most stuck events.
+// Runs the chain of this many links under a key at several heights. Returns the largest number of
+// stuck events.
 fn most_stuck(rt: &impl Abort, alloc: Global, links: u32, key: u8) -> u64 {
     let mut most = 0;
     for height in 1..5 {
@@ -63,7 +66,7 @@ fn most_stuck(rt: &impl Abort, alloc: Global, links: u32, key: u8) -> u64 {
     most
 }
 
-// How many links there are, and under which key.
+// The number of links, and the key.
 static TIGHT: [(u32, u8); 12] = [
     (1, 0),
     (1, 3),

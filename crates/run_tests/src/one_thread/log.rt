@@ -1,4 +1,4 @@
-//! A log behind another.
+//! A log that is appended to another.
 use crate::compare::same_at;
 use crate::made::cube;
 use confluence_core::{Log, Record};

@@ -1,4 +1,4 @@
-//! Runs that stop at a limit, looks at what they leave, and runs over shared parts.
+//! Runs that stop at a limit, the states that they leave, and runs over shared parts.
 ghost use Rattle.std.specs.Prelude.{◌≡◌, length};
 ghost use Rattle.pop_model.specs.Stacks.{variables_of};
 ghost use Rattle.pop_model.specs.Popping.{AreWithin};
@@ -13,7 +13,7 @@ use pop_stacks::Reader;
 use std::alloc::Global;
 use std::process::Abort;
 
-// Two variables with the entries 0, 0, 1 and 0, 1; the events have the value 0 of each.
+// Two variables with the entries 0, 0, 1 and 0, 1. The events demand the value 0 of each.
 static TWO_EVENTS: Case = Case {
     rows: &[&[0, 0, 1], &[0, 1]],
     events: &[(1, &[(0, 0)]), (2, &[(1, 0)])],
@@ -24,7 +24,7 @@ static TWO_EVENTS: Case = Case {
     },
 };
 
-// Their instance.
+// The instance of `TWO_EVENTS`.
 fn two_events(rt: &impl Abort, alloc: Global) -> Instance {
     listed(rt, alloc, TWO_EVENTS.rows, TWO_EVENTS.events)
 }
@@ -57,7 +57,7 @@ fn goes_on(rt: &impl Abort, alloc: Global, instance: &Instance, cursors: &Cursor
     answer
 }
 
-// How many events occur at cursors.
+// The number of events that occur at cursors.
 fn stuck_at(rt: &impl Abort, alloc: Global, instance: &Instance, cursors: &Cursors) -> u64
     requires count { variables_of instance.now.stacks ≡ length cursors.now }
     requires within { AreWithin instance.now.stacks cursors.now }
@@ -70,7 +70,8 @@ fn stuck_at(rt: &impl Abort, alloc: Global, instance: &Instance, cursors: &Curso
     answer
 }
 
-// Compares what a run leaves: its pops, which its log has too, and its stuck events.
+// Compares a run: its number of pops, which must be that of its log's records, and its stuck
+// events.
 fn leaves(rt: &impl Abort, run: &Run, pops: u64, stuck: u64) {
     same(rt, run.end.pops, pops, "pops");
     same(rt, stuck, run.end.stuck.len(), "stuck events");
@@ -80,7 +81,7 @@ fn leaves(rt: &impl Abort, run: &Run, pops: u64, stuck: u64) {
     same(rt, log.len(), pops, "records");
 }
 
-// Compares what a run to a limit leaves, of which the whole has 3 pops.
+// Compares a run to a limit. The whole run has 3 pops.
 fn is_left(rt: &impl Abort, alloc: Global, instance: &Instance, run: &Run, limit: u64, pops: u64)
     requires over { IsEndOver instance.now.stacks run.now.end }
 {
@@ -97,7 +98,7 @@ fn stops_at(rt: &impl Abort, alloc: Global, instance: &Instance, limit: u64, pop
     drop(run);
 }
 
-// Limits, and the pops of the runs to them.
+// Limits, and the numbers of pops of the runs to them.
 static LIMITS: [(u64, u64); 5] = [(0, 0), (1, 1), (2, 2), (3, 3), (9, 3)];
 
 // Compares the runs of an instance to each limit.
@@ -116,7 +117,7 @@ fn a_run_stops_at_its_limit(rt: HostRuntime) {
     drop(instance);
 }
 
-// How many values an end has: one for each variable.
+// The number of values of an end: one for each variable.
 fn values_count(instance: &Instance, end: &End) -> u32
     requires over { IsEndOver instance.now.stacks end.now }
     ensures { result ≡ length end.now.values }
@@ -124,7 +125,7 @@ fn values_count(instance: &Instance, end: &End) -> u32
     instance.stacks().count()
 }
 
-// Compares so many values.
+// Compares this many values.
 fn are_values(rt: &impl Abort, values: &Values, count: u32, want: &[u32])
     requires { count ≡ length values.now }
 {
@@ -153,7 +154,7 @@ fn an_end_has_the_values_at_its_cursors(rt: HostRuntime) {
     drop(instance);
 }
 
-// Compares the end of a whole run by an index that is made apart.
+// Compares the end of a whole run by an index that is made separately.
 fn ends_by_index(rt: &impl Abort, alloc: Global, instance: &Instance) {
     let run = run_to(rt, alloc, instance, u64::MAX);
     is_end(rt, &run.end, instance.stacks().count(), &TWO_EVENTS.want);

@@ -8,8 +8,8 @@ use pop_instance::{Arrows, Family, Instance};
 use std::alloc::Global;
 use std::process::Abort;
 
-// Where a variable leads in rings of this size, of which the last may be shorter: to the next one
-// of its ring.
+// The head of a variable in rings of this size: the next one of its ring. The last ring may be
+// smaller.
 fn next_of(v: u32, count: u32, size: u32) -> u32
     requires some { 0 < size }
     requires known { v < count }
@@ -22,8 +22,8 @@ fn next_of(v: u32, count: u32, size: u32) -> u32
     }
 }
 
-// The two heads of each of so many variables in rings of this size. Each leads to the next one of
-// its ring, and to the variable before it; variable 0 to the root.
+// The two heads of each of this many variables in rings of this size. Each leads to the next one
+// of its ring, and to the variable before it; variable 0 leads to the root.
 fn heads(rt: &impl Abort, alloc: Global, count: u32, size: u32) -> Vec<[Option<u32>; 2]>
     requires some { 0 < size }
     requires few { count < 1000 }
@@ -38,7 +38,7 @@ fn heads(rt: &impl Abort, alloc: Global, count: u32, size: u32) -> Vec<[Option<u
     heads
 }
 
-// The arrows of such rings.
+// The arrows with the heads of `heads`.
 fn ring_arrows(rt: &impl Abort, alloc: Global, count: u32, size: u32) -> Arrows {
     assert!(rt; 0 < size);
     assert!(rt; count < 1000);
@@ -48,14 +48,14 @@ fn ring_arrows(rt: &impl Abort, alloc: Global, count: u32, size: u32) -> Arrows 
     arrows
 }
 
-// Rings: how many variables there are, and the size of a ring.
+// Rings: the number of variables, and the size of a ring.
 struct Rings {
     count: u32,
     size: u32,
 }
 
-// Runs rings over stacks of this height under a key of 32 such bytes. Returns their pops, and how
-// many cycles are stuck.
+// Runs rings over stacks of this height under a key that has this byte 32 times. Returns the
+// numbers of pops and of stuck cycles.
 fn run_rings(rt: &impl Abort, alloc: Global, rings: &Rings, key: u8, height: u32) -> (u64, u64) {
     let arrows = ring_arrows(rt, alloc, rings.count, rings.size);
     let instance = over_keyed(rt, key, rings.count, height, Family::Cycles(arrows));
@@ -64,7 +64,7 @@ fn run_rings(rt: &impl Abort, alloc: Global, rings: &Rings, key: u8, height: u32
     answer
 }
 
-// The most pops and the most stuck cycles of some runs.
+// The largest numbers of pops and of stuck cycles of some runs.
 #[derive(Clone, Copy)]
 struct Most {
     pops: u64,
@@ -72,12 +72,12 @@ struct Most {
 }
 
 impl Most {
-    // Before any run.
+    // The numbers before any run.
     fn none() -> Most {
         Most { pops: 0, stuck: 0 }
     }
 
-    // Those of other runs too.
+    // The larger numbers of these runs and of others.
     fn with(self, other: Most) -> Most {
         Most {
             pops: self.pops.max(other.pops),
@@ -152,13 +152,13 @@ static TWO_ARROWS: Case = Case {
 
 static TERMS: &[&[Term]] = &[&[(0, 1, 0), (1, 0, 0)]];
 
-// Their instance.
+// The instance of this case.
 fn two_arrows(rt: &impl Abort, alloc: Global) -> Instance {
     let arrows = arrows(rt, alloc, TWO_ARROWS.heads);
     cycles(rt, alloc, TWO_ARROWS.rows, arrows)
 }
 
-// Compares the pops of their instance and its log.
+// Compares the number of pops of this instance, and its log.
 fn one_cycle_logged(rt: &impl Abort, alloc: Global, instance: &Instance) {
     let (pops, stuck) = pops_and_stuck(rt, alloc, instance);
     same(rt, pops, 1, "pops");
@@ -166,8 +166,8 @@ fn one_cycle_logged(rt: &impl Abort, alloc: Global, instance: &Instance) {
     logs(rt, alloc, instance, 0, TERMS);
 }
 
-// Worked by hand. Variable 0 leads to the root or to variable 1, and this to variable 0 or to the
-// root. Their entries are 1, 0 and 0, 0: the cycle of both occurs, and is popped once.
+// Worked by hand. Variable 0 leads to the root or to variable 1, and variable 1 to variable 0 or
+// to the root. Their entries are 1, 0 and 0, 0. So the cycle of both occurs, and is popped once.
 #[test]
 fn the_log_has_the_cycle_with_its_entries(rt: HostRuntime) {
     let alloc = rt.alloc();

@@ -1,4 +1,4 @@
-//! How many rows rounds finish with each assignment, where clauses clash.
+//! For how many rows rounds finish with each assignment, if clauses clash.
 ghost use Rattle.std.specs.Prelude.{◌≡◌, length};
 ghost use Rattle.pop_model.specs.Stacks.{variables_of};
 ghost use Rattle.prs_rounds.specs.Units.{IsIndexOf};
@@ -13,24 +13,25 @@ use std::process::Abort;
 use std::thread::Threads;
 use test_instances::EventRow;
 
-// Two clauses that share a variable and may be false together.
+// Two clauses that share a variable and can both be false.
 static TWO: [EventRow; 2] = [(1, &[(0, 0), (1, 0)]), (2, &[(1, 0), (2, 0)])];
 
-// A third that shares a variable with each: with the second at one value, with the first at another.
+// These two and a third clause, which shares a variable with each: it demands the same value as
+// the second and another value than the first.
 static THREE: [EventRow; 3] = [
     (1, &[(0, 0), (1, 0)]),
     (2, &[(1, 0), (2, 0)]),
     (3, &[(0, 1), (2, 0)]),
 ];
 
-// How many of all rows of three entries rounds finish with each assignment, whose bits are its
-// values, that of variable 0 lowest: as many with each that satisfies the clauses, and none with
-// another. They were counted by two other programs, each of them by the definition.
+// For how many of all rows of three entries rounds finish with each assignment. The bits of an
+// assignment are its values, that of variable 0 lowest. The numbers are equal for all satisfying
+// assignments, and 0 for the others. Two other programs counted them, each by the definition.
 static COUNTS_OF_TWO: [u64; 8] = [0, 0, 97, 97, 0, 97, 97, 97];
 
 static COUNTS_OF_THREE: [u64; 8] = [0, 0, 112, 0, 0, 112, 112, 112];
 
-// The instance of these rows and clauses: entry k of variable v is bit 3v + k.
+// The instance of these rows and clauses. Entry k of variable v is bit 3v + k.
 fn instance(rt: &impl Abort, alloc: Global, rows: u32, clauses: &[EventRow]) -> Instance {
     let first = [rows % 2, rows / 2 % 2, rows / 4 % 2];
     let second = [rows / 8 % 2, rows / 16 % 2, rows / 32 % 2];
@@ -46,7 +47,7 @@ fn number_of(rt: &impl Abort, values: &[u32]) -> u32 {
     a + 2 * b + 4 * c
 }
 
-// The assignment at an end of rounds; none where they are exhausted.
+// The assignment at an end of rounds. None if they are exhausted.
 fn number_at(rt: &impl Abort, end: &RoundEnd) -> Option<u32> {
     if end.short.is_some() {
         return None;
@@ -70,7 +71,7 @@ fn end_of<R: Threads + Abort + Sync>(
     number
 }
 
-// The same where no index is at hand.
+// The assignment at the end of the rounds of an instance, which builds its index.
 fn indexed_end<R: Threads + Abort + Sync>(
     rt: &R,
     alloc: Global,
@@ -82,7 +83,7 @@ fn indexed_end<R: Threads + Abort + Sync>(
     answer
 }
 
-// The same of these rows.
+// The assignment at the end of the rounds of these rows.
 fn sample_of<R: Threads + Abort + Sync>(
     rt: &R,
     alloc: Global,
@@ -106,7 +107,7 @@ fn is_among(rt: &impl Abort, all: &[u32], sample: u32, want: u64) {
     same(rt, count, want, "rows of an assignment");
 }
 
-// The assignments at the ends of all rows, but for those where rounds are exhausted.
+// The assignments at the ends of all rows, except those with exhausted rounds.
 fn samples_of<R: Threads + Abort + Sync>(rt: &R, alloc: Global, clauses: &[EventRow]) -> Vec<u32> {
     let mut all = Vec::new(alloc);
     for rows in 0..512 {

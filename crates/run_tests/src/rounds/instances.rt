@@ -9,12 +9,12 @@ use pop_stacks::Stacks;
 use std::alloc::Global;
 use std::process::Abort;
 
-// The entries of a variable: 0 and 1 of those of even number, 1 of those of odd number.
+// The entries of a variable: 0 and 1 for an even number, 1 for an odd one.
 fn entries_of(v: u32) -> &'static [u32] {
     if v % 2 == 0 { &[0, 1] } else { &[1] }
 }
 
-// The entries of so many variables.
+// The entries of this many variables.
 fn entries(rt: &impl Abort, alloc: Global, count: u32) -> Vec<&'static [u32]> {
     let mut rows = Vec::new(alloc);
     for v in 0..count {
@@ -23,7 +23,7 @@ fn entries(rt: &impl Abort, alloc: Global, count: u32) -> Vec<&'static [u32]> {
     rows
 }
 
-// Their stacks.
+// The stacks of this many variables.
 fn many_stacks(rt: &impl Abort, alloc: Global, count: u32) -> Stacks {
     let rows = entries(rt, alloc, count);
     let stacks = stacks(rt, alloc, &rows);
@@ -31,7 +31,7 @@ fn many_stacks(rt: &impl Abort, alloc: Global, count: u32) -> Stacks {
     stacks
 }
 
-// For each of so many variables the event that it has the value 0.
+// For each of this many variables the event that it has the value 0.
 fn zeros(rt: &impl Abort, alloc: Global, count: u32) -> Vec<(u32, Cube)> {
     let mut events = Vec::new(alloc);
     for v in 0..count {
@@ -41,7 +41,7 @@ fn zeros(rt: &impl Abort, alloc: Global, count: u32) -> Vec<(u32, Cube)> {
     events
 }
 
-/// The instance of these variables and events.
+/// The instance of this many variables and these events.
 pub fn many(rt: &impl Abort, alloc: Global, count: u32) -> Instance {
     let stacks = many_stacks(rt, alloc, count);
     let family = family(rt, alloc, zeros(rt, alloc, count));

@@ -1,12 +1,12 @@
-//! How many rows finish with each sample, and how much they weigh.
+//! How many rows finish with each sample, and the sum of their weights.
 use super::instances::*;
 use crate::compare::same_of;
 use std::process::Abort;
 
-// All cursors but those where an event is stuck.
+// All cursors except those at which an event is stuck.
 const ANY: u32 = 28;
 
-// How many rows finish with a sample at these cursors, and their weights together.
+// How many rows finish with a sample at these cursors, and the sum of their weights.
 fn total(rt: &impl Abort, all: &[Finish], sample: u32, place: u32) -> (u64, u64) {
     let mut count = 0;
     let mut weight = 0;
@@ -26,8 +26,8 @@ fn finish_with(rt: &impl Abort, all: &[Finish], sample: u32, place: u32, want: u
     same_of(rt, count, want, "rows of sample, at place", (sample, place));
 }
 
-// Compares the counts and the weights of two samples, unless one of them is none: of pair 8x + w, w
-// and x.
+// Compares the counts and the weights of two samples, unless one of them is not a sample. Pair 8x
+// + w has the samples w and x.
 fn are_proportional(rt: &impl Abort, which: usize, all: &[Finish], place: u32, pair: u32) {
     let (w, x) = (pair % 8, pair / 8);
     if !is_sample(rt, which, w) || !is_sample(rt, which, x) {
@@ -54,7 +54,7 @@ fn all_proportional(rt: &impl Abort, which: usize, all: &[Finish], place: u32) {
     }
 }
 
-// Compares how many rows finish with each sample, at any cursors and where none moved.
+// Compares how many rows finish with each sample, at any cursors and at those of no pop.
 fn finish_with_each(rt: &impl Abort, which: usize, all: &[Finish], rows: u64) {
     for sample in 0..8 {
         let one = is_sample(rt, which, sample);
@@ -63,9 +63,8 @@ fn finish_with_each(rt: &impl Abort, which: usize, all: &[Finish], rows: u64) {
     }
 }
 
-// Instances, and how many rows finish with each sample of theirs. The numbers were counted by
-// another program. Where no cursor moved, all rows that have a sample as their first entries
-// finish: 64.
+// Instances, and how many rows finish with each of their samples. Another program counted these
+// numbers. If no cursor moved, all rows that have a sample as their first entries finish: 64.
 static COUNTS: [(usize, u64); 3] = [(FORMULA, 112), (TRIANGLE, 154), (PATH, 112)];
 
 #[test]
@@ -79,7 +78,7 @@ fn as_many_rows_finish_with_each_sample(rt: HostRuntime) {
     }
 }
 
-// Compares any two samples at each cursors.
+// Compares any two samples at all cursors.
 fn proportional_at_each(rt: &impl Abort, which: usize, all: &[Finish]) {
     for place in 0..27 {
         all_proportional(rt, which, all, place);
@@ -96,8 +95,8 @@ fn as_many_rows_finish_with_each_sample_at_each_cursors(rt: HostRuntime) {
     }
 }
 
-// The samples of the clauses that clash, and how many rows finish with each. The numbers were
-// counted by another program.
+// The samples of the clauses that clash, and how many rows finish with each. Another program
+// counted these numbers.
 static CLASHING_COUNTS: [(u32, u64); 5] = [
     (0b010, 84),
     (0b011, 108),

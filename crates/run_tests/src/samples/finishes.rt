@@ -1,9 +1,9 @@
-//! Where logs finish, and what the entries there have to do with it.
+//! The cursors at which logs finish, and how they depend on the entries there.
 use super::instances::*;
 use crate::compare::same_of;
 use std::process::Abort;
 
-// The rows with this sample in place of the entries at the cursors.
+// The rows with the entries at the cursors replaced by this sample.
 fn exchange(rows: u32, place: u32, sample: u32) -> u32 {
     let mut rows = rows;
     for v in 0..3 {
@@ -15,7 +15,7 @@ fn exchange(rows: u32, place: u32, sample: u32) -> u32 {
     rows
 }
 
-// The rows have the same entries below the cursors.
+// Whether the rows have the same entries below the cursors.
 fn agree_below(rows: u32, others: u32, place: u32) -> bool {
     for at in 0..9 {
         if at % 3 < cursor(place, at / 3) && bit(rows, at) != bit(others, at) {
@@ -25,7 +25,7 @@ fn agree_below(rows: u32, others: u32, place: u32) -> bool {
     true
 }
 
-// The cursors after a pop of the event; none where one of its variables has no next entry.
+// The cursors after a pop of the event. None if one of its variables has no next entry.
 fn popped(place: u32, names: u32) -> Option<u32> {
     let a = cursor(place, 0) + bit(names, 0);
     let b = cursor(place, 1) + bit(names, 1);
@@ -37,7 +37,7 @@ fn popped(place: u32, names: u32) -> Option<u32> {
     }
 }
 
-// The cursors to which one pop leads, as bits; none where no event occurs.
+// The cursors after one pop, as bits. None if no event occurs.
 fn next_places(rt: &impl Abort, which: usize, rows: u32, place: u32) -> Option<u32> {
     let mut occurs = false;
     let mut next = 0;
@@ -54,7 +54,7 @@ fn next_places(rt: &impl Abort, which: usize, rows: u32, place: u32) -> Option<u
     if occurs { Some(next) } else { None }
 }
 
-// All cursors at which some log finishes, as bits. A pop leads to a greater number.
+// All cursors at which some log finishes, as bits. A pop leads to a larger number.
 fn finished_places(rt: &impl Abort, which: usize, rows: u32) -> u32 {
     let mut reached: u32 = 1;
     let mut finished: u32 = 0;
@@ -69,7 +69,8 @@ fn finished_places(rt: &impl Abort, which: usize, rows: u32) -> u32 {
     finished
 }
 
-// Compares where logs of these rows finish with where their run ends: nowhere where it is stuck.
+// Compares the cursors at which logs of these rows finish with those at the end of their run.
+// There are none if the run is stuck.
 fn finish_at_end(rt: &impl Abort, which: usize, all: &[Finish], rows: u32) {
     let end = finish_of(rt, all, rows);
     let places = finished_places(rt, which, rows);
@@ -84,7 +85,7 @@ fn finish_at_end(rt: &impl Abort, which: usize, all: &[Finish], rows: u32) {
     same_of(rt, places as u64, place as u64, "rows, of instance", of);
 }
 
-// Compares them for all rows.
+// Compares these cursors for all rows.
 fn all_finish_at_end(rt: &impl Abort, which: usize, all: &[Finish]) {
     for rows in 0..512 {
         finish_at_end(rt, which, all, rows);
@@ -112,7 +113,8 @@ fn logs_finish_at_several_cursors_where_clauses_clash(rt: HostRuntime) {
     assert!(&rt; several > 0);
 }
 
-// Compares the ends of rows and of others with this sample in place of the entries there.
+// Compares the end of rows with that of other rows, in which this sample replaces the entries
+// there.
 fn is_exchanged(rt: &impl Abort, end: &Finish, other: &Finish, rows: u32, sample: u32) {
     same_of(
         rt,
@@ -187,7 +189,8 @@ fn every_sample_may_be_exchanged_for_the_one_at_an_end_and_nothing_else(rt: Host
     }
 }
 
-// Compares the ends of two rows that agree below the end of the first, and have a sample there.
+// Compares the ends of two rows. They agree below the end of the first, and the second have a
+// sample there.
 fn compare(rt: &impl Abort, which: usize, all: &[Finish], rows: u32, others: u32) {
     let end = finish_of(rt, all, rows);
     if end.place == STUCK || !agree_below(rows, others, end.place) {
@@ -230,8 +233,8 @@ fn the_pops_hang_on_the_entries_below_the_end_alone(rt: HostRuntime) {
     }
 }
 
-// Whether the rows of which each entry is that of a sample end before any pop, exactly where it is
-// one.
+// Checks that rows with each entry from an assignment end before any pop exactly if the assignment
+// is a sample.
 fn ends_at_once(rt: &impl Abort, which: usize, all: &[Finish], sample: u32) {
     let rows = 7 * bit(sample, 0) + 56 * bit(sample, 1) + 448 * bit(sample, 2);
     let end = finish_of(rt, all, rows);
@@ -239,7 +242,7 @@ fn ends_at_once(rt: &impl Abort, which: usize, all: &[Finish], sample: u32) {
     assert!(rt; (end.place == 0) == one, "sample {sample}");
 }
 
-// Looks at the rows of each sample.
+// Checks the rows of each assignment.
 fn end_at_once(rt: &impl Abort, which: usize, all: &[Finish]) {
     for sample in 0..8 {
         ends_at_once(rt, which, all, sample);

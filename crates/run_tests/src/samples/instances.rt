@@ -1,5 +1,5 @@
 //! Rows are a number of nine bits: entry k of variable v is bit 3v + k. A sample is a number of
-//! three bits, and cursors are a number of three digits to base 3, that of variable 0 lowest.
+//! three bits. Cursors are a number of three digits to base 3, that of variable 0 lowest.
 ghost use Rattle.std.specs.Prelude.{◌≡◌, ◌<◌, length};
 
 use crate::made::{arrows, cube, family, over, stacks};
@@ -9,20 +9,20 @@ use pop_stacks::Stacks;
 use std::alloc::Global;
 use std::process::Abort;
 
-/// A formula of two clauses that share a variable and exclude each other.
+/// A formula of two clauses that share a variable and demand different values of it.
 pub const FORMULA: usize = 0;
 /// The sinks of the orientations of a triangle.
 pub const TRIANGLE: usize = 1;
-/// The cycles of arrows along a path, of which both ends are the root.
+/// The cycles of arrows along a path with the root at both ends.
 pub const PATH: usize = 2;
-/// A formula of two clauses that share a variable and may be false together: it isn't extremal.
+/// A formula of two clauses that share a variable and can both be false: it is not extremal.
 pub const CLASHING: usize = 3;
 
 /// The instances that are extremal.
 pub static EXTREMAL: [usize; 3] = [FORMULA, TRIANGLE, PATH];
 
-// The events of each instance: the variables that they name, and their values, in bits. The last is
-// repeated where there are two.
+// The events of each instance: the variables that they name, and their values, as bits. If there
+// are only two, the last one is repeated.
 static EVENTS: [[(u32, u32); 3]; 4] = [
     [(0b011, 0b000), (0b110, 0b010), (0b110, 0b010)],
     [(0b101, 0b001), (0b011, 0b010), (0b110, 0b100)],
@@ -33,11 +33,11 @@ static EVENTS: [[(u32, u32); 3]; 4] = [
 // The weights of the values 0 and 1 of each variable.
 static WEIGHTS: [[u64; 2]; 3] = [[2, 1], [1, 3], [3, 2]];
 
-/// The cursors of rows where an event is stuck.
+/// The cursors of rows with a stuck event.
 pub const STUCK: u32 = 27;
 
-/// The end of the one-thread run of some rows: its cursors, its sample, and its pops; and the
-/// weight of the rows.
+/// The end of the one-thread run of some rows: its cursors, its sample, its number of pops, and
+/// the weight of the rows.
 #[derive(Clone, Copy)]
 pub struct Finish {
     pub place: u32,
@@ -78,7 +78,7 @@ pub fn event(rt: &impl Abort, which: usize, e: usize) -> (u32, u32) {
     EVENTS[which][e]
 }
 
-/// No event has all its values among these.
+/// Whether the assignment is a sample: no event has all its values in it.
 pub fn is_sample(rt: &impl Abort, which: usize, sample: u32) -> bool {
     for e in 0..3 {
         let (names, values) = event(rt, which, e);
@@ -143,11 +143,10 @@ fn cube_of(rt: &impl Abort, alloc: Global, which: usize, e: usize) -> Cube {
     cube
 }
 
-// Where the arrows of the path lead: variables 0, 1 and 2 in a row, with the root before and behind
-// them.
+// The heads of the path: variables 0, 1 and 2 in a row, with the root before and after them.
 static HEADS: [[Option<u32>; 2]; 3] = [[None, Some(1)], [Some(0), Some(2)], [Some(1), None]];
 
-// The listed events of an instance, which aren't the path's.
+// The listed events of an instance other than the path.
 fn events(rt: &impl Abort, alloc: Global, which: usize) -> Vec<(u32, Cube)> {
     let mut rows = Vec::new(alloc);
     for e in 0..3 {
@@ -165,7 +164,7 @@ fn family_of(rt: &impl Abort, alloc: Global, which: usize) -> Family {
     Family::Cycles(arrows(rt, alloc, &HEADS))
 }
 
-// The stacks of these rows. No weight chooses an entry where rows are given.
+// The stacks of these rows. The weights are not used, since the rows are given.
 fn stacks_of(rt: &impl Abort, alloc: Global, rows: u32) -> Stacks {
     let first = [bit(rows, 0), bit(rows, 1), bit(rows, 2)];
     let second = [bit(rows, 3), bit(rows, 4), bit(rows, 5)];
@@ -191,7 +190,7 @@ fn place_of(rt: &impl Abort, cursors: &Cursors) -> u32
     a + 3 * b + 9 * c
 }
 
-// What an end of these rows is.
+// The end of these rows, as numbers.
 fn finish_at(rt: &impl Abort, end: &End, rows: u32) -> Finish
     requires { 3 ≡ length end.now.cursors }
 {

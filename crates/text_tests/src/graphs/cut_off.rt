@@ -1,4 +1,4 @@
-//! The first vertex that is cut off from a root.
+//! The first vertex that is not connected to a root.
 ghost use Rattle.graph_read.specs.Graphs.{IsVertex};
 
 use crate::comparing::is_so;
@@ -7,7 +7,7 @@ use graph_read::{Adjacency, Graph, OtherEnds, first_cut_off};
 use std::alloc::Global;
 use std::process::Abort;
 
-// The first vertex that is cut off from a root, by the other ends of the edges.
+// The first vertex that is not connected to a root, by the other ends of the edges.
 fn cut_off_by_ends(rt: &impl Abort, alloc: Global, graph: &Graph, root: u32) -> Option<u32>
     requires { IsVertex graph.now.vertices root }
 {
@@ -17,7 +17,7 @@ fn cut_off_by_ends(rt: &impl Abort, alloc: Global, graph: &Graph, root: u32) -> 
     found
 }
 
-/// Compares the first vertex that is cut off from a root.
+/// Compares the first vertex that is not connected to a root.
 pub fn is_cut_off(rt: &impl Abort, alloc: Global, graph: &Graph, root: u32, want: Option<u32>) {
     assert!(rt; 1 <= root);
     assert!(rt; root <= graph.vertices());
@@ -27,14 +27,14 @@ pub fn is_cut_off(rt: &impl Abort, alloc: Global, graph: &Graph, root: u32, want
     is_so(rt, by_ends == want, "cut off by ends from", root as u64);
 }
 
-// Compares the first vertex that is cut off from a root in a text.
+// Compares the first vertex that is not connected to a root in the graph of an input.
 fn cuts_off(rt: &impl Abort, alloc: Global, text: &[u8], root: u32, want: Option<u32>) {
     let graph = graph(rt, alloc, text);
     is_cut_off(rt, alloc, &graph, root, want);
     drop(graph);
 }
 
-// Worked by hand: edges lead both ways, and a loop leads nowhere.
+// Worked by hand: edges lead both ways, and a self-loop leads nowhere.
 static CUT_OFF: [(&[u8], u32, Option<u32>); 8] = [
     (b"p edge 3 1\ne 1 2\n", 1, Some(3)),
     (b"p edge 3 1\ne 1 2\n", 3, Some(1)),

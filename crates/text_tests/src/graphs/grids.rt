@@ -26,7 +26,7 @@ static GRID: [Joined; 12] = [
     (8, 9, 1),
 ];
 
-// Compares a grid: how many vertices it has, none of which is cut off from this root, and its edges.
+// Compares a grid: its number of vertices, all of which are connected to this root, and its edges.
 fn is_grid(
     rt: &impl Abort,
     alloc: Global,
@@ -54,7 +54,7 @@ fn a_grid_of_one_vertex_has_no_edge(rt: HostRuntime) {
     drop(graph);
 }
 
-// Compares where edges lead from a vertex of a grid.
+// Compares the neighbours of a vertex of a grid.
 fn leads_in_grid(rt: &impl Abort, neighbours: &mut Vec<u32>, side: u32, vertex: u32, want: &[u32])
     requires side { IsSide side }
     requires vertex { IsVertex (side * side) vertex }

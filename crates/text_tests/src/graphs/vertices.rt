@@ -1,5 +1,5 @@
-//! What stands at the vertices of a graph: the darts of the edges, where they lead, and what they
-//! weigh.
+//! The rows of the vertices of a graph: the darts of the edges, their other ends, and their
+//! weights.
 ghost use Rattle.graph_read.specs.Graphs.{IsVertex};
 
 use super::BY_HAND;
@@ -10,9 +10,9 @@ use pop_rows::FlatRows;
 use std::alloc::Global;
 use std::process::Abort;
 
-// What stands at the vertices of the text by hand, of which edge 0 is a loop at 2, edges 1 and 3
-// lead from 1 to 2, and edge 2 leads from 3 to 1: the darts of the edges, where they lead, and what
-// they weigh. Worked by hand.
+// The rows of the vertices of `BY_HAND`: the darts of the edges, their other ends, and their
+// weights. Edge 0 is a self-loop at 2, edges 1 and 3 join 1 and 2, and edge 2 joins 3 and 1.
+// Worked by hand.
 static DARTS: [&[u32]; 3] = [&[3, 4, 7], &[2, 6], &[5]];
 
 static ENDS: [&[u32]; 3] = [&[2, 3, 2], &[1, 1], &[1]];
@@ -37,7 +37,7 @@ fn each_vertex_has_the_darts_there_but_for_loops(rt: HostRuntime) {
     drop(graph);
 }
 
-// Compares where the edges at a vertex lead.
+// Compares the other ends of the edges at a vertex.
 fn lead_to(rt: &impl Abort, ends: &OtherEnds, neighbours: &mut Vec<u32>, vertex: u32, want: &[u32])
     requires { IsVertex ends.now.vertices vertex }
 {
@@ -48,7 +48,7 @@ fn lead_to(rt: &impl Abort, ends: &OtherEnds, neighbours: &mut Vec<u32>, vertex:
     is_so(rt, are_put, "neighbours of vertex", vertex as u64);
 }
 
-// Compares where the edges at each vertex lead.
+// Compares the other ends of the edges at each vertex.
 fn all_lead(rt: &impl Abort, ends: &OtherEnds, neighbours: &mut Vec<u32>) {
     assert!(rt; ends.graph().vertices() == 3);
     for v in 0..3 {
@@ -93,7 +93,7 @@ fn each_vertex_has_the_weights_of_its_edges(rt: HostRuntime) {
     drop(weights);
 }
 
-// At vertex 1 the second, at vertex 2 the second, and at vertex 3 the first; and the edges there.
+// The second edge at vertex 1, the second at vertex 2, and the first at vertex 3; and these edges.
 static PLACES: [u32; 3] = [2, 2, 1];
 
 static AT_PLACES: [u32; 3] = [2, 3, 2];

@@ -1,12 +1,12 @@
-//! Random multigraphs, and what is drawn with each.
+//! Random multigraphs, and what is drawn for each.
 ghost use Rattle.std.specs.Prelude.{◌<◌, ◌^◌};
 
 use std::alloc::Global;
 use std::process::Abort;
 use test_instances::below;
 
-// The ends of edge i, from 0. The first edges join vertex i + 2 to a vertex before it, so that each
-// is joined to vertex 1; the ends of the others are any vertices.
+// The ends of edge i, from 0. The first edges join vertex i + 2 to a lower vertex, so that each
+// vertex is connected to vertex 1. The ends of the others are any vertices.
 fn ends(state: &mut u64, vertices: u32, i: u32) -> (u32, u32)
     requires { 0 < vertices }
 {
@@ -27,7 +27,7 @@ fn push_edge(rt: &impl Abort, text: &mut String, state: &mut u64, vertices: u32,
     write!(text, "e {u} {v} {weight}\n").expect(rt, "memory");
 }
 
-/// The text of a connected graph of so many vertices, with edges of the weights 1 to 5.
+/// The input of a connected graph with this many vertices, with edges of weights 1 to 5.
 pub fn connected(rt: &impl Abort, alloc: Global, state: &mut u64, vertices: u32) -> String
     requires some { 0 < vertices }
     requires few { vertices < 1000 }
@@ -41,7 +41,7 @@ pub fn connected(rt: &impl Abort, alloc: Global, state: &mut u64, vertices: u32)
     text
 }
 
-/// What a case draws: the root, the byte of its key, and the height.
+/// What is drawn for a case: the root, the byte of its key, and the height.
 #[derive(Clone, Copy)]
 pub struct Draw {
     pub root: u32,

@@ -1,4 +1,4 @@
-//! What is made from the side of a grid, and what comes of the grid's graph.
+//! Arrows and weights that are made from the side of a grid, and those of the grid's graph.
 ghost use Rattle.std.specs.Prelude.{◌<◌, length};
 ghost use Rattle.pop_model.specs.Stacks.{variables_of};
 ghost use Rattle.graph_read.specs.Graphs.{IsVertex};
@@ -14,7 +14,7 @@ use pop_stacks::{StackSpec, Stacks, Weights};
 use std::alloc::Global;
 use std::process::Abort;
 
-// Compares where the slots of a variable lead.
+// Compares the heads of the slots of a variable.
 fn leads(rt: &impl Abort, arrows: &Arrows, v: u32, want: &[Option<u32>]) {
     assert!(rt; v < arrows.count());
     let slots = arrows.slots(v);
@@ -25,7 +25,7 @@ fn leads(rt: &impl Abort, arrows: &Arrows, v: u32, want: &[Option<u32>]) {
     }
 }
 
-// Compares where all slots lead.
+// Compares the heads of all slots.
 fn lead(rt: &impl Abort, arrows: &Arrows, want: &[&[Option<u32>]]) {
     assert!(rt; arrows.count() as usize == want.len());
     for (v, heads) in want.iter().enumerate() {
@@ -44,7 +44,7 @@ fn the_arrows_of_a_grid_lead_to_neighbours(rt: HostRuntime) {
     drop(arrows);
 }
 
-// Compares the slots of a variable with those of the same variable of others.
+// Compares the slots of a variable in two sets of arrows.
 fn same_slots(rt: &impl Abort, made: &Arrows, want: &Arrows, v: u32)
     requires made { v < length made.now }
     requires want { v < length want.now }
@@ -79,7 +79,7 @@ fn has_arrows_of(rt: &impl Abort, alloc: Global, graph: &Graph, side: u32)
     drop(want);
 }
 
-// Compares how many values a variable has over two stacks, and its first value.
+// Compares the number of values of a variable in two stacks, and its first value.
 fn same_value(rt: &impl Abort, made: &Stacks, want: &Stacks, v: u32)
     requires made { v < variables_of made.now }
     requires want { v < variables_of want.now }
@@ -134,7 +134,7 @@ fn has_weights_of(rt: &impl Abort, alloc: Global, graph: &Graph, side: u32)
     drop(want);
 }
 
-// Compares what is made from a side with what comes of the grid's graph.
+// Compares arrows and weights that are made from a side with those of the grid's graph.
 fn is_as_of_graph(rt: &impl Abort, alloc: Global, side: u32)
     requires { IsSide side }
 {

@@ -1,4 +1,5 @@
-//! Random multigraphs, with loops and parallel edges: the runs to their trees end alike.
+//! Random multigraphs, with self-loops and parallel edges: the runs to their trees have the same
+//! end.
 ghost use Rattle.std.specs.Prelude.{◌≡◌, ◌<◌, ◌^◌, length};
 ghost use Rattle.pop_model.specs.Stacks.{variables_of};
 ghost use Rattle.cycle_popping.specs.Walks.{AreCycles};
@@ -25,7 +26,7 @@ fn same_stuck(rt: &impl Abort, found: &Stuck, want: &Stuck, i: u32) {
     }
 }
 
-// Compares two ends over so many variables, of graph i.
+// Compares two ends over this many variables, of graph i.
 fn end_alike(rt: &impl Abort, found: &End, want: &End, count: u32, i: u32)
     requires found { count ≡ length found.now.cursors }
     requires want { count ≡ length want.now.cursors }
@@ -36,7 +37,7 @@ fn end_alike(rt: &impl Abort, found: &End, want: &End, count: u32, i: u32)
     same_stuck(rt, &found.stuck, &want.stuck, i);
 }
 
-// Where the arrow of a variable leads at an entry.
+// The head of the arrow of a variable at an entry.
 fn head_at(rt: &impl Abort, stacks: &Stacks, arrows: &Arrows, v: u32, k: u32) -> Option<u32>
     requires stacks { v < variables_of stacks.now }
     requires arrows { v < length arrows.now }
@@ -49,7 +50,7 @@ fn head_at(rt: &impl Abort, stacks: &Stacks, arrows: &Arrows, v: u32, k: u32) ->
     arrows.head(v, slot)
 }
 
-// Where the arrow of each variable leads at cursors.
+// The heads of the arrows of all variables at cursors.
 fn heads_at(
     rt: &impl Abort,
     alloc: Global,
@@ -68,7 +69,7 @@ fn heads_at(
     heads
 }
 
-// Where the current arrow of each variable leads at an end.
+// The heads of the current arrows of all variables at an end.
 fn current_heads(rt: &impl Abort, alloc: Global, instance: &Instance, end: &End) -> Vec<Option<u32>>
     requires { variables_of instance.now.stacks ≡ length end.now.cursors }
 {
@@ -80,7 +81,7 @@ fn current_heads(rt: &impl Abort, alloc: Global, instance: &Instance, end: &End)
     heads_at(rt, alloc, stacks, arrows, &end.cursors)
 }
 
-// Whether the way along these heads from a variable comes to the root, in at most as many steps as
+// Whether the path along these heads from a variable reaches the root in at most as many steps as
 // there are variables.
 fn leads_to_root(heads: &[Option<u32>], v: usize) -> bool {
     let mut at = v;
@@ -94,7 +95,7 @@ fn leads_to_root(heads: &[Option<u32>], v: usize) -> bool {
     false
 }
 
-// Whether the ways from all variables come to the root.
+// Whether the paths from all variables reach the root.
 fn lead_to_root(heads: &[Option<u32>]) -> bool {
     for v in 0..heads.len() {
         if !leads_to_root(heads, v) {
@@ -104,7 +105,7 @@ fn lead_to_root(heads: &[Option<u32>]) -> bool {
     true
 }
 
-// Compares how many records the log of a run has, where one was asked for, with its pops.
+// Compares the number of records of a run's log, if it has one, with its pops.
 fn has_records(rt: &impl Abort, run: &Run, i: u32) {
     let Some(log) = &run.log else {
         panic!(rt; "no log")
@@ -132,7 +133,8 @@ fn walks_end_alike(rt: &impl Abort, alloc: Global, instance: &Instance, want: &E
     drop(end);
 }
 
-// The arrows of so many vertices but the root, of graph i, lead from each to the root.
+// Checks that the arrows of graph i lead from each vertex to the root. They are those of this many
+// vertices, without the root.
 fn are_tree(rt: &impl Abort, heads: &[Option<u32>], vertices: u32, i: u32)
     requires { 0 < vertices }
 {
@@ -150,7 +152,7 @@ fn are_tree(rt: &impl Abort, heads: &[Option<u32>], vertices: u32, i: u32)
     );
 }
 
-// Whether an end has a stuck cycle. Where it has none, the arrows there lead to the root.
+// Whether an end has a stuck cycle. If it has none, the arrows there must lead to the root.
 fn is_stuck(
     rt: &impl Abort,
     alloc: Global,
@@ -171,8 +173,8 @@ fn is_stuck(
     false
 }
 
-// Whether the runs of an instance over so many vertices, which all end alike, end with a stuck
-// cycle. A stack of one entry has no next one.
+// Whether the runs of an instance over this many vertices, which must all have the same end, end
+// with a stuck cycle. A stack of one entry has no next entry.
 fn runs_exhausted(
     rt: &impl Abort,
     alloc: Global,
@@ -203,7 +205,7 @@ fn drawn_trees(rt: &impl Abort, alloc: Global, text: &str, draw: Draw) -> Instan
     trees(rt, alloc, text.as_bytes(), draw.root, spec, draw.height)
 }
 
-// Draws graph i, and tells whether the runs to its trees end with a stuck cycle.
+// Draws graph i, and returns whether the runs to its trees end with a stuck cycle.
 fn is_drawn_exhausted(rt: &impl Abort, alloc: Global, state: &mut u64, i: u32) -> bool {
     let vertices = 1 + i % 12;
     let text = connected(rt, alloc, state, vertices);

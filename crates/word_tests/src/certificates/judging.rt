@@ -1,22 +1,22 @@
-//! How texts are judged.
+//! Which bytes are accepted as certificates.
 use super::paused::{TEXT, is_it};
 use run_cert::{Cert, CertRefusal, read_cert};
 use std::alloc::Global;
 use std::process::Abort;
 
-// How a text is judged.
+// The result of reading bytes as a certificate.
 #[derive(Clone, Copy, PartialEq, Eq)]
 enum Verdict {
     // It is the certificate of the paused run.
     Itself,
     // It is another certificate.
     Another,
-    // It is refused at this line by this code.
+    // It is rejected at this line with this code.
     Refused(u64, u32),
     OutOfMemory,
 }
 
-// How a certificate is judged.
+// Compares a certificate with that of the paused run.
 fn judge_cert(cert: &Cert) -> Verdict {
     if is_it(cert) {
         return Verdict::Itself;
@@ -32,14 +32,14 @@ fn judge(alloc: Global, text: &[u8]) -> Verdict {
     }
 }
 
-// Compares how a text is judged.
+// Compares the result of reading a text.
 fn is_judged(rt: &impl Abort, alloc: Global, text: &[u8], wanted: Verdict, what: &str, place: u64) {
     let verdict = judge(alloc, text);
     assert!(rt; verdict == wanted, "{what} {place}");
 }
 
-// How the first bytes of the text are to be judged: its lines end behind the bytes 15, 28 and 37,
-// its input behind byte 51, and behind that a log text may be of any length.
+// The expected result for a prefix of the text. Its lines end after the bytes 15, 28 and 37, and
+// its input after byte 51. After that the text of the log may have any length.
 fn cut_verdict(length: usize) -> Verdict {
     match length {
         0..=14 => Verdict::Refused(1, 21),
@@ -60,10 +60,10 @@ fn each_cut_is_judged_at_its_line(rt: HostRuntime) {
     }
 }
 
-// How the text is to be judged with another byte at a place, worked by hand. The numbers of the row
-// stand at 22, 24 and 26, the signs between them at 23 and 25, and the size of the input, 14, at 34
-// and 35; 34 bytes follow its line. A line end in the head makes the line behind it bad, but behind
-// `input 1`.
+// The expected result for the text with another byte at a place, worked by hand. The numbers of
+// the row are at 22, 24 and 26, and the separators between them at 23 and 25. The size of the
+// input, 14, is at 34 and 35, and 34 bytes follow its line. A line end in the head makes the line
+// after it invalid, except after `input 1`.
 fn changed_verdict(at: usize, byte: u8) -> Verdict {
     match (at, byte) {
         (22 | 24 | 26, b'0'..=b'9') | (23 | 25, b';') => Verdict::Another,
@@ -77,7 +77,7 @@ fn changed_verdict(at: usize, byte: u8) -> Verdict {
     }
 }
 
-// Judges the text with each other byte at a place.
+// Reads the text with each other byte at a place.
 fn judge_changes(rt: &impl Abort, alloc: Global, at: usize) {
     let mut text = TEXT;
     assert!(rt; at < 71);
@@ -96,7 +96,7 @@ fn each_changed_byte_is_judged(rt: HostRuntime) {
     }
 }
 
-// Heads, and how they are judged, worked by hand.
+// Heads, and the results of reading them, worked by hand.
 static HEADS: [(&str, u64, u32); 24] = [
     ("cert 2 formula\n", 1, 21),
     ("cert 1 check\n", 1, 21),
@@ -133,13 +133,13 @@ fn heads_are_refused_at_their_first_bad_line(rt: HostRuntime) {
     }
 }
 
-// 64 digits of a key, and the same with a digit of upper case.
+// 64 digits of a key, and the same with an upper-case digit.
 const DIGITS: &str = "00000000000000000000000000000000000000000000000000000000000000ab";
 
 const UPPER: &str = "00000000000000000000000000000000000000000000000000000000000000aB";
 
-// The digits of a key, what stands behind them in the head of an orientation, and how that is
-// judged, worked by hand.
+// The digits of a key, what follows them in the head of an orientation, and the result of reading
+// it, worked by hand.
 static KEYED: [(&str, &str, Verdict); 10] = [
     (DIGITS, "\nheight 7\ninput 0\n", Verdict::Another),
     (DIGITS, "\nheight 2147483647\ninput 0\n", Verdict::Another),
@@ -161,7 +161,7 @@ static KEYED: [(&str, &str, Verdict); 10] = [
     ("ab", "\nheight 7\ninput 0\n", Verdict::Refused(2, 21)),
 ];
 
-// The head of an orientation with these digits of a key and these bytes behind them.
+// The head of an orientation with these digits of a key and these bytes after them.
 fn keyed(rt: &impl Abort, alloc: Global, digits: &str, rest: &str) -> String {
     let mut text = String::from_str(alloc, "cert 1 orient\nkey ").expect(rt, "memory");
     text.push_str(digits).expect(rt, "memory");

@@ -1,17 +1,17 @@
-//! The certificate of a run that was paused after one pop, worked by hand: the formula of the one
-//! clause `1`, over the row 0, 0, 1.
+//! The certificate of a run that was paused after one pop, worked by hand: the formula with the
+//! one clause `1`, over the row 0, 0, 1.
 use pop_stacks::{Rows, StackSpec};
 use pop_words::Command;
 use run_cert::Cert;
 
-/// Its text.
+/// The text of the certificate.
 pub static TEXT: [u8; 71] =
     *b"cert 1 formula\nstacks 0,0,1\ninput 14\np cnf 1 1\n1 0\nlog 2 1\npop 1 1 1:0\n";
 
 /// Its input.
 pub static INPUT: [u8; 14] = *b"p cnf 1 1\n1 0\n";
 
-/// Its log text.
+/// The text of its log.
 pub const LOG_TEXT: &str = "log 2 1\npop 1 1 1:0\n";
 
 // Whether these are the one row 0, 0, 1.

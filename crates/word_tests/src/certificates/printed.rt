@@ -1,4 +1,4 @@
-//! What is printed of a job, and what is read of it.
+//! Certificates of jobs, printed and read back.
 use super::{same_at, same_bytes};
 use crate::words::read_line;
 use pop_words::Job;
@@ -6,7 +6,7 @@ use run_cert::{Cert, print_cert, read_cert};
 use std::alloc::Global;
 use std::process::Abort;
 
-/// The job of a line, whose words have one space between them.
+/// The job of a line of arguments, which are separated by one space.
 pub fn job_of(rt: &impl Abort, alloc: Global, line: &str) -> Job {
     read_line(rt, alloc, line).expect(rt, "a job")
 }
@@ -44,20 +44,20 @@ static HEADS: [(&str, &str); 7] = [
     ),
 ];
 
-// The same head with that input and a log text behind it.
+// This head with that input and the text of a log after it.
 fn whole(rt: &impl Abort, alloc: Global, head: &str) -> String {
     let mut text = String::from_str(alloc, head).expect(rt, "memory");
     text.push_str("a\nblog 2 0\n").expect(rt, "memory");
     text
 }
 
-// Prints the certificate of a job with that input and that log text, and compares it.
+// Prints the certificate of a job with that input and that log, and compares it.
 fn prints(rt: &impl Abort, alloc: Global, job: &Job, text: &str) {
     let printed = print_cert(alloc, job, b"a\nb", b"log 2 0\n").expect(rt, "memory");
     same_bytes(rt, &printed, text.as_bytes(), text);
 }
 
-// Compares what a certificate says with the job.
+// Compares a certificate with the job.
 fn says(rt: &impl Abort, cert: &Cert, job: &Job, text: &str) {
     assert!(rt; cert.command() == job.command, "{text}");
     same_at(rt, cert.height() as u64, job.height as u64, text, 0);
@@ -66,7 +66,7 @@ fn says(rt: &impl Abort, cert: &Cert, job: &Job, text: &str) {
     same_bytes(rt, cert.log_text(), b"log 2 0\n", text);
 }
 
-// Reads the text, and compares what it says with the job.
+// Reads the text, and compares the certificate with the job.
 fn reads(rt: &impl Abort, alloc: Global, job: &Job, text: &str) {
     let cert = read_cert(alloc, text.as_bytes()).expect(rt, "a certificate");
     says(rt, &cert, job, text);

@@ -1,5 +1,6 @@
-//! Rings of variables, each with an arrow to the next one and an arrow to the variable before it,
-//! whose runs are stopped at every limit and compared with the run of first events.
+//! Rings of variables, each with an arrow to the next one and an arrow to the variable before it.
+//! Their runs are stopped at every limit and compared with the run that always pops the first
+//! event.
 ghost use Rattle.std.specs.Prelude.{◌≡◌, length};
 ghost use Rattle.pop_model.specs.Stacks.{variables_of};
 ghost use Rattle.pop_model.specs.Popping.{AreWithin};
@@ -12,8 +13,8 @@ use std::alloc::Global;
 use std::process::Abort;
 use test_instances::{arrows, keyed, over};
 
-// The two heads of each of so many variables in a ring: the next one, and the one before it;
-// variable 0 leads to the root.
+// The two heads of each of this many variables in a ring: the next one, and the one before it.
+// Variable 0 leads to the root.
 fn heads(rt: &impl Abort, alloc: Global, count: u32) -> Vec<[Option<u32>; 2]> {
     let mut heads = Vec::new(alloc);
     for v in 0..count {
@@ -25,14 +26,15 @@ fn heads(rt: &impl Abort, alloc: Global, count: u32) -> Vec<[Option<u32>; 2]> {
     heads
 }
 
-// The cycles of a ring of so many variables.
+// The cycles of a ring of this many variables.
 fn cycles(rt: &impl Abort, alloc: Global, count: u32) -> Family {
     let heads = heads(rt, alloc, count);
     Family::Cycles(made(rt, arrows(alloc, &heads), "arrows"))
 }
 
-// Compares what a run to a limit leaves with the end of the run of first events: as many records as
-// the limit says, or as many as the end has pops; open exactly where there are fewer.
+// Compares a run to a limit with the end of the run of first events. It must have as many records
+// as the limit says, or as the end has pops if these are fewer. It must be open exactly if it has
+// fewer records than the end has pops.
 fn is_stopped(rt: &impl Abort, part: &Part, limit: u64, end: &End) {
     same_at(rt, part.log.len(), limit.min(end.pops), "limit", limit);
     let is_open = part.seen.look == Look::Open;
@@ -42,7 +44,7 @@ fn is_stopped(rt: &impl Abort, part: &Part, limit: u64, end: &End) {
     assert!(rt; is_finished == is_free);
 }
 
-// Compares what a run that wasn't stopped leaves with the end of the run of first events.
+// Compares a run that was not stopped with the end of the run of first events.
 fn is_end(rt: &impl Abort, count: u32, part: &Part, end: &End)
     requires part { count ≡ length part.now.cursors }
     requires end { count ≡ length end.now.cursors }
@@ -55,7 +57,7 @@ fn is_end(rt: &impl Abort, count: u32, part: &Part, end: &End)
     same_at(rt, part.seen.stuck.len(), end.stuck.len(), "end", end.pops);
 }
 
-// Looks once more at what a run to a limit leaves.
+// Compares the state at the cursors of a run to a limit once more.
 fn looks_again(rt: &impl Abort, alloc: Global, instance: &Instance, part: &Part, limit: u64)
     requires count { variables_of instance.now.stacks ≡ length part.now.cursors }
     requires within { AreWithin instance.now.stacks part.now.cursors }
@@ -66,7 +68,7 @@ fn looks_again(rt: &impl Abort, alloc: Global, instance: &Instance, part: &Part,
     same_at(rt, seen.stuck.len(), stuck, "limit", limit);
 }
 
-// Stops the run of an instance at a limit, and looks at what it leaves.
+// Stops the run of an instance at a limit, and compares it.
 fn stop(rt: &impl Abort, alloc: Global, instance: &Instance, limit: u64, end: &End)
     requires count { variables_of instance.now.stacks ≡ length end.now.cursors }
 {
@@ -78,7 +80,8 @@ fn stop(rt: &impl Abort, alloc: Global, instance: &Instance, limit: u64, end: &E
     looks_again(rt, alloc, instance, &part, limit);
 }
 
-// Stops the run of an instance at each limit, up to two more than its pops. Returns the pops.
+// Stops the run of an instance at each limit, up to two more than its pops. Returns the number of
+// pops.
 fn stop_at_each(rt: &impl Abort, alloc: Global, instance: &Instance) -> u64 {
     let end = run_first(alloc, instance).expect(rt, "memory");
     assert!(rt; end.pops < 100000);
@@ -88,7 +91,7 @@ fn stop_at_each(rt: &impl Abort, alloc: Global, instance: &Instance) -> u64 {
     end.pops
 }
 
-// How many variables there are, the byte of the key, and the height.
+// The number of variables, the byte of the key, and the height.
 static RINGS: [(u32, u8, u32); 8] = [
     (1, 0, 5),
     (2, 0, 5),
@@ -100,8 +103,8 @@ static RINGS: [(u32, u8, u32); 8] = [
     (30, 77, 900),
 ];
 
-// Makes a ring of so many variables, over stacks of this height under a key of 32 such bytes, and
-// stops its run at each limit. Returns the pops.
+// Makes a ring of this many variables, over stacks of this height under a key that has this byte
+// 32 times. Stops its run at each limit, and returns the number of pops.
 fn stop_ring(rt: &impl Abort, alloc: Global, count: u32, key: u8, height: u32) -> u64 {
     let family = cycles(rt, alloc, count);
     let stacks = made(rt, keyed(key, count, height), "stacks");

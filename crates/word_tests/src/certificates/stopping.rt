@@ -1,4 +1,4 @@
-//! A run of one clause that is stopped, told, read and looked at.
+//! A run of one clause that is stopped, printed, read and checked.
 ghost use Rattle.std.specs.Prelude.{◌≡◌, length};
 
 use super::paused::{INPUT, LOG_TEXT, TEXT, is_it};
@@ -11,15 +11,15 @@ use std::alloc::Global;
 use std::process::Abort;
 use test_instances::listed;
 
-// The instance of the clause `1` over the row 0, 0, 1: the event is that its variable has the
+// The instance of the clause `1` over the row 0, 0, 1. Its event is that the variable has the
 // value 0.
 fn one_clause(rt: &impl Abort, alloc: Global) -> Instance {
     let tried = listed(alloc, &[&[0, 0, 1]], &[(1, &[(0, 0)])]);
     made(rt, tried, "an instance")
 }
 
-// Limits, and what a run to them leaves: the records of its log, which are as many as the popped
-// entries, its look, and how many events occur. Worked by hand.
+// Limits, and the expected runs: the number of records of the log, which is that of the popped
+// entries; the state; and the number of events that occur. Worked by hand.
 static LIMITS: [(u64, u64, Look, u64); 5] = [
     (0, 0, Look::Open, 1),
     (1, 1, Look::Open, 1),
@@ -28,8 +28,8 @@ static LIMITS: [(u64, u64, Look, u64); 5] = [
     (u64::MAX, 2, Look::Finished, 0),
 ];
 
-// Compares how a run of the one variable stands: the records of its log, which are as many as the
-// popped entries, and its look.
+// Compares a run of the one variable: the number of records of its log, which is that of the
+// popped entries, and its state.
 fn stands(
     rt: &impl Abort,
     cursors: &Cursors,
@@ -48,7 +48,7 @@ fn stands(
     looks_at(rt, found.1, look, place);
 }
 
-// Compares what a run to a limit leaves.
+// Compares a run to a limit.
 fn leaves(
     rt: &impl Abort,
     alloc: Global,
@@ -78,7 +78,7 @@ fn a_run_stops_at_its_limit(rt: HostRuntime) {
     drop(instance);
 }
 
-// The log text of a run to one pop.
+// The text of the log of a run for one pop.
 fn pause_log(rt: &impl Abort, alloc: Global, instance: &Instance) -> Vec<u8> {
     let part = run_part(alloc, instance, 1).expect(rt, "memory");
     looks_at(rt, part.seen.look, Look::Open, 1);
@@ -99,7 +99,7 @@ fn reads(rt: &impl Abort, alloc: Global, text: &[u8]) {
     assert!(rt; is_it);
 }
 
-// Tells the run of that instance to one pop, and reads what is told.
+// Prints the certificate of the run of that instance for one pop, and reads it.
 fn is_told(rt: &impl Abort, alloc: Global, instance: &Instance) {
     let text = pause(rt, alloc, instance);
     same_bytes(rt, &text, TEXT.as_slice(), "text");
@@ -113,15 +113,15 @@ fn a_paused_run_is_told(rt: HostRuntime) {
     drop(instance);
 }
 
-// Log texts, and what they leave: the popped entries of the one variable, which are as many as the
-// records, and the look. Worked by hand.
+// Texts of logs, and the runs that they denote: the number of popped entries of the one variable,
+// which is that of the records, and the state. Worked by hand.
 static TOLD: [(&str, u64, Look); 3] = [
     ("log 1 0\n", 0, Look::Open),
     (LOG_TEXT, 1, Look::Open),
     ("log 1 2\npop 1 1:0\npop 1 1:1\n", 2, Look::Finished),
 ];
 
-// Reads a log text, and compares what it leaves.
+// Reads the text of a log, and compares its run.
 fn tells(rt: &impl Abort, alloc: Global, instance: &Instance, text: &[u8], wanted: (u64, Look)) {
     let run = read_run(alloc, instance, &Names::Plain, text).expect(rt, "a run");
     let seen = look(alloc, instance, &run.cursors).expect(rt, "memory");
@@ -130,7 +130,7 @@ fn tells(rt: &impl Abort, alloc: Global, instance: &Instance, text: &[u8], wante
     stands(rt, &run.cursors, count, found, wanted, wanted.0);
 }
 
-// Reads each of these log texts.
+// Reads each of these logs.
 fn tells_each(rt: &impl Abort, alloc: Global, instance: &Instance) {
     for (text, pops, look) in TOLD.iter() {
         tells(rt, alloc, instance, text.as_bytes(), (*pops, *look));
@@ -144,7 +144,7 @@ fn a_log_text_tells_how_a_run_stands(rt: HostRuntime) {
     drop(instance);
 }
 
-// Reads a log text whose first record isn't legal.
+// Reads the text of a log with a first record that is not legal.
 fn is_refused(rt: &impl Abort, alloc: Global, instance: &Instance, text: &[u8]) {
     match read_run(alloc, instance, &Names::Plain, text) {
         Ok(_) => panic!(rt; "a legal log"),
@@ -152,13 +152,13 @@ fn is_refused(rt: &impl Abort, alloc: Global, instance: &Instance, text: &[u8]) 
     }
 }
 
-// Reads the log text of a certificate of that instance.
+// Reads the log of a certificate of that instance.
 fn reads_refused(rt: &impl Abort, alloc: Global, instance: &Instance, text: &[u8]) {
     let cert = read_cert(alloc, text).expect(rt, "a certificate");
     is_refused(rt, alloc, instance, cert.log_text());
 }
 
-// The entry 1 isn't that of the first pop.
+// The entry 1 is not that of the first pop.
 #[test]
 fn a_changed_entry_is_no_legal_log(rt: HostRuntime) {
     let mut text = TEXT;

@@ -1,7 +1,7 @@
-// Lines of words about runs that may stop before their end and about their certificates, with what
-// they ask for or the place of their first bad word. Worked by hand.
+// Lines of arguments about runs that may be stopped and about their certificates, with the jobs
+// that they specify or the place of the first invalid argument. Worked by hand.
 
-/// Lines of the grammar, each with its command and what isn't a default; `Z` is 64 zeros.
+/// Valid lines, each with its command and what differs from the defaults. `Z` is 64 zeros.
 pub static CERTIFIED: [(&str, &str); 13] = [
     ("formula --pops 1", "formula pops 1"),
     ("formula --pops 4294967295", "formula pops 4294967295"),
@@ -27,7 +27,7 @@ pub static CERTIFIED: [(&str, &str); 13] = [
     ("resume --board words --workers 64", "resume workers 64"),
 ];
 
-/// Lines outside the grammar.
+/// Invalid lines.
 pub static UNCERTIFIED: [(&str, u32); 64] = [
     ("check --pops 4", 2),
     ("make --pops 4 grid 2", 2),

@@ -1,9 +1,10 @@
-// Rows that are as many as they may be, and one more. Worked by hand.
+// The largest allowed numbers of rows, and one more. Worked by hand.
 
-/// How a line begins, what stands how often behind it, how it ends, and whether it is refused.
+/// The start of a line, what follows it how many times, the end of the line, and whether it is
+/// rejected.
 pub type Limit = (&'static str, &'static str, u32, &'static str, bool);
 
-/// Rows at their limits, 2^22 rows and 2^20 numbers in one row and in as many.
+/// Rows at their limits: 2^22 rows, and 2^20 numbers, in one row and in as many rows.
 pub static LIMITS: [Limit; 6] = [
     ("formula --stacks ", ";", 4194303, "", false),
     ("formula --stacks ", ";", 4194304, "", true),

@@ -1,6 +1,7 @@
-// Lines of words, with what they ask for or the place of their first bad word. Worked by hand.
+// Lines of arguments, with the jobs that they specify or the place of the first invalid argument.
+// Worked by hand.
 
-/// Lines of the grammar, each with its command and what isn't a default; `Z` is 64 zeros.
+/// Valid lines, each with its command and what differs from the defaults. `Z` is 64 zeros.
 pub static ACCEPTED: [(&str, &str); 89] = [
     ("formula", "formula"),
     ("check", "check"),
@@ -171,7 +172,7 @@ pub static ACCEPTED: [(&str, &str); 89] = [
     ("tree --root 3 --count 4", "tree count 4 root 3"),
 ];
 
-/// Lines outside the grammar: 64 zeros are a key, 63 and 65 aren't.
+/// Invalid lines. 64 zeros are a key; 63 and 65 are not.
 pub static REFUSED: [(&str, u32); 204] = [
     ("", 1),
     ("Formula", 1),

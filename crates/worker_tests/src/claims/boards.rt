@@ -16,15 +16,15 @@ use std::thread;
 use std::thread::Threads;
 use test_instances::are_cursors_alike;
 
-// How many boards are tried, and how many threads work on each.
+// The number of boards that are tried, and the number of threads on each.
 const BOARDS: u32 = 1000;
 
 const THREADS: u32 = 2;
 
-// The most turns of a thread at one board.
+// The largest number of turns of a thread on one board.
 const TURNS: u32 = 10000;
 
-// A pass of share 1, by which another thread works.
+// A pass of share 1, for another thread.
 fn helper(board: &Board, pass: &mut Pass) -> Pass
     requires pass { IsOf board.now pass.old × IsIdle pass.old }
     requires share { 1 < (view pass.old).share }
@@ -35,7 +35,7 @@ fn helper(board: &Board, pass: &mut Pass) -> Pass
     board.split(pass, 1)
 }
 
-// So many passes of share 1.
+// This many passes of share 1.
 fn hand_out(
     rt: &impl Abort,
     alloc: Global,
@@ -56,7 +56,7 @@ fn hand_out(
     passes
 }
 
-// The work of one thread: its pass again.
+// The work of one thread. It returns its pass.
 fn worked(
     rt: &impl Abort,
     alloc: Global,
@@ -72,7 +72,7 @@ fn worked(
     pass
 }
 
-// Takes the passes in again.
+// Joins the passes again.
 fn take_back(rt: &impl Abort, board: &Board, pass: &mut Pass, passes: Vec<Pass>)
     requires pass { IsOf board.now pass.old × IsIdle pass.old }
     requires passes { All (IsHelper board.now) passes.items }
@@ -107,7 +107,7 @@ fn work_together<R: Threads + Abort + Sync>(
     take_back(rt, board, pass, back.expect(rt, "threads"));
 }
 
-// Works alone to the end of a board, where the pass has all shares again.
+// Works alone to the end of a board. The pass must have all shares again.
 fn work_to_end(rt: &impl Abort, alloc: Global, board: &Board, pass: &mut Pass, instance: &Instance)
     requires pass { IsOf board.now pass.old × IsIdle pass.old }
     requires instance { instance_of board.now ≡ instance.now }
@@ -130,7 +130,8 @@ fn close_together<R: Threads + Abort + Sync>(rt: &R, alloc: Global, instance: &I
     close(rt, board, pass)
 }
 
-// Compares what a board left with an end: its pops, which its log has too.
+// Compares a closed board with an end: its number of pops, which must be that of its log's
+// records.
 fn pops_alike(rt: &impl Abort, closed: &Closed, pops: u64) {
     same(rt, closed.pops, pops, "pops");
     let Some(log) = &closed.log else {
@@ -139,7 +140,7 @@ fn pops_alike(rt: &impl Abort, closed: &Closed, pops: u64) {
     same(rt, log.len(), pops, "tickets");
 }
 
-// Compares what a board leaves with the end of the one-thread run.
+// Compares a closed board with the end of the one-thread run.
 fn ends_as<R: Threads + Abort + Sync>(rt: &R, alloc: Global, instance: &Instance, end: &End)
     requires { variables_of instance.now.stacks ≡ length end.now.cursors }
 {
@@ -151,7 +152,8 @@ fn ends_as<R: Threads + Abort + Sync>(rt: &R, alloc: Global, instance: &Instance
     drop(closed);
 }
 
-// Compares what a board left with the one-thread run: the pops that the threads made.
+// Compares a closed board with the one-thread run. Returns the number of pops that the threads
+// made.
 fn ends_alike<R: Threads + Abort + Sync>(rt: &R, alloc: Global, instance: &Instance) -> u64 {
     let end = run_first(alloc, instance).expect(rt, "memory");
     ends_as(rt, alloc, instance, &end);
@@ -160,7 +162,7 @@ fn ends_alike<R: Threads + Abort + Sync>(rt: &R, alloc: Global, instance: &Insta
     pops
 }
 
-// The next random instance: a chain for each even board, else a tree.
+// The next random instance: a chain for each even board, and a tree for each odd one.
 fn instance_for(rt: &impl Abort, alloc: Global, board: u32, state: &mut u64) -> Instance {
     if board % 2 == 0 {
         return chain(rt, alloc, state);
@@ -168,7 +170,7 @@ fn instance_for(rt: &impl Abort, alloc: Global, board: u32, state: &mut u64) -> 
     tree(rt, alloc, state)
 }
 
-// Compares the ends of the next board: its pops.
+// Compares the ends of the next board. Returns its number of pops.
 fn board_ends_alike<R: Threads + Abort + Sync>(
     rt: &R,
     alloc: Global,

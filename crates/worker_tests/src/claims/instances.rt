@@ -6,7 +6,7 @@ use std::alloc::Global;
 use std::process::Abort;
 use test_instances::{below, cube, family, keyed, over};
 
-// The event that variables 2i, 2i + 1 and 2i + 2 have these values.
+// The event that demands these values of variables 2i, 2i + 1 and 2i + 2.
 fn link(rt: &impl Abort, alloc: Global, i: u32, values: [u32; 3]) -> Cube {
     assert!(rt; i < 1000);
     let pairs = [
@@ -17,8 +17,8 @@ fn link(rt: &impl Abort, alloc: Global, i: u32, values: [u32; 3]) -> Cube {
     made(rt, cube(alloc, &pairs))
 }
 
-// So many events of three variables. Each shares its last variable with the next, of which they
-// demand different values: so they are extremal.
+// This many events of three variables. Each shares its last variable with the next one, and the
+// two demand different values of it. So they are extremal.
 fn links_of(rt: &impl Abort, alloc: Global, state: &mut u64, links: u32) -> Vec<(u32, Cube)> {
     let mut rows = Vec::new(alloc);
     let mut first = below(state, 2);
@@ -32,8 +32,8 @@ fn links_of(rt: &impl Abort, alloc: Global, state: &mut u64, links: u32) -> Vec<
     rows
 }
 
-// The instance of a family over so many variables, with stacks of a random height up to 6 under a
-// random key.
+// The instance of a family over this many variables, with stacks of a random height up to 6 under
+// a random key.
 fn over_drawn(rt: &impl Abort, state: &mut u64, count: u32, family: Family) -> Instance {
     let key = below(state, 256) as u8;
     let height = 1 + below(state, 6);
@@ -41,7 +41,7 @@ fn over_drawn(rt: &impl Abort, state: &mut u64, count: u32, family: Family) -> I
     made(rt, over(stacks, family))
 }
 
-// A chain of up to 6 such events.
+// A chain of up to 6 events.
 pub(super) fn chain(rt: &impl Abort, alloc: Global, state: &mut u64) -> Instance {
     let links = 1 + below(state, 6);
     let rows = links_of(rt, alloc, state, links);

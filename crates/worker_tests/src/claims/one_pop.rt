@@ -27,10 +27,10 @@ use test_instances::{EventRow, listed};
 // Two variables with the entries 0 and 1.
 static ROWS: [&[u32]; 2] = [&[0, 1], &[0, 1]];
 
-// The clauses `1 2` and `-1 2`: unit 0 demands 0 of both variables, unit 1 demands 1 and 0.
+// The clauses `1 2` and `-1 2`. Unit 0 demands 0 of both variables, unit 1 demands 1 and 0.
 static EVENTS: [EventRow; 2] = [(1, &[(0, 0), (1, 0)]), (2, &[(0, 1), (1, 0)])];
 
-// Takes the mark of a unit, which is set, and looks at it again: it is gone.
+// Takes the mark of a unit, which must be set, and takes it again: now it must not be set.
 fn take_once(rt: &impl Abort, board: &Board, pass: &mut Pass, unit: u32)
     requires pass { IsOf board.now pass.old }
     requires known { unit < marks_of board.now }
@@ -48,7 +48,7 @@ fn take_once(rt: &impl Abort, board: &Board, pass: &mut Pass, unit: u32)
     assert!(rt; !again);
 }
 
-// Claims a variable that is free: its cursor.
+// Claims a variable that is free, and returns its cursor.
 fn claim_free(rt: &impl Abort, board: &Board, pass: &mut Pass, v: u32) -> u32
     requires pass { IsOf board.now pass.old }
     requires known { v < count_of board.now }
@@ -67,7 +67,7 @@ fn claim_free(rt: &impl Abort, board: &Board, pass: &mut Pass, v: u32) -> u32
     }
 }
 
-// Claims a variable that is claimed: its word.
+// Claims a variable that is claimed, and returns its word.
 fn claim_again(rt: &impl Abort, board: &Board, pass: &mut Pass, v: u32) -> u64
     requires pass { IsOf board.now pass.old }
     requires known { v < count_of board.now }
@@ -92,7 +92,8 @@ fn cursors_of(rt: &impl Abort, alloc: Global, first: u32, second: u32) -> Cursor
     Cursors::of(vec![in alloc; first, second].expect(rt, "memory"))
 }
 
-// Claims both variables, the first of them twice: their cursors. Bit 63 is 9223372036854775808.
+// Claims both variables, the first of them twice, and returns their cursors. Bit 63 is
+// 9223372036854775808.
 fn claim_both(rt: &impl Abort, alloc: Global, board: &Board, pass: &mut Pass) -> Cursors
     requires pass { IsOf board.now pass.old }
     requires free { (view pass.old).held ≡ [] }
@@ -112,7 +113,7 @@ fn claim_both(rt: &impl Abort, alloc: Global, board: &Board, pass: &mut Pass) ->
     cursors_of(rt, alloc, first, second)
 }
 
-// The poppable event of least unit.
+// The poppable event with the lowest unit.
 fn first_event(
     rt: &impl Abort,
     alloc: Global,
@@ -138,7 +139,7 @@ fn is_first(rt: &impl Abort, unit: u32, cube: &Cube)
     assert!(rt; cube.len() == 2);
 }
 
-// Pops the first event, which is poppable at these cursors, where the pass holds both variables.
+// Pops the first event, which is poppable at these cursors. The pass must hold both variables.
 fn pop_first(
     rt: &impl Abort,
     alloc: Global,
@@ -167,7 +168,7 @@ fn pop_first(
     same(rt, ticket, 0, "ticket");
 }
 
-// Marks both units, and lets go of both variables.
+// Marks both units, and releases both variables.
 fn let_go(board: &Board, pass: &mut Pass)
     requires pass { IsOf board.now pass.old }
     requires held { variables (view pass.old).held ≡ 0 ∷ 1 ∷ [] }
@@ -182,7 +183,7 @@ fn let_go(board: &Board, pass: &mut Pass)
     release_below(board, pass, 2);
 }
 
-// Pops the first event on a fresh board, and lets go of all.
+// Pops the first event on a new board, and releases all variables.
 fn pop_on(rt: &impl Abort, alloc: Global, board: &Board, pass: &mut Pass, instance: &Instance)
     requires pass { IsOf board.now pass.old }
     requires fresh { view pass.old ≡ fresh (opening_of board.now) }
@@ -202,7 +203,7 @@ fn pop_on(rt: &impl Abort, alloc: Global, board: &Board, pass: &mut Pass, instan
     let_go(board, pass);
 }
 
-// What a board leaves on which the first event is popped.
+// The closed board after a pop of the first event.
 fn close_after_pop(rt: &impl Abort, alloc: Global, instance: &Instance) -> Closed
     requires count { variables_of instance.now.stacks ≡ 2 }
     requires marks { marks_in instance.now.family ≡ 2 }
@@ -230,7 +231,7 @@ fn make_one_record(rt: &impl Abort, alloc: Global, tickets: Tickets)
     drop(log);
 }
 
-// Compares what is left of a board of two events, up to its merged log.
+// Compares the closed board of two events, up to its merged log.
 fn leaves_one_record(rt: &impl Abort, alloc: Global, instance: &Instance) {
     are_two(rt, instance);
     are_two_events(rt, instance);

@@ -1,5 +1,5 @@
-//! What one thread does with its pass: it claims all variables, pops the first event that is
-//! poppable there, marks what it owes, and lets go.
+//! The work of one thread with its pass. It claims all variables, pops the first event that is
+//! poppable there, sets the marks that it owes, and releases the variables.
 ghost use Rattle.std.specs.Prelude.{◌≡◌, ◌≤◌, ◌<◌, ◌+◌, ◌++◌, ◌∷◌, [], length, IfSome, MatchOption};
 ghost use Rattle.pop_model.specs.Stacks.{variables_of};
 ghost use Rattle.pop_model.specs.Popping.{variables};
@@ -15,7 +15,7 @@ use pop_stacks::Reader;
 use std::alloc::Global;
 use std::process::Abort;
 
-// Claims a variable: its cursor; none where it is refused.
+// Claims a variable, and returns its cursor, or None if the claim fails.
 fn claim_next(board: &Board, pass: &mut Pass, v: u32) -> Option<u32>
     requires pass { IsOf board.now pass.old }
     requires known { v < count_of board.now }
@@ -34,7 +34,8 @@ fn claim_next(board: &Board, pass: &mut Pass, v: u32) -> Option<u32>
     }
 }
 
-// Claims all variables, in order: their cursors. Where one is refused, lets go of those before it.
+// Claims all variables, in order, and returns their cursors. If a claim fails, it releases those
+// before it.
 fn claim_all(
     rt: &impl Abort,
     alloc: Global,
@@ -60,8 +61,8 @@ fn claim_all(
     Some(Cursors::of(cursors))
 }
 
-// Pops the event of least unit that is poppable, where the pass holds all variables at these
-// cursors: its ticket. Then marks what is owed.
+// Pops the poppable event with the lowest unit, and returns its ticket. The pass must hold all
+// variables at these cursors. After that it sets the marks that are owed.
 fn pop_first(
     rt: &impl Abort,
     alloc: Global,
@@ -93,7 +94,7 @@ fn pop_first(
     Some(ticket)
 }
 
-// One turn: whether the board is at an end.
+// Makes one turn. Returns whether the board is at an end.
 fn turn(rt: &impl Abort, alloc: Global, board: &Board, pass: &mut Pass, instance: &Instance) -> bool
     requires pass { IsOf board.now pass.old × IsIdle pass.old }
     requires instance { instance_of board.now ≡ instance.now }
@@ -112,7 +113,7 @@ fn turn(rt: &impl Abort, alloc: Global, board: &Board, pass: &mut Pass, instance
     popped.is_none()
 }
 
-// Works until the board is at an end, or for so many turns: whether it is.
+// Works until the board is at an end, or for this many turns. Returns whether it is at an end.
 pub(super) fn work(
     rt: &impl Abort,
     alloc: Global,
@@ -135,7 +136,7 @@ pub(super) fn work(
     false
 }
 
-// Lets a pass that is split off work, which has one turn and finds nothing to pop, and takes it in.
+// Splits off a pass, which makes one turn and finds nothing to pop, and joins it again.
 fn other_finds_none(
     rt: &impl Abort,
     alloc: Global,
@@ -157,8 +158,8 @@ fn other_finds_none(
     }
 }
 
-// One turn of each of two passes: the first pops, and the second claims all variables, of which the
-// first has let go, and finds nothing to pop.
+// One turn of each of two passes. The first pass pops and releases its variables. The second
+// claims all variables and finds nothing to pop.
 fn take_turns(rt: &impl Abort, alloc: Global, board: &Board, pass: &mut Pass, instance: &Instance)
     requires pass { IsOf board.now pass.old × IsIdle pass.old }
     requires share { (view pass.old).share ≡ 64 }
@@ -174,7 +175,7 @@ fn take_turns(rt: &impl Abort, alloc: Global, board: &Board, pass: &mut Pass, in
     same(rt, pass.share() as u64, 64, "shares");
 }
 
-// What a board leaves after such turns.
+// The closed board after the turns of `take_turns`.
 pub(super) fn close_after_turns(rt: &impl Abort, alloc: Global, instance: &Instance) -> Closed
     ensures { length result.cursors ≡ variables_of instance.now.stacks }
 {

@@ -38,7 +38,7 @@ fn index_of(rt: &impl Abort, alloc: Global, instance: &Instance) -> Index
     Index::build(alloc, events, instance.stacks().count()).expect(rt, "memory")
 }
 
-// Tries units one after another, and compares the answers.
+// Tries units one after another, and compares the results.
 fn try_each(
     rt: &impl Abort,
     alloc: Global,
@@ -63,7 +63,7 @@ fn try_each(
     drop(index);
 }
 
-// What a board leaves after one pass tried these units.
+// The closed board after one pass tried these units.
 fn close_after(
     rt: &impl Abort,
     alloc: Global,
@@ -77,7 +77,7 @@ fn close_after(
     close(rt, board, pass)
 }
 
-// Tries units of a new board, and compares what it leaves.
+// Tries units of a new board, and compares the closed board.
 fn leaves(
     rt: &impl Abort,
     alloc: Global,
@@ -90,7 +90,7 @@ fn leaves(
     drop(closed);
 }
 
-// Worked by hand. After the pop both variables are at their last entry, whose value is 1.
+// Worked by hand. After the pop both variables are at their last entry, which has the value 1.
 static TWO_TRIES: [(u32, Tried); 4] = [
     (0, Tried::Popped(0)),
     (1, Tried::Cleared(1, 1)),
@@ -129,7 +129,7 @@ fn a_stuck_unit_has_no_mark(rt: HostRuntime) {
     drop(instance);
 }
 
-// The same and an event that demands 0 of the last variable alone.
+// The two events, and one that demands 0 of the last variable only.
 const THREE_EVENTS: [EventRow; 3] = [
     (1, &[(0, 0), (1, 0)]),
     (2, &[(0, 1), (1, 0)]),
@@ -146,7 +146,7 @@ static BUSY_TRIES: [(u32, Tried); 4] = [
 
 static FREE_TRIES: [(u32, Tried); 2] = [(0, Tried::Popped(0)), (1, Tried::Cleared(1, 1))];
 
-// Tries units while another pass holds variable 1, and then others once it has given it back.
+// Tries units while another pass holds variable 1, and then others after that pass released it.
 fn try_beside(
     rt: &impl Abort,
     alloc: Global,
@@ -170,7 +170,7 @@ fn try_beside(
     try_each(rt, alloc, board, pass, instance, &FREE_TRIES);
 }
 
-// Tries units of a new board beside another pass of it.
+// Tries units of a new board with another pass on it.
 fn try_apart(rt: &impl Abort, alloc: Global, instance: &Instance) {
     let (board, mut pass) = started(rt, alloc, instance, Keep::Nothing);
     let mut other = board.split(&mut pass, 1);

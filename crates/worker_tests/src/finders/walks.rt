@@ -18,7 +18,7 @@ use std::alloc::Global;
 use std::process::Abort;
 use test_instances::{arrows, stacks};
 
-// The instance of these rows and heads, whose events are the cycles.
+// The instance of these rows and heads. Its events are the cycles.
 fn cycles(rt: &impl Abort, alloc: Global, rows: &[&[u32]], table: &[[Option<u32>; 2]]) -> Instance
     ensures { is_listed result.family ≡ false }
 {
@@ -27,8 +27,8 @@ fn cycles(rt: &impl Abort, alloc: Global, rows: &[&[u32]], table: &[[Option<u32>
     Instance::new(stacks, Family::Cycles(arrows)).expect(rt, "an instance")
 }
 
-// A walk that is to be made: its start, after how many pops it ends, if it isn't `try_walk`, and
-// its answer.
+// A walk to make: its start, after how many pops it ends (None for `try_walk`), and the expected
+// result.
 type Turn = (u32, Option<u64>, Tried);
 
 // Makes a walk.
@@ -63,7 +63,7 @@ fn walk(
     answer
 }
 
-// Makes walks in turn, and compares their answers.
+// Makes walks in turn, and compares their results.
 fn walk_in_turn(
     rt: &impl Abort,
     board: &Board,
@@ -85,7 +85,7 @@ fn walk_in_turn(
     }
 }
 
-// Ends a board that was worked on by one pass, which has all shares.
+// Closes a board after work by one pass, which has all shares.
 fn close_whole(rt: &impl Abort, board: Board, pass: Pass) -> Closed
     requires pass { IsOf board pass × IsIdle pass }
     ensures { length result.cursors ≡ count_of board.entry }
@@ -94,7 +94,7 @@ fn close_whole(rt: &impl Abort, board: Board, pass: Pass) -> Closed
     close(rt, board, pass)
 }
 
-// What is left of a board after these walks of one pass.
+// The closed board after these walks of one pass.
 fn closed_after(rt: &impl Abort, alloc: Global, instance: &Instance, turns: &[Turn]) -> Closed
     requires cycles { is_listed instance.now.family ≡ false }
     ensures { length result.cursors ≡ variables_of instance.now.stacks }
@@ -106,7 +106,7 @@ fn closed_after(rt: &impl Abort, alloc: Global, instance: &Instance, turns: &[Tu
     close_whole(rt, board, pass)
 }
 
-// Makes walks on a new board, and compares what it leaves.
+// Makes walks on a new board, and compares the closed board.
 fn leaves(rt: &impl Abort, alloc: Global, instance: &Instance, turns: &[Turn], want: &Want)
     requires cycles { is_listed instance.now.family ≡ false }
 {
@@ -115,8 +115,8 @@ fn leaves(rt: &impl Abort, alloc: Global, instance: &Instance, turns: &[Turn], w
     drop(closed);
 }
 
-// The edges 1-2, 2-3 and 1-3 with the root 1: variable 0 is vertex 2, and variable 1 vertex 3. They
-// point to each other at first, and then 2 to 1 and 3 to 2.
+// The edges 1-2, 2-3 and 1-3 with the root 1. Variable 0 is vertex 2, and variable 1 is vertex 3.
+// They point to each other at first, and then 2 to 1 and 3 to 2.
 static TRIANGLE_HEADS: [[Option<u32>; 2]; 2] = [[None, Some(1)], [Some(0), None]];
 
 static TRIANGLE_ROWS: [&[u32]; 2] = [&[1, 0], &[0, 0]];
@@ -140,8 +140,8 @@ fn a_cycle_is_popped_and_then_its_path_is_settled(rt: HostRuntime) {
     drop(instance);
 }
 
-// Worked by hand: variable 0 leads to 1, which leads to itself three times and then to the root. So
-// the second walk goes on from variable 1 after its first pop, with 0 still claimed.
+// Worked by hand: variable 0 leads to 1, which leads to itself three times and then to the root.
+// So the second walk continues from variable 1 after its first pop, while 0 is still claimed.
 static LOOP_HEADS: [[Option<u32>; 2]; 2] = [[Some(1), None], [None, Some(1)]];
 
 static LOOP_ROWS: [&[u32]; 2] = [&[0, 0], &[1, 1, 1, 0]];
@@ -178,7 +178,7 @@ fn holder<'i>(rt: &impl Abort, board: &Board<'i>, pass: &mut Pass, v: u32) -> Pa
     other
 }
 
-// Worked by hand: bit 63 is 9223372036854775808. Where the first walk released variable 0, the
+// Worked by hand: bit 63 is 9223372036854775808. After the first walk released variable 0, the
 // second finds it free.
 static BUSY_TURNS: [Turn; 3] = [
     (0, None, Tried::Busy(1, 9223372036854775808)),
@@ -186,7 +186,7 @@ static BUSY_TURNS: [Turn; 3] = [
     (1, None, Tried::Busy(1, 9223372036854775808)),
 ];
 
-// Makes walks that meet a claim of variable 1, on a new board.
+// Makes walks that reach a claim of variable 1, on a new board.
 fn meet_claim(rt: &impl Abort, alloc: Global, instance: &Instance)
     requires cycles { is_listed instance.now.family ≡ false }
 {

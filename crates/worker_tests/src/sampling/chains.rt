@@ -1,4 +1,4 @@
-//! Chains of events: each shares a variable with the next, and excludes it there.
+//! Chains of events: each shares a variable with the next, and demands another value of it.
 ghost use Rattle.std.specs.Prelude.{◌≡◌, ℕ};
 ghost use Rattle.pop_model.specs.Stacks.{height_of, IsKeyed};
 
@@ -11,7 +11,7 @@ use std::sync::Wait;
 use std::thread::Threads;
 use test_instances::chain;
 
-// The chain of so many links over stacks of this height under a key of 32 such bytes.
+// The chain of this many links over stacks of this height under a key that has this byte 32 times.
 pub(super) fn chained(rt: &impl Abort, alloc: Global, links: u32, key: u8, height: u32) -> Instance
     ensures keyed { IsKeyed result.stacks.origin }
     ensures height { (v : ℕ) → height_of result.stacks v ≡ height }
@@ -38,8 +38,8 @@ fn chain_ends_alike<R: Threads + Wait + Abort + Sync>(
 // Keys and heights.
 static STACKS: [(u8, u32); 4] = [(3, 900), (77, 900), (3, 2), (200, 4)];
 
-// Compares the ends of the runs of chains of so many links: the most pops, and the most events that
-// are stuck.
+// Compares the ends of the runs of chains of this many links. Returns the largest numbers of pops
+// and of stuck events.
 fn chains_end_alike<R: Threads + Wait + Abort + Sync>(
     rt: &R,
     alloc: Global,

@@ -1,4 +1,4 @@
-//! Heights that grow.
+//! Stacks that grow.
 ghost use Rattle.std.specs.Prelude.{◌≡◌, ◌<◌, ◌≤◌, ℕ, length};
 ghost use Rattle.pop_model.specs.Stacks.{variables_of, height_of, IsKeyed};
 
@@ -17,7 +17,7 @@ use std::sync::Wait;
 use std::thread::Threads;
 use test_instances::{cube, family};
 
-// Whether workers claim words, else share a book, and how many there are.
+// Whether workers claim words or share a book, and the number of workers.
 static BOARDS: [(bool, u32); 5] = [(false, 1), (true, 1), (false, 2), (true, 2), (true, 8)];
 
 // Runs an instance in stages, up to this height.
@@ -45,7 +45,7 @@ fn grown<R: Threads + Wait + Abort + Sync>(
 // second word).
 static VALUES: [u32; 8] = [1, 0, 0, 1, 1, 0, 0, 1];
 
-// For each of these values the event that variable 0 has it, whose number is the value.
+// For each of these values the event that variable 0 has it. The number of the event is the value.
 fn each_value(rt: &impl Abort, alloc: Global, values: &[u32]) -> Family {
     let mut rows = Vec::new(alloc);
     for value in values {
@@ -55,7 +55,7 @@ fn each_value(rt: &impl Abort, alloc: Global, values: &[u32]) -> Family {
     made(rt, family(alloc, rows))
 }
 
-// These events over stacks of this height under the key of zeros.
+// The events of `each_value` over stacks of this height under the key of zeros.
 fn of_values(rt: &impl Abort, alloc: Global, values: &[u32], height: u32) -> Instance
     ensures keyed { IsKeyed result.stacks.origin }
     ensures height { (v : ℕ) → height_of result.stacks v ≡ height }
@@ -64,7 +64,8 @@ fn of_values(rt: &impl Abort, alloc: Global, values: &[u32], height: u32) -> Ins
     under_key(rt, 1, 0, height, family)
 }
 
-// The heights at first and at last; the pops, the stuck events, and the height that is left.
+// The first and the last height; the expected numbers of pops and of stuck events, and the height
+// at the end.
 struct Row {
     first: u32,
     last: u32,
@@ -73,7 +74,7 @@ struct Row {
     left: u32,
 }
 
-// Worked by hand: the event that variable 0 has the value 1. Entry 0 has it, entry 1 doesn't.
+// Worked by hand: the event that variable 0 has the value 1. Entry 0 has it, and entry 1 does not.
 static ONE_VALUE: [Row; 4] = [
     Row {
         first: 1,
@@ -105,7 +106,7 @@ static ONE_VALUE: [Row; 4] = [
     },
 ];
 
-// Worked by hand: an event for each value, so that all entries but the last are used.
+// Worked by hand: an event for each value, so that all entries except the last are used.
 static BOTH_VALUES: [Row; 3] = [
     Row {
         first: 1,
@@ -136,7 +137,7 @@ fn same_in(rt: &impl Abort, found: u64, want: u64, what: &str, row: &Row) {
     assert!(rt; found == want, "{what} from {first} to {last}");
 }
 
-// Compares what stages leave of one variable with a row.
+// Compares a run in stages of one variable with a row.
 fn is_left(rt: &impl Abort, instance: &Instance, run: &Outcome, row: &Row) {
     same_in(rt, run.end.pops, row.pops, "pops", row);
     same_in(rt, run.end.stuck.len(), row.stuck, "stuck events", row);
@@ -194,7 +195,7 @@ fn grows_as<R: Threads + Wait + Abort + Sync>(
     run
 }
 
-// The same on each board, for the event of value 1.
+// Compares the runs on each board with a row, for the event of value 1.
 fn one_value_grows<R: Threads + Wait + Abort + Sync>(rt: &R, alloc: Global, row: &Row) {
     for board in BOARDS.iter() {
         let run = grows_as(rt, alloc, &[1], row, *board);
@@ -210,7 +211,7 @@ fn heights_grow_until_no_event_occurs(rt: HostRuntime) {
     }
 }
 
-// The same on each board, for the events of both values.
+// Compares the runs on each board with a row, for the events of both values.
 fn both_values_grow<R: Threads + Wait + Abort + Sync>(rt: &R, alloc: Global, row: &Row) {
     for board in BOARDS.iter() {
         let run = grows_as(rt, alloc, &[0, 1], row, *board);
@@ -240,7 +241,8 @@ fn is_legal(rt: &impl Abort, alloc: Global, instance: &Instance, run: &Outcome) 
     drop(replayed);
 }
 
-// Compares a run over so many variables with the one-thread run. Returns how many events are stuck.
+// Compares a run over this many variables with the one-thread run. Returns the number of stuck
+// events.
 fn ends_as_first(rt: &impl Abort, alloc: Global, tall: &Instance, run: &Outcome, count: u32) -> u64
     requires tall { variables_of tall.now.stacks ≡ count }
     requires run { length run.now.end.cursors ≡ count }
@@ -252,8 +254,8 @@ fn ends_as_first(rt: &impl Abort, alloc: Global, tall: &Instance, run: &Outcome,
     stuck
 }
 
-// Compares what stages left with the one-thread run at the last height, where their log is to be
-// legal. Returns how many events are stuck.
+// Compares a run in stages with the one-thread run at the last height. Its log must be legal
+// there. Returns the number of stuck events.
 fn ends_as(
     rt: &impl Abort,
     alloc: Global,
@@ -276,7 +278,7 @@ enum Kind {
     Tree,
 }
 
-// A key of 32 such bytes, and the heights at first and at last.
+// A key that has this byte 32 times, and the first and the last height.
 #[derive(Clone, Copy)]
 struct Growth {
     kind: Kind,
@@ -285,7 +287,7 @@ struct Growth {
     last: u32,
 }
 
-// The instance of such a kind.
+// The instance of this kind.
 fn of_kind(rt: &impl Abort, alloc: Global, kind: Kind, key: u8, height: u32) -> Instance
     ensures keyed { IsKeyed result.stacks.origin }
     ensures height { (v : ℕ) → height_of result.stacks v ≡ height }
@@ -296,7 +298,7 @@ fn of_kind(rt: &impl Abort, alloc: Global, kind: Kind, key: u8, height: u32) -> 
     }
 }
 
-// Grows an instance to the height of a tall one, and compares what is left.
+// Grows an instance to the height of a tall one, and compares the run.
 fn grows_to<R: Threads + Wait + Abort + Sync>(
     rt: &R,
     alloc: Global,
@@ -330,7 +332,7 @@ fn grows_beside<R: Threads + Wait + Abort + Sync>(
     stuck
 }
 
-// Grows an instance, and compares what is left.
+// Grows an instance, and compares the run.
 fn grows<R: Threads + Wait + Abort + Sync>(
     rt: &R,
     alloc: Global,
@@ -343,13 +345,13 @@ fn grows<R: Threads + Wait + Abort + Sync>(
     stuck
 }
 
-// Keys, and the heights at first and at last, of chains.
+// Keys, first heights and last heights of chains.
 static CHAINS: [(u8, u32, u32); 4] = [(3, 1, 900), (77, 2, 900), (3, 1, 2), (200, 1, 4)];
 
-// The same of trees.
+// Keys, first heights and last heights of trees.
 static TREES: [(u8, u32, u32); 4] = [(0, 1, 900), (77, 2, 900), (5, 1, 2), (200, 1, 3)];
 
-// Grows the instances of a table on one board: the most events that are stuck.
+// Grows the instances of a table on one board. Returns the largest number of stuck events.
 fn all_grow<R: Threads + Wait + Abort + Sync>(
     rt: &R,
     alloc: Global,

@@ -1,4 +1,4 @@
-//! A gate may hold a worker: the log tells which worker popped first.
+//! A gate may hold a worker: the log shows which worker popped first.
 use super::sample;
 use crate::comparing::same;
 use crate::made::made;
@@ -12,10 +12,10 @@ use std::sync::atomic::Ordering::SeqCst;
 use std::thread::Threads;
 use test_instances::{EventRow, listed};
 
-// How often a held worker looks whether it may go on.
+// How often a held worker checks whether it may continue.
 const MOST_LOOKS: u32 = 1_000_000_000;
 
-// Holds a worker before its first turn until another one has come to its second.
+// Holds a worker before its first turn until another one has reached its second.
 #[derive(Drop)]
 struct Holds {
     held: u32,
@@ -34,7 +34,7 @@ impl Holds {
         }
     }
 
-    // Looks until the other worker has come.
+    // Waits until the other worker has come.
     fn hold(&self) {
         for _ in 0..MOST_LOOKS {
             if self.came.load(SeqCst) {
@@ -56,12 +56,12 @@ impl Gate for Holds {
     }
 }
 
-// Two variables with the entries 0 and 1, and the two events that one of them has the value 0.
+// Two variables with the entries 0 and 1, and two events, each of which demands 0 of one of them.
 static ROWS: [&[u32]; 2] = [&[0, 1], &[0, 1]];
 
 static EVENTS: [EventRow; 2] = [(1, &[(0, 0)]), (2, &[(1, 0)])];
 
-// The run of two workers, where the first is held until the other has come to its second turn.
+// The run of two workers. The first is held until the other has reached its second turn.
 fn held_run<R: Threads + Wait + Abort + Sync>(
     rt: &R,
     alloc: Global,

@@ -10,7 +10,8 @@ use std::process::Abort;
 use std::sync::Wait;
 use std::thread::Threads;
 
-// Random arrows of so many variables over stacks of this height under a key of 32 such bytes.
+// Random arrows of this many variables over stacks of this height under a key that has this byte
+// 32 times.
 pub(super) fn tree_under_key(
     rt: &impl Abort,
     alloc: Global,
@@ -44,8 +45,8 @@ fn tree_ends_alike<R: Threads + Wait + Abort + Sync>(
 // Keys and heights.
 static STACKS: [(u8, u32); 4] = [(0, 900), (77, 900), (5, 1), (200, 2)];
 
-// Compares the ends of the runs of trees of so many variables: the most pops, and the most events
-// that are stuck.
+// Compares the ends of the runs of trees of this many variables. Returns the largest numbers of
+// pops and of stuck events.
 fn trees_end_alike<R: Threads + Wait + Abort + Sync>(
     rt: &R,
     alloc: Global,
