@@ -11,9 +11,9 @@ use pop_instance::{Arrows, Cursors};
 use pop_stacks::{Reader, Stacks};
 use std::marker::Model;
 
-/// The current arrow of each variable leads from the slot that is its value at its cursor. Here
-/// alone a walk looks at entries, each time by the caller's reader of the stacks. Contracts see the
-/// stacks and the heads.
+/// The current arrows. Each variable has one: the value at its cursor is a slot, and the arrow
+/// leads to the head of this slot. Walks read entries only here, each time by the caller's reader
+/// of the stacks. Contracts see the stacks and the heads.
 #[derive(Drop)]
 pub struct CurrentArrows<'a> {
     stacks: &'a Stacks,
@@ -34,7 +34,7 @@ impl<'a> Model for CurrentArrows<'a> {
 }
 
 impl<'a> CurrentArrows<'a> {
-    /// The arrows of an instance. It takes no memory.
+    /// The arrows of an instance. It allocates nothing.
     pub fn of(stacks: &'a Stacks, arrows: &'a Arrows) -> CurrentArrows<'a>
         requires fits { FamilyFits stacks.now (CycleEvents arrows.now) }
         ensures { result ≡ record { stacks = stacks.now; heads = arrows.now } }
@@ -44,7 +44,7 @@ impl<'a> CurrentArrows<'a> {
         CurrentArrows { stacks, arrows }
     }
 
-    /// How many variables there are.
+    /// The number of variables.
     pub fn count(&self) -> u32
         ensures count { result ≡ length self.now.heads }
         ensures instance { IsInstance (cycles self.now) }
@@ -52,7 +52,7 @@ impl<'a> CurrentArrows<'a> {
         self.arrows.count()
     }
 
-    /// The slot that entry k of a variable is.
+    /// The slot that is entry k of a variable.
     pub fn slot_at(&self, reader: &mut Reader, v: u32, k: u32) -> u32
         requires known { v < length self.now.heads }
         requires place { k < height_of self.now.stacks v }
@@ -64,7 +64,7 @@ impl<'a> CurrentArrows<'a> {
         reader.entry(self.stacks, v, k)
     }
 
-    /// Where the arrow of a variable at entry k leads; None is the root.
+    /// The head of the arrow of a variable at entry k, or None for the root.
     pub fn head_at(&self, reader: &mut Reader, v: u32, k: u32) -> Option<u32>
         requires known { v < length self.now.heads }
         requires place { k < height_of self.now.stacks v }
@@ -76,7 +76,7 @@ impl<'a> CurrentArrows<'a> {
         self.arrows.head(v, slot)
     }
 
-    /// Whether a variable has an entry behind entry k.
+    /// Whether a variable has an entry after entry k.
     pub fn has_next_at(&self, v: u32, k: u32) -> bool
         requires known { v < length self.now.heads }
         requires place { k < height_of self.now.stacks v }
@@ -99,7 +99,7 @@ impl<'a> CurrentArrows<'a> {
         self.slot_at(reader, v, cursors.get(v))
     }
 
-    /// Where the current arrow of a variable leads; None is the root.
+    /// The head of the current arrow of a variable, or None for the root.
     pub fn head(&self, reader: &mut Reader, cursors: &Cursors, v: u32) -> Option<u32>
         requires known { v < length self.now.heads }
         requires cursors { AreCursors self.now cursors.now }
@@ -111,7 +111,7 @@ impl<'a> CurrentArrows<'a> {
         self.head_at(reader, v, cursors.get(v))
     }
 
-    /// Whether a variable has an entry behind its cursor.
+    /// Whether a variable has an entry after its cursor.
     pub fn has_next(&self, cursors: &Cursors, v: u32) -> bool
         requires known { v < length self.now.heads }
         requires cursors { AreCursors self.now cursors.now }

@@ -16,10 +16,10 @@ use pop_instance::{Arrows, Cursors};
 use pop_stacks::{Reader, Stacks};
 use std::alloc::{AllocError, Global};
 
-/// Goes on with a run of cycles to an end or to so many pops, by the loop-erased walk from each
-/// variable in turn, and answers with the cycles that occur there, by rising unit. Suspects would
-/// spare nothing: a pop may leave a poppable cycle at a variable that no walk from them would meet
-/// again. At the limit each variable is one.
+/// Continues a run of cycles to its end, or until the number of pops reaches the limit, by the
+/// loop-erased walk from each variable in turn. Returns the cycles that occur there, by rising
+/// unit. Suspects would save nothing: after a pop a variable may be on a poppable cycle that no
+/// walk from them would meet. At the limit every variable is a suspect.
 pub(crate) fn pop_cycles(
     alloc: Global,
     stacks: &Stacks,
@@ -43,7 +43,7 @@ pub(crate) fn pop_cycles(
 {
     let current = CurrentArrows::of(stacks, arrows);
     let _count = current.count();
-    // Walks meet all variables, and have the memory of the list.
+    // The walks start from all variables, so the list of suspects is freed for their memory.
     drop(reached.suspects);
     let walked = Walked {
         cursors: reached.cursors,
@@ -63,7 +63,7 @@ pub(crate) fn pop_cycles(
     Ok((reached, left.stuck))
 }
 
-// No unit at an end, and else all of so many.
+// No units at an end, and otherwise all of them.
 fn suspects_at(alloc: Global, is_end: bool, units: u32) -> Result<Units, AllocError>
     ensures { IfOk result (λ suspects. suspects ≡ (if is_end then [] else range_with_len 0 units)) }
 {
@@ -73,8 +73,9 @@ fn suspects_at(alloc: Global, is_end: bool, units: u32) -> Result<Units, AllocEr
     Units::all(alloc, units)
 }
 
-/// The cycles that occur at any cursors, by rising unit: a walk that pops nothing notes them. Its
-/// time is linear in the variables and, but for a logarithm, those of the cycles.
+/// The cycles that occur at any cursors, by rising unit. They are found by a walk that pops
+/// nothing. Its time is linear in the variables and, except for a logarithm, in those of the
+/// cycles.
 pub(crate) fn occurring_cycles(
     alloc: Global,
     stacks: &Stacks,

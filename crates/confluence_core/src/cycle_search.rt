@@ -1,4 +1,4 @@
-//! Cycles by their definition: the current arrows are followed from each variable in turn.
+//! Finds cycles by their definition: the current arrows are followed from each variable in turn.
 ghost use Rattle.std.specs.Prelude.{◌≡◌, ◌<◌, length, IfOk, MatchOption};
 ghost use Rattle.pop_model.specs.Stacks.{variables_of};
 ghost use Rattle.pop_model.specs.Popping.{AreWithin};
@@ -17,7 +17,7 @@ use pop_instance::{Arrows, Cube, Cursors};
 use pop_stacks::{Reader, Stacks};
 use std::alloc::{AllocError, Global};
 
-// The variables of the poppable cycle that has this least variable, if there is one.
+// The variables of the poppable cycle with this lowest variable, if there is one.
 fn poppable_from(
     alloc: Global,
     current: &CurrentArrows,
@@ -42,8 +42,8 @@ fn poppable_from(
     Ok(Some(members))
 }
 
-/// The poppable cycle of least unit under it, if there is one. It takes time up to the square of the
-/// variables.
+/// The poppable cycle with the lowest unit, and this unit, if there is one. Its time is at most
+/// quadratic in the number of variables.
 pub(crate) fn first_poppable_cycle(
     alloc: Global,
     stacks: &Stacks,

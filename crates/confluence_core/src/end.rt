@@ -4,9 +4,9 @@ use pop_instance::{Cursors, Values};
 /// The end of a run.
 #[derive(Drop)]
 pub struct End {
-    /// The cursors that the run left.
+    /// The cursors at the end.
     pub cursors: Cursors,
-    /// How many events were popped.
+    /// The number of pops.
     pub pops: u64,
     /// Every event that occurs at the cursors, by rising unit.
     pub stuck: Stuck,

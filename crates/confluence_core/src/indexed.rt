@@ -25,15 +25,15 @@ pub struct IndexedEvents<'a> {
     pub index: &'a Index,
 }
 
-/// A family of events, of which listed ones have their index.
+/// A family of events. A listed family has its index.
 #[derive(Clone, Copy)]
 pub enum IndexedFamily<'a> {
     Listed(IndexedEvents<'a>),
     Cycles(&'a Arrows),
 }
 
-/// What a run goes over: stacks, and a family of events with the index of listed ones. Several
-/// threads may share it, each with a reader of its own. Contracts see the instance.
+/// What a run needs: stacks, and a family of events with its index if it is listed. Several
+/// threads may share it, each with its own reader. Contracts see the instance.
 #[derive(Drop)]
 pub struct Indexed<'a> {
     stacks: &'a Stacks,
@@ -52,7 +52,7 @@ impl<'a> Model for Indexed<'a> {
 }
 
 impl<'a> Indexed<'a> {
-    /// An instance with the index of its family. It takes no memory.
+    /// An instance with the index of its family. It allocates nothing.
     pub fn of(instance: &'a Instance, index: &'a Option<Index>) -> Indexed<'a>
         requires index { IsFamilyIndex instance.now.family index.now }
         ensures { result ≡ instance.now }
@@ -71,7 +71,7 @@ impl<'a> Indexed<'a> {
         }
     }
 
-    /// The same family over the stacks of sample j. It takes no memory.
+    /// The same family over the stacks of sample j. It allocates nothing.
     pub fn for_sample(&self, stacks: &'a Stacks, j: u32) -> Indexed<'a>
         requires sample { stacks.now ≡ stacks_for j self.now.stacks }
         ensures { result ≡ instance_for j self.now }
@@ -91,7 +91,7 @@ impl<'a> Indexed<'a> {
         self.stacks
     }
 
-    /// How many units there are.
+    /// The number of units.
     pub fn units(&self) -> u32
         ensures units { result ≡ units_of self.now.family }
     {
@@ -110,15 +110,16 @@ impl<'a> Indexed<'a> {
         Ok(Reached::at(alloc, zeros, suspects, keep))
     }
 
-    /// Goes on with a run on this thread, to an end or to so many pops in all, and answers with
-    /// every event that occurs there, by rising unit. Short of so many pops no unit is left a
-    /// suspect. Where none was, the run is at an end, and stays as it was.
+    /// Continues a run on this thread to its end, or until the total number of pops reaches the
+    /// limit. Returns every event that occurs there, by rising unit. If there were fewer pops than
+    /// the limit, no suspects are left. If there were none before, the run is at its end and stays
+    /// as it was.
     ///
-    /// Listed events are looked at where they are suspects or share a variable with a popped one,
-    /// until none is left to look at; so the time is linear in the instance, the suspects, and the
-    /// pairs of the events that share a variable with a popped one, pop by pop. Cycles are popped
-    /// by the loop-erased walk (Wilson 1996; Propp and Wilson 1998) from each variable, which notes
-    /// those that it can't pop; they need no suspects.
+    /// Listed events are judged if they are suspects or share a variable with a popped event,
+    /// until none is left. So the time is linear in the instance, the suspects and, for each pop,
+    /// the pairs of the events that share a variable with the popped one. Cycles are popped by the
+    /// loop-erased walk (Wilson 1996; Propp and Wilson 1998) from each variable. It notes those
+    /// that it cannot pop, and needs no suspects.
     pub fn advance(
         &self,
         alloc: Global,
@@ -152,8 +153,8 @@ impl<'a> Indexed<'a> {
         }
     }
 
-    /// Goes on with a run on this thread to an end, and answers with every event that occurs there,
-    /// by rising unit.
+    /// Continues a run on this thread to its end. Returns every event that occurs there, by rising
+    /// unit.
     pub fn finish(
         &self,
         alloc: Global,
@@ -169,8 +170,9 @@ impl<'a> Indexed<'a> {
         self.advance(alloc, reader, reached, u64::MAX)
     }
 
-    // Every event that occurs where a run has come, by rising unit. At an end each of them has a
-    // variable at its last entry, so where there is no such variable, no event is looked at.
+    // Every event that occurs at the cursors of a run, by rising unit. At an end each of these has
+    // a variable at its last entry. So if no variable is at its last entry, no event has to be
+    // judged.
     fn stuck(
         &self,
         alloc: Global,
@@ -196,7 +198,7 @@ impl<'a> Indexed<'a> {
         }
     }
 
-    /// Brings a run to its end on this thread, and tells it.
+    /// Continues a run to its end on this thread, and returns its result.
     pub fn run(
         &self,
         alloc: Global,

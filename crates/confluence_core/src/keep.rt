@@ -1,6 +1,6 @@
 use crate::log::Log;
 
-/// What a run keeps beside its end.
+/// What a run keeps in addition to its end.
 #[derive(Clone, Copy, Debug, PartialEq, Eq)]
 pub enum Keep {
     Nothing,
@@ -19,7 +19,7 @@ impl Keep {
         self == Keep::Log
     }
 
-    /// The log, where it is kept.
+    /// The log, if it is kept.
     pub fn kept(self, log: Log) -> Option<Log>
         ensures { result ≡ (if keeps_log self then Some log else None) }
     {

@@ -1,7 +1,7 @@
-//! Runs on one thread, the logs that they leave, and the laws of popping.
+//! Runs on one thread, their logs, and the theorems about popping.
 //!
-//! Contracts see units as a list of numbers, stuck events as a list of events, and records and logs
-//! as in the definitions.
+//! Contracts see units as a list of numbers, stuck events as a list of events, and records and
+//! logs as in the definitions.
 #![tactic(auto)]
 
 mod closed_walks;

@@ -16,8 +16,9 @@ use pop_instance::{Cube, Cursors};
 use pop_stacks::{Reader, Stacks};
 use std::alloc::{AllocError, Global};
 
-/// Goes on with a run of listed events to an end or to so many pops, by a work list that the
-/// suspects and the index feed. What waits in it then are the suspects.
+/// Continues a run of listed events to its end, or until the number of pops reaches the limit. It
+/// uses a work list that is filled from the suspects and the index. The units that are left in it
+/// become the suspects.
 pub(crate) fn pop_listed(
     alloc: Global,
     stacks: &Stacks,
@@ -54,7 +55,8 @@ pub(crate) fn pop_listed(
     Ok(reached)
 }
 
-// Pops the events that wait in a work list, which the index feeds, to an end or to so many pops.
+// Pops the events that wait in a work list, which is filled from the index, to the end of the run
+// or up to the limit.
 fn pop_waiting(
     alloc: Global,
     stacks: &Stacks,
@@ -92,7 +94,7 @@ fn pop_waiting(
     Ok(())
 }
 
-// Adds the record of an event that is popped at these cursors, where the log is kept.
+// Adds the record of an event that is popped at these cursors, if the log is kept.
 fn keep_record(
     alloc: Global,
     log: &mut Option<Log>,

@@ -14,7 +14,7 @@ use pop_instance::{Cube, Cursors, Events};
 use pop_stacks::{Reader, Stacks};
 use std::alloc::{AllocError, Global};
 
-// The first poppable event, under its unit.
+// The first poppable event, and its unit.
 pub(crate) fn first_poppable_listed(
     alloc: Global,
     stacks: &Stacks,
@@ -42,8 +42,8 @@ pub(crate) fn first_poppable_listed(
     Ok(None)
 }
 
-// The place of an event that is popped next, if the limit isn't reached and there is one: taken out
-// of the work list with those before it that aren't poppable.
+// The place of the event to pop next, if the limit is not reached and there is one. It is removed
+// from the work list, together with those before it that are not poppable.
 pub(crate) fn next_below(
     stacks: &Stacks,
     events: &Events,
@@ -103,7 +103,7 @@ pub(crate) fn occurring_listed(
     Ok(stuck)
 }
 
-/// Whether each variable has an entry behind its cursor.
+/// Whether each variable has an entry after its cursor.
 pub(crate) fn all_have_next(stacks: &Stacks, cursors: &Cursors) -> bool
     requires count { variables_of stacks.now ≡ length cursors.now }
     requires within { AreWithin stacks.now cursors.now }

@@ -20,7 +20,7 @@ impl Model for Log {
 }
 
 impl Log {
-    /// A log with no record. It takes no memory.
+    /// A log without records. It allocates nothing.
     pub fn new(alloc: Global) -> Log
         ensures { result ≡ [] }
     {
@@ -29,21 +29,21 @@ impl Log {
         }
     }
 
-    /// The log of these records, in their order. It takes no memory.
+    /// The log of these records, in their order. It allocates nothing.
     pub fn of(records: Vec<Record>) -> Log
         ensures { result ≡ records.items }
     {
         Log { records }
     }
 
-    /// How many records there are.
+    /// The number of records.
     pub fn len(&self) -> u64
         ensures { result ≡ length self.now }
     {
         self.records.len() as u64
     }
 
-    /// A record by its place in the log, which counts from 0.
+    /// The record at place i of the log, counted from 0.
     pub fn at(&self, i: u64) -> &Record
         requires known { i < length self.now }
         ensures { slice_get self.now i ≡ Some result.now }

@@ -7,7 +7,8 @@ use pop_instance::{Cube, Cursors};
 use std::alloc::{AllocError, Global};
 use std::marker::Model;
 
-/// A pop: an event under its unit, and the entry that it used of each of its variables.
+/// A record of a pop: an event under its unit, and for each of its variables the entry that the
+/// pop used.
 #[derive(Drop)]
 pub struct Record {
     unit: u32,
@@ -45,7 +46,7 @@ impl Record {
         }
     }
 
-    /// The record of an event that is popped at these cursors: it uses their entries.
+    /// The record of an event that is popped at these cursors, which are the entries that it uses.
     pub fn of(alloc: Global, unit: u32, cube: Cube, cursors: &Cursors) -> Result<Record, AllocError>
         requires known { NamesBelow cube (length cursors.now) }
         ensures { IfOk result (λ popped. popped ≡ record_at unit cube cursors.now) }
@@ -54,7 +55,7 @@ impl Record {
         Ok(Record::new(unit, cube, entries))
     }
 
-    /// The same with a copy of the event's cube.
+    /// The record of an event that is popped at these cursors, with a copy of the event's cube.
     pub fn at(
         alloc: Global,
         unit: u32,
@@ -67,7 +68,7 @@ impl Record {
         Record::of(alloc, unit, cube.copy(alloc)?, cursors)
     }
 
-    /// An equal record.
+    /// A copy of this record.
     pub fn copy(&self, alloc: Global) -> Result<Record, AllocError>
         ensures { IfOk result (λ copy. copy ≡ self.now) }
     {
@@ -82,7 +83,7 @@ impl Record {
         self.unit
     }
 
-    /// The cube of the event. There are as many entries as pairs.
+    /// The cube of the event. It has as many pairs as the record has entries.
     pub fn cube(&self) -> &Cube
         ensures cube { result.now ≡ self.now.event.cube }
         ensures each { length self.now.entries ≡ length self.now.event.cube }
@@ -90,7 +91,7 @@ impl Record {
         &self.cube
     }
 
-    /// The entry that was used of the variable of a pair. Pairs count from 0.
+    /// The entry that was used for the variable of pair i. Pairs count from 0.
     pub fn entry(&self, i: u32) -> u32
         requires known { i < length self.now.event.cube }
         ensures { slice_get self.now.entries i ≡ Some result }

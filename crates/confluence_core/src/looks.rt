@@ -1,4 +1,4 @@
-//! Looks at an instance: what is poppable, and what occurs, at given cursors.
+//! Searches of an instance for the events that are poppable or occur at given cursors.
 ghost use Rattle.std.specs.Prelude.{◌≡◌, length, IfOk, MatchOption};
 ghost use Rattle.pop_model.specs.Stacks.{variables_of};
 ghost use Rattle.pop_model.specs.Popping.{AreWithin};
@@ -14,9 +14,9 @@ use pop_instance::{Cube, Cursors, Family, Instance};
 use pop_stacks::Reader;
 use std::alloc::{AllocError, Global};
 
-/// The poppable event of least unit at cursors that are below the heights, under its unit. Listed
-/// events are looked at from the first on, and the cycles of each variable from variable 0 on: for
-/// these it takes time up to the square of the variables.
+/// The poppable event with the lowest unit, and this unit, at cursors that must be below the
+/// heights. Listed events are tried from the first on. Cycles are searched from variable 0 on, in
+/// time at most quadratic in the number of variables.
 pub fn first_poppable(
     alloc: Global,
     instance: &Instance,
@@ -38,8 +38,8 @@ pub fn first_poppable(
     }
 }
 
-/// Every event that occurs at cursors that are below the heights, by rising unit. Each listed event
-/// is looked at once, and the current arrow of each variable.
+/// Every event that occurs at cursors, which must be below the heights, by rising unit. Each
+/// listed event is judged once, or the current arrow of each variable is read.
 pub fn occurring(
     alloc: Global,
     instance: &Instance,

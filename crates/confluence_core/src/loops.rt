@@ -10,7 +10,7 @@ use pop_instance::{Cube, Cursors};
 use pop_stacks::Reader;
 use std::alloc::{AllocError, Global};
 
-// Whether each of these variables has an entry behind its cursor.
+// Whether each of these variables has an entry after its cursor.
 pub(crate) fn have_next(current: &CurrentArrows, cursors: &Cursors, members: &[u32]) -> bool
     requires known { All (λ v. v < length current.now.heads) members.now }
     requires cursors { AreCursors current.now cursors.now }
@@ -24,7 +24,7 @@ pub(crate) fn have_next(current: &CurrentArrows, cursors: &Cursors, members: &[u
     true
 }
 
-// These variables with their current slots, by rising variable: the pairs of their cube.
+// These variables with their current slots, sorted by variable: the pairs of their cube.
 fn sorted_pairs(
     alloc: Global,
     current: &CurrentArrows,
@@ -47,8 +47,8 @@ fn sorted_pairs(
     Ok(pairs)
 }
 
-/// The cube of these variables, each with its current slot. They are at least one and below 2^31,
-/// and no two are alike.
+/// The cube of these variables, each with its current slot. There must be at least one variable,
+/// all below 2^31 and all different.
 pub fn cube_of(
     alloc: Global,
     current: &CurrentArrows,

@@ -13,8 +13,8 @@ use pop_instance::{Cursors, Instance, Values};
 use pop_stacks::Reader;
 use std::alloc::{AllocError, Global};
 
-/// The one-thread run: from zeros it pops the poppable event of least unit until there is none. It
-/// is slow, since each pop looks for that event anew.
+/// The one-thread run: from zeros it pops the poppable event with the lowest unit until there is
+/// none. It is slow, since it searches for that event from the start at each pop.
 pub fn run_first(alloc: Global, instance: &Instance) -> Result<End, AllocError>
     ensures end { IfOk result (λ end. IsFirstEnd instance.now end.cursors end.pops end.stuck) }
     ensures over { IfOk result (IsEndOver instance.now.stacks) }
@@ -39,13 +39,14 @@ pub fn run_first(alloc: Global, instance: &Instance) -> Result<End, AllocError>
     })
 }
 
-/// A run from any cursors that are below the heights. The suspects are units of the instance, and
-/// miss no poppable event: of a listed one the unit is among them, of a cycle some variable.
+/// A run from any cursors below the heights. The suspects are units of the instance and must cover
+/// every poppable event: the unit of a listed event is one of them, or some variable of a cycle
+/// is.
 ///
-/// Listed events are looked at where they are suspects or share a variable with a popped one, until
-/// none is left to look at; so the time is linear in the instance, the suspects, and the pairs of
-/// the events that share a variable with a popped one, pop by pop. Cycles are popped by the
-/// loop-erased walk (Wilson 1996; Propp and Wilson 1998) from each variable, and need no suspects.
+/// Listed events are judged if they are suspects or share a variable with a popped event, until
+/// none is left. So the time is linear in the instance, the suspects and, for each pop, the pairs
+/// of the events that share a variable with the popped one. Cycles are popped by the loop-erased
+/// walk (Wilson 1996; Propp and Wilson 1998) from each variable, which needs no suspects.
 pub fn run_from(
     alloc: Global,
     instance: &Instance,
@@ -67,12 +68,13 @@ pub fn run_from(
 pub fn run_from_zeros(alloc: Global, instance: &Instance, keep: Keep) -> Result<Run, AllocError>
     ensures run { IfOk result (IsRunOf instance.now (start_of instance.now) (keeps_log keep)) }
 {
-    // The index is made behind what the end keeps, so that what is let go then lies together.
+    // The index is allocated after the parts that the end keeps, so that the memory that is freed
+    // later is contiguous.
     let reached = Reached::opening(alloc, instance, keep)?;
     run_alone(alloc, instance, reached)
 }
 
-// Brings a run to its end on this thread, and tells it.
+// Continues a run to its end on this thread, and returns its result.
 fn run_alone(alloc: Global, instance: &Instance, reached: Reached) -> Result<Run, AllocError>
     requires reached { HasCome instance.now reached }
     ensures run { (start : List ℕ) → (keeps : Bool) → IsReached instance.now start keeps reached

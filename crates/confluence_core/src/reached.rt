@@ -10,23 +10,23 @@ use crate::{End, Keep, Log, Run, Stuck, Units};
 use pop_instance::{Cursors, Instance, Values};
 use std::alloc::{AllocError, Global};
 
-/// How far a run has come. It goes on from here, on whichever threads, and keeps its log where it
-/// has one.
+/// The state of a run. The run can be continued from here, on any threads. If it has a log, it
+/// keeps it.
 #[derive(Drop)]
 pub struct Reached {
-    /// The cursors to which its pops led.
+    /// The cursors after its pops.
     pub cursors: Cursors,
-    /// How many events were popped.
+    /// The number of pops.
     pub pops: u64,
-    /// The log of the pops, where it is kept.
+    /// The log of the pops, if it is kept.
     pub log: Option<Log>,
-    /// Units that miss no event which is poppable at the cursors: of a listed one the unit is among
-    /// them, of a cycle some variable. Where there is none the run is at an end.
+    /// Units that cover every event that is poppable at the cursors: the unit of a listed event is
+    /// one of them, or some variable of a cycle is. If there are none, the run is at its end.
     pub suspects: Units,
 }
 
 impl Reached {
-    /// A run from these cursors before its first pop. It takes no memory.
+    /// A run from these cursors before its first pop. It allocates nothing.
     pub fn at(alloc: Global, cursors: Cursors, suspects: Units, keep: Keep) -> Reached
         ensures { result ≡ record (before_pops cursors (keeps_log keep)) { suspects = suspects } }
     {
@@ -38,8 +38,8 @@ impl Reached {
         }
     }
 
-    /// A run from these cursors, which are below the heights, before its first pop, with every unit
-    /// a suspect.
+    /// A run from these cursors, which must be below the heights, before its first pop, with every
+    /// unit a suspect.
     pub fn starting(
         alloc: Global,
         instance: &Instance,
@@ -77,8 +77,8 @@ impl Reached {
         }
     }
 
-    /// The run with another stretch behind it, which began where it had come, with a log where this
-    /// run has one.
+    /// The run with another stretch after it. The stretch must have begun at the state of this
+    /// run, with a log if this run has one.
     pub fn join(self, more: Reached) -> Result<Reached, AllocError>
         requires room { self.pops + more.pops < 2 ^ 64 }
         ensures { IfOk result (λ all. all ≡ joined self more) }
@@ -88,8 +88,8 @@ impl Reached {
         Ok(Reached { pops, log, ..more })
     }
 
-    /// The run as it is told, with the events that occur at its cursors and the values there. It
-    /// takes no memory.
+    /// The result of the run, with the events that occur at its cursors and the values there. It
+    /// allocates nothing.
     pub fn told(self, stuck: Stuck, values: Values) -> Run
         ensures { result ≡ record {
           end = record {
@@ -111,7 +111,7 @@ impl Reached {
     }
 }
 
-// The log with another behind it, where both are there.
+// The log with another one after it, if both exist.
 fn append(log: Option<Log>, more: Option<Log>) -> Result<Option<Log>, AllocError>
     ensures { IfOk result (λ all. all ≡ both_logs log more) }
 {

@@ -1,9 +1,9 @@
 use crate::{End, Log};
 
-/// What a run leaves.
+/// The result of a run.
 #[derive(Drop)]
 pub struct Run {
     pub end: End,
-    /// The log of the run's pops, where it is kept.
+    /// The log of the run's pops, if it is kept.
     pub log: Option<Log>,
 }

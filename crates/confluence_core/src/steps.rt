@@ -8,22 +8,23 @@ use crate::walk::Walk;
 use pop_stacks::Reader;
 use std::alloc::{AllocError, Global};
 
-/// The mark of a settled variable. One on the path has its place there plus 1. What another has
-/// means nothing: one that was popped off the path keeps its mark.
+/// The mark of a settled variable. The mark of a variable on the path is its place there plus 1.
+/// Any other mark has no meaning: a variable that was popped off the path keeps its mark.
 pub(crate) const SETTLED: u32 = u32::MAX;
 
-// Where the arrow of the last variable of a path leads.
+// The head of the arrow of the last variable of a path.
 enum Step {
-    // To this variable, which the walk hasn't met.
+    // It is this variable, which the walk has not met.
     On(u32),
-    // Back to this place of the path.
+    // It is at this place of the path.
     Back(usize),
-    // To the root or to a settled variable.
+    // It is the root or a settled variable.
     Rests,
 }
 
 impl<'a> Walk<'a> {
-    // Where a variable stands on the path: only where its mark says so, and it stands there.
+    // The place of a variable on the path, or None if it is not there. The variable is there only
+    // if it is found at the place that its mark gives.
     fn place_of(&self, variable: u32) -> Option<usize>
         requires sized { IsSized self.now }
         requires trail { HasPath self.now (self.now.depth + 1) }
@@ -41,7 +42,7 @@ impl<'a> Walk<'a> {
         Some(place)
     }
 
-    // Puts the variable to which the path leads onto it, and looks where its arrow leads.
+    // Adds the variable that the path leads to, and follows its arrow.
     fn extend(&mut self, reader: &mut Reader) -> Step
         requires walks { Walks self.old }
         requires belongs { Belongs self.old.current.stacks reader.old }
@@ -49,11 +50,11 @@ impl<'a> Walk<'a> {
         ensures extends { Extends self.old self.new }
         ensures reader { reader.new ≡ reader.old }
     {
-        // Read once: the writes may go anywhere, for all that the compiler knows.
+        // Read only once: for all that the compiler knows, the writes might change them.
         let (at, depth) = (self.at, self.depth);
         self.path[depth] = at;
         self.marks[at as usize] = depth as u32 + 1;
-        // By the entry, since `head` stays a call of its own, which each step would make.
+        // By the entry, since `head` would remain a call of its own at each step.
         let entry = self.walked.cursors.get(at);
         let Some(w) = self.current.head_at(reader, at, entry) else {
             return Step::Rests;
@@ -68,8 +69,9 @@ impl<'a> Walk<'a> {
         }
     }
 
-    /// Goes a step of a walk, and answers whether it goes on. A cycle that closes is popped, and
-    /// the walk goes on from where it closed; one that can't be popped ends the walk.
+    /// Makes one step of a walk, and returns whether the walk continues. A cycle that closes is
+    /// popped, and the walk continues from the variable that closed it. A cycle that cannot be
+    /// popped ends the walk.
     pub fn advance(&mut self, alloc: Global, reader: &mut Reader) -> Result<bool, AllocError>
         requires walks { Walks self.old }
         requires belongs { Belongs self.old.current.stacks reader.old }

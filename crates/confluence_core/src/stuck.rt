@@ -24,7 +24,7 @@ impl Model for Stuck {
 }
 
 impl Stuck {
-    /// A list with no event. It takes no memory.
+    /// A list without events. It allocates nothing.
     pub fn new(alloc: Global) -> Stuck
         ensures { result ≡ [] }
     {
@@ -33,14 +33,14 @@ impl Stuck {
         }
     }
 
-    /// How many events there are.
+    /// The number of events.
     pub fn len(&self) -> u64
         ensures { result ≡ length self.now }
     {
         self.events.len() as u64
     }
 
-    /// The unit and the cube of an event. Events count from 0.
+    /// The unit and the cube of event i. Events count from 0.
     pub fn at(&self, i: u64) -> (u32, &Cube)
         requires known { i < length self.now }
         ensures { slice_get self.now i ≡ Some (event_of (result.0, result.1.now)) }
@@ -69,7 +69,7 @@ impl Stuck {
         Ok(())
     }
 
-    // Puts the events in the order of their units.
+    // Sorts the events by their units.
     pub(crate) fn sort(&mut self)
         ensures permutation { IsPermutation self.old self.new }
         ensures sorted { IsNonDecreasingBy (λ e. e.unit) self.new }

@@ -22,7 +22,7 @@ impl Model for Tickets {
 }
 
 impl Tickets {
-    /// No ticket. It takes no memory.
+    /// No tickets. It allocates nothing.
     pub fn new(alloc: Global) -> Tickets
         ensures { result ≡ [] }
     {
@@ -31,14 +31,14 @@ impl Tickets {
         }
     }
 
-    /// How many tickets there are.
+    /// The number of tickets.
     pub fn len(&self) -> u64
         ensures { result ≡ length self.now }
     {
         self.members.len() as u64
     }
 
-    /// A ticket by its place in the list, which counts from 0.
+    /// The ticket at place i of the list, counted from 0.
     pub fn at(&self, i: u64) -> &Ticketed
         requires known { i < length self.now }
         ensures { slice_get self.now i ≡ Some (ticket_of result.now) }
@@ -55,7 +55,7 @@ impl Tickets {
         Ok(())
     }
 
-    /// The tickets themselves. It takes no memory.
+    /// The tickets as a list. It allocates nothing.
     pub fn into_vec(self) -> Vec<Ticketed>
         ensures { map ticket_of result.items ≡ self }
     {

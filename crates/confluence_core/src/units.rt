@@ -19,7 +19,7 @@ impl Model for Units {
 }
 
 impl Units {
-    /// A list with no unit. It takes no memory.
+    /// A list without units. It allocates nothing.
     pub fn new(alloc: Global) -> Units
         ensures { result ≡ [] }
     {
@@ -39,14 +39,14 @@ impl Units {
         Ok(units)
     }
 
-    /// These units. It takes no memory.
+    /// A list of these units. It allocates nothing.
     pub fn of(units: Vec<u32>) -> Units
         ensures { result ≡ units.items }
     {
         Units { units }
     }
 
-    /// How many units there are.
+    /// The number of units.
     pub fn len(&self) -> u64
         ensures { result ≡ length self.now }
     {
@@ -60,7 +60,7 @@ impl Units {
         self.units.is_empty()
     }
 
-    /// A unit by its place in the list, which counts from 0.
+    /// The unit at place i of the list, counted from 0.
     pub fn at(&self, i: u64) -> u32
         requires known { i < length self.now }
         ensures { slice_get self.now i ≡ Some result }

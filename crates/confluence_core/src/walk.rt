@@ -18,15 +18,15 @@ use std::alloc::{AllocError, Global};
 #[derive(Drop)]
 pub(crate) struct Walk<'a> {
     pub current: CurrentArrows<'a>,
-    /// What walks have left so far.
+    /// The state of the run after the walks so far.
     pub walked: Walked,
-    /// `SETTLED` for each settled variable, and for each on the path its place there plus 1. What
-    /// another has means nothing.
+    /// `SETTLED` for each settled variable. For each variable on the path it is its place there
+    /// plus 1. Any other mark has no meaning.
     pub marks: Vec<u32>,
-    /// The path stands at the first `depth` places.
+    /// The first `depth` places are the path.
     pub path: Vec<u32>,
     pub depth: usize,
-    /// The variable to which the path leads.
+    /// The variable that the path leads to.
     pub at: u32,
 }
 
@@ -56,7 +56,7 @@ impl<'a> Walk<'a> {
         })
     }
 
-    // Walks from a variable until it is settled, and settles what was met.
+    // Walks from a variable until it is settled, and settles all variables that were met.
     fn settle(&mut self, alloc: Global, reader: &mut Reader, start: u32) -> Result<(), AllocError>
         requires stands { Stands self.old }
         requires known { start < length self.old.current.heads }
@@ -79,7 +79,7 @@ impl<'a> Walk<'a> {
     }
 }
 
-// So many zeros, twice.
+// Two lists of `count` zeros.
 fn zeros_twice(alloc: Global, count: usize) -> Result<(Vec<u32>, Vec<u32>), AllocError>
     ensures first { IfOk result (λ both. both.0.items ≡ replicate count 0) }
     ensures second { IfOk result (λ both. both.1.items ≡ replicate count 0) }
@@ -89,10 +89,10 @@ fn zeros_twice(alloc: Global, count: usize) -> Result<(Vec<u32>, Vec<u32>), Allo
     Ok((first, second))
 }
 
-/// What walks leave from here on. They begin at each variable in turn, until no cycle can be popped
-/// or the limit is reached, and list the cycles that occur then. Each walk looks at an entry once
-/// more than it pops cycles there, so the time is linear in the variables, their entries that are
-/// used and, but for a logarithm, the variables of stuck cycles.
+/// The state of the run after walks from each variable in turn, until no cycle can be popped or
+/// the limit is reached. The cycles that occur then are listed. At each variable the walks read as
+/// many entries as they pop cycles there, and one more. So the time is linear in the variables,
+/// their used entries and, except for a logarithm, the variables of stuck cycles.
 pub(crate) fn left_by_walks(
     alloc: Global,
     current: CurrentArrows,

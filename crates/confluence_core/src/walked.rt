@@ -11,21 +11,21 @@ use pop_instance::Cursors;
 use pop_stacks::Reader;
 use std::alloc::{AllocError, Global};
 
-/// What walks have left so far.
+/// The state of a run after some walks.
 #[derive(Drop)]
 pub(crate) struct Walked {
     pub cursors: Cursors,
     pub pops: u64,
-    /// The walks make no pop more once there are so many.
+    /// The walks stop popping when the number of pops reaches this limit.
     pub limit: u64,
-    /// The log of the pops, where it is kept.
+    /// The log of the pops, if it is kept.
     pub log: Option<Log>,
     /// The cycles that were found stuck.
     pub stuck: Stuck,
 }
 
 impl Walked {
-    // Keeps the record of the pop of these variables' cycle, where the log is kept.
+    // Adds the record of the pop of these variables' cycle, if the log is kept.
     fn keep_record(
         &mut self,
         alloc: Global,
@@ -51,7 +51,8 @@ impl Walked {
         Ok(())
     }
 
-    // Notes the cycle of these variables as stuck. It is rare, and has no part in the loop of walks.
+    // Notes the cycle of these variables as stuck. This is rare, so it is not inlined into the
+    // loop of walks.
     #[inline(never)]
     fn note(
         &mut self,
@@ -75,8 +76,8 @@ impl Walked {
         Ok(())
     }
 
-    /// Pops the cycle of these variables; or notes it, where one of them is at its last entry or the
-    /// limit is reached. Whether it was popped.
+    /// Pops the cycle of these variables. If one of them is at its last entry or the limit is
+    /// reached, it notes the cycle instead. Returns whether it was popped.
     pub fn pop_or_note(
         &mut self,
         alloc: Global,
@@ -104,8 +105,8 @@ impl Walked {
     }
 }
 
-// Whether the cycle of these variables is to be popped: each has an entry behind its cursor, and
-// the limit isn't reached.
+// Whether the cycle of these variables can be popped: each has an entry after its cursor, and the
+// limit is not reached.
 fn is_to_pop(current: &CurrentArrows, walked: &Walked, members: &[u32]) -> bool
     requires known { All (λ v. v < length current.now.heads) members.now }
     requires cursors { AreCursors current.now walked.now.cursors }

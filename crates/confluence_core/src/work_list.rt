@@ -7,11 +7,11 @@ use pop_instance::{Cube, Index};
 use std::alloc::{AllocError, Global};
 use std::marker::Model;
 
-/// Units that are still to be looked at. A unit stands in the list once.
+/// The units that still have to be judged. Each is in the list at most once.
 #[derive(Drop)]
 pub struct WorkList {
     waiting: Vec<u32>,
-    // For each unit whether it waits.
+    // For each unit whether it is in the list.
     marks: Vec<bool>,
 }
 
@@ -27,7 +27,7 @@ impl Model for WorkList {
 }
 
 impl WorkList {
-    /// A list for so many units, with none in it.
+    /// An empty list for this many units.
     pub fn new(alloc: Global, units: u32) -> Result<WorkList, AllocError>
         ensures { IfOk result (λ work. work ≡ record { units = units; list = [] }) }
     {
@@ -37,7 +37,7 @@ impl WorkList {
         })
     }
 
-    /// A list for so many units, in which these wait.
+    /// A list for this many units, with these units in it.
     pub fn of(alloc: Global, units: u32, waiting: &[u32]) -> Result<WorkList, AllocError>
         requires known { All (λ u. u < units) waiting.now }
         ensures units { IfOk result (λ work. work.units ≡ units) }
@@ -48,7 +48,7 @@ impl WorkList {
         Ok(work)
     }
 
-    /// Takes a unit out of the list.
+    /// Removes a unit from the list and returns it.
     pub fn take(&mut self) -> Option<u32>
         ensures { MatchOption result
             ((self.old.list ≡ []) × (self.new ≡ self.old)) (Gives self.old self.new) }
@@ -58,7 +58,7 @@ impl WorkList {
         Some(unit)
     }
 
-    /// Puts a unit into the list, unless it waits already.
+    /// Adds a unit to the list, unless it is there already.
     pub fn add(&mut self, unit: u32) -> Result<(), AllocError>
         requires known { unit < self.old.units }
         ensures { OnOk result (Gains self.old self.new (unit ∷ [])) }
@@ -71,7 +71,7 @@ impl WorkList {
         Ok(())
     }
 
-    /// Puts units into the list.
+    /// Adds units to the list.
     pub fn add_all(&mut self, units: &[u32]) -> Result<(), AllocError>
         requires known { All (λ u. u < self.old.units) units.now }
         ensures { OnOk result (Gains self.old self.new units.now) }
@@ -82,7 +82,7 @@ impl WorkList {
         Ok(())
     }
 
-    /// Puts into the list the units of all events that share a variable with the cube.
+    /// Adds the units of all events that share a variable with the cube.
     pub fn add_sharing(&mut self, index: &Index, cube: &Cube) -> Result<(), AllocError>
         requires known { NamesBelow cube.now (length index.now) }
         requires units { (v : ℕ) → v < length index.now
@@ -96,7 +96,7 @@ impl WorkList {
         Ok(())
     }
 
-    /// The units that wait. It takes no memory.
+    /// The units in the list. It allocates nothing.
     pub fn into_units(self) -> Units
         ensures units { result ≡ self.list }
         ensures known { All (λ u. u < self.units) result }

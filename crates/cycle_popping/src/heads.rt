@@ -10,9 +10,9 @@ use pop_instance::Arrows;
 use pop_rows::RowList;
 use std::alloc::{AllocError, Global};
 
-/// The arrows of the spanning trees that lead to a root: the variables are the vertices but the
-/// root, rising; the slots of a variable are the edges at its vertex that aren't loops, in the
-/// order of the graph, and lead to their other ends. Each vertex is joined to the root by a path.
+/// The arrows of the spanning trees that lead to a root. The variables are the vertices without
+/// the root, rising. The slots of a variable are the edges at its vertex, without self-loops, in
+/// the order of the graph; each leads to the other end. Each vertex must be connected to the root.
 /// Time and memory are linear in the vertices and edges.
 pub fn arrows(alloc: Global, graph: &Graph, root: u32) -> Result<Arrows, AllocError>
     requires root { IsVertex graph.now.vertices root }
@@ -23,7 +23,7 @@ pub fn arrows(alloc: Global, graph: &Graph, root: u32) -> Result<Arrows, AllocEr
     arrows_of(alloc, &ends, root)
 }
 
-/// The arrows of a graph whose edges at each vertex are at hand: those of `arrows`.
+/// The arrows of a graph, given by the edges at each vertex. They are those of `arrows`.
 pub fn arrows_of<A: Adjacency>(
     alloc: Global,
     adjacency: &A,
@@ -36,7 +36,7 @@ pub fn arrows_of<A: Adjacency>(
     let count = adjacency.vertices() - 1;
     let mut rows = RowList::with_room(alloc, count as usize, adjacency.ends())?;
 
-    // Two lists serve each variable in turn.
+    // Two lists are reused for each variable in turn.
     let mut neighbours = Vec::new(alloc);
     let mut heads = Vec::new(alloc);
     for v in 0..count {
@@ -50,8 +50,8 @@ pub fn arrows_of<A: Adjacency>(
     Ok(arrows)
 }
 
-// Puts into a list, in place of what it has, the numbers of vertices as heads: of the root the
-// number given, and of any other vertex its variable.
+// Replaces the contents of a list by the numbers of vertices as heads: this number for the root,
+// and its variable for any other vertex.
 fn fill_heads(
     heads: &mut Vec<u32>,
     vertices: &[u32],

@@ -1,6 +1,6 @@
 //! Rooted spanning trees of a graph by cycle popping (Propp and Wilson 1998): their arrows, the
-//! weights of these, and the loop-erased walk. Contracts see graphs, arrows and weights as in the
-//! definitions.
+//! weights of the arrows, and the loop-erased walk. Contracts see graphs, arrows and weights as in
+//! the definitions.
 #![tactic(auto)]
 
 mod grids;

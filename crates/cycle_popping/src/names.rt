@@ -2,7 +2,7 @@
 ghost use Rattle.std.specs.Prelude.{◌≡◌, ◌≤◌};
 ghost use Rattle.cycle_popping.specs.Trees.{variable_of as variable_in};
 
-// The variable of a vertex; None is the root.
+// The variable of a vertex, or None for the root.
 pub(crate) fn variable_of(root: u32, vertex: u32) -> Option<u32>
     requires root { 1 ≤ root }
     requires vertex { 1 ≤ vertex }

@@ -7,9 +7,9 @@ use confluence_core::{End, Keep, run_from_zeros};
 use pop_instance::Instance;
 use std::alloc::{AllocError, Global};
 
-/// The loop-erased walk from each variable in turn, over an instance whose events are the cycles of
-/// arrows. It ends as the one-thread run does, which pops the poppable cycle of least variable each
-/// time.
+/// The loop-erased walk from each variable in turn. The events of the instance must be the cycles
+/// of arrows. It has the end of the one-thread run, which always pops the poppable cycle with the
+/// lowest variable.
 pub fn run_walks(alloc: Global, instance: &Instance) -> Result<End, AllocError>
     requires cycles { AreCycles instance.now.family }
     ensures end { IfOk result (λ end. IsFirstEnd instance.now end.cursors end.pops end.stuck) }

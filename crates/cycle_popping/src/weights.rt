@@ -8,9 +8,9 @@ use pop_rows::RowList;
 use pop_stacks::{Rows, Weights};
 use std::alloc::{AllocError, Global};
 
-/// The weights of the arrows of the spanning trees that lead to a root: each slot has the weight of
-/// its edge. Variables and slots are those of `arrows`, and so is the condition. Time and memory
-/// are linear in the vertices and edges.
+/// The weights of the arrows of the spanning trees that lead to a root. The weight of a slot is
+/// that of its edge. Variables, slots and the condition are those of `arrows`. Time and memory are
+/// linear in the vertices and edges.
 pub fn arrow_weights(alloc: Global, graph: &Graph, root: u32) -> Result<Weights, AllocError>
     requires root { IsVertex graph.now.vertices root }
     requires joined { IsConnected graph.now root }
@@ -20,7 +20,8 @@ pub fn arrow_weights(alloc: Global, graph: &Graph, root: u32) -> Result<Weights,
     weights_of(alloc, &ends, root)
 }
 
-/// The weights of the arrows of a graph whose other ends are at hand: those of `arrow_weights`.
+/// The weights of the arrows of a graph, given by the other ends of its edges. They are those of
+/// `arrow_weights`.
 pub fn weights_of(alloc: Global, ends: &OtherEnds, root: u32) -> Result<Weights, AllocError>
     requires root { IsVertex ends.now.vertices root }
     requires joined { IsConnected ends.now root }
@@ -44,7 +45,7 @@ fn all_weigh_one(graph: &Graph) -> bool
     true
 }
 
-/// The weights of the arrows where each edge has weight 1: they are not stored slot by slot.
+/// The weights of the arrows if each edge has weight 1. They are not stored slot by slot.
 pub(crate) fn ones_of<A: Adjacency>(
     alloc: Global,
     adjacency: &A,

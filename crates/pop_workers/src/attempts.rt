@@ -9,10 +9,10 @@ use std::alloc::{AllocError, Global};
 use std::sync::{Mutex, Wait};
 use worker_hints::Worker;
 
-// A worker ends after so many turns.
+// The largest number of turns of a worker, after which it ends.
 const MOST_TURNS: u64 = 1 << 32;
 
-/// The work of a worker on a book under a lock: each turn is one attempt at a unit.
+/// The work of one worker on a book under a lock. In each turn it attempts one unit.
 pub(crate) fn attempt_in_turns<N: Site, R: Wait, G: Gate>(
     rt: &R,
     alloc: Global,

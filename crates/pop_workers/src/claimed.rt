@@ -18,14 +18,14 @@ use pop_log::merge;
 use std::alloc::{AllocError, Global};
 use std::thread::Threads;
 
-/// A run by 1 to 64 workers that claim words of a board, from cursors that are below the heights.
-/// The result has a log exactly where it is kept, and then it is that of all pops; on an extremal
-/// instance, from zeros, its end is that of the one-thread run. It is refused only where the caller
-/// found no memory.
+/// A run by 1 to 64 workers that claim words of a board, from cursors that must be below the
+/// heights. The result has a log exactly if it is kept; the log has all pops. On an extremal
+/// instance, from zeros, the end is that of the one-thread run. `AllocError` is returned only if
+/// the caller ran out of memory.
 ///
-/// Each worker has a thread of its own, where one can be started; the caller does the work of the
-/// others itself. All threads are joined, and none waits for another. With one worker there is no
-/// board: after the gate a run on the calling thread serves.
+/// Each worker has its own thread, if one can be started; the caller does the work of the others
+/// itself. All threads are joined, and none waits for another. With one worker there is no board:
+/// after the gate the run is made on the calling thread.
 pub fn sample_claimed<R: Threads + Sync, G: Gate + Sync>(
     rt: &R,
     alloc: Global,
@@ -54,7 +54,7 @@ pub fn sample_claimed<R: Threads + Sync, G: Gate + Sync>(
     makers.tell(alloc, instance, end)
 }
 
-/// How far a run has come by what a closed board leaves.
+/// The state of a run, from a closed board.
 pub(crate) fn left_by(alloc: Global, closed: Closed) -> Result<Reached, AllocError>
     requires numbered { IfSome closed.log AreNumbered }
     ensures { IfOk result (IsLeftBy closed) }
@@ -74,7 +74,7 @@ pub(crate) fn left_by(alloc: Global, closed: Closed) -> Result<Reached, AllocErr
     })
 }
 
-// The log of the tickets, where they are kept.
+// The log of the tickets, if they are kept.
 fn merged(alloc: Global, tickets: Option<Tickets>) -> Result<Option<Log>, AllocError>
     requires numbered { IfSome tickets AreNumbered }
     ensures { IfOk result (AreMerged tickets) }

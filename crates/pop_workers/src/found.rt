@@ -1,12 +1,13 @@
-/// What an attempt at a unit came to.
+/// The result of a worker's search at a unit.
 #[derive(Clone, Copy)]
 pub(crate) enum Found {
     /// An event was popped, and more may be poppable there.
     Popped,
-    /// No event of the unit is poppable, of a walk none with its start.
+    /// No event of the unit is poppable. For a walk, no poppable cycle can be reached from its
+    /// start.
     Done,
-    /// Another pass had claimed a variable.
+    /// A variable was claimed by another pass.
     Met,
-    /// There was no memory.
+    /// Out of memory.
     NoMemory,
 }

@@ -1,7 +1,7 @@
-/// Where workers pass before each turn; a test may hold one there.
+/// A gate that each worker passes before each of its turns. A test may hold a worker there.
 pub trait Gate {
-    /// Worker `worker` calls it before its turn number `turn`, from 0, while it holds no lock. Each
-    /// worker calls it for turn 0, also where it has no unit.
+    /// Worker `worker` calls this before its turn number `turn`, counted from 0, while it holds no
+    /// lock. Each worker calls it for turn 0, even if it has no units.
     fn at(&self, worker: u32, turn: u64);
 }
 

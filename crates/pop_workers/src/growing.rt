@@ -49,7 +49,7 @@ pub fn sample_grown<R: Threads + Wait + Sync, G: Gate + Sync>(
     ensures run { IfOk result (IsRunOf (instance_raised last instance.old) (start_of instance.old)
         (keeps_log keep)) }
 
-    // The stages, of which the last began at the height that the instance keeps.
+    // The stages. The last one began at the height that the instance keeps.
     ensures stages { IfOk result (AreStages last instance.old (keeps_log keep) instance.new) }
     ensures last { IfOk result (λ run. IsLast last instance.new run.end.stuck) }
     ensures begun { HasBegun last instance.old (keeps_log keep) instance.new }
@@ -90,14 +90,14 @@ fn all_stages<R: Threads + Wait + Sync, G: Gate + Sync>(
     'stages: while let Some(height) = height_to_come(instance, &end.1, last) {
         let (mut reached, stuck) = end;
         instance.raise(height);
-        // What is poppable at the new height occurred at the end before.
+        // An event that is poppable at the new height occurred at the end before.
         reached.suspects = stuck.units(alloc)?;
         end = makers.stage(alloc, instance, reached)?;
     }
     Ok(end)
 }
 
-// The height of the stage behind one that left this, where there is to be one.
+// The height of the next stage, if there is to be one.
 fn height_to_come(instance: &Instance, stuck: &Stuck, last: u32) -> Option<u32>
     requires stuck { (c : List ℕ) × IsStuckList instance.now c stuck.now }
     requires keyed { IsKeyed instance.now.stacks.origin }

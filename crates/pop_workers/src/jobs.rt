@@ -1,4 +1,4 @@
-//! The workers beside the caller, each with a pass and hints of its own.
+//! The workers other than the caller, each with its own pass and hints.
 ghost use Rattle.std.specs.Prelude.{◌≡◌, ◌+◌, ◌<◌, length, All, IfOk, OnOk};
 ghost use Rattle.pop_stacks.specs.Readers.{Belongs};
 ghost use Rattle.claim_words.specs.Passes.{view, instance_of};
@@ -15,8 +15,8 @@ use std::thread;
 use std::thread::Threads;
 use worker_hints::{Own, Range};
 
-/// What a worker beside the caller has: its pass, its deque, and its reader once it has worked, or
-/// none where it found no memory. Their places in a list count from worker 1 on.
+/// The state of a worker other than the caller: its pass, its deque, and its reader after it has
+/// worked, or None if it ran out of memory. In a list of jobs the first one is worker 1.
 pub(crate) type Job<W> = (Pass, Own<W>, Option<Reader>);
 
 /// The caller's own deque, and the jobs of the others.
@@ -60,7 +60,7 @@ fn job_for<W: Range>(board: &Board, pass: &mut Pass, own: Own<W>) -> Job<W>
     (board.split(pass, 1), own, None)
 }
 
-/// Lets the workers of these jobs work, each in a thread of its own where one can be started.
+/// Starts the workers of these jobs, each on its own thread if one can be started.
 pub(crate) fn work_beside<'i, 'x, W: Range + Sync + Send, R: Threads + Sync, G: Gate + Sync>(
     rt: &R,
     board: &Board<'i>,
@@ -90,8 +90,8 @@ pub(crate) fn work_beside<'i, 'x, W: Range + Sync + Send, R: Threads + Sync, G: 
     );
 }
 
-// The work of one job, behind which it has the reader. A worker that finds no memory ends its turns;
-// the others and at last the caller finish what it leaves.
+// The work of one job, which has the reader after that. A worker that runs out of memory ends its
+// turns; the others, and finally the caller, finish what it leaves.
 fn do_job<W: Range, G: Gate>(
     board: &Board,
     shared: &Shared<W>,
@@ -112,8 +112,8 @@ fn do_job<W: Range, G: Gate>(
     job.2 = Some(tools.reader);
 }
 
-/// Takes the passes of all jobs in again, and their readers, by their workers. Where a log is kept, a
-/// pass wants memory too.
+/// Joins the passes of all jobs to the caller's, and collects their readers, in the order of the
+/// workers. If a log is kept, a join allocates memory.
 pub(crate) fn take_back<W: Range>(
     alloc: Global,
     board: &Board,
@@ -129,7 +129,7 @@ pub(crate) fn take_back<W: Range>(
         All (Belongs (instance_of board.now).stacks) readers.items) }
 {
     let mut jobs = jobs;
-    // Room for the caller's reader too.
+    // Includes room for the caller's reader.
     let mut readers = Vec::with_capacity(alloc, jobs.len() + 1)?;
     while let Some(job) = jobs.pop() {
         take_one(board, pass, job, &mut readers)?;
@@ -137,7 +137,7 @@ pub(crate) fn take_back<W: Range>(
     Ok(readers)
 }
 
-// Takes the pass of a job in again, and puts its reader before others, where it has one.
+// Joins the pass of a job to the caller's, and puts its reader before the others, if it has one.
 fn take_one<W: Range>(
     board: &Board,
     pass: &mut Pass,

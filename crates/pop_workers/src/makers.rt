@@ -100,7 +100,7 @@ impl<'c, R, G> Makers<'c, R, G> {
         })
     }
 
-    // Goes on with a run to an end on the calling thread, and looks up what is stuck there.
+    // Continues a run to its end on the calling thread, and finds the events that are stuck there.
     fn end(
         &mut self,
         alloc: Global,
@@ -117,7 +117,7 @@ impl<'c, R, G> Makers<'c, R, G> {
         over.finish(alloc, &mut self.reader, reached)
     }
 
-    // The same behind a stretch that workers made from where the run had come.
+    // Like `end`, after a stretch that the workers made from the state of the run.
     fn end_behind(
         &mut self,
         alloc: Global,
@@ -137,7 +137,8 @@ impl<'c, R, G> Makers<'c, R, G> {
         self.end(alloc, instance, joined)
     }
 
-    /// Tells where a run has come, with what is stuck there. The values are looked up.
+    /// The result of a run at its state, with the events that are stuck there. The values are read
+    /// here.
     pub(crate) fn tell(
         self,
         alloc: Global,
@@ -155,7 +156,7 @@ impl<'c, R, G> Makers<'c, R, G> {
         Ok(reached.told(stuck, values))
     }
 
-    // The value of each variable at its cursor, which is the last that the readers look up.
+    // The value of each variable at its cursor. After this the readers are no longer used.
     fn values(
         self,
         alloc: Global,
@@ -183,7 +184,8 @@ impl<'c, R, G> Makers<'c, R, G> {
 }
 
 impl<'c, R: Threads + Sync, G: Gate + Sync> Makers<'c, R, G> {
-    /// Goes on with a run to an end, and looks up what is stuck there. Several workers claim words.
+    /// Continues a run to its end, and finds the events that are stuck there. Several workers
+    /// claim words.
     pub(crate) fn claimed_stage(
         &mut self,
         alloc: Global,
@@ -204,7 +206,7 @@ impl<'c, R: Threads + Sync, G: Gate + Sync> Makers<'c, R, G> {
         self.end_behind(alloc, instance, reached, more)
     }
 
-    // How far the workers come on a board that opens where a run has come.
+    // The state of a run after the workers have popped on a board that starts from it.
     fn claim(
         &mut self,
         alloc: Global,
@@ -227,8 +229,8 @@ impl<'c, R: Threads + Sync, G: Gate + Sync> Makers<'c, R, G> {
         }
     }
 
-    // Lets the workers bring a board to its end. Worker 0 goes on with the reader that keeps what was
-    // seen last.
+    // Lets the workers pop on a board to its end. Worker 0 continues with the reader that has the
+    // newest cache.
     fn work_on<'i>(
         &mut self,
         alloc: Global,

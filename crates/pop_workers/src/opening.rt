@@ -9,7 +9,7 @@ use confluence_core::{Keep, Reached};
 use pop_instance::{Cursors, Instance};
 use std::alloc::{AllocError, Global};
 
-/// The cursors before any pop of an instance, from which a whole run begins.
+/// The cursors before any pop of an instance, from which a whole run starts.
 pub fn zeros_of(alloc: Global, instance: &Instance) -> Result<Cursors, AllocError>
     ensures zeros { IfOk result (λ zeros. zeros ≡ start_of instance.now) }
     ensures count { IfOk result (λ zeros. variables_of instance.now.stacks ≡ length zeros) }
@@ -19,7 +19,7 @@ pub fn zeros_of(alloc: Global, instance: &Instance) -> Result<Cursors, AllocErro
     Cursors::zeros(alloc, instance.stacks().count())
 }
 
-/// A run from cursors that are below the heights, before its first pop.
+/// A run before its first pop, from cursors that must be below the heights.
 pub(crate) fn opening_from(
     alloc: Global,
     instance: &Instance,

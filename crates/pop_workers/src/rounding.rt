@@ -1,5 +1,5 @@
-//! What a sole pass does to the end of a board: the work that is left, and rounds over all units
-//! until one pops nothing.
+//! The last part of the work on a board, by its only pass: the work that is left, and then rounds
+//! over all units until a round pops nothing.
 ghost use Rattle.std.specs.Prelude.{OnOk, IfOk};
 ghost use Rattle.pop_model.specs.Families.{units_of};
 ghost use Rattle.claim_words.specs.Passes.{view, opening_of};
@@ -16,8 +16,8 @@ use claim_words::{Board, Pass};
 use std::alloc::AllocError;
 use worker_hints::{Own, Range};
 
-/// Brings a board to its end: the work at the hints that are left, and rounds of a sole pass over
-/// all units, until one pops nothing.
+/// Continues a board to its end. The only pass works at the hints that are left. Then it makes
+/// rounds over all units until a round pops nothing.
 pub(crate) fn round_off<W: Range>(
     board: &Board,
     pass: &mut Pass,
@@ -43,8 +43,8 @@ pub(crate) fn round_off<W: Range>(
     }
 }
 
-// A round: a look at each unit. Behind a pop the work at its hints goes first, so that a round
-// seldom leaves anything to the next. Whether it popped nothing.
+// One round: a search at each unit. After a pop the work at its hints is done first, so that a
+// round rarely leaves anything to the next. Returns whether it popped nothing.
 fn pops_nothing<W: Range>(
     board: &Board,
     pass: &mut Pass,

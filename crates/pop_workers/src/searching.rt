@@ -1,4 +1,4 @@
-//! One look of a worker for an event, and the hints behind a pop.
+//! A worker's search for an event at a unit, and its hints after a pop.
 ghost use Rattle.std.specs.Prelude.{◌≡◌, ◌<◌, ◌≤◌, All, length};
 ghost use Rattle.pop_model.specs.Popping.{NamesBelow};
 ghost use Rattle.pop_model.specs.Families.{units_of};
@@ -14,8 +14,8 @@ use event_finders::{Tried, WalkBounds, try_unit, walk_on};
 use pop_instance::{Cube, Family, Index};
 use worker_hints::{Own, Range, give, give_all};
 
-/// Looks for an event at a unit, and pops it. Of a cycle family the unit is where a walk starts,
-/// which pops so many cycles at most, and one at least.
+/// Searches for an event at a unit, and pops it. For a cycle family the unit is the start of a
+/// walk, which pops at most this many cycles and must be allowed at least one.
 pub(crate) fn search<W: Range>(
     board: &Board,
     pass: &mut Pass,
@@ -47,7 +47,7 @@ pub(crate) fn search<W: Range>(
     found(try_unit(board, pass, instance, index, reader, unit))
 }
 
-// What a finder's answer comes to.
+// The result of a search by that of its finder.
 fn found(tried: Tried) -> Found
     ensures { result ≡ found_in tried }
 {
@@ -59,8 +59,8 @@ fn found(tried: Tried) -> Found
     }
 }
 
-/// Puts hints where a pop at this unit may have made events poppable: at each unit whose event
-/// shares a variable with it; for a walk, at its start.
+/// Adds hints for the units at which a pop at this unit may have made events poppable: each unit
+/// with an event that shares a variable with it, or the start of a walk.
 pub(crate) fn spread<W: Range>(shared: &Shared<W>, own: &mut Own<W>, unit: u32)
     requires index { IsIndexed shared.now.instance.now shared.now.index.now }
     requires range { units_of shared.now.instance.now.family ≡ W.units }
@@ -73,7 +73,7 @@ pub(crate) fn spread<W: Range>(shared: &Shared<W>, own: &mut Own<W>, unit: u32)
     }
 }
 
-// Puts hints at all units whose event shares a variable with this one.
+// Adds hints for all units with an event that shares a variable with this one.
 fn give_sharers<W: Range>(own: &mut Own<W>, index: &Index, cube: &Cube)
     requires named { NamesBelow cube.now (length index.now) }
     requires known { All (λ row. All (λ unit. unit < W.units) row) index.now }

@@ -7,7 +7,7 @@ use worker_hints::{Other, Range};
 pub(crate) struct Shared<'s, 'x, W: Range> {
     pub alloc: Global,
     pub instance: &'s Instance,
-    /// For each variable the events that name it, of a listed family.
+    /// For each variable the events that name it, if the family is listed.
     pub index: &'x Option<Index>,
     /// The deques of all workers, by their numbers.
     pub all: Vec<Other<W>>,

@@ -7,8 +7,8 @@ use pop_instance::{Family, Instance};
 use pop_stacks::Reader;
 use std::alloc::{AllocError, Global};
 
-/// What a worker searches with: its number, a reader, which keeps what it looked at, and for a
-/// cycle family what is kept of a walk.
+/// What a worker needs for its searches: its number, a reader with a cache and, for a cycle
+/// family, the memory of a walk.
 #[derive(Drop)]
 pub(crate) struct Tools {
     pub worker: u32,
@@ -17,7 +17,7 @@ pub(crate) struct Tools {
 }
 
 impl Tools {
-    /// The tools of a worker for the events of an instance, with a reader that keeps nothing yet.
+    /// The tools of a worker for the events of an instance. Its reader has an empty cache.
     pub fn of(alloc: Global, instance: &Instance, worker: u32) -> Result<Tools, AllocError>
         ensures tools { IfOk result (λ tools. AreTools instance.now tools.reader tools.walker) }
         ensures worker { IfOk result (λ tools. tools.worker ≡ worker) }

@@ -2,9 +2,9 @@ ghost use Rattle.std.specs.Prelude.{◌≡◌, ◌<◌, IfSome};
 
 use worker_hints::Worker;
 
-/// Which units a worker tries, turn by turn: those that leave its number when they are divided by
-/// the number of workers, from the least on. It goes over them again and again, until it popped
-/// nothing from the least to the last.
+/// The units that a worker tries, turn by turn. They are the units with the worker's number as the
+/// remainder modulo the number of workers, from the lowest on. The worker repeats them until it
+/// popped nothing from the first to the last.
 #[derive(Drop)]
 pub(crate) struct Turns {
     worker: Worker,
@@ -14,7 +14,7 @@ pub(crate) struct Turns {
 }
 
 impl Turns {
-    /// The turns of this worker, over so many units.
+    /// The turns of this worker, over this many units.
     pub fn of(worker: Worker, units: u32) -> Turns
         ensures { result.units ≡ units }
     {
@@ -26,7 +26,7 @@ impl Turns {
         }
     }
 
-    /// The unit of the next turn; None where the worker ends.
+    /// The unit of the next turn, or None if the worker ends.
     pub fn next(&mut self) -> Option<u32>
         ensures known { IfSome result (λ unit. unit < self.old.units) }
         ensures units { self.new.units ≡ self.old.units }
@@ -43,7 +43,7 @@ impl Turns {
         Some(unit)
     }
 
-    /// Notes that the unit given last was popped.
+    /// Notes that an event of the unit returned last was popped.
     pub fn note_pop(&mut self)
         ensures { self.new.units ≡ self.old.units }
     {

@@ -24,15 +24,15 @@ use std::marker::Brand;
 use std::thread::{Threads, join_mut};
 use worker_hints::{Other, Own, Range, Worker, deal};
 
-/// Lets 1 to 64 workers pop the events of a board, which is one of the instance, until none is
-/// poppable. The pass is idle and has all 64 shares, before and after. It is refused only where the
-/// caller found no memory: then the pass is idle, and may have fewer shares, so that its board
-/// can't be closed.
+/// Lets 1 to 64 workers pop the events of a board, which must be one of the instance, until none
+/// is poppable. The pass is idle and has all 64 shares, before and after. `AllocError` is returned
+/// only if the caller ran out of memory. Then the pass is idle, and may have fewer shares, so that
+/// its board cannot be closed.
 ///
-/// Worker 0 is the caller, with the pass; each other has a pass of share 1 that is split from it,
-/// and a thread where one can be started. Each begins with one block of the units as its hints.
-/// No call waits for a claim: all end once no deque has a hint, and what they leave the caller
-/// finishes alone.
+/// Worker 0 is the caller, with the pass. Each other worker has a pass of share 1 that is split
+/// from it, and a thread if one can be started. Each starts with one block of the units as its
+/// hints. No call waits for a claim. All workers end when no deque has a hint, and the caller
+/// finishes what they leave alone.
 pub fn work_claimed<'i, R: Threads + Sync, G: Gate + Sync>(
     rt: &R,
     alloc: Global,
@@ -64,8 +64,8 @@ pub fn work_claimed<'i, R: Threads + Sync, G: Gate + Sync>(
     Ok(())
 }
 
-/// The same, by the index of the family, with the tools of worker 0, and where the number of units
-/// was picked. The readers of the others come back, with what each of them keeps.
+/// Like `work_claimed`, with the index of the family and the tools of worker 0, after the number
+/// of units was chosen. Returns the readers of the others, with their caches.
 pub(crate) fn work_by<'i, W: Range + Send + Sync, R: Threads + Sync, G: Gate + Sync>(
     alloc: Global,
     crew: Workers<R, G>,
@@ -101,7 +101,7 @@ pub(crate) fn work_by<'i, W: Range + Send + Sync, R: Threads + Sync, G: Gate + S
     others
 }
 
-// The same, with the deques of all workers.
+// Like `work_by`, with the deques of all workers.
 fn work_with<'i, 'x, W: Range + Send + Sync, R: Threads + Sync, G: Gate + Sync>(
     crew: Workers<R, G>,
     board: &Board<'i>,
@@ -133,8 +133,8 @@ fn work_with<'i, 'x, W: Range + Send + Sync, R: Threads + Sync, G: Gate + Sync>(
     others
 }
 
-// The work of all workers, each up to where no deque has a hint: of the caller, with these tools, and
-// of the others, each in a thread of its own where one can be started.
+// The work of all workers, until no deque has a hint. The caller uses these tools; each other
+// worker has its own thread if one can be started.
 fn work_at_once<'i, 'x, W: Range + Send + Sync, R: Threads + Sync, G: Gate + Sync>(
     crew: Workers<R, G>,
     board: &Board<'i>,
@@ -171,8 +171,8 @@ fn work_at_once<'i, 'x, W: Range + Send + Sync, R: Threads + Sync, G: Gate + Syn
     );
 }
 
-// Takes the passes of the others in again, and brings the board to its end with these tools. The
-// readers of the others.
+// Joins the passes of the others to the caller's, and continues the board to its end with these
+// tools. Returns the readers of the others.
 fn bring_in<W: Range>(
     board: &Board,
     pass: &mut Pass,
@@ -197,7 +197,7 @@ fn bring_in<W: Range>(
     Ok(readers)
 }
 
-// The deques of so many workers, with their first hints.
+// The deques of this many workers, with their first hints.
 fn deal_all<W: Range>(alloc: Global, workers: u32, units: u32) -> Result<Vec<Own<W>>, AllocError>
     requires range { units ≡ W.units }
     ensures { IfOk result (λ deques. length deques.items ≡ workers) }

@@ -1,4 +1,4 @@
-/// Who works on a board: so many workers on threads of a runtime, which pass a gate.
+/// The workers of a board: a number of them on threads of a runtime, which pass a gate.
 #[derive(Drop)]
 pub struct Workers<'c, R, G> {
     pub rt: &'c R,

@@ -14,19 +14,20 @@ use claim_words::{Board, Pass};
 use std::alloc::AllocError;
 use worker_hints::{Own, Range, give, next};
 
-// A worker ends after so many turns.
+// The largest number of turns of a worker, after which it ends.
 const MOST_TURNS: u64 = 1 << 32;
 
-// A worker ends where it met others so many times in a row. Each time a path is thrown away, and
-// where walks are long and cross, the others are faster without it.
+// The largest number of turns in a row in which a worker meets others. Each time a path is thrown
+// away. If walks are long and cross, the others are faster without this worker, so it ends.
 const MOST_MEETINGS: u32 = 100;
 
-// How many cycles a walk pops before its worker looks for the next hint.
+// The largest number of cycles that a walk pops before its worker takes the next hint.
 const POPS: u64 = 1 << 32;
 
-/// The turns of a worker: a look at each hint, until there is none. Behind a pop it puts hints
-/// where events may have become poppable. A hint at which it met another waits until the next one
-/// is taken, and is put back then, or at the end. It is refused only for want of memory.
+/// The turns of a worker: a search at each hint, until there is none. After a pop it adds hints
+/// for the units at which events may have become poppable. A hint at which it met another worker
+/// is kept until the next hint is taken; then, or at the end, it is added again. The error is
+/// returned only if memory runs out.
 pub(crate) fn work<W: Range, G: Gate>(
     board: &Board,
     pass: &mut Pass,

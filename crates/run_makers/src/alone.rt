@@ -1,4 +1,4 @@
-//! Who makes runs on the calling thread.
+//! Makes runs on the calling thread.
 ghost use Rattle.std.specs.Prelude.{IfOk};
 ghost use Rattle.confluence_core.specs.Kept.{keeps_log};
 ghost use Rattle.run_makers.specs.Makers.{IsRunTo, MayGoOn, IsBroughtOn};
@@ -15,12 +15,13 @@ use pop_workers::Outcome;
 use prs_rounds::{RoundEnd, run_rounds_alone};
 use std::alloc::{AllocError, Global};
 
-/// The calling thread alone, which does the work of every crew, with no board and no gate.
+/// The maker that uses only the calling thread. It does the work of every crew, without a board
+/// and without a gate.
 #[derive(Drop)]
 pub struct Alone;
 
-// A run from zeros at the last height, to which the instance is raised at once: its entries don't
-// hang on the height, so no result tells that there were no stages.
+// A run from zeros at the last height; the instance is raised to it at once. Its entries do not
+// depend on the height, so no result shows that there were no stages.
 fn run_alone(opening: Opening) -> Result<(Outcome, Instance), AllocError>
     ensures { IfOk result (IsRunTo opening.growing (keeps_log opening.keep)) }
 {
@@ -42,7 +43,7 @@ fn run_alone(opening: Opening) -> Result<(Outcome, Instance), AllocError>
     Ok((run, instance))
 }
 
-// Goes on with a run to an end, and tells it.
+// Continues a run to its end, and returns its result.
 fn finish_alone(stretch: Stretch) -> Result<Outcome, AllocError>
     requires { MayGoOn stretch.instance.now stretch.at_hand stretch.reached }
     ensures { IfOk result (IsBroughtOn stretch.entry.instance.now stretch.entry.reached) }

@@ -1,4 +1,4 @@
-//! Who makes runs by closures.
+//! Makes runs by closures.
 use crate::maker::Maker;
 use crate::opening::Opening;
 use crate::stages::Stages;
@@ -13,9 +13,10 @@ use std::alloc::{AllocError, Global};
 use std::sync::Wait;
 use std::thread::Threads;
 
-/// A runtime on whose threads batches and rounds are made, and closures that make a run in stages,
-/// or go on with one to an end. A method of a trait can't hand a gate on to other threads, since its
-/// bounds are assumed of one thread alone; a closure can, where it is written.
+/// A maker with a runtime, whose threads make batches and rounds, and with closures that make a
+/// run in stages or continue one to its end. Inside a trait method `G: Sync` is not available, so
+/// the gate cannot be shared with other threads there. A closure written at a place with this
+/// bound can capture the gate.
 #[derive(Drop)]
 pub struct By<'r, 'a, 'b, R, A, B> {
     pub rt: &'r R,
@@ -43,7 +44,7 @@ impl<
         × ((s r : _) → B.post by.finish.now s r
         → IfOk r (IsBroughtOn s.instance.now s.reached)) };
 
-    // Where the instance grows its run is made in stages, which build their own indexes.
+    // If the instance grows, its run is made in stages, which build their own indexes.
     fn run(&self, opening: Opening) -> Result<(Outcome, Instance), AllocError> {
         let Opening {
             alloc,
@@ -77,12 +78,12 @@ impl<
         (self.finish)(stretch)
     }
 
-    // Each sample is run on one thread, beside others.
+    // Each sample is run on one thread, in parallel with others.
     fn batch(&self, alloc: Global, instance: &Instance, count: u32) -> Result<Ends, AllocError> {
         batch(self.rt, alloc, instance, count)
     }
 
-    // Each end is printed on one thread, beside others.
+    // Each end is printed on one thread, in parallel with others.
     fn text_of_batch(
         &self,
         alloc: Global,
@@ -93,7 +94,7 @@ impl<
         text_of_batch(self.rt, alloc, facts, instance, ends)
     }
 
-    // What they look at is looked at on threads of their own.
+    // The rounds judge events in parallel.
     fn rounds(
         &self,
         alloc: Global,

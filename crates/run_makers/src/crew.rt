@@ -1,11 +1,11 @@
-//! Who works on the pops of a run.
+//! The threads that share the pops of a run.
 ghost use Rattle.std.specs.Prelude.{◌≡◌, ◌<◌, ◌≤◌, ◌↔◌, IsTrue};
 ghost use Rattle.pop_words.specs.declared.board_kind.BoardKind.TheVariants.{Words};
 
 use pop_words::BoardKind;
 use std::marker::Model;
 
-/// So many workers, from 1 to 64, and the board on which they meet. Contracts see both.
+/// A number of workers, from 1 to 64, and the board that they share. Contracts see both.
 #[derive(Clone, Copy, Debug, PartialEq, Eq)]
 pub struct Crew {
     workers: u32,
@@ -26,7 +26,7 @@ impl Model for Crew {
 }
 
 impl Crew {
-    /// A crew of so many workers on this board.
+    /// A crew of this many workers on this board.
     pub fn new(workers: u32, board: BoardKind) -> Crew
         requires one { 0 < workers }
         requires few { workers ≤ 64 }
@@ -35,7 +35,7 @@ impl Crew {
         Crew { workers, board }
     }
 
-    /// How many workers there are.
+    /// The number of workers.
     pub fn workers(self) -> u32
         ensures are { result ≡ self.0 }
         ensures one { 0 < result }
@@ -44,7 +44,7 @@ impl Crew {
         self.workers
     }
 
-    /// Whether they claim words of a board, and don't share a book under a lock.
+    /// Whether they claim words of a board. Otherwise they share a book under a lock.
     pub fn claims(self) -> bool
         ensures { IsTrue result ↔ (self.1 ≡ Words) }
     {

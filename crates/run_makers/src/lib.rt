@@ -1,5 +1,5 @@
-//! Who makes runs: several threads, by closures, or the calling thread alone; of instances whose
-//! stacks may grow.
+//! The makers of runs, for instances with stacks that may grow: several threads, by closures, or
+//! the calling thread alone.
 #![tactic(auto)]
 
 mod alone;

@@ -1,4 +1,4 @@
-//! Who makes runs.
+//! The trait of makers of runs.
 ghost use Rattle.std.specs.Prelude.{◌≡◌, ℕ, length, IfOk};
 ghost use Rattle.pop_model.specs.Stacks.{IsKeyed, variables_of};
 ghost use Rattle.pop_model.specs.Extremal.{IsExtremal};
@@ -20,9 +20,9 @@ use pop_workers::Outcome;
 use prs_rounds::RoundEnd;
 use std::alloc::{AllocError, Global};
 
-/// Makes runs, on whichever threads.
+/// Makes runs, on the threads that it has.
 pub trait Maker {
-    // What has to be known of one, so that it does.
+    // What must be known of a maker before it is called.
     ghost fits: { Self → Type 0 };
 
     /// A run from zeros to an end at the last height, and the instance at that height.
@@ -30,14 +30,14 @@ pub trait Maker {
         requires fits { fits self.now }
         ensures { IfOk result (IsRunTo opening.growing (keeps_log opening.keep)) };
 
-    /// Goes on with a run to an end, and tells it.
+    /// Continues a run to its end, and returns its result.
     fn finish(&self, stretch: Stretch) -> Result<Outcome, AllocError>
         requires fits { fits self.now }
         requires may { MayGoOn stretch.instance.now stretch.at_hand stretch.reached }
         ensures { IfOk result
             (IsBroughtOn stretch.entry.instance.now stretch.entry.reached) };
 
-    /// The ends of so many samples of the instance under a key. Each is run on one thread.
+    /// The ends of this many samples of the instance under a key. Each is run on one thread.
     fn batch(&self, alloc: Global, instance: &Instance, count: u32) -> Result<Ends, AllocError>
         requires fits { fits self.now }
         requires keyed { IsKeyed instance.now.stacks.origin }
@@ -58,7 +58,7 @@ pub trait Maker {
         ensures { IfOk result (λ bytes. bytes.items
             ≡ batch_text facts.now instance.now ends.now) };
 
-    /// The run of the instance by rounds, by the index of its listed events.
+    /// The run of the instance by rounds, with the index of its listed events.
     fn rounds(
         &self,
         alloc: Global,

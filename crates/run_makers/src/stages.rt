@@ -1,10 +1,10 @@
-//! A run that is to be made in stages.
+//! A run to make in stages.
 use crate::crew::Crew;
 use confluence_core::Keep;
 use pop_instance::Instance;
 use std::alloc::Global;
 
-/// A run that is to be made from zeros in stages, up to a last height to which the instance grows.
+/// A run to make from zeros in stages, up to the last height of the instance.
 #[derive(Drop)]
 pub struct Stages {
     pub alloc: Global,

@@ -1,4 +1,4 @@
-//! A run that is to go on.
+//! A run to continue.
 ghost use Rattle.std.specs.Prelude.{IfOk};
 ghost use Rattle.pop_instance.specs.Index.{IsFamilyIndex};
 ghost use Rattle.growing_instances.specs.Growing.{MayIndex};
@@ -8,8 +8,8 @@ use confluence_core::Reached;
 use pop_instance::{Index, Instance};
 use std::alloc::{AllocError, Global};
 
-/// A run of an instance that has come so far, and is to go on to an end, with the index of the
-/// family, where it is at hand.
+/// The state of a run of an instance that is to be continued to its end, with the index of the
+/// family if it is at hand.
 #[derive(Drop)]
 pub struct Stretch<'t> {
     pub alloc: Global,
