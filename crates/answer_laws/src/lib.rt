@@ -1,6 +1,6 @@
-//! The laws of answers: what the top call's definition of answers means, in the words of outputs,
-//! of formulas and of graphs. There is no code that runs: the laws are the contracts of functions
-//! of empty body.
+//! Theorems about answers: what the definition of answers of the top call means in terms of
+//! outputs, formulas and graphs. No code runs: the theorems are the contracts of functions with an
+//! empty body.
 #![tactic(auto)]
 
 mod key_laws;

@@ -1,31 +1,33 @@
-//! The exact law on printed bytes. Each function's contract is the law.
+//! The exact distribution of printed bytes. The contract of each function states a theorem.
 ghost use Rattle.answer_laws.specs.PrintedOnce.{AssignmentsApart, OrientationsApart, TreesApart};
 ghost use Rattle.answer_laws.specs.PrintedOnce.{EverySpanningTree};
 ghost use Rattle.answer_laws.specs.ExactOutputs.{ExactOutputs, ExactRoundOutputs};
 ghost use Rattle.answer_laws.specs.ExactOutputs.{ListedOutputs, ListedRoundOutputs};
 
-/// Different samples print different lines, whatever stands behind them: of two orientations, but
-/// where they differ at loops alone, whose two directions are one. Edges may be parallel.
+/// Different samples print different lines, for any text that follows them. The exception is
+/// orientations that differ only at self-loops, since the two directions of a self-loop are the
+/// same. Edges may be parallel.
 pub fn printed_apart()
     ensures assignments { AssignmentsApart }
     ensures orientations { OrientationsApart }
     ensures trees { TreesApart }
 {}
 
-/// Each spanning tree of a graph with its arrows to the root is that of some slots, which lead to
-/// the root: so it is a sample (`laws::every_sample`), and its lines are printed.
+/// Each spanning tree of a graph, with its arrows to the root, is given by some slots that lead to
+/// the root. So it is a sample (`laws::every_sample`), and its lines are printed.
 pub fn every_spanning_tree()
     ensures { EverySpanningTree }
 {}
 
-/// Of all words for `formula`, `orient` or `tree` that differ in their rows alone, as many print one
-/// sample as another, for each text, and the weights of their rows are as those of the samples.
+/// Consider all arguments for `formula`, `orient` or `tree` that differ only in their rows. For
+/// each input, as many print one sample as another, and the weights of their rows are in the ratio
+/// of the samples' weights.
 pub fn exact_outputs()
     ensures { ExactOutputs }
 {}
 
-/// Of all words for `rounds` that differ in their rows alone, as many print one assignment that
-/// satisfies the formula as another, whether or not its clauses clash.
+/// Consider all arguments for `rounds` that differ only in their rows. As many print one
+/// satisfying assignment of the formula as another, whether or not its clauses clash.
 pub fn exact_round_outputs()
     ensures { ExactRoundOutputs }
 {}
@@ -35,7 +37,8 @@ pub fn listed_outputs()
     ensures { ListedOutputs }
 {}
 
-/// So are those of which words for `rounds` print an assignment that satisfies the formula.
+/// There are finitely many rows for which such arguments for `rounds` print a given satisfying
+/// assignment of the formula.
 pub fn listed_round_outputs()
     ensures { ListedRoundOutputs }
 {}

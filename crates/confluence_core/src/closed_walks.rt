@@ -8,10 +8,10 @@ use pop_instance::Cursors;
 use pop_stacks::Reader;
 use std::alloc::{AllocError, Global};
 
-/// The variables of a cycle that occurs, in the order of its arrows from `start` on. The cycle must
-/// name `start` and no variable below `low`. The result is None exactly if there is no such cycle.
-/// The current arrows are followed at most once through all variables, and not beyond a variable
-/// below `low`.
+/// The variables of a cycle that occurs, in the order of its arrows from `start` on. The cycle
+/// must name `start` and no variable below `low`. The result is None exactly if there is no such
+/// cycle. The current arrows are followed at most once through all variables, and not beyond a
+/// variable below `low`.
 pub fn closed_walk(
     alloc: Global,
     current: &CurrentArrows,

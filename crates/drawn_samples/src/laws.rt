@@ -1,4 +1,5 @@
-//! The laws of what is drawn. The contract of each function is the law.
+//! Theorems about the distribution of samples. The contract of each function states one. A
+//! weighting by shares counts each sample with the product of the shares of its values.
 
 ghost use Rattle.drawn_samples.specs.Laws.{DrawnSamples, DrawnSamplesAt};
 ghost use Rattle.drawn_samples.specs.Laws.{DrawnRounds, DrawnRoundsBy};
@@ -10,107 +11,114 @@ ghost use Rattle.drawn_samples.specs.Retried.{RetriedRuns, RetriedRounds};
 ghost use Rattle.drawn_samples.specs.Statistics.{RunStatistics, RoundStatistics};
 ghost use Rattle.drawn_samples.specs.WholeRuns.{RunNumbers, DrawnByLogs, IndependentOfLogs};
 
-/// Of all tables of numbers that end with a sample, those whose one-thread run ends with samples of
-/// some kind are to all as the shares of these samples are to those of all samples.
+/// Consider all tables of numbers with one-thread runs that end with a sample. The fraction of
+/// them that end with a sample of some set is the fraction of that set among all samples, weighted
+/// by shares. The family must be extremal.
 pub fn drawn_samples()
     ensures { DrawnSamples }
 {}
 
-/// So are those whose rows some log finishes at given cursors, for every family.
+/// The theorem of `drawn_samples` holds for the tables with rows that some log finishes at given
+/// cursors, for every family.
 pub fn drawn_samples_at()
     ensures { DrawnSamplesAt }
 {}
 
-/// So are those that rounds finish, for any listed events.
+/// The theorem of `drawn_samples` holds for the tables that rounds finish, for any listed events.
 pub fn drawn_rounds()
     ensures { DrawnRounds }
 {}
 
-/// So are those that so many rounds finish at given cursors.
+/// The theorem of `drawn_samples` holds for the tables that a given number of rounds finish at
+/// given cursors, for any listed events.
 pub fn drawn_rounds_by()
     ensures { DrawnRoundsBy }
 {}
 
-/// Of an extremal family, those whose one-thread run has a log that is wanted draw from all samples by
-/// their shares, whatever is wanted of a log: so a run that is given up after so many pops leaves the
-/// law of the others as it is.
+/// The theorem of `drawn_samples` holds for the tables with one-thread runs that have an accepted
+/// log, for any condition on the log. So if runs are given up after a number of pops, the
+/// distribution of the others is unchanged. The family must be extremal.
 pub fn wanted_runs()
     ensures { WantedRuns }
 {}
 
-/// So do those that rounds finish at cursors and after a number of rounds that are wanted.
+/// The theorem of `wanted_runs` holds for rounds, for any condition on the cursors at the end and
+/// on the number of rounds.
 pub fn wanted_rounds()
     ensures { WantedRounds }
 {}
 
-/// A one-thread run that ends with no event stuck ends so on all taller stacks, by the same log and
-/// with the same values.
+/// A one-thread run that ends with no event stuck has the same log and the same values on all
+/// taller stacks.
 pub fn taller_runs()
     ensures { TallerRuns }
 {}
 
-/// Rounds that finish at cursors finish there on all taller stacks, after as many rounds and with the
-/// same values.
+/// Rounds that finish at cursors finish there on all taller stacks, after as many rounds and with
+/// the same values.
 pub fn taller_rounds()
     ensures { TallerRounds }
 {}
 
-/// The one-thread run of a key's stacks ends with a sample, by a log that is wanted, exactly where the
-/// table of the key's numbers is one of those that are counted for it.
+/// The one-thread run of a key's stacks ends with a sample by an accepted log exactly if the table
+/// of the key's numbers is one of those that are counted for this sample.
 pub fn keyed_wanted_runs()
     ensures { KeyedWantedRuns }
 {}
 
-/// So does the run by rounds.
+/// The run by rounds of a key's stacks ends with a sample and is accepted exactly if the table of
+/// the key's numbers is one of those that are counted for this sample.
 pub fn keyed_wanted_rounds()
     ensures { KeyedWantedRounds }
 {}
 
-/// The tables that finish by the records of a log, with a sample, are as many as the product of the
-/// shares of the values that the records demand, of the shares of the sample's values, and of 2^64 for
-/// each entry that isn't read: over every family, also where events clash.
+/// Count the tables that finish by the records of a given log with a given sample. The count is
+/// the product of the shares of the values that the records demand, the shares of the sample's
+/// values, and 2^64 for each entry that is not read. This holds for every family, even if events
+/// clash.
 pub fn run_numbers()
     ensures { RunNumbers }
 {}
 
-/// By whatever log tables finish, those of a sample are to all of them as its share to that of all
-/// samples.
+/// For every log, the tables that finish by it with a given sample are a fraction of those that
+/// finish by it. This fraction is the weight of the sample by shares over that of all samples.
 pub fn drawn_by_logs()
     ensures { DrawnByLogs }
 {}
 
-/// Where the family is extremal, the sample of a table that finishes doesn't depend on the log by which
-/// it does.
+/// If the family is extremal, the sample of a table that finishes does not depend on the log by
+/// which it finishes.
 pub fn independent_of_logs()
     ensures { IndependentOfLogs }
 {}
 
-/// Of batches in which the runs of some samples end with none, those of samples are to those of others
-/// as the products of their shares: whichever runs of a batch are exhausted, the others are drawn as
-/// ever.
+/// Consider batches in which certain runs end with samples, and the others with none. For two
+/// choices of the samples, the numbers of such batches are in the ratio of the products of their
+/// shares. So whichever runs of a batch are exhausted, the distribution of the others is
+/// unchanged.
 pub fn mixed_runs()
     ensures { MixedRuns }
 {}
 
-/// So it is with batches of rounds.
+/// The theorem of `mixed_runs` holds for batches of rounds.
 pub fn mixed_rounds()
     ensures { MixedRounds }
 {}
 
-/// The ends that `pop_batch` makes of a batch under a key, whether or not each has a sample, are those
-/// of the key's own tables.
+/// The ends that `pop_batch` returns for a batch under a key are those of the key's own tables,
+/// whether or not each has a sample.
 pub fn keyed_mixed()
     ensures { KeyedMixed }
 {}
 
-/// Trying again is unbiased. Of tries with tables of their own, of any heights, the first is kept whose
-/// run ends with a sample by a log that is wanted in it. What is kept is one sample, and draws from all
-/// samples by their shares, as one run does.
+/// Retrying is unbiased. Consider tries with their own tables, of any heights. The first try is
+/// kept that ends with a sample by a log that is accepted for this try. The kept sample has the
+/// distribution of the sample of one run.
 pub fn retried_runs()
     ensures { RetriedRuns }
 {}
 
-/// The same holds of rounds, for any listed events.
+/// The theorem of `retried_runs` holds for rounds, for any listed events.
 pub fn retried_rounds()
     ensures { RetriedRounds }
 {}
@@ -120,7 +128,7 @@ pub fn run_statistics()
     ensures { RunStatistics }
 {}
 
-/// The same holds of rounds.
+/// The theorem of `run_statistics` holds for rounds.
 pub fn round_statistics()
     ensures { RoundStatistics }
 {}

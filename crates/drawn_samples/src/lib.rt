@@ -1,6 +1,7 @@
-//! The distribution of samples: of all tables of numbers whose run ends with a sample, those that end
-//! with one of some kind are to all as the shares of such samples to those of all samples. There is
-//! no code that runs: the laws are the contracts of functions of empty body.
+//! The distribution of samples. Consider all tables of numbers with runs that end with a sample.
+//! The fraction of them that end with a sample of some set is the fraction of that set among all
+//! samples, weighted by shares. No code runs: the theorems are the contracts of functions with an
+//! empty body.
 #![tactic(auto)]
 
 mod laws;

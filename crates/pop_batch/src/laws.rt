@@ -2,13 +2,13 @@
 //! one.
 ghost use Rattle.pop_batch.specs.Laws.{OneBatch, OnePartEnd, StopsKeepEnd};
 
-/// The first n samples of an extremal instance have exactly one list of ends, however they are
+/// The first n samples of an extremal instance have at most one list of ends, however they are
 /// divided among threads.
 pub fn one_batch()
     ensures { OneBatch }
 {}
 
-/// A sample of an extremal instance has exactly one end from given cursors.
+/// A sample of an extremal instance has at most one end from given cursors.
 pub fn one_part_end()
     ensures { OnePartEnd }
 {}

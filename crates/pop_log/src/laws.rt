@@ -11,7 +11,7 @@ pub fn layers_apart()
     ensures { LayersApart }
 {}
 
-/// A log has exactly one list of layers.
+/// A log has at most one list of layers.
 pub fn one_layering()
     ensures { OneLayering }
 {}

@@ -1,7 +1,8 @@
-//! The laws of exact samples. The contract of each function is the law.
+//! Theorems about exact samples. The contract of each function states one.
 //!
-//! They say without a word of chance what Propp and Wilson (1998) prove of spanning trees and Guo,
-//! Jerrum and Liu (2019) of extremal instances: that the end of a run has the law of the samples.
+//! They count rows, and do not mention probabilities. They express what Propp and Wilson (1998)
+//! prove for spanning trees and Guo, Jerrum and Liu (2019) for extremal instances: the end of a
+//! run has the distribution of the samples.
 
 ghost use Rattle.pop_samples.specs.Laws.{SamePops, FinishesExactly, FinishesFirst};
 ghost use Rattle.pop_samples.specs.ExactLaws.{ExchangedSamples, ExchangedEnds};
@@ -9,74 +10,77 @@ ghost use Rattle.pop_samples.specs.ExactLaws.{ExactSamples, ExactSamplesAt};
 ghost use Rattle.pop_samples.specs.ExactLaws.{ListedSamples, ListedSamplesAt, ReachedSamples};
 ghost use Rattle.pop_samples.specs.Shares.{EntryShares, NumberedEntries};
 
-/// A log that finishes an extremal instance finishes it at the same cursors on all stacks that have
-/// the same entries below these, and entries there at which no event occurs.
+/// A log that finishes an extremal instance at some cursors also finishes other stacks there.
+/// These stacks must have the same entries below the cursors, and entries at the cursors with
+/// which no event occurs.
 pub fn same_pops()
     ensures { SamePops }
 {}
 
 /// Stacks that have the same entries below the cursors at which a log finishes are finished there
-/// exactly where their values there are a sample.
+/// exactly if their values there are a sample.
 pub fn finishes_exactly()
     ensures { FinishesExactly }
 {}
 
-/// Some log finishes an extremal instance at cursors exactly where its one-thread run ends there
-/// with no event stuck.
+/// Some log finishes an extremal instance at given cursors exactly if its one-thread run ends
+/// there with no event stuck.
 pub fn finishes_first()
     ensures { FinishesFirst }
 {}
 
-/// Where rows finish with a sample, any other may be written in its place: the rows then finish
-/// with that one, at the same cursors and by the same logs, and the first written back gives them
-/// again.
+/// If rows finish with a sample, it can be replaced by any other sample. The new rows finish with
+/// that one, at the same cursors and by the same logs. If the first sample is put back, the result
+/// is the first rows.
 pub fn exchanged_samples()
     ensures { ExchangedSamples }
 {}
 
-/// Where the one-thread run of rows over an extremal family ends with nothing stuck, any sample may
-/// be written in place of the entries there: the run of these ends at the same cursors, after as
+/// If the one-thread run of rows over an extremal family ends with no event stuck, the entries
+/// there can be replaced by any sample. The run of the new rows ends at the same cursors, after as
 /// many pops, with that sample.
 pub fn exchanged_ends()
     ensures { ExchangedEnds }
 {}
 
 /// Of all rows of given heights over an extremal family, as many finish with one sample as with
-/// another, and the weights of the ones are to those of the others as the samples' weights.
+/// another. The total weights of these two sets of rows are in the ratio of the samples' weights.
 pub fn exact_samples()
     ensures { ExactSamples }
 {}
 
-/// Of all rows of given heights that some log finishes at given cursors, as many finish with one
-/// sample as with another, and their weights are as the samples' weights: over every family, also
-/// where events clash.
+/// Consider all rows of given heights that some log finishes at given cursors. As many of them
+/// finish with one sample as with another, and their total weights are in the ratio of the
+/// samples' weights. This holds for every family, even if events clash.
 pub fn exact_samples_at()
     ensures { ExactSamplesAt }
 {}
 
-/// The rows of given heights over an extremal family that finish with a sample are finitely many.
+/// There are finitely many rows of given heights over an extremal family that finish with a given
+/// sample.
 pub fn listed_samples()
     ensures { ListedSamples }
 {}
 
-/// The rows of given heights that finish with a sample at given cursors are finitely many, over every
-/// family.
+/// There are finitely many rows of given heights that finish with a given sample at given cursors,
+/// for every family.
 pub fn listed_samples_at()
     ensures { ListedSamplesAt }
 {}
 
-/// Each sample is that of some rows of given heights, which finish before any pop.
+/// For each sample there are rows of given heights that finish with it before any pop.
 pub fn reached_samples()
     ensures { ReachedSamples }
 {}
 
-/// Of the 2^64 numbers that an entry of a key may be made of, those that give a value are to all as
-/// its weight to the sum of the weights: exactly where the sum divides 2^64, and else within one.
+/// An entry of a key is made from one of 2^64 numbers. The number of those that select a given
+/// value is 2^64 times its weight over the sum of the weights. This is exact if the sum divides
+/// 2^64, and otherwise holds to within 1.
 pub fn entry_shares()
     ensures { EntryShares }
 {}
 
-/// The number of an entry of a key is one of the 2^64, and it gives the entry its value.
+/// The number of an entry of a key is one of the 2^64, and it selects the value of the entry.
 pub fn numbered_entries()
     ensures { NumberedEntries }
 {}

@@ -1,6 +1,6 @@
-//! The exact law of popping: of all stacks of given heights, those whose run ends with one sample
-//! are as many as those whose run ends with another, and weigh as the samples do. There is no code
-//! that runs: the laws are the contracts of functions of empty body.
+//! The exact distribution of popping. Of all stacks of given heights, as many have runs that end
+//! with one sample as with another, and their weights are in the ratio of the samples' weights. No
+//! code runs: the theorems are the contracts of functions with an empty body.
 #![tactic(auto)]
 
 mod laws;

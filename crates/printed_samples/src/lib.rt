@@ -1,5 +1,6 @@
-//! Laws of printed ends, in the words of the formula or the graph that was read and of the printed
-//! lines. Contracts see literals as words, and arrows as `Arrow`, whose lines are the printed ones.
+//! Theorems about printed ends, in terms of the formula or the graph that was read and of the
+//! printed lines. Contracts see literals as printed, and arrows as `Arrow`, with their printed
+//! lines.
 #![tactic(auto)]
 
 pub mod laws;

@@ -8,7 +8,7 @@ pub fn resampled_closed()
     ensures { ResampledClosed }
 {}
 
-/// A run by rounds has exactly one result.
+/// A run by rounds has at most one result.
 pub fn one_rounds_end()
     ensures { OneRoundsEnd }
 {}

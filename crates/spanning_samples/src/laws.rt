@@ -1,22 +1,23 @@
-//! Laws of the samples of graphs. Each function's contract is the law.
+//! Theorems about the samples of graphs. The contract of each function states one.
 
 ghost use Rattle.spanning_samples.specs.Converse.{OrientationsAlone, TreesAlone};
 ghost use Rattle.spanning_samples.specs.SpanningSets.{OneTreeEach, EachIsTree, TreeWeights};
 ghost use Rattle.spanning_samples.specs.DrawnTrees.{DrawnTrees, WantedTrees};
 
-/// The samples of the sinks of a graph without isolated vertices are just the orientations without a
-/// sink.
+/// The samples of the sinks of a graph without isolated vertices are exactly its sink-free
+/// orientations.
 pub fn orientations_alone()
     ensures { OrientationsAlone }
 {}
 
-/// The samples of the cycles of a connected graph are just the arrows that lead to the root.
+/// The samples of the cycles of a connected graph are exactly the choices of arrows that lead to
+/// the root.
 pub fn trees_alone()
     ensures { TreesAlone }
 {}
 
-/// Each spanning tree, as a set of edges that join all vertices and are one fewer, has just one choice
-/// of arrows to the root, whatever vertex that is.
+/// A spanning tree is a set of edges that join all vertices and are one fewer than these. Each
+/// spanning tree has exactly one choice of arrows to the root, for every root.
 pub fn one_tree_each()
     ensures { OneTreeEach }
 {}
@@ -26,20 +27,22 @@ pub fn each_is_tree()
     ensures { EachIsTree }
 {}
 
-/// They weigh as the product of the weights of its edges, whatever the root is.
+/// The weight of arrows that lead to the root is the product of the weights of the edges of their
+/// tree, for every root.
 pub fn tree_weights()
     ensures { TreeWeights }
 {}
 
-/// Of all tables of numbers whose run ends with a spanning tree of a connected graph, those for a tree,
-/// as a set of edges, are to all as the product of the weights of its edges is to the sum of these
-/// products over all spanning trees, whatever the root is: exactly where the weights at each vertex sum
-/// to a number that divides 2^64, and else nearly so.
+/// Consider all tables of numbers with runs that end with a spanning tree of a connected graph.
+/// The fraction of them for a given tree, as a set of edges, is the product of the weights of its
+/// edges over the sum of these products over all spanning trees, for every root. This is exact if
+/// the weights at each vertex sum to a number that divides 2^64, and otherwise holds nearly.
 pub fn drawn_trees()
     ensures { DrawnTrees }
 {}
 
-/// So are those whose run has a log that is wanted, as one of so many pops at most.
+/// The theorem of `drawn_trees` holds for the tables with runs that have an accepted log, for any
+/// condition on the log, such as at most a given number of pops.
 pub fn wanted_trees()
     ensures { WantedTrees }
 {}

@@ -1,6 +1,6 @@
-//! What samples of graphs are: the orientations without a sink, and the spanning trees, each of which
-//! is drawn by the weights of its edges. There is no code that runs: the laws are the contracts of
-//! functions of empty body.
+//! What the samples of graphs are: the sink-free orientations, and the spanning trees, which are
+//! drawn by the weights of their edges. No code runs: the theorems are the contracts of functions
+//! with an empty body.
 #![tactic(auto)]
 
 mod laws;

@@ -11,7 +11,7 @@ pub fn siblings_differ()
     ensures { SiblingsDiffer }
 {}
 
-/// A record of a log has exactly one witness tree.
+/// A record of a log has at most one witness tree.
 pub fn one_tree()
     ensures { OneTree }
 {}
