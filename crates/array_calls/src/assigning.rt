@@ -1,4 +1,4 @@
-//! Assignments of the formula in an array of literals, by popping.
+//! Assignments of a formula that is given as an array of literals, by popping.
 ghost use Rattle.std.specs.Prelude.{◌≡◌, ◌≢◌, ◌+◌, ◌*◌, ◌/◌, ◌<◌, ◌≤◌, ◌^◌, length, None, OnOk, IfOk, IfErr};
 ghost use Rattle.pop_model.specs.Extremal.{IsExtremal};
 ghost use Rattle.pop_model.specs.Families.Family.{Listed as ListedEvents};
@@ -25,12 +25,12 @@ use pop_batch::Samples;
 use pop_instance::{Events, Family, Index, Instance};
 use std::alloc::{AllocError, Global};
 
-/// A formula in an array of literals, of which assignments are drawn.
+/// A formula as an array of literals.
 #[derive(Clone, Copy)]
 pub struct ArrayFormula<'a> {
     pub variables: u32,
-    /// The literals of each clause, v for the variable v, from 1, and -v for its negation, and a 0
-    /// at its end.
+    /// The literals of each clause, and a 0 at its end. Literal v is the variable v, from 1, and
+    /// -v is its negation.
     pub literals: &'a [i32],
 }
 
@@ -50,7 +50,7 @@ pub(crate) fn indexed_events(
     Ok((events, index))
 }
 
-/// The instance of events over so many variables of two values.
+/// The instance of events over this many variables with two values.
 pub(crate) fn events_instance(
     variables: u32,
     events: Events,
@@ -70,7 +70,7 @@ pub(crate) fn events_instance(
     }
 }
 
-// Refuses a formula whose events clash.
+// Rejects a formula with events that clash.
 fn check_extremal(alloc: Global, events: &Events, index: &Index) -> Result<(), FormulaRefusal>
     requires index { IsIndex events.now index.now }
     ensures extremal { OnOk result (IsExtremal (ListedEvents events.now)) }
@@ -82,13 +82,13 @@ fn check_extremal(alloc: Global, events: &Events, index: &Index) -> Result<(), F
     }
 }
 
-/// Puts so many assignments of the extremal formula in an array of literals, as many as there are
-/// pairs of counts, into the rows of the arrays, by popping: those of the samples from the first
-/// number on.
+/// Draws assignments of the extremal formula in an array of literals, by popping, as many as there
+/// are pairs of counts. They are those of the samples from the first number on, and are stored in
+/// the rows of the arrays.
 ///
-/// A row has a number for each variable: of `values` 0 if it is false, and 1 if it is true; and of
-/// `useds` how many of its entries were passed. With a budget it may stop at a row, as `trees`
-/// does.
+/// A row has a number for each variable. In `values` it is 0 if the variable is false, and 1 if it
+/// is true. In `useds` it is the number of entries that were consumed. With a budget the call may
+/// stop at a row, as `trees` does.
 pub fn assignments(
     alloc: Global,
     asked: ArrayFormula,
@@ -113,7 +113,7 @@ pub fn assignments(
     ensures size { OnOk result (length counts.new ≡ length counts.old) }
     ensures refused { IfErr result (IsFormulaRefusal
         (RefusesExtremal asked.entry.variables asked.entry.literals.now)) }
-    // A refusal, but for want of memory, leaves the arrays as they were.
+    // After an error, except out of memory, the arrays are as they were.
     ensures kept { IfErr result (λ refusal. refusal ≢ OutOfMemory
         → (values.new ≡ values.old) × (useds.new ≡ useds.old) × (counts.new ≡ counts.old)) }
 {

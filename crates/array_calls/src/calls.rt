@@ -1,4 +1,4 @@
-//! Trees of the graph in arrays.
+//! Trees of a graph that is given as arrays.
 ghost use Rattle.std.specs.Prelude.{◌≡◌, ◌≢◌, ◌⊎◌, ◌+◌, ◌-◌, ◌*◌, ◌/◌, ◌<◌, ◌≤◌, ◌^◌, [], length, slice_index, slice_set, OnOk, IfOk, IfErr, MatchOption};
 ghost use Rattle.graph_read.specs.Graphs.{IsVertex};
 ghost use Rattle.graph_read.specs.Ends.{graph_in};
@@ -21,18 +21,18 @@ use pop_batch::Samples;
 use pop_instance::{Cursors, Instance, Values};
 use std::alloc::{AllocError, Global};
 
-/// A graph in arrays, and the root of its trees. Vertices count from 0.
+/// A graph as arrays, and the root of its trees. Vertices count from 0.
 #[derive(Clone, Copy)]
 pub struct TreeGraph<'a> {
     pub vertices: u32,
-    /// Two ends of each edge.
+    /// The two ends of each edge.
     pub ends: &'a [u32],
-    /// A weight of each edge; without any, each weighs 1.
+    /// The weight of each edge. If there are none, each weight is 1.
     pub weights: &'a [u32],
     pub root: u32,
 }
 
-// The edges at each vertex, where the edges of trees are wanted.
+// The edges at each vertex, if the edges of trees are wanted.
 fn incidence_where<'g>(
     alloc: Global,
     graph: &'g Graph,
@@ -47,7 +47,7 @@ fn incidence_where<'g>(
     Ok(Some(Incidence::of(alloc, graph)?))
 }
 
-// Puts along which edges arrows lead, where it is wanted.
+// Stores the edges of the arrows, if they are wanted.
 fn put_wanted_edges(
     ends: &OtherEnds,
     incidence: &Option<Incidence>,
@@ -68,7 +68,7 @@ fn put_wanted_edges(
     }
 }
 
-// Puts how many entries were passed, where it is wanted.
+// Stores how many entries were consumed, if it is wanted.
 fn put_wanted_used(ends: &OtherEnds, root: u32, cursors: &Cursors, numbers: &mut [u32], at: usize)
     requires root { IsVertex ends.now.vertices root }
     requires count { length cursors.now + 1 ≡ ends.now.vertices }
@@ -80,7 +80,7 @@ fn put_wanted_used(ends: &OtherEnds, root: u32, cursors: &Cursors, numbers: &mut
     }
 }
 
-// Puts the end of a sample into its row of each array.
+// Stores the end of a sample in its row of each array.
 fn put_end(
     ends: &OtherEnds,
     incidence: &Option<Incidence>,
@@ -117,7 +117,7 @@ fn put_end(
     put_counts(end, j, counts);
 }
 
-// Puts where a sample was stopped into its row of cursors and of counts.
+// Stores the state at which a sample was stopped in its row of cursors and of counts.
 fn put_stop(
     ends: &OtherEnds,
     root: u32,
@@ -140,7 +140,7 @@ fn put_stop(
     put_counts(stop, j, counts);
 }
 
-// The cursors of a tree's variables, where those of all vertices are given.
+// The cursors of a tree's variables, from those of all vertices.
 fn without_root(alloc: Global, root: u32, from: &[u32]) -> Result<Vec<u32>, AllocError>
     requires root { from.now ≢ [] → IsVertex (length from.now) root }
     requires few { length from.now ≤ 2 ^ 22 }
@@ -156,8 +156,8 @@ fn without_root(alloc: Global, root: u32, from: &[u32]) -> Result<Vec<u32>, Allo
     Ok(cursors)
 }
 
-// Puts samples into the rows of the arrays, as many as there are pairs of counts, until the budget
-// is spent. The row at which it was.
+// Draws samples into the rows of the arrays, as many as there are pairs of counts, until the
+// budget is spent. Returns the row at which it was spent.
 fn put_samples(
     alloc: Global,
     ends: &OtherEnds,
@@ -202,7 +202,7 @@ fn put_samples(
     Ok(None)
 }
 
-// The same of an instance of trees, where the cursors of all vertices are given.
+// Like `put_samples`, for an instance of trees, with the cursors of all vertices.
 fn put_instance(
     alloc: Global,
     ends: &OtherEnds,
@@ -227,7 +227,7 @@ fn put_instance(
         (tree_arrays parents.new edges.new useds.new counts.new)) }
     ensures size { OnOk result (length counts.new ≡ length counts.old) }
 {
-    // Read for its contract, which says that there are few vertices.
+    // Read for its contract, which bounds the number of vertices.
     let _vertices = ends.graph().vertices();
     let from = without_root(alloc, root, draw.from)?;
     let incidence = incidence_where(alloc, ends.graph(), edges)?;
@@ -248,17 +248,18 @@ fn put_instance(
     )
 }
 
-/// Puts so many trees of the graph in arrays, as many as there are pairs of counts, into the rows of
-/// the arrays: those of the samples from the first number on.
+/// Draws trees of the graph in arrays, as many as there are pairs of counts. They are those of the
+/// samples from the first number on, and are stored in the rows of the arrays.
 ///
-/// A row has a number for each vertex: of `parents` the vertex to which its arrow leads, of `edges`
-/// the edge along which, and of `useds` how many of its entries were passed. At the root they are
-/// 2^32 - 1, 2^32 - 1 and 0. An array without numbers isn't wanted. A pair of counts has the number
-/// of pops, and that of the cycles that occur: 0 of a tree.
+/// A row has a number for each vertex. In `parents` it is the vertex that its arrow leads to, in
+/// `edges` the edge of the arrow, and in `useds` the number of entries that were consumed. At the
+/// root these are 2^32 - 1, 2^32 - 1 and 0. An array of length 0 is not filled. A pair of counts
+/// has the number of pops and the number of cycles that occur, which is 0 for a tree.
 ///
-/// With a budget it may stop at a row. That row of `useds` has its cursors, from which another call
-/// goes on to the same trees, and its counts are those of the pops so far and of the cycles that
-/// occur there. All behind it, and its rows of `parents` and `edges`, stay.
+/// With a budget the call may stop at a row. That row of `useds` has its cursors, and another call
+/// can continue from them to the same trees. Its counts are those of the pops so far and of the
+/// cycles that occur there. The rows of `parents` and `edges` at that place, and everything after
+/// it, stay unchanged.
 pub fn trees(
     alloc: Global,
     asked: TreeGraph,
@@ -288,7 +289,7 @@ pub fn trees(
     ensures refused { IfErr result (IsRefusal
         (RefusesTreeArrays asked.entry.vertices asked.entry.ends.now asked.entry.weights.now
         asked.entry.root)) }
-    // A refusal, but for want of memory, leaves the arrays as they were.
+    // After an error, except out of memory, the arrays are as they were.
     ensures kept { IfErr result (λ refusal. refusal ≢ OutOfMemory
         → (parents.new ≡ parents.old) × (edges.new ≡ edges.old) × (useds.new ≡ useds.old)
         × (counts.new ≡ counts.old)) }

@@ -1,4 +1,4 @@
-//! The counts of rows, their budget, and where they begin.
+//! The counts of rows, the budget, and the cursors at which rows start.
 ghost use Rattle.std.specs.Prelude.{◌≡◌, ◌↔◌, ◌+◌, ◌*◌, ◌/◌, ◌<◌, ◌≤◌, length, slice_set, IsTrue, IfOk};
 ghost use Rattle.array_calls.specs.Draws.{AreSamples, IsOutcome, given, less, stopped_at};
 
@@ -7,7 +7,7 @@ use confluence_core::End;
 use pop_instance::Cursors;
 use std::alloc::{AllocError, Global};
 
-/// The cursors from which the sample of row j goes on, where any are given: those of row 0.
+/// The cursors from which the sample of row j continues, if there are any. Only row 0 has them.
 pub(crate) fn given(alloc: Global, from: &[u32], j: usize) -> Result<Option<Cursors>, AllocError>
     ensures { IfOk result (λ start. start ≡ given from.now j) }
 {
@@ -17,7 +17,7 @@ pub(crate) fn given(alloc: Global, from: &[u32], j: usize) -> Result<Option<Curs
     Ok(Some(Cursors::of(Vec::from_slice(alloc, from)?)))
 }
 
-/// What is left of a budget after so many pops; the greatest one has no limit.
+/// What is left of a budget after this many pops. The largest budget is no limit.
 pub(crate) fn less(budget: u64, pops: u64) -> u64
     requires { pops ≤ budget }
     ensures { result ≡ less budget pops }
@@ -38,7 +38,7 @@ pub(crate) fn put_counts(end: &End, j: usize, counts: &mut [u64])
     counts[2 * j + 1] = end.stuck.len();
 }
 
-// Whether no event occurs in any of the rows that are counted.
+// Whether no event occurs in any of the counted rows.
 fn are_samples(counts: &[u64]) -> bool
     ensures { IsTrue result ↔ AreSamples (length counts.now / 2) counts.now }
 {
@@ -50,7 +50,7 @@ fn are_samples(counts: &[u64]) -> bool
     true
 }
 
-/// What a call left that stopped at this row, or at none.
+/// The result of a call that stopped at this row, or at none.
 pub(crate) fn outcome_of(stopped: Option<usize>, counts: &[u64]) -> Outcome
     ensures stopped { stopped_at result ≡ stopped }
     ensures outcome { IsOutcome counts.now result }

@@ -5,12 +5,12 @@ use std::alloc::AllocError;
 /// Why an array of literals has no assignments that can be sampled.
 #[derive(Clone, Copy, Debug, PartialEq, Eq)]
 pub enum FormulaRefusal {
-    /// The literals are no formula.
+    /// The literals are not a formula.
     NoFormula(LiteralFault),
-    /// The formula isn't extremal: the numbers, from 1, of the least pair of clauses that share a
-    /// variable and can both be false.
+    /// The formula is not extremal. These are the numbers, from 1, of the first pair of clauses
+    /// that share a variable and can both be false.
     Clash(u32, u32),
-    /// Memory ran out.
+    /// Out of memory.
     OutOfMemory,
 }
 

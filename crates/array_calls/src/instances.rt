@@ -17,8 +17,8 @@ use pop_instance::{Arrows, Family, Instance};
 use pop_stacks::{StackFault, StackSpec, Stacks, Weights};
 use std::alloc::Global;
 
-// The arrows and the weights of a graph's trees to a root; a vertex that is cut off from it is
-// refused.
+// The arrows and the weights of a graph's trees to a root. A vertex that is not connected to the
+// root is an error.
 fn arrows_and_weights(
     alloc: Global,
     ends: &OtherEnds,
@@ -38,7 +38,7 @@ fn arrows_and_weights(
     Ok((arrows, weights))
 }
 
-// The stacks of these weights under a key, or the vertex whose weights are too heavy.
+// The stacks of these weights under a key, or the vertex with too large a sum of weights.
 fn stacks_of(
     weights: Weights,
     root: u32,
@@ -83,7 +83,7 @@ pub fn tree_instance(
     ensures made { IfOk result (λ i. i ≡ trees_under key height ends.now root) }
     ensures refused { IfErr result (IsRefusal (RefusesTrees ends.now root)) }
 {
-    // Read for its contract, which says that there are few vertices.
+    // Read for its contract, which bounds the number of vertices.
     let _vertices = ends.graph().vertices();
     let (arrows, weights) = arrows_and_weights(alloc, ends, root)?;
     let stacks = stacks_of(weights, root, key, height)?;

@@ -1,8 +1,8 @@
-//! Samples of what lies in arrays, put into arrays: the trees of a graph, its orientations without
-//! sinks, and the assignments of a formula.
+//! Samples of graphs and formulas that are given as arrays, stored in arrays: the trees of a
+//! graph, its sink-free orientations, and the assignments of a formula.
 //!
-//! Contracts see the graph or the formula that the arrays have, and say of each row the end of
-//! which sample it has.
+//! Contracts see the graph or the formula of the arrays, and say for each row which sample's end
+//! it has.
 #![tactic(auto)]
 
 mod assigning;

@@ -1,4 +1,4 @@
-//! Orientations of the graph in arrays.
+//! Orientations of a graph that is given as arrays.
 ghost use Rattle.std.specs.Prelude.{◌≡◌, ◌≢◌, ◌↔◌, ◌+◌, ◌*◌, ◌/◌, ◌<◌, ◌≤◌, ◌^◌, [], ◌∷◌, length, replicate, IsTrue, OnOk, IfOk, IfErr};
 ghost use Rattle.pop_stacks.specs.Tables.{table_of};
 ghost use Rattle.pop_stacks.specs.declared.stack_spec.StackSpec.TheVariants.{Key};
@@ -21,15 +21,16 @@ use pop_stacks::{StackSpec, Stacks, Weights};
 use sink_popping::{SinkFault, sinks};
 use std::alloc::{AllocError, Global};
 
-/// A graph in arrays, of which orientations are drawn. Vertices count from 0.
+/// A graph as arrays. Vertices count from 0.
 #[derive(Clone, Copy)]
 pub struct OrientedGraph<'a> {
     pub vertices: u32,
-    /// Two ends of each edge.
+    /// The two ends of each edge.
     pub ends: &'a [u32],
 }
 
-/// The stacks of so many variables of two values under a key: none can be too heavy.
+/// The stacks of this many variables with two values under a key. No sum of weights can be too
+/// large.
 pub(crate) fn pair_stacks(count: u32, key: [u8; 32], height: u32) -> Result<Stacks, AllocError>
     requires few { count < 2 ^ 31 }
     requires some { 0 < height }
@@ -43,7 +44,7 @@ pub(crate) fn pair_stacks(count: u32, key: [u8; 32], height: u32) -> Result<Stac
     }
 }
 
-// The instance of a graph's orientations without sinks; an isolated vertex is refused.
+// The instance of a graph's sink-free orientations. An isolated vertex is an error.
 fn orientation_instance(
     alloc: Global,
     graph: &Graph,
@@ -67,7 +68,7 @@ fn orientation_instance(
     }
 }
 
-// Puts samples of an instance of orientations.
+// Draws samples of an instance of orientations.
 fn put_orientations(
     alloc: Global,
     graph: &Graph,
@@ -104,12 +105,12 @@ fn put_orientations(
     )
 }
 
-/// Puts so many orientations without sinks of the graph in arrays, as many as there are pairs of
-/// counts, into the rows of the arrays: those of the samples from the first number on.
+/// Draws sink-free orientations of the graph in arrays, as many as there are pairs of counts. They
+/// are those of the samples from the first number on, and are stored in the rows of the arrays.
 ///
-/// A row has a number for each edge: of `directions` 0 where it points from its first end to its
-/// second, and else 1; and of `useds` how many of its entries were passed. With a budget it may
-/// stop at a row, as `trees` does.
+/// A row has a number for each edge. In `directions` it is 0 if the edge points from its first end
+/// to its second, and otherwise 1. In `useds` it is the number of entries that were consumed. With
+/// a budget the call may stop at a row, as `trees` does.
 pub fn orientations(
     alloc: Global,
     asked: OrientedGraph,
@@ -135,7 +136,7 @@ pub fn orientations(
     ensures size { OnOk result (length counts.new ≡ length counts.old) }
     ensures refused { IfErr result (IsRefusal
         (RefusesOrientedArrays asked.entry.vertices asked.entry.ends.now)) }
-    // A refusal, but for want of memory, leaves the arrays as they were.
+    // After an error, except out of memory, the arrays are as they were.
     ensures kept { IfErr result (λ refusal. refusal ≢ OutOfMemory
         → (directions.new ≡ directions.old) × (useds.new ≡ useds.old)
         × (counts.new ≡ counts.old)) }

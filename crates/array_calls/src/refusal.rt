@@ -5,17 +5,17 @@ use std::alloc::AllocError;
 /// Why arrays have no samples. Vertices count from 0.
 #[derive(Clone, Copy, Debug, PartialEq, Eq)]
 pub enum ArrayRefusal {
-    /// The arrays are no graph.
+    /// The arrays are not a graph.
     NoGraph(EndsFault),
-    /// The root is no vertex.
+    /// The root is not a vertex.
     NoRoot,
-    /// The least vertex that no path joins to the root.
+    /// The lowest vertex that is not connected to the root.
     CutOff(u32),
-    /// The least vertex whose weights are too heavy.
+    /// The lowest vertex with too large a sum of weights.
     TooHeavy(u32),
-    /// The least vertex that no edge touches.
+    /// The lowest vertex without edges.
     Isolated(u32),
-    /// Memory ran out.
+    /// Out of memory.
     OutOfMemory,
 }
 

@@ -1,4 +1,4 @@
-//! Assignments of the formula in an array of literals, by rounds.
+//! Assignments of a formula that is given as an array of literals, by rounds.
 ghost use Rattle.std.specs.Prelude.{◌≡◌, ◌≢◌, ◌+◌, ◌*◌, ◌/◌, ◌<◌, ◌≤◌, ◌^◌, length, None, OnOk, IfOk, IfErr};
 ghost use Rattle.dimacs_read.specs.Literals.{cnf_in};
 ghost use Rattle.array_calls.specs.declared.formula_refusal.FormulaRefusal.TheVariants.{OutOfMemory};
@@ -43,7 +43,7 @@ pub fn assignments_by_rounds(
     ensures size { OnOk result (length counts.new ≡ length counts.old) }
     ensures refused { IfErr result (IsFormulaRefusal
         (RefusesLiterals asked.entry.variables asked.entry.literals.now)) }
-    // A refusal, but for want of memory, leaves the arrays as they were.
+    // After an error, except out of memory, the arrays are as they were.
     ensures kept { IfErr result (λ refusal. refusal ≢ OutOfMemory
         → (values.new ≡ values.old) × (useds.new ≡ useds.old) × (counts.new ≡ counts.old)) }
 {

@@ -8,7 +8,7 @@ ghost use Rattle.array_calls.specs.Trees.{HaveSlots, edge_number, parent, used, 
 use graph_read::{Incidence, OtherEnds};
 use pop_instance::{Cursors, Values};
 
-// What stands for no vertex and for no edge.
+// The number for no vertex and for no edge.
 const NOTHING: u32 = u32::MAX;
 
 // The variable of a vertex other than the root.
@@ -25,7 +25,7 @@ fn variable_of(root: u32, vertex: u32) -> u32
     }
 }
 
-// Where the arrow of a vertex leads.
+// The head of the arrow of a vertex.
 fn parent_of(ends: &OtherEnds, root: u32, slots: &Values, vertex: u32) -> u32
     requires root { IsVertex ends.now.vertices root }
     requires vertex { IsVertex ends.now.vertices vertex }
@@ -35,13 +35,13 @@ fn parent_of(ends: &OtherEnds, root: u32, slots: &Values, vertex: u32) -> u32
     if vertex == root {
         return NOTHING;
     }
-    // Read for its contract, which says that edges lead to vertices.
+    // Read for its contract, which says that the ends of edges are vertices.
     let _edges = ends.graph().edges();
     let slot = slots.get(variable_of(root, vertex));
     ends.at(vertex)[slot as usize] - 1
 }
 
-// Along which edge it leads.
+// The edge of the arrow of a vertex.
 fn edge_of(incidence: &Incidence, root: u32, slots: &Values, vertex: u32) -> u32
     requires root { IsVertex incidence.now.vertices root }
     requires vertex { IsVertex incidence.now.vertices vertex }
@@ -55,7 +55,7 @@ fn edge_of(incidence: &Incidence, root: u32, slots: &Values, vertex: u32) -> u32
     incidence.at(vertex)[slot as usize] / 2
 }
 
-// How many entries of it were passed.
+// The number of entries of a vertex that were consumed.
 fn used_of(root: u32, cursors: &Cursors, vertex: u32) -> u32
     requires root { 1 ≤ root }
     requires vertex { IsVertex (length cursors.now + 1) vertex }
@@ -68,7 +68,7 @@ fn used_of(root: u32, cursors: &Cursors, vertex: u32) -> u32
     cursors.get(variable_of(root, vertex))
 }
 
-/// Puts where the arrows of all vertices lead.
+/// Stores the heads of the arrows of all vertices.
 pub fn put_parents(ends: &OtherEnds, root: u32, slots: &Values, numbers: &mut [u32], at: usize)
     requires root { IsVertex ends.now.vertices root }
     requires slots { HaveSlots ends.now root slots.now }
@@ -80,7 +80,7 @@ pub fn put_parents(ends: &OtherEnds, root: u32, slots: &Values, numbers: &mut [u
     }
 }
 
-/// Puts along which edges they lead.
+/// Stores the edges of the arrows of all vertices.
 pub fn put_edges(incidence: &Incidence, root: u32, slots: &Values, numbers: &mut [u32], at: usize)
     requires root { IsVertex incidence.now.vertices root }
     requires slots { HaveSlots incidence.now root slots.now }
@@ -93,7 +93,7 @@ pub fn put_edges(incidence: &Incidence, root: u32, slots: &Values, numbers: &mut
     }
 }
 
-/// Puts how many entries of them were passed.
+/// Stores the numbers of entries of all vertices that were consumed.
 pub fn put_used(vertices: u32, root: u32, cursors: &Cursors, numbers: &mut [u32], at: usize)
     requires root { IsVertex vertices root }
     requires few { vertices ≤ 2 ^ 22 }

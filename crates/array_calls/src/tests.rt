@@ -2,9 +2,9 @@ use crate::{ArrayFormula, Draw, FormulaRefusal, Outcome, assignments, assignment
 use std::process::Abort;
 use std::test::Fail;
 
-// (1 or 2) and (not 1 or 3): where both could be false, 1 would have two values.
+// (1 or 2) and (not 1 or 3). If both were false, 1 would have two values.
 static EXTREMAL: [i32; 6] = [1, 2, 0, -1, 3, 0];
-// (1 or 2) and (2 or 3): both are false where all three variables are.
+// (1 or 2) and (2 or 3). Both are false if all three variables are.
 static CLASHING: [i32; 6] = [1, 2, 0, 2, 3, 0];
 
 #[test]

@@ -1,4 +1,4 @@
-//! Rows of variables of two values, in one array.
+//! Rows of variables with two values, in one array.
 ghost use Rattle.std.specs.Prelude.{◌≡◌, ◌⊎◌, ◌+◌, ◌*◌, ◌/◌, ◌<◌, ◌≤◌, ◌^◌, ℕ, length, slice_index, slice_set, OnOk, IfOk};
 ghost use Rattle.pop_model.specs.Extremal.{IsExtremal};
 ghost use Rattle.array_calls.specs.Rows.{PutsRow, PutsWanted};

@@ -2,13 +2,15 @@
 
 ghost use Rattle.array_laws.specs.PrintedRows.{OrientationRowsPrinted, TreeRowsPrinted};
 
-/// If a text is read as the graph of the arrays, the answer of `tree` under a key has, for each sample,
-/// the lines of its row: arrows, cursors and the number of pops, whatever call filled the row.
+/// If an input is read as the graph of the arrays, the answer of `tree` under a key has, for each
+/// sample, the lines of its row: arrows, cursors and the number of pops. This holds for every call
+/// that filled the row.
 pub fn tree_rows_printed()
     ensures { TreeRowsPrinted }
 {}
 
-/// The same holds of `orient` and the rows of orientations.
+/// If an input is read as the graph of the arrays, the answer of `orient` under a key has, for
+/// each sample, the lines of its row of orientations.
 pub fn orientation_rows_printed()
     ensures { OrientationRowsPrinted }
 {}

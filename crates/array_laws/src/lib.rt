@@ -1,5 +1,5 @@
-//! Laws of the calls over arrays: what they say of a sample is what its text says. There is no code
-//! that runs: the laws are the contracts of functions of empty body.
+//! Theorems about the calls over arrays: their rows and the printed text agree on each sample. No
+//! code runs: the theorems are the contracts of functions with an empty body.
 #![tactic(auto)]
 
 mod laws;

@@ -13,11 +13,11 @@ use std::env;
 use std::process::ExitCode;
 use top_call::run;
 
-// The status where the words can't be told, as one that isn't UTF-8, or there is no memory for them
-// or for the watchers.
+// The status if the arguments cannot be read, since one is not UTF-8, or if memory runs out for
+// them or for the watchers.
 const NOT_BEGUN: u8 = 9;
 
-// The words behind the program's own name.
+// The arguments after the program's name.
 fn words_of(rt: &HostRuntime) -> Option<Vec<String>> {
     let arguments = env::args(rt).ok()?;
     let mut words = Vec::new(rt.alloc());

@@ -18,21 +18,21 @@ mod faults;
 mod watchers;
 mod workers;
 
-// Stops the test where this isn't so of these words.
+// Ends the test if this does not hold for these arguments.
 fn is_so(rt: &impl Abort, holds: bool, what: &str, words: &[&str]) {
     assert!(rt; holds, "{what}: {words:?}");
 }
 
-// A source that gives so many bytes of an input at a call, of which the call of this number fails;
-// 0 is none.
+// A source that gives this many bytes of an input at a call. The call with this number fails; 0 is
+// none.
 fn source_of(rt: &impl Abort, alloc: Global, input: &str, piece: usize, failing: u64) -> MemSource {
     let bytes = Vec::from_slice(alloc, input.as_bytes()).expect(rt, "memory");
     let failing = vec![in alloc; failing].expect(rt, "memory");
     MemSource::new(bytes, piece.max(1), failing)
 }
 
-// A sink with this room that takes so many bytes at a call, of which the call of this number fails;
-// 0 is none.
+// A sink with this room that takes this many bytes at a call. The call with this number fails; 0
+// is none.
 fn sink_of(rt: &impl Abort, alloc: Global, room: usize, piece: usize, failing: u64) -> MemSink {
     let failing = vec![in alloc; failing].expect(rt, "memory");
     MemSink::new(alloc, room, piece.max(1), failing).expect(rt, "memory")
@@ -52,14 +52,14 @@ fn status_of<R: Threads + Wait + Sync, G: Gate + Sync>(
     run(rt, alloc, words, watchers, gate, source, sink)
 }
 
-// A status, and what the sink holds.
+// A status, and the bytes that the sink holds.
 fn answer_in(rt: &impl Abort, alloc: Global, status: u8, sink: &MemSink) -> Answer {
     let text = Vec::from_slice(alloc, sink.bytes()).expect(rt, "memory");
     Answer { status, text }
 }
 
-// The status and the output of a run, with this gate and these watchers, and a source and a sink
-// that don't fail.
+// The status and the output of a run, with this gate and these watchers, and with a source and a
+// sink that do not fail.
 fn answer<R: Threads + Wait + Sync + Abort, G: Gate + Sync>(
     rt: &R,
     alloc: Global,
@@ -77,20 +77,20 @@ fn answer<R: Threads + Wait + Sync + Abort, G: Gate + Sync>(
     answer
 }
 
-// Adds a word.
+// Adds an argument.
 fn push_word(rt: &impl Abort, alloc: Global, all: &mut Vec<String>, word: &str) {
     let word = String::from_str(alloc, word).expect(rt, "memory");
     all.push(word).expect(rt, "memory");
 }
 
-// Adds words.
+// Adds arguments.
 fn push_words(rt: &impl Abort, alloc: Global, all: &mut Vec<String>, words: &[&str]) {
     for word in words {
         push_word(rt, alloc, all, word);
     }
 }
 
-// Words of one's own.
+// A list with copies of these arguments.
 fn owned(rt: &impl Abort, alloc: Global, words: &[&str]) -> Vec<String> {
     let mut all = Vec::new(alloc);
     push_words(rt, alloc, &mut all, words);

@@ -1,4 +1,4 @@
-//! The answer to words and a text in memory.
+//! The answer to arguments and an input in memory.
 ghost use Rattle.std.specs.Prelude.{map, string_bytes, IfOk, IfSome, MatchOption};
 ghost use Rattle.joined_words.specs.Joined.{AreNoWords};
 ghost use Rattle.top_call.specs.Answers.{IsAnswer};
@@ -10,7 +10,7 @@ use pop_watch::{Heights, Layers, Totals, Watch};
 use std::alloc::{AllocError, Global};
 use top_call::{Answer, answer_alone};
 
-// The answer to words and a text, with a watcher of each kind.
+// The answer to arguments and an input, with a watcher of each kind.
 fn watched_answer(alloc: Global, words: &[String], text: &[u8]) -> Result<Answer, AllocError>
     ensures answer { IfOk result (λ a. IsAnswer (map string_bytes words.now) fresh_watchers
         text.now a.status a.text.items) }
@@ -26,7 +26,8 @@ fn watched_answer(alloc: Global, words: &[String], text: &[u8]) -> Result<Answer
     answer_alone(alloc, words, watchers, text)
 }
 
-/// The answer to the words in these bytes and to a text; None where no words are in them.
+/// The answer to the arguments in these bytes and to an input. None if the bytes contain no
+/// arguments.
 #[tactic(auto, using(crate::proofs::Utf8Words::words_utf8))]
 pub fn answer_of(alloc: Global, words: &[u8], text: &[u8]) -> Result<Option<Answer>, AllocError>
     ensures told { IfOk result (λ found. MatchOption found (AreNoWords words.now)

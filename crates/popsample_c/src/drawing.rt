@@ -1,4 +1,4 @@
-//! What the calls with arrays have in common: their statuses, and what makes one right.
+//! The common parts of the calls with arrays: their statuses, and the conditions of a valid call.
 ghost use Rattle.std.specs.Prelude.{◌≡◌, ◌⊎◌, ◌↔◌, ◌<◌, ◌≤◌, ◌^◌, length, IsTrue};
 ghost use Rattle.array_calls.specs.Trees.{FitFrom, FitsWanted, WantsStops};
 ghost use Rattle.popsample_c.specs.Calls.{IsDrawn, told_as};
@@ -6,7 +6,7 @@ ghost use Rattle.popsample_c.specs.Calls.{IsDrawn, told_as};
 use array_calls::ArrayRefusal;
 use graph_read::EndsFault;
 
-// The statuses of a right call that isn't refused, and of a wrong one.
+// The statuses of a valid call without an error, and of an invalid call.
 pub(crate) const SAMPLES: u32 = 0;
 
 pub(crate) const EXHAUSTED: u32 = 1;
@@ -15,7 +15,7 @@ pub(crate) const USAGE: u32 = 2;
 
 pub(crate) const STOPPED: u32 = 10;
 
-/// The status, the kind and the place of a refusal.
+/// The status, the kind and the place of an error.
 pub(crate) fn told(refusal: ArrayRefusal) -> (u32, u64, u64)
     ensures { result ≡ told_as refusal }
 {
@@ -37,7 +37,8 @@ pub(crate) fn told(refusal: ArrayRefusal) -> (u32, u64, u64)
     }
 }
 
-/// Whether the key has 32 bytes, the height is one, and the numbers of so many samples have 32 bits.
+/// Whether the key has 32 bytes, the height is valid, and the numbers of this many samples have 32
+/// bits.
 pub(crate) fn is_drawn(key: &[u8], height: u32, first: u32, count: usize) -> bool
     ensures { IsTrue result ↔ IsDrawn key.now height first count }
 {
@@ -48,7 +49,7 @@ pub(crate) fn is_drawn(key: &[u8], height: u32, first: u32, count: usize) -> boo
         && first as usize + count <= 1 << 32
 }
 
-/// Whether an array has so many rows of so many numbers, or none.
+/// Whether an array has this many rows of this many numbers, or none.
 pub(crate) fn fits_wanted(row: usize, count: usize, numbers: &[u32]) -> bool
     requires count { count ≤ 2 ^ 32 }
     requires row { row < 2 ^ 32 }
@@ -57,7 +58,7 @@ pub(crate) fn fits_wanted(row: usize, count: usize, numbers: &[u32]) -> bool
     numbers.is_empty() || numbers.len() == count * row
 }
 
-/// Whether rows of cursors are wanted, where there is a budget.
+/// Whether rows of cursors are wanted, if there is a budget.
 pub(crate) fn wants_stops(budget: u64, row: usize, count: usize, useds: &[u32]) -> bool
     requires count { count ≤ 2 ^ 32 }
     requires row { row < 2 ^ 32 }
@@ -66,7 +67,7 @@ pub(crate) fn wants_stops(budget: u64, row: usize, count: usize, useds: &[u32]) 
     budget == u64::MAX || useds.len() == count * row
 }
 
-/// Whether these are no cursors, or so many that are below the height.
+/// Whether these are no cursors, or exactly one row of cursors below the height.
 pub(crate) fn fit_from(row: usize, height: u32, from: &[u32]) -> bool
     ensures { IsTrue result ↔ FitFrom row height from.now }
 {

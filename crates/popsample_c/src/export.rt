@@ -1,4 +1,4 @@
-//! The export for command words and a text.
+//! The export for command-line arguments and an input.
 ghost use Rattle.std.specs.Prelude.{◌≡◌, ◌≢◌, ◌<◌, ◌≤◌, ◌↔◌, ◌⊎◌, IsTrue, drop, length, take};
 ghost use Rattle.joined_words.specs.Joined.{AreNoWords};
 ghost use Rattle.popsample_c.specs.Told.{IsTold, IsTooLong, IsCallStatus};
@@ -13,7 +13,7 @@ const NO_ROOM: u32 = 12;
 
 const NO_WORDS: u32 = 13;
 
-// Puts a text to the front of the output, where there is room for it, and says whether there is.
+// Copies a text to the start of the output, if there is room for it. Returns whether there is.
 fn put(text: &[u8], output: &mut [u8]) -> bool
     ensures room { IsTrue result ↔ (length text.now ≤ length output.old) }
     ensures put { IsTrue result → take (length text.now) output.new ≡ text.now }
@@ -28,13 +28,17 @@ fn put(text: &[u8], output: &mut [u8]) -> bool
     true
 }
 
-/// Answers the words and the text as the program does, and puts what it prints to the front of the
-/// output. A byte 0 ends each word. `written` tells how many bytes the answer has.
+/// Answers the arguments and the input as the program does, and writes what it prints to the start
+/// of the output. Each argument is ended by a byte 0. `written` is set to the number of bytes of
+/// the answer.
 ///
-/// The status is that of the program; 9 where memory ran out; 12 where the output has less room
-/// than the answer needs, which `written` tells; and 13 where the words have no byte 0 at their end,
-/// or aren't UTF-8. With the last three the output stays as it was, and so it does behind the
-/// answer.
+/// The status is that of the program, or one of these:
+///
+/// - 9 if memory ran out;
+/// - 12 if the output has less room than the answer needs; `written` says how much it needs;
+/// - 13 if the arguments have no byte 0 at their end, or are not UTF-8.
+///
+/// With these three the output is unchanged, and otherwise it is unchanged after the answer.
 #[unsafe(no_mangle)]
 pub extern "C" fn popsample_run(
     alloc: Global,
@@ -43,7 +47,8 @@ pub extern "C" fn popsample_run(
     output: &mut [u8],
     written: &mut usize,
 ) -> u32
-    // With a status of the program the front of the output is an answer to the words and the text.
+    // With a status of the program the start of the output is an answer to the arguments and the
+    // input.
     ensures told { result < 12 → result ≢ 9 → IsTold words.now text.now result
         (take written.new output.new) }
     ensures fits { result < 12 → written.new ≤ length output.old }

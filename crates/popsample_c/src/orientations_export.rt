@@ -1,4 +1,4 @@
-//! The export for orientations of graphs in arrays.
+//! The export for orientations of graphs that are given as arrays.
 ghost use Rattle.std.specs.Prelude.{◌≡◌, ◌⊎◌, ◌↔◌, ◌<◌, ◌≤◌, ◌/◌, ◌^◌, length, IsTrue};
 ghost use Rattle.array_calls.specs.Draws.{AreSamples};
 ghost use Rattle.array_calls.specs.Values.{value_arrays};
@@ -10,8 +10,8 @@ use crate::drawing::{
 use array_calls::{Draw, OrientedGraph, Outcome, orientations};
 use std::alloc::Global;
 
-// Whether arrays have so many rows of a number for each of the edges of these ends. More than 2^32
-// ends are no graph.
+// Whether arrays have this many rows with a number for each of the edges of these ends. More than
+// 2^32 ends are not a graph.
 fn fit_edges(ends: &[u32], count: usize, directions: &[u8], useds: &[u32]) -> bool
     requires { count ≤ 2 ^ 32 }
     ensures { IsTrue result ↔ FitEdges ends.now count directions.now useds.now }
@@ -20,8 +20,7 @@ fn fit_edges(ends: &[u32], count: usize, directions: &[u8], useds: &[u32]) -> bo
     edges < 1 << 31 && directions.len() == count * edges && fits_wanted(edges, count, useds)
 }
 
-// Whether it is a call for orientations, whose arrays have rows for as many samples as there are
-// pairs of counts.
+// Whether this is a valid call for orientations: its arrays have a row for each pair of counts.
 fn is_orient_call(
     ends: &[u32],
     key: &[u8],
@@ -43,9 +42,10 @@ fn is_orient_call(
         && wants_stops(budget, ends.len() / 2, count, useds)
 }
 
-/// Draws orientations without sinks of the graph in arrays, as many as there are pairs of `counts`:
-/// those of the samples from the number `first` on, of which the first goes on from the cursors
-/// `from`. `kind` and `place` say what was refused, or `place` at which row the budget was spent.
+/// Draws sink-free orientations of the graph in arrays, as many as there are pairs of `counts`.
+/// They are those of the samples from the number `first` on. The first of them continues from the
+/// cursors `from`. `kind` and `place` describe an error, or `place` is the row at which the budget
+/// was spent.
 #[unsafe(no_mangle)]
 pub extern "C" fn popsample_orientations(
     alloc: Global,
@@ -70,19 +70,19 @@ pub extern "C" fn popsample_orientations(
     ensures free { result ≡ 0 → AreSamples (length counts.old / 2) counts.new }
     ensures exhausted { result ≡ 1 → AreSamples (length counts.old / 2) counts.new → ⊥ }
 
-    // Or the budget was spent at a row.
+    // The budget was spent at a row.
     ensures stopped { result ≡ 10 → StopOrientations vertices ends.now key.now height first from.now
         budget (length counts.old / 2) (value_arrays directions.old useds.old counts.old)
         (value_arrays directions.new useds.new counts.new) place.new }
 
-    // Else the call is wrong, the input is refused, and it is told why, or memory ran out.
+    // Otherwise the call is invalid, the input is rejected with the reason, or memory ran out.
     ensures usage { (result ≡ 2) ↔ (IsOrientCall ends.now key.now height first from.now budget
         directions.old useds.old counts.old → ⊥) }
     ensures refused { 2 < result → result < 9 → AreUnoriented vertices ends.now result
         kind.new place.new }
     ensures statuses { IsArrayStatus result }
 
-    // Then the arrays stay as they were, but where memory ran out.
+    // After an error the arrays are as they were, unless memory ran out.
     ensures kept { 2 ≤ result → result < 9 → (directions.new ≡ directions.old)
         × (useds.new ≡ useds.old) × (counts.new ≡ counts.old) }
     ensures no_kind { (result < 3) ⊎ (9 ≤ result) → kind.new ≡ 0 }

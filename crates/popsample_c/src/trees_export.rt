@@ -1,4 +1,4 @@
-//! The export for trees of graphs in arrays.
+//! The export for trees of graphs that are given as arrays.
 ghost use Rattle.std.specs.Prelude.{◌≡◌, ◌⊎◌, ◌↔◌, ◌<◌, ◌≤◌, ◌/◌, ◌^◌, length, slice_index, IsTrue};
 ghost use Rattle.array_calls.specs.Draws.{AreSamples};
 ghost use Rattle.array_calls.specs.Trees.{FitRows, tree_arrays};
@@ -10,7 +10,7 @@ use crate::drawing::{
 use array_calls::{Draw, Outcome, TreeGraph, trees};
 use std::alloc::Global;
 
-// Whether arrays have so many rows of so many numbers.
+// Whether arrays have this many rows with this many numbers.
 fn fit_rows(vertices: u32, count: usize, parents: &[u32], edges: &[u32], useds: &[u32]) -> bool
     requires { count ≤ 2 ^ 32 }
     ensures { IsTrue result ↔ FitRows vertices count parents.now edges.now useds.now }
@@ -20,7 +20,7 @@ fn fit_rows(vertices: u32, count: usize, parents: &[u32], edges: &[u32], useds: 
         && fits_wanted(vertices as usize, count, useds)
 }
 
-// Whether the cursors from which a sample goes on have 0 at the root, where there is such a vertex.
+// Whether the cursors from which a sample continues have 0 at the root, if there is such a vertex.
 fn is_zero_at(root: u32, from: &[u32]) -> bool
     ensures { IsTrue result ↔ (slice_index from.now root ≡ 0) }
 {
@@ -30,8 +30,7 @@ fn is_zero_at(root: u32, from: &[u32]) -> bool
     }
 }
 
-// Whether it is a call for trees, whose arrays have rows for as many samples as there are pairs of
-// counts.
+// Whether this is a valid call for trees: its arrays have a row for each pair of counts.
 fn is_call(
     vertices: u32,
     root: u32,
@@ -56,9 +55,9 @@ fn is_call(
         && wants_stops(budget, vertices as usize, count, useds)
 }
 
-/// Draws trees of the graph in arrays, as many as there are pairs of `counts`: those of the samples
-/// from the number `first` on, of which the first goes on from the cursors `from`. `kind` and
-/// `place` say what was refused, or `place` at which row the budget was spent.
+/// Draws trees of the graph in arrays, as many as there are pairs of `counts`. They are those of
+/// the samples from the number `first` on. The first of them continues from the cursors `from`.
+/// `kind` and `place` describe an error, or `place` is the row at which the budget was spent.
 #[unsafe(no_mangle)]
 pub extern "C" fn popsample_trees(
     alloc: Global,
@@ -86,20 +85,20 @@ pub extern "C" fn popsample_trees(
     ensures trees { result ≡ 0 → AreSamples (length counts.old / 2) counts.new }
     ensures exhausted { result ≡ 1 → AreSamples (length counts.old / 2) counts.new → ⊥ }
 
-    // Or the budget was spent at a row.
+    // The budget was spent at a row.
     ensures stopped { result ≡ 10 → StopTrees vertices ends.now weights.now root key.now height
         first from.now budget (length counts.old / 2)
         (tree_arrays parents.old edges.old useds.old counts.old)
         (tree_arrays parents.new edges.new useds.new counts.new) place.new }
 
-    // Else the call is wrong, the input is refused, and it is told why, or memory ran out.
+    // Otherwise the call is invalid, the input is rejected with the reason, or memory ran out.
     ensures usage { (result ≡ 2) ↔ (IsCall vertices root key.now height first from.now budget
         parents.old edges.old useds.old counts.old → ⊥) }
     ensures refused { 2 < result → result < 9 → AreRefused vertices ends.now weights.now root result
         kind.new place.new }
     ensures statuses { IsArrayStatus result }
 
-    // Then the arrays stay as they were, but where memory ran out.
+    // After an error the arrays are as they were, unless memory ran out.
     ensures kept { 2 ≤ result → result < 9 → (parents.new ≡ parents.old) × (edges.new ≡ edges.old)
         × (useds.new ≡ useds.old) × (counts.new ≡ counts.old) }
     ensures no_kind { (result < 3) ⊎ (9 ≤ result) → kind.new ≡ 0 }

@@ -1,4 +1,4 @@
-//! The answer to command words and a source.
+//! The answer to command-line arguments and a source.
 ghost use Rattle.std.specs.Prelude.{◌≡◌, ◌≢◌, ◌⊎◌, ◌≤◌, ℕ, List, length, Some, map, string_bytes, IfOk, OnOk, MatchResult, IsErrOf};
 ghost use Rattle.std.specs.Io.KnownBytes.{IsAtEnd, Consumes};
 ghost use Rattle.pop_model.specs.Faults.{Rose};
@@ -30,8 +30,8 @@ use run_makers::{Crew, Maker};
 use std::alloc::Global;
 use told_runs::Call;
 
-// The answer to the certificate that the source has: where its run stands, or how it goes on to an
-// end, as the line of the certificate's command tells it.
+// The answer to the certificate that the source contains. It is the state of the certificate's
+// run, or the end of the continued run, as the line of the certificate's command prints it.
 fn answer_cert<S: Source, M: Maker>(
     call: &mut Call<M>,
     job: &Job,
@@ -63,8 +63,8 @@ fn answer_cert<S: Source, M: Maker>(
     Ok(told?)
 }
 
-// The answer to a job. One that says after how many pops its run stops reads the source whole first,
-// and so does a certificate, which is replayed or resumed.
+// The answer to a job. For a job with a limit of pops the source is read completely first, and
+// also for a certificate, which is replayed or resumed.
 fn answer_job<S: Source, M: Maker>(
     call: &mut Call<M>,
     job: &Job,
@@ -107,7 +107,7 @@ fn answer_job<S: Source, M: Maker>(
     Ok(told?)
 }
 
-/// The answer to command words, watchers and the text of a source, or why there is none.
+/// The answer to arguments, watchers and the input of a source, or why there is none.
 pub fn answer_to<S: Source, M: Maker>(
     maker: &M,
     alloc: Global,
@@ -122,13 +122,13 @@ pub fn answer_to<S: Source, M: Maker>(
         (map (λ b. (kind b, state b)) watchers.items) text a.status a.text.items) }
     ensures status { IfOk result (λ a. IsAnswerStatus a.status) }
 
-    // Words outside the grammar are told of whatever the source is.
+    // Invalid arguments are reported for every source.
     ensures usage { IfOk result (λ a. a.status ≡ 2 → (place : ℕ)
         × IsBadPlace (map string_bytes words.now) place × (a.text.items ≡ refusal_line (Usage place))) }
     ensures only_usage { (AreWords (map string_bytes words.now) → ⊥)
         → MatchResult result (λ a. a.status ≡ 2) (λ stop. stop ≡ OutOfMemory) }
 
-    // Then the source is left as it was, and so it is where a grid is made.
+    // If the arguments are invalid, or if a grid is made, the source is left as it was.
     ensures unread { (AreWords (map string_bytes words.now) → ⊥)
         ⊎ AskForGrid (map string_bytes words.now) → source.new ≡ source.old }
 
@@ -138,8 +138,8 @@ pub fn answer_to<S: Source, M: Maker>(
         → HasReadFault (map string_bytes words.now) (S.left source.old) (S.left source.new)
         (S.faults source.old) (S.faults source.new) }
 
-    // A certificate, and a text of which a run may stop, is read whole before a byte of it is
-    // judged.
+    // A certificate, and the input of a run that may be stopped, is read completely before a byte
+    // of it is checked.
     ensures read { (job : Job) → Asks (map string_bytes words.now) job → IfOk result (λ a.
         WasReadWhole job.pops job.command (S.left source.old) (S.left source.new)) }
 {

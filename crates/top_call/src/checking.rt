@@ -14,7 +14,7 @@ use job_subjects::{Answer, Refusal, formula_of, refuse_clash, told_in_line};
 use pop_edge::Source;
 use std::alloc::Global;
 
-// Says whether the formula's events are extremal.
+// Whether the formula's events are extremal, as an answer.
 fn check_formula(alloc: Global, formula: &Formula) -> Result<Answer, Refusal>
     requires filled { first_empty formula.now ≡ None }
     ensures { IsResultOf (ComesOfFormula formula.now) result }
@@ -24,7 +24,7 @@ fn check_formula(alloc: Global, formula: &Formula) -> Result<Answer, Refusal>
     Ok(told_in_line(alloc, 0, "EXTREMAL", &[events.count() as u64])?)
 }
 
-/// Says whether the events of the formula that the source has are extremal: the answer of `check`.
+/// The answer of `check`: whether the events of the formula that the source contains are extremal.
 pub fn check<S: Source>(alloc: Global, source: &mut S) -> Result<Answer, Refusal>
     ensures answer { (text : List ℕ) → S.left source.old ≡ Some text
         → (IsErrOf result (Stopped ReadFault) → ⊥)

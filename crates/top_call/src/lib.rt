@@ -1,6 +1,6 @@
-//! The top call: command words and a text in, a text and a status out. `run` is the whole of the
-//! program, over any source and sink; contracts see the words, the bytes that the source has left
-//! and the bytes that the sink holds.
+//! The top call: command-line arguments and an input in, an output and a status out. `run` is the
+//! whole program, over any source and sink. Contracts see the arguments, the bytes that the source
+//! has left and the bytes that the sink has taken.
 #![tactic(auto)]
 
 mod accepted;

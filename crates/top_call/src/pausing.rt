@@ -1,5 +1,5 @@
-//! Runs that stop after so many pops: where an event is poppable then, the answer is a certificate
-//! of the run so far, and else that of the run to its end.
+//! Runs that stop after a number of pops. If an event is still poppable then, the answer is a
+//! certificate of the run so far. Otherwise it is that of the run to its end.
 ghost use Rattle.std.specs.Prelude.{◌≡◌, ◌≢◌, ◌<◌, ◌≤◌, ◌^◌, ℕ, List, Some, length, map, IfOk, IsErrOf};
 ghost use Rattle.std.specs.Io.KnownBytes.{Consumes, IsAtEnd};
 ghost use Rattle.pop_model.specs.Faults.{Rose};
@@ -40,8 +40,8 @@ use run_cert::{Look, Part, print_cert, run_part};
 use std::alloc::{AllocError, Global};
 use told_runs::{Asked, Call, names_of, tell_end};
 
-// How many bytes an input may have: a longer one is read up to the first byte too many, by which
-// its grammar refuses it.
+// The largest number of bytes of an input. A longer input is read up to the first byte past the
+// limit, so that its grammar rejects it.
 const INPUT_LIMIT: usize = 1 << 28;
 
 // The certificate of a run that stopped: the job, its input, and the text of its layered log.
@@ -68,7 +68,7 @@ fn tell_pause(
     Ok(Answer { status: 10, text })
 }
 
-// A run that came to an end, with its log where it is to be kept.
+// A run that reached an end, with its log if it is to be kept.
 fn ended(alloc: Global, instance: &Instance, part: Part, keep: Keep) -> Result<Outcome, AllocError>
     requires part { IsSoFar instance.now part }
     requires count { variables_of instance.now.stacks ≡ length part.cursors }
@@ -92,8 +92,8 @@ fn ended(alloc: Global, instance: &Instance, part: Part, keep: Keep) -> Result<O
     })
 }
 
-// Runs the instance up to so many pops, and tells the certificate where an event is poppable then,
-// and else the end.
+// Runs the instance for at most this many pops. Returns the certificate if an event is poppable
+// then, and otherwise the end.
 fn run_up_to<M>(
     call: &mut Call<M>,
     job: &Job,
@@ -127,7 +127,7 @@ fn run_up_to<M>(
     }
 }
 
-// The answer to a job whose run stops after so many pops, on the bytes that were read.
+// The answer to a job with a limit of pops, for the bytes that were read.
 fn judge_and_stop<M>(
     call: &mut Call<M>,
     job: &Job,
@@ -154,8 +154,8 @@ fn judge_and_stop<M>(
     Ok(told?)
 }
 
-/// The answer to a job whose run stops after so many pops. The source is read whole before a byte
-/// of it is judged.
+/// The answer to a job with a limit of pops. The source is read completely before a byte of it is
+/// checked.
 pub fn pause_or_tell<S: Source, M>(
     call: &mut Call<M>,
     job: &Job,

@@ -1,4 +1,5 @@
-//! The run of a certificate goes on to an end, which is told as the line of its command tells it.
+//! Continues the run of a certificate to its end, and prints it as the line of the certificate's
+//! command does.
 ghost use Rattle.std.specs.Prelude.{◌≡◌, None, map, if◌then◌else◌, IfOk};
 ghost use Rattle.confluence_core.specs.Kept.{keeps_log};
 ghost use Rattle.run_cert.specs.Certificates.{Certificate};
@@ -15,7 +16,7 @@ use run_makers::{Maker, Stretch};
 use std::alloc::AllocError;
 use told_runs::{Asked, Call, tell_end};
 
-// A log, where it is to be kept.
+// The log, if it is to be kept.
 fn kept(log: Option<Log>, keep: Keep) -> Option<Log>
     ensures { result ≡ (if keeps_log keep then log else None) }
 {
@@ -25,7 +26,7 @@ fn kept(log: Option<Log>, keep: Keep) -> Option<Log>
     }
 }
 
-/// Goes on with the run of a certificate, and tells its end.
+/// Continues the run of a certificate, and prints its end.
 pub fn go_on<M: Maker>(call: &mut Call<M>, accepted: Accepted) -> Result<Answer, AllocError>
     requires maker { M.fits call.old.maker.now }
     requires held { (cert : Certificate) × IsHeldBy cert accepted }

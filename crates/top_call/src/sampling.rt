@@ -1,4 +1,4 @@
-//! The commands that sample: what a job wants of a text is made, sampled and told.
+//! The commands that sample: they make what a job wants of an input, sample it and print it.
 ghost use Rattle.std.specs.Prelude.{◌≡◌, ◌≢◌, ◌⊎◌, ℕ, List, None, Some, map, IfOk, IfErr, OnOk, IsErrOf, Contains};
 ghost use Rattle.std.specs.Io.KnownBytes.{IsAtEnd, Consumes};
 ghost use Rattle.pop_model.specs.Faults.{Rose};
@@ -26,7 +26,7 @@ use run_makers::{Maker, Opening};
 use std::alloc::{AllocError, Global};
 use told_runs::{Asked, Call, batch_and_tell, round_and_tell, tell_sampled};
 
-/// What a job wants made of the text of the source, or its refusal.
+/// What a job wants, made of the source's input, or the error.
 pub fn made_for<S: Source>(alloc: Global, job: &Job, source: &mut S) -> Result<Made, Refusal>
     requires asked { IsAsked job.now }
     requires command { Contains sampling job.now.command }
@@ -63,7 +63,7 @@ pub fn made_for<S: Source>(alloc: Global, job: &Job, source: &mut S) -> Result<M
     made_of(alloc, wanted, source)
 }
 
-/// Samples what a job made, and tells the end: by rounds, as many samples as are asked for, or one
+/// Samples what was made, and prints the end: by rounds, the requested number of samples, or one
 /// run.
 pub fn sample_made<M: Maker>(
     call: &mut Call<M>,

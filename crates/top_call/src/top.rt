@@ -24,7 +24,7 @@ use std::alloc::{AllocError, Global};
 use std::sync::Wait;
 use std::thread::Threads;
 
-// Writes the text, and answers the status, or 8 where the sink failed.
+// Writes the output. Returns the status, or 8 if the sink failed.
 fn deliver<K: Sink>(sink: &mut K, text: &[u8], status: u8) -> u8
     requires { status ≢ 8 }
     ensures status { (result ≡ status) ⊎ (result ≡ 8) }
@@ -101,13 +101,13 @@ pub fn run<S: Source, K: Sink, R: Threads + Wait + Sync, G: Gate + Sync>(
         (K.holds sink.old) (K.holds sink.new) result }
     ensures statuses { result ≤ 11 }
 
-    // Words outside the grammar are told of whatever the source is, and nothing else is then.
+    // Invalid arguments are reported for every source, and nothing else is written then.
     ensures usage { result ≡ 2
         → AnsweredUsage (map string_bytes words.now) (K.holds sink.old) (K.holds sink.new) }
     ensures only_usage { (AreWords (map string_bytes words.now) → ⊥)
         → (result ≡ 2) ⊎ ((result ≡ 8) ⊎ (result ≡ 9)) }
 
-    // The source is left as it was then, and where a grid is made.
+    // The source is left as it was if the arguments are invalid, and if a grid is made.
     ensures unread { (AreWords (map string_bytes words.now) → ⊥)
         ⊎ AskForGrid (map string_bytes words.now) → source.new ≡ source.old }
 
@@ -128,14 +128,14 @@ pub fn run<S: Source, K: Sink, R: Threads + Wait + Sync, G: Gate + Sync>(
     ensures memory { result ≡ 9
         → Appends (K.holds sink.old) (K.holds sink.new) (refusal_line (Stopped OutOfMemory)) }
 
-    // With a sample, a verdict, an exhausted end or a certificate a source that is read was read to
-    // its end.
+    // If the answer is a sample, a verdict, an exhausted end or a certificate, a source that is
+    // read was read to its end.
     ensures whole { HasRun result
         → (AskForGrid (map string_bytes words.now) → ⊥) → IsAtEnd (S.left source.new) }
 
-    // A certificate, and a text of which a run may stop, is read whole before a byte of it is
-    // judged: to its end, or to the first byte past the limit. So a fault of reading comes before
-    // any refusal of what was read.
+    // A certificate, and the input of a run that may be stopped, is read completely before a byte
+    // of it is checked: to its end, or to the first byte past the limit. So an error of reading
+    // takes precedence over any error in the bytes that were read.
     ensures read_whole { (job : Job) → Asks (map string_bytes words.now) job
         → (IsBreak result → ⊥)
         → WasReadWhole job.pops job.command (S.left source.old) (S.left source.new) }
@@ -170,14 +170,14 @@ pub fn run<S: Source, K: Sink, R: Threads + Wait + Sync, G: Gate + Sync>(
     }
 }
 
-/// The answer to the words and the bytes of a text: the status that `run` ends with, and the text
-/// that it writes, where the source has these bytes and no sink fails. It is refused only where
-/// memory ran out. The bytes are no input where a grid is made.
+/// The answer to the arguments and the bytes of an input: the status that `run` returns and the
+/// output that it writes, if the source has these bytes and no sink fails. The error is returned
+/// only if memory ran out. If a grid is made, the bytes are not used.
 ///
-/// The calling thread does all of the work. However many workers the words ask for, and on
-/// whichever board, it makes the run alone, passes no gate and starts no thread; an answer doesn't
-/// tell how many there were. With `--grow` the run is made at the last height at once. The
-/// watchers are told what `run` tells them, and are dropped when the call ends.
+/// The calling thread does all of the work. For every requested crew it makes the run alone,
+/// passes no gate and starts no thread; an answer does not show how many workers there were. With
+/// `--grow` the run is made at the last height at once. The watchers receive what they receive
+/// from `run`, and are dropped when the call ends.
 pub fn answer_alone(
     alloc: Global,
     words: &[String],
@@ -193,7 +193,7 @@ pub fn answer_alone(
     match answer_to(&Alone, alloc, words, watchers, &mut source) {
         Ok(answer) => Ok(answer),
         Err(Stop::OutOfMemory) => Err(AllocError),
-        // No read of bytes that are lent fails.
+        // A read of borrowed bytes does not fail.
         Err(Stop::ReadFault) => unreachable!(),
     }
 }

@@ -38,7 +38,7 @@ fn answer_made_alone(rt: &impl Abort, alloc: Global, words: &[String], input: &s
     answer_alone(alloc, words, watchers, input.as_bytes()).expect(rt, "memory")
 }
 
-// Compares two answers to words.
+// Compares two answers to arguments.
 fn same_answers(rt: &impl Abort, alone: &Answer, of_run: &Answer, words: &[&str]) {
     is_so(rt, alone.status == of_run.status, "status", words);
     is_so(
@@ -49,7 +49,7 @@ fn same_answers(rt: &impl Abort, alone: &Answer, of_run: &Answer, words: &[&str]
     );
 }
 
-// Words and an input have one answer, whoever makes it.
+// Arguments and an input have the same answer from both.
 fn is_alike<R: Threads + Wait + Sync + Abort>(rt: &R, alloc: Global, words: &[&str], input: &str) {
     let all = owned(rt, alloc, words);
     let of_run = answer_of_run(rt, alloc, &all, input);
@@ -60,10 +60,10 @@ fn is_alike<R: Threads + Wait + Sync + Abort>(rt: &R, alloc: Global, words: &[&s
     drop(of_run);
 }
 
-// Words and an input.
+// Arguments and an input.
 type Asked = (&'static [&'static str], &'static str);
 
-// Each of these has one answer, whoever makes it.
+// Each of these has the same answer from both.
 fn are_alike<R: Threads + Wait + Sync + Abort>(rt: &R, alloc: Global, all: &[Asked]) {
     for (words, input) in all.iter() {
         is_alike(rt, alloc, words, input);
@@ -91,11 +91,11 @@ fn each_command_is_answered_alike(rt: HostRuntime) {
     are_alike(&rt, rt.alloc(), &COMMANDS);
 }
 
-// Stopped behind one pop of two: an event is poppable still.
+// Stopped after one pop of two: an event is still poppable.
 const STOPPED: &str = "cert 1 resample\nstacks 0,0,1;0,1\ninput 18\np cnf 2 2\n1 0\n2 0\n\
     log 1 1\npop 1 1:0\n";
 
-// The words of the first ask for so many workers on this board, whose runs grow.
+// The first row requests several workers on the board under a lock, with stacks that grow.
 static CREWS: [Asked; 4] = [
     (
         &["tree", "--workers", "3", "--board", "lock", "--grow", "64"],

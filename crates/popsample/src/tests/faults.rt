@@ -16,8 +16,8 @@ const INPUT: &str = "p cnf 1 1\n1 0\n";
 // It has 29 bytes.
 const OUTPUT: &str = "s SAMPLE\nv 1 0\nused 2\npops 2\n";
 
-// A source and a sink that move so many bytes at a call, of which the calls of these numbers fail;
-// 0 is none.
+// A source and a sink that move this many bytes at a call. The calls with these numbers fail; 0 is
+// none.
 #[derive(Clone, Copy)]
 struct Devices {
     piece: usize,
@@ -34,7 +34,7 @@ fn failing(read: u64, write: u64) -> Devices {
     }
 }
 
-// The status of words and an input on these devices, and what the sink holds.
+// The status for arguments and an input on these devices, and the bytes that the sink holds.
 fn answer_on<R: Threads + Wait + Sync + Abort>(
     rt: &R,
     alloc: Global,
@@ -52,7 +52,7 @@ fn answer_on<R: Threads + Wait + Sync + Abort>(
     answer
 }
 
-// Stops the test where this isn't so of an input on these devices.
+// Ends the test if this does not hold for an input on these devices.
 fn is_so_on(rt: &impl Abort, holds: bool, what: &str, input: &str, devices: Devices) {
     let Devices { piece, read, write } = devices;
     assert!(rt; holds, "{what}: {input:?}, {piece} {read} {write}");
@@ -66,7 +66,7 @@ fn is_wanted(rt: &impl Abort, got: &Answer, input: &str, devices: Devices, wante
     is_so_on(rt, text == output.as_bytes(), "text", input, devices);
 }
 
-// Words and an input are answered so on these devices.
+// Compares the answer to arguments and an input on these devices.
 fn is_answered<R: Threads + Wait + Sync + Abort>(
     rt: &R,
     alloc: Global,
@@ -82,7 +82,7 @@ fn is_answered<R: Threads + Wait + Sync + Abort>(
     drop(got);
 }
 
-// Each of so many first reads that fails is told.
+// Each of the first reads is reported if it fails, up to this number.
 fn reads_are_told<R: Threads + Wait + Sync + Abort>(
     rt: &R,
     alloc: Global,
@@ -103,7 +103,7 @@ fn each_read_that_fails_is_told(rt: HostRuntime) {
     is_answered(&rt, alloc, &WORDS, INPUT, failing(16, 0), (0, OUTPUT));
 }
 
-// Read 5 comes behind the end of the line, where it has one.
+// Read 5 comes after the end of the line, if it has one.
 #[test]
 fn a_fault_comes_before_a_line_without_its_end(rt: HostRuntime) {
     let alloc = rt.alloc();
@@ -115,7 +115,7 @@ fn a_fault_comes_before_a_line_without_its_end(rt: HostRuntime) {
 
 static ONE_POP: [&str; 3] = ["formula", "--pops", "1"];
 
-// The line that is refused was read whole, but the source is read to its end before it is judged.
+// The invalid line was read completely, but the source is read to its end before it is checked.
 #[test]
 fn a_fault_comes_before_a_bad_line_where_a_run_may_stop(rt: HostRuntime) {
     let fault = (7, "s READFAULT\n");
@@ -131,7 +131,7 @@ fn a_grid_is_made_without_the_source(rt: HostRuntime) {
     is_answered(&rt, rt.alloc(), &GRID, "p edge", failing(1, 0), wanted);
 }
 
-// Where the write behind so many fails, so many bytes of the text are held.
+// If the write after this many bytes fails, the sink holds exactly these bytes of the output.
 fn write_leaves<R: Threads + Wait + Sync + Abort>(rt: &R, alloc: Global, before: u8) {
     let front = OUTPUT.get(..before as usize).unwrap_or("");
     let devices = failing(0, before as u64 + 1);
@@ -154,7 +154,7 @@ fn a_fault_of_the_sink_is_told_by_the_status_alone(rt: HostRuntime) {
 
 static BAD_WORDS: [&str; 3] = ["formula", "--height", "0"];
 
-// Runs words that are bad, where the first write fails.
+// Runs invalid arguments with a first write that fails.
 fn run_bad_words<R: Threads + Wait + Sync + Abort>(rt: &R, alloc: Global, source: &mut MemSource) {
     let words = owned(rt, alloc, &BAD_WORDS);
     let mut sink = sink_of(rt, alloc, 64, 64, 1);
@@ -164,12 +164,12 @@ fn run_bad_words<R: Threads + Wait + Sync + Abort>(rt: &R, alloc: Global, source
     drop(words);
 }
 
-// How many bytes a read gives.
+// The number of bytes that a read gives.
 fn read_from(source: &mut MemSource) -> usize {
     source.read(&mut [0; 64]).unwrap_or(0)
 }
 
-// How many bytes are left to read behind such words.
+// The number of bytes that are left to read after invalid arguments.
 fn left_behind_bad_words<R: Threads + Wait + Sync + Abort>(rt: &R, alloc: Global) -> usize {
     let mut source = source_of(rt, alloc, INPUT, 64, 0);
     run_bad_words(rt, alloc, &mut source);
@@ -186,7 +186,7 @@ fn bad_words_leave_the_source_as_it_was(rt: HostRuntime) {
     is_answered(&rt, alloc, &BAD_WORDS, INPUT, failing(1, 1), (8, ""));
 }
 
-// Of four bytes at a call, the second of which fails.
+// The sink takes four bytes at a call, and the second call fails.
 #[test]
 fn a_sink_that_takes_pieces_holds_the_first(rt: HostRuntime) {
     let devices = Devices {
@@ -199,7 +199,7 @@ fn a_sink_that_takes_pieces_holds_the_first(rt: HostRuntime) {
 
 static THREE_STACKS: [&str; 3] = ["formula", "--stacks", "0;0;1"];
 
-// A text with comments and an end mark is answered so in pieces of this size.
+// Compares the answer to an input with comments and an end mark, in pieces of this size.
 fn is_read_in_pieces<R: Threads + Wait + Sync + Abort>(rt: &R, alloc: Global, piece: usize) {
     let input = "c by hand\np cnf 3 2\n1 -2\nc in the middle\n0\n2 3\n%\n0\n";
     let wanted = (0, "s SAMPLE\nv -1 -2 3 0\nused 0 0 0\npops 0\n");

@@ -1,4 +1,4 @@
-//! Watchers of the caller's own, and what they report of a log.
+//! Watchers of the caller, and their reports on a log.
 ghost use Rattle.std.specs.Prelude.{[], ◌∷◌};
 
 use super::{answer, is_so, owned, push_words};
@@ -13,21 +13,21 @@ use std::sync::{Arc, Wait};
 use std::thread::Threads;
 use top_call::Answer;
 
-// What is printed of two pops of one clause, but for the reports. Worked by hand.
+// What is printed of two pops of one clause, without the reports. Worked by hand.
 static TWO_POPS: [&str; 3] = ["resample", "--stacks", "0,0,1"];
 
 const INPUT: &str = "p cnf 1 1\n1 0\n";
 
 const HISTORY: &str = "s SAMPLE\nv 1 0\nused 2\npops 2\nlog 2 2\npop 1 1 1:0\npop 2 1 1:1\n";
 
-// The words that ask for the two pops, with these behind them.
+// The arguments that request the two pops, with these after them.
 fn behind_stacks(rt: &impl Abort, alloc: Global, more: &[&str]) -> Vec<String> {
     let mut words = owned(rt, alloc, &TWO_POPS);
     push_words(rt, alloc, &mut words, more);
     words
 }
 
-// Compares an answer with the history of the two pops, with this behind the log.
+// Compares an answer with the history of the two pops, with this text after the log.
 fn is_history(rt: &impl Abort, alloc: Global, got: &Answer, more: &[&str], behind: &str) {
     let whole = format!(in alloc; "{HISTORY}{behind}").expect(rt, "memory");
     is_so(rt, got.status == 0, "status", more);
@@ -35,8 +35,8 @@ fn is_history(rt: &impl Abort, alloc: Global, got: &Answer, more: &[&str], behin
     drop(whole);
 }
 
-// Of the two pops with these words behind the stacks, and these watchers, this is printed behind
-// the log.
+// Compares what is printed after the log of the two pops, with these arguments after the stacks
+// and these watchers.
 fn is_reported<R: Threads + Wait + Sync + Abort>(
     rt: &R,
     alloc: Global,
@@ -51,10 +51,10 @@ fn is_reported<R: Threads + Wait + Sync + Abort>(
     drop(got);
 }
 
-// The words that ask for totals and heights.
+// The arguments that request totals and heights.
 static BOTH: [&str; 2] = ["--report", "totals,heights"];
 
-// A watcher of heights alone.
+// Only a watcher of heights.
 fn heights(rt: &impl Abort, alloc: Global) -> Vec<Box<dyn Watch>> {
     let heights = Box::new(alloc, Heights::new()).expect(rt, "memory");
     let mut watchers: Vec<Box<dyn Watch>> = Vec::new(alloc);
@@ -74,10 +74,10 @@ fn a_kind_that_no_watcher_has_has_no_line(rt: HostRuntime) {
 #[derive(Drop)]
 struct Notes {
     told: AtomicU64,
-    // The numbers of the events, digit by digit, in the order in which it was told them.
+    // The numbers of the events, digit by digit, in the order in which it received them.
     order: AtomicU64,
     reported: AtomicU64,
-    // How often it had reported when it was dropped, plus 1; 0 until then.
+    // How often it had reported when it was dropped, plus 1. It is 0 until then.
     dropped: AtomicU64,
 }
 
@@ -136,7 +136,7 @@ impl Drop for Noted {
     }
 }
 
-// Notes of a watcher with which nothing was done.
+// The notes of a watcher before anything was done with it.
 fn no_notes(rt: &impl Abort, alloc: Global) -> Arc<Notes> {
     Arc::new(alloc, Notes::none()).expect(rt, "memory")
 }
@@ -150,7 +150,7 @@ fn noting(rt: &impl Abort, alloc: Global, notes: Arc<Notes>) -> Box<Noted> {
     Box::new(alloc, noted).expect(rt, "memory")
 }
 
-// Totals alone that note in these notes.
+// Only totals that note in these notes.
 fn noted_alone(rt: &impl Abort, alloc: Global, notes: &Arc<Notes>) -> Vec<Box<dyn Watch>> {
     let notes = notes.clone().expect(rt, "memory");
     let noted = noting(rt, alloc, notes);
@@ -159,7 +159,7 @@ fn noted_alone(rt: &impl Abort, alloc: Global, notes: &Arc<Notes>) -> Vec<Box<dy
     watchers
 }
 
-// Runs these words on this text, with totals that note in these notes.
+// Runs these arguments on this input, with totals that note in these notes.
 fn run_noting<R: Threads + Wait + Sync + Abort>(
     rt: &R,
     alloc: Global,
@@ -173,7 +173,7 @@ fn run_noting<R: Threads + Wait + Sync + Abort>(
     drop(got);
 }
 
-// A watcher was dropped after its reports.
+// Checks that a watcher was dropped after its reports.
 fn was_dropped(rt: &impl Abort, notes: &Notes) {
     let reported = notes.reported.load(Ordering::SeqCst);
     let dropped = notes.dropped.load(Ordering::SeqCst);
@@ -183,8 +183,8 @@ fn was_dropped(rt: &impl Abort, notes: &Notes) {
     );
 }
 
-// The notes of totals that were handed in with these words and this text. They were dropped after
-// their reports.
+// The notes of totals that were passed with these arguments and this input. Checks that they were
+// dropped after their reports.
 fn notes_of<R: Threads + Wait + Sync + Abort>(
     rt: &R,
     alloc: Global,
@@ -197,8 +197,8 @@ fn notes_of<R: Threads + Wait + Sync + Abort>(
     notes
 }
 
-// How often totals were told the two pops with these words behind the stacks, and how often they
-// reported.
+// How many records of the two pops totals received with these arguments after the stacks, and how
+// often they reported.
 fn done<R: Threads + Wait + Sync + Abort>(rt: &R, alloc: Global, more: &[&str]) -> (u64, u64) {
     let words = behind_stacks(rt, alloc, more);
     let notes = notes_of(rt, alloc, &words, INPUT);
@@ -209,7 +209,7 @@ fn done<R: Threads + Wait + Sync + Abort>(rt: &R, alloc: Global, more: &[&str]) 
     (told, reported)
 }
 
-// The numbers of the events that totals are told of two clauses, of which the first is popped twice
+// The numbers of the events that totals receive for two clauses. The first clause is popped twice
 // before the second.
 fn order_told<R: Threads + Wait + Sync + Abort>(rt: &R, alloc: Global, words: &[&str]) -> u64 {
     let words = owned(rt, alloc, words);
@@ -220,11 +220,11 @@ fn order_told<R: Threads + Wait + Sync + Abort>(rt: &R, alloc: Global, words: &[
     order
 }
 
-// Words, and the numbers of the events.
+// Arguments, and the numbers of the events.
 type Ordered = (&'static [&'static str], u64);
 
-// Worked by hand: the layers are 1, 2 and 1. Where a run is one of many orders, watchers are told
-// in any case, and else where a report is asked for.
+// Worked by hand: the layers are 1, 2 and 1. If the pops of a run may be made in any order,
+// watchers receive the log in any case. Otherwise they receive it if a report is requested.
 static ORDERS: [Ordered; 5] = [
     (
         &["formula", "--stacks", "0,0,1;0,1", "--report", "totals"],
@@ -236,7 +236,7 @@ static ORDERS: [Ordered; 5] = [
     (&["resample", "--stacks", "0,0,1;0,1"], 121),
 ];
 
-// Compares the order in which totals are told two clauses by each of these words.
+// Compares the order in which totals receive two clauses for each of these arguments.
 fn are_orders<R: Threads + Wait + Sync + Abort>(rt: &R, alloc: Global, orders: &[Ordered]) {
     for (words, order) in orders.iter() {
         let got = order_told(rt, alloc, words);
@@ -249,7 +249,8 @@ fn watchers_are_told_the_layered_log(rt: HostRuntime) {
     are_orders(&rt, rt.alloc(), &ORDERS);
 }
 
-// Compares how often totals were told and reported with these words behind the stacks.
+// Compares how many records totals received and how often they reported with these arguments after
+// the stacks.
 fn is_done<R: Threads + Wait + Sync + Abort>(
     rt: &R,
     alloc: Global,
@@ -269,8 +270,8 @@ static OWN_REPORT: [&str; 2] = ["--report", "totals"];
 
 static TWO_REPORTS: [&str; 2] = ["--report", "heights,totals"];
 
-// The log has two records. A watcher is told them also where its report isn't asked for, and is
-// dropped by the call, after its report.
+// The log has two records. A watcher receives them even if its report is not requested, and the
+// call drops it after its report.
 #[test]
 fn each_watcher_is_told_each_record_once_and_dropped(rt: HostRuntime) {
     let alloc = rt.alloc();
@@ -318,7 +319,7 @@ fn silent_and_others(rt: &impl Abort, alloc: Global) -> Vec<Box<dyn Watch>> {
     watchers
 }
 
-// The one of another kind changes nothing, and of two of a kind the first reports.
+// The watcher of another kind changes nothing, and of two watchers of one kind the first reports.
 #[test]
 fn the_first_watcher_of_a_kind_reports(rt: HostRuntime) {
     let alloc = rt.alloc();
@@ -336,7 +337,7 @@ fn two_entries(rt: &impl Abort, alloc: Global) -> Record {
     Record::new(0, cube, entries)
 }
 
-// Totals that were told a pop of two entries.
+// Totals that received a pop of two entries.
 fn begun_totals(rt: &impl Abort, alloc: Global) -> Totals {
     let record = two_entries(rt, alloc);
     let mut totals = Totals::new();
@@ -345,7 +346,7 @@ fn begun_totals(rt: &impl Abort, alloc: Global) -> Totals {
     totals
 }
 
-// These totals, and others behind them.
+// These totals, and others after them.
 fn before_others(rt: &impl Abort, alloc: Global, totals: Totals) -> Vec<Box<dyn Watch>> {
     let first = Box::new(alloc, totals).expect(rt, "memory");
     let others = Box::new(alloc, Totals::new()).expect(rt, "memory");

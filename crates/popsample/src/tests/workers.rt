@@ -1,4 +1,4 @@
-//! Runs of several workers, of which one is held.
+//! Runs of several workers while one is held.
 use super::{answer, owned};
 use pop_workers::Gate;
 use std::alloc::Global;
@@ -8,7 +8,7 @@ use std::sync::atomic::{AtomicBool, AtomicU64, Ordering};
 use std::thread::Threads;
 use top_call::Answer;
 
-// Holds a worker before its first turn until the other of two comes to its second, and counts the
+// Holds a worker before its first turn until the other of two reaches its second, and counts the
 // turns of both.
 #[derive(Drop)]
 struct Held {
@@ -86,7 +86,7 @@ fn is_printed(rt: &impl Abort, got: &Answer, want: &str, board: &str) {
     assert!(rt; got.text.as_slice() == want.as_bytes(), "text on {board}");
 }
 
-// The worker that was held went on because the other came.
+// Checks that the held worker continued because the other came.
 fn other_came(rt: &impl Abort, gate: &Held) {
     let ran_out = gate.ran_out.load(Ordering::SeqCst);
     assert!(rt; !ran_out, "the other worker never came");
@@ -99,7 +99,8 @@ static CLASH: Case = Case {
     input: "p cnf 3 2\n1 2 0\n1 3 0\n",
 };
 
-// This is what two workers on this board print of two clauses that clash, where this one is held.
+// Compares what two workers on this board print for two clauses that clash, while this one is
+// held.
 fn is_printed_with_held<R: Threads + Wait + Sync + Abort>(
     rt: &R,
     alloc: Global,
@@ -119,14 +120,14 @@ const FIRST: &str = "s SAMPLE\nv 1 -2 -3 0\nused 1 1 0\npops 1\nlog 2 1\npop 1 1
 
 const SECOND: &str = "s SAMPLE\nv 1 -2 -3 0\nused 1 0 1\npops 1\nlog 2 1\npop 1 2 1:0 3:0\n";
 
-// On this board the one that isn't held pops its event.
+// On this board the worker that is not held pops its event.
 fn other_pops<R: Threads + Wait + Sync + Abort>(rt: &R, alloc: Global, board: &'static str) {
     is_printed_with_held(rt, alloc, board, 0, SECOND);
     is_printed_with_held(rt, alloc, board, 1, FIRST);
 }
 
-// Two workers on two threads: the one that isn't held pops its event, so no body on one thread can
-// print both texts.
+// Two workers on two threads. The one that is not held pops its event, so no body on one thread
+// can print both outputs.
 #[test]
 fn each_of_two_workers_pops_where_the_other_is_held(rt: HostRuntime) {
     let alloc = rt.alloc();
@@ -141,7 +142,7 @@ static CYCLE: Case = Case {
     input: "p edge 3 3\ne 1 2\ne 2 3\ne 1 3\n",
 };
 
-// How many turns two workers on this board take over a cycle that is popped ten times, where the
+// How many turns two workers on this board take over a cycle that is popped ten times, while the
 // second is held.
 fn turns_on<R: Threads + Wait + Sync + Abort>(rt: &R, alloc: Global, board: &'static str) -> u64 {
     let gate = Held::new(1);
@@ -158,8 +159,8 @@ fn turns_on<R: Threads + Wait + Sync + Abort>(rt: &R, alloc: Global, board: &'st
     turns
 }
 
-// On a book under a lock a turn pops one event at most. On claim words the first turn pops all ten,
-// one of the workers has the other start, and each ends at a turn without one.
+// On a book under a lock a turn pops at most one event. On claim words the first turn pops all
+// ten. One of the workers has the other start, and each ends at a turn without a pop.
 #[test]
 fn workers_meet_on_the_board_that_is_asked_for(rt: HostRuntime) {
     let on_lock = turns_on(&rt, rt.alloc(), "lock");
