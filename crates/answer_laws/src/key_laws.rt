@@ -23,10 +23,10 @@ pub fn keyed_round_answers()
     ensures { KeyedRoundAnswers }
 {}
 
-/// If runs of `formula`, `orient`, `tree` and `make` under a key may be stopped after a number of
-/// pops, those that end before that have the distribution of all. The answer is a sample exactly
-/// if the key's table is one of those that end with it within this number of pops. The numbers of
-/// these tables are in the ratio of the shares.
+/// Runs of `formula`, `orient`, `tree` and `make` under a key may be stopped after a number of
+/// pops. The runs that end before that have the distribution of all runs. The answer is a sample
+/// exactly if the key's table is one of those that end with it within this number of pops. The
+/// numbers of these tables are in the ratio of the shares.
 pub fn stopped_answers()
     ensures { StoppedAnswers }
 {}
@@ -37,9 +37,9 @@ pub fn mixed_answers()
     ensures { MixedAnswers }
 {}
 
-/// Each value of a function of the sample under a key, such as the sum that `make` prints, is
-/// drawn in proportion to the shares of the samples with this value. This also holds if the run
-/// may be stopped after a number of pops.
+/// Each value of a function of the sample under a key is drawn in proportion to the shares of the
+/// samples with this value. An example of a function is the sum that `make` prints. This also
+/// holds if the run may be stopped after a number of pops.
 pub fn statistic_answers()
     ensures { StatisticAnswers }
 {}

@@ -45,14 +45,14 @@ pub fn one_logged_answer()
 {}
 
 /// An output shows one log. If two answers for the same arguments, watchers and input are the same
-/// bytes, the logs that they show have the same records, in the same layers. A resampling always
-/// shows the log of its run, so its output determines the layered order of its pops.
+/// bytes, they show the same log: the same records in the same layers. A resampling always shows
+/// the log of its run, so its output determines the layered order of its pops.
 pub fn one_shown_log()
     ensures { OneShownLog }
 {}
 
-/// A certificate that `--pops` writes is that of one run. If the answers for two lists of
-/// arguments and two inputs are the same bytes, both runs have the same input and the same
+/// A certificate that `--pops` writes is that of one run. Suppose that the answers for two lists
+/// of arguments and two inputs are the same bytes. Then both runs have the same input and the same
 /// instance, and popped the same records in the same layers. So they reached the same cursors,
 /// after as many pops.
 pub fn one_stopped_run()
@@ -72,19 +72,22 @@ pub fn sample_finished()
     ensures { SampleFinished }
 {}
 
-/// The meaning of an output with status 0. It shows an assignment with literals that satisfy each
-/// clause of the formula that was read, an orientation of the graph in which an arrow leaves each
-/// vertex, or a spanning tree of it with arrows that lead to the root. For a grid that is made it
-/// shows the sum over such a tree. If a number of samples is requested, it shows this many, each
-/// after its number.
+/// The meaning of an output with status 0. It shows one of these:
+///
+/// - for a formula, an assignment with literals that satisfy each clause;
+/// - for a graph, an orientation with an arrow that leaves each vertex, or a spanning tree with
+///   arrows that lead to the root;
+/// - for a grid that is made, the sum over such a tree.
+///
+/// If a number of samples is requested, it shows this many, each after its number.
 pub fn sample_shown()
     ensures { SampleShown }
 {}
 
 /// The meaning of an output with status 1. It shows the clauses that are false, the vertices that
-/// no arrow leaves, or the cycles of the arrows, at the values of the stacks at the printed
-/// cursors. For a grid that is made it shows the number of cycles. If a number of samples is
-/// requested, it shows this for some of them, and a sample for each of the others.
+/// no arrow leaves, or the cycles of the arrows. These are at the values of the stacks at the
+/// printed cursors. For a grid that is made it shows the number of cycles. If a number of samples
+/// is requested, it shows this for some of them, and a sample for each of the others.
 pub fn exhausted_shown()
     ensures { ExhaustedShown }
 {}
@@ -126,9 +129,9 @@ pub fn stages_agree()
     ensures { StagesAgree }
 {}
 
-/// If a number of samples is requested and the answer is not an error, the output begins with the
-/// lines of the batch and of sample 0. After these it continues with the answer to the same job
-/// without the number.
+/// Suppose that a number of samples is requested and the answer is not an error. Then the output
+/// begins with the lines of the batch and of sample 0. After these it continues with the answer to
+/// the same job without the number.
 pub fn first_sample()
     ensures { FirstSample }
 {}
@@ -146,21 +149,22 @@ pub fn batch_front()
     ensures { BatchFront }
 {}
 
-/// A sample or a batch of samples that `formula`, `orient`, `tree` or `make` prints under a key is
-/// also the answer with each greater height, byte for byte. So if stacks were exhausted, a retry
-/// with taller stacks changes no sample.
+/// The answer of `formula`, `orient`, `tree` or `make` under a key with status 0, a sample or a
+/// batch, is also the answer with each greater height, byte for byte. So if stacks were exhausted,
+/// a retry with taller stacks changes no sample.
 pub fn taller_answers()
     ensures { TallerAnswers }
 {}
 
-/// An end of `formula`, `orient`, `tree` or `make` has status 1 exactly if no legal log within the heights
-/// of the stacks leads to a sample, and so has a batch if this holds of some sample.
+/// An end of `formula`, `orient`, `tree` or `make` has status 1 exactly if no legal log within the
+/// heights of the stacks leads to a sample. A batch has status 1 exactly if this holds for some
+/// sample.
 pub fn exhausted_answers()
     ensures { ExhaustedAnswers }
 {}
 
 /// If `formula` is answered by a sample or an exhausted end, its events are extremal, and `rounds`
-/// has the same status over stacks of the same origin. For a sample the two outputs are equal up
+/// has the same status over stacks from the same source. For a sample the two outputs are equal up
 /// to the line `used`; after it one prints the pops and the other the rounds. If exhausted, each
 /// has its own cursors.
 pub fn rounds_like_formula()
@@ -182,7 +186,7 @@ pub fn complete()
 
 /// If arguments with given rows are answered by a sample, its values can be replaced by those of
 /// any other sample. The new rows are then answered by that sample, with the same cursors and as
-/// many pops, and with the same log, witness and reports, if they are requested.
+/// many pops. The requested log, witness and reports are the same too.
 pub fn exchanged_answers()
     ensures { ExchangedAnswers }
 {}

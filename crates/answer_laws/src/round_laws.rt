@@ -8,7 +8,7 @@ ghost use Rattle.answer_laws.specs.RoundAnswers.{RoundOutputs, ExchangedRoundAns
 ghost use Rattle.answer_laws.specs.RoundAnswers.{ReachedRoundAnswers, SamplesSatisfy};
 
 /// Arguments for `rounds` have an answer with status 0 exactly if they are answered by a
-/// satisfying assignment of the formula, and its output is the lines of that assignment.
+/// satisfying assignment of the formula. The output is the lines of that assignment.
 pub fn round_outputs()
     ensures { RoundOutputs }
 {}

@@ -251,10 +251,14 @@ fn put_instance(
 /// Draws trees of the graph in arrays, as many as there are pairs of counts. They are those of the
 /// samples from the first number on, and are stored in the rows of the arrays.
 ///
-/// A row has a number for each vertex. In `parents` it is the vertex that its arrow leads to, in
-/// `edges` the edge of the arrow, and in `useds` the number of entries that were consumed. At the
-/// root these are 2^32 - 1, 2^32 - 1 and 0. An array of length 0 is not filled. A pair of counts
-/// has the number of pops and the number of cycles that occur, which is 0 for a tree.
+/// A row has a number for each vertex:
+///
+/// - in `parents` the vertex that its arrow leads to, or 2^32 - 1 at the root;
+/// - in `edges` the edge of its arrow, or 2^32 - 1 at the root;
+/// - in `useds` the number of its entries that were consumed, or 0 at the root.
+///
+/// An array of length 0 is not filled. A pair of counts has the number of pops and the number of
+/// cycles that occur, which is 0 for a tree.
 ///
 /// With a budget the call may stop at a row. That row of `useds` has its cursors, and another call
 /// can continue from them to the same trees. Its counts are those of the pops so far and of the

@@ -2,15 +2,15 @@
 
 ghost use Rattle.array_laws.specs.PrintedRows.{OrientationRowsPrinted, TreeRowsPrinted};
 
-/// If an input is read as the graph of the arrays, the answer of `tree` under a key has, for each
-/// sample, the lines of its row: arrows, cursors and the number of pops. This holds for every call
+/// If an input is read as the graph of the arrays, the answer of `tree` under a key has the lines
+/// of the row of each sample: arrows, cursors and the number of pops. This holds for every call
 /// that filled the row.
 pub fn tree_rows_printed()
     ensures { TreeRowsPrinted }
 {}
 
-/// If an input is read as the graph of the arrays, the answer of `orient` under a key has, for
-/// each sample, the lines of its row of orientations.
+/// If an input is read as the graph of the arrays, the answer of `orient` under a key has the
+/// lines of the row of orientations of each sample.
 pub fn orientation_rows_printed()
     ensures { OrientationRowsPrinted }
 {}

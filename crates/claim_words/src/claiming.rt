@@ -61,7 +61,7 @@ impl<'i> Board<'i> {
 
     /// Settles a variable of a cycle family that the pass holds, in one atomic step. It allocates
     /// nothing. The variable must be at its last entry, or its arrow must lead to the root or to a
-    /// variable that the pass knows to be settled. No pass can claim it again.
+    /// variable known to be settled. No pass can claim it again.
     pub fn settle(&self, pass: &mut Pass, v: u32)
         requires pass { IsOf self.now pass.old }
         requires held { Holds pass.old v }

@@ -27,9 +27,9 @@ impl<'i> Board<'i> {
     };
 
     /// Closes a board and returns its final state: the cursors, the number of pops, the tickets if
-    /// a log is kept, and the units at which events may still be poppable. The view of the pass
-    /// determines these units exactly. The pass must be idle and have all shares. If memory runs
-    /// out, board and pass are returned unchanged.
+    /// a log is kept, and the suspects. The suspects are the units at which events may still be
+    /// poppable; the view of the pass determines them exactly. The pass must be idle and have all
+    /// shares. If memory runs out, board and pass are returned unchanged.
     pub fn close(self, pass: Pass) -> Result<Closed, (Board<'i>, Pass, AllocError)>
         requires pass { IsOf self pass }
         requires sole { IsSole pass }

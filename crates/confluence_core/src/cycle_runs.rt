@@ -16,8 +16,8 @@ use pop_instance::{Arrows, Cursors};
 use pop_stacks::{Reader, Stacks};
 use std::alloc::{AllocError, Global};
 
-/// Continues a run of cycles to its end, or until the number of pops reaches the limit, by the
-/// loop-erased walk from each variable in turn. Returns the cycles that occur there, by rising
+/// Continues a run of cycles to its end, or until the number of pops reaches the limit. It makes
+/// the loop-erased walk from each variable in turn. Returns the cycles that occur there, by rising
 /// unit. Suspects would save nothing: after a pop a variable may be on a poppable cycle that no
 /// walk from them would meet. At the limit every variable is a suspect.
 pub(crate) fn pop_cycles(

@@ -1,8 +1,8 @@
 //! Theorems about popping on extremal instances. The contract of each function states one.
 ghost use Rattle.confluence_core.specs.Laws.{Diamond, UniqueEnd, EqualRecords, ExhaustedExactly, TallerLegal, RaisedExtends, StretchesJoin, ReachedRaised};
 
-/// If two different events are poppable together, they share no variable, each remains poppable
-/// after the pop of the other, and both orders lead to the same cursors.
+/// Suppose that two different events are poppable together. Then they share no variable, each
+/// remains poppable after the pop of the other, and both orders lead to the same cursors.
 pub fn diamond()
     ensures { Diamond }
 {}

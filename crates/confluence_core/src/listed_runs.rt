@@ -55,8 +55,8 @@ pub(crate) fn pop_listed(
     Ok(reached)
 }
 
-// Pops the events that wait in a work list, which is filled from the index, to the end of the run
-// or up to the limit.
+// Pops the events that wait in a work list, to the end of the run or up to the limit. The work
+// list is filled from the index.
 fn pop_waiting(
     alloc: Global,
     stacks: &Stacks,

@@ -40,8 +40,8 @@ pub fn run_first(alloc: Global, instance: &Instance) -> Result<End, AllocError>
 }
 
 /// A run from any cursors below the heights. The suspects are units of the instance and must cover
-/// every poppable event: the unit of a listed event is one of them, or some variable of a cycle
-/// is.
+/// every poppable event. They cover a listed event if its unit is one of them, and a cycle if one
+/// of its variables is.
 ///
 /// Listed events are judged if they are suspects or share a variable with a popped event, until
 /// none is left. So the time is linear in the instance, the suspects and, for each pop, the pairs

@@ -20,8 +20,9 @@ pub struct Reached {
     pub pops: u64,
     /// The log of the pops, if it is kept.
     pub log: Option<Log>,
-    /// Units that cover every event that is poppable at the cursors: the unit of a listed event is
-    /// one of them, or some variable of a cycle is. If there are none, the run is at its end.
+    /// Units that cover every event that is poppable at the cursors. They cover a listed event if
+    /// its unit is one of them, and a cycle if one of its variables is. If there are none, the run
+    /// is at its end.
     pub suspects: Units,
 }
 

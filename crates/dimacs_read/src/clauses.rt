@@ -12,7 +12,7 @@ const MAX_CLAUSES: usize = 4194304;
 
 const MAX_LITERALS: usize = 33554432;
 
-/// The literals of all clauses so far, one clause after another, and where each clause ends.
+/// The literals of all clauses so far, one clause after another, and the end of each clause.
 /// Literals after the last end belong to an unfinished clause.
 #[derive(Drop)]
 pub struct Clauses {

@@ -9,8 +9,9 @@ use std::alloc::{AllocError, Global};
 
 impl Formula {
     /// The events of the formula, each under the number of its clause, from 1. The cube of a
-    /// clause has each variable of the clause, with the value that falsifies its literal: 0 for a
-    /// variable and 1 for a negated one. Variable x of the input is variable x - 1 of the cube.
+    /// clause has each variable of the clause with the value that falsifies its literal. This is 0
+    /// for a variable and 1 for a negated one. Variable x of the input is variable x - 1 of the
+    /// cube.
     ///
     /// A repeated literal counts once. A clause with a variable and its negation gives no event.
     /// Of equal cubes the first is kept. No clause may be empty.

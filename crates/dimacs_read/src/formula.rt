@@ -12,7 +12,7 @@ pub struct Formula {
     variables: u32,
     // The literals of all clauses, one clause after another.
     literals: Vec<i32>,
-    // Where each clause ends.
+    // The end of each clause.
     ends: Vec<u32>,
 }
 
@@ -79,7 +79,7 @@ impl Formula {
     }
 }
 
-// Where clause i begins.
+// The start of clause i.
 fn start_of(ends: &[u32], i: usize) -> usize
     requires { i < length ends.now }
     ensures { result ≡ slice_index (0 ∷ ends.now) i }

@@ -22,14 +22,19 @@ use std::alloc::Global;
 ///
 /// The first error in the order of the input is returned, with its line:
 ///
-/// - `Malformed` with code 1 for an invalid or missing header, 4 for a header with extra tokens, 2
-///   for a token that is neither a literal nor `0`, 3 for a literal above V.
-/// - `Limit` with kind 2 for V above 2^22, 3 for C or the number of clauses above 2^22, 4 for more
-///   than 2^25 literals, 1 for more than 2^28 bytes.
-/// - `Count` after these, if there are not C clauses.
-/// - `EmptyClause` last, with the lowest number, from 1, of a clause without literals.
-/// - `ReadFault` only if the source failed, no more bytes were read than the limit, and no line
-///   that was read to its end is rejected.
+/// - `Malformed` with code 1: an invalid or missing header;
+/// - `Malformed` with code 2: a token that is neither a literal nor `0`;
+/// - `Malformed` with code 3: a literal above V;
+/// - `Malformed` with code 4: a header with extra tokens;
+/// - `Limit` with kind 1: more than 2^28 bytes;
+/// - `Limit` with kind 2: V above 2^22;
+/// - `Limit` with kind 3: C or the number of clauses above 2^22;
+/// - `Limit` with kind 4: more than 2^25 literals;
+/// - `Count` after these: there are not C clauses;
+/// - `EmptyClause` last: the lowest number, from 1, of a clause without literals.
+///
+/// `ReadFault` is returned only if the source failed, no more bytes were read than the limit, and
+/// no line that was read to its end is rejected.
 pub fn read_formula<S: Source>(alloc: Global, source: &mut S) -> Result<Formula, ReadRefusal>
     ensures text { (text : List ℕ) → S.left source.old ≡ Some text → AnswersCnf text result }
     ensures whole { OnOk result (IsAtEnd (S.left source.new)) }

@@ -61,21 +61,21 @@ pub fn taller_rounds()
 {}
 
 /// The one-thread run of a key's stacks ends with a sample by an accepted log exactly if the table
-/// of the key's numbers is one of those that are counted for this sample.
+/// of the key's numbers is counted for this sample.
 pub fn keyed_wanted_runs()
     ensures { KeyedWantedRuns }
 {}
 
 /// The run by rounds of a key's stacks ends with a sample and is accepted exactly if the table of
-/// the key's numbers is one of those that are counted for this sample.
+/// the key's numbers is counted for this sample.
 pub fn keyed_wanted_rounds()
     ensures { KeyedWantedRounds }
 {}
 
-/// Count the tables that finish by the records of a given log with a given sample. The count is
-/// the product of the shares of the values that the records demand, the shares of the sample's
-/// values, and 2^64 for each entry that is not read. This holds for every family, even if events
-/// clash.
+/// Count the tables that finish by the records of a given log with a given sample. The count is a
+/// product: of the shares of the values that the records demand, of the shares of the sample's
+/// values, and of 2^64 for each entry that is not read. This holds for every family, even if
+/// events clash.
 pub fn run_numbers()
     ensures { RunNumbers }
 {}
@@ -86,8 +86,8 @@ pub fn drawn_by_logs()
     ensures { DrawnByLogs }
 {}
 
-/// If the family is extremal, the sample of a table that finishes does not depend on the log by
-/// which it finishes.
+/// If the family is extremal, the sample of a table that finishes does not depend on the log of
+/// its pops.
 pub fn independent_of_logs()
     ensures { IndependentOfLogs }
 {}

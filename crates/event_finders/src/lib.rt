@@ -1,6 +1,6 @@
 //! Finders. Each claims variables on a board of lock-free words until it has an event to pop, or
-//! knows that there is none, and leaves its pass idle. No call waits. `try_unit` tries the event
-//! of one unit of a listed family; `try_walk` and `walk_on` walk along the arrows of a cycle
+//! knows that there is none. It leaves its pass idle, and no call waits. `try_unit` tries the
+//! event of one unit of a listed family; `try_walk` and `walk_on` walk along the arrows of a cycle
 //! family.
 //!
 //! Contracts see a board and a pass as `claim_words` does: what claims and takes found is added at

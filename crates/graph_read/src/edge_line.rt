@@ -46,7 +46,7 @@ fn plain_weight(bytes: &[u8]) -> Option<u32>
     if rest.is_empty() { Some(weight) } else { None }
 }
 
-// The edge of a line from the bytes after its `e`, if they are two or three numbers of few digits
+// The edge of a line from the bytes after its `e`. They must be two or three numbers of few digits
 // with one space between them. Most lines are of this form, and are read in one pass. A line of
 // another form may still be valid.
 fn plain_edge(vertices: u32, rest: &[u8]) -> Option<Edge>

@@ -8,8 +8,8 @@ use std::alloc::{AllocError, Global};
 impl Graph {
     /// The square grid with `side` rows and columns, from 1 to 2048. The vertex in row r and
     /// column c, both from 1, is (r - 1) * side + c. The edges are in the order of their lower
-    /// vertices: first the edge to the right neighbour, then the edge to the one below, if they
-    /// exist. All weights are 1.
+    /// vertices. For each of these the edge to the right neighbour is first, then the edge to the
+    /// one below, if they exist. All weights are 1.
     pub fn grid(alloc: Global, side: u32) -> Result<Graph, AllocError>
         requires { IsSide side }
         ensures { IfOk result (λ graph. graph ≡ grid_of side) }

@@ -10,7 +10,7 @@ use std::alloc::{AllocError, Global};
 use std::marker::Model;
 
 /// A graph with, for each of its vertices, the darts at it, rising, without self-loops. A dart is
-/// a half-edge: edge i, counted from 0, has dart 2 i at its end v and dart 2 i + 1 at its end u.
+/// a half-edge. Edge i, counted from 0, has dart 2 i at its end v and dart 2 i + 1 at its end u.
 /// So a dart says at which end of its edge the vertex is, without a look at the edge. Contracts
 /// see the graph.
 #[derive(Drop)]

@@ -5,9 +5,9 @@ ghost use Rattle.graph_read.specs.Incidence.{neighbours_of};
 
 use std::alloc::AllocError;
 
-/// Replaces the contents of a list by the neighbours of a vertex of a grid: those above, to the
-/// left, to the right and below that exist. The grid has from 1 to 2048 rows and columns. Its
-/// vertices count from 1, row by row.
+/// Replaces the contents of a list by the neighbours of a vertex of a grid. These are the vertices
+/// above, to the left, to the right and below that exist. The grid has from 1 to 2048 rows and
+/// columns. Its vertices count from 1, row by row.
 pub fn put_grid_neighbours(
     neighbours: &mut Vec<u32>,
     side: u32,

@@ -13,23 +13,27 @@ use std::alloc::Global;
 ///
 /// Lines without tokens are skipped, and so are comments, which begin with `c`, and lines with the
 /// first token `n`, `d`, `v` or `x`. The first other line is the header, `p edge N M` or `p col N
-/// M`. N is the number of vertices, and M is ignored. Each line after it is `e u v` or `e u v w`:
-/// an edge between the vertices u and v, from 1 to N, with weight w, from 1 to 2^32 - 1. The
+/// M`. N is the number of vertices, and M is ignored. Each line after it is `e u v` or `e u v w`.
+/// It is an edge between the vertices u and v, from 1 to N, with weight w, from 1 to 2^32 - 1. The
 /// weight is 1 if it is not given. Self-loops and parallel edges are kept.
 ///
 /// # Errors
 ///
 /// The first error in the order of the input is returned, with its line:
 ///
-/// - `Malformed` with code 11 for an invalid or missing header, 15 for a later line of another
-///   form, 12 for a token that is not a number, 13 for an end that is not a vertex, 14 for the
-///   weight 0.
-/// - `Limit` with kind 2 for N above 2^22, 5 for more than 2^23 edges, 1 for more than 2^28 bytes.
-/// - `ReadFault` only if the source failed, no more bytes were read than the limit, and no line
-///   that was read to its end is rejected.
+/// - `Malformed` with code 11: an invalid or missing header;
+/// - `Malformed` with code 12: a token that is not a number;
+/// - `Malformed` with code 13: an end that is not a vertex;
+/// - `Malformed` with code 14: the weight 0;
+/// - `Malformed` with code 15: a later line of another form;
+/// - `Limit` with kind 1: more than 2^28 bytes;
+/// - `Limit` with kind 2: N above 2^22;
+/// - `Limit` with kind 5: more than 2^23 edges.
 ///
 /// In one line code 15 is reported first, then the tokens are checked from left to right, then
-/// limit 5. `Count` and `EmptyClause` are never returned.
+/// limit 5. `Count` and `EmptyClause` are never returned. `ReadFault` is returned only if the
+/// source failed, no more bytes were read than the limit, and no line that was read to its end is
+/// rejected.
 pub fn read_graph<S: Source>(alloc: Global, source: &mut S) -> Result<Graph, ReadRefusal>
     ensures text { (text : List ℕ) → S.left source.old ≡ Some text → AnswersGraph text result }
     ensures whole { OnOk result (IsAtEnd (S.left source.new)) }

@@ -8,9 +8,9 @@ use crate::growing_stacks::GrowingStacks;
 use pop_instance::{Family, Index, Instance};
 use std::marker::Model;
 
-/// An instance, the height to which its stacks grow, and the index of its family if it is at hand.
-/// The height is None if the stacks are at their last height. Contracts see the instance at its
-/// last height.
+/// An instance, the last height of its stacks, and the index of its family if it is at hand. The
+/// last height is None if the stacks do not grow any more. Contracts see the instance at its last
+/// height.
 #[derive(Drop)]
 pub struct GrowingInstance {
     instance: Instance,
@@ -53,8 +53,8 @@ impl GrowingInstance {
         }
     }
 
-    /// The instance at its present height, the height to which its stacks grow, and the index of
-    /// its family if it is at hand.
+    /// The instance at its present height, the last height of its stacks, and the index of its
+    /// family if it is at hand.
     pub fn into_parts(self) -> (Instance, Option<u32>, Option<Index>)
         ensures grown { self ≡ instance_grown result.1 result.0 }
         ensures may { MayGrowTo result.1 result.0.stacks }

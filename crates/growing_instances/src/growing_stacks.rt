@@ -5,8 +5,8 @@ ghost use Rattle.growing_instances.specs.Growing.{grown, MayGrowTo};
 use pop_stacks::Stacks;
 use std::marker::Model;
 
-/// Stacks, and the height to which they grow. The height is None if they are at their last height,
-/// as given rows are. Contracts see the stacks at their last height.
+/// Stacks and their last height. It is None if they do not grow any more, as given rows do not.
+/// Contracts see the stacks at their last height.
 #[derive(Drop)]
 pub struct GrowingStacks {
     stacks: Stacks,
@@ -33,7 +33,7 @@ impl GrowingStacks {
         GrowingStacks { stacks, last }
     }
 
-    /// The stacks at their present height, and the height to which they grow.
+    /// The stacks at their present height, and their last height.
     pub fn into_parts(self) -> (Stacks, Option<u32>)
         ensures grown { self ≡ grown result.1 result.0 }
         ensures may { MayGrowTo result.1 result.0 }

@@ -18,7 +18,7 @@ use std::marker::Model;
 #[derive(Drop)]
 pub struct StackOrigin {
     spec: StackSpec,
-    // The height of the stacks when they are made, and the height to which they grow.
+    // The height of the stacks when they are made, and their last height.
     first: u32,
     last: u32,
 }

@@ -13,9 +13,9 @@ pub fn one_part_end()
     ensures { OnePartEnd }
 {}
 
-/// If the run of a sample of an extremal instance is stopped anywhere and continued from there, it
-/// reaches the end of the run that is not stopped. The numbers of pops of all parts sum to that of
-/// this run.
+/// The run of a sample of an extremal instance may be stopped anywhere and continued from there.
+/// It reaches the end of the run that is not stopped. The numbers of pops of all parts sum to that
+/// of this run.
 pub fn stops_keep_end()
     ensures { StopsKeepEnd }
 {}

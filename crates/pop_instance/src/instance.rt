@@ -32,11 +32,12 @@ impl Model for Instance {
 impl Instance {
     ghost use Rattle.pop_instance.specs.Family.{family_of, HasEvent};
 
-    /// The instance of these parts, or None exactly if the family does not fit the stacks. A
-    /// listed family does not fit if an event names a variable that is not below the stacks'
-    /// count, or a value that is not below its variable's domain. Arrows do not fit if they have
-    /// another number of variables than the stacks, or if some variable has another number of
-    /// slots than of values.
+    /// The instance of these parts, or None exactly if the family does not fit the stacks.
+    ///
+    /// - A listed family fits if its events name only variables below the stacks' count, with
+    ///   values below the variables' domains.
+    /// - Arrows fit if they have as many variables as the stacks, and each variable has as many
+    ///   slots as values.
     pub fn new(stacks: Stacks, family: Family) -> Option<Instance>
         ensures { MatchOption result (FamilyFits stacks (family_of family) → ⊥)
             (λ i. i ≡ record { stacks = stacks; family = family_of family }) }

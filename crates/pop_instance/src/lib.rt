@@ -1,8 +1,8 @@
 //! Cubes, families of events, instances and cursors.
 //!
-//! Contracts see a cube as its pairs, events as numbered cubes, arrows as the heads of each
-//! variable's slots, an instance as stacks with a family, an index as the places of each variable,
-//! and cursors as a list of numbers.
+//! Contracts see a cube as its pairs, events as numbered cubes, and arrows as the heads of each
+//! variable's slots. They see an instance as stacks with a family, an index as the places of each
+//! variable, and cursors as a list of numbers.
 #![tactic(auto)]
 
 mod arrows;

@@ -59,8 +59,8 @@ impl Values {
     }
 
     /// The value of each variable at its cursor, read by several readers. The variables are cut
-    /// into blocks of about equal size, one for each reader in order, so that each reader can use
-    /// its cache for its block. Readers cache no variables with more than 256 values. If there are
+    /// into blocks of about equal size, one for each reader in order. So each reader can use its
+    /// cache for its block. Readers cache no variables with more than 256 values. If there are
     /// such variables, the last reader reads all.
     pub fn at_by(
         alloc: Global,

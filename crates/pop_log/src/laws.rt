@@ -26,7 +26,7 @@ pub fn layered_legal()
     ensures { LayeredLegal }
 {}
 
-/// The layered log of a legal log is in layered order: its layers are those of its records in
+/// The layered log of a legal log is in layered order. Its layers are those of its records in
 /// their new order, and the pairs of layer and unit rise.
 pub fn layered_in_layers()
     ensures { LayeredInLayers }

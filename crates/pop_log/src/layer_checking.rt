@@ -39,7 +39,7 @@ pub(crate) fn check_layers(
     }
 }
 
-// The place of the first record with a wrong stated layer, or with a layer and unit that do not
+// The place of the first record that states a wrong layer, or has a layer and unit that do not
 // follow those of the record before it. None if the log is in layered order with correct layers.
 fn first_unlayered(
     alloc: Global,

@@ -98,8 +98,8 @@ fn room_for(count: u32, log: &Log) -> usize {
 }
 
 /// The text of a legal log. Its first line is `log 1 P` with the number of records. Each record
-/// has a line `pop E V:K V:K ..`: the number of its event and, for each variable in rising order,
-/// its name and the entry that the pop used.
+/// has a line `pop E V:K V:K ..` with the number of its event. For each variable, in rising order,
+/// it has the name and the entry that the pop used.
 pub fn print_log(
     alloc: Global,
     instance: &Instance,

@@ -146,9 +146,9 @@ fn push_stretch<R: Threads + Sync>(
 }
 
 /// The text of the ends of a batch of the instance, in one buffer. It has the line `batch` with
-/// the number of ends. For each end there is the line `sample` with its number, from 0, and then
-/// the whole end, as `text` prints it if no grid was made. A limited number of ends is printed in
-/// parallel at a time, so that little memory is used in addition to the whole.
+/// the number of ends. For each end there is the line `sample` with its number, from 0. Then the
+/// whole end follows, as `text` prints it if no grid was made. A limited number of ends is printed
+/// in parallel at a time, so that little memory is used in addition to the whole.
 pub fn text_of_batch<R: Threads + Sync>(
     rt: &R,
     alloc: Global,

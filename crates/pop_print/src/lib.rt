@@ -1,5 +1,6 @@
-//! The end of a run as text. Contracts see the text as a function of what the input says, the
-//! instance, the cursors, the number of pops or of rounds, and the events that occur.
+//! The end of a run as text. Contracts see the text as a function of the end and of what the input
+//! says. The end is the instance, the cursors, the number of pops or of rounds, and the events
+//! that occur.
 #![tactic(auto)]
 
 mod arrow;

@@ -115,8 +115,8 @@ fn accumulate_between(starts: &[u32], items: &mut [u32]) -> Option<u32>
     None
 }
 
-// Where the items end after `more` of them are added. None if this place or the number of starts
-// exceeds 32 bits.
+// The end of the items after `more` of them are added. None if it or the number of starts exceeds
+// 32 bits.
 fn next_end(starts: &[u32], items: &[u32], more: usize) -> Option<u32>
     ensures end { IfSome result (λ end. end ≡ length items.now + more) }
     ensures few { OnSome result (length starts.now < 2 ^ 32) }

@@ -1,8 +1,8 @@
 //! Theorems about exact samples. The contract of each function states one.
 //!
-//! They count rows, and do not mention probabilities. They express what Propp and Wilson (1998)
-//! prove for spanning trees and Guo, Jerrum and Liu (2019) for extremal instances: the end of a
-//! run has the distribution of the samples.
+//! They count rows, and do not mention probabilities. They say that the end of a run has the
+//! distribution of the samples. Propp and Wilson (1998) prove this for spanning trees, and Guo,
+//! Jerrum and Liu (2019) for extremal instances.
 
 ghost use Rattle.pop_samples.specs.Laws.{SamePops, FinishesExactly, FinishesFirst};
 ghost use Rattle.pop_samples.specs.ExactLaws.{ExchangedSamples, ExchangedEnds};

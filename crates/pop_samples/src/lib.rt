@@ -1,5 +1,5 @@
 //! The exact distribution of popping. Of all stacks of given heights, as many have runs that end
-//! with one sample as with another, and their weights are in the ratio of the samples' weights. No
+//! with one sample as with another. Their weights are in the ratio of the samples' weights. No
 //! code runs: the theorems are the contracts of functions with an empty body.
 #![tactic(auto)]
 

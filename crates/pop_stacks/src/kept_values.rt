@@ -8,7 +8,7 @@ use crate::refill::BLOCKS;
 use std::alloc::{AllocError, Global};
 
 /// A cache of values. For each variable with a line it keeps values of the group of entries that
-/// was read last, up to the last block that was drawn.
+/// was read last. These go up to the last block that was drawn.
 #[derive(Drop)]
 pub enum KeptValues {
     /// No variable has a line.

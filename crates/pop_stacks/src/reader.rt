@@ -48,8 +48,9 @@ impl Reader {
     }
 
     /// A reader of these stacks with a cache. For each variable it keeps values of the group of 32
-    /// entries that was read last: all of them, or the blocks of eight drawn so far. It draws the
-    /// next block for four variables at once. Its memory is linear in the number of variables.
+    /// entries that was read last. These are all of them, or the blocks of eight drawn so far. It
+    /// draws the next block for four variables at once. Its memory is linear in the number of
+    /// variables.
     pub fn keeping(alloc: Global, stacks: &Stacks) -> Result<Reader, AllocError>
         ensures { IfOk result (Belongs stacks.now) }
     {

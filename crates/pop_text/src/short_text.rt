@@ -8,7 +8,7 @@ use std::marker::Model;
 #[derive(Drop)]
 pub struct ShortText {
     bytes: [u8; 48],
-    // The start of the text. It ends where the array ends.
+    // The start of the text. It ends at the end of the array.
     start: usize,
 }
 

@@ -9,8 +9,8 @@ use pop_instance::Cube;
 use std::alloc::{AllocError, Global};
 
 /// The observer of kind 3: the layers of the log (the depth in the Foata normal form: Cartier and
-/// Foata 1969). Place 0 of its state is the largest layer, and place 1 + v is the layer of the
-/// last record that named variable v, or 0. Layers are capped at 2^64 - 1.
+/// Foata 1969). Place 0 of its state is the largest layer. Place 1 + v is the layer of the last
+/// record that named variable v, or 0. Layers are capped at 2^64 - 1.
 #[derive(Debug, Drop)]
 pub struct Layers {
     places: Vec<u64>,

@@ -8,7 +8,7 @@ use crate::value::{board_in, key_in, number_between, pair_in, reports_in, rows_i
 use pop_stacks::StackSpec;
 use std::alloc::{AllocError, Global};
 
-// The largest height of keyed stacks, and the largest height to which they can grow.
+// The largest height of keyed stacks, and their largest last height.
 const MAX_HEIGHT: u32 = (1 << 31) - 1;
 
 // The largest number of samples of a batch.

@@ -34,8 +34,8 @@ pub struct Job {
     pub root: u32,
     /// Whether the log of the pops is printed: for `resample`, and if `--log on` is given.
     pub log: bool,
-    /// The pop of the witness tree to print, set by `--witness`: the printed name of a variable,
-    /// and the entry that the pop used, which counts from 0. None by default.
+    /// The pop of the witness tree to print, set by `--witness`. It is given by the printed name
+    /// of a variable and the entry that the pop used, which counts from 0. None by default.
     pub witness: Option<(u32, u32)>,
     /// The reports of the log to print, set by `--report`. None by default.
     pub reports: Reports,

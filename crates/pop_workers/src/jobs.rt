@@ -16,7 +16,8 @@ use std::thread::Threads;
 use worker_hints::{Own, Range};
 
 /// The state of a worker other than the caller: its pass, its deque, and its reader after it has
-/// worked, or None if it ran out of memory. In a list of jobs the first one is worker 1.
+/// worked. The reader is None if it ran out of memory. In a list of jobs the first one is worker
+/// 1.
 pub(crate) type Job<W> = (Pass, Own<W>, Option<Reader>);
 
 /// The caller's own deque, and the jobs of the others.

@@ -9,7 +9,7 @@ use confluence_core::{Keep, Reached};
 use pop_instance::{Cursors, Instance};
 use std::alloc::{AllocError, Global};
 
-/// The cursors before any pop of an instance, from which a whole run starts.
+/// The cursors before any pop of an instance, at the start of a whole run.
 pub fn zeros_of(alloc: Global, instance: &Instance) -> Result<Cursors, AllocError>
     ensures zeros { IfOk result (λ zeros. zeros ≡ start_of instance.now) }
     ensures count { IfOk result (λ zeros. variables_of instance.now.stacks ≡ length zeros) }

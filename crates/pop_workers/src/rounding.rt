@@ -1,5 +1,5 @@
-//! The last part of the work on a board, by its only pass: the work that is left, and then rounds
-//! over all units until a round pops nothing.
+//! The last part of the work on a board, by its only pass. It does the work that is left, and then
+//! makes rounds over all units until a round pops nothing.
 ghost use Rattle.std.specs.Prelude.{OnOk, IfOk};
 ghost use Rattle.pop_model.specs.Families.{units_of};
 ghost use Rattle.claim_words.specs.Passes.{view, opening_of};

@@ -59,8 +59,8 @@ fn found(tried: Tried) -> Found
     }
 }
 
-/// Adds hints for the units at which a pop at this unit may have made events poppable: each unit
-/// with an event that shares a variable with it, or the start of a walk.
+/// Adds hints for the units at which a pop at this unit may have made events poppable. These are
+/// the units with an event that shares a variable with it, or the start of a walk.
 pub(crate) fn spread<W: Range>(shared: &Shared<W>, own: &mut Own<W>, unit: u32)
     requires index { IsIndexed shared.now.instance.now shared.now.index.now }
     requires range { units_of shared.now.instance.now.family ≡ W.units }

@@ -17,8 +17,8 @@ use worker_hints::{Own, Range, give, next};
 // The largest number of turns of a worker, after which it ends.
 const MOST_TURNS: u64 = 1 << 32;
 
-// The largest number of turns in a row in which a worker meets others. Each time a path is thrown
-// away. If walks are long and cross, the others are faster without this worker, so it ends.
+// How many turns in a row a worker may meet others. Each time a path is thrown away. If walks are
+// long and cross, the others are faster without this worker, so it ends.
 const MOST_MEETINGS: u32 = 100;
 
 // The largest number of cycles that a walk pops before its worker takes the next hint.

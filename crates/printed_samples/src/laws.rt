@@ -27,8 +27,8 @@ pub fn sound_values()
     ensures { SoundValues }
 {}
 
-/// The text of the result at an end of a formula and of the cursors shows a sample, or the clauses
-/// that are false, for any text that follows it.
+/// The text of the result at an end of a formula, with the cursors, shows a sample or the clauses
+/// that are false. This holds for any text that follows it.
 pub fn formula_shown()
     ensures { FormulaShown }
 {}

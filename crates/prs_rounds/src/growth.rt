@@ -185,7 +185,7 @@ impl Growth {
         Ok(())
     }
 
-    /// A search in which no event is marked yet.
+    /// A search without marked events.
     pub(crate) fn blank(alloc: Global, events: u32, variables: u32) -> Result<Growth, AllocError>
         ensures { IfOk result (IsBlank events variables) }
     {
@@ -233,7 +233,7 @@ impl Growth {
     }
 
     /// Finds the resampling set. The search starts from the events that occur, which have these
-    /// places. The row of each covered variable is read once, so the time is linear in the pairs
+    /// places. The row of each covered variable is read once. So the time is linear in the pairs
     /// of the events that name a variable of the set.
     pub(crate) fn grow(
         &mut self,

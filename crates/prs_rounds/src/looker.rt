@@ -12,7 +12,7 @@ pub(crate) trait Looker {
     // What must hold of the implementing type, for example that threads may share what it borrows.
     ghost can_look: { Type 0 };
 
-    /// Those of these places, in their order, where the event has its values.
+    /// The places, among these and in their order, of the events that occur with these values.
     fn occurring(
         &self,
         alloc: Global,

@@ -66,7 +66,7 @@ fn set_of<R: Threads + Sync>(
     Ok(Units::of(joined(rt, alloc, &growth, &places)?))
 }
 
-// Those of these places, in their order, where the event is in the set.
+// The places, among these and in their order, of the events that are in the set.
 fn joined<R: Threads + Sync>(
     rt: &R,
     alloc: Global,

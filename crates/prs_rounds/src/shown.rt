@@ -22,8 +22,8 @@ pub(crate) fn is_shown(values: &[u32], cube: &Cube) -> bool
     true
 }
 
-/// Those of these places, in their order, where the event has its values. They are judged in
-/// parallel if there are many.
+/// The places, among these and in their order, of the events that occur with these values. Events
+/// are judged in parallel if there are many.
 pub(crate) fn occurring<R: Threads + Sync>(
     rt: &R,
     alloc: Global,

@@ -93,8 +93,8 @@ fn head_text(alloc: Global, job: &Job, size: u64) -> Result<Vec<u8>, AllocError>
     Ok(out.into_bytes())
 }
 
-/// The text of a certificate: the job's command, stacks, height and root, then the input, which
-/// has fewer than 2^32 bytes, and then the text of the log.
+/// The text of a certificate. It has the job's command, stacks, height and root, then the input,
+/// which has fewer than 2^32 bytes, and then the text of the log.
 pub fn print_cert(
     alloc: Global,
     job: &Job,

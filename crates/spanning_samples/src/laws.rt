@@ -34,15 +34,16 @@ pub fn tree_weights()
 {}
 
 /// Consider all tables of numbers with runs that end with a spanning tree of a connected graph.
-/// The fraction of them for a given tree, as a set of edges, is the product of the weights of its
-/// edges over the sum of these products over all spanning trees, for every root. This is exact if
-/// the weights at each vertex sum to a number that divides 2^64, and otherwise holds nearly.
+/// The fraction of them for a given tree, as a set of edges, is its weight over the sum of the
+/// weights of all spanning trees. The weight of a tree is the product of the weights of its edges.
+/// This holds for every root. It is exact if the weights at each vertex sum to a number that
+/// divides 2^64, and otherwise holds nearly.
 pub fn drawn_trees()
     ensures { DrawnTrees }
 {}
 
 /// The theorem of `drawn_trees` holds for the tables with runs that have an accepted log, for any
-/// condition on the log, such as at most a given number of pops.
+/// condition on the log. An example of a condition is at most a given number of pops.
 pub fn wanted_trees()
     ensures { WantedTrees }
 {}

@@ -40,9 +40,9 @@ fn is_value(rt: &impl Abort, alloc: Global, k: u32, first: u32, value: u32) {
     drop(stacks);
 }
 
-// The two words of an entry, scaled by that sum by hand, give the high word, or one less if the
-// low word is not above it. If the first weight is this number, the value is the second one. If
-// the first weight is one more, the value is the first one.
+// The two words of an entry were scaled by that sum by hand. The result is the high word, or one
+// less if the low word is not above it. If the first weight is this number, the value is the
+// second one. If the first weight is one more, the value is the first one.
 #[test]
 fn the_words_are_those_of_the_standard(rt: HostRuntime) {
     let alloc = rt.alloc();

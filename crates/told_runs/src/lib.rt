@@ -1,4 +1,4 @@
-//! Makes runs and prints them: the end, and the requested parts of the log, which are its layered
+//! Makes runs and prints them: the end, and the requested parts of the log. These are its layered
 //! text, the witness tree of a pop, and the reports of watchers.
 #![tactic(auto)]
 

@@ -134,8 +134,8 @@ pub fn run<S: Source, K: Sink, R: Threads + Wait + Sync, G: Gate + Sync>(
         → (AskForGrid (map string_bytes words.now) → ⊥) → IsAtEnd (S.left source.new) }
 
     // A certificate, and the input of a run that may be stopped, is read completely before a byte
-    // of it is checked: to its end, or to the first byte past the limit. So an error of reading
-    // takes precedence over any error in the bytes that were read.
+    // of it is checked. It is read to its end, or to the first byte past the limit. So an error of
+    // reading takes precedence over any error in the bytes that were read.
     ensures read_whole { (job : Job) → Asks (map string_bytes words.now) job
         → (IsBreak result → ⊥)
         → WasReadWhole job.pops job.command (S.left source.old) (S.left source.new) }
@@ -170,9 +170,9 @@ pub fn run<S: Source, K: Sink, R: Threads + Wait + Sync, G: Gate + Sync>(
     }
 }
 
-/// The answer to the arguments and the bytes of an input: the status that `run` returns and the
-/// output that it writes, if the source has these bytes and no sink fails. The error is returned
-/// only if memory ran out. If a grid is made, the bytes are not used.
+/// The answer to the arguments and the bytes of an input. It is the status that `run` returns and
+/// the output that it writes, if the source has these bytes and no sink fails. The error is
+/// returned only if memory ran out. If a grid is made, the bytes are not used.
 ///
 /// The calling thread does all of the work. For every requested crew it makes the run alone,
 /// passes no gate and starts no thread; an answer does not show how many workers there were. With

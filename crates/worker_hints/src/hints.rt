@@ -1,6 +1,6 @@
 //! Hints: units at which an event may be poppable. Each worker has a deque of hints. If it is
-//! empty, the worker steals from the deques of the others. After a turn in which it met another
-//! worker, it takes another hint first. If a hint is lost, no event is lost.
+//! empty, the worker steals from the deques of the others. If it met another worker in its last
+//! turn, it takes another hint first. If a hint is lost, no event is lost.
 ghost use Rattle.std.specs.Prelude.{◌≡◌, ℕ, ◌+◌, ◌*◌, ◌/◌, All, ◌<◌, ◌≤◌, IfSome, length};
 
 use crate::Worker;

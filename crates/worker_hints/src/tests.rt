@@ -58,7 +58,7 @@ fn takes_in_turn<W: Range>(rt: &impl Abort, own: &mut Own<W>, all: &[Other<W>])
     }
 }
 
-// Two deques, each of which the other worker can steal from.
+// Two deques, for the two workers to steal from.
 fn for_both<W: Range>(
     alloc: Global,
     own: &Own<W>,

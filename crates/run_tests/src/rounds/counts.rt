@@ -16,7 +16,7 @@ use test_instances::EventRow;
 // Two clauses that share a variable and can both be false.
 static TWO: [EventRow; 2] = [(1, &[(0, 0), (1, 0)]), (2, &[(1, 0), (2, 0)])];
 
-// These two and a third clause, which shares a variable with each: it demands the same value as
+// These two and a third clause, which shares a variable with each. It demands the same value as
 // the second and another value than the first.
 static THREE: [EventRow; 3] = [
     (1, &[(0, 0), (1, 0)]),

@@ -1,5 +1,5 @@
-// Lines of arguments about runs that may be stopped and about their certificates, with the jobs
-// that they specify or the place of the first invalid argument. Worked by hand.
+// Lines of arguments about runs that may be stopped and about their certificates, worked by hand.
+// Each has the job that it specifies or the place of the first invalid argument.
 
 /// Valid lines, each with its command and what differs from the defaults. `Z` is 64 zeros.
 pub static CERTIFIED: [(&str, &str); 13] = [
