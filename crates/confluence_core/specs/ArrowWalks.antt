@@ -1,4 +1,4 @@
--- Where the current arrows lead from a variable, and the cycles that occur there.
+-- The paths along the current arrows from a variable, and the cycles on them that occur.
 use Rattle.std.specs.Prelude.{◌≡◌, ◌≢◌, ℕ, suc, ◌<◌, ◌≤◌, true, List, length, slice_index, Option, Some, MatchOption}
 use Rattle.pop_model.specs.Stacks.{StackTable}
 use Rattle.pop_model.specs.Popping.{Cube, Occurs, names}
@@ -6,7 +6,7 @@ use Rattle.pop_model.specs.Cycles.{IsCycle, ReachesRoot, arrow_at, follow, first
 use Rattle.confluence_core.specs.CycleTables.{CycleTable, current_head}
 use Rattle.confluence_core.specs.Loops.{AreMembers, IsCubeOf}
 
--- a cycle that occurs names the variable
+-- some cycle that occurs names the variable
 pub record IsOnCycle (t : CycleTable) (c : List ℕ) (v : ℕ) : Type 0 where
   pub cube : Cube
   pub cycle : IsCycle t.heads cube
@@ -24,19 +24,19 @@ abbrev pub LeadsInto : List (List (Option ℕ)) → StackTable → List ℕ → 
 LeadsInto heads s c start e =
     (k v : ℕ) × (follow (arrow_at heads s c) k start ≡ Some v) × (names e v ≡ true)
 
--- the cube is a cycle that occurs, to which the current arrows lead from the start
+-- the cube is a cycle that occurs, and the current arrows lead to it from the start
 pub record IsCycleFrom (t : CycleTable) (c : List ℕ) (start : ℕ) (e : Cube) : Type 0 where
   pub cycle : IsCycle t.heads e
   pub occurs : Occurs t.stacks c e
   pub leads : LeadsInto t.heads t.stacks c start e
 
--- what is found from a variable: a cycle, or none where the current arrows lead to the root
+-- what is found from a variable: a cycle, or None if the current arrows lead to the root
 abbrev pub IsFoundAt : CycleTable → List ℕ → ℕ → Option Cube → Type 0
 IsFoundAt t c start found =
     MatchOption found (ReachesRoot (current_head t c) start) (IsCycleFrom t c start)
 
--- the arrows lead along the list from the start, to which they don't come again, and to no variable
--- below the bound
+-- The arrows lead along the list from the start. They do not return to the start, and pass no
+-- variable below the bound.
 pub record IsWay (t : CycleTable) (c : List ℕ) (low start : ℕ) (way : List ℕ) : Type 0 where
   pub first : slice_index way 0 ≡ start
   pub leads : (k : ℕ) → suc k < length way
@@ -52,11 +52,12 @@ pub record IsCycleThrough (t : CycleTable) (c : List ℕ) (low v : ℕ) (e : Cub
   pub named : names e v ≡ true
   pub above : low ≤ first_of e
 
--- there is no such cycle
+-- there is no cycle as in `IsCycleThrough`
 abbrev pub HasNoCycle : CycleTable → List ℕ → ℕ → ℕ → Type 0
 HasNoCycle t c low v = (e : Cube) → IsCycleThrough t c low v e → ⊥
 
--- a closed walk along the current arrows from the start: its variables are those of such a cycle
+-- a closed walk along the current arrows from the start: its variables are those of a cycle as in
+-- `IsCycleThrough`
 pub record IsClosedWalk (t : CycleTable) (c : List ℕ) (low start : ℕ)
     (members : List ℕ) : Type 0 where
   pub are : AreMembers t members

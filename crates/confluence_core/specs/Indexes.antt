@@ -8,7 +8,7 @@ use Rattle.pop_instance.specs.Index.{IsIndex}
 use Rattle.confluence_core.specs.declared.indexed.IndexedFamily.{IndexedFamily}
 use Rattle.confluence_core.specs.declared.indexed.IndexedFamily.TheVariants.{Listed, Cycles}
 
--- the family
+-- the family without its index
 abbrev pub family_in : IndexedFamily → Family
 family_in (Listed listed) = ListedEvents listed.events.now
 family_in (Cycles arrows) = CycleEvents arrows.now

@@ -1,4 +1,4 @@
--- The laws of popping on extremal instances.
+-- Theorems about popping on extremal instances.
 use Rattle.std.specs.Prelude.{◌≡◌, ◌≢◌, ◌↔◌, ◌≤◌, ℕ, Bool, List, [], length, map, IsPermutation}
 use Rattle.pop_model.specs.Stacks.{StackTable, height_of, stacks_raised, Extends}
 use Rattle.pop_model.specs.Popping.{IsPoppable, pop}
@@ -10,8 +10,8 @@ use Rattle.pop_model.specs.Runs.{IsEnd, IsFinished, IsStuckList}
 use Rattle.confluence_core.specs.Stretches.{GoesOn, IsReached}
 use Rattle.confluence_core.specs.declared.reached.Reached.{Reached}
 
--- two events share no variable, each stays poppable after the other's pop, and both orders leave
--- the same cursors
+-- two events share no variable, each stays poppable after the pop of the other, and both orders
+-- lead to the same cursors
 pub record Commute (i : Instance) (c : List ℕ) (e f : Event) : Type 0 where
   pub apart : Share e.cube f.cube → ⊥
   pub first_stays : IsPoppable i.stacks (pop c f.cube) e.cube
@@ -30,13 +30,13 @@ pub record RunsToEnd (i : Instance) (c : List ℕ) (log : List LogRecord) : Type
   pub legal : IsLegal i c log
   pub end : IsEnd i (replay c log)
 
--- runs from the same cursors to ends have one end and one length
+-- runs from the same cursors to an end have at most one end and one length
 abbrev pub UniqueEnd : Type 0
 UniqueEnd = (i : Instance) → IsExtremal i.family → (c : List ℕ) (log other : List LogRecord)
     → RunsToEnd i c log → RunsToEnd i c other
     → (replay c log ≡ replay c other) × (length log ≡ length other)
 
--- runs from the same cursors to ends have the same records
+-- runs from the same cursors to an end have the same records
 abbrev pub EqualRecords : Type 0
 EqualRecords = (i : Instance) → IsExtremal i.family → (c : List ℕ) (log other : List LogRecord)
     → RunsToEnd i c log → RunsToEnd i c other → IsPermutation log other
@@ -45,28 +45,29 @@ EqualRecords = (i : Instance) → IsExtremal i.family → (c : List ℕ) (log ot
 abbrev pub CanFinish : Instance → List ℕ → Type 0
 CanFinish i c = (log : List LogRecord) × IsLegal i c log × IsFinished i (replay c log)
 
--- some event occurs at an end exactly where no legal log leads to cursors at which none occurs
+-- some event occurs at an end exactly if no legal log leads to cursors at which none occurs
 abbrev pub ExhaustedExactly : Type 0
 ExhaustedExactly = (i : Instance) → IsExtremal i.family → (c : List ℕ) (log : List LogRecord)
     (stuck : List Event) → RunsToEnd i c log → IsStuckList i (replay c log) stuck
     → (stuck ≢ []) ↔ (CanFinish i c → ⊥)
 
--- a legal log is legal over stacks that have the same entries and maybe more
+-- a legal log is legal over stacks that have the same entries and possibly more
 abbrev pub TallerLegal : Type 0
 TallerLegal = (i : Instance) (taller : StackTable) → Extends i.stacks taller
     → (c : List ℕ) (log : List LogRecord) → IsLegal i c log
     → IsLegal (record { stacks = taller; family = i.family }) c log
 
--- stacks that are raised to a height which is no less have the same entries and maybe more
+-- stacks that are raised to a height which is not lower have the same entries and possibly more
 abbrev pub RaisedExtends : Type 0
 RaisedExtends = (s : StackTable) (height : ℕ) → ((v : ℕ) → height_of s v ≤ height)
     → Extends s (stacks_raised height s)
 
--- two stretches of which the second begins where the first ended are one
+-- two stretches are one if the second begins at the end of the first
 abbrev pub StretchesJoin : Type 0
 StretchesJoin = (i : Instance) (a b c : Reached) → GoesOn i a b → GoesOn i b c → GoesOn i a c
 
--- how far a run has come, it has come once the stacks are raised; what occurs there is suspected
+-- the state of a run is also a state of the run over raised stacks, with the events that occur
+-- there as suspects
 abbrev pub ReachedRaised : Type 0
 ReachedRaised = (i : Instance) (height : ℕ) → IsInstance i
     → ((v : ℕ) → height_of i.stacks v ≤ height) → (start : List ℕ) (keeps : Bool) (reached : Reached)

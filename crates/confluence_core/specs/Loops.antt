@@ -4,17 +4,17 @@ use Rattle.pop_model.specs.Stacks.{height_of}
 use Rattle.pop_model.specs.Popping.{Cube, IsCube, cursor}
 use Rattle.confluence_core.specs.CycleTables.{CycleTable, current_slot}
 
--- at least one variable, and no two alike
+-- at least one variable, and all different
 pub record AreMembers (t : CycleTable) (members : List ℕ) : Type 0 where
   pub some : 0 < length members
   pub known : All (λ v. v < length t.heads) members
   pub differ : AllPairs (λ v w. v ≢ w) members
 
--- each of these variables has an entry behind its cursor
+-- each of these variables has an entry after its cursor
 abbrev pub HaveNext : CycleTable → List ℕ → List ℕ → Type 0
 HaveNext t c members = All (λ v. cursor c v + 1 < height_of t.stacks v) members
 
--- the cube has just these variables, each with its current slot
+-- the cube has exactly these variables, each with its current slot
 pub record IsCubeOf (t : CycleTable) (c members : List ℕ) (e : Cube) : Type 0 where
   pub cube : IsCube e
   pub exact : (v x : ℕ) → Contains e (v, x) ↔ (Contains members v × (current_slot t c v ≡ x))

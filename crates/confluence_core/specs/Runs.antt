@@ -17,7 +17,7 @@ pub record IsEndOver (s : StackTable) (end : End) : Type 0 where
   pub within : AreWithin s end.cursors
   pub values : AreValuesAt s end.cursors end.values
 
--- where a run has come that leaves this: it suspects no unit
+-- the state of a finished run: no unit is left as a suspect
 abbrev pub ended : Run → Reached
 ended left = record {
   cursors = left.end.cursors;
@@ -26,7 +26,7 @@ ended left = record {
   suspects = [];
 }
 
--- what a run to its end leaves, from these cursors; from zeros on an extremal family its end is
+-- the result of a run from these cursors to its end; from zeros on an extremal family its end is
 -- that of the one-thread run
 pub record IsRunOf (i : Instance) (start : List ℕ) (keeps : Bool) (left : Run) : Type 0 where
   pub reached : IsReached i start keeps (ended left)

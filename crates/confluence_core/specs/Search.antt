@@ -1,4 +1,4 @@
--- What a search over listed events has found so far.
+-- The result so far of a search over listed events.
 use Rattle.std.specs.Prelude.{ℕ, ◌+◌, ◌<◌, ◌↔◌, List, [], ◌∷◌, ◌++◌, map, length, Contains}
 use Rattle.std.specs.List.Sorted.{IsStrictlyIncreasing}
 use Rattle.pop_model.specs.Stacks.{StackTable, variables_of, height_of}
@@ -23,7 +23,7 @@ pub record IsStuckBelow (s : StackTable) (c : List ℕ) (rows : List (ℕ × Cub
   pub exact : (e : Event) → Contains stuck e
       ↔ ((e.unit < n) × IsEvent (Listed rows) e × Occurs s c e.cube)
 
--- each variable has an entry behind its cursor
+-- each variable has an entry after its cursor
 abbrev pub AllHaveNext : StackTable → List ℕ → Type 0
 AllHaveNext s c = (v : ℕ) → v < variables_of s → cursor c v + 1 < height_of s v
 
@@ -31,7 +31,7 @@ AllHaveNext s c = (v : ℕ) → v < variables_of s → cursor c v + 1 < height_o
 abbrev pub Covers : StackTable → List ℕ → List (ℕ × Cube) → List ℕ → Type 0
 Covers s c rows list = MissesNone (record { stacks = s; family = Listed rows }) c list
 
--- the place of a poppable event, beside a list that has the places of all others
+-- the place of a poppable event, and a list that has the places of all others
 pub record IsNextPlace (s : StackTable) (c : List ℕ) (rows : List (ℕ × Cube)) (list : List ℕ)
     (place : ℕ) : Type 0 where
   pub within : place < length rows

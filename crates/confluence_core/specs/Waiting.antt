@@ -1,4 +1,4 @@
--- Runs of listed events by a work list: what waits in it covers the poppable events.
+-- Runs of listed events by a work list: the units in it cover the poppable events.
 use Rattle.std.specs.Prelude.{◌≡◌, ℕ, ◌+◌, ◌^◌, ◌<◌, ◌≤◌, List, length}
 use Rattle.pop_model.specs.Stacks.{StackTable, variables_of}
 use Rattle.pop_model.specs.Popping.{Cube, AreWithin}
@@ -9,7 +9,7 @@ use Rattle.confluence_core.specs.Stretches.{LeadsOn}
 use Rattle.confluence_core.specs.WorkList.{Waiting}
 use Rattle.confluence_core.specs.declared.reached.Reached.{Reached}
 
--- a run has gone on, under a limit, and there is room for the pops to come
+-- a run has continued, under a limit, and there is room for the remaining pops
 pub record PopsListed (s : StackTable) (rows : List (ℕ × Cube)) (limit : ℕ) (old new : Reached)
     (work : Waiting) : Type 0 where
   pub leads : LeadsOn (record { stacks = s; family = Listed rows }) old new

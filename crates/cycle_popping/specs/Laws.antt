@@ -1,4 +1,4 @@
--- The laws of cycles (Propp and Wilson 1998).
+-- Theorems about cycles (Propp and Wilson 1998).
 use Rattle.std.specs.Prelude.{ℕ, ◌<◌, ◌↔◌, List, Option, length}
 use Rattle.pop_model.specs.Stacks.{StackTable}
 use Rattle.pop_model.specs.Cycles.{AreArrows, ReachesRoot, arrow_at}
@@ -10,7 +10,7 @@ use Rattle.pop_model.specs.Runs.{IsFinished}
 abbrev pub CyclesExtremal : Type 0
 CyclesExtremal = (heads : List (List (Option ℕ))) → IsExtremal (Cycles heads)
 
--- no cycle occurs exactly where from each variable the current arrows reach the root
+-- no cycle occurs exactly if the current arrows lead from each variable to the root
 abbrev pub TreeEnd : Type 0
 TreeEnd = (s : StackTable) (heads : List (List (Option ℕ))) → AreArrows heads → (c : List ℕ)
     → IsFinished (record { stacks = s; family = Cycles heads }) c

@@ -7,11 +7,11 @@ use Rattle.graph_read.specs.Graphs.{GraphOf, edge_at}
 use Rattle.graph_read.specs.Incidence.{edges_at, other_end}
 use Rattle.cycle_popping.specs.Trees.{variable_of}
 
--- the number of a vertex: its variable, or the count of variables, which is the root's
+-- the number of a vertex: its variable, or the count of variables for the root
 abbrev pub number_of : GraphOf → ℕ → ℕ → ℕ
 number_of g root w = unwrap_or (variable_of root w) (g.vertices - 1)
 
--- the numbers of the vertices to which these edges lead from a vertex
+-- the numbers of the other ends of these edges at a vertex
 abbrev pub numbers_along : GraphOf → ℕ → ℕ → List ℕ → List ℕ
 numbers_along g root w edges = map (λ i. number_of g root (other_end (edge_at g i) w)) edges
 

@@ -1,17 +1,18 @@
--- The arrows of rooted spanning trees (Propp and Wilson 1998). The variables are the vertices but
--- the root, rising; the slots of a variable are the edges at its vertex that aren't loops, in the
--- order of the graph. Vertices count from 1, and variables, slots and edges from 0.
+-- The arrows of rooted spanning trees (Propp and Wilson 1998). The variables are the vertices
+-- without the root, rising. The slots of a variable are the edges at its vertex, without
+-- self-loops, in the order of the graph. Vertices count from 1, and variables, slots and edges
+-- from 0.
 use Rattle.std.specs.Prelude.{ℕ, ◌-◌, ◌==◌, nat_lt, if◌then◌else◌, List, map, Option, None, Some}
 use Rattle.std.specs.List.{range_with_len}
 use Rattle.pop_model.specs.Names.{vertex_of}
 use Rattle.graph_read.specs.Graphs.{GraphOf, edge_at}
 use Rattle.graph_read.specs.Incidence.{edges_at, other_end}
 
--- the variable of a vertex; none is the root
+-- the variable of a vertex; None is the root
 abbrev pub variable_of : ℕ → ℕ → Option ℕ
 variable_of root w = if w == root then None else Some (if nat_lt w root then w - 1 else w - 2)
 
--- where these edges lead from a vertex
+-- the heads of these edges at a vertex
 abbrev pub heads_along : GraphOf → ℕ → ℕ → List ℕ → List (Option ℕ)
 heads_along g root w edges = map (λ i. variable_of root (other_end (edge_at g i) w)) edges
 

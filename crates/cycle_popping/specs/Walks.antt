@@ -1,4 +1,4 @@
--- Instances over which walks lead.
+-- Instances for walks.
 use Rattle.std.specs.Prelude.{⊤}
 use Rattle.pop_model.specs.Families.{Family}
 use Rattle.pop_model.specs.Families.Family.{Listed, Cycles}

@@ -1,8 +1,8 @@
 -- Formulas in conjunctive normal form.
 use Rattle.std.specs.Prelude.{ℕ, ◌+◌, ◌<◌, ◌≤◌, ℤ, nat_abs, List, [], ◌∷◌, Option, None, Some, All}
 
--- clauses are lists of literals as they are written: v for the variable v, from 1, and -v for its
--- negation (DIMACS CNF)
+-- clauses are lists of literals in the order of the input: v for the variable v, from 1, and -v
+-- for its negation (DIMACS CNF)
 pub record Cnf : Type 0 where
   pub variables : ℕ
   pub clauses : List (List ℤ)
@@ -16,7 +16,7 @@ pub record IsLiteral (n : ℕ) (l : ℤ) : Type 0 where
 abbrev pub AreLiterals : ℕ → List (List ℤ) → Type 0
 AreLiterals n clauses = All (λ clause. All (IsLiteral n) clause) clauses
 
--- the first clause without literals, where the first of all has the number n
+-- the first clause without literals, if the first of all clauses has the number n
 abbrev pub empty_in : ℕ → List (List ℤ) → Option ℕ
 empty_in n [] = None
 empty_in n ([] ∷ clauses) = Some n

@@ -1,7 +1,7 @@
--- Clauses that lie one behind another in one list.
+-- Clauses one after another in one list.
 use Rattle.std.specs.Prelude.{ℕ, ◌≤◌, ℤ, List, [], ◌∷◌, slice_range}
 
--- the parts of a list that end at these places, the first of which begins at the given place
+-- the parts of a list that end at these places; the first part begins at the given place
 abbrev pub parts : List ℤ → ℕ → List ℕ → List (List ℤ)
 parts literals at [] = []
 parts literals at (end ∷ ends) = slice_range literals at end ∷ parts literals end ends

@@ -1,4 +1,4 @@
--- The grammar of formula texts, with no word of refusals.
+-- The grammar of formulas, without mentioning errors.
 use Rattle.std.specs.Prelude.{◌≡◌, ℕ, ◌^◌, ◌≤◌, nat_abs, List, [], ◌∷◌, length, map, count_by, Option, None, Some, ⊤}
 use Rattle.pop_edge.specs.Lines.{lines_of, text_limit}
 use Rattle.dimacs_read.specs.declared.token.Token.{Token}
@@ -7,19 +7,19 @@ use Rattle.dimacs_read.specs.Cnf.{Cnf}
 use Rattle.dimacs_read.specs.Tokens.{is_literal}
 use Rattle.dimacs_read.specs.CnfText.{cnf_lines, declared, body, clauses_of}
 
--- the word is the end of a clause, or a literal of one of so many variables
+-- the token is the end of a clause, or a literal of one of these variables
 abbrev pub IsToken : ℕ → Option Token → Type 0
 IsToken variables None = ⊥
 IsToken variables (Some End) = ⊤
 IsToken variables (Some (Literal l)) = nat_abs l ≤ variables
 
--- each of the words is the end of a clause, or a literal of one of so many variables
+-- each of the tokens is the end of a clause, or a literal of one of these variables
 abbrev pub AreTokens : ℕ → List (Option Token) → Type 0
 AreTokens variables [] = ⊤
 AreTokens variables (token ∷ tokens) = IsToken variables token × AreTokens variables tokens
 
--- the text is that of the formula: its header declares the formula's variables and clauses, and the
--- words behind it are the clauses
+-- The input is that of the formula: its header declares the formula's numbers of variables and
+-- clauses, and the tokens after it are the clauses.
 pub record IsCnfText (text : List ℕ) (f : Cnf) : Type 0 where
   pub short : length text ≤ text_limit
   pub header : ℕ × List (List ℕ)

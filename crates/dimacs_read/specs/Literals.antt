@@ -12,7 +12,7 @@ use Rattle.dimacs_read.specs.CnfText.{clauses_of}
 abbrev pub ends_clause : ℤ → Bool
 ends_clause l = nat_abs l == 0
 
--- what a number of the array says
+-- the token for a number of the array
 abbrev pub token_at : ℤ → Option Token
 token_at l = if ends_clause l then Some End else Some (Literal l)
 
@@ -20,7 +20,7 @@ token_at l = if ends_clause l then Some End else Some (Literal l)
 abbrev pub cnf_in : ℕ → List ℤ → Cnf
 cnf_in n literals = record { variables = n; clauses = clauses_of (map token_at literals) }
 
--- so many clauses and literals are allowed
+-- the numbers of clauses and literals are within their limits
 pub record HaveRoom (literals : List ℤ) : Type 0 where
   pub clauses_fit : count_by ends_clause literals ≤ 2 ^ 22
   pub literals_fit : length literals - count_by ends_clause literals ≤ 2 ^ 25
@@ -33,14 +33,15 @@ AreOfVariables n literals = All (λ l. nat_abs l ≤ n) literals
 abbrev pub IsEnded : List ℤ → Type 0
 IsEnded literals = (k : ℕ) → k + 1 ≡ length literals → nat_abs (slice_index_or literals k (pos 0)) ≡ 0
 
--- each number says something, and the last one ends a clause
+-- each number is valid, and the last one ends a clause
 pub record AreClauses (n : ℕ) (literals : List ℤ) : Type 0 where
   pub variables_fit : n ≤ 2 ^ 22
   pub room : HaveRoom literals
   pub known : AreOfVariables n literals
   pub ended : IsEnded literals
 
--- why literals are no formula of n variables: the first fault in the order of `LiteralFault`, at its least place
+-- why literals are no formula of n variables: the first fault in the order of `LiteralFault`, at
+-- its lowest place
 abbrev pub IsLiteralFault : ℕ → List ℤ → LiteralFault → Type 0
 IsLiteralFault n literals TooManyVariables = 2 ^ 22 < n
 IsLiteralFault n literals TooManyLiterals = (n ≤ 2 ^ 22) × (HaveRoom literals → ⊥)

@@ -1,4 +1,4 @@
--- How a reader comes to know the lines of a text, word by word.
+-- How a reader reads the lines of an input, token by token.
 use Rattle.std.specs.Prelude.{◌≡◌, ◌≢◌, ◌⊎◌, true, false, ℕ, ◌+◌, ◌^◌, ◌≤◌, ℤ, nat_abs, nat_lt, ◌==◌, if◌then◌else◌, List, [], ◌∷◌, ◌++◌, length, map, drop, count_by, Option, None, Some, Result, Ok, Err, ⊤}
 use Rattle.std.specs.List.{onto_first, list_any}
 use denote.Ref.{Bor}
@@ -18,7 +18,7 @@ use Rattle.dimacs_read.specs.CnfText.{declared, header_fault, body, line_refusal
 use Rattle.dimacs_read.specs.Flat.{parts, Rises}
 use Rattle.dimacs_read.specs.Literals.{IsEnded, token_at}
 
--- what is wrong with a word behind so many ends and literals
+-- the error of a token after this many ends and literals
 abbrev pub word_fault : ℕ → ℕ → ℕ → Option Token → Option Fault
 word_fault variables ends literals None = Some (Code 2)
 word_fault variables ends literals (Some End) =
@@ -29,7 +29,7 @@ word_fault variables ends literals (Some (Literal l)) =
     then (if nat_lt literals (2 ^ 25) then None else Some (Passes 4))
     else Some (Passes 3)
 
--- the clauses with a word more
+-- the clauses with another token
 abbrev pub Adds : Clauses → Clauses → Option Token → Type 0
 Adds old new None = ⊥
 Adds old new (Some End) =
@@ -38,22 +38,22 @@ Adds old new (Some End) =
 Adds old new (Some (Literal l)) =
     (new.ends.items ≡ old.ends.items) × (new.literals.items ≡ old.literals.items ++ l ∷ [])
 
--- what is wrong with a word behind these clauses
+-- the error of a token after these clauses
 abbrev pub fault_in : Clauses → ℕ → List ℕ → Option Fault
 fault_in c variables word =
     word_fault variables (length c.ends.items) (length c.literals.items) (token_of word)
 
--- where the last part ends
+-- the end of the last part
 abbrev pub last_end : ℕ → List ℕ → ℕ
 last_end at [] = at
 last_end at (end ∷ ends) = last_end end ends
 
--- literals that stand before the first end
+-- the literals before the first end are added to the first clause
 abbrev pub with_begun : List ℤ → List (List ℤ) → List (List ℤ)
 with_begun [] clauses = clauses
 with_begun (l ∷ ls) clauses = onto_first l (with_begun ls clauses)
 
--- the clauses hold these words, whatever words follow
+-- the clauses hold these tokens, for any tokens that follow
 pub record Holds (c : Clauses) (tokens : List (Option Token)) : Type 0 where
   pub ends : count_by is_clause_end tokens ≡ length c.ends.items
   pub literals : count_by is_literal tokens ≡ length c.literals.items
@@ -65,11 +65,11 @@ pub record Holds (c : Clauses) (tokens : List (Option Token)) : Type 0 where
       ≡ parts c.literals.items 0 c.ends.items
       ++ with_begun (drop (last_end 0 c.ends.items) c.literals.items) (clauses_of more)
 
--- the words of these bytes, under the number of their line
+-- the tokens of these bytes, under the number of their line
 abbrev pub placed : ℕ → List ℕ → List (ℕ × Option Token)
 placed line bytes = map (λ word. (line, token_of word)) (words_of bytes)
 
--- all the words were taken, or the first bad one is named
+-- all the tokens were read, or the first invalid one is reported
 abbrev pub TakesWords : Clauses → ℕ → ℕ → List ℕ → List (Option Token)
     → Result (Unit {0}) ReadRefusal → Type 0
 TakesWords new variables line bytes before (Ok _) =
@@ -79,7 +79,7 @@ TakesWords new variables line bytes before (Err refusal) =
     (refusal ≡ OutOfMemory)
     ⊎ (first_refusal (token_fault variables) before (placed line bytes) ≡ Some refusal)
 
--- the words up to here were taken, and what is to come decides for all
+-- the tokens up to here were read, and the rest decides for all
 pub record Goes (now : Clauses) (variables line : ℕ) (bytes rest : List ℕ)
     (before : List (Option Token)) : Type 0 where
   pub done : List (Option Token)
@@ -88,25 +88,25 @@ pub record Goes (now : Clauses) (variables line : ℕ) (bytes rest : List ℕ)
   pub refusal : first_refusal (token_fault variables) done (placed line rest)
       ≡ first_refusal (token_fault variables) before (placed line bytes)
 
--- the first byte of a line that isn't a blank, where there is one
+-- the first byte of a line that is not white space, if there is one
 abbrev pub IsFirstByte : List (List ℕ) → Option ℕ → Type 0
 IsFirstByte words None = words ≡ []
 IsFirstByte words (Some b) =
     (bytes : List ℕ) × (others : List (List ℕ)) × (words ≡ (b ∷ bytes) ∷ others)
 
--- what four words at the front declare, and what is behind them
+-- the numbers of the first four tokens, and the bytes after them
 abbrev pub IsCounts : List (List ℕ) → Option (ℕ × ℕ × Bor (List ℕ)) → Type 0
 IsCounts words None = declared words ≡ None
 IsCounts words (Some (v, c, rest)) =
     (declared words ≡ Some (v, c)) × (length words ≡ 4 + length (words_of rest.now))
 
--- a header was read, or what is wrong with it
+-- a header was read, or its error
 abbrev pub IsHeader : ℕ → List (List ℕ) → Result Header ReadRefusal → Type 0
 IsHeader line words (Ok header) =
     (header_fault words ≡ None) × (declared words ≡ Some (header.variables, header.clauses))
 IsHeader line words (Err refusal) = at_line line (header_fault words) ≡ Some refusal
 
--- what was declared, and whether a line with `%` came
+-- the numbers that were declared, and whether a line with `%` was read
 pub record HasHeader (r : Reader) (header : ℕ × List (List ℕ))
     (others : List (ℕ × List (List ℕ))) : Type 0 where
   pub fields : Header
@@ -116,13 +116,13 @@ pub record HasHeader (r : Reader) (header : ℕ × List (List ℕ))
   pub holds : Holds r.clauses (map (λ word. word.1) (body others))
   pub ended : r.ended ≡ list_any (λ line. begins_with 37 line.1) others
 
--- no header came yet
+-- no header was read yet
 pub record HasNoHeader (r : Reader) : Type 0 where
   pub is : r.header ≡ None
   pub holds : Holds r.clauses []
   pub ended : r.ended ≡ false
 
--- the reader knows these lines, and none of them is refused
+-- the reader has read these lines, and none of them is rejected
 abbrev pub Knows : Reader → List (ℕ × List (List ℕ)) → Type 0
 Knows r [] = HasNoHeader r
 Knows r (header ∷ others) = HasHeader r header others
@@ -132,7 +132,7 @@ pub record IsWithin (c : Clauses) : Type 0 where
   pub few : length c.ends.items ≤ 2 ^ 22
   pub room : length c.literals.items ≤ 2 ^ 25
 
--- a line behind the header: one that begins with `%` ends the clauses; then nothing is taken
+-- A line after the header. One that begins with `%` ends the clauses; after that nothing is read.
 abbrev pub TakesMore : Reader → Reader → Header → ℕ → ℕ → List ℕ → Result (Unit {0}) ReadRefusal
     → Type 0
 TakesMore old new header number first line result =
@@ -142,12 +142,12 @@ TakesMore old new header number first line result =
     × ((before : List (Option Token)) → Holds old.clauses before
     → TakesWords new.clauses header.variables number line before result))
 
--- there are lines that the reader knows
+-- there are lines that the reader has read
 pub record IsReader (r : Reader) : Type 0 where
   pub lines : List (ℕ × List (List ℕ))
   pub knows : Knows r lines
 
--- the formula of lines without a refusal, or what stands against the whole
+-- the formula of lines without an error, or the error of the whole
 abbrev pub Finishes : ℕ → List (ℕ × List (List ℕ)) → Result Cnf ReadRefusal → Type 0
 Finishes line lines (Ok f) =
     (whole_refusal line lines ≡ None) × (f ≡ formula_in lines) × (first_empty f ≡ None)
@@ -158,31 +158,31 @@ Finishes line lines (Err OutOfMemory) = ⊤
 Finishes line lines (Err ReadFault) = ⊥
 Finishes line lines (Err refusal) = whole_refusal line lines ≡ Some refusal
 
--- literals behind the last end get an end
+-- literals after the last end get an end
 abbrev pub closed_ends : ℕ → List ℕ → List ℕ
 closed_ends size ends = if last_end 0 ends == size then ends else ends ++ size ∷ []
 
--- the first part without literals, by where the parts end
+-- the first part without literals, by the ends of the parts
 abbrev pub empty_from : ℕ → ℕ → List ℕ → Option ℕ
 empty_from i at [] = None
 empty_from i at (end ∷ ends) = if at == end then Some i else empty_from (i + 1) end ends
 
--- what was declared is within the limits, and so are the clauses
+-- the declared numbers are within the limits, and so are the clauses
 pub record HasBounds (header : Header) (c : Clauses) : Type 0 where
   pub variables : header.variables ≤ 2 ^ 22
   pub clauses : header.clauses ≤ 2 ^ 22
   pub few : length c.ends.items ≤ 2 ^ 22
   pub room : length c.literals.items ≤ 2 ^ 25
   pub rises : Rises 0 c.ends.items (length c.literals.items)
-  -- once the last clause has its end
+  -- after the last clause got its end
   pub literals : AreLiterals header.variables
       (parts c.literals.items 0 (closed_ends (length c.literals.items) c.ends.items))
 
--- a formula of so many variables and these clauses
+-- a formula with these variables and these clauses
 abbrev pub with_clauses : Header → List (List ℤ) → Cnf
 with_clauses header clauses = record { variables = header.variables; clauses = clauses }
 
--- the formula of these clauses, or what stands against them
+-- the formula of these clauses, or their error
 abbrev pub FinishesClauses : Header → List (List ℤ) → Result Cnf ReadRefusal → Type 0
 FinishesClauses header clauses (Ok f) =
     (header.clauses ≡ length clauses) × (f ≡ with_clauses header clauses) × (first_empty f ≡ None)
@@ -194,7 +194,8 @@ FinishesClauses header clauses (Err (EmptyClause n)) =
 FinishesClauses header clauses (Err OutOfMemory) = ⊤
 FinishesClauses header clauses (Err _) = ⊥
 
--- the clauses hold these numbers of an array, and none of them is open if the last number ends one
+-- the clauses hold these numbers of an array, and none of them is unfinished if the last number
+-- ends one
 pub record HoldsArray (c : Clauses) (literals : List ℤ) : Type 0 where
   pub holds : Holds c (map token_at literals)
   pub closed : IsEnded literals → last_end 0 c.ends.items ≡ length c.literals.items

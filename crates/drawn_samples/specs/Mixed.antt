@@ -1,4 +1,4 @@
--- Batches in which runs of some samples end with none.
+-- Batches in which some runs end with samples and others with none.
 use Rattle.std.specs.Prelude.{◌≡◌, ℕ, ◌*◌, List, [], ◌∷◌, length, map, replicate, Option, None, Some, ⊤}
 use Rattle.pop_model.specs.Extremal.{IsExtremal}
 use Rattle.pop_model.specs.Families.{Event}
@@ -20,7 +20,7 @@ abbrev pub EndsSo : (f : Frame) → (List ℕ → Rows → Type 0) → Option (L
 EndsSo f Kind (Some w) t = TableOf f (Kind w) t
 EndsSo f Kind None t = AreNumbers f.heights t × (TableEnds f Kind t → ⊥)
 
--- the tables of samples that are numbered: each ends so
+-- the tables of the samples of a batch: each ends with its sample, or with none
 abbrev pub BatchEndsSo : (f : Frame) → (List ℕ → Rows → Type 0) → List (Option (List ℕ))
     → List Numbers → Type 0
 BatchEndsSo f Kind [] [] = ⊤
@@ -41,8 +41,9 @@ mixed_weight weights [] = 1
 mixed_weight weights (Some w ∷ ends) = sample_weight weights w * mixed_weight weights ends
 mixed_weight weights (None ∷ ends) = mixed_weight weights ends
 
--- Such batches are finitely many, and those of the one are to those of the other as the products of the
--- shares of their samples: whichever runs of a batch end with none, the others are drawn as ever.
+-- Batches with these ends are finitely many. For two choices of their samples their numbers are in
+-- the ratio of the products of the samples' shares. So whichever runs of a batch end with none,
+-- the distribution of the others is unchanged.
 pub record AreMixed (f : Frame) (Kind : List ℕ → Rows → Type 0) : Type 0 where
   pub counted : (ends : List (Option (List ℕ))) → AreAlike f ends ends
       → (n : ℕ) × Count (BatchEndsSo f Kind ends) n
@@ -50,17 +51,17 @@ pub record AreMixed (f : Frame) (Kind : List ℕ → Rows → Type 0) : Type 0 w
       → Count (BatchEndsSo f Kind ends) n → Count (BatchEndsSo f Kind others) m
       → n * mixed_weight (all_shares f.weights) others ≡ m * mixed_weight (all_shares f.weights) ends
 
--- So it is with batches of the one-thread run, where the family is extremal,
+-- This holds for batches of the one-thread run, if the family is extremal.
 abbrev pub MixedRuns : Type 0
 MixedRuns = (f : Frame) → IsFrame f → HaveWeights f.weights → IsExtremal f.family
     → AreMixed f (Samples f)
 
--- and of rounds.
+-- This holds for batches of rounds.
 abbrev pub MixedRounds : Type 0
 MixedRounds = (f : Frame) → IsFrame f → HaveWeights f.weights → IsListed f.family
     → AreMixed f (Sampled f)
 
--- the values of an end at which nothing is stuck
+-- the values of an end, if no event is stuck
 abbrev pub sample_if : List Event → List ℕ → Option (List ℕ)
 sample_if [] values = Some values
 sample_if (e ∷ stuck) values = None
@@ -69,7 +70,7 @@ sample_if (e ∷ stuck) values = None
 abbrev pub sample_of : End → Option (List ℕ)
 sample_of end = sample_if end.stuck end.values
 
--- The ends that `pop_batch` makes of so many samples under a key, whether or not each has a sample, are
+-- The ends that `pop_batch` returns for a batch under a key, whether or not each has a sample, are
 -- those of the key's own tables.
 abbrev pub KeyedMixed : Type 0
 KeyedMixed = (f : Frame) → IsFrame f → HaveWeights f.weights → IsExtremal f.family

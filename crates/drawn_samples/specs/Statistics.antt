@@ -1,4 +1,4 @@
--- Functions of samples, as a sum over a tree: how often each of their values is drawn.
+-- Functions of samples, such as a sum over a tree, and the distribution of their values.
 use Rattle.std.specs.Prelude.{◌≡◌, ℕ, ◌*◌, ◌==◌, ◌^◌, Bool, List, filter, sum, All}
 use Rattle.std.specs.Int.{◌∣◌}
 use Rattle.std.specs.List.{sum_by}
@@ -14,19 +14,19 @@ use Rattle.key_samples.specs.Shares.{all_shares}
 use Rattle.drawn_samples.specs.Drawn.{TableEnds}
 use Rattle.drawn_samples.specs.Where.{SampledWhere, SamplesWhere}
 
--- a table whose rows end with values of which a function has this value
+-- a table with rows that end with values for which a function has this value
 pub record TableWith (f : Frame) (Kind : List ℕ → Rows → Type 0) (statistic : List ℕ → ℕ)
     (value : ℕ) (t : Numbers) : Type 0 where
   pub values : List ℕ
   pub table : TableOf f (Kind values) t
   pub is : statistic values ≡ value
 
--- the samples of which the function has this value
+-- the samples for which the function has this value
 abbrev pub with_value : (List ℕ → ℕ) → ℕ → List (List ℕ) → List (List ℕ)
 with_value statistic value samples = filter (λ w. statistic w == value) samples
 
--- Of all tables that end with a sample, those of which the function has a value are to all as the weight
--- of the samples with that value is to that of all samples.
+-- Of all tables that end with a sample, the fraction with a value of the function is the weight of
+-- the samples with that value over that of all samples.
 abbrev pub DrawsValues : (f : Frame) → (List ℕ → Rows → Type 0) → (List ℕ → ℕ) → (List ℕ → ℕ) → Type 0
 DrawsValues f Kind statistic weight = (value : ℕ) (samples : List (List ℕ))
     → AreAll (IsSampleOf f) samples → (n all : ℕ) → Count (TableWith f Kind statistic value) n
@@ -38,19 +38,20 @@ pub record AreValuesDrawn (f : Frame) (Kind : List ℕ → Rows → Type 0) (sta
     : Type 0 where
   -- The tables of each value are finitely many.
   pub counted : (value : ℕ) → (n : ℕ) × Count (TableWith f Kind statistic value) n
-  -- Each value is drawn by the shares of the samples that have it,
+  -- Each value is drawn by the shares of the samples that have it.
   pub by_shares : DrawsValues f Kind statistic (sample_weight (all_shares f.weights))
-  -- and by their weights, if the weights of each variable sum to a number that divides 2 ^ 64.
+  -- Each value is drawn by the weights of the samples that have it, if the weights of each
+  -- variable sum to a number that divides 2 ^ 64.
   pub by_weights : All (λ ws. sum ws ∣ 2 ^ 64) f.weights
       → DrawsValues f Kind statistic (sample_weight f.weights)
 
--- So it is with the one-thread run of an extremal family, also with runs whose log is wanted,
+-- This holds for the one-thread run of an extremal family, also for runs with an accepted log.
 abbrev pub RunStatistics : Type 0
 RunStatistics = (f : Frame) → IsFrame f → HaveWeights f.weights → IsExtremal f.family
     → (wanted : List LogRecord → Bool) (statistic : List ℕ → ℕ)
     → AreValuesDrawn f (SamplesWhere f wanted) statistic
 
--- and with rounds over any listed events.
+-- This holds for rounds over any listed events.
 abbrev pub RoundStatistics : Type 0
 RoundStatistics = (f : Frame) → IsFrame f → HaveWeights f.weights → IsListed f.family
     → (wanted : List ℕ → ℕ → Bool) (statistic : List ℕ → ℕ)

@@ -1,4 +1,5 @@
--- The law of whole runs: how many tables of numbers end by the records of a log, and with which sample.
+-- The distribution of whole runs: how many tables of numbers end by the records of a log, and with
+-- which sample.
 use Rattle.std.specs.Prelude.{◌≡◌, ℕ, ◌+◌, ◌-◌, ◌*◌, ◌^◌, List, [], ◌∷◌, length, replicate, slice_index, sum}
 use Rattle.pop_model.specs.Stacks.{row_of}
 use Rattle.pop_model.specs.Popping.{Cube}
@@ -14,7 +15,7 @@ use Rattle.key_samples.specs.Numbers.{HaveWeights, TableOf}
 use Rattle.key_samples.specs.Shares.{all_shares}
 use Rattle.drawn_samples.specs.Drawn.{DrawsEach, TableEnds}
 
--- where a log leads from zeros
+-- the cursors that a log leads to from zeros
 abbrev pub end_of : Frame → List LogRecord → List ℕ
 end_of f log = replay (replicate (length f.weights) 0) log
 
@@ -29,12 +30,12 @@ abbrev pub cube_weight : List (List ℕ) → Cube → ℕ
 cube_weight weights [] = 1
 cube_weight weights (p ∷ e) = slice_index (row_of weights p.0) p.1 * cube_weight weights e
 
--- those of all records of a log
+-- the product of the weights of the values that all records of a log demand
 abbrev pub log_weight : List (List ℕ) → List LogRecord → ℕ
 log_weight weights [] = 1
 log_weight weights (r ∷ log) = cube_weight weights r.event.cube * log_weight weights log
 
--- how many entries the records of a log use
+-- the number of entries that the records of a log use
 abbrev pub used_by : List LogRecord → ℕ
 used_by [] = 0
 used_by (r ∷ log) = length r.event.cube + used_by log
@@ -44,14 +45,14 @@ abbrev pub IsLogOf : Frame → List LogRecord → Type 0
 IsLogOf f log = (rows : Rows) × AreRows f.weights f.heights rows
     × IsLegal (over f rows) (start_of (over f rows)) log
 
--- how many tables there are of the entries that a run by this log doesn't read: all but those that its
--- records use, and one of each variable
+-- the number of tables of the entries that a run by this log does not read: all except those that
+-- its records use and one of each variable
 abbrev pub unread_numbers : Frame → List LogRecord → ℕ
 unread_numbers f log = (2 ^ 64) ^ (sum f.heights - used_by log - length f.weights)
 
--- The tables that finish by the records of a log, with a sample, are as many as the product of the
--- shares of the values that the records demand, and of those of the sample's values, and any numbers
--- of the entries that aren't read. Events may clash.
+-- The number of tables that finish by the records of a log with a sample is a product: of the
+-- shares of the values that the records demand, of the shares of the sample's values, and of 2 ^
+-- 64 for each entry that is not read. Events may clash.
 abbrev pub RunNumbers : Type 0
 RunNumbers = (f : Frame) → IsFrame f → HaveWeights f.weights → (log : List LogRecord) → IsLogOf f log
     → (w : List ℕ) → IsSampleOf f w
@@ -59,13 +60,14 @@ RunNumbers = (f : Frame) → IsFrame f → HaveWeights f.weights → (log : List
     (log_weight (all_shares f.weights) log * sample_weight (all_shares f.weights) w
     * unread_numbers f log)
 
--- So whatever the log is by which tables finish, they draw from all samples by their shares,
+-- So for every log the tables that finish by it draw from all samples by their shares.
 abbrev pub DrawnByLogs : Type 0
 DrawnByLogs = (f : Frame) → IsFrame f → HaveWeights f.weights → (log : List LogRecord) → IsLogOf f log
     → DrawsEach f (SamplesBy f log) (sample_weight (all_shares f.weights))
 
--- and where the family is extremal, the sample and the log are independent: the tables with both, times
--- all that finish, are those with the log times those with the sample.
+-- If the family is extremal, the sample and the log are independent: the number of tables with
+-- both, times that of all that finish, is the number with the log times the number with the
+-- sample.
 abbrev pub IndependentOfLogs : Type 0
 IndependentOfLogs = (f : Frame) → IsFrame f → HaveWeights f.weights → IsExtremal f.family
     → (log : List LogRecord) → IsLogOf f log → (w : List ℕ) → IsSampleOf f w

@@ -9,7 +9,7 @@ pub record Clash (e f : Cube) : Type 0 where
   pub share : Share e f
   pub agree : Exclude e f → ⊥
 
--- the events with these numbers clash, the lesser number first
+-- the events with these numbers clash, with the lower number first
 pub record AreClashing (rows : List (ℕ × Cube)) (number other : ℕ) : Type 0 where
   pub rising : number < other
   pub events : (e : Cube) × (f : Cube)
@@ -25,6 +25,6 @@ pub record ClashAt (rows : List (ℕ × Cube)) (i j : ℕ) : Type 0 where
 abbrev pub HasNoClash : List (ℕ × Cube) → ℕ → Type 0
 HasNoClash rows i = (j : ℕ) → ClashAt rows i j → ⊥
 
--- the cube demands a value of the pair's variable that isn't the pair's
+-- the cube demands another value of the pair's variable than the pair
 abbrev pub DemandsOther : Cube → ℕ × ℕ → Type 0
 DemandsOther e p = (y : ℕ) × Contains e (p.0, y) × (p.1 ≢ y)

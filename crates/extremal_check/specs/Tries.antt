@@ -1,5 +1,5 @@
--- How far the search for an event that clashes with the event at place i has come. Each event has
--- a stamp, which is i + 1 once it was tried with that event.
+-- The state of the search for an event that clashes with the event at place i. Each event has a
+-- stamp, which is i + 1 after it was tried with that event.
 use Rattle.std.specs.Prelude.{◌≡◌, ℕ, ◌+◌, ◌<◌, ◌≤◌, List, length, slice_index, Contains}
 use Rattle.pop_model.specs.Popping.{Cube}
 use Rattle.pop_model.specs.Extremal.{Share}
@@ -16,8 +16,8 @@ pub record AreStamped (rows : List (ℕ × Cube)) (most : ℕ) (stamps : List �
   pub count : length stamps ≡ length rows
   pub stamp : (j : ℕ) → slice_index stamps j ≤ most
 
--- of the events that were tried with the event at place i, the least that clashes with it stands
--- at the place `least`, which is the number of events where none does
+-- Of the events that were tried with the event at place i, the first that clashes with it is at
+-- the place `least`. If none does, `least` is the number of events.
 pub record IsLeastTried (rows : List (ℕ × Cube)) (i : ℕ) (stamps : List ℕ) (least : ℕ)
     : Type 0 where
   pub stamped : AreStamped rows (i + 1) stamps

@@ -24,7 +24,7 @@ abbrev pub graph_in : ℕ → List ℕ → List ℕ → GraphOf
 graph_in n ends weights =
     record { vertices = n; edges = map (edge_in ends weights) (range_with_len 0 (length ends / 2)) }
 
--- so many vertices are allowed, and each end has its other
+-- the number of vertices is within its limit, and the number of ends is even
 pub record HavePairs (n : ℕ) (ends : List ℕ) : Type 0 where
   pub vertices_fit : n ≤ 2 ^ 22
   pub even : length ends % 2 ≡ 0
@@ -35,7 +35,8 @@ pub record HaveShape (n : ℕ) (ends weights : List ℕ) : Type 0 where
   pub edges_fit : length ends ≤ 2 ^ 24
   pub weights_fit : (length weights ≡ 0) ⊎ (length weights ≡ length ends / 2)
 
--- why arrays are no graph of n vertices: the first fault in the order of `EndsFault`, at its least place
+-- why arrays are no graph of n vertices: the first fault in the order of `EndsFault`, at its
+-- lowest place
 abbrev pub IsEndsFault : ℕ → List ℕ → List ℕ → EndsFault → Type 0
 IsEndsFault n ends weights TooManyVertices = 2 ^ 22 < n
 IsEndsFault n ends weights OddEnds = (n ≤ 2 ^ 22) × (length ends % 2 ≢ 0)

@@ -1,4 +1,4 @@
--- The grammar of graph texts, with no word of refusals.
+-- The grammar of graphs, without mentioning errors.
 use Rattle.std.specs.Prelude.{◌≡◌, ℕ, ◌≤◌, List, [], ◌∷◌, length, Some, codes}
 use Rattle.std.specs.List.{AllZip}
 use Rattle.pop_edge.specs.Lines.{lines_of, text_limit}
@@ -7,7 +7,7 @@ use Rattle.graph_read.specs.declared.edge.Edge.{Edge}
 use Rattle.graph_read.specs.Graphs.{GraphOf, IsGraph}
 use Rattle.graph_read.specs.GraphText.{declared, graph_lines}
 
--- the words of an edge's line: `e`, its two ends, and its weight, which is 1 where none is written
+-- the tokens of an edge line: `e`, its two ends, and its weight, which is 1 if it is not given
 abbrev pub SpellsEdge : List (List ℕ) → Edge → Type 0
 SpellsEdge (e ∷ u ∷ v ∷ []) edge =
     (e ≡ codes "e") × (number_of u ≡ Some edge.u) × (number_of v ≡ Some edge.v)
@@ -17,8 +17,8 @@ SpellsEdge (e ∷ u ∷ v ∷ w ∷ []) edge =
     × (number_of w ≡ Some edge.weight)
 SpellsEdge _ edge = ⊥
 
--- the text is that of the graph: its header declares the vertices, and each line behind it is that
--- of the edge in its place
+-- The input is that of the graph: its header declares the vertices, and each line after it is that
+-- of the edge at its place.
 pub record IsGraphText (text : List ℕ) (g : GraphOf) : Type 0 where
   pub short : length text ≤ text_limit
   pub header : ℕ × List (List ℕ)

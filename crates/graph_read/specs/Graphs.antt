@@ -1,8 +1,8 @@
--- Graphs with weighted edges, in which loops and parallel edges may stand.
+-- Graphs with weighted edges; self-loops and parallel edges are allowed.
 use Rattle.std.specs.Prelude.{ℕ, ◌^◌, ◌<◌, ◌≤◌, List, length, slice_index_or, All}
 use Rattle.graph_read.specs.declared.edge.Edge.{Edge}
 
--- how many vertices there are, which count from 1, and the edges, which count from 0
+-- the number of vertices, which count from 1, and the edges, which count from 0
 pub record GraphOf : Type 0 where
   pub vertices : ℕ
   pub edges : List Edge

@@ -4,15 +4,15 @@ use Rattle.std.specs.List.{range_with_len}
 use Rattle.graph_read.specs.declared.edge.Edge.{Edge}
 use Rattle.graph_read.specs.Graphs.{GraphOf}
 
--- the vertex in row r and column c of a grid of so many columns; rows and columns count from 1
+-- the vertex in row r and column c of a grid with this many columns; rows and columns count from 1
 abbrev pub grid_vertex : ℕ → ℕ → ℕ → ℕ
 grid_vertex side r c = (r - 1) * side + c
 
--- an edge of weight 1, where it is there
+-- an edge of weight 1, if it exists
 abbrev pub edge_where : Bool → ℕ → ℕ → List Edge
 edge_where there u v = if there then record { u = u; v = v; weight = 1 } ∷ [] else []
 
--- the edges from a vertex to its right neighbour and to the one below, where these are there
+-- the edges from a vertex to its right neighbour and to the one below, if they exist
 abbrev pub edges_from : ℕ → ℕ → ℕ → List Edge
 edges_from side r c =
     edge_where (nat_lt c side) (grid_vertex side r c) (grid_vertex side r (c + 1))
@@ -22,7 +22,8 @@ edges_from side r c =
 abbrev pub row_edges : ℕ → ℕ → List Edge
 row_edges side r = flat_map (edges_from side r) (range_with_len 1 side)
 
--- the grid of so many rows and columns, its edges by rising first vertex (this project's choice)
+-- the grid with this many rows and columns, with its edges in the order of their first vertices
+-- (this project's choice)
 abbrev pub grid_of : ℕ → GraphOf
 grid_of side =
     record {
@@ -30,11 +31,11 @@ grid_of side =
       edges = flat_map (row_edges side) (range_with_len 1 side);
     }
 
--- a vertex, where it is there
+-- a vertex, if it exists
 abbrev pub vertex_where : Bool → ℕ → List ℕ
 vertex_where there v = if there then v ∷ [] else []
 
--- the vertices above, to the left, to the right and below, where these are there
+-- the vertices above, to the left, to the right and below that exist
 abbrev pub grid_neighbours : ℕ → ℕ → ℕ → List ℕ
 grid_neighbours side r c =
     vertex_where (nat_lt 1 r) (grid_vertex side (r - 1) c)
@@ -42,7 +43,7 @@ grid_neighbours side r c =
     ++ vertex_where (nat_lt c side) (grid_vertex side r (c + 1))
     ++ vertex_where (nat_lt r side) (grid_vertex side (r + 1) c)
 
--- so many rows and columns are allowed
+-- the number of rows and columns is within its limits
 pub record IsSide (side : ℕ) : Type 0 where
   pub some : 1 ≤ side
   pub few : side ≤ 2048
@@ -54,6 +55,6 @@ pub record IsPlace (side r c : ℕ) : Type 0 where
   pub column : 1 ≤ c
   pub column_in : c ≤ side
 
--- the graph has these edges more
+-- these edges are added to the graph
 abbrev pub AddsEdges : GraphOf → GraphOf → List Edge → Type 0
 AddsEdges old new edges = new ≡ record old { edges = old.edges ++ edges }

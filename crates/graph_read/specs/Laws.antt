@@ -1,4 +1,4 @@
--- What the grammar and the refusals have to do with one another, and what paths join.
+-- The relation between the grammar and the errors, and theorems about paths.
 use Rattle.std.specs.Prelude.{◌≡◌, ◌↔◌, ℕ, List, None}
 use Rattle.graph_read.specs.Graphs.{GraphOf}
 use Rattle.graph_read.specs.GraphText.{graph_refusal, graph_of}
@@ -6,13 +6,13 @@ use Rattle.graph_read.specs.Grammar.{IsGraphText}
 use Rattle.graph_read.specs.Grids.{IsSide, grid_of}
 use Rattle.graph_read.specs.Paths.{IsConnected, IsJoined}
 
--- a text is that of a graph exactly where it has no refusal, and the graph is the one it spells
+-- an input is that of a graph exactly if it has no error, and the graph is the one that it denotes
 abbrev pub AcceptsExactly : Type 0
 AcceptsExactly =
     (text : List ℕ) (g : GraphOf)
     → IsGraphText text g ↔ ((graph_refusal text ≡ None) × (g ≡ graph_of text))
 
--- a text is that of one graph at most
+-- an input denotes at most one graph
 abbrev pub HasOneGraph : Type 0
 HasOneGraph = (text : List ℕ) (g h : GraphOf) → IsGraphText text g → IsGraphText text h → g ≡ h
 

@@ -1,12 +1,12 @@
--- Which vertices of a graph paths join.
+-- Paths between the vertices of a graph.
 use Rattle.std.specs.Prelude.{◌≡◌, ℕ, true, List, [], ◌∷◌, Contains, Option, None, Some}
 use Rattle.pop_model.specs.Places.{IsLeast}
 use Rattle.graph_read.specs.declared.edge.Edge.{Edge}
 use Rattle.graph_read.specs.Graphs.{GraphOf, IsVertex}
 use Rattle.graph_read.specs.Incidence.{other_end, touches}
 
--- edges of the graph lead from one vertex to another, one behind another, each from either of its
--- ends; a vertex may stand there again
+-- Edges of the graph lead from one vertex to another, one after another, each from either of its
+-- ends. A path may pass a vertex more than once.
 abbrev pub IsPath : GraphOf → ℕ → List Edge → ℕ → Type 0
 IsPath g a [] b = a ≡ b
 IsPath g a (e ∷ path) b =
@@ -16,7 +16,7 @@ IsPath g a (e ∷ path) b =
 abbrev pub IsJoined : GraphOf → ℕ → ℕ → Type 0
 IsJoined g a b = (path : List Edge) × IsPath g a path b
 
--- the vertex is cut off from the root: no path joins them
+-- the vertex is not connected to the root: no path joins them
 pub record IsCutOff (g : GraphOf) (root w : ℕ) : Type 0 where
   pub vertex : IsVertex g.vertices w
   pub apart : IsJoined g root w → ⊥
@@ -25,7 +25,8 @@ pub record IsCutOff (g : GraphOf) (root w : ℕ) : Type 0 where
 abbrev pub IsConnected : GraphOf → ℕ → Type 0
 IsConnected g root = (w : ℕ) → IsVertex g.vertices w → IsJoined g root w
 
--- what a search from the root finds: the least vertex that is cut off, or none where there is none
+-- what a search from the root finds: the lowest vertex that is not connected to it, or None if all
+-- are
 abbrev pub IsFirstCutOff : GraphOf → ℕ → Option ℕ → Type 0
 IsFirstCutOff g root None = IsConnected g root
 IsFirstCutOff g root (Some w) = IsLeast (IsCutOff g root) w

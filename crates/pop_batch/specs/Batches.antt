@@ -13,11 +13,11 @@ pub record IsSampleEnd (i : Instance) (j : ℕ) (end : End) : Type 0 where
   pub first : IsFirstEnd (instance_for j i) end.cursors end.pops end.stuck
   pub over : IsEndOver (stacks_for j i.stacks) end
 
--- so many ends, of which end j, from 0, is that of sample j
+-- this many ends; end j, counted from 0, is that of sample j
 pub record AreEnds (i : Instance) (count : ℕ) (ends : List End) : Type 0 where
   pub count_is : length ends ≡ count
   pub each : (j : ℕ) (end : End) → slice_get ends j ≡ Some end → IsSampleEnd i j end
 
--- at some end an event still occurs
+-- an event still occurs at some end
 abbrev pub some_stuck : List End → Bool
 some_stuck ends = list_any (λ end. nat_lt 0 (length end.stuck)) ends

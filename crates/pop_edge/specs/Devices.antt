@@ -6,7 +6,7 @@ use Rattle.std.specs.Io.KnownBytes.{Appends}
 abbrev pub TakesSome : {E : Type 0} → Result ℕ E → List ℕ → Type 0
 TakesSome result piece = IfOk result (λ n. (0 < n) × (n ≤ length piece))
 
--- some front of the bytes was taken
+-- some prefix of the bytes was taken
 abbrev pub AppendsFront : Option (List ℕ) → Option (List ℕ) → List ℕ → Type 0
 AppendsFront old new bytes = (n : ℕ) × Appends old new (take n bytes)
 
@@ -19,7 +19,7 @@ abbrev pub faults_after : {T E : Type 0} → ℕ → Result T E → ℕ
 faults_after faults (Ok _) = faults
 faults_after faults (Err _) = one_more faults
 
--- what is known of a device: the bytes that it has left or holds, where it tells them, and its
+-- what is known of a device: the bytes that it has left or holds, if it specifies them, and its
 -- faults
 pub record Counted : Type 0 where
   pub bytes : Option (List ℕ)

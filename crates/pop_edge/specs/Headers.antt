@@ -1,10 +1,11 @@
--- The line of a text that says what the text is of (the problem line of the DIMACS formats).
+-- The header line of an input (the problem line of the DIMACS formats).
 use Rattle.std.specs.Prelude.{◌≡◌, ℕ, ◌+◌, if◌then◌else◌, List, ◌∷◌, length, Option, None, Some, option_map, option_and_then, bytes_eq, codes}
 use denote.Ref.{Bor}
 use Rattle.pop_edge.specs.Words.{words_of}
 use Rattle.pop_edge.specs.Numbers.{number_of}
 
--- the kind of a text and two numbers, where a line begins with the words `p`, the kind and these
+-- the kind of an input and two numbers, if a line begins with the tokens `p`, the kind and these
+-- numbers
 abbrev pub header_of : List (List ℕ) → Option (List ℕ × ℕ × ℕ)
 header_of (p ∷ kind ∷ n ∷ m ∷ words) =
     if bytes_eq p (codes "p")
@@ -12,7 +13,7 @@ header_of (p ∷ kind ∷ n ∷ m ∷ words) =
     else None
 header_of _ = None
 
--- the four words of a header were cut off, and the bytes behind them are left
+-- the four tokens of a header were taken off, and the bytes after them are left
 abbrev pub CutsHeader : List ℕ → Option (Bor (List ℕ) × ℕ × ℕ × Bor (List ℕ)) → Type 0
 CutsHeader line None = header_of (words_of line) ≡ None
 CutsHeader line (Some (kind, n, m, rest)) =

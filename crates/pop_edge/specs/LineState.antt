@@ -1,4 +1,4 @@
--- The lines of a source, given one after another, and what was taken for them.
+-- The lines of a source, returned one after another, and the bytes that were taken for them.
 use Rattle.std.specs.Prelude.{◌≡◌, ◌⊎◌, ℕ, ◌+◌, ◌-◌, ◌<◌, ◌≤◌, Bool, true, false, List, [], ◌∷◌, ◌++◌, length, take, Option, None, Result, Ok, Err, ⊤}
 use Rattle.std.specs.List.{list_any}
 use Rattle.std.specs.Io.KnownBytes.{Consumes}
@@ -8,30 +8,31 @@ use Rattle.pop_edge.specs.declared.next.Next.{Next}
 use Rattle.pop_edge.specs.declared.next.Next.TheVariants.{Line, End}
 use Rattle.pop_edge.specs.Lines.{is_end, text_limit, lines_of}
 
--- where a list of lines stands between two calls
+-- the state of a list of lines between two calls
 pub record LineState : Type 0 where
-  -- the bytes that were taken within the limit and belong to no line given
+  -- the bytes that were taken within the limit and belong to no line returned so far
   pub rest : List ℕ
-  -- the line given last
+  -- the line returned last
   pub line : List ℕ
-  -- how many lines were given
+  -- the number of lines returned
   pub number : ℕ
-  -- how many bytes were taken
+  -- the number of bytes taken
   pub taken : ℕ
-  -- a read gave 0
+  -- a read returned 0 bytes
   pub ended : Bool
-  -- the refusal of an earlier call
+  -- the error of an earlier call
   pub kept : Option ReadRefusal
 
 -- nothing was taken yet
 abbrev pub opening : LineState
 opening = record { rest = []; line = []; number = 0; taken = 0; ended = false; kept = None }
 
--- what is at hand once a call has taken these bytes; those past the limit belong to no line
+-- the bytes at hand after a call has taken these; those past the limit belong to no line
 abbrev pub at_hand : LineState → List ℕ → List ℕ
 at_hand s bytes = s.rest ++ take (text_limit - s.taken) bytes
 
--- the line at the front of what is at hand was given: it has its end, or it is all that there is
+-- the line at the start of the bytes at hand was returned: it has its line end, or it is
+-- everything that is left
 pub record GivesLine (old new : LineState) (bytes : List ℕ) : Type 0 where
   pub front : (at_hand old bytes ≡ new.line ++ 10 ∷ new.rest)
       ⊎ ((at_hand old bytes ≡ new.line) × (new.rest ≡ []) × (0 < length new.line)
@@ -39,7 +40,7 @@ pub record GivesLine (old new : LineState) (bytes : List ℕ) : Type 0 where
   pub whole : list_any is_end new.line ≡ false
   pub number : new.number ≡ old.number + 1
 
--- every line was given, and nothing is left
+-- every line was returned, and nothing is left
 pub record GivesEnd (old new : LineState) (bytes : List ℕ) : Type 0 where
   pub nothing : at_hand old bytes ≡ []
   pub rest : new.rest ≡ []
@@ -54,7 +55,7 @@ pub record GivesNone (old new : LineState) (bytes : List ℕ) : Type 0 where
   pub line : new.line ≡ old.line
   pub number : new.number ≡ old.number
 
--- what a call answers that took these bytes
+-- the result of a call that took these bytes
 abbrev pub Answers : LineState → LineState → List ℕ → Result Next ReadRefusal → Type 0
 Answers old new bytes (Ok Line) = GivesLine old new bytes
 Answers old new bytes (Ok End) = GivesEnd old new bytes
@@ -65,7 +66,7 @@ Answers old new bytes (Err ReadFault) =
 Answers old new bytes (Err OutOfMemory) = (new.line ≡ old.line) × (new.number ≡ old.number)
 Answers old new bytes (Err _) = ⊥
 
--- a call took these bytes: it reads only where no whole line is at hand
+-- a call took these bytes; it reads only if no whole line is at hand
 pub record Takes (old new : LineState) (left left' : Option (List ℕ)) (bytes : List ℕ)
     : Type 0 where
   pub consumed : Consumes left left' bytes
@@ -74,46 +75,46 @@ pub record Takes (old new : LineState) (left left' : Option (List ℕ)) (bytes :
   pub at_end : old.ended ≡ true → bytes ≡ []
   pub stays : old.ended ≡ true → new.ended ≡ true
 
--- a call with no kept refusal takes some bytes, and answers by them
+-- a call without an earlier error takes some bytes, and its result depends on them
 pub record IsNext (old new : LineState) (left left' : Option (List ℕ))
     (result : Result Next ReadRefusal) : Type 0 where
   pub taken : List ℕ
   pub takes : Takes old new left left' taken
   pub answers : Answers old new taken result
 
--- the state but for its kept refusal
+-- the state without its earlier error
 abbrev pub fresh : LineState → LineState
 fresh s = record s { kept = None }
 
--- a call after a refusal answers it again, reads nothing and changes nothing
+-- a call after an error returns it again, reads nothing and changes nothing
 abbrev pub Repeats : LineState → LineState → Option (List ℕ) → Option (List ℕ)
     → Result Next ReadRefusal → ReadRefusal → Type 0
 Repeats old new left left' result refusal =
     (result ≡ Err refusal) × (new ≡ old) × (left' ≡ left)
 
--- lines, each with its end
+-- lines, each with its line end
 abbrev pub closed : List (List ℕ) → List ℕ
 closed [] = []
 closed (line ∷ lines) = line ++ 10 ∷ closed lines
 
--- no line end stands in these lines
+-- these lines contain no line end
 abbrev pub AreLines : List (List ℕ) → Type 0
 AreLines [] = ⊤
 AreLines (line ∷ lines) = (list_any is_end line ≡ false) × AreLines lines
 
--- what was taken within the limit is these lines, each with its end, and the rest
+-- what was taken within the limit is these lines, each with its line end, and the rest
 pub record IsCut (s : LineState) (bytes : List ℕ) (lines : List (List ℕ)) : Type 0 where
   pub lines_are : AreLines lines
   pub front : closed lines ++ s.rest ≡ take text_limit bytes
 
--- everything was taken and given
+-- everything was taken and returned
 pub record IsDone (s : LineState) (bytes : List ℕ) (lines : List (List ℕ)) : Type 0 where
   pub all : lines ≡ lines_of bytes
   pub short : length bytes ≤ text_limit
   pub rest : s.rest ≡ []
   pub ended : s.ended ≡ true
 
--- the state once these bytes were taken and these lines given
+-- the state after these bytes were taken and these lines returned
 pub record Follows (s : LineState) (bytes : List ℕ) (lines : List (List ℕ)) : Type 0 where
   pub taken : s.taken ≡ length bytes
   pub number : s.number ≡ length lines

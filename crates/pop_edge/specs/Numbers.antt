@@ -1,4 +1,4 @@
--- The numbers among words.
+-- The numbers among tokens.
 use Rattle.std.specs.Prelude.{ℕ, ◌^◌, Bool, ◌&&◌, nat_le, nat_lt, if◌then◌else◌, List, length, Option, None, Some}
 use Rattle.std.specs.List.{list_all}
 use Rattle.std.specs.Str.Parse.{digits_value}
@@ -7,7 +7,7 @@ use Rattle.std.specs.Str.Parse.{digits_value}
 abbrev pub is_digit : ℕ → Bool
 is_digit b = nat_le 48 b && nat_le b 57
 
--- a number is one to ten decimal digits, leading zeros allowed, of a value below 2 ^ 32
+-- a number has one to ten decimal digits, leading zeros allowed, and a value below 2 ^ 32
 abbrev pub number_of : List ℕ → Option ℕ
 number_of word =
     if nat_le 1 (length word) && nat_le (length word) 10 && list_all is_digit word

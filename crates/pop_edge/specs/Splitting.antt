@@ -8,14 +8,14 @@ use Rattle.pop_edge.specs.Lines.{is_end, text_limit}
 use Rattle.pop_edge.specs.LineState.{LineState, at_hand}
 use Rattle.pop_edge.specs.NeededReads.{NeedsMore, is_nothing}
 
--- the bytes up to the first line end go to the begun line, or all where there is none
+-- the bytes up to the first line end go to the begun line, or all if there is none
 abbrev pub Moves : List ℕ → List ℕ → List ℕ → Option ℕ → Type 0
 Moves old new bytes (Some n) =
     (front : List ℕ) × (list_any is_end front ≡ false) × (bytes ≡ front ++ 10 ∷ drop n bytes)
     × (n ≤ length bytes) × (n ≡ length front + 1) × (new ≡ old ++ front)
 Moves old new bytes None = (list_any is_end bytes ≡ false) × (new ≡ old ++ bytes)
 
--- what is at hand behind the lines given
+-- the bytes at hand after the lines returned so far
 abbrev pub rest_of : Splitter → List ℕ
 rest_of s = s.begun.items ++ slice_range s.piece.items s.at s.end
 
@@ -28,7 +28,7 @@ pub record IsSplitter (s : Splitter) : Type 0 where
   pub taken : s.taken ≤ text_limit + 4096
   pub number : s.number + length (rest_of s) ≤ s.taken
 
--- a line was cut off the front, or there is none
+-- a line was taken off the start, or there is none
 abbrev pub Cuts : Splitter → Splitter → Bool → Type 0
 Cuts old new true =
     (rest_of old ≡ new.line.items ++ 10 ∷ rest_of new) × (list_any is_end new.line.items ≡ false)
@@ -37,7 +37,7 @@ Cuts old new false =
     (list_any is_end (rest_of old) ≡ false) × (new.begun.items ≡ rest_of old) × (new.at ≡ new.end)
     × (new.line.items ≡ old.line.items) × (new.number ≡ old.number)
 
--- bytes were read behind what is at hand; those past the limit belong to no line
+-- more bytes were read after those at hand; those past the limit belong to no line
 pub record HasFilled (old new : Splitter) (left left' : Option (List ℕ)) (gives : List ℕ → Type 0)
     : Type 0 where
   pub bytes : List ℕ
@@ -48,7 +48,7 @@ pub record HasFilled (old new : Splitter) (left left' : Option (List ℕ)) (give
   pub ended : (new.ended ≡ true) ↔ (length bytes ≡ 0)
   pub at_end : new.ended ≡ true → IsAtEnd left'
 
--- the state of a list of lines that has refused nothing
+-- the state of a list of lines without an error
 abbrev pub state_of : Splitter → LineState
 state_of s =
     record {
@@ -60,7 +60,7 @@ state_of s =
       kept = None;
     }
 
--- the next bytes were taken, and no line was given meanwhile
+-- the next bytes were taken, and no line was returned meanwhile
 pub record Reads (old new : LineState) (left left' : Option (List ℕ)) (bytes : List ℕ)
     : Type 0 where
   pub consumed : Consumes left left' bytes
@@ -72,7 +72,7 @@ pub record Reads (old new : LineState) (left left' : Option (List ℕ)) (bytes :
   pub number : new.number ≡ old.number
   pub stays : old.ended ≡ true → new.ended ≡ true
 
--- some pieces were read so, each of which was needed behind those before it
+-- some pieces were read this way, and each was necessary after those before it
 pub record HasRead {S : Type 0} (gives : S → Option (List ℕ) → S → Type 0) (old new : LineState)
     (left left' : Option (List ℕ)) (source source' : S) : Type 0 where
   pub pieces : List (List ℕ)

@@ -1,4 +1,4 @@
--- What a family stands for in the definitions.
+-- The family that a value represents in the definitions.
 use Rattle.std.specs.Prelude.{ℕ}
 use Rattle.pop_model.specs.Popping.{Cube}
 use Rattle.pop_model.specs.Families.{Family as ModelFamily, IsEvent}

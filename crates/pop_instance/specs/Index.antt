@@ -16,7 +16,7 @@ pub record IsIndex (rows : List (ℕ × Cube)) (index : List (List ℕ)) : Type 
       → Contains (slice_index_or index v []) place
       ↔ ((place < length rows) × (names (cube_at rows place) v ≡ true))
 
--- the index of a family: that of its events where they are listed, and none of cycles
+-- the index of a family: that of its events if they are listed, and none for cycles
 abbrev pub IsFamilyIndex : Family → Option (List (List ℕ)) → Type 0
 IsFamilyIndex (Listed rows) (Some index) = IsIndex rows index
 IsFamilyIndex (Listed rows) None = ⊥
@@ -27,7 +27,7 @@ IsFamilyIndex (Cycles heads) None = ⊤
 abbrev pub places_below : List (ℕ × Cube) → ℕ → ℕ → List ℕ
 places_below rows n v = filter (λ place. names (cube_at rows place) v) (range_with_len 0 n)
 
--- for each of so many variables how many of the events below place n name it
+-- for each of this many variables the number of events below place n that name it
 pub record AreTallies (rows : List (ℕ × Cube)) (n count : ℕ) (tallies : List ℕ) : Type 0 where
   pub count_is : length tallies ≡ count
   pub each : (v : ℕ) → v < count → slice_index tallies v ≡ length (places_below rows n v)

@@ -1,4 +1,4 @@
--- How the pairs of a cube are kept.
+-- The pairs of a cube, by how they are stored.
 use Rattle.std.specs.Prelude.{ℕ, List, ◌≤◌, ⊤, take}
 use Rattle.pop_instance.specs.declared.pairs.KeptPairs.{KeptPairs}
 use Rattle.pop_instance.specs.declared.pairs.KeptPairs.TheVariants.{Few, Many}
@@ -8,7 +8,7 @@ abbrev pub pairs_kept : KeptPairs → List (ℕ × ℕ)
 pairs_kept (Few count pairs) = take count pairs
 pairs_kept (Many pairs) = pairs.items
 
--- there is room in place for no more than four
+-- at most four pairs are stored in place
 abbrev pub AreKept : KeptPairs → Type 0
 AreKept (Few count pairs) = count ≤ 4
 AreKept (Many pairs) = ⊤

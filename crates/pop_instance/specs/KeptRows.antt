@@ -1,4 +1,4 @@
--- The places of all variables, by how they are kept.
+-- The places of all variables, by how they are stored.
 use Rattle.std.specs.Prelude.{ℕ, List}
 use Rattle.pop_instance.specs.declared.index.KeptRows.{KeptRows}
 use Rattle.pop_instance.specs.declared.index.KeptRows.TheVariants.{Roomy, EndToEnd}

@@ -21,6 +21,6 @@ pub record IsKind (v : ℕ) (row : List ℕ) (patterns : List (List ℕ)) (kind 
   pub known : kind < length patterns
   pub is : shifted v (row_at patterns kind) ≡ row
 
--- what has a pattern of the old ones has it among the new ones, too
+-- a row that has a pattern among the old ones also has it among the new ones
 abbrev pub StaysIn : List (List ℕ) → List (List ℕ) → Type 0
 StaysIn old new = (v : ℕ) (row : List ℕ) (kind : ℕ) → IsKind v row old kind → IsKind v row new kind

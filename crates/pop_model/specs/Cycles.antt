@@ -4,38 +4,38 @@ use Rattle.std.specs.Prelude.{◌≡◌, ℕ, zero, suc, ◌<◌, true, ◌==◌
 use Rattle.pop_model.specs.Stacks.{StackTable, value_at}
 use Rattle.pop_model.specs.Popping.{Cube, IsCube, variables, names, cursor}
 
--- the head of a slot of a variable; none is the root
+-- the head of a slot of a variable; None is the root
 abbrev pub head_of : List (List (Option ℕ)) → ℕ → ℕ → Option ℕ
 head_of heads v x = slice_index_or (slice_index_or heads v []) x None
 
--- where this many steps lead from a variable; none where they came to the root
+-- the variable that this many steps lead to from a variable; None if they reached the root
 abbrev pub follow : (ℕ → Option ℕ) → ℕ → ℕ → Option ℕ
 follow step zero v = Some v
 follow step (suc k) v = option_and_then step (follow step k v)
 
--- the steps come to the root
+-- the steps reach the root
 abbrev pub ReachesRoot : (ℕ → Option ℕ) → ℕ → Type 0
 ReachesRoot step v = (k : ℕ) × (follow step k v ≡ None)
 
--- the value that a cube demands of a variable, where it names it
+-- the value that a cube demands of a variable, if it names the variable
 abbrev pub demand : Cube → ℕ → Option ℕ
 demand [] v = None
 demand (p ∷ e) v = if p.0 == v then Some p.1 else demand e v
 
--- where the slot leads that the cube demands of a variable
+-- the head of the slot that the cube demands of a variable
 abbrev pub arrow_in : List (List (Option ℕ)) → Cube → ℕ → Option ℕ
 arrow_in heads e v = option_and_then (head_of heads v) (demand e v)
 
--- where the slot leads that is current for a variable
+-- the head of the current slot of a variable
 abbrev pub arrow_at : List (List (Option ℕ)) → StackTable → List ℕ → ℕ → Option ℕ
 arrow_at heads s c v = head_of heads v (value_at s v (cursor c v))
 
--- the first variable of a cube, which is its least
+-- the first variable of a cube, which is its lowest
 abbrev pub first_of : Cube → ℕ
 first_of e = slice_index (variables e) 0
 
 -- Following the heads from the first variable returns there after as many steps as the cube has
--- pairs, and meets every variable of it (Propp and Wilson 1998).
+-- pairs, and passes every variable of the cube (Propp and Wilson 1998).
 pub record IsCycle (heads : List (List (Option ℕ))) (e : Cube) : Type 0 where
   pub cube : IsCube e
   pub returns : follow (arrow_in heads e) (length e) (first_of e) ≡ Some (first_of e)

@@ -1,7 +1,7 @@
 -- Faults of devices, counted.
 use Rattle.std.specs.Prelude.{◌≡◌, ◌⊎◌, ℕ, ◌-◌, ◌^◌, ◌<◌, ◌≤◌, Result, OnErr}
 
--- the count of faults rose, or stands at 2^64 - 1, the last value that a counter of 64 bits can have
+-- The count of faults rose, or is 2^64 - 1, the largest value of a counter of 64 bits.
 abbrev pub Rose : ℕ → ℕ → Type 0
 Rose before now = (before < now) ⊎ (now ≡ 2 ^ 64 - 1)
 

@@ -5,7 +5,7 @@ use Rattle.pop_model.specs.Popping.{Cube}
 use Rattle.pop_model.specs.Families.{Family, IsFamily, units_of}
 use Rattle.pop_model.specs.Families.Family.{Listed, Cycles}
 
--- the variables' stacks, and the events that aren't to occur
+-- the variables' stacks, and the bad events
 pub record Instance : Type 0 where
   pub stacks : StackTable
   pub family : Family

@@ -4,7 +4,7 @@ use Rattle.pop_model.specs.Popping.{Cube, IsPoppable, cursor, pop}
 use Rattle.pop_model.specs.Families.{Event, IsEvent}
 use Rattle.pop_model.specs.Instances.{Instance}
 
--- an event that was popped, with the entry that it used of each of its variables
+-- an event that was popped, with the entry that it used for each of its variables
 pub record LogRecord : Type 0 where
   pub event : Event
   pub entries : List ℕ
@@ -13,13 +13,13 @@ pub record LogRecord : Type 0 where
 abbrev pub entries_at : List ℕ → Cube → List ℕ
 entries_at c e = map (λ p. cursor c p.0) e
 
--- the event may be popped at these cursors, and uses their entries
+-- the event can be popped at these cursors, and uses their entries
 pub record IsLegalAt (i : Instance) (c : List ℕ) (r : LogRecord) : Type 0 where
   pub event : IsEvent i.family r.event
   pub poppable : IsPoppable i.stacks c r.event.cube
   pub entries : r.entries ≡ entries_at c r.event.cube
 
--- each record is legal at the cursors that those before it leave
+-- each record is legal at the cursors after the records before it
 abbrev pub IsLegal : Instance → List ℕ → List LogRecord → Type 0
 IsLegal i c [] = ⊤
 IsLegal i c (r ∷ log) = IsLegalAt i c r × IsLegal i (pop c r.event.cube) log

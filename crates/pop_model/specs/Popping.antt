@@ -4,7 +4,7 @@ use Rattle.std.specs.List.{enumerate_from, list_any}
 use Rattle.std.specs.List.Sorted.{IsStrictlyIncreasing}
 use Rattle.pop_model.specs.Stacks.{StackTable, variables_of, domain_of, value_at, height_of}
 
--- pairs of a variable and a value that it is to have
+-- pairs of a variable and the value that it must have
 abbrev pub Cube : Type 0
 Cube = List (ℕ × ℕ)
 
@@ -17,11 +17,11 @@ pub record IsCube (e : Cube) : Type 0 where
   pub some : 0 < length e
   pub rising : IsStrictlyIncreasing (variables e)
 
--- the number of the entry that is current for a variable
+-- the number of the current entry of a variable
 abbrev pub cursor : List ℕ → ℕ → ℕ
 cursor c v = slice_index c v
 
--- the value that is current for a variable
+-- the current value of a variable
 abbrev pub current : StackTable → List ℕ → ℕ → ℕ
 current s c v = value_at s v (cursor c v)
 
@@ -29,7 +29,7 @@ current s c v = value_at s v (cursor c v)
 abbrev pub values_at : StackTable → List ℕ → List ℕ
 values_at s c = map (λ p. value_at s p.0 p.1) (enumerate_from 0 c)
 
--- these are the values at the cursors, each of which its variable has
+-- these are the values at the cursors, and each is a value of its variable
 pub record AreValuesAt (s : StackTable) (c values : List ℕ) : Type 0 where
   pub are : values ≡ values_at s c
   pub within : (v : ℕ) → v < variables_of s → slice_index values v < domain_of s v
@@ -46,11 +46,11 @@ AreWithin s c = (v : ℕ) → v < variables_of s → cursor c v < height_of s v
 abbrev pub Occurs : StackTable → List ℕ → Cube → Type 0
 Occurs s c e = All (λ p. value_at s p.0 (cursor c p.0) ≡ p.1) e
 
--- each variable of the cube has an entry behind its cursor
+-- each variable of the cube has an entry after its cursor
 abbrev pub HasNext : StackTable → List ℕ → Cube → Type 0
 HasNext s c e = All (λ p. cursor c p.0 + 1 < height_of s p.0) e
 
--- it occurs, and each of its variables has a next entry
+-- the cube occurs, and each of its variables has a next entry
 pub record IsPoppable (s : StackTable) (c : List ℕ) (e : Cube) : Type 0 where
   pub occurs : Occurs s c e
   pub next : HasNext s c e

@@ -20,13 +20,13 @@ pub record IsStuckList (i : Instance) (c : List ℕ) (stuck : List Event) : Type
   pub rising : IsStrictlyIncreasing (map (λ e. e.unit) stuck)
   pub exact : (e : Event) → Contains stuck e ↔ (IsEvent i.family e × Occurs i.stacks c e.cube)
 
--- the poppable event of least unit
+-- the poppable event with the lowest unit
 pub record IsFirstPoppable (i : Instance) (c : List ℕ) (e : Event) : Type 0 where
   pub event : IsEvent i.family e
   pub poppable : IsPoppable i.stacks c e.cube
   pub least : (f : Event) → IsEvent i.family f → IsPoppable i.stacks c f.cube → e.unit ≤ f.unit
 
--- From these cursors the log pops the first poppable event each time, until there is none.
+-- From these cursors the log always pops the first poppable event, until there is none.
 abbrev pub IsFirstRun : Instance → List ℕ → List LogRecord → Type 0
 IsFirstRun i c [] = IsEnd i c
 IsFirstRun i c (r ∷ log) = IsFirstPoppable i c r.event × IsLegalAt i c r

@@ -1,4 +1,4 @@
--- Tickets: numbers under which the pops of one history are told in parts.
+-- Tickets: the numbers of the pops of a run, by which parts of its log are merged.
 use Rattle.std.specs.Prelude.{ℕ, List, IsPermutation}
 use Rattle.std.specs.List.{enumerate_from}
 use Rattle.pop_model.specs.Logs.{LogRecord}

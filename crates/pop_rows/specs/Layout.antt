@@ -1,4 +1,5 @@
--- How rows lie in one list: each from its start up to its end, with room up to the next start.
+-- The layout of rows in one list: each goes from its start up to its end, with room up to the next
+-- start.
 use Rattle.std.specs.Prelude.{◌≡◌, ℕ, ◌+◌, ◌-◌, ◌<◌, ◌≤◌, ◌^◌, List, length, map, take, sum, slice_index, slice_range}
 use Rattle.std.specs.List.{range_with_len}
 use Rattle.pop_rows.specs.FlatRows.{RoomyRows}
@@ -15,7 +16,7 @@ rows_in starts ends items = map (row_in starts ends items) (range_with_len 0 (le
 abbrev pub room_in : List ℕ → ℕ → ℕ
 room_in starts v = slice_index starts (v + 1) - slice_index starts v
 
--- the rooms of so many rows
+-- the rooms of this many rows
 abbrev pub rooms_in : List ℕ → ℕ → List ℕ
 rooms_in starts count = map (room_in starts) (range_with_len 0 count)
 
@@ -34,7 +35,7 @@ pub record AreLaidOut (starts ends items : List ℕ) : Type 0 where
   pub ended : (v : ℕ) → v < length ends → slice_index ends v ≤ slice_index starts (v + 1)
   pub within : (v : ℕ) → v < length starts → slice_index starts v ≤ length items
 
--- each start is the sum of the rooms before it; the sum of all rooms is the last
+-- each start is the sum of the rooms before it, and the last one is the sum of all rooms
 pub record AreStarts (rooms starts : List ℕ) : Type 0 where
   pub count : length starts ≡ length rooms + 1
   pub each : (v : ℕ) → v < length starts → slice_index starts v ≡ sum (take v rooms)

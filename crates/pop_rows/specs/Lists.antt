@@ -1,4 +1,4 @@
--- Lists that have an array each.
+-- Lists with an array for each of them.
 use Rattle.std.specs.Prelude.{List, map, Vec}
 
 -- the lists in vectors

@@ -2,7 +2,7 @@
 use Rattle.std.specs.Prelude.{ℕ, ◌+◌, ◌^◌, ◌<◌, ◌≤◌, List, [], ◌∷◌, length, sum}
 use Rattle.pop_rows.specs.FlatRows.{row_at}
 
--- the sums of the numbers so far, from a number on
+-- the running sums of the numbers, added to a number
 abbrev pub running : ℕ → List ℕ → List ℕ
 running total [] = []
 running total (w ∷ weights) = (total + w) ∷ running (total + w) weights

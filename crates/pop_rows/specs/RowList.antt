@@ -6,12 +6,12 @@ use Rattle.std.specs.List.{range_with_len}
 abbrev pub row_between : List ℕ → List ℕ → ℕ → List ℕ
 row_between starts items v = slice_range items (slice_index starts v) (slice_index starts (v + 1))
 
--- the rows; the last start ends the last of them
+-- the rows; the last start is the end of the last row
 abbrev pub rows_between : List ℕ → List ℕ → List (List ℕ)
 rows_between starts items = map (row_between starts items) (range_with_len 0 (length starts - 1))
 
--- Starts rise up to the end of the list, and there is one more than rows; numbers of rows and
--- places fit 32 bits.
+-- Starts rise up to the end of the list, and there is one more than there are rows. Numbers of
+-- rows and places fit 32 bits.
 pub record AreEndToEnd (starts items : List ℕ) : Type 0 where
   pub some : 0 < length starts
   pub few : length starts ≤ 2 ^ 32

@@ -1,5 +1,6 @@
--- Rows that finish with a sample, and the exchange of that sample for another: of the arrows on top
--- of the stacks (Propp and Wilson 1998), or in a resampling table (Guo, Jerrum and Liu 2019).
+-- Rows that finish with a sample, and the exchange of that sample for another. Propp and Wilson
+-- (1998) exchange the arrows on top of the stacks, and Guo, Jerrum and Liu (2019) entries of a
+-- resampling table.
 use Rattle.std.specs.Prelude.{◌≡◌, ℕ, List, [], ◌∷◌, slice_index, slice_set}
 use Rattle.pop_samples.specs.Finishing.{FinishesAt}
 use Rattle.pop_samples.specs.Frames.{Rows, Frame, AreRows, over}
@@ -10,7 +11,7 @@ entries_under [] c = []
 entries_under (row ∷ rows) [] = []
 entries_under (row ∷ rows) (k ∷ c) = slice_index row k ∷ entries_under rows c
 
--- the rows with these values in place of the entries at the cursors
+-- the rows with the entries at the cursors replaced by these values
 abbrev pub exchange : Rows → List ℕ → List ℕ → Rows
 exchange [] c w = []
 exchange (row ∷ rows) [] w = row ∷ rows

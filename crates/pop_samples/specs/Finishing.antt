@@ -1,4 +1,4 @@
--- Where logs finish, and what may be left there: the samples of a family.
+-- The cursors at which logs finish, and the values there: the samples of a family.
 use Rattle.std.specs.Prelude.{◌≡◌, ℕ, ◌<◌, List, All}
 use Rattle.pop_model.specs.Stacks.{StackTable, variables_of, value_at}
 use Rattle.pop_model.specs.Popping.{cursor}
@@ -17,7 +17,7 @@ pub record FinishesBy (i : Instance) (log : List LogRecord) (c : List ℕ) : Typ
 abbrev pub FinishesAt : Instance → List ℕ → Type 0
 FinishesAt i c = (log : List LogRecord) × FinishesBy i log c
 
--- A sample: no event of the family has all its values among these, one of each variable
+-- A sample: no event of the family has all its values among these, which are one for each variable
 -- (Guo, Jerrum and Liu 2019: an assignment under which no bad event holds).
 abbrev pub IsSample : Family → (ℕ → ℕ) → Type 0
 IsSample family w = (e : Event) → IsEvent family e → All (λ p. w p.0 ≡ p.1) e.cube → ⊥

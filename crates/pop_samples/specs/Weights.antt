@@ -1,5 +1,5 @@
--- The weights of rows and of samples: the products of the weights of their values. Where each entry
--- is drawn by itself, by the weights, these are to one another as the probabilities.
+-- The weights of rows and of samples: the products of the weights of their values. If each entry
+-- is drawn independently by the weights, they are proportional to the probabilities.
 use Rattle.std.specs.Prelude.{ℕ, ◌*◌, List, [], ◌∷◌, slice_index}
 use Rattle.pop_samples.specs.Frames.{Rows}
 
@@ -14,7 +14,7 @@ weight_of weights [] = 1
 weight_of [] (row ∷ rows) = 1
 weight_of (w ∷ weights) (row ∷ rows) = row_weight w row * weight_of weights rows
 
--- the product of the weights of these values, one of each variable
+-- the product of the weights of these values, one for each variable
 abbrev pub sample_weight : List (List ℕ) → List ℕ → ℕ
 sample_weight weights [] = 1
 sample_weight [] (x ∷ w) = 1

@@ -1,4 +1,4 @@
--- What may be wrong with the entries and the weights of stacks, and which fault is named.
+-- The faults of entries and weights, and which fault is reported.
 use Rattle.std.specs.Prelude.{◌≡◌, ◌≢◌, ℕ, ◌<◌, ◌≤◌, List, length, slice_index, ⊤}
 use Rattle.pop_model.specs.Stacks.{Origin, row_of}
 use Rattle.pop_model.specs.Stacks.Origin.{Given, Keyed}
@@ -11,7 +11,8 @@ use Rattle.pop_stacks.specs.declared.stack_fault.StackFault.TheVariants.{RowCoun
 abbrev pub IsEmptyRow : List (List ℕ) → ℕ → Type 0
 IsEmptyRow rows v = (v < length rows) × (length (row_of rows v) ≡ 0)
 
--- entry k of row v is no value of variable v: those are below the number of its weights
+-- entry k of row v is not a value of variable v, which are the numbers below the number of its
+-- weights
 pub record IsTooLarge (rows weights : List (List ℕ)) (v k : ℕ) : Type 0 where
   pub row : v < length rows
   pub place : k < length (row_of rows v)
@@ -42,7 +43,7 @@ pub record IsSound (origin : Origin) (weights : List (List ℕ)) : Type 0 where
   pub rows : HasSoundRows origin weights
   pub light : AreLight weights
 
--- why stacks are refused: the first cause in the order of `StackFault`, at its least place
+-- why stacks cannot be made: the first fault in the order of `StackFault`, at its lowest place
 abbrev pub IsCause : Origin → List (List ℕ) → StackFault → Type 0
 IsCause (Given rows) weights (RowCount given wanted) =
     (given ≡ length rows) × (wanted ≡ length weights) × (given ≢ wanted)
@@ -52,5 +53,5 @@ IsCause (Given rows) weights (ValueTooLarge v k) =
     (length rows ≡ length weights) × HaveEntries rows × IsLeastPair (IsTooLarge rows weights) v k
 IsCause origin weights (WeightSum v) =
     HasSoundRows origin weights × IsLeast (IsTooHeavy weights) v
--- a key has no rows, and no memory is taken
+-- a key has no rows, and no memory is allocated
 IsCause origin weights fault = ⊥

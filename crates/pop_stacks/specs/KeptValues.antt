@@ -1,5 +1,5 @@
--- Values of entries that are kept: those of a group of 32 entries of a variable, up to the last block of
--- eight that was read.
+-- The cache of values of entries: those of a group of 32 entries of a variable, up to the last
+-- block of eight that was read.
 use Rattle.std.specs.Prelude.{◌≡◌, ◌⊎◌, ℕ, ◌+◌, ◌*◌, ◌/◌, ◌%◌, ◌^◌, ◌-◌, ◌<◌, ◌≤◌, ltb, ◌==◌, if◌then◌else◌, Option, Some, None, List, length, slice_index, slice_get, Bool, true, false, IsTrue}
 use Rattle.std.specs.Option.{option_and_then, option_map}
 use Rattle.std.specs.Int.{bit_at}
@@ -7,8 +7,8 @@ use Rattle.pop_model.specs.Stacks.{StackTable, value_at, domain_of}
 use Rattle.pop_stacks.specs.declared.kept_values.KeptValues.{KeptValues}
 use Rattle.pop_stacks.specs.declared.kept_values.KeptValues.TheVariants.{Nothing, Bits, Quads, Bytes}
 
--- the place of entry k in a line with this mark, if it is kept there: the mark says how many blocks of
--- eight entries were read, of which those in the group of the last one are kept
+-- The place of entry k in a line with this mark, if it is kept there. The mark says how many
+-- blocks of eight entries were read; those in the group of the last one are kept.
 abbrev pub place_in : ℕ → ℕ → Option ℕ
 place_in mark k =
     if ltb (k / 8) mark then (if (mark - 1) / 4 == k / 32 then Some (k % 32) else None) else None
@@ -35,7 +35,8 @@ kept_at (Quads lines) v k =
 kept_at (Bytes lines) v k =
     option_and_then (λ l. kept_in l.mark (slice_index l.values) k) (slice_get lines.items v)
 
--- how many blocks of variable v were read, when it has a line: the number of its next block
+-- the number of blocks of variable v that were read, which is the number of its next block, if it
+-- has a line
 abbrev pub mark_at : KeptValues → ℕ → Option ℕ
 mark_at Nothing v = None
 mark_at (Bits lines) v = option_map (λ l. l.mark) (slice_get lines.items v)
@@ -54,8 +55,8 @@ CanKeep (Bits lines) v domain = (v < length lines.items) × (domain ≤ 2)
 CanKeep (Quads lines) v domain = (v < length lines.items) × (domain ≤ 4)
 CanKeep (Bytes lines) v domain = (v < length lines.items) × (domain ≤ 256)
 
--- the block is the next one of a variable that has room for it; when it begins a group and wasn't asked
--- for, it is the first of all, so that it takes no values away
+-- The block is the next one of a variable that has room for it. If it begins a group and was not
+-- asked for, it is the first of all, so that it drops no values.
 pub record Awaits (kept : KeptValues) (v domain block : ℕ) (asked : Bool) : Type 0 where
   pub room : CanKeep kept v domain
   pub spares : IsTrue asked ⊎ (block ≡ 0) ⊎ (0 < block % 4)
@@ -69,7 +70,7 @@ AreBelow domain n values = (i : ℕ) → i < n → slice_index values i < domain
 abbrev pub HasPlaces : ℕ → ℕ → Type 0
 HasPlaces mark n = (k i : ℕ) → place_in mark k ≡ Some i → i < n
 
--- the values that a mark says of variable v took the place of what was kept of it
+-- the values that a mark says of variable v replaced what was kept of it
 abbrev pub Replaces : KeptValues → KeptValues → ℕ → ℕ → List ℕ → Type 0
 Replaces old new v mark values = (u k : ℕ) → kept_at new u k
     ≡ (if u == v then kept_in mark (slice_index values) k else kept_at old u k)
@@ -79,13 +80,13 @@ pub record IsBehind (block : ℕ) (old : ℕ → ℕ) (values : List ℕ) (new :
   pub first : (i : ℕ) → i < 8 * (block % 4) → new i ≡ old i
   pub more : (i : ℕ) → i < 8 → new (8 * (block % 4) + i) ≡ slice_index values i
 
--- what is kept of entry k once the values of a block are appended: of the block its value, and of the other
--- blocks of its group what was kept
+-- What is kept of entry k after the values of a block are appended: its value if it is in the
+-- block, and what was kept if it is in another block of the group.
 abbrev pub appended : ℕ → List ℕ → ℕ → Option ℕ → Option ℕ
 appended block values k kept =
     if k / 8 == block then Some (slice_index values (k % 8)) else (if k / 32 == block / 4 then kept else None)
 
--- the values of a block of variable v were appended, and of the other variables the same is kept
+-- the values of a block of variable v were appended, and the other variables keep the same
 abbrev pub Appends : KeptValues → KeptValues → ℕ → ℕ → List ℕ → Type 0
 Appends old new v block values = (u k : ℕ) → kept_at new u k
     ≡ (if u == v then appended block values k (kept_at old u k) else kept_at old u k)

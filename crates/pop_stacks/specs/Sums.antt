@@ -1,4 +1,4 @@
--- Running sums, by how they are kept.
+-- Running sums, by how they are stored.
 use Rattle.std.specs.Prelude.{ℕ, List, [], ◌∷◌, replicate}
 use Rattle.pop_stacks.specs.declared.sums.KeptSums.{KeptSums}
 use Rattle.pop_stacks.specs.declared.sums.KeptSums.TheVariants.{Pairs, Rows}

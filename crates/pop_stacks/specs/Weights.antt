@@ -1,4 +1,4 @@
--- Weights, by how they are kept.
+-- Weights, by how they are stored.
 use Rattle.std.specs.Prelude.{ℕ, List, [], ◌∷◌, replicate}
 use Rattle.pop_stacks.specs.declared.weights.KeptWeights.{KeptWeights}
 use Rattle.pop_stacks.specs.declared.weights.KeptWeights.TheVariants.{Pairs, Rows}

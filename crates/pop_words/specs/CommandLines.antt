@@ -1,4 +1,4 @@
--- The command lines: the lists of words that are in the grammar, and the job that each asks for.
+-- The command lines: the lists of arguments in the grammar, and the job that each specifies.
 use Rattle.std.specs.Prelude.{◌≡◌, ◌≢◌, ℕ, true, List, [], ◌∷◌, ◌++◌, map, flat_map, Contains, IsSome, unwrap_or, ⊤}
 use Rattle.pop_model.specs.Languages.{IsFirstBad}
 use Rattle.pop_words.specs.declared.command.Command.{Command}
@@ -7,32 +7,32 @@ use Rattle.pop_words.specs.declared.fault.WordFault.{WordFault}
 use Rattle.pop_words.specs.declared.fault.WordFault.TheVariants.{Usage, OutOfMemory}
 use Rattle.pop_words.specs.Options.{command_word, NamedOption, options, value_of, default_job}
 
--- an option with the word of its value
+-- an option with the argument that is its value
 abbrev pub Choice : Type 0
 Choice = NamedOption × List ℕ
 
--- the options that were chosen
+-- the options without their values
 abbrev pub options_of : List Choice → List NamedOption
 options_of chosen = map (λ p. p.0) chosen
 
--- their words: the name of each, and then its value
+-- the arguments of these options: the name of each, followed by its value
 abbrev pub words_of : List Choice → List (List ℕ)
 words_of chosen = flat_map (λ p. p.0.name ∷ p.1 ∷ []) chosen
 
--- two options may stand in one command line
+-- two options can be combined in one command line
 pub record AreCompatible (a b : NamedOption) : Type 0 where
   pub different : a.name ≢ b.name
   pub keeps : Contains a.excludes b.name → ⊥
   pub kept_by : Contains b.excludes a.name → ⊥
 
--- it is an option of the table, and may stand behind these
+-- it is an option of the table, and is allowed after these
 pub record MayFollow (command : Command) (before : List NamedOption) (option : NamedOption)
     : Type 0 where
   pub listed : Contains options option
   pub allowed : Contains option.commands command
   pub compatible : (other : NamedOption) → Contains before other → AreCompatible other option
 
--- behind these, each option may stand where it stands, and its word is a value of it
+-- each option is allowed after those before it, and its argument is a value of it
 abbrev pub AreOptions : Command → List NamedOption → List Choice → Type 0
 AreOptions command before [] = ⊤
 AreOptions command before (p ∷ chosen) =
@@ -40,7 +40,7 @@ AreOptions command before (p ∷ chosen) =
     × IsSome (value_of p.0.field p.1)
     × AreOptions command (before ++ p.0 ∷ []) chosen
 
--- no needed option is missing
+-- no required option is missing
 abbrev pub AreComplete : Command → List NamedOption → Type 0
 AreComplete command chosen =
     (option : NamedOption) → Contains options option → Contains option.commands command
@@ -55,7 +55,7 @@ abbrev pub job_from : Job → List Choice → Job
 job_from job [] = job
 job_from job (p ∷ chosen) = job_from (set_option job p) chosen
 
--- the words are a command line, which asks for this job
+-- the arguments are a command line, which specifies this job
 pub record Asks (words : List (List ℕ)) (job : Job) : Type 0 where
   pub command : Command
   pub chosen : List Choice
@@ -64,16 +64,17 @@ pub record Asks (words : List (List ℕ)) (job : Job) : Type 0 where
   pub complete : AreComplete command (options_of chosen)
   pub job_is : job ≡ job_from (default_job command) chosen
 
--- the words are a command line
+-- the arguments are a command line
 abbrev pub AreWords : List (List ℕ) → Type 0
 AreWords words = (job : Job) × Asks words job
 
--- The first bad word, from 1: the least number such that so many first words begin no command line.
--- Where the words end too early, it is their number plus 1.
+-- The first invalid argument, from 1: the smallest n such that no command line begins with the
+-- first n arguments. If arguments are missing at the end, it is their number plus 1.
 abbrev pub IsBadPlace : List (List ℕ) → ℕ → Type 0
 IsBadPlace words place = IsFirstBad AreWords words place
 
--- why words are refused: the place of the first bad word; want of memory may come at any place
+-- why arguments are rejected: the place of the first invalid argument; memory may run out at any
+-- place
 abbrev pub IsWordFault : List (List ℕ) → WordFault → Type 0
 IsWordFault words (Usage place) = IsBadPlace words place
 IsWordFault words OutOfMemory = ⊤

@@ -1,4 +1,4 @@
--- The commands, and the table of options: what a later command or option adds is a row here.
+-- The commands, and the table of options. A new command or option is another row here.
 use Rattle.std.specs.Prelude.{ℕ, ◌-◌, ◌^◌, Bool, true, false, List, [], ◌∷◌, replicate, Option, None, Some, option_map, codes}
 use Rattle.pop_stacks.specs.declared.stack_spec.StackSpec.TheVariants.{Key as KeyedStacks, Given as GivenStacks}
 use Rattle.pop_words.specs.declared.command.Command.{Command}
@@ -11,13 +11,13 @@ use Rattle.pop_words.specs.declared.field.Field.TheVariants.{Stacks, Key, Height
 use Rattle.pop_words.specs.declared.job.Job.{Job}
 use Rattle.pop_words.specs.Values.{number_between, rows_in, key_in, board_in, switch_in, pair_in, no_reports, reports_in}
 
--- what there is to say of a command
+-- the properties of a command
 pub record NamedCommand : Type 0 where
-  -- as it is written
+  -- its name on the command line
   pub word : List ℕ
-  -- what it reads
+  -- the kind of input that it reads
   pub input : Input
-  -- whether it tells its log unasked
+  -- whether it prints its log by default
   pub log : Bool
 
 -- every command
@@ -36,15 +36,15 @@ command_row Rounds = record { word = codes "rounds"; input = OfFormula; log = fa
 command_row Replay = record { word = codes "replay"; input = OfCertificate; log = false }
 command_row Resume = record { word = codes "resume"; input = OfCertificate; log = false }
 
--- the word of a command
+-- the name of a command on the command line
 abbrev pub command_word : Command → List ℕ
 command_word command = (command_row command).word
 
--- what a command reads
+-- the kind of input that a command reads
 abbrev pub input_of : Command → Input
 input_of command = (command_row command).input
 
--- The job of a command with no option: the defaults. The key is 32 bytes of 0.
+-- The job of a command without options: the defaults. The key is 32 bytes 0.
 abbrev pub default_job : Command → Job
 default_job command =
     record {
@@ -63,8 +63,8 @@ default_job command =
       size = 0;
     }
 
--- What a word sets in the job, where it is a value of an option that sets this field; none where it
--- is no value of it.
+-- What an argument sets in the job as the value of an option that sets this field, or None if it
+-- is not a value of it.
 abbrev pub value_of : Field → List ℕ → Option (Job → Job)
 value_of Stacks word =
     option_map (λ rows job. record job { stacks = GivenStacks rows }) (rows_in word)
@@ -87,50 +87,51 @@ value_of ReportKinds word =
     option_map (λ kinds job. record job { reports = kinds }) (reports_in word)
 value_of Size word = option_map (λ n job. record job { size = n }) (number_between 1 2048 word)
 
--- what there is to say of an option
+-- the properties of an option
 pub record NamedOption : Type 0 where
-  -- as it is written
+  -- its name on the command line
   pub name : List ℕ
-  -- the field of the job that its value sets, which is the grammar of the value
+  -- the field of the job that it sets, which determines the grammar of its value
   pub field : Field
   -- the commands that allow it
   pub commands : List Command
-  -- the names of the options that it excludes, and that exclude it
+  -- the names of the options that conflict with it
   pub excludes : List (List ℕ)
-  -- it must stand with each command that allows it
+  -- whether every command that allows it requires it
   pub needed : Bool
 
 -- the commands that sample
 abbrev pub sampling : List Command
 sampling = Formula ∷ Orient ∷ Tree ∷ Resample ∷ Make ∷ Rounds ∷ []
 
--- the commands that pop one event after another: all of these but rounds
+-- the commands that pop one event after another: those that sample, except `rounds`
 abbrev pub popping : List Command
 popping = Formula ∷ Orient ∷ Tree ∷ Resample ∷ Make ∷ []
 
--- the commands whose pops workers may share: these, and the one that goes on with their runs
+-- the commands with pops that several threads may share: those above, and `resume`, which
+-- continues their runs
 abbrev pub shared : List Command
 shared = Formula ∷ Orient ∷ Tree ∷ Resample ∷ Make ∷ Resume ∷ []
 
--- the commands whose run may stop before its end
+-- the commands with runs that may be stopped before their end
 abbrev pub paused : List Command
 paused = Formula ∷ Orient ∷ Tree ∷ Resample ∷ []
 
--- the commands whose answer may be a batch of samples
+-- the commands that may draw a batch of samples
 abbrev pub batched : List Command
 batched = Formula ∷ Orient ∷ Tree ∷ []
 
--- the commands that pop, and tell no log unasked
+-- the commands that pop and do not print a log by default
 abbrev pub quiet : List Command
 quiet = Formula ∷ Orient ∷ Tree ∷ Make ∷ []
 
--- the names of the options that say how one run is made to its end, and what is told of it
+-- the names of the options that say how one run is made to its end, and what is printed of it
 abbrev pub of_one_run : List (List ℕ)
 of_one_run =
     codes "--workers" ∷ codes "--board" ∷ codes "--log" ∷ codes "--witness" ∷ codes "--report"
     ∷ codes "--grow" ∷ []
 
--- an option of these commands that excludes none, and may be left out
+-- an option of these commands that conflicts with none and is not required
 abbrev pub free_option : List ℕ → Field → List Command → NamedOption
 free_option name field commands =
     record { name = name; field = field; commands = commands; excludes = []; needed = false }

@@ -1,5 +1,6 @@
--- The words read once, from left to right, as a function on lists. For every list it gives the job
--- that the words ask for, or the place of their first bad word (proofs/ReadingLemmas.antt).
+-- The reading of arguments, once and from left to right, as a function on lists. For every list it
+-- gives the job that the arguments specify, or the place of the first invalid argument
+-- (proofs/ReadingLemmas.antt).
 use Rattle.std.specs.Prelude.{◌≡◌, ℕ, ◌+◌, Bool, not, ◌&&◌, ◌||◌, List, [], ◌∷◌, ◌++◌, drop, map, Option, None, Some, Result, Ok, Err, ⊤, if◌then◌else◌}
 use Rattle.std.specs.List.{list_all, list_any, find}
 use Rattle.std.specs.Str.{bytes_eq}
@@ -11,11 +12,11 @@ use Rattle.pop_words.specs.declared.fault.WordFault.TheVariants.{Usage, OutOfMem
 use Rattle.pop_words.specs.Values.{only_if}
 use Rattle.pop_words.specs.Options.{commands, command_word, NamedOption, options, value_of, default_job}
 
--- the command of a word
+-- the command with this name
 abbrev pub command_named : List ℕ → Option Command
 command_named word = find (λ command. bytes_eq (command_word command) word) commands
 
--- the option of a word
+-- the option with this name
 abbrev pub option_named : List ℕ → Option NamedOption
 option_named word = find (λ option. bytes_eq option.name word) options
 
@@ -30,11 +31,11 @@ seen row =
       needed = row.needed;
     }
 
--- whether two options have one name
+-- whether two options have the same name
 abbrev pub same_name : NamedOption → NamedOption → Bool
 same_name a b = bytes_eq a.name b.name
 
--- whether two commands have one word
+-- whether two commands have the same name
 abbrev pub same_word : Command → Command → Bool
 same_word a b = bytes_eq (command_word a) (command_word b)
 
@@ -42,38 +43,38 @@ same_word a b = bytes_eq (command_word a) (command_word b)
 abbrev pub allows : NamedOption → Command → Bool
 allows option command = list_any (same_word command) option.commands
 
--- whether an option excludes a name
+-- whether an option conflicts with a name
 abbrev pub excludes : NamedOption → List ℕ → Bool
 excludes option name = list_any (bytes_eq name) option.excludes
 
--- whether two options may stand in one command line
+-- whether two options can be combined in one command line
 abbrev pub compatible : NamedOption → NamedOption → Bool
 compatible a b = not (same_name a b) && not (excludes a b.name) && not (excludes b a.name)
 
--- whether the option may stand behind these
+-- whether the option is allowed after these
 abbrev pub may_follow : Command → List NamedOption → NamedOption → Bool
 may_follow command before option =
     allows option command && list_all (λ other. compatible other option) before
 
--- whether an option stands where it is needed
+-- whether an option is given, if it is required
 abbrev pub stands_if_needed : Command → List NamedOption → NamedOption → Bool
 stands_if_needed command chosen option =
     not (allows option command && option.needed) || list_any (same_name option) chosen
 
--- whether no needed option is missing
+-- whether no required option is missing
 abbrev pub is_complete : Command → List NamedOption → Bool
 is_complete command chosen = list_all (stands_if_needed command chosen) options
 
--- the option that may stand next under a name
+-- the option with this name, if it is allowed after these
 abbrev pub option_next : Command → List NamedOption → List ℕ → Option NamedOption
 option_next command before name = only_if (may_follow command before) (option_named name)
 
--- what is read on with what was found; where nothing was found, the place is bad
+-- reads on with what was found; if nothing was found, the place is invalid
 abbrev pub read_on : {X : Type 0} → ℕ → Option X → (X → Result Job ℕ) → Result Job ℕ
 read_on place None next = Err place
 read_on place (Some x) next = next x
 
--- what is read behind so many words, with these options and this job so far
+-- what is read after this many arguments, with these options and this job so far
 abbrev pub read_from : Command → List NamedOption → Job → ℕ → List (List ℕ) → Result Job ℕ
 read_from command before job place [] =
     if is_complete command before then Ok job else Err (place + 1)
@@ -84,22 +85,22 @@ read_from command before job place (name ∷ word ∷ rest) =
     (λ option. read_on (place + 2) (value_of option.field word)
     (λ set. read_from command (before ++ option ∷ []) (set job) (place + 2) rest))
 
--- what is read behind the command word
+-- what is read after the command
 abbrev pub behind : Command → List (List ℕ) → Result Job ℕ
 behind command words = read_from command [] (default_job command) 1 (drop 1 words)
 
--- the job that the words ask for, or the place of the first bad word
+-- the job that the arguments specify, or the place of the first invalid argument
 abbrev pub reading : List (List ℕ) → Result Job ℕ
 reading [] = Err 1
 reading (word ∷ rest) =
     read_on 1 (command_named word) (λ command. read_from command [] (default_job command) 1 rest)
 
--- the fault is what is to be found, or want of memory
+-- the fault is the expected one, or memory ran out
 abbrev pub IsFault : Result Job ℕ → WordFault → Type 0
 IsFault wanted (Usage place) = wanted ≡ Err place
 IsFault wanted OutOfMemory = ⊤
 
--- the result is what is to be read, or want of memory
+-- the result is the expected one, or memory ran out
 abbrev pub IsRead : Result Job ℕ → Result Job WordFault → Type 0
 IsRead wanted (Ok job) = wanted ≡ Ok job
 IsRead wanted (Err fault) = IsFault wanted fault

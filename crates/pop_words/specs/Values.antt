@@ -1,4 +1,4 @@
--- How the value of an option is read from its word.
+-- How the value of an option is read from an argument.
 use Rattle.std.specs.Prelude.{ℕ, ◌^◌, Bool, true, false, not, ◌&&◌, ◌==◌, nat_le, if◌then◌else◌, List, [], ◌∷◌, length, sum_by, Option, None, Some, option_map, option_and_then, codes}
 use Rattle.std.specs.List.{find, list_all, list_any, slice_split}
 use Rattle.std.specs.Str.{bytes_eq}
@@ -9,18 +9,18 @@ use Rattle.pop_words.specs.declared.board_kind.BoardKind.{BoardKind}
 use Rattle.pop_words.specs.declared.board_kind.BoardKind.TheVariants.{Lock, Words}
 use Rattle.pop_words.specs.declared.reports.Reports.{Reports}
 
--- a value in front of the values that are read behind it
+-- a value before the values that are read after it
 abbrev pub cons_some : {Y : Type 0} → Option Y → Option (List Y) → Option (List Y)
 cons_some None ys = None
 cons_some (Some y) None = None
 cons_some (Some y) (Some ys) = Some (y ∷ ys)
 
--- what is read of all parts, where each of them can be read
+-- the values of all parts, if each of them can be read
 abbrev pub all_some : {X Y : Type 0} → (X → Option Y) → List X → Option (List Y)
 all_some f [] = Some []
 all_some f (x ∷ xs) = cons_some (f x) (all_some f xs)
 
--- what was read, where it passes a test
+-- the value that was read, if it passes a test
 abbrev pub only_if : {X : Type 0} → (X → Bool) → Option X → Option X
 only_if test read = option_and_then (λ x. if test x then Some x else None) read
 
@@ -32,23 +32,23 @@ number_between low high word = only_if (λ n. nat_le low n && nat_le n high) (nu
 abbrev pub key_in : List ℕ → Option (List ℕ)
 key_in word = result_ok (decode_sized word 32)
 
--- the value that a word names, of values with their names
+-- the value with this name, from a list of names and values
 abbrev pub named_in : {X : Type 0} → List (List ℕ × X) → List ℕ → Option X
 named_in names word = option_map (λ p. p.1) (find (λ p. bytes_eq word p.0) names)
 
--- a board by its name
+-- the board with this name
 abbrev pub board_in : List ℕ → Option BoardKind
 board_in word = named_in ((codes "lock", Lock) ∷ (codes "words", Words) ∷ []) word
 
--- whether something is on, by the word `on` or `off`
+-- whether something is on: `on` or `off`
 abbrev pub switch_in : List ℕ → Option Bool
 switch_in word = named_in ((codes "on", true) ∷ (codes "off", false) ∷ []) word
 
--- the parts of a word between its commas
+-- the parts of an argument between its commas
 abbrev pub comma_parts : List ℕ → List (List ℕ)
 comma_parts word = slice_split (λ b. b == 44) word
 
--- the parts of a word between its semicolons
+-- the parts of an argument between its semicolons
 abbrev pub semicolon_parts : List ℕ → List (List ℕ)
 semicolon_parts word = slice_split (λ b. b == 59) word
 
@@ -57,7 +57,7 @@ abbrev pub row_in : List ℕ → Option (List ℕ)
 row_in [] = Some []
 row_in (b ∷ bs) = all_some number_of (comma_parts (b ∷ bs))
 
--- a row has at most so many numbers
+-- a row has at most this many numbers
 abbrev pub fits_in : ℕ → List ℕ → Bool
 fits_in room row = nat_le (length row) room
 
@@ -65,12 +65,12 @@ fits_in room row = nat_le (length row) room
 abbrev pub are_within : List (List ℕ) → Bool
 are_within rows = nat_le (length rows) (2 ^ 22) && nat_le (sum_by length rows) (2 ^ 20)
 
--- an empty word has no row; in every other word rows are joined by `;`
+-- an empty argument has no row; in every other argument rows are joined by `;`
 abbrev pub rows_in : List ℕ → Option (List (List ℕ))
 rows_in [] = Some []
 rows_in (b ∷ bs) = only_if are_within (all_some row_in (semicolon_parts (b ∷ bs)))
 
--- just two numbers
+-- exactly two numbers
 abbrev pub pair_of : List ℕ → Option (ℕ × ℕ)
 pair_of (a ∷ b ∷ []) = Some (a, b)
 pair_of numbers = None
@@ -99,7 +99,7 @@ layers_name = codes "layers"
 abbrev pub is_report : List ℕ → Bool
 is_report part = list_any (bytes_eq part) (totals_name ∷ heights_name ∷ layers_name ∷ [])
 
--- no part stands twice
+-- no part occurs twice
 abbrev pub are_different : List (List ℕ) → Bool
 are_different [] = true
 are_different (part ∷ parts) = not (list_any (bytes_eq part) parts) && are_different parts
@@ -108,7 +108,7 @@ are_different (part ∷ parts) = not (list_any (bytes_eq part) parts) && are_dif
 abbrev pub are_reports : List (List ℕ) → Bool
 are_reports parts = list_all is_report parts && are_different parts
 
--- the reports whose names stand among the parts
+-- the reports with names among the parts
 abbrev pub reports_among : List (List ℕ) → Reports
 reports_among parts =
     record {

@@ -1,4 +1,4 @@
--- The search for the resampling set at its end.
+-- The search for the resampling set after its last step.
 use Rattle.std.specs.Prelude.{◌≡◌, ◌↔◌, ◌≢◌, ℕ, ◌<◌, true, List, length, Contains}
 use Rattle.pop_model.specs.Stacks.{StackTable}
 use Rattle.pop_model.specs.Popping.{Cube, Occurs}
@@ -10,7 +10,7 @@ use Rattle.prs_rounds.specs.Growth.{mark_of, is_covered, Meets}
 use Rattle.prs_rounds.specs.declared.mark.Mark.TheVariants.{Free, Joined}
 use Rattle.prs_rounds.specs.declared.growth.Growth.{Growth}
 
--- the values are the current ones, and the places those of the events that occur
+-- the values are the current ones, and the places are those of the events that occur
 pub record StartsAt (s : StackTable) (rows : List (ℕ × Cube)) (c values places : List ℕ)
     : Type 0 where
   pub values_are : AreValues s c values

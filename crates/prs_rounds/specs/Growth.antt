@@ -1,4 +1,4 @@
--- How far the search for the resampling set has come.
+-- The state of the search for the resampling set.
 use Rattle.std.specs.Prelude.{◌≡◌, ◌≢◌, ◌⊎◌, ◌↔◌, ℕ, ◌+◌, ◌<◌, ◌≤◌, Bool, true, false, not, List, [], length, ◌∷◌, ◌++◌, slice_index, slice_index_or, slice_set, count_by, All, AllPairs, Contains}
 use Rattle.pop_model.specs.Popping.{Cube, names}
 use Rattle.pop_instance.specs.Events.{cube_at}
@@ -20,18 +20,18 @@ is_joined Excluded = false
 abbrev pub is_covered : Growth → ℕ → Bool
 is_covered g v = slice_index_or g.covered.items v false
 
--- how many variables aren't covered
+-- the number of variables that are not covered
 abbrev pub uncovered : Growth → ℕ
 uncovered g = count_by not g.covered.items
 
--- the fresh events, once an event got a mark
+-- the fresh events after an event got a mark
 abbrev pub fresh_after : Mark → ℕ → List ℕ → List ℕ
 fresh_after Free u fresh = fresh
 fresh_after Joined u fresh = fresh ++ u ∷ []
 fresh_after Excluded u fresh = fresh
 
--- there is a mark for each of n events and a flag for each of so many variables; what is marked and
--- covered is listed, and the fresh events have joined
+-- There is a mark for each of n events and a flag for each variable. The marked events and the
+-- covered variables are listed, and the fresh events have joined.
 pub record AreListed (n count : ℕ) (g : Growth) : Type 0 where
   pub marks : length g.marks.items ≡ n
   pub covered : length g.covered.items ≡ count
@@ -53,7 +53,7 @@ abbrev pub MeetsOther : List ℕ → Growth → Cube → Type 0
 MeetsOther values g e = (p : ℕ × ℕ) × Contains e p × (is_covered g p.0 ≡ true)
     × (slice_index values p.0 ≢ p.1)
 
--- an event gets a mark, and joins the fresh ones or doesn't; all else stays
+-- an event gets a mark, and joins the fresh ones or not; everything else stays
 pub record IsMarked (u : ℕ) (m : Mark) (old new : Growth) : Type 0 where
   pub marks : new.marks.items ≡ slice_set old.marks.items u m
   pub looked : new.looked.items ≡ old.looked.items ++ u ∷ []
@@ -61,7 +61,7 @@ pub record IsMarked (u : ℕ) (m : Mark) (old new : Growth) : Type 0 where
   pub covered : new.covered ≡ old.covered
   pub variables : new.variables ≡ old.variables
 
--- a variable is covered too, and all else stays
+-- another variable is covered, and everything else stays
 pub record IsCoveredToo (v : ℕ) (old new : Growth) : Type 0 where
   pub covered : new.covered.items ≡ slice_set old.covered.items v true
   pub variables : new.variables.items ≡ old.variables.items ++ v ∷ []
@@ -69,19 +69,19 @@ pub record IsCoveredToo (v : ℕ) (old new : Growth) : Type 0 where
   pub looked : new.looked ≡ old.looked
   pub fresh : new.fresh ≡ old.fresh
 
--- the variable is covered, as it was or by now
+-- the variable is covered, as before or newly
 abbrev pub CoversOne : ℕ → Growth → Growth → Type 0
 CoversOne v old new = ((is_covered old v ≡ true) × (new ≡ old))
     ⊎ ((is_covered old v ≡ false) × IsCoveredToo v old new)
 
--- the mark that an event gets that is looked at
+-- the mark of an event that is judged
 abbrev pub IsVerdict : List ℕ → Growth → Cube → Mark → Type 0
 IsVerdict values g e Free = ⊥
 IsVerdict values g e Joined = Meets g e × (MeetsOther values g e → ⊥)
 IsVerdict values g e Excluded = Meets g e × MeetsOther values g e
 
--- Some events that were free are judged, by the variables that are covered; those that join are
--- fresh. All else stays.
+-- Some events that were free are judged, by the covered variables; those that join are fresh.
+-- Everything else stays.
 pub record Judges (rows : List (ℕ × Cube)) (values : List ℕ) (old new : Growth) : Type 0 where
   pub covered : new.covered ≡ old.covered
   pub variables : new.variables ≡ old.variables
@@ -95,7 +95,7 @@ pub record Judges (rows : List (ℕ × Cube)) (values : List ℕ) (old new : Gro
 abbrev pub AreJudged : Growth → List ℕ → Type 0
 AreJudged g places = All (λ u. mark_of g u ≢ Free) places
 
--- the variables that are such are covered too; marks stay
+-- the variables with this property are covered, too; marks stay
 pub record CoversMore (Is : ℕ → Type 0) (old new : Growth) : Type 0 where
   pub marks : new.marks ≡ old.marks
   pub looked : new.looked ≡ old.looked
@@ -118,8 +118,8 @@ pub record AreJoined (places : List ℕ) (g : Growth) : Type 0 where
   pub only : (u : ℕ) → mark_of g u ≢ Free → Contains places u
   pub fresh : (u : ℕ) → mark_of g u ≢ Free → Contains g.fresh.items u
 
--- the events of these places have joined, no other event is marked, and just their variables are
--- covered
+-- the events of these places have joined, no other event is marked, and exactly their variables
+-- are covered
 pub record Begins (rows : List (ℕ × Cube)) (places : List ℕ) (g : Growth) : Type 0 where
   pub joined : All (λ u. mark_of g u ≡ Joined) places
   pub only : (u : ℕ) → mark_of g u ≢ Free → Contains places u

@@ -1,4 +1,4 @@
--- The laws of resampling sets and of rounds.
+-- Theorems about resampling sets and rounds.
 use Rattle.std.specs.Prelude.{◌≡◌, ◌≢◌, ◌⊎◌, ◌↔◌, ℕ, ◌+◌, List, [], Option, None}
 use Rattle.pop_model.specs.Stacks.{StackTable}
 use Rattle.pop_model.specs.Popping.{Cube, Occurs}
@@ -10,9 +10,9 @@ use Rattle.pop_model.specs.Runs.{IsFirstEnd, start_of}
 use Rattle.prs_rounds.specs.Resampling.{OccursIn, Touches, Differs, IsResampled, IsExcluded}
 use Rattle.prs_rounds.specs.Rounds.{IsRoundsEnd, IsRoundsStop, Rounds}
 
--- what the resampling set is, whatever the steps were: it has the events that occur; what shares a
--- variable with an event of it is in it or excluded; and what is excluded isn't in it, and demands
--- of a variable of the set another value than the current one
+-- The resampling set, without its steps. It has the events that occur. An event that shares a
+-- variable with one of it is in it or excluded. An excluded event is not in it, and demands
+-- another value than the current one of a variable of the set.
 pub record IsClosed (i : Instance) (c : List ℕ) : Type 0 where
   pub occurring : (e : Event) → OccursIn i c e → IsResampled i c e
   pub events : (e : Event) → IsResampled i c e → IsEvent i.family e
@@ -28,7 +28,7 @@ abbrev pub ResampledClosed : Type 0
 ResampledClosed = (s : StackTable) (rows : List (ℕ × Cube)) (c : List ℕ)
     → IsClosed (record { stacks = s; family = Listed rows }) c
 
--- two results of runs by rounds are the same
+-- two results of runs by rounds are equal
 pub record SameRoundsEnd (c d : List ℕ) (n m : ℕ) (s t : List Event) (a b : Option ℕ)
     : Type 0 where
   pub cursors : c ≡ d
@@ -36,18 +36,18 @@ pub record SameRoundsEnd (c d : List ℕ) (n m : ℕ) (s t : List Event) (a b : 
   pub stuck : s ≡ t
   pub short : a ≡ b
 
--- the run by rounds has one result
+-- a run by rounds has at most one result
 abbrev pub OneRoundsEnd : Type 0
 OneRoundsEnd = (i : Instance) (c d : List ℕ) (n m : ℕ) (s t : List Event) (a b : Option ℕ)
     → IsRoundsEnd i c n s a → IsRoundsEnd i d m t b → SameRoundsEnd c d n m s t a b
 
--- on an extremal instance the resampling set has just the events that occur
+-- on an extremal instance the resampling set is the set of events that occur
 abbrev pub ResampledOccur : Type 0
 ResampledOccur = (i : Instance) → IsExtremal i.family → (c : List ℕ) (e : Event)
     → IsResampled i c e ↔ OccursIn i c e
 
--- the result of rounds beside the end of the one-thread run: both are exhausted or none, and where
--- both finish, their cursors are equal
+-- The result of rounds and the end of the one-thread run. Either both are exhausted or none is; if
+-- both finish, their cursors are equal.
 pub record EndsLikeFirst (cursors firsts : List ℕ) (short : Option ℕ) (stuck : List Event)
     : Type 0 where
   pub exhausted : (short ≢ None) ↔ (stuck ≢ [])
@@ -62,14 +62,15 @@ RoundsEndLikeFirst = (s : StackTable) (rows : List (ℕ × Cube)) → IsExtremal
     → IsFirstEnd (record { stacks = s; family = Listed rows }) firsts pops stuck
     → EndsLikeFirst c firsts short stuck
 
--- a run by rounds that goes on from where rounds have led has the end of the whole run, once no event occurs or a
--- variable is short; its rounds are those before and those since
+-- A run by rounds that continues from cursors that rounds have reached has the end of the whole
+-- run, if no event occurs there or a variable is short. Its rounds are those before and those
+-- after.
 abbrev pub GoesOn : Type 0
 GoesOn = (i : Instance) (between c : List ℕ) (n limit rounds : ℕ) (stuck : List Event) (short : Option ℕ)
     → Rounds i n (start_of i) between → IsRoundsStop i between limit c rounds stuck short
     → (short ≢ None) ⊎ (stuck ≡ []) → IsRoundsEnd i c (n + rounds) stuck short
 
--- a run that stopped leads on by rounds from the beginning
+-- rounds from the beginning lead to the cursors at which a run stopped
 abbrev pub StopsOnTheWay : Type 0
 StopsOnTheWay = (i : Instance) (between c : List ℕ) (n limit rounds : ℕ) (stuck : List Event) (short : Option ℕ)
     → Rounds i n (start_of i) between → IsRoundsStop i between limit c rounds stuck short

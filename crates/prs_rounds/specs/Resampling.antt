@@ -1,5 +1,5 @@
--- The resampling set of partial rejection sampling (Guo, Jerrum and Liu 2019), grown by synchronous
--- steps (this project's reading). That it is closed is a law, in `Laws`.
+-- The resampling set of partial rejection sampling (Guo, Jerrum and Liu 2019), grown by
+-- synchronous steps (this project's reading). A theorem in `Laws` says that it is closed.
 use Rattle.std.specs.Prelude.{◌≡◌, ◌≢◌, ◌⊎◌, ℕ, zero, suc, true, List, Contains}
 use Rattle.pop_model.specs.Stacks.{StackTable, value_at}
 use Rattle.pop_model.specs.Popping.{Occurs, cursor, names}
@@ -12,16 +12,17 @@ pub record OccursIn (i : Instance) (c : List ℕ) (e : Event) : Type 0 where
   pub event : IsEvent i.family e
   pub occurs : Occurs i.stacks c e.cube
 
--- what becomes of an event: it is in the set, or excluded from it
+-- the fate of an event: it is in the set, or excluded from it
 pub data Fate : Type 0 where
   Joined : Fate
   Excluded : Fate
 
--- it shares a variable with an event of the set
+-- the event shares a variable with an event of the set
 abbrev pub Touches : (Event → Type 0) → Event → Type 0
 Touches set e = (f : Event) × set f × Share e.cube f.cube
 
--- a variable that it shares with an event of the set has another value than it demands
+-- a variable that the event shares with an event of the set has another value than the event
+-- demands
 abbrev pub Differs : StackTable → List ℕ → (Event → Type 0) → Event → Type 0
 Differs s c set e = (f : Event) × set f × (v x : ℕ) × Contains e.cube (v, x)
     × (names f.cube v ≡ true) × (value_at s v (cursor c v) ≢ x)
@@ -32,8 +33,8 @@ pub record IsLookedAt (i : Instance) (has : Fate → Event → Type 0) (e : Even
   pub free : (fate : Fate) → has fate e → ⊥
   pub touches : Touches (has Joined) e
 
--- what has become of an event after so many steps: at first the set has the events that occur, and
--- in each step all that are looked at join it, but for those that differ, which are excluded
+-- The fate of an event after this many steps. At first the set has the events that occur. In each
+-- step all events that are judged join it, except those that differ, which are excluded.
 abbrev pub HasFate : Instance → List ℕ → ℕ → Fate → Event → Type 0
 HasFate i c zero Joined e = OccursIn i c e
 HasFate i c zero Excluded e = ⊥
@@ -42,7 +43,7 @@ HasFate i c (suc n) Joined e = HasFate i c n Joined e
 HasFate i c (suc n) Excluded e = HasFate i c n Excluded e
     ⊎ (IsLookedAt i (HasFate i c n) e × Differs i.stacks c (HasFate i c n Joined) e)
 
--- an event of the resampling set: it joins it in some step
+-- an event of the resampling set: it joins in some step
 abbrev pub IsResampled : Instance → List ℕ → Event → Type 0
 IsResampled i c e = (n : ℕ) × HasFate i c n Joined e
 

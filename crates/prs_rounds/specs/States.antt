@@ -1,4 +1,4 @@
--- Where a run by rounds stands between two rounds.
+-- The state of a run by rounds between two rounds.
 use Rattle.std.specs.Prelude.{◌≡◌, ℕ, List, length, Option, MatchOption}
 use Rattle.pop_model.specs.Stacks.{StackTable, variables_of}
 use Rattle.pop_model.specs.Popping.{Cube, AreWithin}
@@ -17,7 +17,7 @@ pub record IsAt (s : StackTable) (rows : List (ℕ × Cube)) (state : State) : T
   pub starts : StartsAt s rows state.cursors state.values.items state.found.items
   pub blank : IsBlank (length rows) (variables_of s) state.growth
 
--- a round was made, or this is the least variable that lacks an entry
+-- a round was made, or this is the lowest variable that has no next entry
 abbrev pub Turns : StackTable → List (ℕ × Cube) → State → State → Option ℕ → Type 0
 Turns s rows old new short = MatchOption short
     (IsRound (record { stacks = s; family = Listed rows }) old.cursors new.cursors

@@ -10,12 +10,12 @@ abbrev pub IsListed : Family → Type 0
 IsListed (Listed rows) = ⊤
 IsListed (Cycles heads) = ⊥
 
--- the rising units of the events that are such
+-- the units of the events with this property, rising
 pub record AreUnitsOf (Is : Event → Type 0) (units : List ℕ) : Type 0 where
   pub rising : IsStrictlyIncreasing units
   pub exact : (u : ℕ) → Contains units u ↔ ((e : Event) × (e.unit ≡ u) × Is e)
 
--- the family lists its events, and the index is one of them
+-- the family lists its events, and this is an index of them
 abbrev pub IsIndexOf : Family → List (List ℕ) → Type 0
 IsIndexOf (Listed rows) index = IsIndex rows index
 IsIndexOf (Cycles heads) index = ⊥

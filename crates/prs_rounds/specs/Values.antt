@@ -1,4 +1,4 @@
--- The current value of each variable, and what it shows of cubes.
+-- The current value of each variable, and which cubes occur with these values.
 use Rattle.std.specs.Prelude.{◌≡◌, ◌==◌, ℕ, ◌+◌, ◌<◌, Bool, List, [], length, filter, slice_index}
 use Rattle.std.specs.List.{list_all, range_with_len}
 use Rattle.pop_model.specs.Stacks.{StackTable}
@@ -26,15 +26,15 @@ pub record AreAllRead (s : StackTable) (c variables values : List ℕ) : Type 0 
 abbrev pub shows : List ℕ → Cube → Bool
 shows values e = list_all (λ p. slice_index values p.0 == p.1) e
 
--- of these places, in their order, those whose events the values show
+-- the places, among these and in their order, of the events that occur with these values
 abbrev pub shown_among : List ℕ → List (ℕ × Cube) → List ℕ → List ℕ
 shown_among values rows places = filter (λ u. shows values (cube_at rows u)) places
 
--- the places of all events that the values show, rising
+-- the places of all events that occur with these values, rising
 abbrev pub shown_places : List ℕ → List (ℕ × Cube) → List ℕ
 shown_places values rows = shown_among values rows (range_with_len 0 (length rows))
 
--- the units of the listed events that the values show, rising
+-- the units of the listed events that occur with these values, rising
 abbrev pub shown_units : List ℕ → Family → List ℕ
 shown_units values (Listed rows) = shown_places values rows
 shown_units values (Cycles heads) = []

@@ -1,4 +1,4 @@
--- The law of the events of sinks.
+-- The theorem about the events of sinks.
 use Rattle.std.specs.Prelude.{ℕ, List}
 use Rattle.pop_model.specs.Popping.{Cube}
 use Rattle.pop_model.specs.Families.Family.{Listed}
