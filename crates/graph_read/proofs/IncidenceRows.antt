@@ -2,7 +2,7 @@
 -- Each edge that isn't a loop puts one into each of the rows of its two ends, which differ; a loop puts nothing. So
 -- what comes into a row is what the edges that stand at its vertex put there. What comes into rows is counted and pushed
 -- as in pop_rows; here it is brought from edge to edge.
-use Rattle.std.proofs.Common.{◌≡◌, inl, inr, ℕ, suc, ◌+◌, ◌-◌, ◌*◌, ◌^◌, ◌<◌, ◌≤◌, Bool, true, false, cond, not, ◌&&◌, ◌||◌, nat_eq, List, [], ◌∷◌, ◌++◌, length, map, flat_map, filter, take, drop, get_or, set, replicate, refl, sym, ap, ap₂, ◌∙◌, subst, arith, append_assoc, append-nil, length-append, length-take, take-append-drop}
+use Rattle.std.proofs.Common.{◌≡◌, inl, inr, ℕ, suc, ◌+◌, ◌-◌, ◌*◌, ◌^◌, ◌<◌, ◌≤◌, Bool, true, false, cond, not, ◌&&◌, ◌||◌, nat_eq, List, [], ◌∷◌, ◌++◌, length, map, flat_map, filter, take, drop, get_or, set, refl, sym, ap, ap₂, ◌∙◌, subst, arith, append_assoc, append-nil, length-append, length-take, take-append-drop}
 use Rattle.std.specs.Prelude.{All}
 use Rattle.std.specs.List.{enumerate_from}
 use Rattle.std.proofs.lemmas.List.{take_more, take_all, length-take-le, length-map, ext_get_or}
@@ -11,11 +11,10 @@ use Rattle.std.proofs.lemmas.List.Elements.{All-head, All-tail}
 use Rattle.std.proofs.lemmas.List.FromFn.{get_or-map-range_with_len, length-map-range_with_len}
 use Rattle.std.proofs.lemmas.Bool.{cases_eq, eq-eqb, ne_eqb, eqb-true, eqb-false, and_right}
 use Rattle.pop_edge.proofs.JudgedLines.{enumerate-append}
-use Rattle.pop_rows.specs.FlatRows.{RoomyRows, HasRoom, push_at}
-use Rattle.pop_rows.proofs.Puts.{CountPuts, HoldPuts, put_into, put_into-append, counts_more, count_fits, holds_none, holds_more, has_room_for_next}
+use Rattle.pop_rows.proofs.Puts.{CountPuts, put_into, put_into-append, counts_more, count_fits}
 use Rattle.graph_read.specs.declared.edge.Edge.{Edge}
 use Rattle.graph_read.specs.Graphs.{GraphOf, IsVertex, IsEdge, edge_at}
-use Rattle.graph_read.specs.Incidence.{is_loop, touches, edges_at, degrees_of, Putting, put_number, row_by, rows_by}
+use Rattle.graph_read.specs.Incidence.{is_loop, touches, edges_at, degrees_of, Putting, put_number, row_by}
 use Rattle.graph_read.proofs.IncidenceLemmas.{stands_at, at_from}
 
 -- numbers that are put into rows: of each the row, and the number
@@ -65,11 +64,11 @@ ends_more put g i e at =
     ∙ ap (λ ps. first_ends put g i ++ ps) (append-nil (ends_at put (i, e)))
 
 -- what comes behind the edge
-abbrev rest_ends : Putting → GraphOf → ℕ → Puts
+abbrev pub rest_ends : Putting → GraphOf → ℕ → Puts
 rest_ends put g i = ends_from put (0 + length (take (i + 1) g.edges)) (drop (i + 1) g.edges)
 
 -- all, cut at the edge
-all_ends : (put : Putting) (g : GraphOf) (i : ℕ) (e : Edge) → IsEdgeAt g i e
+pub all_ends : (put : Putting) (g : GraphOf) (i : ℕ) (e : Edge) → IsEdgeAt g i e
     → ends_from put 0 g.edges ≡ (first_ends put g i ++ ends_at put (i, e)) ++ rest_ends put g i
 all_ends put g i e at =
     ap (ends_from put 0) (sym (take-append-drop (i + 1) g.edges))
@@ -84,7 +83,7 @@ abbrev pub put_second : Putting → ℕ → Edge → ℕ × ℕ
 put_second put i e = (e.v - 1, put i e e.v)
 
 -- what an edge puts that isn't a loop
-plain_ends : (put : Putting) (i : ℕ) (e : Edge) → is_loop e ≡ false
+pub plain_ends : (put : Putting) (i : ℕ) (e : Edge) → is_loop e ≡ false
     → ends_at put (i, e) ≡ put_first put i e ∷ put_second put i e ∷ []
 plain_ends put i e apart = ap (λ b. cond b [] (put_first put i e ∷ put_second put i e ∷ [])) apart
 
@@ -183,7 +182,7 @@ row_stands put g k all =
     (λ n less. ap (λ i. get_or g.edges i d) (let same : 0 + n ≡ n = omega arith in same))
 
 -- and as many as stand there
-length-row_stands : (put : Putting) (g : GraphOf) (k : ℕ) → All (IsEdge g.vertices) g.edges
+pub length-row_stands : (put : Putting) (g : GraphOf) (k : ℕ) → All (IsEdge g.vertices) g.edges
     → length (put_into k (ends_from put 0 g.edges)) ≡ length (edges_at g (k + 1))
 length-row_stands put g k all =
     ap length (row_stands put g k all)
@@ -279,109 +278,3 @@ counts_all g i ds edges all counts =
     counts.each k here ∙ ap (λ es. length (put_into k (ends_from put_number 0 es))) (take_all i g.edges all)
     ∙ length-row_stands put_number g k edges
     ∙ sym (get_or-map-range_with_len (λ w. length (edges_at g w)) 1 g.vertices k (k + 1) 0 here (omega arith)))
-
--- ---- pushing
-
--- the rooms are as large as all edges need
-pub rooms_count : (put : Putting) (g : GraphOf) (rooms : List ℕ) → All (IsEdge g.vertices) g.edges → rooms ≡ degrees_of g
-    → CountPuts g.vertices (ends_from put 0 g.edges) rooms
-rooms_count put g rooms edges is =
-    record {
-      size = ap length is ∙ length-map-range_with_len (λ w. length (edges_at g w)) 1 g.vertices;
-      each = λ k here.
-          ap (λ rs. get_or rs k 0) is
-          ∙ get_or-map-range_with_len (λ w. length (edges_at g w)) 1 g.vertices k (k + 1) 0 here (omega arith)
-          ∙ sym (length-row_stands put g k edges);
-    }
-
--- what holds of rows once the first i edges were pushed
-pub record HoldsEdges (put : Putting) (g : GraphOf) (i : ℕ) (f : RoomyRows) : Type 0 where
-  pub rooms : CountPuts g.vertices (ends_from put 0 g.edges) f.rooms
-  pub rows : HoldPuts g.vertices (first_ends put g i) f.rows
-
--- before the first edge the rows are empty
-pub holds_no_edge : (put : Putting) (g : GraphOf) (f : RoomyRows) (degrees : List ℕ) → All (IsEdge g.vertices) g.edges
-    → degrees ≡ degrees_of g → f.rooms ≡ degrees → f.rows ≡ replicate (length degrees) [] → HoldsEdges put g 0 f
-holds_no_edge put g f degrees edges is rooms rows =
-    let counts = rooms_count put g f.rooms edges (rooms ∙ is) in
-    let size : length degrees ≡ g.vertices = ap length (sym rooms) ∙ counts.size in
-    let none : List ℕ = [] in
-    record {
-      rooms = counts;
-      rows = subst (HoldPuts g.vertices []) (sym (rows ∙ ap (λ n. replicate n none) size)) (holds_none g.vertices);
-    }
-
--- there is room for an edge at its first end
-pub room_from : (put : Putting) (g : GraphOf) (i : ℕ) (e : Edge) (f : RoomyRows) → IsEdgeAt g i e → is_loop e ≡ false
-    → HoldsEdges put g i f → HasRoom f (e.u - 1)
-room_from put g i e f at apart h =
-    has_room_for_next g.vertices (e.u - 1) (put i e e.u) (first_ends put g i)
-    (put_second put i e ∷ rest_ends put g i) f
-    (row_there g.vertices e.u at.edge.from)
-    (subst (λ ps. CountPuts g.vertices ps f.rooms)
-    (all_ends put g i e at ∙ ap (λ ps. (first_ends put g i ++ ps) ++ rest_ends put g i) (plain_ends put i e apart)
-    ∙ append_assoc (first_ends put g i) (put_first put i e ∷ put_second put i e ∷ []) (rest_ends put g i)) h.rooms)
-    h.rows
-
--- what holds between the two pushes
-pub record HoldsHalf (put : Putting) (g : GraphOf) (i : ℕ) (e : Edge) (f : RoomyRows) : Type 0 where
-  pub rooms : CountPuts g.vertices (ends_from put 0 g.edges) f.rooms
-  pub rows : HoldPuts g.vertices (first_ends put g i ++ put_first put i e ∷ []) f.rows
-
--- behind the first push the rows hold half of the edge
-pub holds_from : (put : Putting) (g : GraphOf) (i : ℕ) (e : Edge) (f f' : RoomyRows) → IsEdgeAt g i e → HoldsEdges put g i f
-    → f'.rows ≡ push_at f.rows (e.u - 1) (put i e e.u) → f'.rooms ≡ f.rooms → HoldsHalf put g i e f'
-holds_from put g i e f f' at h rows rooms =
-    record {
-      rooms = subst (CountPuts g.vertices (ends_from put 0 g.edges)) (sym rooms) h.rooms;
-      rows = subst (HoldPuts g.vertices (first_ends put g i ++ put_first put i e ∷ [])) (sym rows)
-          (holds_more g.vertices (e.u - 1) (put i e e.u) (first_ends put g i) f.rows
-          (row_there g.vertices e.u at.edge.from) h.rows);
-    }
-
--- there is room for it at its second end
-pub room_to : (put : Putting) (g : GraphOf) (i : ℕ) (e : Edge) (f : RoomyRows) → IsEdgeAt g i e → is_loop e ≡ false
-    → HoldsHalf put g i e f → HasRoom f (e.v - 1)
-room_to put g i e f at apart h =
-    has_room_for_next g.vertices (e.v - 1) (put i e e.v) (first_ends put g i ++ put_first put i e ∷ [])
-    (rest_ends put g i) f
-    (row_there g.vertices e.v at.edge.to)
-    (subst (λ ps. CountPuts g.vertices ps f.rooms)
-    (all_ends put g i e at ∙ ap (λ ps. (first_ends put g i ++ ps) ++ rest_ends put g i) (plain_ends put i e apart)
-    ∙ ap (λ ps. ps ++ rest_ends put g i)
-    (sym (append_assoc (first_ends put g i) (put_first put i e ∷ []) (put_second put i e ∷ [])))
-    ∙ append_assoc (first_ends put g i ++ put_first put i e ∷ []) (put_second put i e ∷ []) (rest_ends put g i))
-    h.rooms) h.rows
-
--- an edge more
-pub holds_edge : (put : Putting) (g : GraphOf) (i : ℕ) (e : Edge) (f f' : RoomyRows) → IsEdgeAt g i e → is_loop e ≡ false
-    → HoldsHalf put g i e f → f'.rows ≡ push_at f.rows (e.v - 1) (put i e e.v) → f'.rooms ≡ f.rooms
-    → HoldsEdges put g (i + 1) f'
-holds_edge put g i e f f' at apart h rows rooms =
-    record {
-      rooms = subst (CountPuts g.vertices (ends_from put 0 g.edges)) (sym rooms) h.rooms;
-      rows = subst (λ ps. HoldPuts g.vertices ps f'.rows) (two_more put g i e at apart)
-          (subst (HoldPuts g.vertices ((first_ends put g i ++ put_first put i e ∷ []) ++ put_second put i e ∷ []))
-          (sym rows)
-          (holds_more g.vertices (e.v - 1) (put i e e.v) (first_ends put g i ++ put_first put i e ∷ []) f.rows
-          (row_there g.vertices e.v at.edge.to) h.rows));
-    }
-
--- and the rows stay behind a loop
-pub holds_loop : (put : Putting) (g : GraphOf) (i : ℕ) (e : Edge) (f : RoomyRows) → IsEdgeAt g i e → is_loop e ≡ true
-    → HoldsEdges put g i f → HoldsEdges put g (i + 1) f
-holds_loop put g i e f at loop h =
-    record { rooms = h.rooms; rows = subst (λ ps. HoldPuts g.vertices ps f.rows) (loop_more put g i e at loop) h.rows }
-
--- after all edges the rows have what they put there
-pub holds_all : (put : Putting) (g : GraphOf) (i : ℕ) (f : RoomyRows) → All (IsEdge g.vertices) g.edges
-    → length g.edges ≤ i → HoldsEdges put g i f → f.rows ≡ rows_by put g
-holds_all put g i f edges all h =
-    let none : List ℕ = [] in
-    ext_get_or none f.rows (rows_by put g)
-    (h.rows.size ∙ sym (length-map-range_with_len (row_by put g) 1 g.vertices))
-    (λ k below.
-    let here : k < g.vertices = omega (arith, below, h.rows.size) in
-    h.rows.each k here ∙ ap (λ es. put_into k (ends_from put 0 es)) (take_all i g.edges all)
-    ∙ row_stands put g k edges
-    ∙ sym (get_or-map-range_with_len (row_by put g) 1 g.vertices k (k + 1) none here (omega arith)))

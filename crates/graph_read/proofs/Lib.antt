@@ -8,6 +8,7 @@ pub mod GrammarLaw
 pub mod Numbering
 pub mod IncidenceLemmas
 pub mod IncidenceRows
+pub mod FilledRanges
 pub mod KnownEdges
 mod PickedEdges
 -- Paths, and that a search comes just to the vertices that they join to its root

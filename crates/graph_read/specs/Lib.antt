@@ -2,6 +2,7 @@ pub mod Graphs
 pub mod Ends
 pub mod Grids
 pub mod Incidence
+pub mod Ranges
 pub mod Paths
 pub mod GraphText
 pub mod Grammar

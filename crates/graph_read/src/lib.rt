@@ -20,6 +20,7 @@ mod picks;
 mod put;
 mod read;
 mod reader;
+mod row_range;
 mod search;
 mod vertices;
 

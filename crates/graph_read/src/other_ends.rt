@@ -57,8 +57,7 @@ impl<'g> OtherEnds<'g> {
         self.rows.row(vertex - 1)
     }
 
-    /// For each vertex, from vertex 1 on, the weights of these edges. It takes one pass over the
-    /// edges.
+    /// For each vertex, from vertex 1 on, the weights of these edges.
     pub fn weights(&self, alloc: Global) -> Result<FlatRows, AllocError>
         ensures { IfOk result (λ weights. weights.rows ≡ rows_by (put_of Weight) self.now) }
     {

@@ -27,12 +27,12 @@ put_into_other : (v w x : ℕ) → v ≢ w → put_into w ((v, x) ∷ []) ≡ []
 put_into_other v w x other = ap (λ b. map (λ (p : ℕ × ℕ). p.1) (cond b ((v, x) ∷ []) [])) (ne_eqb v w other)
 
 -- a number more, at the end
-put_into_push : (v x : ℕ) (puts : List (ℕ × ℕ)) → put_into v (puts ++ (v, x) ∷ []) ≡ put_into v puts ++ x ∷ []
+pub put_into_push : (v x : ℕ) (puts : List (ℕ × ℕ)) → put_into v (puts ++ (v, x) ∷ []) ≡ put_into v puts ++ x ∷ []
 put_into_push v x puts =
     put_into-append v puts ((v, x) ∷ []) ∙ ap (λ ys. put_into v puts ++ ys) (put_into_here v x)
 
 -- which no other row gets
-put_into_push_other : (v w x : ℕ) (puts : List (ℕ × ℕ)) → v ≢ w
+pub put_into_push_other : (v w x : ℕ) (puts : List (ℕ × ℕ)) → v ≢ w
     → put_into w (puts ++ (v, x) ∷ []) ≡ put_into w puts
 put_into_push_other v w x puts other =
     put_into-append w puts ((v, x) ∷ []) ∙ ap (λ ys. put_into w puts ++ ys) (put_into_other v w x other)
@@ -83,38 +83,22 @@ count_fits n v puts rooms below counts =
 
 -- ---- pushing
 
--- each of n rows has what came into it
-pub record HoldPuts (n : ℕ) (puts : List (ℕ × ℕ)) (rows : List (List ℕ)) : Type 0 where
-  pub size : length rows ≡ n
-  pub each : (v : ℕ) → v < n → row_at rows v ≡ put_into v puts
+-- a number is pushed at the end of a row
+pub pushed_here : (v x : ℕ) (rows : List (List ℕ)) → v < length rows
+    → row_at (push_at rows v x) v ≡ row_at rows v ++ x ∷ []
+pushed_here v x rows below = get_or-set_same rows v (row_at rows v ++ x ∷ []) [] below
 
--- nothing came
-pub holds_none : (n : ℕ) → HoldPuts n [] (replicate n [])
-holds_none n = record { size = length-replicate n []; each = λ v below. get_or-replicate n v [] [] below }
+-- and every other row stays
+pub pushed_elsewhere : (v w x : ℕ) (rows : List (List ℕ)) → v ≢ w → row_at (push_at rows v x) w ≡ row_at rows w
+pushed_elsewhere v w x rows other =
+    get_or-set_other rows v w (row_at rows v ++ x ∷ []) [] (λ same. other (sym same))
 
--- a number more is pushed
-pub holds_more : (n v x : ℕ) (puts : List (ℕ × ℕ)) (rows : List (List ℕ)) → v < n → HoldPuts n puts rows
-    → HoldPuts n (puts ++ (v, x) ∷ []) (push_at rows v x)
-holds_more n v x puts rows below holds = record {
-  size = length-set rows v (row_at rows v ++ x ∷ []) ∙ holds.size;
-  each = λ w w_below. elim (cases_eq v w) [
-    | inl same ↦
-        let size = holds.size in
-        subst (λ u. row_at (push_at rows v x) u ≡ put_into u (puts ++ (v, x) ∷ [])) same
-        (get_or-set_same rows v (row_at rows v ++ x ∷ []) [] (omega (arith, size))
-        ∙ ap (λ ys. ys ++ x ∷ []) (holds.each v below) ∙ sym (put_into_push v x puts))
-    | inr other ↦
-        get_or-set_other rows v w (row_at rows v ++ x ∷ []) [] (λ same. other (sym same)) ∙ holds.each w w_below
-        ∙ sym (put_into_push_other v w x puts other)
-  ];
-}
-
--- there is room for the number that comes next
+-- there is room for the number that comes next into a row, if the row has what came into it before
 pub has_room_for_next : (n v x : ℕ) (puts rest : List (ℕ × ℕ)) (f : RoomyRows) → v < n
-    → CountPuts n (puts ++ (v, x) ∷ rest) f.rooms → HoldPuts n puts f.rows → HasRoom f v
+    → CountPuts n (puts ++ (v, x) ∷ rest) f.rooms → row_at f.rows v ≡ put_into v puts → HasRoom f v
 has_room_for_next n v x puts rest f below counts holds =
     let room = counts.each v below in
-    let row = ap length (holds.each v below) in
+    let row = ap length holds in
     let all : put_into v (puts ++ (v, x) ∷ rest) ≡ put_into v puts ++ (put_into v ((v, x) ∷ []) ++ put_into v rest) =
     put_into-append v puts ((v, x) ∷ rest)
     ∙ ap (λ ys. put_into v puts ++ ys) (put_into-append v ((v, x) ∷ []) rest) in
