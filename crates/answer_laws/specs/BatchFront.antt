@@ -1,4 +1,4 @@
--- Batches of one key: the fewer samples are the first of the more.
+-- Batches of one key: a smaller batch is the beginning of a larger one.
 use Rattle.std.specs.Prelude.{◌≡◌, ◌⊎◌, ℕ, ◌≤◌, List, ◌++◌, Some}
 use Rattle.pop_words.specs.declared.job.Job.{Job}
 use Rattle.pop_words.specs.CommandLines.{Asks}
@@ -7,7 +7,7 @@ use Rattle.pop_print.specs.Batches.{batch_line}
 use Rattle.top_call.specs.Answers.{IsAnswer}
 use Rattle.answer_laws.specs.FirstSample.{of_one}
 
--- the words ask for jobs that are the same but for how many samples they ask for
+-- the arguments ask for jobs that are the same except for the number of samples
 pub record DifferInCounts (words others : List (List ℕ)) (few many : ℕ) : Type 0 where
   pub job : Job
   pub other : Job
@@ -17,15 +17,16 @@ pub record DifferInCounts (words others : List (List ℕ)) (few many : ℕ) : Ty
   pub few_are : job.count ≡ Some few
   pub many_are : other.count ≡ Some many
 
--- Behind the lines that tell how many samples there are, the output of many begins with that of few.
+-- After the lines with the number of samples, the output of the larger batch begins with that of
+-- the smaller one.
 pub record BeginsWithFew (few many : ℕ) (out longer : List ℕ) : Type 0 where
   pub front : List ℕ
   pub rest : List ℕ
   pub out_is : out ≡ batch_line few ++ front
   pub longer_is : longer ≡ batch_line many ++ (front ++ rest)
 
--- Of answers that are no refusal, those to words that ask for more samples begin with those to words
--- that ask for fewer: sample j is the same in each batch that has it.
+-- Answers that are not errors: the answer to arguments that ask for more samples begins with the
+-- answer to those that ask for fewer. Sample j is the same in each batch that has it.
 abbrev pub BatchFront : Type 0
 BatchFront = (words others : List (List ℕ)) (watchers : List Watcher) (text : List ℕ)
     (few many status status' : ℕ) (out longer : List ℕ) → DifferInCounts words others few many

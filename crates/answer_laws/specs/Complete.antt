@@ -1,4 +1,4 @@
--- When words and a text have a sample, an exhausted end or a verdict.
+-- When arguments and an input have a sample, an exhausted end or a verdict.
 use Rattle.std.specs.Prelude.{◌≡◌, ◌≢◌, ◌⊎◌, ◌≤◌, ℕ, List, length, None, false, ⊤}
 use Rattle.pop_model.specs.Instances.{Instance}
 use Rattle.pop_model.specs.Logs.{LogRecord}
@@ -30,17 +30,17 @@ use Rattle.top_call.specs.Replays.{cert_limit, wanted_of}
 use Rattle.top_call.specs.Answers.{IsOutcome, origin_for}
 use Rattle.answer_laws.specs.Orders.{HasExtremalEvents}
 
--- the text is that of the formula, within the limits, and no clause of it is empty
+-- the input is the text of the formula, within the limits, and no clause of it is empty
 pub record Spells (text : List ℕ) (f : Cnf) : Type 0 where
   pub is : IsCnfText text f
   pub full : first_empty f ≡ None
 
--- the samples that are asked for aren't too many, and the stacks of these weights have no fault
+-- the number of samples is within its limit, and the stacks of these weights have no fault
 abbrev pub CanBeSampled : Job → List (List ℕ) → Type 0
 CanBeSampled job weights = AreFew job.count (length weights) × IsSound (origin_for job) weights
 
--- what the certificate's command runs, of its input and over its stacks, is made, and the log text
--- is that of a legal log of it
+-- what the certificate's command runs can be made, from its input and over its stacks, and the log
+-- text is that of a legal log of it
 pub record HasLegalLog (cert : Certificate) : Type 0 where
   pub facts : Facts
   pub instance : Instance
@@ -48,17 +48,17 @@ pub record HasLegalLog (cert : Certificate) : Type 0 where
   pub log : List LogRecord
   pub read : IsReadAs (names_for facts) instance cert.log_text log
 
--- the text is a certificate within the limit, and nothing stands against its input, its stacks and
--- its log
+-- the input is a certificate within the limit, and its input, its stacks and its log have no error
 pub record CanBeReplayed (text : List ℕ) : Type 0 where
   pub short : length text ≤ cert_limit
   pub cert : Certificate
   pub is : IsCertOf text cert
   pub has : HasLegalLog cert
 
--- nothing stands against a command and a text: the text is in its grammar, within the limits; the
--- graph has no isolated vertex, or each vertex is joined to the root; samples aren't too many; the
--- stacks have no fault; and where it is asked for, the events are extremal
+-- A command can be done on an input. The input is in its grammar and within the limits. The graph
+-- has no isolated vertex, or each vertex is connected to the root. The number of samples is within
+-- its limit, and the stacks have no fault. If extremal events are required, the events are
+-- extremal.
 abbrev pub CanBeDone : Command → Job → List ℕ → Type 0
 CanBeDone Formula job text =
     (f : Cnf) × Spells text f × CanBeSampled job (pair_weights f.variables)
@@ -78,24 +78,24 @@ CanBeDone Rounds job text =
 CanBeDone Replay job text = CanBeReplayed text
 CanBeDone Resume job text = CanBeReplayed text
 
--- the pop whose witness is asked for is there, where one is asked for
+-- if a witness is asked for, its pop exists
 abbrev pub HasWitness : Outcome → Type 0
 HasWitness (Resampled facts i placed stuck telling) = is_missing telling.witness ≡ false
 HasWitness o = ⊤
 
--- an answer whose witness is there
+-- an answer with the witness that was asked for
 abbrev pub IsWitnessedAnswer : List (List ℕ) → List Watcher → List ℕ → ℕ → List ℕ → Type 0
 IsWitnessedAnswer words watchers text status out =
     AnswersBy (λ o. IsOutcome words watchers text o × HasWitness o) status out
 
--- the status of a run: 0 or 1; or 10, where it may stop after so many pops, or is replayed
+-- the status of a run: 0 or 1, or 10 if it may stop after a number of pops or is replayed
 abbrev pub IsDone : Job → ℕ → Type 0
 IsDone job status =
     (status ≡ 0)
     ⊎ ((status ≡ 1) ⊎ ((status ≡ 10) × ((job.pops ≢ None) ⊎ (job.command ≡ Replay))))
 
--- where nothing stands against the job of the words and the text, and the witness is there, the
--- status is that of a run
+-- if the job of the arguments can be done on the input, and the witness exists, the status is that
+-- of a run
 abbrev pub Complete : Type 0
 Complete = (words : List (List ℕ)) (watchers : List Watcher) (text : List ℕ) (job : Job)
     (status : ℕ) (out : List ℕ) → Asks words job → CanBeDone job.command job text

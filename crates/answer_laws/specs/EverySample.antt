@@ -1,5 +1,5 @@
--- Which values are samples, in the words of formulas and graphs: so each of these is the answer to
--- some rows (`ExactAnswers.antt`).
+-- Which values are samples, in terms of formulas and graphs. So each of these values is the sample
+-- of some rows (`ExactAnswers.antt`).
 use Rattle.std.specs.Prelude.{◌≡◌, ◌≢◌, ◌⊎◌, ℕ, ◌-◌, ◌<◌, true, ℤ, pos, negsuc, List, length, slice_index, slice_get, Some, All, Contains}
 use Rattle.pop_model.specs.Popping.{Cube}
 use Rattle.pop_model.specs.Cycles.{ReachesRoot, head_of}
@@ -16,18 +16,18 @@ use Rattle.pop_samples.specs.Frames.{IsSampleOf}
 use Rattle.job_subjects.specs.Subjects.{assignments, orientations, arrows_to}
 use Rattle.answer_laws.specs.ExactAnswers.{frame_over}
 
--- the literal is true: its variable has the value 1, or 0 where it is negated
+-- the literal is true: its variable has the value 1, or 0 if it is negated
 abbrev pub IsTrueUnder : List ℕ → ℤ → Type 0
 IsTrueUnder x (pos n) = slice_index x (n - 1) ≡ 1
 IsTrueUnder x (negsuc n) = slice_index x n ≡ 0
 
--- a value below 2 for each variable, under which each clause has a literal that is true
+-- a value below 2 for each variable, under which each clause has a true literal
 pub record Satisfies (f : Cnf) (x : List ℕ) : Type 0 where
   pub count : length x ≡ f.variables
   pub bits : All (λ b. b < 2) x
   pub clauses : All (λ clause. (l : ℤ) × Contains clause l × IsTrueUnder x l) f.clauses
 
--- an edge leaves the vertex: a loop, or one that its value doesn't point there
+-- an edge leaves the vertex: a loop, or an edge that its value does not direct to this vertex
 pub record HasWayOut (g : GraphOf) (x : List ℕ) (w : ℕ) : Type 0 where
   pub number : ℕ
   pub edge : Edge
@@ -35,14 +35,14 @@ pub record HasWayOut (g : GraphOf) (x : List ℕ) (w : ℕ) : Type 0 where
   pub touches_it : touches edge w ≡ true
   pub leaves : (is_loop edge ≡ true) ⊎ (slice_index x number ≢ pointing_to edge w)
 
--- a value below 2 for each edge, at which an edge leaves each vertex
+-- a value below 2 for each edge, so that an edge leaves each vertex
 pub record LeavesEach (g : GraphOf) (x : List ℕ) : Type 0 where
   pub count : length x ≡ length g.edges
   pub bits : All (λ b. b < 2) x
   pub each : (w : ℕ) → IsVertex g.vertices w → HasWayOut g x w
 
--- an edge at each vertex but the root, by its place there, such that along these edges the root is
--- reached from each vertex
+-- an edge at each vertex except the root, by its place there, so that these edges lead from each
+-- vertex to the root
 pub record LeadsToRoot (g : GraphOf) (root : ℕ) (x : List ℕ) : Type 0 where
   pub count : length x ≡ g.vertices - 1
   pub places : (v : ℕ) → v < length x → slice_index x v < length (edges_at g (vertex_of root v))
@@ -55,7 +55,7 @@ EveryAssignment = (f : Cnf) (events : List (ℕ × Cube)) (heights x : List ℕ)
     → AreEventsOf f.clauses events → Satisfies f x
     → IsSampleOf (frame_over (assignments f events) heights) x
 
--- each orientation of a graph without a sink is a sample of its sinks
+-- each sink-free orientation of a graph is a sample of its sinks
 abbrev pub EveryOrientation : Type 0
 EveryOrientation = (g : GraphOf) (events : List (ℕ × Cube)) (heights x : List ℕ)
     → AreSinksOf g events → LeavesEach g x

@@ -22,7 +22,7 @@ use Rattle.job_subjects.specs.Subjects.{Subject, assignments, IsSubjectOf}
 use Rattle.answer_laws.specs.ExactAnswers.{frame_over, over_rows}
 use Rattle.answer_laws.specs.EverySample.{Satisfies}
 
--- The words are answered by an output that begins with the lines of this sample.
+-- The output for the arguments begins with the lines of this sample.
 pub record Prints (words : List (List ℕ)) (watchers : List Watcher) (text : List ℕ) (facts : Facts)
     (values : List ℕ) : Type 0 where
   pub out : List ℕ
@@ -30,28 +30,28 @@ pub record Prints (words : List (List ℕ)) (watchers : List Watcher) (text : Li
   pub answer : IsAnswer words watchers text 0 out
   pub out_is : out ≡ (line (codes "s SAMPLE") ++ sample_lines facts values) ++ more
 
--- words that differ in their rows alone: for all rows of these heights and values
+-- arguments that differ only in their rows: one for all rows of these heights and values
 abbrev pub AskOver : Job → List (List ℕ) → List ℕ → (Rows → List (List ℕ)) → Type 0
 AskOver job weights heights words = (rows : Rows) → AreRows weights heights rows
     → Asks (words rows) (over_rows job rows)
 
--- rows of these heights and values, of which the words print this sample
+-- rows of these heights and values, for which the program prints this sample
 pub record PrintsOver (weights : List (List ℕ)) (heights : List ℕ) (words : Rows → List (List ℕ))
     (watchers : List Watcher) (text : List ℕ) (facts : Facts) (values : List ℕ) (rows : Rows)
     : Type 0 where
   pub shape : AreRows weights heights rows
   pub prints : Prints (words rows) watchers text facts values
 
--- the lines of a sample are printed, and not only what is told of a made grid
+-- the lines of a sample are printed, and not only the summary of a grid that was made
 abbrev pub AreTelling : Facts → Type 0
 AreTelling (FormulaFacts n) = ⊤
 AreTelling (OrientFacts g) = ⊤
 AreTelling (TreeFacts g root) = ⊤
 AreTelling (MadeFacts side) = ⊥
 
--- Of all such words for `formula`, `orient` or `tree`, those that print one sample are as many as
--- those that print another, and the weights of their rows are as those of the samples. A loop of a
--- graph that is oriented prints the same line at both its values.
+-- As many such arguments for `formula`, `orient` or `tree` print one sample as another. The sums
+-- of the weights of their rows are in the ratio of the weights of the samples. A loop of a graph
+-- prints the same line at both its values.
 abbrev pub ExactOutputs : Type 0
 ExactOutputs = (job : Job) (text : List ℕ) (s : Subject) (heights : List ℕ)
     (words : Rows → List (List ℕ)) (watchers : List Watcher)
@@ -65,8 +65,8 @@ ExactOutputs = (job : Job) (text : List ℕ) (s : Subject) (heights : List ℕ)
     → AreAll (PrintsOver s.weights heights words watchers text s.facts x) others
     → AreProportional (frame_over s heights) w x all others
 
--- So it is with words for `rounds`, for every formula: as many print one assignment that satisfies it
--- as another.
+-- The same holds for `rounds`, for every formula: as many arguments print one satisfying
+-- assignment as another.
 abbrev pub ExactRoundOutputs : Type 0
 ExactRoundOutputs = (job : Job) (text : List ℕ) (events : List (ℕ × Cube)) (heights : List ℕ)
     (words : Rows → List (List ℕ)) (watchers : List Watcher)
@@ -92,7 +92,7 @@ ListedOutputs = (job : Job) (text : List ℕ) (s : Subject) (heights : List ℕ)
     → AskOver job s.weights heights words → (w : List ℕ) → IsSampleOf (frame_over s heights) w
     → (all : List Rows) × AreAll (PrintsOver s.weights heights words watchers text s.facts w) all
 
--- So are those of which words for `rounds` print an assignment that satisfies the formula.
+-- The same holds for the rows for which `rounds` prints a satisfying assignment.
 abbrev pub ListedRoundOutputs : Type 0
 ListedRoundOutputs = (job : Job) (text : List ℕ) (events : List (ℕ × Cube)) (heights : List ℕ)
     (words : Rows → List (List ℕ)) (watchers : List Watcher)

@@ -1,4 +1,5 @@
--- What status 1 says of a run on one thread: within the heights of its stacks, no log leads to a sample.
+-- What status 1 means for a run on one thread: within the heights of its stacks, no log leads to a
+-- sample.
 use Rattle.std.specs.Prelude.{◌≡◌, ◌↔◌, ℕ, ◌≤◌, List, Contains, slice_get, Some}
 use Rattle.pop_model.specs.Instances.{Instance, instance_for}
 use Rattle.pop_model.specs.Runs.{start_of}
@@ -16,21 +17,22 @@ use Rattle.top_call.specs.Answers.{IsOutcome}
 abbrev pub HasNoSample : Instance → Type 0
 HasNoSample i = CanFinish i (start_of i) → ⊥
 
--- sample j of a batch has none
+-- sample j of a batch has no such log
 pub record MissesSample (i : Instance) (ends : List End) : Type 0 where
   pub sample : ℕ
   pub end : End
   pub is : slice_get ends sample ≡ Some end
   pub none : HasNoSample (instance_for sample i)
 
--- so it is with a run, or with some sample of a batch
+-- a run, or some sample of a batch, has no such log
 abbrev pub IsExhausted : Outcome → Type 0
 IsExhausted (Ended facts i cursors pops stuck telling) = HasNoSample i
 IsExhausted (Batched facts i ends) = MissesSample i ends
 IsExhausted o = ⊥
 
--- An outcome of `formula`, `orient`, `tree` or `make` that is an end has status 1 exactly if no legal log
--- within the heights leads to a sample; and that of a batch, if it is so of some sample.
+-- Take an outcome of `formula`, `orient`, `tree` or `make` that is an end. Its status is 1 if and
+-- only if no legal log within the heights leads to a sample. The status of a batch is 1 if and
+-- only if this holds for some sample of it.
 abbrev pub ExhaustedAnswers : Type 0
 ExhaustedAnswers = (job : Job) (words : List (List ℕ)) (watchers : List Watcher) (text : List ℕ)
     (o : Outcome) → Contains quiet job.command → Asks words job

@@ -1,4 +1,4 @@
--- The first sample of a batch is the one that is drawn where no number of samples is asked for.
+-- The first sample of a batch is the sample that is drawn if no number of samples is asked for.
 use Rattle.std.specs.Prelude.{◌≡◌, ◌⊎◌, ℕ, Bool, not, List, ◌++◌, filter, bytes_eq, codes, None, Some}
 use Rattle.pop_words.specs.declared.job.Job.{Job}
 use Rattle.pop_words.specs.CommandLines.{Choice, Asks}
@@ -7,12 +7,12 @@ use Rattle.pop_print.specs.Batches.{batch_line, sample_line}
 use Rattle.told_runs.specs.Outcomes.{AnswersBy}
 use Rattle.top_call.specs.Answers.{ComesOf, IsAnswer}
 
--- the job where no number of samples is asked for
+-- the job without a number of samples
 abbrev pub of_one : Job → Job
 of_one job = record job { count = None }
 
--- behind the lines of the batch and of its first sample, the output begins with the answer to the
--- job where no number of samples is asked for
+-- after the lines of the batch and of its first sample, the output begins with the answer to the
+-- job without a number of samples
 pub record BeginsWithOne (job : Job) (watchers : List Watcher) (text : List ℕ) (count : ℕ)
     (out : List ℕ) : Type 0 where
   pub first : List ℕ
@@ -21,7 +21,7 @@ pub record BeginsWithOne (job : Job) (watchers : List Watcher) (text : List ℕ)
   pub status : ℕ
   pub answer : AnswersBy (ComesOf (of_one job) watchers text) status first
 
--- so does each answer to words that ask for a number of samples, but a refusal
+-- the same holds for each answer, except errors, to arguments that ask for a number of samples
 abbrev pub FirstSample : Type 0
 FirstSample = (words : List (List ℕ)) (watchers : List Watcher) (text : List ℕ) (job : Job)
     (count status : ℕ) (out : List ℕ) → Asks words job → job.count ≡ Some count
@@ -32,12 +32,12 @@ FirstSample = (words : List (List ℕ)) (watchers : List Watcher) (text : List �
 abbrev pub tells_count : List ℕ → Bool
 tells_count name = bytes_eq name (codes "--count")
 
--- the options but for `--count`
+-- the options except `--count`
 abbrev pub but_count : List Choice → List Choice
 but_count chosen = filter (λ p. not (tells_count p.0.name)) chosen
 
--- the words are command lines of one command, and the options of the others are those of the first
--- but for `--count`, in the same order
+-- Both arguments are command lines of one command. The options of the others are those of the
+-- first except `--count`, in the same order.
 pub record DifferInCount (words others : List (List ℕ)) : Type 0 where
   pub job : Job
   pub other : Job
@@ -46,8 +46,8 @@ pub record DifferInCount (words others : List (List ℕ)) : Type 0 where
   pub command : asks.command ≡ asks_other.command
   pub options : but_count asks.chosen ≡ asks_other.chosen
 
--- behind the lines of the batch and of its first sample, the output begins with an answer to the
--- words
+-- after the lines of the batch and of its first sample, the output begins with an answer to the
+-- arguments
 pub record BeginsWithAnswer (words : List (List ℕ)) (watchers : List Watcher) (text : List ℕ)
     (count : ℕ) (out : List ℕ) : Type 0 where
   pub first : List ℕ
@@ -56,7 +56,8 @@ pub record BeginsWithAnswer (words : List (List ℕ)) (watchers : List Watcher) 
   pub status : ℕ
   pub answer : IsAnswer words watchers text status first
 
--- so does each answer to words with `--count`, but a refusal, with an answer to the words without
+-- each answer, except errors, to arguments with `--count` begins in this way with an answer to the
+-- arguments without it
 abbrev pub FirstSampleOfWords : Type 0
 FirstSampleOfWords = (words others : List (List ℕ)) (watchers : List Watcher) (text : List ℕ)
     (job : Job) (count status : ℕ) (out : List ℕ) → DifferInCount words others

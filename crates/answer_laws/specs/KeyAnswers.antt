@@ -24,7 +24,7 @@ use Rattle.top_call.specs.Answers.{IsOutcome, last_height, wanted_by}
 use Rattle.job_subjects.specs.Subjects.{Subject, assignments, IsSubjectOf}
 use Rattle.answer_laws.specs.ExactAnswers.{frame_over}
 
--- a run, rounds or a batch ended with these samples, in order: at no end an event occurs
+-- a run, rounds or a batch ended with these samples, in order, and no event occurs at any end
 abbrev pub EndsWithSamples : Outcome → List (List ℕ) → Type 0
 EndsWithSamples (Ended facts i cursors pops stuck telling) samples =
     (stuck ≡ []) × (values_at i.stacks cursors ∷ [] ≡ samples)
@@ -33,26 +33,28 @@ EndsWithSamples (Rounded facts i cursors rounds stuck short) samples =
 EndsWithSamples (Batched facts i ends) samples = AreSamples ends samples
 EndsWithSamples o samples = ⊥
 
--- how many samples a job asks for
+-- the number of samples that a job asks for
 abbrev pub samples_asked : Job → ℕ
 samples_asked job = unwrap_or job.count 1
 
--- what is settled of a subject's stacks under a key before their numbers are: all have one height
+-- what is fixed of a subject's stacks under a key before their numbers are: all have one height
 abbrev pub keyed_frame : Subject → ℕ → Frame
 keyed_frame s height = frame_over s (replicate (length s.weights) height)
 
--- What is known of an outcome under a key, where these are the rows that end with each sample.
+-- What is known of an outcome under a key, given the rows that end with each sample.
 pub record IsDrawn (f : Frame) (Kind : List ℕ → Rows → Type 0) (key : List ℕ) (height count : ℕ)
     (o : Outcome) : Type 0 where
-  -- Of all tables of numbers that the entries may be made of, those for each sample are counted.
+  -- Among all tables of numbers for the entries, those for each sample are counted.
   pub exact : AreExact f Kind
-  -- Of all that end with a sample, those for each are to all as its share to that of all samples.
+  -- Among all tables that end with a sample, those for one sample have the share that its weight
+  -- has among all samples.
   pub from_all : AreDrawn f Kind
-  -- The outcome ends with samples just where the key's own tables are among those for them.
+  -- The outcome ends with samples if and only if the key's own tables are among the tables for
+  -- them.
   pub ends : (samples : List (List ℕ)) → EndsWithSamples o samples
       ↔ TablesOf f Kind samples (batch_numbers key height (length f.weights) count)
 
--- so it is drawn from all samples of what is asked for
+-- the outcome is drawn in this way from all samples of the subject
 pub record IsKeyedAnswer (job : Job) (key text : List ℕ) (o : Outcome) : Type 0 where
   pub subject : Subject
   pub is : IsSubjectOf job.command (wanted_by job) text subject
@@ -60,15 +62,15 @@ pub record IsKeyedAnswer (job : Job) (key text : List ℕ) (o : Outcome) : Type 
       (Samples (keyed_frame subject (last_height job))) (key_of key) (last_height job)
       (samples_asked job) o
 
--- Each outcome of `formula`, `orient`, `tree` and `make` under a key that is no refusal is drawn so:
--- of one sample, or of a batch.
+-- Each outcome of `formula`, `orient`, `tree` and `make` under a key, except errors, is drawn in
+-- this way: with one sample, or with a batch.
 abbrev pub KeyedAnswers : Type 0
 KeyedAnswers = (job : Job) (key : List ℕ) (words : List (List ℕ)) (watchers : List Watcher)
     (text : List ℕ) (o : Outcome) → Contains quiet job.command → job.stacks ≡ Key key
     → Asks words job → IsOutcome words watchers text o → status_of o ≤ 1
     → IsKeyedAnswer job key text o
 
--- so it is drawn from all assignments that satisfy the formula
+-- the outcome is drawn in this way from all satisfying assignments of the formula
 pub record IsKeyedRounds (job : Job) (key text : List ℕ) (o : Outcome) : Type 0 where
   pub events : List (ℕ × Cube)
   pub of_formula : AreEventsOf (cnf_of text).clauses events
@@ -76,7 +78,8 @@ pub record IsKeyedRounds (job : Job) (key text : List ℕ) (o : Outcome) : Type 
       (Sampled (keyed_frame (assignments (cnf_of text) events) (last_height job))) (key_of key)
       (last_height job) 1 o
 
--- Each outcome of `rounds` under a key that is no refusal is drawn so, whether or not clauses clash.
+-- Each outcome of `rounds` under a key, except errors, is drawn in this way, whether or not
+-- clauses clash.
 abbrev pub KeyedRoundAnswers : Type 0
 KeyedRoundAnswers = (job : Job) (key : List ℕ) (words : List (List ℕ)) (watchers : List Watcher)
     (text : List ℕ) (o : Outcome) → job.command ≡ Rounds → job.stacks ≡ Key key

@@ -1,4 +1,4 @@
--- Laws of answers.
+-- Theorems about answers.
 use Rattle.std.specs.Prelude.{◌≡◌, ◌≢◌, ◌⊎◌, ℕ, ◌<◌, ◌≤◌, List, length, Option, None, Some, slice_get, ⊤}
 use Rattle.pop_words.specs.declared.command.Command.TheVariants.{Resample}
 use Rattle.pop_words.specs.declared.job.Job.{Job}
@@ -20,30 +20,31 @@ use Rattle.top_call.specs.Pauses.{IsPause}
 use Rattle.top_call.specs.Answers.{IsOutcome, IsAnswer, IsOfLine}
 use Rattle.answer_laws.specs.Orders.{HasOneEnd, LeadsToOneEnd}
 
--- All orders of the pops that the words ask for lead to one end of this text: a resampling is one
--- of extremal events, and so is one that goes on. And no run may stop before its end, since it is
--- free in what it popped by then.
+-- All orders of the pops that the arguments ask for lead to one end of this input. A formula that
+-- is resampled, or resumed, has extremal events. No run may stop before its end, since the set of
+-- pops by then is free.
 abbrev pub AskForOneEnd : List (List ℕ) → List ℕ → Type 0
 AskForOneEnd words text = (job : Job) → Asks words job
     → LeadsToOneEnd job.command text × (job.pops ≡ None)
 
--- Watchers that report alike of every log, where these reports are asked for: so do the same
--- watchers, and any where none is.
+-- Watchers that report the same for every log, if these reports are asked for. Equal watchers do,
+-- and any watchers do if no report is asked for.
 abbrev pub ReportAlike : Reports → List Watcher → List Watcher → Type 0
 ReportAlike asked watchers others = (log : List LogRecord)
     → reports_text asked (log_told log watchers) ≡ reports_text asked (log_told log others)
 
--- the watchers report alike where the words ask for them
+-- the watchers report the same if the arguments ask for reports
 abbrev pub AskForLikeReports : List (List ℕ) → List Watcher → List Watcher → Type 0
 AskForLikeReports words watchers others = (job : Job) → Asks words job
     → ReportAlike job.reports watchers others
 
--- so they do but of a resampling
+-- the same, except for `resample`
 abbrev pub AskForLike : List (List ℕ) → List Watcher → List Watcher → Type 0
 AskForLike words watchers others = (job : Job) → Asks words job → job.command ≢ Resample
     → ReportAlike job.reports watchers others
 
--- such words and a text have one answer with watchers that report alike: one status and one output
+-- such arguments and an input have at most one answer with watchers that report the same: one
+-- status and one output
 abbrev pub OneAnswer : Type 0
 OneAnswer = (words : List (List ℕ)) (watchers others : List Watcher) (text : List ℕ)
     (status other : ℕ) (out out' : List ℕ) → AskForOneEnd words text
@@ -51,8 +52,8 @@ OneAnswer = (words : List (List ℕ)) (watchers others : List Watcher) (text : L
     → IsAnswer words watchers text status out → IsAnswer words others text other out'
     → (status ≡ other) × (out ≡ out')
 
--- So do words whose run may stop, of the answers that don't tell a stop, where all orders of pops lead to
--- one end.
+-- The same holds for arguments with which a run may stop, if all orders of pops lead to one end,
+-- for those answers that report no stop.
 abbrev pub OneEndedAnswer : Type 0
 OneEndedAnswer = (job : Job) (words : List (List ℕ)) (watchers others : List Watcher)
     (text : List ℕ) (status other : ℕ) (out out' : List ℕ) → Asks words job
@@ -60,15 +61,15 @@ OneEndedAnswer = (job : Job) (words : List (List ℕ)) (watchers others : List W
     → IsAnswer words watchers text status out → IsAnswer words others text other out'
     → status ≢ 10 → other ≢ 10 → (status ≡ other) × (out ≡ out')
 
--- a run to an end, and one of the same instance that stopped after so many pops, of which the first
--- has no more
+-- a run to an end, and a run of the same instance that stopped after a number of pops, where the
+-- first has no more pops
 abbrev pub EndsAndPauses : Instance → List Placed → List Event → List Placed → Type 0
 EndsAndPauses i placed stuck stopped =
     LeadsToEnd i (records_of placed) stuck × (length placed ≤ length stopped)
     × IsPause i (length stopped) stopped
 
--- Both are runs of one instance, each with its log: to an end, or to a pause. Two that stop do it
--- after as many pops, of the same job and input.
+-- Both outcomes are runs of one instance to an end or to a pause, each with its log. Two runs that
+-- stopped have equally many pops, and the same job and input.
 abbrev pub AreHistories : Outcome → Outcome → Type 0
 AreHistories (Resampled facts i placed stuck telling) (Resampled told j other rest another) =
     (facts ≡ told) × (i ≡ j) × LeadsToEnd i (records_of placed) stuck
@@ -86,8 +87,8 @@ AreHistories o p = ⊥
 abbrev pub Agree : Outcome → Outcome → Type 0
 Agree o p = (o ≡ p) ⊎ AreHistories o p
 
--- Words and a text have one outcome with watchers that report alike, but for the order of pops and
--- what is told of them where a resampling is asked for, and for the pops up to a pause.
+-- Arguments and an input have at most one outcome with watchers that report the same, with two
+-- exceptions: the order of pops and their reports for `resample`, and the pops before a pause.
 abbrev pub OneOutcome : Type 0
 OneOutcome = (words : List (List ℕ)) (watchers others : List Watcher) (text : List ℕ)
     (o p : Outcome) → AskForLike words watchers others
@@ -106,15 +107,15 @@ abbrev pub IsAnswerShowing : List (List ℕ) → List Watcher → List ℕ → O
 IsAnswerShowing words watchers text log status out =
     AnswersBy (λ o. IsOutcome words watchers text o × (shown_log o ≡ log)) status out
 
--- Words, watchers and a text have one answer that shows a log: the order of pops is all that is
--- free where a resampling is asked for, and the pops are where a run stops.
+-- Arguments, watchers and an input have at most one answer that shows a given log. So `resample`
+-- is free only in the order of pops, and a run that stops only in its pops.
 abbrev pub OneLoggedAnswer : Type 0
 OneLoggedAnswer = (words : List (List ℕ)) (watchers : List Watcher) (text : List ℕ)
     (log : Option (List Placed)) (status other : ℕ) (out out' : List ℕ)
     → IsAnswerShowing words watchers text log status out
     → IsAnswerShowing words watchers text log other out' → (status ≡ other) × (out ≡ out')
 
--- no event occurs at the end of a run or of a replay, or of a batch at that of each sample
+-- no event occurs at the end of a run or of a replay, or at the end of each sample of a batch
 abbrev pub EndsFinished : Outcome → Type 0
 EndsFinished (Ended facts i cursors pops stuck telling) = IsFinished i cursors
 EndsFinished (Resampled facts i placed stuck telling) =
@@ -125,15 +126,15 @@ EndsFinished (Batched facts i ends) = (j : ℕ) (end : End) → slice_get ends j
     → IsFinished (instance_for j i) end.cursors
 EndsFinished o = ⊤
 
--- A run with status 0 is one at whose end no event occurs: each clause is satisfied, each vertex
+-- If the status of a run is 0, no event occurs at its end. Each clause is satisfied, each vertex
 -- has an edge that leaves it, or the arrows have no cycle.
 abbrev pub SampleFinished : Type 0
 SampleFinished = (words : List (List ℕ)) (watchers : List Watcher) (text : List ℕ) (o : Outcome)
     → IsOutcome words watchers text o → status_of o ≡ 0 → EndsFinished o
 
--- an outcome of a run that may stop after so many pops tells a pause exactly where each run to an
--- end has more: so it tells an end, which is that of the one-thread run but of a resampling,
--- exactly where there are no more pops
+-- An outcome of a run that may stop after a number of pops is a pause if and only if each run to
+-- an end has more pops. Otherwise it is an end. Except for `resample` this is the end of the
+-- one-thread run.
 abbrev pub TellsPause : ℕ → Outcome → Type 0
 TellsPause most (Paused job input facts i placed) = (log : List LogRecord)
     → RunsToEnd i (start_of i) log → most < length log
@@ -143,7 +144,7 @@ TellsPause most (Resampled facts i placed stuck telling) =
     LeadsToEnd i (records_of placed) stuck × (length placed ≤ most)
 TellsPause most o = ⊤
 
--- so does each outcome of such words, where all orders of pops lead to one end
+-- this holds for each outcome of such arguments, if all orders of pops lead to one end
 abbrev pub PausedExactly : Type 0
 PausedExactly = (words : List (List ℕ)) (watchers : List Watcher) (text : List ℕ) (job : Job)
     (most : ℕ) (o : Outcome) → Asks words job → HasOneEnd job.command text → job.pops ≡ Some most

@@ -1,4 +1,4 @@
--- Batches under a key, some of whose samples may be exhausted.
+-- Batches under a key with samples that may be exhausted.
 use Rattle.std.specs.Prelude.{◌≡◌, ℕ, List, map, length, Contains}
 use Rattle.rand_chacha.specs.ChaCha.{key_of}
 use Rattle.pop_model.specs.Instances.{Instance}
@@ -17,8 +17,8 @@ use Rattle.top_call.specs.Answers.{IsOutcome, last_height, wanted_by}
 use Rattle.job_subjects.specs.Subjects.{Subject, IsSubjectOf}
 use Rattle.answer_laws.specs.KeyAnswers.{keyed_frame, samples_asked}
 
--- The key's own tables end as the batch does, sample by sample; and whichever samples are exhausted, of
--- all tables those for the others are as their shares.
+-- The key's own tables end as the batch does, sample by sample. Whichever samples are exhausted,
+-- the tables for the other samples have the shares of those samples among all tables.
 pub record IsMixedAnswer (job : Job) (key text : List ℕ) (ends : List End) : Type 0 where
   pub subject : Subject
   pub is : IsSubjectOf job.command (wanted_by job) text subject
@@ -28,7 +28,7 @@ pub record IsMixedAnswer (job : Job) (key text : List ℕ) (ends : List End) : T
       (Samples (keyed_frame subject (last_height job))) (map sample_of ends)
       (batch_numbers (key_of key) (last_height job) (length subject.weights) (samples_asked job))
 
--- So it is with each batch that is an outcome under a key, also with status 1.
+-- This holds for each batch that is an outcome under a key, also with status 1.
 abbrev pub MixedAnswers : Type 0
 MixedAnswers = (job : Job) (key : List ℕ) (words : List (List ℕ)) (watchers : List Watcher)
     (text : List ℕ) (facts : Facts) (i : Instance) (ends : List End) → Contains quiet job.command

@@ -1,4 +1,4 @@
--- Commands whose order of pops leaves no choice of what a text is answered.
+-- Commands for which every order of pops gives the same answer to an input.
 use Rattle.std.specs.Prelude.{ℕ, List, Ok, ⊤}
 use Rattle.pop_model.specs.Popping.{Cube}
 use Rattle.pop_model.specs.Families.Family.{Listed}
@@ -15,13 +15,14 @@ abbrev pub HasExtremalEvents : Cnf → Type 0
 HasExtremalEvents f = (events : List (ℕ × Cube)) → AreEventsOf f.clauses events
     → IsExtremal (Listed events)
 
--- all orders of a command's pops lead to one end: where a formula is resampled, its events are
--- extremal, and those of other commands are or are refused
+-- All orders of a command's pops lead to one end. For `resample` the formula's events must be
+-- extremal. Other commands have extremal events or return an error.
 abbrev pub HasOneEnd : Command → List ℕ → Type 0
 HasOneEnd Resample text = (f : Cnf) → AnswersCnf text (Ok f) → HasExtremalEvents f
 HasOneEnd command text = ⊤
 
--- so do those of a run that goes on: the ones of the certificate's command
+-- the same for a run that is resumed: all orders of the pops of the certificate's command lead to
+-- one end
 abbrev pub LeadsToOneEnd : Command → List ℕ → Type 0
 LeadsToOneEnd Resume text = (cert : Certificate) → IsCertOf text cert
     → HasOneEnd cert.head.command cert.input

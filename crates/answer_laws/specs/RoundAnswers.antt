@@ -1,6 +1,6 @@
--- The exact law of rounds, said of answers, for every formula, whether or not its events clash: into
--- given rows any assignment that satisfies it may be written in place of the one with which rounds
--- finish them (Guo, Jerrum and Liu 2019).
+-- The theorem of exactness for `rounds`, stated for answers. It holds for every formula, whether
+-- or not its events clash. The satisfying assignment with which rounds over given rows end may be
+-- replaced in these rows by any other (Guo, Jerrum and Liu 2019).
 use Rattle.std.specs.Prelude.{◌≡◌, ◌↔◌, ℕ, ◌<◌, List, [], ◌++◌, length, map, replicate, codes, All, None, Ok}
 use Rattle.pop_model.specs.Popping.{Cube, values_at}
 use Rattle.pop_model.specs.Instances.{Instance}
@@ -23,8 +23,8 @@ use Rattle.job_subjects.specs.Subjects.{assignments}
 use Rattle.answer_laws.specs.ExactAnswers.{over_rows, frame_over}
 use Rattle.answer_laws.specs.EverySample.{Satisfies}
 
--- Words and a text are answered by this assignment: by rounds that end at these cursors, after so
--- many, where no event of the formula occurs and the values are these.
+-- The answer to the arguments and the input is this assignment. The rounds end at these cursors,
+-- after this number of rounds. No event of the formula occurs there, and the values are these.
 pub record IsRoundedBy (words : List (List ℕ)) (watchers : List Watcher) (text : List ℕ)
     (values cursors : List ℕ) (rounds : ℕ) : Type 0 where
   pub instance : Instance
@@ -37,7 +37,7 @@ abbrev pub rounded_text : List ℕ → List ℕ → ℕ → List ℕ
 rounded_text values cursors rounds =
     (line (codes "s SAMPLE") ++ assignment_line values) ++ used_line cursors ++ rounds_line rounds
 
--- the output is that of rounds that end with some assignment, which satisfies the formula
+-- the output of rounds that end with some satisfying assignment
 pub record IsRoundedOutput (words : List (List ℕ)) (watchers : List Watcher) (text out : List ℕ)
     : Type 0 where
   pub values : List ℕ
@@ -47,21 +47,22 @@ pub record IsRoundedOutput (words : List (List ℕ)) (watchers : List Watcher) (
   pub satisfied : Satisfies (cnf_of text) values
   pub out_is : out ≡ rounded_text values cursors rounds
 
--- Words for rounds have an answer with status 0 exactly where they are answered by an assignment,
--- and its output is that of the assignment.
+-- Arguments for `rounds` have an answer with status 0 if and only if the answer is an assignment,
+-- and its output is the text of that assignment.
 abbrev pub RoundOutputs : Type 0
 RoundOutputs = (job : Job) (words : List (List ℕ)) (watchers : List Watcher) (text out : List ℕ)
     → job.command ≡ Rounds → Asks words job
     → IsAnswer words watchers text 0 out ↔ IsRoundedOutput words watchers text out
 
--- Words over the rows with another assignment in place of the answer are answered by that one, after
--- as many rounds, at the same cursors; and the first written back gives the rows again.
+-- The answer over the rows with another assignment in place of the first is that other assignment,
+-- after equally many rounds, at the same cursors. If the first is written back, the rows are as
+-- before.
 pub record KeepsRounds (others : List (List ℕ)) (watchers : List Watcher) (text : List ℕ)
     (rows : Rows) (values other cursors : List ℕ) (rounds : ℕ) : Type 0 where
   pub answered : IsRoundedBy others watchers text other cursors rounds
   pub back : exchange (exchange rows cursors other) cursors values ≡ rows
 
--- so it is with each assignment that satisfies the formula
+-- this holds for each satisfying assignment of the formula
 abbrev pub ExchangedRoundAnswers : Type 0
 ExchangedRoundAnswers = (job : Job) (rows : Rows) (words others : List (List ℕ))
     (watchers : List Watcher) (text values other cursors : List ℕ) (rounds : ℕ)
@@ -69,14 +70,14 @@ ExchangedRoundAnswers = (job : Job) (rows : Rows) (words others : List (List ℕ
     → IsRoundedBy words watchers text values cursors rounds → Satisfies (cnf_of text) other
     → KeepsRounds others watchers text rows values other cursors rounds
 
--- rows of these heights, with which words are answered by this assignment before any round
+-- rows of these heights, for which the answer is this assignment, without any round
 pub record IsReachedByRounds (job : Job) (text heights values : List ℕ) : Type 0 where
   pub rows : Rows
   pub lengths : map length rows ≡ heights
   pub answers : (words : List (List ℕ)) (watchers : List Watcher) → Asks words (over_rows job rows)
       → IsRoundedBy words watchers text values (replicate (length values) 0) 0
 
--- Each assignment that satisfies the formula is the answer to some rows, of any heights.
+-- Each satisfying assignment of the formula is the answer for some rows, of any heights.
 abbrev pub ReachedRoundAnswers : Type 0
 ReachedRoundAnswers = (job : Job) (text : List ℕ) (events : List (ℕ × Cube))
     (heights values : List ℕ) → job.command ≡ Rounds → AnswersCnf text (Ok (cnf_of text))
@@ -84,7 +85,7 @@ ReachedRoundAnswers = (job : Job) (text : List ℕ) (events : List (ℕ × Cube)
     → length heights ≡ (cnf_of text).variables → All (λ h. 0 < h) heights
     → IsReachedByRounds job text heights values
 
--- The samples of a formula's events are just the assignments that satisfy it.
+-- The samples of a formula's events are exactly its satisfying assignments.
 abbrev pub SamplesSatisfy : Type 0
 SamplesSatisfy = (f : Cnf) (events : List (ℕ × Cube)) (heights values : List ℕ)
     → AreLiterals f.variables f.clauses → first_empty f ≡ None → AreEventsOf f.clauses events

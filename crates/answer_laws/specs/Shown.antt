@@ -1,5 +1,5 @@
--- What the output of an end shows of the text that was read: of each command the sample, or else
--- the events that still occur.
+-- What the output of an end shows for the input: the sample of each command, or else the events
+-- that still occur.
 use Rattle.std.specs.Prelude.{◌≡◌, ◌⊎◌, ℕ, List, [], ◌∷◌, ◌++◌, length, flat_map, slice_get, Option, None, Some, ⊤}
 use Rattle.std.specs.List.{enumerate_from}
 use Rattle.pop_model.specs.Stacks.{Origin, StackTable, origin_for as origin_of_sample}
@@ -25,15 +25,15 @@ use Rattle.run_cert.specs.Certificates.{Certificate, IsCertOf}
 use Rattle.top_call.specs.Replays.{job_of}
 use Rattle.top_call.specs.Answers.{IsAnswer, origin_for}
 
--- the text begins with one that shows this
+-- the text begins with a text that shows this
 abbrev pub BeginsWith : (List ℕ → Type 0) → List ℕ → Type 0
 BeginsWith Shows out = (front : List ℕ) × (rest : List ℕ) × (out ≡ front ++ rest) × Shows front
 
--- the stacks of an origin, of these weights
+-- the stacks with this source and these weights
 abbrev pub stacks_by : Origin → List (List ℕ) → StackTable
 stacks_by origin weights = record { origin = origin; weights = weights }
 
--- the stacks of a formula's variables, of a graph's edges, and of its vertices but the root
+-- the stacks of a formula's variables, of a graph's edges, or of its vertices except the root
 abbrev pub stacks_of_text : Command → Job → Origin → List ℕ → StackTable
 stacks_of_text Formula job origin text = stacks_by origin (pair_weights (cnf_of text).variables)
 stacks_of_text Orient job origin text =
@@ -46,7 +46,7 @@ stacks_of_text Rounds job origin text = stacks_by origin (pair_weights (cnf_of t
 stacks_of_text Replay job origin text = stacks_by origin []
 stacks_of_text Resume job origin text = stacks_by origin []
 
--- what an output with status 0 shows of a line; of a verdict nothing
+-- what an output with status 0 shows for a command; for a verdict nothing
 abbrev pub ShowsSample : Command → Job → List ℕ → List ℕ → Type 0
 ShowsSample Formula job text out = ShowsAssignment (cnf_of text) out
 ShowsSample Orient job text out = ShowsOrientation (graph_of text) out
@@ -58,7 +58,7 @@ ShowsSample Rounds job text out = ShowsAssignment (cnf_of text) out
 ShowsSample Replay job text out = ⊥
 ShowsSample Resume job text out = ⊥
 
--- what an output with status 1 shows, of stacks of this origin; there is no such verdict
+-- what an output with status 1 shows, for stacks with this source; a verdict has no such status
 abbrev pub ShowsExhausted : Command → Job → Origin → List ℕ → List ℕ → Type 0
 ShowsExhausted Formula job origin text out =
     ShowsFalse (cnf_of text) (stacks_of_text Formula job origin text) out
@@ -76,36 +76,37 @@ ShowsExhausted Rounds job origin text out =
 ShowsExhausted Replay job origin text out = ⊥
 ShowsExhausted Resume job origin text out = ⊥
 
--- what an output shows whose text is of an end with these events
+-- what an output shows if its text is that of an end with these events
 abbrev pub ShowsEnd : Command → Job → Origin → List ℕ → List Event → List ℕ → Type 0
 ShowsEnd command job origin text [] out = ShowsSample command job text out
 ShowsEnd command job origin text (e ∷ stuck) out = ShowsExhausted command job origin text out
 
--- the texts of samples, each behind its number, from 0
+-- the texts of samples, each after its number, from 0
 abbrev pub numbered : List (List ℕ) → List ℕ
 numbered texts = flat_map (λ p. sample_line p.0 ++ p.1) (enumerate_from 0 texts)
 
--- an output of so many samples, of which the text of each shows this
+-- an output of this number of samples, if the text of each shows this
 pub record ShowsEach (count : ℕ) (Shows : ℕ → List ℕ → Type 0) (out : List ℕ) : Type 0 where
   pub texts : List (List ℕ)
   pub count_is : length texts ≡ count
   pub out_is : out ≡ batch_line count ++ numbered texts
   pub each : (j : ℕ) (t : List ℕ) → slice_get texts j ≡ Some t → Shows j t
 
--- an output of so many samples, of which some shows this, and each of the others that
+-- an output of this number of samples, if at least one shows the first and each of the others the
+-- second
 pub record ShowsSome (count : ℕ) (Shows Others : ℕ → List ℕ → Type 0) (out : List ℕ)
     : Type 0 where
   pub all : ShowsEach count (λ j t. Shows j t ⊎ Others j t) out
   pub some : (j : ℕ) × (t : List ℕ) × (slice_get all.texts j ≡ Some t) × Shows j t
 
--- what an output with status 0 shows: a sample; or where a number is asked for, as many
+-- what an output with status 0 shows: a sample, or as many samples as are asked for
 abbrev pub ShowsSamples : Option ℕ → Job → List ℕ → List ℕ → Type 0
 ShowsSamples None job text out = ShowsSample job.command job text out
 ShowsSamples (Some count) job text out =
     ShowsEach count (λ j t. ShowsSample job.command job text t) out
 
--- what an output with status 1 shows: the events that still occur; or where a number of samples is
--- asked for, these of some sample j, of its own stacks
+-- what an output with status 1 shows: the events that still occur, or, if a number of samples is
+-- asked for, the events of some sample j, over its own stacks
 abbrev pub ShowsStuckSamples : Option ℕ → Job → List ℕ → List ℕ → Type 0
 ShowsStuckSamples None job text out = ShowsExhausted job.command job (origin_for job) text out
 ShowsStuckSamples (Some count) job text out =
@@ -113,15 +114,15 @@ ShowsStuckSamples (Some count) job text out =
     (λ j t. ShowsExhausted job.command job (origin_of_sample j (origin_for job)) text t)
     (λ j t. ShowsSample job.command job text t) out
 
--- what an output with status 0 shows of a command: of the line of its own, of that of the
--- certificate that is resumed, or of one that is replayed nothing
+-- What an output with status 0 shows for a command: for `resume`, what the command of the
+-- certificate shows; for `replay` nothing; for others, their own samples.
 abbrev pub ShowsEndOf : Command → Job → List ℕ → List ℕ → Type 0
 ShowsEndOf Replay job text out = ⊤
 ShowsEndOf Resume job text out =
     (cert : Certificate) × IsCertOf text cert × ShowsSamples None (job_of cert.head) cert.input out
 ShowsEndOf command job text out = ShowsSamples job.count job text out
 
--- and what one with status 1 shows
+-- what an output with status 1 shows for a command
 abbrev pub ShowsStuckOf : Command → Job → List ℕ → List ℕ → Type 0
 ShowsStuckOf Replay job text out = ⊤
 ShowsStuckOf Resume job text out =
@@ -129,16 +130,17 @@ ShowsStuckOf Resume job text out =
     × ShowsStuckSamples None (job_of cert.head) cert.input out
 ShowsStuckOf command job text out = ShowsStuckSamples job.count job text out
 
--- An output with status 0 shows of a formula an assignment that satisfies each clause, of a graph
--- that is oriented an orientation in which an arrow leaves each vertex, and else a spanning tree,
--- whose arrows lead to the root. Where a number of samples is asked for, it shows so many.
+-- An output with status 0 shows a sample. For a formula this is an assignment that satisfies each
+-- clause. For `orient` it is an orientation in which an arrow leaves each vertex. For others it is
+-- a spanning tree with arrows that lead to the root. If a number of samples is asked for, the
+-- output shows that many.
 abbrev pub SampleShown : Type 0
 SampleShown = (words : List (List ℕ)) (watchers : List Watcher) (text out : List ℕ)
     → IsAnswer words watchers text 0 out
     → (job : Job) × Asks words job × ShowsEndOf job.command job text out
 
--- an output with status 1 shows the events that still occur: the clauses that are false, the
--- vertices that no arrow leaves, or the cycles of the arrows; of a batch those of some sample
+-- An output with status 1 shows the events that still occur: the false clauses, the vertices that
+-- no arrow leaves, or the cycles of the arrows. For a batch these are the events of some sample.
 abbrev pub ExhaustedShown : Type 0
 ExhaustedShown = (words : List (List ℕ)) (watchers : List Watcher) (text out : List ℕ)
     → IsAnswer words watchers text 1 out

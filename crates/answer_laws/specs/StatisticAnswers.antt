@@ -1,4 +1,5 @@
--- Functions of a sample under a key, such as the sum that `make` prints: how often each value comes.
+-- Functions of a sample under a key, such as the sum that `make` prints: how often each value
+-- occurs.
 use Rattle.std.specs.Prelude.{◌≡◌, ◌↔◌, ℕ, List, [], length, Contains}
 use Rattle.rand_chacha.specs.ChaCha.{key_of}
 use Rattle.pop_model.specs.Popping.{values_at}
@@ -17,14 +18,15 @@ use Rattle.job_subjects.specs.Subjects.{Subject, IsSubjectOf}
 use Rattle.answer_laws.specs.KeyAnswers.{keyed_frame}
 use Rattle.answer_laws.specs.StoppedAnswers.{IsRun, is_within}
 
--- a run ended with a sample of which a function has this value
+-- a run ended with a sample at which a function has this value
 abbrev pub EndsWithValue : (List ℕ → ℕ) → Outcome → ℕ → Type 0
 EndsWithValue statistic (Ended facts i cursors pops stuck telling) value =
     (stuck ≡ []) × (statistic (values_at i.stacks cursors) ≡ value)
 EndsWithValue statistic o value = ⊥
 
--- Of all tables, those of each value of the function are as the samples with that value. The outcome ends
--- with a value just where the key's own table is one of those.
+-- Among all tables, those for each value of the function have the share of the samples with that
+-- value. The outcome ends with a value if and only if the key's own table is among the tables for
+-- it.
 pub record IsValueDrawn (statistic : List ℕ → ℕ) (job : Job) (key text : List ℕ) (o : Outcome)
     : Type 0 where
   pub subject : Subject
@@ -36,7 +38,7 @@ pub record IsValueDrawn (statistic : List ℕ → ℕ) (job : Job) (key text : L
       (SamplesWhere (keyed_frame subject (last_height job)) (is_within job.pops)) statistic value
       (numbers_of (key_of key) 0 (last_height job) (length subject.weights))
 
--- So is each function of the sample of a run under a key, to its end or to where it was given up.
+-- This holds for each function of the sample of a run under a key that ended or stopped.
 abbrev pub StatisticAnswers : Type 0
 StatisticAnswers = (statistic : List ℕ → ℕ) (job : Job) (key : List ℕ) (words : List (List ℕ))
     (watchers : List Watcher) (text : List ℕ) (o : Outcome) → Contains quiet job.command

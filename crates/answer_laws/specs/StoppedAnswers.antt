@@ -1,4 +1,5 @@
--- Runs under a key that may stop after so many pops: giving up doesn't change the law of the samples.
+-- Runs under a key that may stop after a number of pops: to stop does not change the distribution
+-- of the samples.
 use Rattle.std.specs.Prelude.{◌≡◌, ◌↔◌, ℕ, Bool, true, not, nat_lt, List, [], ◌∷◌, length, Contains, Option, None, Some, ⊤}
 use Rattle.rand_chacha.specs.ChaCha.{key_of}
 use Rattle.pop_model.specs.Logs.{LogRecord}
@@ -17,7 +18,7 @@ use Rattle.top_call.specs.Answers.{IsOutcome, last_height, wanted_by}
 use Rattle.job_subjects.specs.Subjects.{Subject, IsSubjectOf}
 use Rattle.answer_laws.specs.KeyAnswers.{EndsWithSamples, keyed_frame}
 
--- the log has at most so many pops, where there is a limit
+-- the log has at most this many pops, if there is a limit
 abbrev pub is_within : Option ℕ → List LogRecord → Bool
 is_within None log = true
 is_within (Some most) log = not (nat_lt most (length log))
@@ -28,8 +29,8 @@ IsRun (Ended facts i cursors pops stuck telling) = ⊤
 IsRun (Paused job input facts i placed) = ⊤
 IsRun o = ⊥
 
--- The outcome ends with a sample just where the key's own table is one of those whose run ends with it
--- within as many pops as the job allows; and these draw from all samples by their shares, whatever that
+-- The outcome ends with a sample if and only if the key's own table is one whose run ends with it
+-- within the job's limit of pops. Such tables draw from all samples by their shares, whatever that
 -- limit is.
 pub record IsStoppedAnswer (job : Job) (key text : List ℕ) (o : Outcome) : Type 0 where
   pub subject : Subject
@@ -41,8 +42,8 @@ pub record IsStoppedAnswer (job : Job) (key text : List ℕ) (o : Outcome) : Typ
       (SamplesWhere (keyed_frame subject (last_height job)) (is_within job.pops) w)
       (numbers_of (key_of key) 0 (last_height job) (length subject.weights))
 
--- So is each outcome of `formula`, `orient`, `tree` and `make` under a key that is a run, to its end or
--- to where it was given up.
+-- This holds for each outcome of `formula`, `orient`, `tree` and `make` under a key that is a run
+-- that ended or stopped.
 abbrev pub StoppedAnswers : Type 0
 StoppedAnswers = (job : Job) (key : List ℕ) (words : List (List ℕ)) (watchers : List Watcher)
     (text : List ℕ) (o : Outcome) → Contains quiet job.command → job.stacks ≡ Key key

@@ -1,4 +1,4 @@
--- Words with greater heights: a sample stays what it is, byte for byte.
+-- Arguments with greater heights: a sample stays the same, byte for byte.
 use Rattle.std.specs.Prelude.{◌≡◌, ℕ, ◌≤◌, List, Contains, None}
 use Rattle.pop_stacks.specs.declared.stack_spec.StackSpec.TheVariants.{Key}
 use Rattle.pop_words.specs.declared.command.Command.TheVariants.{Rounds}
@@ -8,12 +8,12 @@ use Rattle.pop_words.specs.CommandLines.{Asks}
 use Rattle.pop_watch.specs.Telling.{Watcher}
 use Rattle.top_call.specs.Answers.{last_height, IsAnswer}
 
--- the job, whatever the heights of its stacks are
+-- the job without its heights
 abbrev pub of_any_height : Job → Job
 of_any_height job = record job { height = 0; grow = None }
 
--- The words ask for jobs that are the same but for the heights of their stacks, which are no lower at
--- last in the others.
+-- The arguments ask for jobs that are the same except for the heights of their stacks. The last
+-- height of the others is not lower.
 pub record DifferInLastHeight (words others : List (List ℕ)) : Type 0 where
   pub job : Job
   pub other : Job
@@ -22,15 +22,15 @@ pub record DifferInLastHeight (words others : List (List ℕ)) : Type 0 where
   pub same : of_any_height job ≡ of_any_height other
   pub no_lower : last_height job ≤ last_height other
 
--- What `formula`, `orient`, `tree` or `make` answers under a key with status 0, a sample or a batch of
--- samples, is the answer with each greater height too. So trying once more with taller stacks, if stacks
--- were exhausted, changes no sample.
+-- If the answer of `formula`, `orient`, `tree` or `make` under a key has status 0, it is a sample
+-- or a batch of samples. It is also the answer with each greater height. So a second attempt with
+-- taller stacks, after stacks were exhausted, changes no sample.
 abbrev pub TallerAnswers : Type 0
 TallerAnswers = (words others : List (List ℕ)) (watchers : List Watcher) (key text out : List ℕ)
     → (d : DifferInLastHeight words others) → Contains quiet d.job.command → d.job.stacks ≡ Key key
     → IsAnswer words watchers text 0 out → IsAnswer others watchers text 0 out
 
--- The same holds of an assignment that `rounds` answers, for every formula.
+-- The same holds for an assignment that `rounds` prints, for every formula.
 abbrev pub TallerRoundAnswers : Type 0
 TallerRoundAnswers = (words others : List (List ℕ)) (watchers : List Watcher)
     (key text out : List ℕ) → (d : DifferInLastHeight words others) → d.job.command ≡ Rounds

@@ -31,8 +31,8 @@ pub fn stopped_answers()
     ensures { StoppedAnswers }
 {}
 
-/// A batch under a key ends, sample by sample, as the key's own tables do. Whichever of its
-/// samples are exhausted, the distribution of the others is unchanged.
+/// A batch under a key ends, sample by sample, as the key's own tables do; and whichever of its samples
+/// are exhausted, the others are drawn as ever.
 pub fn mixed_answers()
     ensures { MixedAnswers }
 {}

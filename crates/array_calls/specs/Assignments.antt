@@ -23,7 +23,7 @@ pub record AreEventsUnder (key : List ℕ) (height : ℕ) (f : Cnf) (i : Instanc
   pub of_formula : AreEventsOf f.clauses events
   pub is : i ≡ pairs_under key height f.variables events
 
--- what a call for assignments of the formula by popping leaves that stopped at a row, or at none
+-- what a call for satisfying assignments by popping leaves, if it stopped at a row, or at none
 pub record LeavesAssignments (key : List ℕ) (height : ℕ) (f : Cnf) (first : ℕ) (from : List ℕ) (budget count : ℕ)
     (old new : ValueArrays) (stopped : Option ℕ) : Type 0 where
   pub instance : Instance
@@ -53,12 +53,12 @@ pub record AreRoundedRows (key : List ℕ) (height : ℕ) (f : Cnf) (first count
   pub events : AreEventsUnder key height f instance
   pub rows : AreRoundRows instance f.variables first count values useds counts
 
--- a fault of literals as a refusal
+-- a fault of literals as an error
 abbrev pub unformed : LiteralFault → FormulaRefusal
 unformed LiteralMemory = OutOfMemory
 unformed fault = NoFormula fault
 
--- memory ran out, or the refusal is one of these
+-- memory ran out, or the error is one of these
 abbrev pub IsFormulaRefusal : (FormulaRefusal → Type 0) → FormulaRefusal → Type 0
 IsFormulaRefusal Refuses refusal = (refusal ≡ OutOfMemory) ⊎ Refuses refusal
 
@@ -67,20 +67,21 @@ abbrev pub RefusesLiterals : ℕ → List ℤ → FormulaRefusal → Type 0
 RefusesLiterals n literals refusal =
     (fault : LiteralFault) × IsLiteralFault n literals fault × (refusal ≡ unformed fault)
 
--- these are the numbers of the least pair of events that clash
+-- these are the numbers of the lowest pair of events that clash
 pub record HasClashOf (events : List (ℕ × Cube)) (refusal : FormulaRefusal) : Type 0 where
   pub number : ℕ
   pub other : ℕ
   pub least : IsLeastPair (AreClashing events) number other
   pub is : refusal ≡ Clash number other
 
--- two events of the formula do
+-- two events of the formula clash
 pub record HasClash (f : Cnf) (refusal : FormulaRefusal) : Type 0 where
   pub events : List (ℕ × Cube)
   pub of_formula : AreEventsOf f.clauses events
   pub clash : HasClashOf events refusal
 
--- literals of which samples by popping are asked: by their form, or else by clauses that clash
+-- the error of literals if samples by popping are asked for: by their form, or else by clauses
+-- that clash
 abbrev pub RefusesExtremal : ℕ → List ℤ → FormulaRefusal → Type 0
 RefusesExtremal n literals refusal =
     RefusesLiterals n literals refusal ⊎ (AreClauses n literals × HasClash (cnf_in n literals) refusal)

@@ -1,4 +1,4 @@
--- The laws of calls that are stopped and go on.
+-- Theorems about calls that stop and continue.
 use Rattle.std.specs.Prelude.{◌≡◌, ℕ, zero, suc, ◌+◌, ◌*◌, ◌<◌, List, [], length, map, slice_index, slice_set}
 use Rattle.std.specs.List.{range_with_len}
 use Rattle.pop_model.specs.Instances.{Instance}
@@ -11,17 +11,17 @@ use Rattle.array_calls.specs.Values.{AreOfPairs, IsValueRow, IsValueStop}
 abbrev pub row_at : ℕ → ℕ → List ℕ → List ℕ
 row_at at n numbers = map (λ k. slice_index numbers (at + k)) (range_with_len 0 n)
 
--- what a call was given for row j, as another call is given it for its row 0
+-- what a call was given for row j, as another call receives it for its row 0
 abbrev pub from_at : List ℕ → ℕ → List ℕ
 from_at from zero = from
 from_at from (suc j) = []
 
--- the counts of a first row with these pops before it
+-- the counts of a first row, with these earlier pops added
 abbrev pub with_pops : ℕ → List ℕ → List ℕ
 with_pops pops counts = slice_set counts 0 (pops + slice_index counts 0)
 
--- A call for trees stopped at row j. Another goes on from that row of cursors to the end of its row 0: with the pops of
--- both calls it is the row of the run that wasn't stopped.
+-- A call for trees stopped at row j. Another call continues from that row of cursors to the end of
+-- its row 0. With the pops of both calls, this is the row of the run that did not stop.
 abbrev pub TreeRowGoesOn : Type 0
 TreeRowGoesOn = (key : List ℕ) (height : ℕ) (g : GraphOf) (root first : ℕ) (from : List ℕ) (j : ℕ)
     (useds counts parents' edges' useds' counts' : List ℕ) → IsVertex g.vertices root → 1 < length counts'
@@ -31,7 +31,7 @@ TreeRowGoesOn = (key : List ℕ) (height : ℕ) (g : GraphOf) (root first : ℕ)
     → IsTreeRow (trees_under key height g root) g root (first + j) (from_at from j) 0 parents' edges' useds'
     (with_pops (slice_index counts (2 * j)) counts')
 
--- so it is with a call for values
+-- the same for a call for values
 abbrev pub ValueRowGoesOn : Type 0
 ValueRowGoesOn = (i : Instance) (n first : ℕ) (from : List ℕ) (j : ℕ)
     (useds counts values' useds' counts' : List ℕ) → IsExtremal i.family → AreOfPairs n i.stacks

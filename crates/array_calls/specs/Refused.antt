@@ -1,4 +1,4 @@
--- Which arrays are refused, and how.
+-- Which arrays are errors, and which error each has.
 use Rattle.std.specs.Prelude.{◌≡◌, ◌⊎◌, ℕ, ◌+◌, ◌-◌, ◌<◌, ◌≤◌, List, []}
 use Rattle.pop_model.specs.Places.{IsLeast}
 use Rattle.pop_model.specs.Names.{vertex_of}
@@ -13,47 +13,49 @@ use Rattle.cycle_popping.specs.Trees.{weights_of_tree}
 use Rattle.array_calls.specs.declared.refusal.ArrayRefusal.{ArrayRefusal}
 use Rattle.array_calls.specs.declared.refusal.ArrayRefusal.TheVariants.{NoGraph, NoRoot, CutOff, TooHeavy, Isolated, OutOfMemory}
 
--- a fault of arrays as a refusal
+-- a fault of arrays as an error
 abbrev pub ungraphed : EndsFault → ArrayRefusal
 ungraphed GraphMemory = OutOfMemory
 ungraphed fault = NoGraph fault
 
--- memory ran out, or the refusal is one of these
+-- memory ran out, or the error is one of these
 abbrev pub IsRefusal : (ArrayRefusal → Type 0) → ArrayRefusal → Type 0
 IsRefusal Refuses refusal = (refusal ≡ OutOfMemory) ⊎ Refuses refusal
 
--- this is the least vertex that no path joins to the root
+-- this is the lowest vertex that no path connects to the root
 pub record HasCutOff (g : GraphOf) (root : ℕ) (refusal : ArrayRefusal) : Type 0 where
   pub vertex : ℕ
   pub least : IsLeast (IsCutOff g root) vertex
   pub is : refusal ≡ CutOff (vertex - 1)
 
--- these weights of a vertex, which is the least such, are more than 2^32 - 1 together
+-- the sum of these weights of a vertex is above 2^32 - 1, and the vertex is the lowest with such a
+-- sum
 pub record HasHeavyRow (weights : List (List ℕ)) (root : ℕ) (refusal : ArrayRefusal) : Type 0 where
   pub variable : ℕ
   pub least : IsLeast (IsTooHeavy weights) variable
   pub is : refusal ≡ TooHeavy (vertex_of root variable - 1)
 
--- a graph of which trees are asked: by a vertex that is cut off from the root, or else by its weights
+-- the error of a graph if trees are asked for: by a vertex that is cut off from the root, or else
+-- by its weights
 abbrev pub RefusesTrees : GraphOf → ℕ → ArrayRefusal → Type 0
 RefusesTrees g root refusal =
     HasCutOff g root refusal ⊎ (IsConnected g root × HasHeavyRow (weights_of_tree g root) root refusal)
 
--- arrays of which trees are asked, to a root that counts from 0 there: by their form, by a root that is no vertex, or
--- else by their graph
+-- the error of arrays if trees to a root are asked for, which counts from 0 there: by their form,
+-- by a root that is no vertex, or else by their graph
 abbrev pub RefusesTreeArrays : ℕ → List ℕ → List ℕ → ℕ → ArrayRefusal → Type 0
 RefusesTreeArrays n ends weights root refusal =
     ((fault : EndsFault) × IsEndsFault n ends weights fault × (refusal ≡ ungraphed fault))
     ⊎ (((n ≤ root) × (refusal ≡ NoRoot))
     ⊎ ((root < n) × RefusesTrees (graph_in n ends weights) (root + 1) refusal))
 
--- this is the least vertex that no edge touches
+-- this is the lowest isolated vertex
 pub record HasIsolated (g : GraphOf) (refusal : ArrayRefusal) : Type 0 where
   pub vertex : ℕ
   pub least : IsLeast (IsIsolated g) vertex
   pub is : refusal ≡ Isolated (vertex - 1)
 
--- arrays of which orientations are asked: by their form, or else by a vertex without edges
+-- the error of arrays if orientations are asked for: by their form, or else by an isolated vertex
 abbrev pub RefusesOrientedArrays : ℕ → List ℕ → ArrayRefusal → Type 0
 RefusesOrientedArrays n ends refusal =
     ((fault : EndsFault) × IsEndsFault n ends [] fault × (refusal ≡ ungraphed fault))

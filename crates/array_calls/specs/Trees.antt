@@ -21,7 +21,7 @@ trees_under key height g root = record {
   family = Cycles (heads_of_tree g root);
 }
 
--- what stands for no vertex and for no edge
+-- the number that represents no vertex and no edge
 abbrev pub nothing : ℕ
 nothing = 4294967295
 
@@ -46,7 +46,8 @@ parent g root slots w =
 abbrev pub used : ℕ → List ℕ → ℕ → ℕ
 used root cursors w = if w == root then 0 else slice_index cursors (variable_at root w)
 
--- the cursors of a tree's variables, where the numbers are those of all vertices; without numbers, none
+-- the cursors of a tree's variables, if the numbers are those of all vertices; without numbers,
+-- none
 abbrev pub without_root : ℕ → List ℕ → List ℕ
 without_root root numbers =
     map (λ v. slice_index numbers (vertex_of root v - 1)) (range_with_len 0 (length numbers - 1))
@@ -62,8 +63,9 @@ abbrev pub tree_arrays : List ℕ → List ℕ → List ℕ → List ℕ → Tre
 tree_arrays parents edges useds counts =
     record { parents = parents; edges = edges; useds = useds; counts = counts }
 
--- Row j of the arrays has the end of the sample under the number first + j, with the number of its pops and that of the
--- cycles that still occur, which is 0 where the arrows are a tree. Where cursors are given, row 0 goes on from these.
+-- Row j of the arrays has the end of sample first + j. It also has the number of its pops and the
+-- number of cycles that still occur, which is 0 if the arrows are a tree. If cursors are given,
+-- row 0 continues from them.
 pub record IsTreeRow (i : Instance) (g : GraphOf) (root first : ℕ) (from : List ℕ) (j : ℕ)
     (parents edges useds counts : List ℕ) : Type 0 where
   pub end : End
@@ -74,13 +76,13 @@ pub record IsTreeRow (i : Instance) (g : GraphOf) (root first : ℕ) (from : Lis
   pub pops : slice_index counts (2 * j) ≡ end.pops
   pub stuck : slice_index counts (2 * j + 1) ≡ length end.stuck
 
--- each row of the arrays has such an end, of so many
+-- each of this many rows of the arrays has such an end
 abbrev pub AreTreeRows : Instance → GraphOf → ℕ → ℕ → List ℕ → ℕ → List ℕ → List ℕ → List ℕ → List ℕ → Type 0
 AreTreeRows i g root first from count parents edges useds counts =
     (j : ℕ) → j < count → IsTreeRow i g root first from j parents edges useds counts
 
--- Row j of the arrays has where the sample under the number first + j was stopped: its cursors, the number of its pops
--- and that of the cycles that occur there.
+-- Row j of the arrays has the state in which sample first + j stopped: its cursors, the number of
+-- its pops and the number of cycles that occur there.
 pub record IsTreeStop (i : Instance) (g : GraphOf) (root first : ℕ) (from : List ℕ) (j : ℕ)
     (useds counts : List ℕ) : Type 0 where
   pub stop : End
@@ -89,8 +91,8 @@ pub record IsTreeStop (i : Instance) (g : GraphOf) (root first : ℕ) (from : Li
   pub pops : slice_index counts (2 * j) ≡ stop.pops
   pub stuck : slice_index counts (2 * j + 1) ≡ length stop.stuck
 
--- The call stopped at row j, where its budget was spent. Rows before it are at their ends. Its own has its cursors and
--- counts, and all that lies behind stays.
+-- The call stopped at row j, because its budget was used up. The rows before it are at their ends.
+-- Row j has its cursors and counts, and everything after it stays.
 pub record StopsAtTree (i : Instance) (g : GraphOf) (root first : ℕ) (from : List ℕ) (budget count : ℕ)
     (old new : TreeArrays) (j : ℕ) : Type 0 where
   pub below : j < count
@@ -103,13 +105,13 @@ pub record StopsAtTree (i : Instance) (g : GraphOf) (root first : ℕ) (from : L
   pub useds_stay : StaysFrom ((j + 1) * g.vertices) old.useds new.useds
   pub counts_stay : StaysFrom (2 * (j + 1)) old.counts new.counts
 
--- each row, of so many, is at its end, within the budget
+-- each of this many rows is at its end, within the budget
 pub record EndsTrees (i : Instance) (g : GraphOf) (root first : ℕ) (from : List ℕ) (budget count : ℕ)
     (new : TreeArrays) : Type 0 where
   pub rows : AreTreeRows i g root first from count new.parents new.edges new.useds new.counts
   pub within : AreWithinBudget budget count new.counts
 
--- what a call leaves in the arrays that stopped at a row, or at none
+-- what a call leaves in the arrays, if it stopped at a row, or at none
 abbrev pub LeavesTrees : Instance → GraphOf → ℕ → ℕ → List ℕ → ℕ → ℕ → TreeArrays → TreeArrays → Option ℕ → Type 0
 LeavesTrees i g root first from budget count old new stopped =
     MatchOption stopped (EndsTrees i g root first from budget count new)
@@ -127,21 +129,22 @@ pub record AreTreesOf (g : GraphOf) (root : ℕ) (i : Instance) : Type 0 where
   pub height : ℕ
   pub is : i ≡ trees_under key height g root
 
--- an array has so many rows of n numbers, or isn't wanted
+-- an array has this many rows of n numbers, or isn't wanted
 abbrev pub FitsWanted : ℕ → ℕ → List ℕ → Type 0
 FitsWanted n count numbers = (length numbers ≡ 0) ⊎ (length numbers ≡ count * n)
 
--- the arrays have so many rows of n numbers
+-- the arrays have this many rows of n numbers
 pub record FitRows (n count : ℕ) (parents edges useds : List ℕ) : Type 0 where
   pub parents_fit : length parents ≡ count * n
   pub edges_fit : FitsWanted n count edges
   pub useds_fit : FitsWanted n count useds
 
--- where there is a budget, the cursors are wanted
+-- if there is a budget, the cursors are wanted
 abbrev pub WantsStops : ℕ → ℕ → ℕ → List ℕ → Type 0
 WantsStops budget n count useds = budget < unlimited → length useds ≡ count * n
 
--- The cursors from which row 0 goes on, if any are given: one for each of n variables or vertices, below the height.
+-- The cursors from which row 0 continues, if any are given: one for each of n variables or
+-- vertices, below the height.
 pub record FitFrom (n height : ℕ) (from : List ℕ) : Type 0 where
   pub count : (length from ≡ 0) ⊎ (length from ≡ n)
   pub below : (k : ℕ) → k < length from → slice_index from k < height

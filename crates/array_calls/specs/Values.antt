@@ -1,4 +1,4 @@
--- Samples of variables of two values in arrays: a row has a number for each variable.
+-- Samples of variables with two values in arrays: a row has a number for each variable.
 use Rattle.std.specs.Prelude.{◌≡◌, ℕ, ◌+◌, ◌-◌, ◌*◌, ◌<◌, List, [], ◌∷◌, length, replicate, slice_index, Option, MatchOption}
 use Rattle.rand_chacha.specs.ChaCha.{key_of}
 use Rattle.pop_model.specs.Stacks.{StackTable, IsKeyed}
@@ -13,7 +13,7 @@ use Rattle.pop_batch.specs.Parts.{IsPartEnd, IsPartStop}
 use Rattle.array_calls.specs.Rows.{HasRow, HasWanted, StaysFrom}
 use Rattle.array_calls.specs.Draws.{AreWithinBudget, given, pops_of, unlimited}
 
--- the number of each variable, of which variable v has place v + 1 in a row
+-- the number of each variable: variable v is at place v + 1 of a row
 abbrev pub number_at : List ℕ → ℕ → ℕ
 number_at numbers k = slice_index numbers (k - 1)
 
@@ -97,7 +97,7 @@ pub record AreOfPairs (n : ℕ) (s : StackTable) : Type 0 where
   pub keyed : IsKeyed s.origin
   pub is : s.weights ≡ replicate n (1 ∷ 1 ∷ [])
 
--- what a call for orientations of the graph leaves that stopped at a row, or at none
+-- what a call for orientations of the graph leaves, if it stopped at a row, or at none
 pub record LeavesOrientations (key : List ℕ) (height : ℕ) (g : GraphOf) (first : ℕ) (from : List ℕ) (budget count : ℕ)
     (old new : ValueArrays) (stopped : Option ℕ) : Type 0 where
   pub instance : Instance

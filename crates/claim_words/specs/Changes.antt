@@ -6,11 +6,11 @@ use Rattle.claim_words.specs.Maps.{total}
 abbrev pub Change : Type 0
 Change = ℕ × ℕ × ℕ
 
--- the mark that was found, where the unit is u
+-- the mark that was found, if the unit is u
 abbrev pub found_mark : ℕ → Change → ℕ
 found_mark u c = cond (c.0 == u) c.1 0
 
--- the mark that was left, where the unit is u
+-- the mark that was left, if the unit is u
 abbrev pub left_mark : ℕ → Change → ℕ
 left_mark u c = cond (c.0 == u) c.2 0
 

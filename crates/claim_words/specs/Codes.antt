@@ -1,4 +1,4 @@
--- How records under tickets are stored in a view.
+-- The encoding of records under tickets in a view.
 use Rattle.std.specs.Prelude.{ℕ, List}
 use Rattle.std.specs.Coded.{Coded, coded_ℕ, coded_list, coded×, code_by}
 use Rattle.std.proofs.Common.{refl}

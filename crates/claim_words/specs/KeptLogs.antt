@@ -9,14 +9,14 @@ use Rattle.claim_words.specs.Maps.{Each, total}
 use Rattle.claim_words.specs.Steps.{Drawn}
 use Rattle.claim_words.specs.Machine.{Use}
 
--- what is kept: tickets; the uses of a record that has no ticket yet; for how many uses more there
--- is room
+-- the tickets; the uses of a record that has no ticket yet; and for how many more uses there is
+-- room
 pub record Kept : Type 0 where
   pub tickets : List Drawn
   pub loose : List Use
   pub spare : ℕ
 
--- the ticket and the unit of a record, and how many pairs it has
+-- the ticket, the unit and the number of pairs of a record
 abbrev pub Head : Type 0
 Head = ℕ × ℕ × ℕ
 
@@ -35,7 +35,7 @@ record_of u us = record {
   entries = entries_in us;
 }
 
--- how many uses the heads have
+-- the number of uses of the heads
 abbrev pub many_uses : List Head → ℕ
 many_uses hs = total (λ h. h.2) hs
 
@@ -48,34 +48,34 @@ tickets_of (h ∷ hs) us = (h.0, record_of h.1 (take h.2 us)) ∷ tickets_of hs 
 abbrev pub IsWhole : Drawn → Type 0
 IsWhole r = IsCube r.1.event.cube × (length r.1.event.cube < 2 ^ 31)
 
--- the lists fit, and there is room for so many uses more, and as many heads
+-- the lists fit, and there is room for this many more uses, and as many heads
 pub record AreKept (hs : List Head) (us : List Use) (for_heads for_uses spare : ℕ) : Type 0 where
   pub fit : many_uses hs ≤ length us
   pub whole : Each IsWhole (tickets_of hs us)
   pub uses_room : spare ≤ for_uses
-  -- the loose uses want one head too
+  -- the loose uses also need one head
   pub heads_room : spare + min 1 (length (drop (many_uses hs) us)) ≤ for_heads
 
--- where a log is kept, it has these tickets, and no loose use
+-- if a log is kept, it has these tickets and no loose uses
 abbrev pub HasTickets : Option Kept → List Drawn → Type 0
 HasTickets log mine = IfSome log (λ l. (l.tickets ≡ mine) × (length l.loose ≡ 0))
 
--- that is a proposition
+-- `HasTickets` is a proposition
 pub HasTickets-prop : (log : Option Kept) (mine : List Drawn) → IsProp (HasTickets log mine)
 HasTickets-prop None mine = Unit-prop
 HasTickets-prop (Some l) mine =
     ×_prop (Coded-set mine_coded l.tickets mine) (Coded-set coded_ℕ (length l.loose) 0)
 
--- where a log is kept, there is room for n pairs
+-- if a log is kept, there is room for n pairs
 abbrev pub HasRoom : Option Kept → ℕ → Type 0
 HasRoom log n = IfSome log (λ l. n ≤ l.spare)
 
--- for how many pairs there is room
+-- the number of pairs that there is room for
 abbrev pub spare_in : Option Kept → ℕ
 spare_in None = 0
 spare_in (Some l) = l.spare
 
--- both are kept or neither, and this holds of what is kept
+-- both are kept or neither, and this holds for what is kept
 abbrev pub Both : (Kept → Kept → Type 0) → Option Kept → Option Kept → Type 0
 Both P None None = ⊤
 Both P None (Some m) = ⊥
@@ -86,7 +86,7 @@ Both P (Some l) (Some m) = P l m
 abbrev pub SameTickets : Option Kept → Option Kept → Type 0
 SameTickets old new = Both (λ l m. (m.tickets ≡ l.tickets) × (m.loose ≡ l.loose)) old new
 
--- these uses came in, and took up their room
+-- these uses were added, and took up their room
 abbrev pub Adds : Option Kept → Option Kept → List Use → Type 0
 Adds old new us = Both (λ l m. (m.tickets ≡ l.tickets) × (m.loose ≡ l.loose ++ us)
     × (m.spare + length us ≡ l.spare)) old new
@@ -96,12 +96,12 @@ abbrev pub Seals : Option Kept → Option Kept → ℕ → ℕ → Type 0
 Seals old new t u = Both (λ l m. (m.tickets ≡ l.tickets ++ (t, record_of u l.loose) ∷ [])
     × (m.loose ≡ []) × (m.spare ≡ l.spare)) old new
 
--- the loose uses are those of a cube of so many pairs
+-- the loose uses are those of a cube with this many pairs
 abbrev pub IsSealable : Option Kept → ℕ → Type 0
 IsSealable log n = IfSome log (λ l.
     IsCube (pairs_in l.loose) × (n ≡ length l.loose) × (length l.loose < 2 ^ 31))
 
--- the tickets of both, where both logs are kept
+-- the tickets of both logs, if both are kept
 abbrev pub Unites : Option Kept → Option Kept → Option Kept → Type 0
 Unites None other None = ⊤
 Unites None other (Some m) = ⊥
@@ -110,7 +110,7 @@ Unites (Some l) (Some o) None = ⊥
 Unites (Some l) (Some o) (Some m) =
     (m.tickets ≡ l.tickets ++ o.tickets) × (length m.loose ≡ 0) × (m.spare ≡ l.spare)
 
--- the tickets are those of the log, where one is kept
+-- the tickets are those of the log, if one is kept
 abbrev pub IsTold : Option Kept → Option (List Drawn) → Type 0
 IsTold None told = (told ≡ None)
 IsTold (Some l) told = (told ≡ Some l.tickets)

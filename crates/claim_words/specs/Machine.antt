@@ -26,15 +26,15 @@ uses_of [] ks = []
 uses_of (p ∷ ps) [] = (p.0, p.1, 0) ∷ uses_of ps []
 uses_of (p ∷ ps) (k ∷ ks) = (p.0, p.1, k) ∷ uses_of ps ks
 
--- what a record used
+-- the uses of a record
 abbrev pub uses : LogRecord → List Use
 uses r = uses_of r.event.cube r.entries
 
--- what a pop at these held cursors uses
+-- the uses of a pop at these held cursors
 abbrev pub uses_held : Cube → Pairs → List Use
 uses_held e held = uses_of e (map (λ p. look p.0 held) e)
 
--- the weights of the entries that were used of v, added up
+-- the sum of the weights of the used entries of v
 abbrev pub used : (ℕ → ℕ) → ℕ → List Use → ℕ
 used f v es = total (λ e. cond (e.0 == v) (f e.2) 0) es
 
@@ -63,11 +63,11 @@ module _ (k : Opening) (words : List ℕ) where
   abbrev pub IsHeldAt : ℕ × ℕ → Type 0
   IsHeldAt p = (p.0 < count k) × (cursor_in (word p.0) ≡ p.1)
 
-  -- no cursor was found above the word's
+  -- no cursor was found that is above the word's
   abbrev pub IsFoundAt : ℕ × ℕ → Type 0
   IsFoundAt p = (p.0 < count k) × (p.1 ≤ cursor_in (word p.0))
 
-  -- what is known to be settled is so, with the cursor that is known
+  -- a variable that is known to be settled is settled, with the known cursor
   abbrev pub IsSettledAt : ℕ × ℕ → Type 0
   IsSettledAt p =
       (p.0 < count k) × (settled_bit (word p.0) ≡ 1) × (cursor_in (word p.0) ≡ p.1)
@@ -80,7 +80,7 @@ module _ (k : Opening) (words : List ℕ) where
     goes_on : (v u : ℕ) → head_at k v (cursor_in (word v)) ≡ Some u → u < count k
         → settled_bit (word u) ≡ 1 → Leads u → Leads v
 
-  -- what holds of each view
+  -- the invariant of each view
   pub record Agrees (d : View) : Type 0 where
     -- a pass of this board with a share, or one that has ended
     pub live : ((d.opening ≡ Some k) × (1 ≤ d.share)) ⊎ (d ≡ spent)
@@ -89,29 +89,31 @@ module _ (k : Opening) (words : List ℕ) where
     pub knows : Each IsSettledAt d.settled
     -- a unit that was taken has a mark
     pub taken : Each (λ u. u < marks k) d.taken
-    -- each variable whose advance is due is held
+    -- each variable with an advance that is due is held
     pub due : (v : ℕ) → times v d.due ≤ times v d.held
 
 module _ {S : Type 0} (k : Opening) (s : State S View) where
-  -- the abstract cursor: the word's, and 1 more where a pass has an advance due
+  -- the abstract cursor: that of the word, plus 1 if a pass has an advance due
   abbrev pub abstract : ℕ → ℕ
   abstract v = cursor_in (word k s.words v) + total (λ d. times v d.due) s.views
 
-  -- the record of some pass
+  -- the record is one of some pass
   abbrev pub Member : Drawn → Type 0
   Member r = (j : ℕ) × (d : View) × (get_elem? s.views j ≡ some d) × In r d.mine
 
-  -- the tickets and the entries that were used, one by one
+  -- the tickets, and the entries that were used, one by one
   pub record History : Type 0 where
-    -- each number below that of word 0 is one ticket of one pass, and no other is
+    -- each number below that of word 0 is one ticket of exactly one pass, and there are no other
+    -- tickets
     pub tickets : (f : ℕ → ℕ)
         → total (λ d. total (λ r. f r.0) d.mine) s.views ≡ below f (slice_index s.words 0)
-    -- the entries used of v are those from the start up to the abstract cursor, each once
+    -- the used entries of v are those from the start up to, but without, the abstract cursor, each
+    -- once
     pub entries : (v : ℕ) → v < count k → (f : ℕ → ℕ)
         → total (λ d. total (λ r. used f v (uses r.1)) d.mine) s.views + below f (begun k v)
         ≡ below f (abstract v)
     pub popped : (r : Drawn) → Member r → IsPopped k r.1
-    -- of two entries of one variable the lesser has the lower ticket
+    -- of two entries of one variable the lower one has the lower ticket
     pub order : (r q : Drawn) → Member r → Member q → (e g : Use) → In e (uses r.1)
         → In g (uses q.1) → e.0 ≡ g.0 → e.2 < g.2 → r.0 < q.0
     pub low : (v : ℕ) → v < count k → abstract v < height k v
@@ -126,30 +128,30 @@ module _ {S : Type 0} (k : Opening) (s : State S View) where
   abbrev pub mark : ℕ → ℕ
   mark u = slice_index s.words (mark_of (count k) u)
 
-  -- the marks that the changes of all passes found of the unit, added up
+  -- the sum of the marks that the changes of all passes found at the unit
   abbrev pub found_marks : ℕ → ℕ
   found_marks u = total (λ d. total (found_mark u) d.changes) s.views
 
-  -- the marks that they left
+  -- the sum of the marks that the changes of all passes left at the unit
   abbrev pub left_marks : ℕ → ℕ
   left_marks u = total (λ d. total (left_mark u) d.changes) s.views
 
-  -- the marks are what the changes made of them; each event that is poppable at the abstract
-  -- cursors has its unit marked, or with a pass
+  -- The marks are what the changes made of them. If an event is poppable at the abstract cursors,
+  -- its unit is marked, or taken or owed by a pass.
   pub record Marked : Type 0 where
     pub bits : (u : ℕ) → u < marks k → mark u ≤ 1
     -- each mark was set at the start, and is what the changes of all passes left
     pub counts : (u : ℕ) → u < marks k → mark u + found_marks u ≡ 1 + left_marks u
     pub covers : (u : ℕ) → u < marks k → IsPoppableAt k abstract u → (mark u ≡ 1) ⊎ Tracks u
 
-  -- the rule
+  -- the rule of a board
   pub record Sound : Type 0 where
     pub wide : length s.words ≡ 1 + count k + marks k
     pub formed : (v : ℕ) → v < count k → Formed (word k s.words v)
     pub heights : (v : ℕ) → v < count k → height k v < 2 ^ 31
     pub narrow : count k < 2 ^ 31
     pub shares : total (λ d. d.share) s.views ≡ 64
-    -- a word is claimed and not settled exactly where one pass holds its variable, once
+    -- a word is claimed and not settled exactly if one pass holds its variable, once
     pub held_once : (v : ℕ) → v < count k
         → total (λ d. times v d.held) s.views + settled_bit (word k s.words v)
         ≡ claimed_bit (word k s.words v)
@@ -159,7 +161,7 @@ module _ {S : Type 0} (k : Opening) (s : State S View) where
     -- some pass knows each variable that is settled
     pub known : (v : ℕ) → v < count k
         → settled_bit (word k s.words v) ≤ total (λ d. times v d.settled) s.views
-    -- of a listed family no variable is settled
+    -- in a listed family no variable is settled
     pub unsettled : is_listed k.instance.value.family ≡ true → (v : ℕ) → v < count k
         → settled_bit (word k s.words v) ≡ 0
     pub marked : Marked

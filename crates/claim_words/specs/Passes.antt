@@ -1,4 +1,4 @@
--- What contracts say of a board and of a pass.
+-- The terms in which contracts describe boards and passes.
 use Rattle.std.specs.Prelude.{◌≡◌, ℕ, ◌-◌, [], Option, Some, None, is_some, if◌then◌else◌, List, length, vec_len, vec_capacity}
 use Rattle.std.specs.List.{enumerate_from}
 use Rattle.atomic_table.specs.declared.shared.Seat.{Seat}
@@ -23,15 +23,15 @@ opening_of board = board.table.shared.key
 abbrev pub instance_of : Board → Instance
 instance_of board = (opening_of board).instance.value
 
--- how many variables a board has
+-- the number of variables of a board
 abbrev pub count_of : Board → ℕ
 count_of board = count (opening_of board)
 
--- how many units of a board have a mark: all of a listed family, else none
+-- the number of units of a board that have a mark: all of a listed family, and none of cycles
 abbrev pub marks_of : Board → ℕ
 marks_of board = marks (opening_of board)
 
--- what a board keeps
+-- whether a board keeps a log
 abbrev pub keep_of : Board → Keep
 keep_of board = board.keep
 
@@ -48,11 +48,11 @@ IsSeat board seat = (seat.table_id ≡ board.table.shared.table_id)
 abbrev pub IsOf : Board → Pass → Type 0
 IsOf board pass = IsSeat board pass.seat × (is_some pass.log ≡ keeps_log board.keep)
 
--- how many claims fit without memory
+-- the number of claims that need no allocation
 abbrev pub spare : Pass → ℕ
 spare pass = vec_capacity pass.held - vec_len pass.held
 
--- how many pairs of records fit without memory, where a log is kept; else 0
+-- the number of pairs of records that need no allocation, if a log is kept, and otherwise 0
 abbrev pub log_spare : Pass → ℕ
 log_spare pass = spare_in pass.log
 
@@ -60,7 +60,7 @@ log_spare pass = spare_in pass.log
 abbrev pub SameRoom : Pass → Pass → Type 0
 SameRoom old new = (spare new ≡ spare old) × (log_spare new ≡ log_spare old)
 
--- the tickets that are handed out where a log is kept
+-- the tickets that are returned if a log is kept
 abbrev pub kept_tickets : Board → Pass → Option (List (ℕ × LogRecord))
 kept_tickets board pass = if keeps_log board.keep then Some (view pass).mine else None
 
@@ -72,7 +72,7 @@ IsIdle pass = ((view pass).held ≡ []) × ((view pass).taken ≡ []) × ((view 
 abbrev pub IsSole : Pass → Type 0
 IsSole pass = (view pass).share ≡ 64
 
--- the share is the same, and the lists of units
+-- the share and the lists of units are the same
 abbrev pub SameMarks : Pass → Pass → Type 0
 SameMarks old new = ((view new).share ≡ (view old).share) × ((view new).taken ≡ (view old).taken)
     × ((view new).owed ≡ (view old).owed)

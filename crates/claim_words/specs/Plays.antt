@@ -1,4 +1,4 @@
--- What each step tells the pass that makes it: of what it found, and of the pass before it and after.
+-- What each step shows the pass that makes it: what it found, and the pass before it and after.
 use Rattle.std.specs.Prelude.{◌≡◌, ℕ, ◌<◌, ◌≤◌}
 use Rattle.atomic_table.specs.Table.{Me}
 use Rattle.pop_model.specs.Popping.{Cube}

@@ -1,4 +1,4 @@
--- What every pass can tell of the start of its board.
+-- What every pass knows of the start of its board.
 use Rattle.std.specs.Prelude.{◌≡◌, length, Some}
 use Rattle.claim_words.specs.Openings.{count}
 use Rattle.claim_words.specs.declared.view.View.{View}

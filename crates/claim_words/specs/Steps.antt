@@ -1,4 +1,4 @@
--- What each step does to the view of the pass that makes it.
+-- The effect of each step on the view of the pass that makes it.
 use Rattle.std.specs.Prelude.{ℕ, ◌+◌, ◌-◌, Bool, [], ◌∷◌, ◌++◌, suc, List, map, cond, ◌==◌, Option, Some, None}
 use Rattle.std.specs.List.{list_any}
 use Rattle.pop_model.specs.Popping.{Cube, names}
@@ -41,7 +41,7 @@ spent = record {
 abbrev pub fresh : Opening → View
 fresh k = record spent { opening = Some k; share = 64 }
 
--- a claim that found the word free, or else maybe settled
+-- a claim that found the word free, or possibly settled
 abbrev pub claim_with : Bool → Bool → View → ℕ → ℕ → View
 claim_with free settled d v w = record d {
   held = cond free (d.held ++ (v, cursor_in w) ∷ []) d.held;
@@ -59,23 +59,24 @@ claimed_by d v w = claim_with (is_free w) (is_settled w) d v w
 abbrev pub released_by : View → ℕ → View
 released_by d v = record d { held = without v d.held }
 
--- the units, from n on, whose event shares a variable with the cube
+-- the units, from n on, with an event that shares a variable with the cube
 abbrev pub sharing_from : Cube → ℕ → List (ℕ × Cube) → List ℕ
 sharing_from cube n [] = []
 sharing_from cube n (r ∷ rows) = cond (list_any (λ p. names r.1 p.0) cube)
     (n ∷ sharing_from cube (suc n) rows) (sharing_from cube (suc n) rows)
 
--- the units of a listed family whose event shares a variable with the cube
+-- the units of a listed family with an event that shares a variable with the cube
 abbrev pub sharing : Family → Cube → List ℕ
 sharing (Listed rows) cube = sharing_from cube 0 rows
 sharing (Cycles heads) cube = []
 
--- the same for the family of the board of a view
+-- the units of `sharing`, for the family of the board of a view
 abbrev pub sharers : Option Opening → Cube → List ℕ
 sharers None cube = []
 sharers (Some k) cube = sharing k.instance.value.family cube
 
--- a ticket t for the event of u: its advances are due, and the marks of what shares a variable
+-- a ticket t for the event of u: the advances of its variables are due, and the marks of units
+-- with events that share a variable are owed
 abbrev pub drawn_by : View → ℕ → Cube → ℕ → View
 drawn_by d u cube t = record d {
   taken = taken_out u d.taken;
@@ -96,14 +97,14 @@ raised_by d cube = record d { held = raise_all cube d.held; due = [] }
 abbrev pub popped_by : View → ℕ → Cube → ℕ → View
 popped_by d u cube t = raised_by (drawn_by d u cube t) cube
 
--- v is settled
+-- a settle of v
 abbrev pub settled_by : View → ℕ → View
 settled_by d v = record d {
   held = without v d.held;
   settled = (v, look v d.held) ∷ d.settled;
 }
 
--- the mark of u was taken, and this was found
+-- a take of the mark of u, which found this
 abbrev pub taken_by : View → ℕ → ℕ → View
 taken_by d u w = record d {
   taken = cond (w == 1) (u ∷ d.taken) d.taken;
@@ -111,7 +112,7 @@ taken_by d u w = record d {
   changes = d.changes ++ (u, w, 0) ∷ [];
 }
 
--- the mark of u was set, and this was found
+-- the mark of u was set, and this was found before
 abbrev pub marked_by : View → ℕ → ℕ → View
 marked_by d u w = record d {
   taken = taken_out u d.taken;
@@ -119,15 +120,15 @@ marked_by d u w = record d {
   changes = d.changes ++ (u, w, 1) ∷ [];
 }
 
--- the event of u isn't poppable, so u needs no mark
+-- the event of u is not poppable, so u needs no mark
 abbrev pub cleared_by : View → ℕ → View
 cleared_by d u = record d { taken = taken_out u d.taken }
 
--- what a split leaves
+-- the view of the pass that a split leaves
 abbrev pub cut_left : View → ℕ → View
 cut_left d part = record d { share = d.share - part; moves = d.moves + 1 }
 
--- what a split gives away: the new pass knows what was found, and what is settled
+-- the view of the pass that a split makes: it knows what was found, and what is settled
 abbrev pub cut_right : View → ℕ → View
 cut_right d part = record spent {
   opening = d.opening;
@@ -136,7 +137,7 @@ cut_right d part = record spent {
   settled = d.settled;
 }
 
--- two passes are one
+-- the view of two passes after a join
 abbrev pub united : View → View → View
 united d e = record d {
   share = d.share + e.share;

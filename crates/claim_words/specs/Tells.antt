@@ -12,7 +12,7 @@ use Rattle.claim_words.specs.TicketLogs.{IsLegalFrom, vector}
 use Rattle.claim_words.specs.declared.view.View.{View}
 use Rattle.claim_words.specs.declared.opening.Opening.{Opening}
 
--- the cursor that was found, if it was found at v, is at most c
+-- if the cursor was found at v, it is at most c
 abbrev pub AtMost : ℕ → ℕ → ℕ × ℕ → Type 0
 AtMost v c p = p.0 ≡ v → p.1 ≤ c
 
@@ -20,57 +20,60 @@ AtMost v c p = p.0 ≡ v → p.1 ≤ c
 abbrev pub IsNewer : ℕ → ℕ → List Drawn → Type 0
 IsNewer v c mine = (r : Drawn) (e : Use) → In r mine → In e (uses r.1) → e.0 ≡ v → e.2 < c
 
--- what a claim of v tells that found the word w, and the view after it
+-- what a claim of v shows if it found the word w, and the view after it
 pub record ClaimTells (d : View) (v w : ℕ) (e : View) : Type 0 where
   pub view : e ≡ claimed_by d v w
   -- the cursor is that of an entry
   pub short : cursor_in w < 2 ^ 31
   pub low : (k : Opening) → d.opening ≡ Some k → cursor_in w < height k v
-  -- it is at least each cursor of v that the pass found before
+  -- it is at least each cursor of v that the pass found earlier
   pub found : Each (AtMost v (cursor_in w)) d.found
-  -- a sole pass is refused only by itself
+  -- a pass that is the only one finds only its own claims
   pub refused : d.share ≡ 64 → 2 ^ 63 ≤ w → settled_bit w ≡ 0 → times v d.held ≡ 1
-  -- what the pass knows to be settled is found so, and a sole pass knows all that is found so
+  -- a variable that the pass knows to be settled is found settled, and a pass that is the only one
+  -- knows all that are found settled
   pub known : 1 ≤ times v d.settled → settled_bit w ≡ 1
   pub told : d.share ≡ 64 → settled_bit w ≡ 1 → 1 ≤ times v d.settled
-  -- of a listed family no variable is settled
+  -- in a listed family no variable is settled
   pub listed : (k : Opening) → d.opening ≡ Some k → is_listed k.instance.value.family ≡ true
       → settled_bit w ≡ 0
-  -- where the word was free or settled, its cursor is above each entry of v that the pass popped
+  -- if the word was free or settled, its cursor is above each entry of v that the pass popped
   pub newer : IsLeft w → IsNewer v (cursor_in w) d.mine
 
--- what a sole pass learns from the word of v: its records are a legal log, and the word has the
--- cursor of v in its vector
+-- What a pass that is the only one learns from the word of v: its records are a legal log, and the
+-- word has the cursor of v in its vector.
 abbrev pub SoleTells : View → ℕ → ℕ → Type 0
 SoleTells d v w = (k : Opening) → d.opening ≡ Some k → d.share ≡ 64
     → IsLegalFrom k d.mine × (cursor_in w ≡ cursor (vector k d.mine) v)
 
--- no cycle that is poppable at a sole pass's vector has a variable that the pass knows to be
--- settled
+-- no cycle that is poppable at the vector of a pass that is the only one has a variable that the
+-- pass knows to be settled
 abbrev pub NoneSettled : Opening → View → Type 0
 NoneSettled k d = (e : Event) → is_listed k.instance.value.family ≡ false
     → IsEvent k.instance.value.family e
     → IsPoppable k.instance.value.stacks (vector k d.mine) e.cube
     → (v : ℕ) → names e.cube v ≡ true → times v d.settled ≡ 0
 
--- where the pass is sole, its records are a legal log, and what it knows to be settled is done
+-- if the pass is the only one, its records are a legal log, and the variables that it knows to be
+-- settled are done
 abbrev pub SoleKnows : View → Type 0
 SoleKnows d = (k : Opening) → d.opening ≡ Some k → d.share ≡ 64
     → IsLegalFrom k d.mine × NoneSettled k d
 
--- the event of u isn't poppable at a sole pass's vector
+-- the event of u is not poppable at the vector of a pass that is the only one
 abbrev pub NonePoppable : Opening → View → ℕ → Type 0
 NonePoppable k d u = (cube : Cube)
     → IsEvent k.instance.value.family (record { unit = u; cube = cube })
     → IsPoppable k.instance.value.stacks (vector k d.mine) cube → ⊥
 
--- what a sole pass learns from the mark of u: its records are a legal log, and where the mark was 0
--- and u is neither taken nor owed, the event of u isn't poppable
+-- What a pass that is the only one learns from the mark of u. Its records are a legal log. If the
+-- mark was 0 and u is neither taken nor owed, the event of u is not poppable.
 abbrev pub SoleTakes : View → ℕ → ℕ → Type 0
 SoleTakes d u w = (k : Opening) → d.opening ≡ Some k → d.share ≡ 64
     → IsLegalFrom k d.mine
     × (w ≡ 0 → (In u d.taken → ⊥) → (In u d.owed → ⊥) → NonePoppable k d u)
 
--- what a sole pass knows of the mark of u before a step that finds w there: its changes tell it
+-- what a pass that is the only one knows of the mark of u before a step that finds w there: it
+-- follows from its changes
 abbrev pub SoleFinds : View → ℕ → ℕ → Type 0
 SoleFinds d u w = d.share ≡ 64 → w ≡ mark_after u d.changes

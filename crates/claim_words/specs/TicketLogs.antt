@@ -1,4 +1,4 @@
--- The log that the tickets of a sole pass make.
+-- The log that the tickets of a pass form if it is the only one.
 use Rattle.std.specs.Prelude.{◌≡◌, ℕ, zero, suc, ◌+◌, ◌<◌, List, [], ◌∷◌, ◌++◌, length, cond, ◌==◌}
 use Rattle.pop_model.specs.Popping.{cursor}
 use Rattle.pop_model.specs.Logs.{LogRecord, IsLegal, replay}
@@ -8,8 +8,8 @@ use Rattle.claim_words.specs.Steps.{Drawn}
 use Rattle.claim_words.specs.Machine.{Use, uses, used, IsPopped}
 use Rattle.claim_words.specs.declared.opening.Opening.{Opening}
 
--- the whole history of a board is that of one pass: the tickets below t, and for each variable the
--- entries from the start up to below c
+-- The whole history of a board is that of one pass. It has the tickets below t and, for each
+-- variable, the entries from the start up to, but without, c.
 pub record Whole (k : Opening) (mine : List Drawn) (t : ℕ) (c : ℕ → ℕ) : Type 0 where
   pub tickets : (f : ℕ → ℕ) → total (λ r. f r.0) mine ≡ below f t
   pub entries : (v : ℕ) → v < count k → (f : ℕ → ℕ)
@@ -37,8 +37,8 @@ log_of mine = log_below mine (length mine)
 abbrev pub IsLegalFrom : Opening → List Drawn → Type 0
 IsLegalFrom k mine = IsLegal k.instance.value k.start.value (log_of mine)
 
--- the vector of a sole pass: the replay of its records from the start, in the order of their
--- tickets
+-- the vector of a pass that is the only one: the replay of its records from the start, in the
+-- order of their tickets
 abbrev pub vector : Opening → List Drawn → List ℕ
 vector k mine = replay k.start.value (log_of mine)
 

@@ -3,7 +3,7 @@
 -- bits are 0. Each unit of a listed family has a word, its mark, which is 0 or 1.
 use Rattle.std.specs.Prelude.{◌≡◌, ◌⊎◌, ℕ, ◌+◌, ◌-◌, ◌*◌, ◌/◌, ◌%◌, ◌^◌, ◌<◌, ◌≤◌, Bool, nat_lt}
 
--- the number of a variable's word
+-- the index of the word of a variable
 abbrev pub word_of : ℕ → ℕ
 word_of v = 1 + v
 
@@ -11,7 +11,7 @@ word_of v = 1 + v
 abbrev pub variable_at : ℕ → ℕ
 variable_at i = i - 1
 
--- the number of the word that is a unit's mark, behind the words of so many variables
+-- the index of the word with the mark of a unit, after the words of this many variables
 abbrev pub mark_of : ℕ → ℕ → ℕ
 mark_of count u = 1 + count + u
 
@@ -39,11 +39,11 @@ is_free w = nat_lt w (2 ^ 63)
 abbrev pub is_settled : ℕ → Bool
 is_settled w = nat_lt (2 ^ 63 + 2 ^ 62 - 1) w
 
--- a word that no pass holds: it is free, or settled
+-- a word of a variable that no pass holds: it is free or settled
 abbrev pub IsLeft : ℕ → Type 0
 IsLeft w = (w < 2 ^ 63) ⊎ (settled_bit w ≡ 1)
 
--- a word is made of two bits and a cursor, and what is settled is claimed too
+-- a word consists of two bits and a cursor, and a settled word is claimed too
 abbrev pub Formed : ℕ → Type 0
 Formed w = (w ≡ cursor_in w + 2 ^ 62 * settled_bit w + 2 ^ 63 * claimed_bit w)
     × (cursor_in w < 2 ^ 31) × (claimed_bit w ≤ 1) × (settled_bit w ≤ claimed_bit w)

@@ -62,8 +62,8 @@ pub record AreDrawn (f : Frame) (Kind : List ℕ → Rows → Type 0) : Type 0 w
   pub each : DrawsEach f Kind (sample_weight (all_shares f.weights))
   -- Each set of samples is drawn by the sum of its shares.
   pub by_shares : DrawsSome f Kind (sample_weight (all_shares f.weights))
-  -- Samples are drawn by weights, if the weights of each variable sum to a number that divides 2 ^
-  -- 64.
+  -- Samples are drawn by weights, if the weights of each variable sum to a number that divides
+  -- 2 ^ 64.
   pub each_by_weights : All (λ ws. sum ws ∣ 2 ^ 64) f.weights
       → DrawsEach f Kind (sample_weight f.weights)
   pub by_weights : All (λ ws. sum ws ∣ 2 ^ 64) f.weights → DrawsSome f Kind (sample_weight f.weights)

@@ -51,8 +51,8 @@ abbrev pub unread_numbers : Frame → List LogRecord → ℕ
 unread_numbers f log = (2 ^ 64) ^ (sum f.heights - used_by log - length f.weights)
 
 -- The number of tables that finish by the records of a log with a sample is a product: of the
--- shares of the values that the records demand, of the shares of the sample's values, and of 2 ^
--- 64 for each entry that is not read. Events may clash.
+-- shares of the values that the records demand, of the shares of the sample's values, and of
+-- 2 ^ 64 for each entry that is not read. Events may clash.
 abbrev pub RunNumbers : Type 0
 RunNumbers = (f : Frame) → IsFrame f → HaveWeights f.weights → (log : List LogRecord) → IsLogOf f log
     → (w : List ℕ) → IsSampleOf f w

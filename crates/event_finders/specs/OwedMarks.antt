@@ -1,15 +1,15 @@
--- What is left to mark, and to give back.
+-- The units that are left to mark, and the variables that are left to release.
 use Rattle.std.specs.Prelude.{◌≡◌, ℕ, List, [], ◌∷◌, ◌++◌}
 use Rattle.claim_words.specs.Maps.{In, taken_out}
 use Rattle.claim_words.specs.Changes.{Change}
 use Rattle.claim_words.specs.declared.view.View.{View}
 
--- the list without these
+-- the list without these items
 abbrev pub all_out : List ℕ → List ℕ → List ℕ
 all_out [] l = l
 all_out (u ∷ us) l = all_out us (taken_out u l)
 
--- the view once these units are marked
+-- the view after these units are marked
 abbrev pub marked_with : List ℕ → View → View
 marked_with us d = record d { taken = all_out us d.taken; owed = all_out us d.owed }
 
@@ -17,7 +17,7 @@ marked_with us d = record d { taken = all_out us d.taken; owed = all_out us d.ow
 abbrev pub changing : List Change → View → View
 changing cs d = record d { changes = cs }
 
--- the view that owes just these units
+-- the view that owes exactly these units
 abbrev pub owing : List ℕ → View → View
 owing us d = record d { owed = us }
 
@@ -25,12 +25,12 @@ owing us d = record d { owed = us }
 abbrev pub emptied : View → View
 emptied d = record d { held = [] }
 
--- these changes set marks: some mark of each of these units, and of no other
+-- these changes set marks: at least one for each of these units, and for no others
 pub record SetsJust (us : List ℕ) (cs : List Change) : Type 0 where
   pub each : (c : Change) → In c cs → In c.0 us × (c.2 ≡ 1)
   pub all : (u : ℕ) → In u us → (w : ℕ) × In (u, w, 1) cs
 
--- the changes that came to those of the pass are of this kind
+-- the changes that were added to those of the pass have the property `SetsJust`
 abbrev pub SetsMarks : List ℕ → View → View → Type 0
 SetsMarks us d e = (cs : List Change) × (e.changes ≡ d.changes ++ cs) × SetsJust us cs
 

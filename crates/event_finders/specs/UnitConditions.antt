@@ -1,4 +1,4 @@
--- What a try at a unit stands on.
+-- The conditions of a try at a unit.
 use Rattle.std.specs.Prelude.{◌≡◌, ℕ, ◌<◌, true, List}
 use Rattle.pop_model.specs.Popping.{Cube, NamesBelow}
 use Rattle.pop_model.specs.Families.{IsEvent}

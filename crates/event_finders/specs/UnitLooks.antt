@@ -1,5 +1,5 @@
--- What the claims of an event's variables show. Throughout d is the view of a pass before them, and
--- e the view after them.
+-- The results of claiming an event's variables. In this file d is the view of a pass before the
+-- claims, and e the view after them.
 use Rattle.std.specs.Prelude.{◌≡◌, ◌≢◌, ℕ, ◌+◌, ◌<◌, ◌≤◌, true, ◌++◌, map, take, length, slice_get, Some}
 use Rattle.pop_model.specs.Stacks.{value_at, height_of}
 use Rattle.pop_model.specs.Popping.{Cube, variables, names, cursor}
@@ -22,13 +22,13 @@ use Rattle.event_finders.specs.declared.unit_look.UnitLook.TheVariants.{Poppable
 abbrev pub found_at : View → ℕ → ℕ
 found_at e v = look v e.found
 
--- one claim of v, whose value is to be x, with this answer
+-- one claim of v, which should have the value x, with this result
 abbrev pub Looks : Instance → View → ℕ → ℕ → View → VariableLook → Type 0
 Looks i d v x e (Fits c) = Claims d v e (Mine c) × (value_at i.stacks v c ≡ x)
 Looks i d v x e (Differs c) = Claims d v e (Mine c) × (value_at i.stacks v c ≢ x)
 Looks i d v x e (Busy w) = Claims d v e (Refused w)
 
--- claims change what is held, found, settled and seen, and nothing else
+-- claims change only what is held, found, settled and seen
 pub record SameElse (d e : View) : Type 0 where
   pub opening : e.opening ≡ d.opening
   pub share : e.share ≡ d.share
@@ -45,7 +45,8 @@ pub record ClaimsFirst (d e : View) (cube : Cube) (n m : ℕ) : Type 0 where
   pub words : variables (gained d e) ≡ map word_of (variables (take n cube))
   pub held : variables e.held ≡ variables (take m cube)
 
--- the pass claimed v and holds it, at the cursor that it found; on a sole pass that is the vector's
+-- the pass claimed v and holds it, at the cursor that it found; for a pass that is the only one
+-- this is the cursor of its vector
 pub record HasClaimed (d e : View) (v : ℕ) : Type 0 where
   pub once : times v e.held ≡ 1
   pub held : look v e.held ≡ found_at e v
@@ -58,7 +59,7 @@ pub record HasClaimed (d e : View) (v : ℕ) : Type 0 where
 abbrev pub HasValue : Instance → View → View → ℕ × ℕ → Type 0
 HasValue i d e p = HasClaimed d e p.0 × (value_at i.stacks p.0 (found_at e p.0) ≡ p.1)
 
--- the variable has an entry behind the cursor that was found
+-- the variable has an entry after the cursor that was found
 abbrev pub HasMore : Instance → View → ℕ × ℕ → Type 0
 HasMore i e p = found_at e p.0 + 1 < height_of i.stacks p.0
 
@@ -66,8 +67,8 @@ HasMore i e p = found_at e p.0 + 1 < height_of i.stacks p.0
 abbrev pub IsAtLast : Instance → View → Cube → ℕ → Type 0
 IsAtLast i e cube v = (names cube v ≡ true) × (found_at e v + 1 ≡ height_of i.stacks v)
 
--- the claims of an event's variables in their order, with this answer: all have the event's values,
--- or the claims end at the pair of place j, whose variable has another value or was refused
+-- The claims of an event's variables in their order, with this result. Either all have the event's
+-- values, or the claims end at the pair of place j: its variable has another value or is busy.
 abbrev pub UnitLooks : Instance → View → Cube → View → UnitLook → Type 0
 UnitLooks i d cube e Poppable = ClaimsFirst d e cube (length cube) (length cube)
     × Each (HasValue i d e) cube × Each (HasMore i e) cube

@@ -37,11 +37,12 @@ pub record IsTableOf (k : Opening) (t : CycleTable) : Type 0 where
   pub family : k.instance.value.family ≡ Cycles t.heads
   pub instance : IsInstance k.instance.value
 
--- the pass has room to claim all variables that the path lacks
+-- the pass has room to claim all variables that are not on the path
 abbrev pub HasSpare : Pass → Trail → Type 0
 HasSpare pass t = t.count ≤ spare pass + length t.path
 
--- The pass walks on this path along the board's arrows: it isn't empty, and there is room to go on.
+-- The pass walks on this path along the board's arrows: the path is not empty, and there is room
+-- to continue.
 pub record IsWalking (k : Opening) (pass : Pass) (g : CycleTable) (t : Trail) : Type 0 where
   pub table : IsTableOf k g
   pub stands : Stands k (view pass) t
@@ -49,28 +50,29 @@ pub record IsWalking (k : Opening) (pass : Pass) (g : CycleTable) (t : Trail) : 
   pub some : 0 < length t.path
   pub sole : SoleKnows (view pass)
 
--- what claims, releases and settling keep
+-- what claims, releases and settles leave unchanged
 pub record Same (d e : View) : Type 0 where
   pub stays : Stays d e
   pub mine : e.mine ≡ d.mine
   pub known : KeepsKnown d e
 
--- the claim of v put it onto the path, or left the path as it was; a sole pass isn't refused
+-- the claim of v added it to the path, or left the path unchanged; a pass that is the only one
+-- never finds it busy
 abbrev pub Puts : View → Trail → Trail → ℕ → Claim → Type 0
 Puts e old new v (Mine c) = new ≡ record old { path = old.path ++ (v, c) ∷ [] }
 Puts e old new v (Refused w) = (new ≡ old) × IsBusy w × (e.share ≢ 64)
 Puts e old new v (Settled c) = (new ≡ old) × In (v, c) e.settled
 
--- seen gained the entry of a claim of v, and the answer is that of the word found
+-- the entry of a claim of v was added to `seen`, and the result is that of the word found
 abbrev pub Enters : View → View → ℕ → Claim → Type 0
 Enters d e v claim = (w : ℕ) × (e.seen ≡ d.seen ++ (word_of v, w) ∷ []) × Answers w claim
 
--- the numbers of the words of a path's variables
+-- the indexes of the words of a path's variables
 abbrev pub words_of : Pairs → List ℕ
 words_of path = map word_of (variables path)
 
--- The path grew at its end, by claims that found their words free: seen gained at most one entry for
--- each variable that came onto it.
+-- The path grew at its end, by claims that found their words free. `seen` gained at most one entry
+-- for each variable that was added to the path.
 pub record Walked (d e : View) (old new : Pairs) : Type 0 where
   pub added : Pairs
   pub seen : e.seen ≡ d.seen ++ added
@@ -78,7 +80,7 @@ pub record Walked (d e : View) (old new : Pairs) : Type 0 where
   pub begins : stand new 0 ≡ stand old 0
   pub traced : (n : ℕ) (from : View) → Traced n from d old → Traced n from e new
 
--- seen gained at most one entry for each word, and none for those of the path
+-- `seen` gained at most one entry for each word, and none for those of the path
 pub record SeesLast (d e : View) (path : Pairs) : Type 0 where
   pub added : Pairs
   pub seen : e.seen ≡ d.seen ++ added
@@ -96,29 +98,29 @@ pub record Grows (d e : View) (old new : Trail) : Type 0 where
   pub longer : length new.path ≡ suc (length old.path)
   pub walked : Walked d e old.path new.path
 
--- a refused claim was seen, and nothing else
+-- a claim that found a busy variable was seen, and nothing else
 abbrev pub Finds : View → View → WalkStop → Type 0
 Finds d e (Met v w) = e.seen ≡ d.seen ++ (word_of v, w) ∷ []
 Finds d e stop = ⊤
 
--- the walk stopped where it stood
+-- the walk stopped without a step
 pub record Rest (k : Opening) (d e : View) (old new : Trail) (stop : WalkStop) : Type 0 where
   pub same : new ≡ old
   pub why : Stops k e new.path stop
   pub seen : SeesLast d e old.path
   pub found : Finds d e stop
 
--- the walk went on and stopped
+-- the walk continued and stopped
 pub record Followed (k : Opening) (e : View) (old new : Trail) (stop : WalkStop) : Type 0 where
   pub begins : stand new.path 0 ≡ stand old.path 0
   pub why : Stops k e new.path stop
 
--- how the path was claimed, where a walk stops
+-- how the path was claimed, if a walk stops
 abbrev pub Stopped : ℕ → View → View → Pairs → WalkStop → Type 0
 Stopped n d e path (Met v w) = TracedTo n d e path v w
 Stopped n d e path stop = Traced n d e path
 
--- for each variable the cursor that it has on the path
+-- for each variable its cursor on the path
 abbrev pub laid : Trail → List ℕ
 laid t = map (λ v. look v t.path) (range_with_len 0 t.count)
 
@@ -126,7 +128,7 @@ laid t = map (λ v. look v t.path) (range_with_len 0 t.count)
 abbrev pub slot_pair : CycleTable → ℕ × ℕ → ℕ × ℕ
 slot_pair t e = (e.0, value_at t.stacks e.0 e.1)
 
--- a board's arrows lead along a path on which some pass stands, and from its end back to the place
+-- A board's arrows lead along a path that some pass holds, and from its end back to the place.
 pub record LeadsBack (g : CycleTable) (t : Trail) (place : ℕ) : Type 0 where
   pub board : Opening
   pub holder : View
@@ -135,12 +137,12 @@ pub record LeadsBack (g : CycleTable) (t : Trail) (place : ℕ) : Type 0 where
   pub within : place < length t.path
   pub closes : Goes board (last_of t.path) (slice_index (variables t.path) place)
 
--- the cube has just the variables that stand on the path from the place on, each with its slot
+-- the cube has exactly the variables of the path from the place on, each with its slot
 abbrev pub IsLoopCube : CycleTable → Trail → ℕ → Cube → Type 0
 IsLoopCube g t place cube =
     IsCubeOf g (laid t) (slice_range (variables t.path) place (length t.path - 1 + 1)) cube
 
--- The cycle from a place of the path on was popped. What stands before it stays as it was.
+-- The cycle from a place of the path on was popped. The path before that place is unchanged.
 pub record PopsLoop (k : Opening) (d e : View) (path : Pairs) (place t : ℕ) : Type 0 where
   pub stays : Stays d e
   pub seen : e.seen ≡ d.seen
@@ -154,15 +156,15 @@ pub record PopsLoop (k : Opening) (d e : View) (path : Pairs) (place t : ℕ) : 
   pub left : take (place + 1) e.held
       ≡ take place path ++ ((stand path place).0, (stand path place).1 + 1) ∷ []
 
--- what an answer says that ends a walk from v
+-- what the result of a walk from v says, if it ends the walk
 abbrev pub Says : View → ℕ → Tried → Type 0
 Says e v (Cleared u c) = (u ≡ v) × In (u, c) e.settled × SoleKnows e
 Says e v (Busy u w) = IsBusy w × (e.share ≢ 64) × SoleKnows e
 Says e v OutOfMemory = ⊤
 Says e v answer = ⊥
 
--- a cycle was popped that the path closed, and the walk stands where it closed; or the walk is
--- over, and all was released or settled
+-- Either a cycle that the path closed was popped, and the walk continues from the variable that
+-- closed it. Or the walk is over, and all variables were released or settled.
 abbrev pub Rounds : Opening → View → View → Trail → Trail → Round → Type 0
 Rounds k d e old new (RoundPopped t) = (r : LogRecord) × GainsTickets k d e ((t, r) ∷ [])
     × Stands k e new × (0 < length new.path)
@@ -172,12 +174,12 @@ Rounds k d e old new (RoundPopped t) = (r : LogRecord) × GainsTickets k d e ((t
 Rounds k d e old new (Over answer) = GainsTickets k d e [] × (e.held ≡ []) × (new.path ≡ [])
     × (new.count ≡ old.count) × Says e (slice_index (variables old.path) 0) answer
 
--- where a walk that ends meets a claimed variable
+-- the claimed variable that a walk reaches at its end
 abbrev pub EndsAt : Opening → ℕ → View → View → ℕ → Tried → Type 0
 EndsAt k n d e start (Busy v w) = Reaches k n d e start v w
 EndsAt k n d e start answer = ⊤
 
--- how the path was claimed after a round, where a variable may have been popped once more
+-- how the path was claimed after a cycle was popped; one more pop is counted for each variable
 abbrev pub RoundsOn : Opening → ℕ → View → View → ℕ → Pairs → Round → Type 0
 RoundsOn k n d e start path (RoundPopped t) = Traced (n + 1) d e path
 RoundsOn k n d e start path (Over answer) = EndsAt k n d e start answer

@@ -1,4 +1,4 @@
--- Why there is no run: how each refusal is told, and what each cause is refused as.
+-- Why there is no run: how each error is printed, and the error for each cause.
 use Rattle.std.specs.Prelude.{◌≡◌, ◌⊎◌, ℕ, ◌+◌, ◌<◌, ◌^◌, List, [], ◌∷◌, ◌++◌, map, decimal, codes, Result, Ok, Err, IfOk, IfErr, ⊤}
 use Rattle.pop_model.specs.Text.{line, spaced}
 use Rattle.pop_edge.specs.declared.refusal.ReadRefusal.{ReadRefusal}
@@ -17,11 +17,11 @@ use Rattle.job_subjects.specs.declared.stop.Stop.TheVariants.{ReadFault, OutOfMe
 use Rattle.job_subjects.specs.declared.refusal.Refusal.{Refusal}
 use Rattle.job_subjects.specs.declared.refusal.Refusal.TheVariants.{Usage, Malformed, Count, EmptyClause, Limit, Isolated, NoRoot, CutOff, TooMany, RowCount, EmptyRow, ValueTooLarge, WeightSum, Clashes, NotLegal, Stopped}
 
--- a line that begins with `s`, with a word and numbers behind it
+-- a line that begins with `s`, followed by a keyword and numbers
 abbrev pub s_line : List ℕ → List ℕ → List ℕ
 s_line word numbers = line (codes "s " ++ word ++ spaced (map decimal numbers))
 
--- how each refusal is told: its status and its line
+-- how each error is printed: its status and its line
 abbrev pub told_as : Refusal → ℕ × List ℕ
 told_as (Usage place) = (2, s_line (codes "USAGE") (place ∷ []))
 told_as (Malformed l code) = (3, s_line (codes "MALFORMED") (l ∷ code ∷ []))
@@ -41,31 +41,32 @@ told_as (NotLegal place) = (11, s_line (codes "NOTLEGAL") (place ∷ []))
 told_as (Stopped ReadFault) = (7, s_line (codes "READFAULT") [])
 told_as (Stopped OutOfMemory) = (9, s_line (codes "MEMORY") [])
 
--- its status
+-- the status of an error
 abbrev pub refusal_status : Refusal → ℕ
 refusal_status refusal = (told_as refusal).0
 
--- its line
+-- the line of an error
 abbrev pub refusal_line : Refusal → List ℕ
 refusal_line refusal = (told_as refusal).1
 
--- the refusal is told by an answer, but where it stops the call, or memory runs out
+-- the result prints the error, unless it stops the call or memory runs out
 pub record IsTold (refusal : Refusal) (result : Result Answer Stop) : Type 0 where
   pub status : IfOk result (λ a. a.status ≡ refusal_status refusal)
   pub line : IfOk result (λ a. a.text.items ≡ refusal_line refusal)
   pub stopped : IfErr result (λ stop. (refusal ≡ Stopped stop) ⊎ (stop ≡ OutOfMemory))
   pub none : (stop : Stop) → refusal ≡ Stopped stop → result ≡ Err stop
 
--- memory ran out, or the refusal is one of these
+-- memory ran out, or the error is one of these
 abbrev pub IsRefusal : (Refusal → Type 0) → Refusal → Type 0
 IsRefusal Refuses refusal = (refusal ≡ Stopped OutOfMemory) ⊎ Refuses refusal
 
--- words that are refused
+-- the error for invalid arguments
 abbrev pub unworded : WordFault → Refusal
 unworded (BadWord place) = Usage place
 unworded WordMemory = Stopped OutOfMemory
 
--- a text that is refused; a fault of its source and want of memory are no refusals of it
+-- the error for an invalid input; a fault of its source and a lack of memory are not errors of the
+-- input
 abbrev pub unread : ReadRefusal → Refusal
 unread (MalformedLine l code) = Malformed l code
 unread (WrongCount declared found) = Count declared found
@@ -74,17 +75,17 @@ unread (PassedLimit kind l) = Limit kind l
 unread ReadingFailed = Stopped ReadFault
 unread ReadingMemory = Stopped OutOfMemory
 
--- a graph that can't be oriented
+-- the error for a graph that cannot be oriented
 abbrev pub unoriented : SinkFault → Refusal
 unoriented (IsolatedVertex w) = Isolated w
 unoriented SinkMemory = Stopped OutOfMemory
 
--- bytes that are no certificate
+-- the error for bytes that are not a certificate
 abbrev pub uncertified : CertRefusal → Refusal
 uncertified (MalformedCert l code) = Malformed l code
 uncertified CertMemory = Stopped OutOfMemory
 
--- the text of a log that is refused; its lines and records count from 1 there
+-- the error for the text of a log; its lines and records count from 1
 abbrev pub unlogged : LogRefusal → Refusal
 unlogged LongLog = Limit 7 1
 unlogged (MalformedLog l) = Malformed l 31
@@ -92,18 +93,18 @@ unlogged (IllegalRecord k) = NotLegal (k + 1)
 unlogged (UnlayeredRecord k) = Malformed (k + 2) 32
 unlogged LogMemory = Stopped OutOfMemory
 
--- the numbers of its record and of the line of it have 64 bits
+-- the numbers of the record and of its line have 64 bits
 abbrev pub IsEarlyRecord : LogRefusal → Type 0
 IsEarlyRecord (IllegalRecord k) = k + 2 < 2 ^ 64
 IsEarlyRecord (UnlayeredRecord k) = k + 2 < 2 ^ 64
 IsEarlyRecord refusal = ⊤
 
--- no refusal of words
+-- the error is not one of the arguments
 abbrev pub IsPastWords : Refusal → Type 0
 IsPastWords (Usage place) = ⊥
 IsPastWords refusal = ⊤
 
--- the call wasn't stopped, by a fault of its source or by want of memory
+-- the call was not stopped by a fault of its source or a lack of memory
 abbrev pub IsJudged : {T : Type 0} → Result T Refusal → Type 0
 IsJudged (Ok a) = ⊤
 IsJudged (Err (Stopped stop)) = ⊥

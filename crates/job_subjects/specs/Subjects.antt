@@ -1,4 +1,4 @@
--- What is sampled, whatever the stacks: the events of a formula, the sinks of a graph's
+-- What is sampled, without its stacks: the events of a formula, the sinks of a graph's
 -- orientations, or the cycles of its arrows.
 use Rattle.std.specs.Prelude.{◌≡◌, ℕ, Bool, true, false, List, [], ◌∷◌, length, replicate, Option, Ok}
 use Rattle.pop_model.specs.Stacks.{Origin}
@@ -22,13 +22,13 @@ use Rattle.pop_print.specs.declared.facts.Facts.{Facts}
 use Rattle.pop_print.specs.declared.facts.Facts.TheVariants.{Formula as FormulaFacts, Orient as OrientFacts, Tree as TreeFacts, Made as MadeFacts}
 use Rattle.job_subjects.specs.declared.wanted.Wanted.{Wanted}
 
--- the facts by which its samples are told, the weights of each variable's values, and its events
+-- the facts that its output needs, the weights of each variable's values, and its events
 pub record Subject : Type 0 where
   pub facts : Facts
   pub weights : List (List ℕ)
   pub family : Family
 
--- its instance over stacks of this origin
+-- the instance of a subject over stacks of this source
 abbrev pub instance_over : Origin → Subject → Instance
 instance_over origin s =
     record { stacks = record { origin = origin; weights = s.weights }; family = s.family }
@@ -37,7 +37,7 @@ instance_over origin s =
 abbrev pub pair_weights : ℕ → List (List ℕ)
 pair_weights n = replicate n (1 ∷ 1 ∷ [])
 
--- the instance of listed events over n variables of two values
+-- the instance of listed events over n variables with two values
 abbrev pub instance_of : Origin → ℕ → List (ℕ × Cube) → Instance
 instance_of origin n events =
     record { stacks = record { origin = origin; weights = pair_weights n }; family = Listed events }
@@ -68,7 +68,7 @@ orientations g events = record {
   family = Listed events;
 }
 
--- arrows to a root of a graph, told by these facts
+-- arrows to a root of a graph, printed by these facts
 abbrev pub arrows_to : Facts → GraphOf → ℕ → Subject
 arrows_to facts g root = record {
   facts = facts;
@@ -76,47 +76,47 @@ arrows_to facts g root = record {
   family = Cycles (heads_of_tree g root);
 }
 
--- assignments to this formula, whose events don't clash where they may not
+-- assignments of this formula; unless clashes are allowed, no two of its events clash
 pub record AreAssignments (may_clash : Bool) (f : Cnf) (s : Subject) : Type 0 where
   pub events : List (ℕ × Cube)
   pub of_formula : AreEventsOf f.clauses events
   pub extremal : may_clash ≡ false → IsExtremal (Listed events)
   pub is : s ≡ assignments f events
 
--- orientations of this graph, each of whose vertices an edge touches
+-- orientations of this graph, in which each vertex has edges
 pub record AreOrientations (g : GraphOf) (s : Subject) : Type 0 where
   pub touched : (w : ℕ) → IsIsolated g w → ⊥
   pub events : List (ℕ × Cube)
   pub of_graph : AreSinksOf g events
   pub is : s ≡ orientations g events
 
--- arrows to this root of this graph, to which each vertex is joined
+-- arrows to this root of this graph, in which each vertex is connected to the root
 pub record AreArrows (root : ℕ) (g : GraphOf) (s : Subject) : Type 0 where
   pub root_is : IsVertex g.vertices root
   pub joined : IsConnected g root
   pub is : s ≡ arrows_to (TreeFacts g root) g root
 
--- Arrows to the first vertex of the grid of this side, to which each vertex is joined
+-- Arrows to the first vertex of the grid of this side, in which each vertex is connected to it
 -- (`graph_read::laws::grid_connected`).
 pub record AreGridArrows (side : ℕ) (s : Subject) : Type 0 where
   pub side_is : IsSide side
   pub is : s ≡ arrows_to (MadeFacts side) (grid_of side) 1
 
--- such of the formula that the text spells
+-- the subject of the formula that the input denotes
 pub record IsOfCnf (Are : Cnf → Subject → Type 0) (text : List ℕ) (s : Subject) : Type 0 where
   pub formula : Cnf
   pub spelled : AnswersCnf text (Ok formula)
   pub are : Are formula s
 
--- such of the graph that it spells
+-- the subject of the graph that the input denotes
 pub record IsOfGraph (Are : GraphOf → Subject → Type 0) (text : List ℕ) (s : Subject) : Type 0
   where
     pub graph : GraphOf
     pub spelled : AnswersGraph text (Ok graph)
     pub are : Are graph s
 
--- What a command samples of a text, as it is wanted. The events of a formula may clash where they
--- are resampled, or rounds are made; a grid is made without a text.
+-- What a command samples of an input, as it is wanted. The events of a formula may clash for
+-- `resample` and `rounds`. A grid is made without an input.
 abbrev pub IsSubjectOf : Command → Wanted → List ℕ → Subject → Type 0
 IsSubjectOf Formula w text s = IsOfCnf (AreAssignments false) text s
 IsSubjectOf Orient w text s = IsOfGraph AreOrientations text s

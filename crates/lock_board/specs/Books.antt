@@ -1,4 +1,4 @@
--- A book of pops.
+-- The book: pops that threads share.
 use Rattle.std.specs.Prelude.{◌≡◌, ℕ, true, List, length}
 use Rattle.pop_model.specs.Stacks.{variables_of}
 use Rattle.pop_model.specs.Popping.{AreWithin}
@@ -11,7 +11,7 @@ pub record Progress : Type 0 where
   pub cursors : List ℕ
   pub log : List LogRecord
 
--- the log leads from the opening cursors to those of the book; so each variable has a cursor, below
+-- the log leads from the start to the cursors of the book, so each variable has a cursor, below
 -- its height
 pub record IsBook (i : Instance) (start : List ℕ) (b : Progress) : Type 0 where
   pub leads : LeadsOn i (before_pops start true) (logged b.cursors b.log)

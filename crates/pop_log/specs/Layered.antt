@@ -12,7 +12,7 @@ use Rattle.pop_log.specs.Layers.{Placed, IsLayer, AreLayers}
 abbrev pub placed_cmp : Placed → Placed → Ordering
 placed_cmp p q = then_cmp (on (λ r. r.1) nat_cmp) (on (λ r. r.0.event.unit) nat_cmp) p q
 
--- the records of a log with their layers, sorted: those of one layer and unit stay in the order of
+-- the records of a log with their layers, sorted; those of one layer and unit stay in the order of
 -- the log
 pub record AreSorted (log : List LogRecord) (placed : List Placed) : Type 0 where
   pub layers : List ℕ
@@ -31,17 +31,17 @@ pub record IsLayered (log layered : List LogRecord) : Type 0 where
 abbrev pub ArePlaced : List Placed → Type 0
 ArePlaced placed = AreLayers (map (λ p. p.0) placed) (map (λ p. p.1) placed)
 
--- the layer is greater, or it is the same and the unit is greater
+-- the layer is larger, or it is the same and the unit is larger
 abbrev pub ComesBefore : Placed → Placed → Type 0
 ComesBefore p q = (p.1 < q.1) ⊎ ((p.1 ≡ q.1) × (p.0.event.unit < q.0.event.unit))
 
--- behind these records: the record has its layer, and layer and unit follow those of the last
+-- after these records: the record has its layer, and its layer and unit follow those of the last
 -- record before it
 pub record FollowsInLayers (before : List Placed) (p : Placed) : Type 0 where
   pub layer : IsLayer before p.0 p.1
   pub order : (front : List Placed) (q : Placed) → before ≡ front ++ q ∷ [] → ComesBefore q p
 
--- behind these records, each record follows in layers: they are layered as they stand
+-- after these records, each record follows in layers: they are in layered order
 abbrev pub AreInLayers : List Placed → List Placed → Type 0
 AreInLayers before [] = ⊤
 AreInLayers before (p ∷ placed) =
@@ -54,7 +54,7 @@ FollowsAt placed (suc k) =
     (q p : Placed) → slice_get placed k ≡ Some q → slice_get placed (suc k) ≡ Some p
     → ComesBefore q p
 
--- record k is the first that doesn't follow in layers
+-- record k is the first that does not follow in layers
 pub record IsFirstUnlayered (placed : List Placed) (k : ℕ) : Type 0 where
   pub front : List Placed
   pub p : Placed

@@ -1,4 +1,4 @@
--- The text of a log, version 2: in the layered order, each record with its layer.
+-- The text of a log, version 2: in layered order, each record with its layer.
 use Rattle.std.specs.Prelude.{◌≡◌, ℕ, ◌≤◌, ◌^◌, List, [], ◌∷◌, ◌++◌, length, map, flat_map, decimal, codes}
 use Rattle.pop_model.specs.Text.{line}
 use Rattle.pop_model.specs.Families.{Family}
@@ -10,7 +10,7 @@ use Rattle.pop_log.specs.Printed.{Printed, printed, record_words}
 use Rattle.pop_log.specs.Layers.{Placed}
 use Rattle.pop_log.specs.Layered.{AreSorted, AreInLayers}
 
--- the first line says how many records there are
+-- the first line states the number of records
 abbrev pub layered_head : ℕ → List ℕ
 layered_head n = line (codes "log 2 " ++ decimal n)
 
@@ -22,7 +22,7 @@ Written = ℕ × Printed
 abbrev pub layered_line : Written → List ℕ
 layered_line w = line (codes "pop " ++ decimal w.0 ++ 32 ∷ record_words w.1)
 
--- how a record of this family is printed with its layer
+-- the printed form of a record of this family with its layer
 abbrev pub written : Names → Family → Placed → Written
 written names family p = (p.1, printed names family p.0)
 
@@ -30,7 +30,7 @@ written names family p = (p.1, printed names family p.0)
 abbrev pub written_text : List Written → List ℕ
 written_text ws = layered_head (length ws) ++ flat_map layered_line ws
 
--- the text of records with their layers, as they stand
+-- the text of records with their layers, in this order
 abbrev pub placed_text : Names → Instance → List Placed → List ℕ
 placed_text names i placed = written_text (map (written names i.family) placed)
 
@@ -41,7 +41,7 @@ pub record IsLayeredText (names : Names) (i : Instance) (log : List LogRecord)
   pub sorted : AreSorted log placed
   pub text_is : text ≡ placed_text names i placed
 
--- the text is that of this legal log, which is layered as it stands
+-- the text is that of this legal log, which is in layered order
 pub record IsReadLayered (names : Names) (i : Instance) (text : List ℕ)
     (log : List LogRecord) : Type 0 where
   pub placed : List Placed

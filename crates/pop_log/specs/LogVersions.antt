@@ -1,4 +1,4 @@
--- The lines of log texts, of both versions.
+-- The lines of logs as text, of both versions.
 use Rattle.std.specs.Prelude.{◌≡◌, ◌⊎◌, ℕ, ◌<◌, ◌≤◌, ◌^◌, List, [], ◌∷◌, length, map, ⊤}
 use Rattle.std.specs.List.{AllByRecursion}
 use Rattle.pop_model.specs.Families.{Family}
@@ -16,30 +16,30 @@ abbrev pub head_of : LogVersion → ℕ → List ℕ
 head_of Ordered n = head_line n
 head_of Layered n = layered_head n
 
--- the line of a record; version 1 says no layer
+-- the line of a record; version 1 states no layer
 abbrev pub line_of : LogVersion → Written → List ℕ
 line_of Ordered w = record_line w.1
 line_of Layered w = layered_line w
 
--- a layer of 64 bits, from 1 on; where none is said it is 0 here
+-- a layer of 64 bits, at least 1; it is 0 here if none is stated
 abbrev pub LayerFits : LogVersion → ℕ → Type 0
 LayerFits Ordered y = y ≡ 0
 LayerFits Layered y = (0 < y) × (y < 2 ^ 64)
 
--- what may stand in a line
+-- what is allowed in a line
 pub record MayBeWritten (names : Names) (family : Family) (version : LogVersion)
     (w : Written) : Type 0 where
   pub layer : LayerFits version w.0
   pub record_is : MayBePrinted names family w.1
 
--- the lines are those of a log text of this version, whether or not its records are legal
+-- the lines are those of a log of this version, whether or not its records are legal
 pub record AreLogLines (names : Names) (family : Family) (version : LogVersion)
     (lines : List (List ℕ)) (ws : List Written) : Type 0 where
   pub lines_are : lines ≡ head_of version (length ws) ∷ map (line_of version) ws
   pub count : length ws < 2 ^ 64
   pub records : AllByRecursion (MayBeWritten names family version) ws
 
--- a first line, and no more lines of records than it says
+-- a first line, and at most as many lines of records as it states
 pub record MayStart (names : Names) (family : Family) (l : List ℕ)
     (ls : List (List ℕ)) : Type 0 where
   pub version : LogVersion
@@ -51,12 +51,12 @@ pub record MayStart (names : Names) (family : Family) (l : List ℕ)
   pub records : AllByRecursion (MayBeWritten names family version) ws
   pub few : length ws ≤ said
 
--- the lines may be the first ones of a log text
+-- a log may begin with these lines
 abbrev pub MayStand : Names → Family → List (List ℕ) → Type 0
 MayStand names family [] = ⊤
 MayStand names family (l ∷ ls) = MayStart names family l ls
 
--- the lines of some log text
+-- the lines of some log
 abbrev pub AreWellFormed : Names → Family → List (List ℕ) → Type 0
 AreWellFormed names family lines =
     (version : LogVersion) × (ws : List Written) × AreLogLines names family version lines ws

@@ -1,4 +1,4 @@
--- Records with their layers, as they stand in memory.
+-- Records with their layers, as they are stored in memory.
 use Rattle.pop_log.specs.declared.placed_record.PlacedRecord.{PlacedRecord}
 use Rattle.pop_log.specs.Layers.{Placed}
 

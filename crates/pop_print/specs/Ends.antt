@@ -14,14 +14,14 @@ use Rattle.pop_print.specs.Stuck.{HasNames}
 use Rattle.pop_print.specs.declared.facts.Facts.{Facts}
 use Rattle.pop_print.specs.declared.facts.Facts.TheVariants.{Formula, Orient, Tree, Made}
 
--- the instance has a listed family over so many variables of two values
+-- the instance has a listed family over this many variables with two values
 pub record IsOfPairs (n : ℕ) (i : Instance) : Type 0 where
   pub listed : (rows : List (ℕ × Cube)) × (i.family ≡ Listed rows)
   pub count : variables_of i.stacks ≡ n
   pub values : (v : ℕ) → v < n → domain_of i.stacks v ≡ 2
 
--- the instance has a cycle family over the vertices but the root, each with a slot for each of its
--- edges that aren't loops
+-- the instance has a cycle family over the vertices without the root, each with a slot for each of
+-- its edges that is not a self-loop
 pub record IsOfTree (g : GraphOf) (root : ℕ) (i : Instance) : Type 0 where
   pub root_is : IsVertex g.vertices root
   pub cycles : (heads : List (List (Option ℕ))) × (i.family ≡ Cycles heads)
@@ -41,7 +41,7 @@ AreFactsOf (Orient g) i = IsOfPairs (length g.edges) i
 AreFactsOf (Tree g root) i = IsOfTree g root i
 AreFactsOf (Made side) i = IsOfGrid side i
 
--- no grid was made, so ends are told in full
+-- no grid was made, so ends are printed in full
 abbrev pub IsToldInFull : Facts → Type 0
 IsToldInFull (Made side) = ⊥
 IsToldInFull facts = ⊤
@@ -54,7 +54,7 @@ pub record IsAtEnd (i : Instance) (cursors : List ℕ) (stuck : List Event) (sho
   pub stuck_list : IsStuckList i cursors stuck
   pub values : AreValuesAt i.stacks cursors shown
 
--- one cursor for each variable and one value that it has, and events that can be printed
+-- one cursor for each variable, one of its values, and events that can be printed
 pub record IsPrintable (i : Instance) (cursors : List ℕ) (stuck : List Event) (shown : List ℕ)
     : Type 0 where
   pub count : length cursors ≡ variables_of i.stacks

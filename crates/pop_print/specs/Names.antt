@@ -1,4 +1,4 @@
--- The names under which variables and events are printed.
+-- The printed names of variables and events.
 use Rattle.std.specs.Prelude.{ℕ, ◌+◌, List, [], ◌∷◌, map}
 use Rattle.pop_model.specs.Popping.{variables}
 use Rattle.pop_model.specs.Families.{Event, Family}
@@ -15,7 +15,7 @@ name_of (Orient g) v = v + 1
 name_of (Tree g root) v = vertex_of root v
 name_of (Made side) v = vertex_of 1 v
 
--- the numbers that tell an event: a listed one's own, or the names of a cycle's variables
+-- the printed numbers of an event: a listed one's own number, or the names of a cycle's variables
 abbrev pub event_names : Facts → Family → Event → List ℕ
 event_names facts (Listed rows) e = event_number rows e.unit ∷ []
 event_names facts (Cycles heads) e = map (name_of facts) (variables e.cube)

@@ -2,7 +2,7 @@
 use Rattle.std.specs.Prelude.{◌≡◌, ℕ, ◌+◌, ◌-◌, ◌<◌, List, length, slice_index}
 use Rattle.pop_model.specs.Names.{vertex_of}
 
--- each vertex but the root has its variable's value, counted from 1, in its place
+-- each vertex except the root has the value of its variable, counted from 1, at its place
 pub record ArePlaces (root : ℕ) (values places : List ℕ) : Type 0 where
   pub count : length places ≡ length values + 1
   pub each : (v : ℕ) → v < length values

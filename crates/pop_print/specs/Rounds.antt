@@ -21,12 +21,12 @@ pub record IsShownAt (i : Instance) (cursors : List ℕ) (stuck : List Event) (s
 abbrev pub rounds_line : ℕ → List ℕ
 rounds_line rounds = line (codes "rounds " ++ decimal rounds)
 
--- the line of the variable without a next entry, by its printed name, where there is one
+-- the line of the variable without a next entry, by its printed name, if there is one
 abbrev pub short_line : Facts → Option ℕ → List ℕ
 short_line facts None = []
 short_line facts (Some v) = line (codes "short " ++ decimal (name_of facts v))
 
--- what was found, the cursors, the number of rounds, and what ended them where they are exhausted
+-- the result, the cursors, the number of rounds and, if the run is exhausted, the short variable
 abbrev pub rounds_text : Facts → Instance → List ℕ → ℕ → List Event → Option ℕ → List ℕ
 rounds_text facts i cursors rounds stuck short =
     findings facts i cursors stuck ++ used_line cursors ++ rounds_line rounds

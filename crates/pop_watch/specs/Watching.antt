@@ -1,4 +1,4 @@
--- The states of watchers: what a record makes of them, and their reports.
+-- The states of watchers: how a record changes them, and their reports.
 use Rattle.std.specs.Prelude.{ℕ, zero, suc, ◌+◌, ◌-◌, ◌^◌, ◌==◌, not, if◌then◌else◌, List, [], ◌∷◌, ◌++◌, length, drop, slice_index, map, fold, count_by, min, max, decimal, codes}
 use Rattle.std.specs.List.{enumerate_from, range_with_len}
 use Rattle.std.specs.Int.{leading_zeros, w32}
@@ -6,50 +6,51 @@ use Rattle.pop_model.specs.Text.{line, spaced}
 use Rattle.pop_model.specs.Popping.{Cube, names}
 use Rattle.pop_model.specs.Logs.{LogRecord}
 
--- a sum stops at the greatest number of 64 bits
+-- a sum, capped at 2^64 - 1
 abbrev pub plus : ℕ → ℕ → ℕ
 plus n m = min (n + m) (2 ^ 64 - 1)
 
--- how many records, how many entries in them, and how many in the longest; a state of another
--- length is left
+-- the number of records, of entries in them, and of entries in the longest; a state of another
+-- length is unchanged
 abbrev pub totals_step : List ℕ → LogRecord → List ℕ
 totals_step (a ∷ b ∷ c ∷ []) r =
     plus a 1 ∷ plus b (length r.entries) ∷ max c (length r.entries) ∷ []
 totals_step s r = s
 
--- how many binary digits a number of 32 bits has; 0 has none
+-- the number of binary digits of a number of 32 bits; 0 has none
 abbrev pub binary_digits : ℕ → ℕ
 binary_digits k = 32 - leading_zeros w32 k
 
--- at each place, how many entries have so many binary digits; a state of another length is left
+-- at each place the number of entries with this number of binary digits; a state of another length
+-- is unchanged
 abbrev pub heights_step : List ℕ → LogRecord → List ℕ
 heights_step s r =
     if length s == 33
     then map (λ p. plus p.1 (count_by (λ k. binary_digits k == p.0) r.entries)) (enumerate_from 0 s)
     else s
 
--- 1 more than the greatest number at the places of these variables; a missing place counts as 0
+-- one more than the largest number at the places of these variables; a missing place counts as 0
 abbrev pub layer_at : List ℕ → Cube → ℕ
 layer_at s e = plus (fold (λ n p. max n (slice_index s (p.0 + 1))) 0 e) 1
 
--- how many places there are, once each of these variables has one
+-- the number of places after each of these variables has one
 abbrev pub places_with : List ℕ → Cube → ℕ
 places_with s e = fold (λ n p. max n (p.0 + 2)) (length s) e
 
--- what stands at a place behind a record of this layer: at place 0 the greatest layer, and at that
--- of a variable of the record its layer
+-- The number at a place after a record of this layer: at place 0 the largest layer, and at the
+-- place of a variable of the record its layer.
 abbrev pub layer_put : List ℕ → Cube → ℕ → ℕ → ℕ
 layer_put s e y zero = max (slice_index s 0) y
 layer_put s e y (suc v) = if names e v then y else slice_index s (suc v)
 
--- at place 0 the greatest layer, and at place 1 + v the layer of the last record that named
+-- at place 0 the largest layer, and at place 1 + v the layer of the last record that named
 -- variable v
 abbrev pub layers_step : List ℕ → LogRecord → List ℕ
 layers_step s r =
     map (layer_put s r.event.cube (layer_at s r.event.cube))
     (range_with_len 0 (places_with s r.event.cube))
 
--- kind 1 keeps totals, kind 2 heights, kind 3 layers; any other leaves its state
+-- kind 1 keeps totals, kind 2 heights, kind 3 layers; any other kind keeps its state
 abbrev pub step : ℕ → List ℕ → LogRecord → List ℕ
 step kind s r =
     if kind == 1 then totals_step s r
@@ -60,12 +61,12 @@ step kind s r =
 abbrev pub told : ℕ → List ℕ → List LogRecord → List ℕ
 told kind s log = fold (step kind) s log
 
--- a number before others that are kept; where none is, a 0 isn't either
+-- a number before others that are kept; if none is kept, a 0 is not kept either
 abbrev pub kept_before : ℕ → List ℕ → List ℕ
 kept_before n [] = if n == 0 then [] else n ∷ []
 kept_before n (m ∷ ms) = n ∷ m ∷ ms
 
--- the numbers up to the last that isn't 0
+-- the numbers up to the last one that is not 0
 abbrev pub up_to_last : List ℕ → List ℕ
 up_to_last [] = []
 up_to_last (n ∷ ns) = kept_before n (up_to_last ns)
@@ -82,17 +83,17 @@ heights_text s =
     then line (codes "report heights" ++ spaced (map decimal (up_to_last s)))
     else []
 
--- how many places behind the first have a number that isn't 0
+-- the number of places after the first with a number that is not 0
 abbrev pub used_places : List ℕ → ℕ
 used_places s = count_by (λ n. not (n == 0)) (drop 1 s)
 
--- the greatest layer, and how many variables have one
+-- the largest layer, and the number of variables that have one
 abbrev pub layers_text : List ℕ → List ℕ
 layers_text s =
     line (codes "report layers" ++ spaced (map decimal (slice_index s 0 ∷ used_places s ∷ [])))
 
--- the report on a state; for kinds 1 and 2 it is empty where the length isn't the kind's, and so it
--- is for a kind that has none
+-- the report on a state; it is empty for a kind without reports, and for kinds 1 and 2 if the
+-- state has another length
 abbrev pub report_text : ℕ → List ℕ → List ℕ
 report_text kind s =
     if kind == 1 then totals_text s

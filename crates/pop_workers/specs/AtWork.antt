@@ -1,4 +1,4 @@
--- What workers on a board of claim words work with, and what they leave.
+-- What workers on a board of claim words use, and the states that they leave.
 use Rattle.std.specs.Prelude.{◌≡◌, ◌<◌, ℕ, length, Option, IfSome}
 use Rattle.pop_model.specs.Families.{units_of}
 use Rattle.pop_model.specs.Instances.{Instance}
@@ -18,12 +18,12 @@ pub record IsSharedOn {W : Type 0} (units : ℕ) (board : Board) (shared : Share
   pub indexed : IsIndexed shared.instance.now shared.index.now
   pub range : units_of shared.instance.now.family ≡ units
 
--- one of the workers has tools for the instance that they share
+-- the worker has tools for the instance that the workers share
 pub record HasTools {W : Type 0} (shared : Shared W) (tools : Tools) : Type 0 where
   pub fit : AreTools shared.instance.now tools.reader tools.walker
   pub known : tools.worker < length shared.all.items
 
--- they are the tools of the same worker still, and fit the instance
+-- they are still the tools of the same worker, and fit the instance
 pub record KeepsTools (i : Instance) (old new : Tools) : Type 0 where
   pub fit : AreTools i new.reader new.walker
   pub same : new.worker ≡ old.worker
@@ -33,8 +33,8 @@ pub record IsIdleOn (board : Board) (pass : Pass) : Type 0 where
   pub of : IsOf board pass
   pub idle : IsIdle pass
 
--- a worker beside the caller has an idle pass of the board, with share 1, and a reader of its stacks,
--- or none
+-- a worker other than the caller has an idle pass of the board, with share 1, and a reader of its
+-- stacks, or none
 pub record IsBeside (board : Board) (pass : Pass) (reader : Option ReaderOf) : Type 0 where
   pub helper : IsHelper board pass
   pub belongs : IfSome reader (Belongs (instance_of board).stacks)
@@ -45,7 +45,7 @@ pub record IsSoleOn (board : Board) (pass : Pass) : Type 0 where
   pub idle : IsIdle pass
   pub sole : IsSole pass
 
--- the pass has all shares, and no event of the board is poppable where its pops led
+-- the pass has all shares, and no event of the board is poppable after its pops
 pub record IsAtEnd (board : Board) (pass : Pass) : Type 0 where
   pub sole : IsSole pass
   pub end : IsEnd (instance_of board) (vector (opening_of board) (view pass).mine)

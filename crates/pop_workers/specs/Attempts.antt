@@ -1,5 +1,5 @@
--- What looks for events come to. Throughout d is the view of the pass before them, and e the view
--- after them.
+-- The results of searches for events. In this file d is the view of the pass before them, and e
+-- the view after them.
 use Rattle.std.specs.Prelude.{◌≡◌, ℕ, Bool, true, false, ◌<◌, ◌≤◌, List, length, ⊤, Option, Some, None}
 use Rattle.pop_model.specs.Stacks.{variables_of}
 use Rattle.pop_model.specs.Instances.{Instance}
@@ -21,7 +21,7 @@ abbrev pub IsIndexed : Instance → Option (List (List ℕ)) → Type 0
 IsIndexed i (Some index) = Indexes i index
 IsIndexed i None = is_listed i.family ≡ false
 
--- a walker between walks is there for a cycle family
+-- a walker between walks, if the family is one of cycles
 abbrev pub IsWalker : Instance → Option Trail → Type 0
 IsWalker i (Some walker) = walker ≡ resting (variables_of i.stacks)
 IsWalker i None = is_listed i.family ≡ true
@@ -35,7 +35,7 @@ pub record Goes (d e : View) : Type 0 where
   pub share : e.share ≡ d.share
   pub more : length d.mine ≤ length e.mine
 
--- what a finder's answer comes to
+-- the result of a search by that of its finder
 abbrev pub found_in : Tried → Found
 found_in (Pops t) = Popped
 found_in (Cleared v c) = Done
@@ -44,7 +44,7 @@ found_in (Busy v w) = Met
 found_in Idle = Done
 found_in OutOfMemory = NoMemory
 
--- what a sole pass found at a unit, by walks that pop so many cycles at most
+-- what a pass that is the only one found at a unit, by walks that pop at most this many cycles
 abbrev pub FindsAlone : Opening → View → View → ℕ → ℕ → Found → Type 0
 FindsAlone k d e unit pops Popped = (length d.mine < length e.mine) × IsLegalFrom k e.mine
 FindsAlone k d e unit pops Done =
@@ -53,8 +53,9 @@ FindsAlone k d e unit pops Done =
 FindsAlone k d e unit pops Met = ⊥
 FindsAlone k d e unit pops NoMemory = ⊤
 
--- a round of a sole pass over the units below n, and whether it popped nothing: then the records are as
--- they were, and no event below n is poppable; else there are more, and they are a legal log
+-- A round of a pass that is the only one, over the units below n, and whether it popped nothing.
+-- If so, the records are unchanged, and no event below n is poppable. Otherwise there are more
+-- records, and they are a legal log.
 abbrev pub IsRound : Opening → View → View → ℕ → Bool → Type 0
 IsRound k d e n true = (e.mine ≡ d.mine) × ((u : ℕ) → u < n → NonePoppable k e u)
 IsRound k d e n false = (length d.mine < length e.mine) × IsLegalFrom k e.mine

@@ -20,15 +20,15 @@ use std::thread;
 use std::thread::Threads;
 use worker_hints::Worker;
 
-/// A run by 1 to 64 workers over a book under a lock, from cursors that are below the heights. Each
-/// worker attempts its units in turn; what they leave, the calling thread pops. The result has a
-/// log exactly where it is kept, and then it is that of all pops; on an extremal instance, from
-/// zeros, its end is that of the one-thread run. It is refused only where the caller found no
-/// memory: a worker that finds none ends its turns, and what it leaves, the others pop.
+/// A run by 1 to 64 workers over a book under a lock, from cursors that are below the heights.
+/// Each worker attempts its units in turn. The calling thread pops what they leave. The result has
+/// a log if and only if it is kept, and then the log has all pops. On an extremal instance, from
+/// zeros, the end is that of the one-thread run. The error is returned only if the caller found no
+/// memory. A worker that finds none ends its turns, and the others pop what it leaves.
 ///
-/// Each worker has a thread of its own, where one can be started; the caller does the work of the
-/// others itself. All threads are joined. With one worker there is no board: after the gate a run
-/// on the calling thread serves.
+/// Each worker has a thread of its own, if one can be started. The caller does the work of the
+/// others itself. All threads are joined. With one worker there is no board: after the gate the
+/// run is made on the calling thread.
 pub fn sample_locked<R: Threads + Wait + Sync, G: Gate + Sync>(
     rt: &R,
     alloc: Global,

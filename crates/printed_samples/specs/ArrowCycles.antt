@@ -1,4 +1,4 @@
--- What printed numbers say of the cycles of arrows that still occur.
+-- The cycles of arrows that still occur, in terms of the printed numbers.
 use Rattle.std.specs.Prelude.{ℕ, ◌<◌, List, length, map, Contains}
 use Rattle.std.specs.List.Sorted.{IsStrictlyIncreasing}
 use Rattle.pop_model.specs.Stacks.{StackTable}
@@ -8,8 +8,8 @@ use Rattle.printed_samples.specs.Arrows.{Arrow}
 use Rattle.printed_samples.specs.Stuck.{ShowsStuck}
 use Rattle.printed_samples.specs.Trees.{arrows_to, AreSteps}
 
--- The numbers are the vertices, rising, of a cycle of the arrows: from each of them an arrow goes
--- on, none leads to another vertex, and they lead from each to each.
+-- The numbers are the vertices, rising, of a cycle of the arrows. An arrow leaves each of them,
+-- none leads to another vertex, and they lead from each to each.
 pub record IsArrowCycle (arrows : List Arrow) (numbers : List ℕ) : Type 0 where
   pub some : 0 < length numbers
   pub rising : IsStrictlyIncreasing numbers
@@ -18,7 +18,7 @@ pub record IsArrowCycle (arrows : List Arrow) (numbers : List ℕ) : Type 0 wher
   pub joined : (u w : ℕ) → Contains numbers u → Contains numbers w
       → (path : List Arrow) × AreSteps arrows u path w
 
--- the text begins with the cycles of the arrows, where the vertices have the slots at its cursors
+-- the text begins with the cycles of the arrows, if the vertices have the slots at its cursors
 abbrev pub ShowsCycles : GraphOf → ℕ → StackTable → List ℕ → Type 0
 ShowsCycles g root s out =
     ShowsStuck (λ used numbers. IsArrowCycle (arrows_to g root (values_at s used)) numbers) out

@@ -4,7 +4,7 @@ use Rattle.graph_read.specs.declared.edge.Edge.{Edge}
 use Rattle.graph_read.specs.Graphs.{GraphOf, edge_at}
 use Rattle.pop_print.specs.Output.{arrow_line}
 
--- what stands in a line `a T H E`
+-- the contents of a line `a T H E`
 pub record Arrow : Type 0 where
   pub tail : ℕ
   pub head : ℕ
@@ -18,13 +18,13 @@ lines_of arrows = flat_map (λ a. arrow_line a.tail a.head a.number) arrows
 abbrev pub HasEnds : Edge → ℕ → ℕ → Type 0
 HasEnds e a b = ((e.u ≡ a) × (e.v ≡ b)) ⊎ ((e.u ≡ b) × (e.v ≡ a))
 
--- the arrow goes along the edge of the graph that has its number
+-- the arrow goes along the edge of the graph with its number
 pub record IsAlong (g : GraphOf) (a : Arrow) : Type 0 where
   pub first : 1 ≤ a.number
   pub last : a.number ≤ length g.edges
   pub ends : HasEnds (edge_at g (a.number - 1)) a.tail a.head
 
--- the arrow of an edge by its value: 0 is from its first vertex to its second, and 1 back
+-- the arrow of an edge with its value: 0 is from its first vertex to its second, and 1 back
 abbrev pub oriented : Edge → ℕ → ℕ → Arrow
 oriented e number x =
     if x == 0 then record { tail = e.u; head = e.v; number = number }

@@ -1,4 +1,4 @@
--- Laws of printed ends of formulas and orientations.
+-- Theorems about printed ends of formulas and orientations.
 use Rattle.std.specs.Prelude.{◌≡◌, ℕ, ◌<◌, List, [], ◌∷◌, ◌++◌, length, map, sum, None, All}
 use Rattle.pop_model.specs.Stacks.{Origin, StackTable, row_of, value_from, value_at}
 use Rattle.pop_model.specs.Popping.{Cube, cursor, values_at}
@@ -19,7 +19,7 @@ use Rattle.printed_samples.specs.Assignments.{IsSatisfied, ShowsAssignment}
 use Rattle.printed_samples.specs.Orientations.{arrows_by, IsLeft, ShowsOrientation}
 use Rattle.printed_samples.specs.Stuck.{AreStuck, IsFalseClause, IsUnleft, ShowsFalse, ShowsSinks}
 
--- these listed events over these stacks
+-- the instance of these listed events over these stacks
 abbrev pub instance_over : StackTable → List (ℕ × Cube) → Instance
 instance_over s events = record { stacks = s; family = Listed events }
 
@@ -27,32 +27,32 @@ instance_over s events = record { stacks = s; family = Listed events }
 abbrev pub HaveBits : ℕ → StackTable → List ℕ → Type 0
 HaveBits n s c = (v : ℕ) → v < n → value_at s v (cursor c v) < 2
 
--- where no event of a formula occurs, each clause has a literal among the printed ones
+-- if no event of a formula occurs, each clause has one of the printed literals
 abbrev pub PrintedSatisfies : Type 0
 PrintedSatisfies = (f : Cnf) (events : List (ℕ × Cube)) (s : StackTable) (c : List ℕ)
     → AreLiterals f.variables f.clauses → first_empty f ≡ None → AreEventsOf f.clauses events
     → length c ≡ f.variables → HaveBits f.variables s c → IsFinished (instance_over s events) c
     → All (λ clause. IsSatisfied (literals_of (values_at s c)) clause) f.clauses
 
--- where no sink of a graph without isolated vertices occurs, an arrow leaves each vertex
+-- if no sink of a graph without isolated vertices occurs, an arrow leaves each vertex
 abbrev pub PrintedLeaves : Type 0
 PrintedLeaves = (g : GraphOf) (events : List (ℕ × Cube)) (s : StackTable) (c : List ℕ)
     → ((w : ℕ) → IsIsolated g w → ⊥) → AreSinksOf g events → length c ≡ length g.edges
     → HaveBits (length g.edges) s c → IsFinished (instance_over s events) c
     → (w : ℕ) → IsVertex g.vertices w → IsLeft (arrows_by g (values_at s c)) w
 
--- in stacks without a fault each value of a variable is one of those that have a weight, where
--- these are not all 0
+-- in stacks without a fault each value of a variable is one of those that have a weight, unless
+-- all weights are 0
 abbrev pub SoundValues : Type 0
 SoundValues = (origin : Origin) (weights : List (List ℕ)) → IsSound origin weights
     → (v k : ℕ) → v < length weights → 0 < sum (row_of weights v)
     → value_from origin weights v k < length (row_of weights v)
 
--- the numbers of these events, as they are printed
+-- the printed numbers of these events
 abbrev pub numbers_of : Facts → Family → List Event → List (List ℕ)
 numbers_of facts family stuck = map (event_names facts family) stuck
 
--- where events of a formula occur, the printed numbers are those of the clauses that are false at
+-- if events of a formula occur, the printed numbers are those of the clauses that are false for
 -- the current values
 abbrev pub PrintedFalse : Type 0
 PrintedFalse = (f : Cnf) (events : List (ℕ × Cube)) (s : StackTable) (c : List ℕ)
@@ -62,7 +62,7 @@ PrintedFalse = (f : Cnf) (events : List (ℕ × Cube)) (s : StackTable) (c : Lis
     → AreStuck (IsFalseClause f (values_at s c))
     (numbers_of (Formula f.variables) (Listed events) stuck)
 
--- where sinks of a graph without isolated vertices occur, the printed numbers are those of the
+-- if sinks of a graph without isolated vertices occur, the printed numbers are those of the
 -- vertices that no arrow leaves
 abbrev pub PrintedSinks : Type 0
 PrintedSinks = (g : GraphOf) (events : List (ℕ × Cube)) (s : StackTable) (c : List ℕ)
@@ -72,14 +72,14 @@ PrintedSinks = (g : GraphOf) (events : List (ℕ × Cube)) (s : StackTable) (c :
     → AreStuck (IsUnleft g (arrows_by g (values_at s c)))
     (numbers_of (Orient g) (Listed events) stuck)
 
--- what an end of a formula shows: a sample where no event occurs, and else the clauses that are
+-- what an end of a formula shows: a sample if no event occurs, and otherwise the clauses that are
 -- false
 abbrev pub ShowsFormula : Cnf → StackTable → List Event → List ℕ → Type 0
 ShowsFormula f s [] out = ShowsAssignment f out
 ShowsFormula f s (e ∷ stuck) out = ShowsFalse f s out
 
--- a text of what was found at an end of a formula and of the cursors shows that, whatever stands
--- behind it
+-- the text of the result at an end of a formula, with the cursors, shows this, for any text that
+-- follows it
 abbrev pub FormulaShown : Type 0
 FormulaShown = (f : Cnf) (events : List (ℕ × Cube)) (s : StackTable) (c : List ℕ)
     (stuck : List Event) (more : List ℕ) → AreLiterals f.variables f.clauses → first_empty f ≡ None
@@ -88,13 +88,13 @@ FormulaShown = (f : Cnf) (events : List (ℕ × Cube)) (s : StackTable) (c : Lis
     → ShowsFormula f s stuck
     ((findings (Formula f.variables) (instance_over s events) c stuck ++ used_line c) ++ more)
 
--- what an end of a graph's sinks shows: a sample where none occurs, and else the vertices that no
--- arrow leaves
+-- what an end of a graph's sinks shows: a sample if none occurs, and otherwise the vertices that
+-- no arrow leaves
 abbrev pub ShowsOriented : GraphOf → StackTable → List Event → List ℕ → Type 0
 ShowsOriented g s [] out = ShowsOrientation g out
 ShowsOriented g s (e ∷ stuck) out = ShowsSinks g s out
 
--- the text of an end of a graph's sinks shows that
+-- the text of an end of a graph's sinks shows what `ShowsOriented` says
 abbrev pub OrientationShown : Type 0
 OrientationShown = (g : GraphOf) (events : List (ℕ × Cube)) (s : StackTable) (c : List ℕ) (pops : ℕ)
     (stuck : List Event) → ((w : ℕ) → IsIsolated g w → ⊥) → AreSinksOf g events

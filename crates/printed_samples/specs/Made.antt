@@ -1,4 +1,4 @@
--- What the short text of an end over a made grid says of the tree that its sum is taken over, or of
+-- The summary of an end if a grid is made, in terms of the tree that its sum is taken over, or of
 -- the cycles that it counts.
 use Rattle.std.specs.Prelude.{◌≡◌, ℕ, List, ◌++◌, length, codes}
 use Rattle.pop_model.specs.Stacks.{StackTable}
@@ -11,8 +11,8 @@ use Rattle.printed_samples.specs.Stuck.{AreStuck}
 use Rattle.printed_samples.specs.Trees.{arrows_to, IsTreeTo}
 use Rattle.printed_samples.specs.ArrowCycles.{IsArrowCycle}
 
--- The text is that of slots of the vertices but the first, whose arrows are a spanning tree of the
--- grid and lead to vertex 1: its sum is over these slots.
+-- The text is that of slots of the vertices except the first. Their arrows are a spanning tree of
+-- the grid and lead to vertex 1. The printed sum is over these slots.
 pub record ShowsMade (side : ℕ) (out : List ℕ) : Type 0 where
   pub slots : List ℕ
   pub used : List ℕ
@@ -21,7 +21,7 @@ pub record ShowsMade (side : ℕ) (out : List ℕ) : Type 0 where
       ++ sum_line (slot_sum slots)
   pub tree : IsTreeTo (grid_of side) 1 (arrows_to (grid_of side) 1 slots)
 
--- the text counts the cycles of the arrows at cursors whose totals it tells
+-- the text has the number of cycles of the arrows at cursors with the printed totals
 pub record CountsCycles (side : ℕ) (s : StackTable) (out : List ℕ) : Type 0 where
   pub events : List (List ℕ)
   pub used : List ℕ

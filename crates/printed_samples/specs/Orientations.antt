@@ -1,11 +1,11 @@
--- What printed arrows say of a graph that is oriented.
+-- Orientations of a graph, in terms of the printed arrows.
 use Rattle.std.specs.Prelude.{◌≡◌, ℕ, ◌+◌, List, ◌++◌, length, map, slice_index, codes, All, Contains}
 use Rattle.std.specs.List.{enumerate_from, range_with_len}
 use Rattle.pop_model.specs.Text.{line}
 use Rattle.graph_read.specs.Graphs.{GraphOf, IsVertex}
 use Rattle.printed_samples.specs.Arrows.{Arrow, lines_of, IsAlong, oriented}
 
--- the arrow of each edge by its value
+-- the arrow of each edge, by its value
 abbrev pub arrows_by : GraphOf → List ℕ → List Arrow
 arrows_by g values =
     map (λ p. oriented p.1 (p.0 + 1) (slice_index values p.0)) (enumerate_from 0 g.edges)
@@ -20,7 +20,7 @@ pub record IsOrientation (g : GraphOf) (arrows : List Arrow) : Type 0 where
   pub along : All (IsAlong g) arrows
 
 -- The text begins with a sample of the graph: the lines of an orientation in which an arrow leaves
--- each vertex. A loop leaves its vertex.
+-- each vertex. The arrow of a self-loop leaves its vertex.
 pub record ShowsOrientation (g : GraphOf) (out : List ℕ) : Type 0 where
   pub arrows : List Arrow
   pub rest : List ℕ

@@ -1,4 +1,4 @@
--- What printed arrows say of a graph of which a spanning tree is asked.
+-- Spanning trees of a graph, in terms of the printed arrows.
 use Rattle.std.specs.Prelude.{◌≡◌, ◌≢◌, ℕ, ◌+◌, ◌-◌, ◌≤◌, List, [], ◌∷◌, ◌++◌, length, map, slice_index, codes, All, Contains}
 use Rattle.std.specs.List.{enumerate_from}
 use Rattle.std.specs.List.Sorted.{IsStrictlyIncreasing}
@@ -9,28 +9,28 @@ use Rattle.graph_read.specs.Incidence.{edges_at, other_end}
 use Rattle.graph_read.specs.Paths.{IsConnected}
 use Rattle.printed_samples.specs.Arrows.{Arrow, lines_of, IsAlong}
 
--- the arrow of a vertex by its slot, which stands for one of the edges there
+-- the arrow of a vertex by its slot, which selects one of the edges there
 abbrev pub slot_arrow : GraphOf → ℕ → ℕ → Arrow
 slot_arrow g w x =
     let i = slice_index (edges_at g w) x in
     record { tail = w; head = other_end (edge_at g i) w; number = i + 1 }
 
--- the arrow of each vertex but the root, by its slot
+-- the arrow of each vertex except the root, by its slot
 abbrev pub arrows_to : GraphOf → ℕ → List ℕ → List Arrow
 arrows_to g root slots = map (λ p. slot_arrow g (vertex_of root p.0) p.1) (enumerate_from 0 slots)
 
--- these arrows, one behind another, lead from a vertex to another, each from its tail to its head
+-- these arrows, one after another, lead from a vertex to another, each from its tail to its head
 abbrev pub AreSteps : List Arrow → ℕ → List Arrow → ℕ → Type 0
 AreSteps arrows w [] r = w ≡ r
 AreSteps arrows w (a ∷ path) r = Contains arrows a × (a.tail ≡ w) × AreSteps arrows a.head path r
 
--- at most so many of the arrows lead from a vertex to another
+-- at most n of the arrows lead from a vertex to another
 abbrev pub LeadWithin : List Arrow → ℕ → ℕ → ℕ → Type 0
 LeadWithin arrows n w r = (path : List Arrow) × AreSteps arrows w path r × (length path ≤ n)
 
--- The arrows are the edges of a spanning tree of the graph, and lead to its root: they go along
--- edges of the graph, no two along one; there is one from each vertex but the root, by rising
--- vertex; and from each vertex they lead to the root.
+-- The arrows are the edges of a spanning tree of the graph, and lead to its root. They go along
+-- different edges of the graph. There is one from each vertex except the root, by rising vertex.
+-- They lead from each vertex to the root.
 pub record IsTreeTo (g : GraphOf) (root : ℕ) (arrows : List Arrow) : Type 0 where
   pub count : length arrows + 1 ≡ g.vertices
   pub rising : IsStrictlyIncreasing (map (λ a. a.tail) arrows)
@@ -40,12 +40,13 @@ pub record IsTreeTo (g : GraphOf) (root : ℕ) (arrows : List Arrow) : Type 0 wh
   pub apart : (a b : Arrow) → Contains arrows a → Contains arrows b → a.number ≡ b.number → a ≡ b
   pub leads : (w : ℕ) → IsVertex g.vertices w → LeadWithin arrows g.vertices w root
 
--- the graph with the edges of these arrows alone
+-- the graph with only the edges of these arrows
 abbrev pub graph_along : GraphOf → List Arrow → GraphOf
 graph_along g arrows =
     record { vertices = g.vertices; edges = map (λ a. edge_at g (a.number - 1)) arrows }
 
--- a spanning tree of a graph: edges of it, one fewer than the vertices, that join each to the root
+-- a spanning tree of a graph: some of its edges, one fewer than the vertices, that join each
+-- vertex to the root
 pub record Spans (g : GraphOf) (root : ℕ) (tree : GraphOf) : Type 0 where
   pub vertices : tree.vertices ≡ g.vertices
   pub few : length tree.edges + 1 ≡ g.vertices

@@ -12,11 +12,11 @@ pub record Certificate : Type 0 where
   pub input : List ℕ
   pub log_text : List ℕ
 
--- its text
+-- the text of a certificate
 abbrev pub cert_text : Certificate → List ℕ
 cert_text cert = concat (head_lines cert.head) ++ (cert.input ++ cert.log_text)
 
--- the head may say what it says, and there are so many bytes of input
+-- the head is valid, and there are as many bytes of input as it declares
 pub record IsCertificate (cert : Certificate) : Type 0 where
   pub head : IsHead cert.head
   pub size : length cert.input ≡ cert.head.size
@@ -26,17 +26,17 @@ pub record IsCertOf (bytes : List ℕ) (cert : Certificate) : Type 0 where
   pub is : IsCertificate cert
   pub text_is : bytes ≡ cert_text cert
 
--- the height that a head says: that of keyed stacks, and else the default of words
+-- the height in a head: that of keyed stacks, and otherwise the default of `--height`
 abbrev pub height_said : StackSpec → ℕ → ℕ
 height_said (Key key) height = height
 height_said (Given rows) height = 2 ^ 20
 
--- the root that a head says: 1 where it has none
+-- the root in a head; 1 if the command has none
 abbrev pub root_said : Bool → ℕ → ℕ
 root_said true root = root
 root_said false root = 1
 
--- the head of a job with so many bytes of input
+-- the head of a job for this many bytes of input
 abbrev pub head_of : Job → ℕ → Head
 head_of job size =
     record {
@@ -47,7 +47,7 @@ head_of job size =
       size = size;
     }
 
--- the certificate of a job, an input and a log text
+-- the certificate of a job, an input and the text of a log
 abbrev pub cert_of : Job → List ℕ → List ℕ → Certificate
 cert_of job input log_text =
     record { head = head_of job (length input); input = input; log_text = log_text }

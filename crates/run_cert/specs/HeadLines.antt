@@ -1,4 +1,4 @@
--- What lines of a head say.
+-- The values that the lines of a head state.
 use Rattle.std.specs.Prelude.{◌≡◌, ℕ, ◌<◌, List, ◌∷◌, ◌++◌, length, Contains, Option, MatchOption}
 use Rattle.std.specs.List.{concat}
 use Rattle.pop_log.specs.TextLines.{lines_with_ends}
@@ -8,12 +8,12 @@ use Rattle.pop_words.specs.Options.{paused}
 use Rattle.run_cert.specs.Heads.{command_line, stacks_line, MayBeStacks}
 use denote.Ref.{Bor}
 
--- what bytes say; none where they say nothing of the kind
+-- the value that bytes state, or None if they state no such value
 abbrev pub Says : {X : Type 0} → (X → Type 0) → (X → List ℕ) → List ℕ → Option X → Type 0
 Says {X} May spell bytes found =
     MatchOption found ((x : X) → May x → bytes ≡ spell x → ⊥) (λ x. May x × (bytes ≡ spell x))
 
--- the first line of bytes is no first line of the kind
+-- bytes do not begin with a line that states such a value
 pub record BeginsNone {X : Type 0} (May : X → Type 0) (spell : X → List (List ℕ)) (bytes : List ℕ)
     : Type 0 where
   pub first : List ℕ
@@ -21,15 +21,15 @@ pub record BeginsNone {X : Type 0} (May : X → Type 0) (spell : X → List (Lis
   pub cut : 0 < length bytes → lines_with_ends bytes ≡ first ∷ lines_with_ends rest
   pub none : (x : X) (more others : List (List ℕ)) → May x → first ∷ more ≡ spell x ++ others → ⊥
 
--- so many lines, which say this, stand at the front of bytes
+-- bytes begin with this many lines, which state this value
 pub record IsRead {X : Type 0} (May : X → Type 0) (spell : X → List (List ℕ)) (bytes : List ℕ)
     (x : X) (count : ℕ) (rest : List ℕ) : Type 0 where
   pub may : May x
   pub count_is : count ≡ length (spell x)
   pub bytes_are : bytes ≡ concat (spell x) ++ rest
 
--- what the first lines of bytes say, how many they are, and the bytes behind them; none where these
--- say nothing of the kind
+-- the value that the first lines of bytes state, the number of these lines, and the bytes after
+-- them; None if they state no such value
 abbrev pub Reads : {X : Type 0} → (X → Type 0) → (X → List (List ℕ)) → List ℕ
     → Option (X × ℕ × Bor (List ℕ)) → Type 0
 Reads {X} May spell bytes read =

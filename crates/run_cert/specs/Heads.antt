@@ -1,4 +1,4 @@
--- The head of a certificate: the lines that say the command, the stacks and the size of the input.
+-- The head of a certificate: the lines with the command, the stacks and the size of the input.
 use Rattle.std.specs.Prelude.{◌≡◌, ◌≢◌, ℕ, ◌<◌, ◌^◌, Bool, true, false, List, [], ◌∷◌, ◌++◌, length, map, Contains, decimal, codes}
 use Rattle.std.specs.List.{AllByRecursion, join_with_byte}
 use Rattle.hex.specs.Hex.{encode_lower}
@@ -10,15 +10,15 @@ use Rattle.pop_words.specs.declared.command.Command.TheVariants.{Tree}
 use Rattle.pop_words.specs.Options.{command_word, paused}
 use Rattle.pop_words.specs.Values.{are_within}
 
--- what the head says
+-- the contents of a head
 pub record Head : Type 0 where
   pub command : Command
   pub stacks : StackSpec
-  -- the height of keyed stacks; 2 ^ 20 where rows are given
+  -- the height of keyed stacks; 2 ^ 20 if rows are given
   pub height : ℕ
   -- the root of a tree; 1 for any other command
   pub root : ℕ
-  -- how many bytes of input there are
+  -- the number of bytes of input
   pub size : ℕ
 
 -- whether the head of a command has a root
@@ -34,7 +34,7 @@ command_line command = line (codes "cert 1 " ++ command_word command)
 abbrev pub row_text : List ℕ → List ℕ
 row_text row = join_with_byte 44 (map decimal row)
 
--- rows joined by `;`, behind a space; nothing where there is no row
+-- rows joined by `;`, after a space; nothing if there are no rows
 abbrev pub rows_text : List (List ℕ) → List ℕ
 rows_text [] = []
 rows_text (row ∷ rows) = 32 ∷ join_with_byte 59 (map row_text (row ∷ rows))
@@ -48,7 +48,7 @@ stacks_line (Given rows) = line (codes "stacks" ++ rows_text rows)
 abbrev pub height_line : ℕ → List ℕ
 height_line height = line (codes "height " ++ decimal height)
 
--- the lines of stacks behind their first: keyed ones have a height
+-- the lines of stacks after their first: keyed stacks have a height
 abbrev pub height_lines : StackSpec → ℕ → List (List ℕ)
 height_lines (Key key) height = height_line height ∷ []
 height_lines (Given rows) height = []
@@ -61,12 +61,12 @@ root_line root = line (codes "root " ++ decimal root)
 abbrev pub input_line : ℕ → List ℕ
 input_line size = line (codes "input " ++ decimal size)
 
--- the line of the root, where there is one
+-- the line of the root, if there is one
 abbrev pub root_lines : Bool → ℕ → List (List ℕ)
 root_lines true root = root_line root ∷ []
 root_lines false root = []
 
--- the lines of a head, each with its end
+-- the lines of a head, each with its line end
 abbrev pub head_lines : Head → List (List ℕ)
 head_lines h =
     command_line h.command
@@ -74,8 +74,8 @@ head_lines h =
     ∷ height_lines h.stacks h.height
     ++ (root_lines (has_root h.command) h.root ++ input_line h.size ∷ [])
 
--- Keys have 32 bytes; rows are within the limits of words, and their numbers have 32 bits. Just one
--- empty row can't be written: an empty word is no row.
+-- Keys have 32 bytes. Rows are within the limits of arguments, and their numbers have 32 bits.
+-- Exactly one empty row cannot be written, since an empty argument has no row.
 abbrev pub MayBeStacks : StackSpec → Type 0
 MayBeStacks (Key key) = (length key ≡ 32) × AllByRecursion (λ b. b < 256) key
 MayBeStacks (Given rows) =
@@ -86,12 +86,12 @@ MayBeStacks (Given rows) =
 abbrev pub IsHeight : ℕ → Type 0
 IsHeight height = (0 < height) × (height < 2 ^ 31)
 
--- keyed stacks have a height from 1 on, and given ones that which words have by default
+-- keyed stacks have a height of at least 1, and given rows have the default of `--height`
 abbrev pub MayBeHeight : StackSpec → ℕ → Type 0
 MayBeHeight (Key key) height = IsHeight height
 MayBeHeight (Given rows) height = height ≡ 2 ^ 20
 
--- a root is from 1 on; it is 1 where the head has none
+-- a root is at least 1; it is 1 if the head has none
 abbrev pub MayBeRoot : Bool → ℕ → Type 0
 MayBeRoot true root = (0 < root) × (root < 2 ^ 32)
 MayBeRoot false root = root ≡ 1
@@ -100,7 +100,7 @@ MayBeRoot false root = root ≡ 1
 abbrev pub MayBeSize : ℕ → Type 0
 MayBeSize size = size < 2 ^ 32
 
--- what a head may say
+-- a valid head
 pub record IsHead (h : Head) : Type 0 where
   pub command : Contains paused h.command
   pub stacks : MayBeStacks h.stacks

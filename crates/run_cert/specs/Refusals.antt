@@ -1,4 +1,4 @@
--- Why bytes are no certificate.
+-- Why bytes are not a certificate.
 use Rattle.std.specs.Prelude.{◌≡◌, ◌⊎◌, ℕ, ◌<◌, List, ◌++◌, length, ⊤}
 use Rattle.std.specs.List.{concat}
 use Rattle.pop_model.specs.Languages.{IsFirstBad}
@@ -11,7 +11,7 @@ use Rattle.run_cert.specs.Heads.{Head, head_lines, IsHead}
 abbrev pub HaveHead : List (List ℕ) → Type 0
 HaveHead lines = (h : Head) × IsHead h × (rest : List (List ℕ)) × (lines ≡ head_lines h ++ rest)
 
--- the head is right, and says more bytes of input than follow it; the line is its last
+-- the head is valid, and declares more bytes of input than follow it; the line is its last
 pub record IsCutShort (bytes : List ℕ) (line : ℕ) : Type 0 where
   pub h : Head
   pub is : IsHead h
@@ -20,9 +20,8 @@ pub record IsCutShort (bytes : List ℕ) (line : ℕ) : Type 0 where
   pub few : length rest < h.size
   pub line_is : line ≡ length (head_lines h)
 
--- Code 21 has the first line, from 1, that can't stand in a head; a missing line has the number at
--- which it should stand. Code 22 has the line that says the size of the input. Want of memory may
--- come at any place.
+-- Code 21 has the first invalid line of the head, from 1; a missing line has the number that it
+-- would have. Code 22 has the line with the size of the input. Memory may run out at any place.
 abbrev pub IsCertRefusal : List ℕ → CertRefusal → Type 0
 IsCertRefusal bytes (Malformed line code) =
     ((code ≡ 21) × IsFirstBad HaveHead (lines_with_ends bytes) line)

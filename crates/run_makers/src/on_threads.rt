@@ -1,4 +1,4 @@
-//! Runs on threads. Each worker passes a gate before its turns.
+//! Runs on threads, on which each worker passes a gate before its turns.
 ghost use Rattle.std.specs.Prelude.{◌≡◌, IfOk};
 ghost use Rattle.growing_instances.specs.Growing.{MayIndex};
 ghost use Rattle.run_makers.specs.Makers.{MayGrow, IsRunInStages};
@@ -12,7 +12,7 @@ use std::alloc::{AllocError, Global};
 use std::sync::Wait;
 use std::thread::Threads;
 
-/// Makes a run in stages. Also returns the instance at its last height.
+/// Makes a run in stages, and answers with the instance at its last height.
 pub fn run_in_stages<R: Threads + Wait + Sync, G: Gate + Sync>(
     rt: &R,
     gate: &G,
@@ -30,14 +30,14 @@ pub fn run_in_stages<R: Threads + Wait + Sync, G: Gate + Sync>(
     } = stages;
     let (claimed, workers) = (crew.claims(), crew.workers());
     let run = sample_grown(rt, alloc, &mut instance, last, claimed, workers, keep, gate)?;
-    // Also if the stages ended at a lower height.
+    // Also where the stages came to an end before.
     instance.raise(last);
     Ok((run, instance))
 }
 
-/// The makers of runs of an instance: one worker alone, after the gate and without a board;
-/// several that claim words; or several that share a book under a lock. They use the index of its
-/// family if it is at hand, and otherwise build it.
+/// Who brings runs of an instance to their ends: one worker alone, behind the gate and with no
+/// board; several who claim words, or who share a book under a lock. They get the index of its
+/// family, where it is at hand, or build it.
 pub fn makers_of<'c, R: Threads + Wait + Sync, G: Gate + Sync>(
     rt: &'c R,
     gate: &'c G,

@@ -1,5 +1,5 @@
--- What samples of graphs are, and nothing else: the orientations without a sink, and the arrows that
--- lead to the root.
+-- The samples of graphs are exactly the sink-free orientations, and exactly the arrows that lead
+-- to the root.
 use Rattle.std.specs.Prelude.{◌↔◌, ℕ, List}
 use Rattle.pop_model.specs.Popping.{Cube}
 use Rattle.graph_read.specs.Graphs.{GraphOf, IsGraph, IsVertex}
@@ -11,14 +11,14 @@ use Rattle.job_subjects.specs.Subjects.{orientations, arrows_to}
 use Rattle.answer_laws.specs.ExactAnswers.{frame_over}
 use Rattle.answer_laws.specs.EverySample.{LeavesEach, LeadsToRoot}
 
--- The samples of the sinks of a graph, each of whose vertices an edge touches, are just the
--- orientations at which an edge leaves each vertex.
+-- In a graph without isolated vertices, the samples of the sinks are exactly the orientations in
+-- which an edge leaves each vertex.
 abbrev pub OrientationsAlone : Type 0
 OrientationsAlone = (g : GraphOf) (events : List (ℕ × Cube)) (heights x : List ℕ) → AreSinksOf g events
     → ((w : ℕ) → IsIsolated g w → ⊥)
     → IsSampleOf (frame_over (orientations g events) heights) x ↔ LeavesEach g x
 
--- The samples of the cycles of a connected graph are just the arrows that lead to the root.
+-- The samples of the cycles of a connected graph are exactly the arrows that lead to the root.
 abbrev pub TreesAlone : Type 0
 TreesAlone = (facts : Facts) (g : GraphOf) (root : ℕ) (heights x : List ℕ) → IsGraph g
     → IsVertex g.vertices root → IsConnected g root

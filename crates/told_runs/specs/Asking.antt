@@ -1,16 +1,16 @@
--- What a job asks to be told of its run.
+-- What a job requests of its run.
 use Rattle.std.specs.Prelude.{Bool, true, false}
 use Rattle.pop_words.specs.declared.command.Command.{Command}
 use Rattle.pop_words.specs.declared.command.Command.TheVariants.{Resample}
 use Rattle.pop_words.specs.declared.job.Job.{Job}
 use Rattle.told_runs.specs.declared.asked.Asked.{Asked}
 
--- the order of a command's pops isn't determined
+-- the pops of a command may be made in any order
 abbrev pub has_free_order : Command → Bool
 has_free_order Resample = true
 has_free_order command = false
 
--- what a job asks to be told behind the end
+-- what a job requests in addition to the end
 abbrev pub asked_by : Job → Asked
 asked_by job = record {
   log = job.log;

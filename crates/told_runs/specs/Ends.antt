@@ -1,4 +1,4 @@
--- The ends of runs, and what is told of them.
+-- The ends of runs, and what is printed of them.
 use Rattle.std.specs.Prelude.{◌≡◌, ℕ, ◌≤◌, List, [], length, Option, None, Some, ⊤}
 use Rattle.pop_model.specs.Instances.{Instance}
 use Rattle.pop_model.specs.Logs.{LogRecord}
@@ -16,7 +16,7 @@ use Rattle.told_runs.specs.Batches.{IsBatchOf}
 use Rattle.told_runs.specs.Outcomes.{Outcome}
 use Rattle.told_runs.specs.Outcomes.Outcome.{Ended, Resampled, Rounded, Batched}
 
--- this is told of the layered log of the instance's one-thread run
+-- this is printed of the layered log of the instance's one-thread run
 pub record IsToldOfFirst (asked : Asked) (watchers : List Watcher) (names : Names) (i : Instance)
     (t : Telling) : Type 0 where
   pub log : List LogRecord
@@ -25,13 +25,13 @@ pub record IsToldOfFirst (asked : Asked) (watchers : List Watcher) (names : Name
   pub sorted : AreSorted log placed
   pub told : IsToldOf asked watchers names i placed t
 
--- a run that may stop after so many pops, if it may, came to its end within them
+-- if the run has a limit of pops, it reached its end within it
 abbrev pub EndsWithin : Option ℕ → ℕ → Type 0
 EndsWithin None pops = ⊤
 EndsWithin (Some most) pops = pops ≤ most
 
--- the end of the instance's one-thread run, and what is asked for of its log; or where a number of
--- samples is asked for, the end of each
+-- The end of the instance's one-thread run, and the requested parts of its log. If a number of
+-- samples is requested, the end of each.
 abbrev pub IsEndOf : Asked → List Watcher → Facts → Instance → Outcome → Type 0
 IsEndOf asked watchers facts i (Ended told j cursors pops stuck telling) =
     (told ≡ facts) × (j ≡ i) × IsFirstEnd i cursors pops stuck
@@ -41,7 +41,7 @@ IsEndOf asked watchers facts i (Batched told j ends) =
     (told ≡ facts) × (j ≡ i) × IsBatchOf asked.count i ends
 IsEndOf asked watchers facts i o = ⊥
 
--- A run of the instance to an end, whose log is layered as it stands, and what is asked for of this
+-- A run of the instance to an end, with its log in layered order and the requested parts of this
 -- log.
 abbrev pub IsHistoryOf : Asked → List Watcher → Facts → Instance → Outcome → Type 0
 IsHistoryOf asked watchers facts i (Resampled told j placed stuck telling) =
@@ -50,7 +50,7 @@ IsHistoryOf asked watchers facts i (Resampled told j placed stuck telling) =
     × EndsWithin asked.pops (length placed)
 IsHistoryOf asked watchers facts i o = ⊥
 
--- the layered log of an outcome that tells one is that of this log
+-- if the outcome has a layered log, it is that of this log
 abbrev pub IsLayeredFrom : List LogRecord → Outcome → Type 0
 IsLayeredFrom log (Resampled facts i placed stuck telling) = AreSorted log placed
 IsLayeredFrom log o = ⊥

@@ -1,11 +1,10 @@
--- The names under which a log and a witness tell the variables: those under which the end tells
--- them.
+-- The names of variables in logs and witness trees, which are those in the printed end.
 use Rattle.pop_log.specs.declared.names.Names.{Names}
 use Rattle.pop_log.specs.declared.names.Names.TheVariants.{Plain, Tree as OfTree}
 use Rattle.pop_print.specs.declared.facts.Facts.{Facts}
 use Rattle.pop_print.specs.declared.facts.Facts.TheVariants.{Formula, Orient, Tree, Made}
 
--- the names of the variables of which the facts tell
+-- the names of the variables, by what the input says
 abbrev pub names_for : Facts → Names
 names_for (Formula n) = Plain
 names_for (Orient g) = Plain

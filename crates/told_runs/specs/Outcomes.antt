@@ -1,4 +1,4 @@
--- What can come of command words and a text, and how each is told.
+-- The possible outcomes of arguments and an input, and how each is printed.
 use Rattle.std.specs.Prelude.{◌≡◌, ◌≢◌, ◌⊎◌, ◌≤◌, ℕ, if◌then◌else◌, List, [], ◌∷◌, ◌++◌, length, codes, Option}
 use Rattle.pop_model.specs.Families.{Event}
 use Rattle.pop_model.specs.Instances.{Instance}
@@ -22,37 +22,38 @@ use Rattle.told_runs.specs.ReplayTexts.{look_status, replay_text}
 use Rattle.job_subjects.specs.declared.refusal.Refusal.{Refusal}
 use Rattle.job_subjects.specs.Refusals.{s_line, refusal_status, refusal_line}
 
--- what comes of command words and a text
+-- the outcome of arguments and an input
 pub data Outcome : Type 0 where
   -- there is no run, for this reason
   Refused : (refusal : Refusal) → Outcome
-  -- no two of so many events clash
+  -- no two of this many events clash
   Extremal : (events : ℕ) → Outcome
-  -- the run came to an end, and this is told of its log
+  -- the run reached an end, and this is printed of its log
   Ended : (facts : Facts) (instance : Instance) (cursors : List ℕ) (pops : ℕ) (stuck : List Event)
       (telling : Telling) → Outcome
-  -- a run whose order isn't determined came to an end; this is its layered log, and what is told
-  -- of it
+  -- a run with pops in any order reached an end; this is its layered log, and what is printed of
+  -- it
   Resampled : (facts : Facts) (instance : Instance) (placed : List Placed) (stuck : List Event)
       (telling : Telling) → Outcome
-  -- the run by rounds came to an end; where it is exhausted, this variable has no next entry
+  -- the run by rounds reached an end; if it is exhausted, this variable has no next entry
   Rounded : (facts : Facts) (instance : Instance) (cursors : List ℕ) (rounds : ℕ)
       (stuck : List Event) (short : Option ℕ) → Outcome
-  -- the run of a job and its input stopped after the pops of this layered log, with an event that
-  -- is poppable still
+  -- the run of a job and its input stopped after the pops of this layered log, and an event is
+  -- still poppable
   Paused : (job : Job) (input : List ℕ) (facts : Facts) (instance : Instance)
       (placed : List Placed) → Outcome
-  -- the log of so many records is legal and leads to these cursors, where the run stands so
+  -- the log with this many records is legal and leads to these cursors, and this is the state of
+  -- the run there
   Replayed : (instance : Instance) (cursors : List ℕ) (records : ℕ) (look : Look) → Outcome
-  -- the samples came to these ends
+  -- the samples have these ends
   Batched : (facts : Facts) (instance : Instance) (ends : List End) → Outcome
 
--- a run's status tells whether an event still occurs
+-- the status of a run says whether an event still occurs
 abbrev pub end_status : List Event → ℕ
 end_status [] = 0
 end_status (e ∷ stuck) = 1
 
--- where the pop whose witness is asked for isn't there, that is told first
+-- the status of a resampling; a missing pop of the requested witness takes precedence
 abbrev pub resampled_status : List Event → Witness → ℕ
 resampled_status stuck witness = if is_missing witness then 6 else end_status stuck
 
@@ -67,17 +68,17 @@ status_of (Paused job input facts i placed) = 10
 status_of (Replayed i cursors records look) = look_status look
 status_of (Batched facts i ends) = batch_status ends
 
--- the text of a run: that of its end, and behind it what is told of its log
+-- the text of a run: its end, followed by what is printed of its log
 abbrev pub run_text : Facts → Instance → List ℕ → ℕ → List Event → Telling → List ℕ
 run_text facts i cursors pops stuck telling =
     end_text facts i cursors pops stuck ++ telling_text (names_for facts) i telling
 
--- that of a run whose layered log is known
+-- the text of a run with this layered log
 abbrev pub resampled_text : Facts → Instance → List Placed → List Event → Telling → List ℕ
 resampled_text facts i placed stuck telling =
     run_text facts i (replay (start_of i) (records_of placed)) (length placed) stuck telling
 
--- that of a run that stopped: the certificate of its job, its input and its layered log
+-- the text of a run that stopped: the certificate of its job, its input and its layered log
 abbrev pub paused_text : Job → List ℕ → Facts → Instance → List Placed → List ℕ
 paused_text job input facts i placed =
     cert_text (cert_of job input (placed_text (names_for facts) i placed))
@@ -94,16 +95,16 @@ text_of (Paused job input facts i placed) = paused_text job input facts i placed
 text_of (Replayed i cursors records look) = replay_text records cursors look
 text_of (Batched facts i ends) = batch_text facts i ends
 
--- a status of an answer: none of a device or of memory
+-- a status of an answer, which is not that of a device or of memory
 abbrev pub IsAnswerStatus : ℕ → Type 0
 IsAnswerStatus status = (status ≤ 6) ⊎ ((status ≡ 10) ⊎ (status ≡ 11))
 
--- a status that a text is answered by: one of an answer, but not that of words
+-- a status of an answer that does not concern the arguments
 pub record IsTextStatus (status : ℕ) : Type 0 where
   pub answers : IsAnswerStatus status
   pub no_usage : status ≢ 2
 
--- a status with which a run, or a verdict, is told: an end, or where it stopped
+-- a status with which a run or a verdict is printed: an end, or a stop
 abbrev pub HasRun : ℕ → Type 0
 HasRun status = (status ≤ 1) ⊎ (status ≡ 10)
 
@@ -112,6 +113,6 @@ pub record Tells (outcome : Outcome) (status : ℕ) (out : List ℕ) : Type 0 wh
   pub status_is : status ≡ status_of outcome
   pub out_is : out ≡ text_of outcome
 
--- the status and the output are those of an outcome that comes so
+-- the status and the output are those of an outcome with this property
 abbrev pub AnswersBy : (Outcome → Type 0) → ℕ → List ℕ → Type 0
 AnswersBy Comes status out = (outcome : Outcome) × Comes outcome × Tells outcome status out

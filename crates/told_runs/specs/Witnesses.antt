@@ -1,4 +1,4 @@
--- The witness of a pop that is asked for, by the printed name of a variable and an entry.
+-- The witness of a requested pop, which is given by the printed name of a variable and an entry.
 use Rattle.std.specs.Prelude.{◌≡◌, ◌⊎◌, ℕ, ◌<◌, ◌≤◌, Bool, true, false, List, [], length, Option, None, Some, slice_get, ⊤}
 use Rattle.pop_model.specs.Popping.{cursor}
 use Rattle.pop_model.specs.Families.{Family}
@@ -10,11 +10,11 @@ use Rattle.witness_trees.specs.Vertices.{Vertex}
 use Rattle.witness_trees.specs.Trees.{IsTree}
 use Rattle.witness_trees.specs.TreeTexts.{tree_text, no_witness_text}
 
--- what is told of a witness
+-- what is printed of a witness
 pub data Witness : Type 0 where
-  -- none is asked for
+  -- none is requested
   Unasked : Witness
-  -- no pop used the entry: the asked name and entry, and the variable's cursor
+  -- no pop used the entry: the requested name and entry, and the variable's cursor
   Missing : (name entry cursor : ℕ) → Witness
   -- the tree of the pop that used it, in preorder
   Shown : (tree : List Vertex) → Witness
@@ -28,12 +28,12 @@ HasCursor names cursors name c =
 abbrev pub IsNoName : Names → List ℕ → ℕ → Type 0
 IsNoName names cursors name = (v : ℕ) → v < length cursors → name_of names v ≡ name → ⊥
 
--- the cursor of the variable of a printed name; 0 where no variable has the name
+-- the cursor of the variable with a printed name, or 0 if no variable has the name
 abbrev pub IsCursorNamed : Names → List ℕ → ℕ → ℕ → Type 0
 IsCursorNamed names cursors name c =
     HasCursor names cursors name c ⊎ (IsNoName names cursors name × (c ≡ 0))
 
--- the tree of the pop that used this entry of the variable of this name
+-- the tree of the pop that used this entry of the variable with this name
 pub record IsWitnessTree (names : Names) (cursors : List ℕ) (log : List LogRecord) (name entry : ℕ)
     (tree : List Vertex) : Type 0 where
   pub v : ℕ
@@ -45,8 +45,8 @@ pub record IsWitnessTree (names : Names) (cursors : List ℕ) (log : List LogRec
   pub used : Uses r v entry
   pub tree_is : IsTree log t tree
 
--- Where a name and an entry are asked for: the tree of the pop that used the entry; or that there
--- is none, since the variable's cursor at the log's end isn't above the entry.
+-- If a name and an entry are requested: the tree of the pop that used the entry; or that there is
+-- none, since the variable's cursor at the end of the log is not above the entry.
 abbrev pub IsWitness : Names → Option (ℕ × ℕ) → List ℕ → List LogRecord → Witness → Type 0
 IsWitness names None cursors log Unasked = ⊤
 IsWitness names (Some asked) cursors log (Missing name entry c) =
@@ -61,13 +61,13 @@ witness_text names family Unasked = []
 witness_text names family (Missing name entry c) = no_witness_text name entry c
 witness_text names family (Shown tree) = tree_text names family tree
 
--- the asked pop isn't there
+-- the requested pop does not exist
 abbrev pub is_missing : Witness → Bool
 is_missing Unasked = false
 is_missing (Missing name entry c) = true
 is_missing (Shown tree) = false
 
--- a witness as it is told: whether the asked pop is missing, and the text
+-- a printed witness: whether the requested pop is missing, and the text
 pub record TellsWitness (names : Names) (family : Family) (asked : Option (ℕ × ℕ))
     (cursors : List ℕ) (log : List LogRecord) (missing : Bool) (text : List ℕ) : Type 0 where
   pub witness : Witness

@@ -1,4 +1,4 @@
--- A certificate that is accepted: its log is legal.
+-- Certificates that are accepted: their log is legal.
 use Rattle.std.specs.Prelude.{◌≡◌, ◌≢◌, ℕ, ◌≤◌, true, List, length, Contains, IfSome}
 use Rattle.pop_model.specs.Extremal.{IsExtremal}
 use Rattle.pop_model.specs.Runs.{start_of}
@@ -17,8 +17,8 @@ use Rattle.top_call.specs.declared.accepted.Accepted.{Accepted}
 use Rattle.told_runs.specs.Names.{names_for}
 use Rattle.top_call.specs.Replays.{cert_limit, IsCertified}
 
--- the certificate has this command, whose runs may stop, and which runs this instance, told by
--- these facts, and its log is that by which the run has come so far from zeros
+-- The certificate has this command, which has runs that may stop. It runs this instance, with
+-- these facts. The log of the certificate is that by which the run reached this state from zeros.
 pub record IsHeldBy (cert : Certificate) (a : Accepted) : Type 0 where
   pub command_is : a.command ≡ cert.head.command
   pub paused_is : Contains paused cert.head.command
@@ -28,14 +28,14 @@ pub record IsHeldBy (cert : Certificate) (a : Accepted) : Type 0 where
   pub extremal : cert.head.command ≢ Resample → IsExtremal a.instance.family
   pub run : IsReached a.instance (start_of a.instance) true a.reached
 
--- the bytes are such a certificate
+-- the bytes are a certificate that is accepted with this result
 pub record IsAccepted (bytes : List ℕ) (a : Accepted) : Type 0 where
   pub short : length bytes ≤ cert_limit
   pub cert : Certificate
   pub is : IsCertOf bytes cert
   pub held : IsHeldBy cert a
 
--- how the run stands where it has come is told so
+-- this status and this text print the state of the run
 pub record TellsReplay (i : Instance) (reached : Reached) (status : ℕ) (text : List ℕ) : Type 0 where
   pub look : Look
   pub is : IsLook i reached.cursors look

@@ -1,4 +1,4 @@
--- Runs that stop after so many pops.
+-- Runs that stop after a number of pops.
 use Rattle.std.specs.Prelude.{◌≡◌, ℕ, List, [], length, Contains, None, Some}
 use Rattle.pop_model.specs.Instances.{Instance}
 use Rattle.pop_model.specs.Logs.{IsLegal, replay}
@@ -13,27 +13,27 @@ use Rattle.told_runs.specs.Tellings.{records_of}
 use Rattle.told_runs.specs.Outcomes.{Outcome}
 use Rattle.told_runs.specs.Outcomes.Outcome.{Paused}
 
--- a legal log of exactly so many pops, layered as it stands, behind which an event is poppable
+-- a legal log of exactly this many pops, in layered order, with an event that is poppable after it
 pub record IsPause (i : Instance) (pops : ℕ) (placed : List Placed) : Type 0 where
   pub legal : IsLegal i (start_of i) (records_of placed)
   pub layered : AreInLayers [] placed
   pub count : length placed ≡ pops
   pub poppable : HasPoppable i (replay (start_of i) (records_of placed))
 
--- the outcome tells such a pause of the run of a job and its input
+-- the outcome is a pause of the run of a job and its input
 abbrev pub IsPausedAt : Job → List ℕ → Facts → Instance → ℕ → Outcome → Type 0
 IsPausedAt job input facts i pops (Paused told read also j placed) =
     (told ≡ job) × (read ≡ input) × (also ≡ facts) × (j ≡ i) × IsPause i pops placed
 IsPausedAt job input facts i pops o = ⊥
 
--- the job's run may stop before its end: the command has such runs, and asks neither for a number
--- of samples nor for stacks that grow
+-- The job's run may stop before its end. The command has such runs, and requests neither a number
+-- of samples nor stacks that grow.
 pub record MayStop (job : Job) : Type 0 where
   pub command : Contains paused job.command
   pub once : job.count ≡ None
   pub level : job.grow ≡ None
 
--- it may, and the outcome tells that it stopped after as many pops as the job says
+-- the job's run may stop, and the outcome says that it stopped after as many pops as the job says
 pub record Pauses (job : Job) (input : List ℕ) (facts : Facts) (i : Instance) (o : Outcome)
     : Type 0 where
   pub may : MayStop job

@@ -1,4 +1,4 @@
--- What comes of a certificate that is replayed: it is refused, or its log is legal and leads to
+-- The outcome of a certificate that is replayed: it is rejected, or its log is legal and leads to
 -- cursors.
 use Rattle.std.specs.Prelude.{◌≡◌, ◌≢◌, ◌⊎◌, ℕ, ◌<◌, ◌≤◌, ◌^◌, List, length, None}
 use Rattle.pop_model.specs.Instances.{Instance, IsInstance}
@@ -29,7 +29,7 @@ use Rattle.job_subjects.specs.Refused.{RefusesText}
 use Rattle.told_runs.specs.Outcomes.{Outcome}
 use Rattle.told_runs.specs.Outcomes.Outcome.{Refused, Replayed}
 
--- how many bytes a certificate may have
+-- the largest number of bytes of a certificate
 abbrev pub cert_limit : ℕ
 cert_limit = 2 ^ 29
 
@@ -52,14 +52,14 @@ wanted_of head = record {
   side = 0;
 }
 
--- the bytes are too many, or no certificate
+-- the bytes are too many, or not a certificate
 abbrev pub IsNoCert : List ℕ → Refusal → Type 0
 IsNoCert bytes refusal =
     ((cert_limit < length bytes) × (refusal ≡ Limit 8 1))
     ⊎ ((length bytes ≤ cert_limit) × ((l code : ℕ) × IsCertRefusal bytes (MalformedCert l code)
     × (refusal ≡ Malformed l code)))
 
--- the bytes are a certificate, of which this comes
+-- the bytes are a certificate with this outcome
 pub record ComesOfCert {T : Type 0} (Comes : Certificate → T → Type 0) (bytes : List ℕ) (x : T)
     : Type 0 where
   pub short : length bytes ≤ cert_limit
@@ -67,14 +67,14 @@ pub record ComesOfCert {T : Type 0} (Comes : Certificate → T → Type 0) (byte
   pub is : IsCertOf bytes cert
   pub comes : Comes cert x
 
--- what the certificate's command runs, of the input and over the stacks of the certificate; its
--- events have numbers of 32 bits
+-- what the certificate's command runs, made of its input and its stacks; its events have numbers
+-- of 32 bits
 pub record IsCertified (cert : Certificate) (facts : Facts) (i : Instance) : Type 0 where
   pub made : IsMade (wanted_of cert.head) cert.input facts i
   pub is : IsInstance i
   pub numbers : NumbersFit i.family
 
--- the log text is refused
+-- the text of the log is rejected
 pub record IsLogRefused (cert : Certificate) (refusal : Refusal) : Type 0 where
   pub facts : Facts
   pub instance : Instance
@@ -84,16 +84,16 @@ pub record IsLogRefused (cert : Certificate) (refusal : Refusal) : Type 0 where
   pub refused : IsLogRefusal (names_for facts) instance cert.log_text cause
   pub is : refusal ≡ unlogged cause
 
--- A certificate is refused: its input is, as one of which this is wanted, or its log text is.
+-- A certificate is rejected for its input or for the text of its log.
 abbrev pub IsRefusedCert : Certificate → Refusal → Type 0
 IsRefusedCert cert refusal =
     RefusesText (wanted_of cert.head) cert.input refusal ⊎ IsLogRefused cert refusal
 
--- the bytes are no certificate, or one that is refused
+-- the bytes are not a certificate, or are one that is rejected
 abbrev pub IsRefused : List ℕ → Refusal → Type 0
 IsRefused bytes refusal = IsNoCert bytes refusal ⊎ ComesOfCert IsRefusedCert bytes refusal
 
--- the log text is that of a legal log
+-- the text of the log is that of a legal log
 pub record HasLog (cert : Certificate) : Type 0 where
   pub facts : Facts
   pub instance : Instance
@@ -101,7 +101,7 @@ pub record HasLog (cert : Certificate) : Type 0 where
   pub log : List LogRecord
   pub read : IsReadAs (names_for facts) instance cert.log_text log
 
--- where the replay of a legal log leads to, and how the run stands there
+-- the cursors after the replay of a legal log, and the state of the run there
 pub record IsReplay (i : Instance) (log : List LogRecord) (o : Outcome) : Type 0 where
   pub cursors : List ℕ
   pub cursors_are : cursors ≡ replay (start_of i) log
@@ -114,7 +114,7 @@ pub record IsReplayed (cert : Certificate) (o : Outcome) : Type 0 where
   pub has : HasLog cert
   pub is : IsReplay has.instance has.log o
 
--- what comes of bytes that are replayed
+-- the outcome of bytes that are replayed
 abbrev pub ComesOfReplaying : List ℕ → Outcome → Type 0
 ComesOfReplaying bytes (Refused refusal) = IsRefused bytes refusal
 ComesOfReplaying bytes o = ComesOfCert IsReplayed bytes o

@@ -1,4 +1,4 @@
--- What the top call leaves at its source and its sink.
+-- The state of the source and the sink after the top call.
 use Rattle.std.specs.Prelude.{◌≡◌, ◌⊎◌, ℕ, List, Option}
 use Rattle.std.specs.Io.KnownBytes.{Appends, Consumes}
 use Rattle.pop_model.specs.Faults.{Rose}
@@ -11,25 +11,26 @@ use Rattle.job_subjects.specs.declared.refusal.Refusal.TheVariants.{Usage, Stopp
 use Rattle.job_subjects.specs.Refusals.{refusal_line}
 use Rattle.top_call.specs.Answers.{IsAnswer, MayFailBehind}
 
--- a fault of a device or want of memory, and no answer to words and a text
+-- a fault of a device or a lack of memory, and no answer to arguments and an input
 abbrev pub IsBreak : ℕ → Type 0
 IsBreak status = (status ≡ 7) ⊎ ((status ≡ 8) ⊎ (status ≡ 9))
 
--- the sink holds just the text of the answer more
+-- exactly the text of the answer was added to the sink
 pub record Answered (words : List (List ℕ)) (watchers : List Watcher) (text : List ℕ)
     (old new : Option (List ℕ)) (status : ℕ) : Type 0 where
   pub out : List ℕ
   pub answer : IsAnswer words watchers text status out
   pub held : Appends old new out
 
--- the sink holds just the line of the first bad word more
+-- exactly the line of the first invalid argument was added to the sink
 pub record AnsweredUsage (words : List (List ℕ)) (old new : Option (List ℕ)) : Type 0 where
   pub place : ℕ
   pub bad : IsBadPlace words place
   pub held : Appends old new (refusal_line (Usage place))
 
--- The source failed: its count rose, the words ask for a job that reads, what was taken is within
--- the limit, and, but where it is read whole before, no line of it whose end was taken is refused.
+-- The source failed: its count rose, the arguments specify a job that reads, and what was taken is
+-- within the limit. Unless the source is read completely first, no line that was taken to its end
+-- is rejected.
 pub record HasReadFault (words : List (List ℕ)) (left left' : Option (List ℕ))
     (faults faults' : ℕ) : Type 0 where
   pub rose : Rose faults faults'
@@ -39,27 +40,27 @@ pub record HasReadFault (words : List (List ℕ)) (left left' : Option (List ℕ
   pub consumed : Consumes left left' taken
   pub no_bad_line : MayFailBehind job.pops job.command taken
 
--- a text that a call may write: that of an answer, of a fault of the source, or of want of memory
+-- a text that a call may write: that of an answer, of a fault of the source, or of a lack of
+-- memory
 abbrev pub MayWrite : List (List ℕ) → List Watcher → List ℕ → Type 0 → List ℕ → Type 0
 MayWrite words watchers text fault out =
     ((status : ℕ) × IsAnswer words watchers text status out)
     ⊎ ((fault × (out ≡ refusal_line (Stopped ReadFault))) ⊎ (out ≡ refusal_line (Stopped OutOfMemory)))
 
--- the sink holds just a front of such a text more
+-- exactly a prefix of a text that the call may write was added to the sink
 pub record IsCutShort (words : List (List ℕ)) (watchers : List Watcher) (text : List ℕ)
     (fault : Type 0) (old new : Option (List ℕ)) : Type 0 where
   pub out : List ℕ
   pub may : MayWrite words watchers text fault out
   pub held : AppendsFront old new out
 
--- a text that words outside the grammar are answered by: the line of their first bad word, or that
--- of want of memory
+-- a text for invalid arguments: the line of the first invalid one, or that of a lack of memory
 abbrev pub MayWriteUsage : List (List ℕ) → List ℕ → Type 0
 MayWriteUsage words out =
     ((place : ℕ) × IsBadPlace words place × (out ≡ refusal_line (Usage place)))
     ⊎ (out ≡ refusal_line (Stopped OutOfMemory))
 
--- the sink holds just a front of such a text more
+-- exactly a prefix of a text for invalid arguments was added to the sink
 pub record IsUsageCutShort (words : List (List ℕ)) (old new : Option (List ℕ)) : Type 0 where
   pub out : List ℕ
   pub may : MayWriteUsage words out

@@ -1,8 +1,8 @@
--- A source that is read whole, or up to the first byte past a limit.
+-- A source that is read completely, or up to the first byte past a limit.
 use Rattle.std.specs.Prelude.{◌≡◌, ℕ, ◌+◌, ◌≤◌, List, ◌++◌, length, Option}
 use Rattle.std.specs.Io.KnownBytes.{Consumes, IsAtEnd}
 
--- so many bytes were taken of the source and added; with none it is at its end
+-- this many bytes were taken of the source and added; if there were none, it is at its end
 pub record TakesPiece (left left' : Option (List ℕ)) (before now : List ℕ) (count : ℕ)
     : Type 0 where
   pub piece : List ℕ
@@ -17,6 +17,6 @@ pub record IsReadTo (limit : ℕ) (left left' : Option (List ℕ)) (bytes : List
   pub most : length bytes ≤ limit + 1
   pub whole : length bytes ≤ limit → IsAtEnd left'
 
--- so were some bytes
+-- some bytes were taken of the source: all that there were, or one more than the limit
 abbrev pub WasRead : ℕ → Option (List ℕ) → Option (List ℕ) → Type 0
 WasRead limit left left' = (bytes : List ℕ) × IsReadTo limit left left' bytes

@@ -38,43 +38,52 @@ fn deliver<K: Sink>(sink: &mut K, text: &[u8], status: u8) -> u8
     }
 }
 
-/// Runs the command of the words on the text of the source, and writes what there is to say to the
-/// sink.
+/// Runs the command of the arguments on the input of the source, and writes the output to the
+/// sink. The whole output is made before its first byte is written.
 ///
-/// The status is 0 for a sample, a batch of samples or extremal events, 1 where a run ends with an
-/// event still occurring, 2 for words that are no command line, 3 for a malformed text, a wrong
-/// number of clauses or rows that don't fit, 4 where a limit is passed, 5 where two events clash, 6
-/// for an empty clause, an isolated vertex, a root that is none, a vertex that is cut off from it
-/// or, of a resampling, a witness of a pop that isn't there, 7 where reading failed, 8 where
-/// writing failed, 9 where memory ran out, 10 where the run stopped, or is replayed, and an event
-/// is poppable still, and 11 where a record of a certificate's log isn't legal. The whole text is
-/// made before its first byte is written.
+/// The status is:
 ///
-/// Each watcher is told each record of the layered log, in order and once, by `resample`, and by
-/// `formula`, `orient`, `tree` and `make` where `--report` stands. The report of a kind that is
-/// asked for is that of the first watcher of the kind; where there is none, it has no line. The
-/// watchers are dropped when the call ends.
+/// - 0 for a sample, a batch of samples or extremal events;
+/// - 1 if a run ends while an event still occurs;
+/// - 2 if the arguments are not a command line;
+/// - 3 for an invalid input, a wrong number of clauses or rows that do not fit;
+/// - 4 if a limit is exceeded;
+/// - 5 if two events clash;
+/// - 6 for an empty clause, an isolated vertex, a root that is not a vertex or a vertex that is
+///   not connected to the root, and for `resample` if the pop of the witness does not exist;
+/// - 7 if reading failed;
+/// - 8 if writing failed;
+/// - 9 if memory ran out;
+/// - 10 if the run stopped, or is replayed, and an event is still poppable;
+/// - 11 if a record of a certificate's log is not legal.
+///
+/// Each watcher receives each record of the layered log, in order and once, for `resample`. If
+/// `--report` is given, the same holds for `formula`, `orient`, `tree` and `make`. A report that
+/// is asked for comes from the first watcher of its kind. If there is no such watcher, it has no
+/// line. The watchers are dropped when the call ends.
 ///
 /// The samples of a batch are run side by side on threads of `rt`, each on one, and no watcher is
 /// told of them. Where several workers are asked for they run on threads of `rt`, which are joined,
 /// and each passes the gate before each of its turns. They claim lock-free words, and then the call
 /// waits for no lock; with `--board lock` they share a book under a lock, for which it may wait.
 ///
-/// With `--grow` a run is made in stages: its stacks begin with a lesser height and grow up to the
-/// one that is asked for. The answer is that of stacks which have this height from the start.
+/// With `--grow` a run is made in stages: its stacks begin with a lower height and grow up to the
+/// one that is asked for. The answer is that of stacks with this height from the start.
 ///
-/// With `--pops` a run is made on one thread, and stops after so many pops. Where an event is
-/// poppable then, the text is a certificate (`run_cert`): it holds the command, its stacks, the
-/// input as it was read, and the layered log of these pops. Else the answer is that of the run to
-/// its end. The source is read whole before its bytes are judged, up to the first byte past the
-/// limit on a text.
+/// With `--pops` a run is made on one thread, and stops after this number of pops. If an event is
+/// poppable then, the output is a certificate (`run_cert`). It contains the command, its stacks,
+/// the input as it was read, and the layered log of these pops. Otherwise the answer is that of
+/// the run to its end. The source is read completely before its bytes are checked, up to the first
+/// byte past the limit of an input.
 ///
-/// `replay` and `resume` read a certificate whole, of up to 2^29 bytes, before a byte of it is
-/// judged: its head, then its input and its stacks as the line of its command judges them, then its
-/// log. Lines of the input count from its first, and so do those of the log. `replay` tells how
-/// many records a legal log has, where they lead to, and how the run stands there: at a sample,
-/// exhausted or open, with status 0, 1 or 10. `resume` goes on from there to an end, with the crew
-/// that is asked for, and tells what the line of the certificate's command tells of the pops of
+/// `replay` and `resume` read a certificate completely, up to 2^29 bytes, before a byte of it is
+/// checked. They check its head, then its input and its stacks as the line of its command does,
+/// then its log. Lines of the input count from its first line, and so do those of the log.
+///
+/// `replay` prints the number of records of a legal log, the cursors after it, and the state of
+/// the run there. The state is a sample, exhausted or open, with status 0, 1 or 10. `resume`
+/// continues from there to an end, with the workers and the board that are asked for. It prints
+/// what the line of the certificate's command prints for the pops of
 /// both parts.
 pub fn run<S: Source, K: Sink, R: Threads + Wait + Sync, G: Gate + Sync>(
     rt: &R,
@@ -86,15 +95,19 @@ pub fn run<S: Source, K: Sink, R: Threads + Wait + Sync, G: Gate + Sync>(
     sink: &mut K,
 ) -> u8
     // An answer is that of the words, the watchers and the text: of an extremal formula, an
-    // orientation, a tree or the tree of a grid, the end of the run on one thread that always pops
-    // the first poppable event, for any number of workers on either board, and what is asked for
-    // of the layered log of that run; of a resampling, that of a layered log that is legal and
-    // leads to an end; of rounds, the one result of the run by rounds. Where a number of samples is
-    // asked for, it has the end of each, on the stacks of that sample. Of a run that may stop after
-    // so many pops it is such an end, to which there are no more pops; or the certificate of a
-    // legal log of so many, behind which an event is poppable. Of a certificate that is replayed it
-    // tells the replay of its log; of one that is resumed it is that of the line of its command, by
-    // a run whose log begins with the certificate's. A grid is made whatever the source is.
+    // orientation or a tree, the end of the run on one thread. That run always pops the first
+    // poppable event, so the number of workers and the board make no difference. What is asked for
+    // of its layered log follows.
+    //
+    // - The tree of a grid is answered in the same way, and the grid is made for every source.
+    // - For `resample`, it is a legal layered log that leads to an end, with that end.
+    // - For `rounds`, it is the one result of the run by rounds.
+    // - If a number of samples is asked for, it has the end of each, on the stacks of that sample.
+    // - If a run may stop after a number of pops, it is such an end with at most this many pops.
+    //   Or it is the certificate of a legal log with this many, after which an event is poppable.
+    // - For `replay`, it is the replay of the certificate's log.
+    // - For `resume`, it is that of the command line of the certificate, by a run with a log that
+    //   begins with the certificate's log.
     ensures answer { (text : List ℕ)
         → IsInput (map string_bytes words.now) (S.left source.old) text → (IsBreak result → ⊥)
         → Answered (map string_bytes words.now) (map (λ b. (kind b, state b)) watchers.items) text

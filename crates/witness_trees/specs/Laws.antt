@@ -1,4 +1,4 @@
--- Laws of witness trees.
+-- Theorems about witness trees.
 use Rattle.std.specs.Prelude.{◌≡◌, ◌≢◌, ◌<◌, ◌+◌, ◌==◌, if◌then◌else◌, ℕ, List, ◌∷◌, ◌++◌, length, slice_get, Some, All, AllPairs}
 use Rattle.pop_model.specs.Extremal.{IsExtremal, Share}
 use Rattle.pop_model.specs.Instances.{Instance, IsInstance}
@@ -9,7 +9,7 @@ use Rattle.witness_trees.specs.Pops.{Uses, HasTree}
 use Rattle.witness_trees.specs.Vertices.{Vertex, AreVertices}
 use Rattle.witness_trees.specs.Trees.{IsParent, IsTree}
 
--- vertices of one depth share no variable
+-- vertices of the same depth share no variable
 abbrev pub LevelsApart : Type 0
 LevelsApart = (log : List LogRecord) (vs : List Vertex) → AreVertices log vs
     → AllPairs (λ v w. v.depth ≡ w.depth → Share v.label.cube w.label.cube → ⊥) vs
@@ -21,30 +21,30 @@ SiblingsDiffer = (log : List LogRecord) (vs : List Vertex) → All (λ r. 0 < le
     → AllPairs (λ v w. (parent : Vertex) → IsParent vs parent v → IsParent vs parent w
     → v.label.cube ≢ w.label.cube) vs
 
--- a record has one tree
+-- a record has at most one tree
 abbrev pub OneTree : Type 0
 OneTree = (log : List LogRecord) (t : ℕ) (tree other : List Vertex) → IsTree log t tree
     → IsTree log t other → tree ≡ other
 
--- where a record stands once the neighbours at places n and n + 1 are exchanged
+-- the place of a record after the neighbours at places n and n + 1 are swapped
 abbrev pub exchanged_place : ℕ → ℕ → ℕ
 exchanged_place n t = if t == n then n + 1 else if t == n + 1 then n else t
 
--- exchanging two neighbours that share no variable changes no record's tree
+-- if two neighbours that share no variable are swapped, no record changes its tree
 abbrev pub SwapKeepsTree : Type 0
 SwapKeepsTree = (front back : List LogRecord) (r q : LogRecord)
     → (Share r.event.cube q.event.cube → ⊥) → (t : ℕ) (tree : List Vertex)
     → IsTree (front ++ r ∷ q ∷ back) t tree
     → IsTree (front ++ q ∷ r ∷ back) (exchanged_place (length front) t) tree
 
--- an entry of a variable is used by one pop of a legal log at most
+-- at most one pop of a legal log uses a given entry of a variable
 abbrev pub OnePop : Type 0
 OnePop = (i : Instance) (start : List ℕ) (log : List LogRecord) (v : ℕ) → v < length start
     → IsLegal i start log → (t u : ℕ) (r s : LogRecord) (k : ℕ) → slice_get log t ≡ Some r
     → slice_get log u ≡ Some s → Uses r v k → Uses s v k → t ≡ u
 
--- on an extremal instance the pop of an entry of a variable has one tree, whatever run to an end it
--- is a part of
+-- on an extremal instance the pop of an entry of a variable has the same tree in every run to an
+-- end
 abbrev pub SameTree : Type 0
 SameTree = (i : Instance) → IsInstance i → IsExtremal i.family → (log other : List LogRecord)
     → RunsToEnd i (start_of i) log → RunsToEnd i (start_of i) other

@@ -223,8 +223,8 @@ fn order_told<R: Threads + Wait + Sync + Abort>(rt: &R, alloc: Global, words: &[
 // Arguments, and the numbers of the events.
 type Ordered = (&'static [&'static str], u64);
 
-// Worked by hand: the layers are 1, 2 and 1. If the pops of a run may be made in any order,
-// watchers receive the log in any case. Otherwise they receive it if a report is requested.
+// Worked by hand: the layers are 1, 2 and 1. With `resample` watchers receive the log in any case.
+// With `formula` they receive it only if a report is requested.
 static ORDERS: [Ordered; 5] = [
     (
         &["formula", "--stacks", "0,0,1;0,1", "--report", "totals"],

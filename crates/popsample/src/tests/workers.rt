@@ -1,4 +1,4 @@
-//! Runs of several workers while one is held.
+//! Runs of several workers, of which one is held.
 use super::{answer, owned};
 use pop_workers::Gate;
 use std::alloc::Global;
@@ -142,7 +142,7 @@ static CYCLE: Case = Case {
     input: "p edge 3 3\ne 1 2\ne 2 3\ne 1 3\n",
 };
 
-// How many turns two workers on this board take over a cycle that is popped ten times, while the
+// How many turns two workers on this board take over a cycle that is popped ten times, where the
 // second is held.
 fn turns_on<R: Threads + Wait + Sync + Abort>(rt: &R, alloc: Global, board: &'static str) -> u64 {
     let gate = Held::new(1);

@@ -113,8 +113,8 @@ fn a_paused_run_is_told(rt: HostRuntime) {
     drop(instance);
 }
 
-// Texts of logs, and the runs that they denote, worked by hand. A run has the number of popped
-// entries of the one variable, which is that of the records, and its state.
+// Texts of logs, with the number of their records and the state of the run after them, worked by
+// hand. Each record pops one entry of the one variable.
 static TOLD: [(&str, u64, Look); 3] = [
     ("log 1 0\n", 0, Look::Open),
     (LOG_TEXT, 1, Look::Open),

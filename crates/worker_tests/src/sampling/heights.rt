@@ -1,4 +1,4 @@
-//! Stacks that grow.
+//! Heights that grow.
 ghost use Rattle.std.specs.Prelude.{◌≡◌, ◌<◌, ◌≤◌, ℕ, length};
 ghost use Rattle.pop_model.specs.Stacks.{variables_of, height_of, IsKeyed};
 
