@@ -18,7 +18,9 @@ docs=$(cd "$(dirname "$0")" && pwd)
 out=$(realpath -m "${1:-$docs/_build}")
 for python in python3 /usr/bin/python3; do
     if "$python" -c 'import sphinx, myst_parser, numpydoc, furo' 2> /dev/null; then
-        PYTHONDONTWRITEBYTECODE=1 "$python" -m sphinx -W -n -q --keep-going -b html -d "$out/trees" "$docs" "$out/html"
+        PYTHONDONTWRITEBYTECODE=1 "$python" -m sphinx -W -n -q -E --keep-going -b html -d "$out/trees" "$docs" "$out/html"
+        # Debian's theme takes a style sheet from outside of the site, which is not there where the site is read.
+        sed -i 's|^@import url(/javascript/normalize.css/.*|@import url(../base.css);|' "$out/html/_static/styles/furo.css"
         # Pictures that pages show by HTML, which Sphinx does not look at.
         mkdir -p "$out/html/_images"
         cp "$docs"/*.svg "$out/html/_images"
