@@ -3,8 +3,9 @@
 #
 #     docs/build.sh [OUT]
 #
-# OUT is a folder, docs/_build if it is left out; its `html` has the site. Warnings are errors. Sphinx, myst-parser,
-# numpydoc and furo are looked for in the python3 of the PATH, then in that of the system.
+# OUT is a folder, docs/_build if it is left out; its `html` has the site, with the folders `examples` and `checker`.
+# Warnings are errors. Sphinx, myst-parser, numpydoc and furo are looked for in the python3 of the PATH, then in that of
+# the system.
 #
 # The status is 0 if the site was made or Sphinx is not installed, which is said, 1 if something failed, and 2 if the
 # call is wrong.
@@ -24,6 +25,9 @@ for python in python3 /usr/bin/python3; do
         # Pictures that pages show by HTML, which Sphinx does not look at.
         mkdir -p "$out/html/_images"
         cp "$docs"/*.svg "$out/html/_images"
+        # What the guides' commands name.
+        cp -r "$docs/../examples" "$docs/../checker" "$out/html"
+        find "$out/html/examples" "$out/html/checker" -name __pycache__ -prune -exec rm -r {} +
         echo "site: made in $out/html"
         exit
     fi

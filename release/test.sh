@@ -236,6 +236,7 @@ check_site() {
     mkdir "$site"
     tar -xzf "$out/doc-popsample-$version.tar.gz" -C "$site" --strip-components=1
     [ -f "$site/index.html" ] || fail "the site has no first page"
+    [ -f "$site/checker/verify.py" ] && [ -f "$site/examples/roads.col" ] || fail "the site lacks what its guides name"
     grep -qE '[{,] *"?exhaust"?:' "$site/searchindex.js" || fail "the search of the site doesn't know the word 'exhausted'"
     [ -n "$static" ] || [ -f "$room/debian/usr/share/doc/popsample-doc/html/index.html" ] \
         || fail "popsample-doc has no first page"
