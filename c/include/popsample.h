@@ -14,37 +14,39 @@
 extern "C" {
 #endif
 
-/* The statuses of a call: those of the program popsample up to 11, and two of the call's own. With those of the program
-   but POPSAMPLE_MEMORY the output has an answer; the line that it begins with is named here. */
+/* The statuses of a call: those of the program popsample up to 11, and two more. With those of the program, except
+   POPSAMPLE_MEMORY, the output has a result. Its first line is named here. */
 enum popsample_status {
-    POPSAMPLE_OK = 0,         /* s SAMPLE, batch, s EXTREMAL, or s LEGAL of a log that leads to a sample */
-    POPSAMPLE_EXHAUSTED = 1,  /* s EXHAUSTED, batch where some sample is so, or s LEGAL of a log that leads there */
-    POPSAMPLE_USAGE = 2,      /* s USAGE: the words are no command line */
-    POPSAMPLE_MALFORMED = 3,  /* s MALFORMED, s COUNT, s ROWS, s EMPTYROW or s VALUE: a line or a row doesn't fit */
-    POPSAMPLE_LIMIT = 4,      /* s LIMIT: a limit is passed */
+    POPSAMPLE_OK = 0,         /* s SAMPLE, batch, s EXTREMAL, or s LEGAL with a log that reaches a sample */
+    POPSAMPLE_EXHAUSTED = 1,  /* s EXHAUSTED, batch with an exhausted sample, or s LEGAL of such a run */
+    POPSAMPLE_USAGE = 2,      /* s USAGE: the arguments are not valid */
+    POPSAMPLE_MALFORMED = 3,  /* s MALFORMED, s COUNT, s ROWS, s EMPTYROW or s VALUE: a line or a row is invalid */
+    POPSAMPLE_LIMIT = 4,      /* s LIMIT: the input exceeds a limit */
     POPSAMPLE_CLASH = 5,      /* s CLASH: two clauses share a variable and can both be false */
     POPSAMPLE_IMPOSSIBLE = 6, /* s EMPTY, s ISOLATED, s ROOT, s CUTOFF, or witness none: the input has no such thing */
-    POPSAMPLE_MEMORY = 9,     /* malloc gave none; *written is 0 */
-    POPSAMPLE_OPEN = 10,      /* cert, or s LEGAL of a log that leads to where the run can go on */
-    POPSAMPLE_STOPPED = 10,   /* of a call with arrays: its budget of pops was spent */
-    POPSAMPLE_NOT_LEGAL = 11, /* s NOTLEGAL: a record of the certificate's log isn't legal */
-    POPSAMPLE_NO_ROOM = 12,   /* the output has less room than *written, which the answer needs */
-    POPSAMPLE_NO_WORDS = 13   /* the last word has no byte 0 at its end, or a word isn't UTF-8; *written is 0 */
+    POPSAMPLE_MEMORY = 9,     /* out of memory; *written is 0 */
+    POPSAMPLE_OPEN = 10,      /* cert, or s LEGAL with a log from which the run can continue */
+    POPSAMPLE_STOPPED = 10,   /* a call with arrays: its budget of pops was spent */
+    POPSAMPLE_NOT_LEGAL = 11, /* s NOTLEGAL: a record of the certificate's log is not valid */
+    POPSAMPLE_NO_ROOM = 12,   /* the output has less room than *written, which the result needs */
+    POPSAMPLE_NO_WORDS = 13   /* the last argument does not end with a byte 0, or one is not UTF-8; *written is 0 */
 };
 
-/* Answers as `popsample WORD.. < text` does. What the program prints is put to the front of the output, *written bytes
-   of it, and the status is returned. A byte 0 ends each of the words, as in "tree\0--root\0" "2", whose length with the
-   last byte 0 is 14; without words, the length is 0. With POPSAMPLE_MEMORY and from POPSAMPLE_NO_ROOM on the output
-   stays as it was, and so it always does behind the answer.
+/* Does what `popsample WORD.. < text` does. The output of the program is written to `output`, *written bytes of it, and
+   the status is returned. A byte 0 ends each of the arguments (words), as in "tree\0--root\0" "2": with the last byte 0
+   its length is 14. Without arguments the length is 0. If the status is POPSAMPLE_MEMORY, POPSAMPLE_NO_ROOM or
+   POPSAMPLE_NO_WORDS, the output stays as it was. The bytes after the result always stay as they were.
 
-   Options of workers and boards are taken, and change nothing: all is done on the calling thread, as are the samples of
-   `--count`.
+   `--workers` and `--board` are accepted, and change nothing: the calling thread does all work, also that of `--count`.
 
-   It is for the caller to see to this, which nothing checks: no pointer is NULL, also where the length beside it is 0;
-   each points to so many bytes, of less than 2^63; the output and *written overlap neither each other nor the words nor
-   the text, and nothing else writes to any of these before the call returns; malloc, realloc and free are of one
-   allocator, which aligns a block to each power of two up to 16 that divides its size; and no call is made from a
-   signal handler, or in the child of a process with threads that was forked. */
+   The caller must ensure the following, which nothing checks:
+
+   - No pointer is NULL, even if its length is 0. Each points to as many bytes as its length says, fewer than 2^63.
+   - The output and *written overlap neither each other nor the arguments nor the text. Nothing else writes to any of
+     these before the call returns.
+   - malloc, realloc and free belong to one allocator. It aligns a block to each power of two up to 16 that divides its
+     size.
+   - The call is not made from a signal handler, nor in a child that was forked from a process with threads. */
 uint32_t popsample_run(const uint8_t *words, size_t words_len, const uint8_t *text, size_t text_len,
                        uint8_t *output, size_t room, size_t *written);
 
