@@ -64,9 +64,15 @@ check_package() {
 }
 
 check_page() {
-    if ! command -v chromium > /dev/null || ! command -v chromedriver > /dev/null \
-        || ! /usr/bin/python3 -c 'import selenium' 2> /dev/null; then
-        echo "page: left out, since chromium, chromedriver or selenium isn't installed"
+    local tool
+    for tool in /usr/bin/chromium /usr/bin/chromedriver; do
+        if [ ! -x $tool ]; then
+            echo "page: left out, since $tool isn't installed"
+            return
+        fi
+    done
+    if ! /usr/bin/python3 -c 'import selenium' 2> /dev/null; then
+        echo "page: left out, since selenium isn't installed for /usr/bin/python3"
         return
     fi
     /usr/bin/python3 -B web/tests/browser.py "$out"

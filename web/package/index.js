@@ -6,13 +6,16 @@
 //     const { parents, key } = popsample.spanningTree([[0, 1], [1, 2], [2, 0]]);
 //
 // README.md has the calls, index.d.ts their types.
-import { keyOf, randomKey, seedKey } from "./keys.js";
-import { answerOf, compiled, labelOf, ownModule } from "./module.js";
-import { directionsOf, treeOf, valuesOf } from "./outputs.js";
+import { bytesOf, keyOf, randomKey, seedKey } from "./keys.js";
+import { answerOf, compiled, labelOf, MEMORY, ownModule } from "./module.js";
+import { valuesOf } from "./outputs.js";
 import { FROM_ZERO, RefusalError, refusalOf } from "./refusal_error.js";
-import { formulaText, graphText, heightWords, rootWords } from "./texts.js";
+import { orientationOf, treeOf } from "./samples.js";
+import { formulaText, graphOf, graphText, heightOf, rootOf } from "./texts.js";
 
 export { RefusalError, randomKey, refusalOf, seedKey };
+
+const LIMIT = 4;
 
 /** Compiles the module that the engine can run, or the one that is named. */
 export async function load(source = ownModule()) {
@@ -41,31 +44,52 @@ export class Popsample {
 
     /** A random spanning tree, with a probability proportional to the product of its edges' weights. */
     spanningTree(edges, options = {}) {
-        const { text, vertices } = graphText(edges, options);
-        const { output, key } = this.#sample("tree", text, rootWords(options), options);
-        return { key, ...treeOf(output, vertices, options.root ?? 0) };
+        const graph = graphOf(edges, options);
+        const wanted = { key: keyOf(options), height: heightOf(options), root: rootOf(options) };
+        return this.#sampleOf("tree", graph, treeOf, wanted);
     }
 
     /** A random orientation in which some edge leaves each vertex; each such orientation is as likely as any other. */
     orientation(edges, options = {}) {
-        const { text, ends } = graphText(edges, { ...options, weights: undefined });
-        const { output, key } = this.#sample("orient", text, [], options);
-        return { key, ...directionsOf(output, ends) };
+        const graph = graphOf(edges, { ...options, weights: undefined });
+        return this.#sampleOf("orient", graph, orientationOf, { key: keyOf(options), height: heightOf(options) });
     }
 
     /** A random solution of a formula, by rounds; each solution is as likely as any other. */
     solution(clauses, options = {}) {
-        const { text } = formulaText(clauses, options);
-        const { output, key } = this.#sample("rounds", text, [], options);
-        return { key, ...valuesOf(output) };
-    }
-
-    #sample(command, text, more, options) {
+        const text = formulaText(clauses, options);
         const key = keyOf(options);
-        const words = [command, "--key", key, ...heightWords(options), ...more];
+        const words = wordsOf("rounds", { key, height: heightOf(options) });
         const answer = this.run(words, text);
         const refusal = refusalOf(words, text, answer, FROM_ZERO);
         if (refusal !== null) throw refusal;
-        return { output: answer.output, key };
+        return { key, ...valuesOf(answer.output) };
     }
+
+    // A sample of a graph, by a call that takes and fills arrays.
+    #sampleOf(command, graph, call, wanted) {
+        const { status, sample } = isTooLarge(graph)
+            ? { status: LIMIT }
+            : call(this.#module, graph, { ...wanted, key: bytesOf(wanted.key) });
+        if (status === 0) return { key: wanted.key, ...sample };
+        throw this.#refusalOf(command, graph, wanted, status);
+    }
+
+    // The error for a call with arrays: that for the text of the same graph, which has the same sample.
+    #refusalOf(command, graph, wanted, status) {
+        const [words, text] = [wordsOf(command, wanted), graphText(graph)];
+        const answer = status === MEMORY ? { status, output: "" } : this.run(words, text);
+        return refusalOf(words, text, answer, FROM_ZERO);
+    }
+}
+
+// Whether a graph is beyond the limits. No rows are made for it.
+function isTooLarge({ vertices, ends }) {
+    return vertices > 2 ** 22 || ends.length > 2 ** 24;
+}
+
+// The arguments of the program for a sample.
+function wordsOf(command, { key, height, root }) {
+    const words = [command, "--key", key, "--height", String(height)];
+    return root === undefined ? words : [...words, "--root", String(root + 1)];
 }

@@ -34,3 +34,8 @@ export function keyOf({ key, seed }) {
     if (!FORM.test(digits)) throw new RangeError("key must be 64 hexadecimal digits or 32 bytes");
     return digits.toLowerCase();
 }
+
+/** The 32 bytes of a key. */
+export function bytesOf(key) {
+    return Uint8Array.from(key.match(/../g), (digits) => parseInt(digits, 16));
+}

@@ -1,6 +1,9 @@
-// A compiled module of popsample, and single calls of it. docs/FORMATS.md has the arguments, the texts and the outputs.
+// A compiled module of popsample, and its calls with arguments and texts, which docs/FORMATS.md has.
+import { Instance, NoMemoryError } from "./instance.js";
 
-const MEMORY = 9;
+/** The status of a call that found no memory. */
+export const MEMORY = 9;
+
 const NO_ROOM = 12;
 
 const LEAST_ROOM = 1 << 20;
@@ -46,35 +49,34 @@ export function labelOf(module) {
 }
 
 /**
- * Answers as the program does. Each call has an instance, and so a memory, of its own, which is let go at its end: what
- * one call leaves, no other one finds.
+ * Answers as the program does.
  * @param {WebAssembly.Module} module
  * @param {readonly string[]} words
  * @param {string | Uint8Array} text
  * @returns {{ status: number, output: string }}
  */
 export function answerOf(module, words, text) {
-    const { memory, malloc, popsample_run } = new WebAssembly.Instance(module).exports;
+    try {
+        return answerIn(new Instance(module), words, text);
+    } catch (error) {
+        if (error instanceof NoMemoryError) return { status: MEMORY, output: "" };
+        throw error;
+    }
+}
+
+function answerIn(instance, words, text) {
     const encoder = new TextEncoder();
-    // Pointers and lengths have 64 bits in both modules. The memory may have moved after each call.
-    const take = (length) => malloc(BigInt(length));
-    const lend = (bytes) => {
-        const at = take(bytes.length);
-        if (at !== 0n) new Uint8Array(memory.buffer, Number(at), bytes.length).set(bytes);
-        return [at, BigInt(bytes.length)];
-    };
     const lent = [
-        ...lend(encoder.encode(words.map((word) => `${word}\0`).join(""))),
-        ...lend(typeof text === "string" ? encoder.encode(text) : text),
+        ...instance.lend(encoder.encode(words.map((word) => `${word}\0`).join(""))),
+        ...instance.lend(typeof text === "string" ? encoder.encode(text) : text),
     ];
-    const written = take(8);
+    const written = instance.take(8);
     for (let room = LEAST_ROOM; ; ) {
-        const output = take(room);
-        if ([lent[0], lent[2], written, output].includes(0n)) return { status: MEMORY, output: "" };
-        const status = popsample_run(...lent, output, BigInt(room), written);
-        const length = Number(new DataView(memory.buffer).getBigUint64(Number(written), true));
+        const output = instance.take(room);
+        const status = instance.call("popsample_run", ...lent, output, BigInt(room), written);
+        const length = Number(instance.seen(BigUint64Array, written, 1)[0]);
         if (status !== NO_ROOM) {
-            const bytes = new Uint8Array(memory.buffer, Number(output), status < NO_ROOM ? length : 0);
+            const bytes = instance.seen(Uint8Array, output, status < NO_ROOM ? length : 0);
             return { status, output: new TextDecoder().decode(bytes) };
         }
         room = Math.ceil(length / PAGE) * PAGE;

@@ -1,6 +1,8 @@
-// Inputs as texts: graphs and formulas of arrays. Vertices count from 0 in arrays and from 1 in texts.
+// What calls are given, checked, as arrays and texts. Vertices count from 0 in arrays and from 1 in texts.
 
 const MOST = 2 ** 32 - 1;
+const DEFAULT_HEIGHT = 2 ** 20;
+const NONE = Uint32Array.of();
 
 function checkInteger(what, value, least, most) {
     if (!Number.isInteger(value) || value < least || value > most) {
@@ -10,10 +12,10 @@ function checkInteger(what, value, least, most) {
 
 // The ends of the edges, one after the other: of pairs, or of an array that has them so.
 function endsOf(edges) {
-    const ends = ArrayBuffer.isView(edges) ? Array.from(edges) : Array.from(edges, pairOf).flat();
+    const ends = ArrayBuffer.isView(edges) ? edges : Array.from(edges, pairOf).flat();
     if (ends.length % 2 !== 0) throw new RangeError("edges must have two ends each");
     for (const end of ends) checkInteger("a vertex", end, 0, MOST - 1);
-    return ends;
+    return Uint32Array.from(ends);
 }
 
 function pairOf(edge) {
@@ -21,34 +23,44 @@ function pairOf(edge) {
     return [from, to];
 }
 
+function weightsOf(weights, edges) {
+    const given = Array.from(weights);
+    if (given.length !== edges) throw new RangeError("weights must have one for each edge");
+    for (const weight of given) checkInteger("a weight", weight, 1, MOST);
+    return Uint32Array.from(given);
+}
+
 /**
- * The text of a graph.
+ * A graph of arrays. Without weights each edge has the weight 1.
  * @param {Iterable<readonly [number, number]> | Uint32Array} edges
  * @param {{ vertices?: number, weights?: Iterable<number> }} options
- * @returns {{ text: string, vertices: number, ends: number[] }}
+ * @returns {import("./samples.js").Graph}
  */
-export function graphText(edges, { vertices, weights }) {
+export function graphOf(edges, { vertices, weights }) {
     const ends = endsOf(edges);
     const count = vertices ?? ends.reduce((most, end) => Math.max(most, end + 1), 0);
     checkInteger("vertices", count, 0, MOST);
-    const given = weights === undefined ? undefined : Array.from(weights);
-    if (given !== undefined && 2 * given.length !== ends.length) {
-        throw new RangeError("weights must have one for each edge");
-    }
-    const lines = [`p edge ${count} ${ends.length / 2}\n`];
+    return { vertices: count, ends, weights: weights === undefined ? NONE : weightsOf(weights, ends.length / 2) };
+}
+
+/**
+ * The text of a graph.
+ * @param {import("./samples.js").Graph} graph
+ */
+export function graphText({ vertices, ends, weights }) {
+    const lines = [`p edge ${vertices} ${ends.length / 2}\n`];
     for (let edge = 0; 2 * edge < ends.length; edge++) {
-        if (given !== undefined) checkInteger("a weight", given[edge], 1, MOST);
-        const weight = given === undefined ? "" : ` ${given[edge]}`;
+        const weight = weights.length === 0 ? "" : ` ${weights[edge]}`;
         lines.push(`e ${ends[2 * edge] + 1} ${ends[2 * edge + 1] + 1}${weight}\n`);
     }
-    return { text: lines.join(""), vertices: count, ends };
+    return lines.join("");
 }
 
 /**
  * The text of a formula, of clauses of literals: `2` is that variable 2 is true, `-2` that it is false.
  * @param {Iterable<Iterable<number>>} clauses
  * @param {{ variables?: number }} options
- * @returns {{ text: string, variables: number }}
+ * @returns {string}
  */
 export function formulaText(clauses, { variables }) {
     const rows = Array.from(clauses, (clause) => Array.from(clause));
@@ -60,18 +72,17 @@ export function formulaText(clauses, { variables }) {
     const count = variables ?? most;
     checkInteger("variables", count, 0, MOST);
     const lines = rows.map((row) => `${[...row, 0].join(" ")}\n`);
-    return { text: `p cnf ${count} ${rows.length}\n${lines.join("")}`, variables: count };
+    return `p cnf ${count} ${rows.length}\n${lines.join("")}`;
 }
 
-/** The arguments of the options that all calls have. */
-export function heightWords({ height }) {
-    if (height === undefined) return [];
+/** The number of entries of each stack. */
+export function heightOf({ height = DEFAULT_HEIGHT }) {
     checkInteger("height", height, 1, 2 ** 31 - 1);
-    return ["--height", String(height)];
+    return height;
 }
 
-/** The argument of a root, a vertex that counts from 0. */
-export function rootWords({ root = 0 }) {
+/** The root, a vertex that counts from 0. */
+export function rootOf({ root = 0 }) {
     checkInteger("root", root, 0, MOST - 1);
-    return ["--root", String(root + 1)];
+    return root;
 }

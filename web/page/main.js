@@ -198,6 +198,7 @@ function sampleAnew() {
     return sample();
 }
 
+byId("waiting").hidden = true;
 byId("graph").value = EXAMPLE_GRAPH;
 byId("formula").value = EXAMPLE_FORMULA;
 byId("controls").addEventListener("submit", (event) => {

@@ -5,6 +5,7 @@ import { readFileSync } from "node:fs";
 import { test } from "node:test";
 import { pathToFileURL } from "node:url";
 import { Worker } from "node:worker_threads";
+import { compareArrays } from "../arrays.mjs";
 
 const folder = pathToFileURL(`${process.env.PACKAGE}/`);
 const { load, randomKey, RefusalError, refusalOf, seedKey } = await import(new URL("index.js", folder));
@@ -67,6 +68,22 @@ for (const file of ["popsample.wasm", "popsample32.wasm"]) {
         assert.match(popsample.label, /compared with the expected outputs of all cases/);
     });
 
+    on("blocks of memory are aligned and apart, and too large ones are refused", () => {
+        const { memory, malloc } = new WebAssembly.Instance(new WebAssembly.Module(readFileSync(module))).exports;
+        const blocks = Array.from({ length: 2000 }, (_, i) => {
+            const size = (i * i * 37) % 5000;
+            const at = Number(malloc(BigInt(size)));
+            assert.ok(at > 0 && at % 16 === 0, `${at}`);
+            new Uint8Array(memory.buffer, at, size).fill(i % 251);
+            return { at, size };
+        });
+        for (const [i, { at, size }] of blocks.entries()) {
+            assert.ok(new Uint8Array(memory.buffer, at, size).every((byte) => byte === i % 251), `block ${i}`);
+        }
+        assert.equal(malloc(1n << 41n), 0n);
+        if (file === "popsample32.wasm") assert.equal(malloc(5n << 30n), 0n);
+    });
+
     on("a tree leads to its root along edges of the graph", () => {
         const edges = [[0, 1], [1, 2], [2, 0], [2, 3], [3, 3], [3, 4], [4, 0], [1, 0]];
         for (let seed = 0; seed < 20; seed++) {
@@ -95,6 +112,11 @@ for (const file of ["popsample.wasm", "popsample32.wasm"]) {
         assert.deepEqual([...tree.edges], [0, -1, 2, 3, 7, 6, 12, 9]);
         assert.deepEqual([...tree.used], [0, 0, 0, 0, 0, 2, 1, 2]);
         assert.equal(tree.pops, 2);
+    });
+
+    on("samples in arrays are those of texts", () => {
+        const { differ, told } = compareArrays(popsample, 200);
+        assert.equal(differ, 0, told);
     });
 
     on("weights weigh", () => {
@@ -159,7 +181,7 @@ for (const file of ["popsample.wasm", "popsample32.wasm"]) {
         assert.throws(() => popsample.spanningTree([[0, 1], [2, 3]]), (error) => {
             assert.ok(error instanceof RefusalError && error instanceof Error);
             assert.deepEqual([error.name, error.code, error.status, error.numbers], ["RefusalError", "CUTOFF", 6, [3]]);
-            return /\bvertex 2\b/.test(error.message);
+            return /\bVertex 2\b/.test(error.message);
         });
         assert.throws(() => popsample.spanningTree(TRIANGLE, { root: 7 }), { code: "ROOT", message: /\broot 7\b/ });
         assert.throws(() => popsample.orientation(TRIANGLE, { vertices: 5 }), { code: "ISOLATED", message: /\b3\b/ });
