@@ -16,7 +16,7 @@ import inputs
 import popsample
 from asking import parser_of
 from peers import find_peers
-from popsample import library
+from popsample._engine import library
 from run import key_of, print_head, print_row, processor_name
 
 VERTICES = (100, 1000)

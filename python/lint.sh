@@ -1,36 +1,42 @@
 #!/usr/bin/env bash
 # Checks the text of the module with the tools that are installed:
 #
-#     python/lint.sh [--all]
+#     python/lint.sh
 #
-# mypy checks the types, strictly; ruff, or else pyflakes, looks for faults and unused names; and pydocstyle checks that
-# the docstrings are in numpy's form. Without --all, they check the modules of the command-line wrapper and the backend
-# of the wheel. With --all, they check the whole module, and numpydoc the sections of the docstrings of what it exports.
+# mypy checks the types, strictly; ruff, or else pyflakes, looks for faults and unused names; pydocstyle checks that the
+# docstrings are in numpy's form; and numpydoc checks the sections of the docstrings of what the module exports.
 #
-# The status is 0 if nothing is wrong, and 1 if something is. A tool that isn't installed is named and left out.
+# A tool is looked for as a command, as a package of `python3`, and as one of the system's Python. One that isn't
+# installed is named and left out. The status is 0 if nothing is wrong, and 1 if something is.
 set -euo pipefail
 
 cd "$(dirname "$0")"
-checked=(
-    popsample/__main__.py popsample/batch_progress.py popsample/command_line.py
-    popsample/ended_by_signal.py popsample/front.py popsample/launching.py popsample/output_file.py
-    popsample/program_words.py popsample/refusal_told.py popsample/relay.py
-    popsample/standard_streams.py popsample/text_files.py wheel_backend.py
-)
-follow=(--follow-imports=silent)
-if [ "${1:-}" = --all ]; then
-    checked=(popsample wheel_backend.py)
-    follow=()
-fi
+checked=(popsample wheel_backend.py lint_docstrings.py)
 failed=0
 
-# Runs a tool, if it is installed: NAME COMMAND..
+# Prints the Python that has a package, if there is one of a version that the module takes.
+python_with() {
+    local python
+    for python in python3 /usr/bin/python3; do
+        if "$python" -c "import sys, $1; sys.exit(sys.version_info < (3, 11))" 2> /dev/null; then
+            echo "$python"
+            return
+        fi
+    done
+}
+
+# Runs a tool on what is checked, if it is installed: NAME WORD..
 lint() {
-    local name=$1
+    local name=$1 python
     shift
+    local command=("$name")
     if ! command -v "$name" > /dev/null; then
+        python=$(python_with "$name")
+        command=(${python:+"$python" -B -m "$name"})
+    fi
+    if [ ${#command[@]} -eq 0 ]; then
         echo "$name: left out, since it isn't installed"
-    elif "$@"; then
+    elif "${command[@]}" "$@" "${checked[@]}"; then
         echo "$name: ok"
     else
         failed=1
@@ -39,14 +45,15 @@ lint() {
 
 cache=$(mktemp -d)
 trap 'rm -rf "$cache"' EXIT
-lint mypy mypy --cache-dir "$cache" ${follow[@]+"${follow[@]}"} "${checked[@]}"
-lint pydocstyle pydocstyle "${checked[@]}"
+lint mypy --cache-dir "$cache"
+lint pydocstyle
 if command -v ruff > /dev/null; then
-    lint ruff ruff check --no-cache "${checked[@]}"
+    lint ruff check --no-cache
+elif command -v pyflakes3 > /dev/null; then
+    lint pyflakes3
 else
-    lint pyflakes3 pyflakes3 "${checked[@]}"
+    lint pyflakes
 fi
-if [ "${1:-}" = --all ]; then
-    python3 -B lint_docstrings.py || failed=1
-fi
+python=$(python_with numpydoc)
+"${python:-python3}" -B lint_docstrings.py || failed=1
 exit $failed

@@ -9,7 +9,7 @@ import os
 import sys
 
 import popsample
-from popsample import program
+from popsample._engine import program
 
 assert not {"POPSAMPLE", "POPSAMPLE_LIBRARY"} & set(os.environ)
 found = popsample.find_program()

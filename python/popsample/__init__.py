@@ -11,59 +11,19 @@ result. All exceptions are an `Error`, whose message says what is wrong, where, 
 raised before anything runs, and a `Refusal` if the library or the program rejects the input.
 """
 
-from .argument_errors import (
-    ArgumentError,
-    EmptyGraphError,
-    InputTypeError,
-    NoWeightError,
-    OptionError,
-    TreeComponentError,
-    UnsatisfiableError,
-    WeightError,
-)
-from .arrays import AssignmentArrays, OrientationArrays, TreeArrays
-from .base_error import Error
-from .certificates import replay, resume
-from .errors import (
-    ClashError,
-    CountError,
-    CutOffError,
-    EmptyClauseError,
-    EmptyRowError,
-    EntryError,
-    ExhaustedError,
-    InputRefusal,
-    IsolatedError,
-    LimitError,
-    MalformedError,
-    NeedsLibraryError,
-    NoAnswerError,
-    NoLibraryError,
-    NoProgramError,
-    NotInstalledError,
-    NotLegalError,
-    NoWitnessError,
-    OutOfMemoryError,
-    Paused,
-    ReadError,
-    Refusal,
-    RootError,
-    RowsError,
-    RunTimeoutError,
-    StacksError,
-    TooLongError,
-    TooManySamplesError,
-    UsageError,
-    WriteError,
-)
-from .formula_input import Formula, Method
-from .formulas import find_clash, is_extremal, resample, solution, solutions
-from .graph_input import GraphInput, from_adjacency, from_edges
-from .graphs import GraphLike, sink_free_orientation, sink_free_orientations, spanning_tree, spanning_trees
-from .keys import Key, KeyLike, SeedLike, derived_key, draw_key, seed_key
-from .library import find_library
-from .program import find_program
-from .results import (
+from ._calls.certificates import replay, resume
+from ._calls.formulas import find_clash, is_extremal, resample, solution, solutions
+from ._calls.graphs import GraphLike, sink_free_orientation, sink_free_orientations, spanning_tree, spanning_trees
+from ._calls.sample_iterator import Samples
+from ._calls.sampling import samples
+from ._engine.library import find_library
+from ._engine.program import find_program
+from ._given.formula_input import Formula, Method
+from ._given.graph_input import GraphInput, from_adjacency, from_edges
+from ._given.keys import Key, KeyLike, SeedLike, derived_key, draw_key, seed_key
+from ._given.run_options import RunOptions
+from ._results.arrays import AssignmentArrays, OrientationArrays, TreeArrays
+from ._results.results import (
     Arrow,
     Assignment,
     History,
@@ -75,10 +35,48 @@ from .results import (
     Tree,
     WitnessVertex,
 )
-from .run_options import RunOptions
-from .sample_iterator import Samples
-from .sampling import samples
-from .version import version as _version
+from ._version import version as _version
+from .errors import (
+    ArgumentError,
+    ClashError,
+    CountError,
+    CutOffError,
+    EmptyClauseError,
+    EmptyGraphError,
+    EmptyRowError,
+    EntryError,
+    Error,
+    ExhaustedError,
+    InputRefusal,
+    InputTypeError,
+    IsolatedError,
+    LimitError,
+    MalformedError,
+    NeedsLibraryError,
+    NoAnswerError,
+    NoLibraryError,
+    NoProgramError,
+    NoWeightError,
+    NoWitnessError,
+    NotInstalledError,
+    NotLegalError,
+    OptionError,
+    OutOfMemoryError,
+    Paused,
+    ReadError,
+    Refusal,
+    RootError,
+    RowsError,
+    RunTimeoutError,
+    StacksError,
+    TooLongError,
+    TooManySamplesError,
+    TreeComponentError,
+    UnsatisfiableError,
+    UsageError,
+    WeightError,
+    WriteError,
+)
 
 __version__ = _version()
 
@@ -165,3 +163,10 @@ __all__ = [
     "spanning_tree",
     "spanning_trees",
 ]
+
+# A public name says where callers find it, in tracebacks, in pickles and in help.
+for _name in __all__:
+    _value = globals()[_name]
+    if getattr(_value, "__module__", "").startswith(f"{__name__}._"):
+        _is_error = isinstance(_value, type) and issubclass(_value, Error)
+        _value.__module__ = f"{__name__}.errors" if _is_error else __name__

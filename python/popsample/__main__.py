@@ -2,7 +2,7 @@
 
 import sys
 
-from .front import main
+from ._wrapper.front import main
 
 if __name__ == "__main__":
     sys.exit(main())

@@ -1,6 +1,6 @@
-"""Refusals: an exception for each answer that is no sample.
+"""All exceptions. Here stand the refusals: an exception for each answer that is no sample.
 
-The sentence of an exception is that of `docs/FORMATS.md`, word for word. What is in capitals in it is a number of
+The sentence of a refusal is that of `docs/FORMATS.md`, word for word. What is in capitals in it is a number of
 the first line, or another word of that line, and the message has in its place what it means.
 """
 
@@ -10,7 +10,59 @@ import re
 from collections.abc import Hashable, Sequence
 from typing import Any, ClassVar
 
-from .base_error import Error
+from ._errors.argument_errors import (
+    ArgumentError,
+    EmptyGraphError,
+    InputTypeError,
+    NoWeightError,
+    OptionError,
+    TreeComponentError,
+    UnsatisfiableError,
+    WeightError,
+)
+from ._errors.base_error import Error
+
+__all__ = [
+    "ArgumentError",
+    "ClashError",
+    "CountError",
+    "CutOffError",
+    "EmptyClauseError",
+    "EmptyGraphError",
+    "EmptyRowError",
+    "EntryError",
+    "Error",
+    "ExhaustedError",
+    "InputRefusal",
+    "InputTypeError",
+    "IsolatedError",
+    "LimitError",
+    "MalformedError",
+    "NeedsLibraryError",
+    "NoAnswerError",
+    "NoLibraryError",
+    "NoProgramError",
+    "NoWeightError",
+    "NoWitnessError",
+    "NotInstalledError",
+    "NotLegalError",
+    "OptionError",
+    "OutOfMemoryError",
+    "Paused",
+    "ReadError",
+    "Refusal",
+    "RootError",
+    "RowsError",
+    "RunTimeoutError",
+    "StacksError",
+    "TooLongError",
+    "TooManySamplesError",
+    "TreeComponentError",
+    "UnsatisfiableError",
+    "UsageError",
+    "WeightError",
+    "WriteError",
+]
 
 # Why a line is invalid, by code.
 REASONS = {
@@ -416,8 +468,8 @@ class NeedsLibraryError(Error):
     def __init__(self, sample: int) -> None:
         super().__init__(
             f"Sample {sample} needs a call of the library that isn't found. Install a release, or name the library by "
-            "POPSAMPLE_LIBRARY. The program alone makes samples below 65536, of fewer than 33554432 variables together. "
-            "By rounds it makes sample 0 alone: derive a key for each sample, by `derived_key`."
+            "POPSAMPLE_LIBRARY. The program alone makes samples below 65536, of fewer than 33554432 variables "
+            "together. By rounds it makes sample 0 alone: derive a key for each sample, by `derived_key`."
         )
         self.sample = sample
 

@@ -9,11 +9,11 @@ from __future__ import annotations
 
 from typing import Any
 
-from .argument_errors import NoWeightError, WeightError
-from .engine import has_program
-from .graph_input import GraphInput, read_graph
-from .graphs import spanning_tree
-from .library import find_library
+from ._calls.graphs import spanning_tree
+from ._engine.engine import has_program
+from ._engine.library import find_library
+from ._errors.argument_errors import NoWeightError, WeightError
+from ._given.graph_input import GraphInput, read_graph
 
 NAME = "popsample"
 FUNCTION = "random_spanning_tree"

@@ -17,7 +17,7 @@ from typing import Any, NamedTuple
 from unittest import mock
 
 import popsample
-from popsample.front import main
+from popsample._wrapper.front import main
 
 PYTHON = Path(popsample.__file__).resolve().parents[1]
 TOP = PYTHON.parent

@@ -12,7 +12,7 @@ from .checks import kinds_below
 TOP = Path(__file__).resolve().parents[2]
 FORMATS = TOP / "docs" / "FORMATS.md"
 # The modules whose exceptions a caller of the functions meets.
-RAISING = {"popsample.errors", "popsample.argument_errors"}
+RAISING = {"popsample.errors"}
 PAGES = [TOP / "README.md", TOP / "python" / "README.md"]
 
 

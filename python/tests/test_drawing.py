@@ -6,7 +6,7 @@ import unittest
 from unittest import mock
 
 import popsample
-from popsample.tree_layout import tree_layout
+from popsample._results.tree_layout import tree_layout
 
 from .checks import ZEROS
 

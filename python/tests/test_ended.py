@@ -13,7 +13,7 @@ from contextlib import contextmanager
 from pathlib import Path
 from unittest import mock
 
-from popsample import launching
+from popsample._engine import launching
 
 from .checks import program_of
 from .front_calls import PYTHON, running
@@ -115,7 +115,7 @@ class Killed(unittest.TestCase):
     def test_a_signal_at_the_start_is_not_lost(self):
         # Python drops what the handler raises while it forks.
         path = os.pathsep.join([str(PYTHON), *filter(None, [os.environ.get("PYTHONPATH")])])
-        script = "import os, signal, sys\nfrom popsample.front import main\n"
+        script = "import os, signal, sys\nfrom popsample._wrapper.front import main\n"
         script += "os.register_at_fork(after_in_parent=lambda: os.kill(os.getpid(), signal.SIGTERM))\n"
         command = [sys.executable, "-c", script + "sys.exit(main(['make', 'grid', '2']))"]
         named = {**os.environ, "PYTHONPATH": path}

@@ -44,7 +44,7 @@ def made(kind):
 def defined():
     """The exceptions that the modules of the package define."""
     found = set()
-    for module in pkgutil.iter_modules(popsample.__path__, "popsample."):
+    for module in pkgutil.walk_packages(popsample.__path__, "popsample."):
         if module.name.endswith("__main__"):
             continue
         try:

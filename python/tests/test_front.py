@@ -12,7 +12,7 @@ from importlib import metadata
 from pathlib import Path
 from unittest import mock
 
-from popsample.program_words import COMMANDS, OPTIONS
+from popsample._wrapper.program_words import COMMANDS, OPTIONS
 
 from .checks import file_of, program_of
 from .front_calls import by_program, called, example, running, terminal
@@ -239,11 +239,11 @@ class Help(unittest.TestCase):
             self.assertNotRegex(page, r"(?i)\b(tell|tells|told|stands?|behind|else|so many|where)\b", words)
 
     def test_the_version(self):
-        with file_of("1.2.3\n") as path, mock.patch("popsample.version.FILE", path):
+        with file_of("1.2.3\n") as path, mock.patch("popsample._version.FILE", path):
             self.assertEqual(called("--version"), (0, b"popsample 1.2.3\n", ""))
 
     def test_the_version_of_an_installed_module(self):
-        with mock.patch("popsample.version.FILE", Path("nowhere")):
+        with mock.patch("popsample._version.FILE", Path("nowhere")):
             with mock.patch("importlib.metadata.version", return_value="1.2.3"):
                 self.assertEqual(called("--version").output, b"popsample 1.2.3\n")
             with mock.patch("importlib.metadata.version", side_effect=metadata.PackageNotFoundError):

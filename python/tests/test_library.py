@@ -10,7 +10,7 @@ from pathlib import Path
 from unittest import mock
 
 import popsample
-from popsample import library, program
+from popsample._engine import library, program
 
 from .instances import TRIANGLE
 
@@ -86,7 +86,7 @@ class Asked(unittest.TestCase):
 # A call that is in C for a minute, whatever signals come, in the place of the library's.
 INTERRUPTED = """
 import ctypes, os, signal, threading
-from popsample import library
+from popsample._engine import library
 lock, mutex = ctypes.CDLL(None).pthread_mutex_lock, ctypes.create_string_buffer(64)
 lock(mutex)
 library.loaded = lambda place: lambda *call: lock(mutex)
@@ -149,7 +149,7 @@ class Answers(unittest.TestCase):
 
     def test_a_child_that_was_forked_runs_the_program(self):
         script = (
-            "import os, popsample, popsample.program as program\n"
+            "import os, popsample, popsample._engine.program as program\n"
             "program.answered = None\n"
             "if os.fork() == 0:\n"
             "    os._exit(len(popsample.spanning_tree([(1, 2), (2, 3)]).arrows))\n"

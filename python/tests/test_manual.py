@@ -6,7 +6,7 @@ import subprocess
 import unittest
 
 from popsample import errors
-from popsample.program_words import COMMANDS, OPTIONS
+from popsample._wrapper.program_words import COMMANDS, OPTIONS
 
 from .front_calls import FORMATS
 

@@ -8,7 +8,7 @@ from pathlib import Path
 from unittest import mock
 
 import popsample
-from popsample import program
+from popsample._engine import program
 
 
 class Places(unittest.TestCase):

@@ -24,10 +24,10 @@ from popsample import (
     sink_free_orientations,
     spanning_tree,
     spanning_trees,
-    typed_calls,
 )
-from popsample.answer import sample_texts
-from popsample.chunks import chunk_size
+from popsample._engine import typed_calls
+from popsample._engine.answer import sample_texts
+from popsample._engine.chunks import chunk_size
 
 from .checks import (
     ZEROS,
@@ -82,7 +82,7 @@ class Backwards:
 
 def small_chunks():
     """Chunks of at most three samples, so that few samples are many chunks."""
-    return mock.patch("popsample.chunks.MOST_SAMPLES", 3)
+    return mock.patch("popsample._engine.chunks.MOST_SAMPLES", 3)
 
 
 def with_executors():
@@ -241,7 +241,7 @@ class Streams(unittest.TestCase):
                 go_on.unlink()
 
     def test_a_series_without_end_is_made_by_longer_and_longer_runs(self):
-        with mock.patch("popsample.engine.FIRST_RUN", 2), mock.patch.dict(os.environ, {"POPSAMPLE_LIBRARY": ""}):
+        with mock.patch("popsample._engine.engine.FIRST_RUN", 2), mock.patch.dict(os.environ, {"POPSAMPLE_LIBRARY": ""}):
             found = list(itertools.islice(spanning_trees(TEAMS, key=ZEROS), 30))
             self.assertEqual(found, list(spanning_trees(TEAMS, 30, key=ZEROS)))
 
@@ -357,10 +357,10 @@ class Interrupted(Refusing):
         found = [(told, told.used, told.rounds) for told in popsample.solutions(RING, many, key=ZEROS)]
         for budget in (1, 2, 3, 7):
             with (
-                mock.patch("popsample.problems.POPS", budget),
-                mock.patch("popsample.problems.LOOKS", budget * 14),
-                mock.patch("popsample.typed_calls.next_budget", lambda budget, took: budget),
-                mock.patch("popsample.problems.TreeProblem.first_budget", budget),
+                mock.patch("popsample._given.problems.POPS", budget),
+                mock.patch("popsample._given.problems.LOOKS", budget * 14),
+                mock.patch("popsample._engine.typed_calls.next_budget", lambda budget, took: budget),
+                mock.patch("popsample._given.problems.TreeProblem.first_budget", budget),
             ):
                 trees = [(tree, tree.used, tree.pops) for tree in spanning_trees(TEAMS, 30, key=ZEROS)]
                 self.assertEqual(trees, wanted)
@@ -373,7 +373,7 @@ class Forked(unittest.TestCase):
     def test_a_child_that_was_forked_has_the_same_samples(self):
         script = (
             "import os, popsample\n"
-            "import popsample.typed_calls as calls\n"
+            "import popsample._engine.typed_calls as calls\n"
             "wanted = list(popsample.spanning_trees([(1, 2), (2, 3), (3, 1)], 9, key='0' * 64))\n"
             "calls.draw = None\n"
             "if os.fork() == 0:\n"

@@ -13,7 +13,7 @@ import time
 import unittest
 from pathlib import Path
 
-from popsample import program_words
+from popsample._wrapper import program_words
 
 from .test_completion import BATCHED, COMPLETION, CREW, EVERYWHERE, LOGGED, STACKED, TOLD, completed
 

@@ -1,0 +1,1 @@
+"""What makes samples: the library, by calls with arrays, or the program, by text."""

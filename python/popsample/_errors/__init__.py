@@ -1,0 +1,1 @@
+"""Exceptions that don't come of an answer; `popsample.errors` has all."""
