@@ -111,6 +111,10 @@ class Converted(Refusing):
         names = made.vs["name"]
         self.assertEqual({names[edge.source]: names[edge.target] for edge in made.es}, tree.parents)
         self.assertEqual(sorted(made.es["edge"]), sorted(tree.edge_indices))
+        turned, plain = tree.to_igraph("from_root"), tree.to_igraph(direction="undirected")
+        self.assertEqual({names[edge.target]: names[edge.source] for edge in turned.es}, tree.parents)
+        self.assertEqual((plain.is_directed(), plain.ecount(), plain.is_connected()), (False, 2, True))
+        self.refused(popsample.OptionError, tree.to_igraph, "to_head")
 
     @has("graph_tool")
     def test_graph_tool(self):
@@ -118,6 +122,10 @@ class Converted(Refusing):
         made = tree.to_graph_tool()
         names = made.vertex_properties["name"]
         self.assertEqual({names[edge.source()]: names[edge.target()] for edge in made.edges()}, tree.parents)
+        turned, plain = tree.to_graph_tool("from_root"), tree.to_graph_tool(direction="undirected")
+        self.assertEqual({names[edge.target()]: names[edge.source()] for edge in turned.edges()}, tree.parents)
+        self.assertEqual((plain.is_directed(), plain.num_edges()), (False, 2))
+        self.refused(popsample.OptionError, tree.to_graph_tool, "to_head")
 
     @has("scipy")
     def test_scipy(self):
@@ -125,6 +133,20 @@ class Converted(Refusing):
         rows, columns = tree.to_scipy().nonzero()
         names = ["Ann", "Bob", "Cem"]
         self.assertEqual({names[row]: names[column] for row, column in zip(rows, columns)}, tree.parents)
+        matrix = tree.to_scipy().toarray()
+        self.assertEqual(tree.to_scipy("from_root").toarray().tolist(), matrix.T.tolist())
+        self.assertEqual(tree.to_scipy(direction="undirected").toarray().tolist(), (matrix + matrix.T).tolist())
+        self.refused(popsample.OptionError, tree.to_scipy, "to_head")
+
+    @has("scipy")
+    def test_scipy_counts_arrows(self):
+        # Two parallel edges and a self-loop, which is one arrow in each direction.
+        found = sink_free_orientation([(1, 2), (2, 1), (1, 1)], key=ZEROS)
+        ends = [arrow[:2] for arrow in found.arrows]
+        counted = [[ends.count((tail, head)) for head in (1, 2)] for tail in (1, 2)]
+        self.assertEqual(found.to_scipy().toarray().tolist(), counted)
+        self.assertEqual(found.to_scipy("undirected").toarray().tolist(), [[1, 2], [2, 0]])
+        self.refused(popsample.OptionError, found.to_scipy, "to_root")
 
 
 if __name__ == "__main__":

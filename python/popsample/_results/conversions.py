@@ -3,6 +3,7 @@
 from __future__ import annotations
 
 import importlib
+from collections.abc import Sequence
 from typing import TYPE_CHECKING, Any
 
 from .._errors.argument_errors import OptionError
@@ -11,7 +12,9 @@ from ..errors import NotInstalledError
 if TYPE_CHECKING:
     from .results import GraphSample
 
-DIRECTIONS = ("to_root", "from_root", "undirected")
+# Whether edges point as the arrows do, the other way round, or not at all: of trees, and of orientations.
+TREE_DIRECTIONS = ("to_root", "from_root", "undirected")
+ORIENTATION_DIRECTIONS = ("to_head", "undirected")
 
 
 def imported(name: str) -> Any:
@@ -22,20 +25,30 @@ def imported(name: str) -> Any:
         raise NotInstalledError(name, "") from None
 
 
-def networkx_of(sample: GraphSample, direction: str) -> Any:
-    """Return what `Tree.to_networkx` says."""
-    return arrows_graph(sample, direction, DIRECTIONS)
-
-
-def arrows_graph(sample: GraphSample, direction: str, known: tuple[str, ...]) -> Any:
-    """Return the arrows as a graph of networkx, in one of the known directions."""
+def checked_direction(sample: GraphSample, direction: str | None) -> str:
+    """Return a direction of the sample, by default that of its arrows. Raise OptionError if it is none."""
+    known = sample._directions
+    if direction is None:
+        return known[0]
     if direction not in known:
         raise OptionError("direction", direction, f"one of {', '.join(map(repr, known))}")
+    return direction
+
+
+def turned(sample: GraphSample, direction: str) -> tuple[Sequence[int], Sequence[int], Sequence[int]]:
+    """Return the tails, the heads and the edges of the arrows, by number, in this direction."""
+    tails, heads, edges = sample._numbers()
+    return (heads, tails, edges) if direction == "from_root" else (tails, heads, edges)
+
+
+def networkx_of(sample: GraphSample, direction: str | None) -> Any:
+    """Return what `Tree.to_networkx` says."""
+    chosen = checked_direction(sample, direction)
     networkx = imported("networkx")
     made = attributed(sample, networkx)
-    if direction == "from_root":
+    if chosen == "from_root":
         return made.reverse()
-    return made.to_undirected() if direction == "undirected" else made
+    return made.to_undirected() if chosen == "undirected" else made
 
 
 def attributed(sample: GraphSample, networkx: Any) -> Any:
@@ -50,23 +63,26 @@ def attributed(sample: GraphSample, networkx: Any) -> Any:
     return made
 
 
-def igraph_of(sample: GraphSample) -> Any:
+def igraph_of(sample: GraphSample, direction: str | None) -> Any:
     """Return what `Tree.to_igraph` says."""
+    chosen = checked_direction(sample, direction)
     igraph = imported("igraph")
-    tails, heads, edges = sample._numbers()
-    made = igraph.Graph(n=len(sample._given.vertices), edges=list(zip(tails, heads)), directed=True)
+    tails, heads, edges = turned(sample, chosen)
+    is_directed = chosen != "undirected"
+    made = igraph.Graph(n=len(sample._given.vertices), edges=list(zip(tails, heads)), directed=is_directed)
     made.vs["name"] = list(sample._given.vertices)
     made.es["edge"] = [sample._given.edges[place] for place in edges]
     return made
 
 
-def graph_tool_of(sample: GraphSample) -> Any:
+def graph_tool_of(sample: GraphSample, direction: str | None) -> Any:
     """Return what `Tree.to_graph_tool` says."""
+    chosen = checked_direction(sample, direction)
     library = imported("graph_tool")
-    made = library.Graph(directed=True)
+    made = library.Graph(directed=chosen != "undirected")
     made.add_vertex(len(sample._given.vertices))
     place = made.new_edge_property("int64_t")
-    rows = list(zip(*sample._numbers()))
+    rows = list(zip(*turned(sample, chosen)))
     if rows:
         made.add_edge_list(rows, eprops=[place])
     made.edge_properties["edge"] = place
@@ -77,12 +93,14 @@ def graph_tool_of(sample: GraphSample) -> Any:
     return made
 
 
-def scipy_of(sample: GraphSample) -> Any:
+def scipy_of(sample: GraphSample, direction: str | None) -> Any:
     """Return what `Tree.to_scipy` says."""
+    chosen = checked_direction(sample, direction)
     numpy, sparse = imported("numpy"), imported("scipy.sparse")
-    tails, heads, _ = sample._numbers()
+    tails, heads, _ = turned(sample, chosen)
+    pairs = list(zip(tails, heads))
+    if chosen == "undirected":
+        pairs += [(head, tail) for tail, head in pairs if tail != head]
     count = len(sample._given.vertices)
-    ones = numpy.ones(len(tails), dtype=numpy.int64)
-    return sparse.coo_array((ones, (list(tails), list(heads))), shape=(count, count)).tocsr()
-
-
+    rows, columns = zip(*pairs) if pairs else ((), ())
+    return sparse.coo_array((numpy.ones(len(pairs), numpy.int64), (rows, columns)), shape=(count, count)).tocsr()

@@ -5,11 +5,18 @@ from __future__ import annotations
 from collections.abc import Hashable, Iterator, Mapping, Sequence
 from dataclasses import dataclass
 from functools import cached_property
-from typing import TYPE_CHECKING, Any, NamedTuple, TypeVar
+from typing import TYPE_CHECKING, Any, ClassVar, NamedTuple, TypeVar
 
 from .._engine.rows import Rows
 from .._given.flat_numbers import NONE
-from .conversions import arrows_graph, igraph_of, graph_tool_of, networkx_of, scipy_of
+from .conversions import (
+    ORIENTATION_DIRECTIONS,
+    TREE_DIRECTIONS,
+    graph_tool_of,
+    igraph_of,
+    networkx_of,
+    scipy_of,
+)
 from .drawing import draw
 from .tree_layout import Place
 
@@ -181,6 +188,8 @@ class GraphSample(Sample):
     """A sample of a graph, of which each chosen edge is an arrow."""
 
     _given: GraphInput
+    # The directions of conversions: first that of the arrows.
+    _directions: ClassVar[tuple[str, ...]] = TREE_DIRECTIONS
 
     def __init__(
         self, rows: Rows, row: int, key: Key | None, given: GraphInput, told: Mapping[str, Any] | None = None
@@ -230,13 +239,14 @@ class GraphSample(Sample):
         """The greatest relative error of a weight that ``weight_bits=`` rounded; None if no weight was rounded."""
         return self._given.weight_error
 
-    def to_networkx(self, direction: str = "to_root") -> Any:
+    def to_networkx(self, direction: str | None = None) -> Any:
         """Return the arrows as a graph of networkx.
 
         Parameters
         ----------
-        direction : {"to_root", "from_root", "undirected"}
-            Whether edges point as the arrows do, the other way round, or not at all.
+        direction : {"to_root", "from_root", "undirected"}, optional
+            Whether edges point as the arrows do, the other way round, or not at all. For an orientation it is "to_head"
+            or "undirected". Default: as the arrows do.
 
         Returns
         -------
@@ -260,8 +270,13 @@ class GraphSample(Sample):
         """
         return networkx_of(self, direction)
 
-    def to_igraph(self) -> Any:
-        """Return the arrows as a directed graph of igraph, whose vertices have the attribute ``name``.
+    def to_igraph(self, direction: str | None = None) -> Any:
+        """Return the arrows as a graph of igraph, whose vertices have the attribute ``name``.
+
+        Parameters
+        ----------
+        direction : {"to_root", "from_root", "undirected"}, optional
+            As of `to_networkx`.
 
         Returns
         -------
@@ -270,13 +285,20 @@ class GraphSample(Sample):
 
         Raises
         ------
+        OptionError
+            If `direction` is none of these.
         NotInstalledError
             If igraph isn't installed.
         """
-        return igraph_of(self)
+        return igraph_of(self, direction)
 
-    def to_graph_tool(self) -> Any:
-        """Return the arrows as a directed graph of graph-tool.
+    def to_graph_tool(self, direction: str | None = None) -> Any:
+        """Return the arrows as a graph of graph-tool.
+
+        Parameters
+        ----------
+        direction : {"to_root", "from_root", "undirected"}, optional
+            As of `to_networkx`.
 
         Returns
         -------
@@ -286,26 +308,35 @@ class GraphSample(Sample):
 
         Raises
         ------
+        OptionError
+            If `direction` is none of these.
         NotInstalledError
             If graph-tool isn't installed.
         """
-        return graph_tool_of(self)
+        return graph_tool_of(self, direction)
 
-    def to_scipy(self) -> Any:
+    def to_scipy(self, direction: str | None = None) -> Any:
         """Return the arrows as a sparse array of scipy.
+
+        Parameters
+        ----------
+        direction : {"to_root", "from_root", "undirected"}, optional
+            As of `to_networkx`.
 
         Returns
         -------
         scipy.sparse.csr_array
             A row and a column for each vertex, in order. The entry in row I and column J is the number of arrows from
-            vertex I to vertex J.
+            vertex I to vertex J, in that direction. With "undirected" it is symmetric.
 
         Raises
         ------
+        OptionError
+            If `direction` is none of these.
         NotInstalledError
             If scipy isn't installed.
         """
-        return scipy_of(self)
+        return scipy_of(self, direction)
 
 
 class Tree(GraphSample):
@@ -433,6 +464,8 @@ class Orientation(GraphSample):
         As those of a `Tree`.
     """
 
+    _directions = ORIENTATION_DIRECTIONS
+
     def _numbers(self) -> tuple[Sequence[int], Sequence[int], Sequence[int]]:
         ends, values = self._given.ends, self._rows.value_row(self._row)
         assert ends is not None
@@ -445,28 +478,6 @@ class Orientation(GraphSample):
     def used(self) -> dict[Hashable, int]:
         """For each edge how many of its values were passed."""
         return dict(zip(self._given.edges, self._rows.used_row(self._row)))
-
-    def to_networkx(self, direction: str = "to_head") -> Any:
-        """Return the arrows as a graph of networkx.
-
-        Parameters
-        ----------
-        direction : {"to_head", "undirected"}
-            Whether edges point as the arrows do, or not at all.
-
-        Returns
-        -------
-        networkx.DiGraph, networkx.MultiDiGraph or networkx.Graph
-            As of a `Tree`.
-
-        Raises
-        ------
-        OptionError
-            If `direction` is none of these.
-        NotInstalledError
-            If networkx isn't installed.
-        """
-        return arrows_graph(self, direction, ("to_head", "undirected"))
 
     def __repr__(self) -> str:
         """Return a short text."""
