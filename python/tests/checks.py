@@ -14,6 +14,10 @@ from unittest import mock
 import popsample
 
 ZEROS = "0" * 64
+# After so many seconds a test that hangs is ended. A test that passes doesn't come near, however busy the machine is.
+LIMIT = 600
+# What a program does that is to go on for longer than the tests wait.
+ENDLESS = f"exec sleep {2 * LIMIT}"
 Pair = tuple[Hashable, Hashable]
 
 
@@ -61,6 +65,11 @@ def file_of(text: str) -> Iterator[Path]:
         path = Path(folder, "text")
         path.write_text(text, encoding="utf-8")
         yield path
+
+
+def until(path: Path) -> str:
+    """The words of the shell that wait until a file is there, or a test that waits has failed."""
+    return f"for i in $(seq {20 * LIMIT}); do [ ! -e '{path}' ] || break; sleep 0.05; done"
 
 
 @contextmanager

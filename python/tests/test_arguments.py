@@ -22,7 +22,17 @@ from popsample import (
     spanning_trees,
 )
 
-from .checks import ZEROS, Refusing, extremal_solution, extremal_solutions, file_of, program_of, rounds_solution
+from .checks import (
+    ENDLESS,
+    LIMIT,
+    ZEROS,
+    Refusing,
+    extremal_solution,
+    extremal_solutions,
+    file_of,
+    program_of,
+    rounds_solution,
+)
 
 TRIANGLE = [("Ann", "Bob"), ("Bob", "Cem"), ("Cem", "Ann")]
 KEY = "32 bytes or a string of 64 hexadecimal digits; a whole number goes to seed="
@@ -232,21 +242,27 @@ class Seeds(unittest.TestCase):
 
 class Timeouts(Refusing):
     def test_the_program_is_ended(self):
-        # The script tells its process, and doesn't end by itself.
-        with file_of("") as told, program_of(f"cat > /dev/null; echo $$ > '{told}'; exec sleep 600"):
+        # The script writes the number of its process, and doesn't end by itself.
+        with file_of("") as number, program_of(f"cat > /dev/null; echo $$ > '{number}'; {ENDLESS}"):
             for call, named in ((spanning_tree, {}), (spanning_trees, {"count": 2})):
-                error = self.refused(TimeoutError, call, TRIANGLE, timeout=1, **named)
+                number.write_text("")
+                timeout = 0.5
+                # On a busy machine the script may come to write late.
+                while not number.read_text().endswith("\n"):
+                    timeout *= 2
+                    self.assertLess(timeout, LIMIT)
+                    error = self.refused(TimeoutError, call, TRIANGLE, timeout=timeout, **named)
                 self.assertIsInstance(error, popsample.RunTimeoutError)
-                self.assertEqual(error.timeout, 1)
-                self.assertIn("no result after timeout=1.0 seconds, and the run was ended", str(error))
+                self.assertEqual(error.timeout, timeout)
+                self.assertIn(f"no result after timeout={timeout} seconds, and the run was ended", str(error))
                 with self.assertRaises(ProcessLookupError):
-                    os.kill(int(told.read_text()), 0)
+                    os.kill(int(number.read_text()), 0)
 
     def test_each_function_has_it(self):
         clauses, graph = (find_clash, rounds_solution, resample, extremal_solution, samples), (sink_free_orientation, samples)
         calls = [*((call, [[1]]) for call in clauses), *((call, TRIANGLE) for call in graph)]
         calls += [(replay, b"cert"), (resume, b"cert"), (partial(extremal_solutions, count=2), [[1]])]
-        with program_of("exec sleep 600"):
+        with program_of(ENDLESS):
             for call, subject in calls:
                 with self.assertRaises(popsample.RunTimeoutError):
                     told = call(subject, timeout=0.1)
@@ -255,15 +271,18 @@ class Timeouts(Refusing):
     def test_a_program_that_reads_nothing(self):
         # The input is longer than a pipe holds.
         star = [(0, vertex) for vertex in range(20_000)]
-        with program_of("exec sleep 600"):
+        with program_of(ENDLESS):
             self.refused(TimeoutError, spanning_tree, star, timeout=0.1)
             self.refused(TimeoutError, spanning_trees, star, 2, timeout=0.1)
 
     def test_the_time_of_the_caller_does_not_count(self):
         # What these trees print is longer than a pipe holds, so the program waits for the caller.
-        trees = spanning_trees([(0, vertex) for vertex in range(1, 2000)], 60, timeout=1)
-        time.sleep(1.2)
-        self.assertEqual(len(list(trees)), 60)
+        real, passed = time.monotonic, 0
+        with mock.patch.object(time, "monotonic", lambda: real() + passed):
+            trees = spanning_trees([(0, vertex) for vertex in range(1, 2000)], 60, timeout=LIMIT)
+            for _ in range(60):
+                next(trees)
+                passed += LIMIT
 
     def test_an_end_in_time(self):
         self.assertEqual(spanning_tree(TRIANGLE, seed=1, timeout=600), spanning_tree(TRIANGLE, seed=1))

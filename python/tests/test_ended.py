@@ -15,18 +15,17 @@ from unittest import mock
 
 from popsample._engine import launching
 
-from .checks import program_of
+from .checks import ENDLESS, LIMIT, program_of
 from .front_calls import PYTHON, running
 
-SECONDS = 60
-# A program that writes its number to a file, and then goes on for longer than the tests wait.
-ENDLESS = 'echo $$ > "$NUMBER"; exec sleep 1000'
+# A program that writes its number to a file, and then goes on.
+NUMBERED = f'echo $$ > "$NUMBER"; {ENDLESS}'
 EDGES = "[[1, 2], [2, 3]]"
 # Calls that run the program: with a time-out, and by a series, in the main thread and beside it.
 WAITING = (
-    f"popsample.spanning_tree({EDGES}, timeout=900)",
+    f"popsample.spanning_tree({EDGES}, timeout=9000)",
     f"next(iter(popsample.samples({EDGES}, 3, kind='tree')))",
-    f"ThreadPoolExecutor(1).submit(popsample.spanning_tree, {EDGES}, timeout=900).result()",
+    f"ThreadPoolExecutor(1).submit(popsample.spanning_tree, {EDGES}, timeout=9000).result()",
 )
 
 
@@ -47,7 +46,7 @@ def ending(process: subprocess.Popen[bytes]) -> Iterator[None]:
 
 def is_gone(number: int) -> bool:
     """Tell whether a process is gone within the time: a zombie is, since nobody may be there to read its status."""
-    end = time.monotonic() + SECONDS
+    end = time.monotonic() + LIMIT
     while time.monotonic() < end:
         try:
             state = Path(f"/proc/{number}/stat").read_text().rpartition(")")[2].split()[0]
@@ -67,11 +66,11 @@ class Killed(unittest.TestCase):
         self.folder = Path(folder.name)
         self.file = self.folder / "number"
         self.enterContext(mock.patch.dict(os.environ, {"NUMBER": str(self.file)}))
-        self.enterContext(program_of(ENDLESS))
+        self.enterContext(program_of(NUMBERED))
 
     def started(self) -> int:
         """Return the number of the program's process, once it runs."""
-        end = time.monotonic() + SECONDS
+        end = time.monotonic() + LIMIT
         while not (self.file.exists() and self.file.read_text().endswith("\n")):
             self.assertLess(time.monotonic(), end, "the program wasn't started")
             time.sleep(0.02)
@@ -108,7 +107,7 @@ class Killed(unittest.TestCase):
             with self.subTest(number.name), wrapper as process, ending(process):
                 program = self.started()
                 process.send_signal(number)
-                output, told = process.communicate(timeout=SECONDS)
+                output, told = process.communicate(timeout=LIMIT)
                 self.assertEqual((process.returncode, output, told), (status, b"", b""))
                 self.assertTrue(is_gone(program))
 
@@ -121,7 +120,7 @@ class Killed(unittest.TestCase):
         named = {**os.environ, "PYTHONPATH": path}
         streams = {"stderr": subprocess.DEVNULL, "env": named, "preexec_fn": heeding}
         with subprocess.Popen(command, **streams) as process, ending(process):
-            self.assertEqual(process.wait(SECONDS), 143)
+            self.assertEqual(process.wait(LIMIT), 143)
         # The program may be ended before it wrote its number, so it is looked for by what it was given.
         self.assertTrue(all(map(is_gone, self.given())))
 
@@ -131,7 +130,7 @@ class Killed(unittest.TestCase):
         with running("make", "grid", "2", "--output", path, preexec_fn=heeding) as process, ending(process):
             self.started()
             process.send_signal(signal.SIGTERM)
-            process.communicate(timeout=SECONDS)
+            process.communicate(timeout=LIMIT)
         self.assertEqual(path.read_text(), "old")
         self.assertEqual(list(self.folder.iterdir()), [path])
 
@@ -146,7 +145,7 @@ class Killed(unittest.TestCase):
             time.sleep(0.5)
             self.assertIsNone(process.poll())
             process.send_signal(signal.SIGTERM)
-            self.assertEqual(process.wait(SECONDS), 143)
+            self.assertEqual(process.wait(LIMIT), 143)
         self.assertTrue(is_gone(program))
 
     def test_calls_of_the_module(self):
@@ -160,7 +159,7 @@ class Killed(unittest.TestCase):
                     with python as process, ending(process):
                         program = self.started()
                         process.send_signal(number)
-                        process.wait(SECONDS)
+                        process.wait(LIMIT)
                     self.assertTrue(is_gone(program))
 
 
@@ -182,11 +181,11 @@ class Started(unittest.TestCase):
 
         with mock.patch.object(subprocess, "Popen", refusing):
             with launching.start(["true"], True) as process:
-                self.assertEqual(process.wait(SECONDS), 0)
+                self.assertEqual(process.wait(LIMIT), 0)
 
     def test_without_prctl(self):
         with mock.patch.object(launching, "prctl", lambda: None), launching.start(["true"], True) as process:
-            self.assertEqual(process.wait(SECONDS), 0)
+            self.assertEqual(process.wait(LIMIT), 0)
 
 
 if __name__ == "__main__":

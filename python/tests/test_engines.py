@@ -10,7 +10,7 @@ from pathlib import Path
 
 from popsample import samples
 
-from .checks import ZEROS, file_of
+from .checks import LIMIT, ZEROS, file_of
 
 TEAMS = [(first, second) for first in range(5) for second in range(first)]
 COUNT = 2100
@@ -63,7 +63,7 @@ class Engines(unittest.TestCase):
         named = {**os.environ, **allowed, "OMPI_MCA_rmaps_base_oversubscribe": "1", "PYTHONPATH": str(TOP)}
         with file_of(MPI_SCRIPT) as script:
             words = ["mpiexec", "-n", "3", sys.executable, "-m", "mpi4py.futures", str(script)]
-            ran = subprocess.run(words, env=named, capture_output=True, text=True, timeout=100)
+            ran = subprocess.run(words, env=named, capture_output=True, text=True, timeout=LIMIT)
         self.assertEqual(ran.returncode, 0, ran.stderr)
         self.assertEqual(ran.stdout.splitlines(), [str(tree.edges) for tree in self.wanted])
 

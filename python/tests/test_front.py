@@ -4,17 +4,20 @@ import gzip
 import hashlib
 import os
 import re
+import select
 import signal
 import subprocess
 import tempfile
 import unittest
+from collections.abc import Callable
+from concurrent.futures import ThreadPoolExecutor
 from importlib import metadata
 from pathlib import Path
 from unittest import mock
 
 from popsample._wrapper.program_words import COMMANDS, OPTIONS
 
-from .checks import file_of, program_of
+from .checks import ENDLESS, LIMIT, file_of, program_of, until
 from .front_calls import by_program, called, example, running, terminal
 from .test_completion import COMPLETION, completed
 
@@ -114,7 +117,7 @@ class Read(unittest.TestCase):
     def test_a_terminal(self):
         with terminal() as (outer, inner), running("tree", stdin=inner) as process:
             os.write(outer, TRIANGLE + b"\x04")
-            output, told = process.communicate(timeout=60)
+            output, told = process.communicate(timeout=LIMIT)
         self.assertEqual((process.returncode, output), self.wanted)
         self.assertIn("Standard input is a terminal. Type a graph in ", told.decode())
 
@@ -158,11 +161,18 @@ class Seeds(unittest.TestCase):
 
 
 class Progress(unittest.TestCase):
-    def seen(self, *words: str) -> tuple[str, bytes]:
-        """What a call tells on a terminal, and its output."""
+    def seen(self, *words: str, look: Callable[[str], object] = len) -> tuple[str, bytes]:
+        """What a call shows on a terminal, and its output. `look` is called with what was shown so far."""
+        shown = b""
         with terminal() as (outer, inner), running(*words, stdin=subprocess.PIPE, stderr=inner) as process:
-            output, _ = process.communicate(TRIANGLE, timeout=60)
-            return os.read(outer, 4096).decode(), output
+            with ThreadPoolExecutor(1) as threads:
+                answer = threads.submit(process.communicate, TRIANGLE, LIMIT)
+                # A terminal holds little, and a call that shows more waits until somebody reads.
+                while not answer.done() or select.select([outer], [], [], 0)[0]:
+                    if select.select([outer], [], [], 0.1)[0]:
+                        shown += os.read(outer, 4096)
+                        look(shown.decode())
+            return shown.decode(), answer.result()[0]
 
     def test_samples_are_counted(self):
         told, output = self.seen("tree", "--count", "500")
@@ -170,9 +180,13 @@ class Progress(unittest.TestCase):
         self.assertEqual((0, output), by_program("tree", "--count", "500", given=TRIANGLE))
 
     def test_seconds_are_told_until_the_first(self):
-        with program_of('sleep 1.2; exec "$PROGRAM" "$@"'):
-            told, output = self.seen("tree", "--count", "5")
-        self.assertRegex(told, r"popsample: drawing 5 samples: 1 s")
+        # The program waits until some are told.
+        with tempfile.TemporaryDirectory() as folder:
+            go_on = Path(folder, "go_on")
+            are_told = re.compile(r"popsample: drawing 5 samples: [1-9]\d* s")
+            with program_of(f'{until(go_on)}; exec "$PROGRAM" "$@"'):
+                told, output = self.seen("tree", "--count", "5", look=lambda told: are_told.search(told) and go_on.touch())
+        self.assertRegex(told, are_told)
         self.assertEqual((0, output), by_program("tree", "--count", "5", given=TRIANGLE))
 
     def test_nowhere_else(self):
@@ -182,7 +196,7 @@ class Progress(unittest.TestCase):
 class Programs(unittest.TestCase):
     def test_the_module_is_run(self):
         with running("tree", stdin=subprocess.PIPE) as process:
-            output, told = process.communicate(TRIANGLE, timeout=60)
+            output, told = process.communicate(TRIANGLE, timeout=LIMIT)
         self.assertEqual((process.returncode, output, told), (*by_program("tree", given=TRIANGLE), b""))
 
     def test_no_program(self):
@@ -202,11 +216,11 @@ class Programs(unittest.TestCase):
             self.assertEqual(called("make", "grid", "2", POPSAMPLE=str(path)).status, 126)
 
     def test_the_keyboard_ends_it(self):
-        with program_of("echo begun; exec sleep 60"):
+        with program_of(f"echo begun; {ENDLESS}"):
             with running("make", "grid", "2") as process:
                 self.assertEqual(os.read(process.stdout.fileno(), 6), b"begun\n")
                 process.send_signal(signal.SIGINT)
-                told = process.communicate(timeout=60)[1]
+                told = process.communicate(timeout=LIMIT)[1]
         self.assertEqual((process.returncode, told), (130, b""))
 
 

@@ -8,7 +8,7 @@ import tempfile
 import unittest
 from pathlib import Path
 
-from .checks import program_of
+from .checks import LIMIT, program_of
 from .front_calls import PYTHON, by_program, called, running
 
 GRAPH = b"p edge 3 3\ne 1 2\ne 2 3\ne 1 3\n"
@@ -45,7 +45,7 @@ class OneFile(InFolder):
     def refused(self, *words, **streams):
         """Run the wrapper, which refuses, and leaves the input as it was."""
         with running(*words, **streams) as process:
-            output, told = process.communicate(timeout=60)
+            output, told = process.communicate(timeout=LIMIT)
         self.assertEqual((process.returncode, output), (2, b""))
         self.assertIn(b"This file is the input", told)
         self.assertEqual(self.input.read_bytes(), GRAPH)

@@ -15,6 +15,7 @@ from pathlib import Path
 
 from popsample._wrapper import program_words
 
+from .checks import LIMIT
 from .test_completion import BATCHED, COMPLETION, CREW, EVERYWHERE, LOGGED, STACKED, TOLD, completed
 
 COMMANDS = ["formula", "orient", "tree", "resample", "check", "make", "rounds", "replay", "resume"]
@@ -29,7 +30,6 @@ words=("$@") CURRENT=$#
 source "$0"
 """
 COMPLETE = 'source $argv[1]; complete -C "$argv[2]"'
-SECONDS = 20
 
 # What may stand behind these words, where the last one is still empty.
 CASES = (
@@ -95,7 +95,7 @@ def typed(command: list[str], keys: str, wanted: str) -> str:
         os.environ.update(TERM="dumb", PS1="> ")
         os.execvp(command[0], command)
     os.write(terminal, keys.encode())
-    seen, end = b"", time.monotonic() + SECONDS
+    seen, end = b"", time.monotonic() + LIMIT
     while wanted.encode() not in seen and time.monotonic() < end:
         if select.select([terminal], [], [], 0.1)[0]:
             seen += os.read(terminal, 4096)
