@@ -143,8 +143,8 @@ def solutions(
     ArgumentError, InputRefusal
         As `solution` does, before the first one.
     NeedsLibraryError
-        If `method` is "rounds" and `count` isn't 1, unless a library with the call `popsample_assignments` is found.
-        The library of this version doesn't have it yet: draw each assignment under a key of its own, by `derived_key`.
+        If `method` is "rounds", `count` isn't 1, and no library with the call `popsample_assignments` is found. Without
+        it draw each assignment under a key of its own, by `derived_key`.
 
     See Also
     --------
