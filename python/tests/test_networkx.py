@@ -2,8 +2,10 @@
 
 import random
 import unittest
+from unittest import mock
 
 import popsample
+from popsample._given.graph_input import read_graph
 
 from .checks import ZEROS
 
@@ -54,6 +56,20 @@ class Trees(unittest.TestCase):
         simple = popsample.spanning_tree(networkx.path_graph(3), key=ZEROS)
         self.assertIs(type(simple.graph), networkx.DiGraph)
         self.assertEqual(sorted(simple.graph.edges), [(1, 0), (2, 1)])
+
+    def test_edges_are_those_of_networkx_in_its_order(self):
+        chance = random.Random(103)
+        for number in range(GRAPHS):
+            graph = random_graph(chance, multigraph=False)
+            for given in (graph, graph.subgraph(chance.sample(list(graph), len(graph) // 2 + 1))):
+                for missing in ({}, {"numpy": None}):
+                    with self.subTest(number=number, missing=missing), mock.patch.dict("sys.modules", missing):
+                        read = read_graph(given)
+                        ends = [read.vertices[place] for place in read.ends.tolist()]
+                        self.assertEqual(list(zip(ends[0::2], ends[1::2])), list(given.edges))
+                        self.assertEqual(list(read.edges), list(given.edges))
+                        self.assertEqual(read.edges[1:-1], list(given.edges)[1:-1])
+                        self.assertRaises(IndexError, read.edges.__getitem__, len(read.edges))
 
     def test_weights_are_an_attribute(self):
         # A tree with the light edge comes once in about 2^30 times.
