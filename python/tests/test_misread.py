@@ -1,6 +1,7 @@
 """What was once misread in silence: it is read as it is meant, or refused in words that say what to hand in."""
 
 import importlib.util
+import random
 import unittest
 from fractions import Fraction
 from types import SimpleNamespace
@@ -160,6 +161,40 @@ class LikeArrays(Refusing):
 
 @unittest.skipUnless(HAS_NUMPY, "numpy isn't installed")
 class ArraysOfNumbers(Refusing):
+    def test_vertices_are_in_the_order_in_which_they_first_occur(self):
+        import numpy
+
+        chance = random.Random(104)
+        orders = [[0, 1, 1, 2, 2, 0], [0, 0], [0, 0, 0, 1], [0, 2, 2, 1], [1, 0], [5, 3, 3, 9], [0, 1, 3, 2]]
+        orders += [[0, 2**32 - 1], [2**32 - 1, 0]]
+        drawn = [[chance.randrange(9) for _ in range(2 * chance.randrange(1, 9))] for _ in range(200)]
+        for flat in (*orders, *drawn):
+            names = list(dict.fromkeys(flat))
+            for kind in ("uint8", "int16", "uint32", "int64", "uint64"):
+                if max(flat) <= numpy.iinfo(kind).max:
+                    read = from_edges(numpy.array(flat, dtype=kind).reshape(-1, 2))
+                    found = [read.vertices[place] for place in read.ends.tolist()]
+                    self.assertEqual((list(read.vertices), found), (names, flat), (flat, kind))
+
+    def test_an_array_may_be_changed_after_a_call(self):
+        import numpy
+
+        for kind in ("uint32", "int64"):
+            pairs = numpy.array([(0, 1), (1, 2), (2, 0)], dtype=kind)
+            tree = spanning_tree(pairs, key=ZEROS)
+            pairs[:] = 7
+            self.assertEqual(tree, spanning_tree([(0, 1), (1, 2), (2, 0)], key=ZEROS))
+            self.assertEqual(set(tree.edges) | {(0, 1), (1, 2), (2, 0)}, {(0, 1), (1, 2), (2, 0)})
+
+    def test_a_root_that_equals_a_vertex(self):
+        import numpy
+
+        for graph in ([(0, 1), (1, 2)], numpy.array([(0, 1), (1, 2)]), numpy.array([(1, 0), (1, 2)])):
+            for root in (1, 1.0, numpy.int8(1), True):
+                self.assertEqual(spanning_tree(graph, root).parents, {0: 1, 2: 1})
+            for root in ("1", 1.5, float("nan"), (1,), 3, -1):
+                self.refused(popsample.RootError, spanning_tree, graph, root)
+
     def test_square_ones_are_refused(self):
         import numpy
 

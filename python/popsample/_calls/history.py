@@ -2,8 +2,6 @@
 
 from __future__ import annotations
 
-import numbers
-import operator
 from collections.abc import Hashable, Sequence
 from dataclasses import dataclass
 from typing import Any
@@ -70,13 +68,23 @@ def place_of(name: Hashable, names: Sequence[Hashable]) -> int:
     """Return the place of a name, from 0; the number of the names where it is none of them."""
     if isinstance(names, range):
         # One that looks for what is no int goes through all of its numbers.
-        if not isinstance(name, numbers.Integral):
+        number = whole_number(name)
+        if number is None:
             return len(names)
-        name = operator.index(name)
+        name = number
     try:
         return names.index(name)
     except ValueError:
         return len(names)
+
+
+def whole_number(name: Any) -> int | None:
+    """Return the int that a name equals, as 1.0 equals 1; None if there is none."""
+    try:
+        number = int(name)
+    except (TypeError, ValueError, OverflowError):
+        return None
+    return number if number == name else None
 
 
 def event_of(answer: Answer, subject: Subject, word: str) -> Hashable:

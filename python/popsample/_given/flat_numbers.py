@@ -70,9 +70,21 @@ def numbers_of(ends: Iterable[Sequence[Hashable]], names: Sequence[Hashable]) ->
     return array("I", map(number.__getitem__, chain.from_iterable(ends)))
 
 
-def numbered_small(given: Any) -> tuple[Any, list[int]]:
-    """Return the same for an array of small non-negative integers, in which each name is an integer."""
+def are_in_order(given: Any) -> bool:
+    """Return whether non-negative integers are 0, 1, 2 and so on in the order in which they first occur."""
+    most = numpy_module().maximum.accumulate(given)
+    return bool(most[0] == 0 and (most[1:] - most[:-1]).max(initial=0) <= 1)
+
+
+def numbered_small(given: Any) -> tuple[Any, Sequence[int]]:
+    """Return the same for an array of small non-negative integers, in which each name is an integer.
+
+    The numbers are a copy. Results look up names when they are asked, and the caller may change the array before.
+    """
     numpy = numpy_module()
+    if are_in_order(given):
+        return given.astype(numpy.uint32), range(int(given.max()) + 1)
+    given = given.astype(numpy.int64, copy=False)
     count = len(given)
     first = numpy.full(int(given.max()) + 1, count, dtype=numpy.int64)
     # The last one that is put is the first one that occurs.
@@ -85,13 +97,13 @@ def numbered_small(given: Any) -> tuple[Any, list[int]]:
     return number[given], names.tolist()
 
 
-def numbered_array(given: Any) -> tuple[Any, list[int]]:
+def numbered_array(given: Any) -> tuple[Any, Sequence[int]]:
     """Return the same for a flat array of any integers."""
     numpy = numpy_module()
     if len(given) == 0:
         return numpy.zeros(0, dtype=numpy.uint32), []
     if given.min() >= 0 and given.max() <= 8 * len(given):
-        return numbered_small(given.astype(numpy.int64, copy=False))
+        return numbered_small(given)
     values, places, inverse = numpy.unique(given, return_index=True, return_inverse=True)
     order = numpy.argsort(places)
     number = numpy.empty(len(values), dtype=numpy.uint32)
