@@ -1,6 +1,7 @@
 """What the documents say is what the module says; they stand beside this folder in the repository."""
 
 import doctest
+import pkgutil
 import unittest
 from pathlib import Path
 
@@ -17,12 +18,25 @@ PAGES = [TOP / "README.md", TOP / "python" / "README.md"]
 
 
 def load_tests(loader, tests, pattern):
-    """Adds what the pages and the module show behind '>>>', without the fences of blocks."""
+    """Adds what the pages show behind '>>>', without the fences of blocks, and the examples of all docstrings."""
     for page in filter(Path.exists, PAGES):
         shown = page.read_text(encoding="utf-8").replace("```", "")
         tests.addTest(doctest.DocTestCase(doctest.DocTestParser().get_doctest(shown, {}, page.name, str(page), 0)))
-    tests.addTest(doctest.DocTestSuite(popsample))
+    for module in ("popsample", *(found.name for found in pkgutil.walk_packages(popsample.__path__, "popsample."))):
+        if not module.endswith("__main__"):
+            tests.addTest(doctest.DocTestSuite(module))
     return tests
+
+
+def flat(tests):
+    """The single tests of a suite, or a test that is none."""
+    return [one for each in tests for one in flat(each)] if isinstance(tests, unittest.TestSuite) else [tests]
+
+
+class Examples(unittest.TestCase):
+    def test_each_function_for_samples_has_one_that_is_run(self):
+        found = {test.id().rpartition(".")[2] for test in flat(load_tests(None, unittest.TestSuite(), None))}
+        self.assertLessEqual({"spanning_tree", "solution", "samples", "resample", "Key", "Assignment"}, found)
 
 
 @unittest.skipUnless(FORMATS.exists(), "docs/FORMATS.md isn't there")
