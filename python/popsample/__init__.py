@@ -7,7 +7,7 @@
 
 The functions call the library `libpopsample` in this process, if it is found (`find_library`), and otherwise run the
 program `popsample` (`find_program`). A result has the key that it came from: the same call with that key gives the same
-result. All exceptions are an `Error`, whose message says what is wrong, where, and what to do. An `ArgumentError` is
+result. All errors are an `Error`, whose message says what is wrong, where, and what to do. An `ArgumentError` is
 raised before anything runs, and a `Refusal` if the library or the program rejects the input.
 """
 

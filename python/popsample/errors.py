@@ -20,7 +20,7 @@ from ._errors.argument_errors import (
     UnsatisfiableError,
     WeightError,
 )
-from ._errors.base_error import Error
+from ._errors.base_error import Carried, Error
 
 __all__ = [
     "ArgumentError",
@@ -152,10 +152,11 @@ class ExhaustedError(Refusal):
         self.sample = 0
 
 
-class Paused(Refusal):
-    """The run was stopped after so many pops as were asked for, when an event can still be popped.
+class Paused(Carried):
+    """The run was stopped after so many pops as were asked for, when an event can still be popped. This is no `Error`.
 
     `certificate` is its certificate, as the bytes of a text: it holds the command, the stacks, the input and the log.
+    `key` is the key of the call, or None if rows were given.
     """
 
     status = 10
@@ -165,7 +166,8 @@ class Paused(Refusal):
     )
 
     def __init__(self, certificate: bytes) -> None:
-        super().__init__()
+        super().__init__(self.sentence)
+        self.key: str | None = None
         self.certificate = certificate
 
 

@@ -52,7 +52,8 @@ class Formats(unittest.TestCase):
 
     def test_each_exception_has_its_row(self):
         rows = {getattr(popsample, row[3].strip("`")): row for row in self.rows if row[3].startswith("`")}
-        self.assertEqual(set(rows), kinds_below(errors.Refusal) - {errors.InputRefusal, errors.StacksError})
+        refusals = kinds_below(errors.Refusal) - {errors.InputRefusal, errors.StacksError}
+        self.assertEqual(set(rows), {*refusals, errors.Paused})
         for kind, (status, form, sentence, _) in rows.items():
             with self.subTest(kind.__name__):
                 self.assertEqual((int(status), sentence), (kind.status, kind.sentence))

@@ -8,6 +8,7 @@ import pkgutil
 import unittest
 
 import popsample
+from popsample._errors import base_error
 
 from .checks import ZEROS, Refusing, extremal_solution, kinds_below
 
@@ -27,9 +28,8 @@ GIVEN = {
     "Sequence[Hashable]": ("v", "w"),
     "tuple[str, str]": ("1 2", "-1 3"),
 }
-# What is raised, and is no error: the base of what the program answers, that of refused input, and a run that was
-# stopped as it was asked for.
-NO_ERRORS = {"Refusal", "InputRefusal", "Paused"}
+# The names that don't end in Error: the base of what the program answers, and that of refused input.
+REFUSALS = {"Refusal", "InputRefusal"}
 
 
 def made(kind):
@@ -60,19 +60,21 @@ def defined():
 
 class Exceptions(Refusing):
     def test_one_base(self):
-        self.assertEqual(defined() - {popsample.Error}, kinds_below(popsample.Error))
+        # A run that was stopped as it was asked for is no error.
+        others = {popsample.Error, popsample.Paused, base_error.Carried}
+        self.assertEqual(defined() - others, kinds_below(popsample.Error))
         self.assertGreater(len(kinds_below(popsample.Error)), 30)
 
     def test_names(self):
         wrong = {kind.__name__ for kind in kinds_below(popsample.Error) if not kind.__name__.endswith("Error")}
-        self.assertEqual(wrong, NO_ERRORS)
+        self.assertEqual(wrong, REFUSALS)
 
     def test_no_old_names(self):
         for name in ("Exhausted", "CutOff", "Memory", "batch_key", "rounds", "check", "sample_formula"):
             self.assertFalse(hasattr(popsample, name), name)
 
     def test_all_pickle(self):
-        for kind in {popsample.Error, *kinds_below(popsample.Error)}:
+        for kind in {popsample.Error, popsample.Paused, *kinds_below(popsample.Error)}:
             error = made(kind)
             error.key, error.note = ZEROS, ("more", 1)
             again = [pickle.loads(pickle.dumps(error, protocol)) for protocol in range(pickle.HIGHEST_PROTOCOL + 1)]

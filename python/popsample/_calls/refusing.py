@@ -159,7 +159,7 @@ def under_key(words: Sequence[str], told: Told, subject: Subject, key: str | Non
     status, text = told
     is_certificate = status == errors.Paused.status and text.startswith(b"cert ")
     raised = errors.Paused(text) if is_certificate else refusal(read_answer(words, status, text), subject)
-    if isinstance(raised, Refusal):
+    if isinstance(raised, (Refusal, errors.Paused)):
         raised.key = key
     return raised
 

@@ -9,21 +9,25 @@ from typing import Any
 HEAP_TYPE = 1 << 9
 
 
-class Error(Exception):
-    """The base of all exceptions that this module raises."""
+class Carried(Exception):
+    """An exception that goes from process to process with all that it has."""
 
     def __reduce__(self) -> tuple[Any, ...]:
-        """Exceptions go from process to process with all that they have."""
+        """Return what makes the exception again."""
         return made_again, (type(self), self.args, self.__dict__)
 
 
-def made_again(kind: type[Error], words: tuple[Any, ...], values: dict[str, Any]) -> Error:
+class Error(Carried):
+    """The base of all errors that this module raises."""
+
+
+def made_again(kind: type[Carried], words: tuple[Any, ...], values: dict[str, Any]) -> Carried:
     """Return an exception of this kind that has the same words and values."""
     # The class of C below decides how an instance is made; another base may hide it, as MemoryError does.
     static: Any = kind
     while static.__flags__ & HEAP_TYPE:
         static = static.__base__
-    made: Error = static.__new__(kind, *words)
+    made: Carried = static.__new__(kind, *words)
     made.args = words
     made.__dict__.update(values)
     return made
