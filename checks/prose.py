@@ -33,8 +33,6 @@ COMMENTS = "doc comments of crates"
 # What is still to be rewritten by the style guide.
 NOT_YET = {
     COMMENTS,
-    DOCSTRINGS,
-    "python/README.md",
 }
 # Pages that users read: their sentences are shorter.
 USER_PAGES = ("README.md", "docs/FORMATS.md", "docs/index.md", "docs/tutorial/", "docs/howto/", "docs/reference/")
@@ -116,8 +114,10 @@ def docstrings() -> Iterator[str]:
     for module in sorted((TOP / "python" / "popsample").rglob("*.py")):
         for node in ast.walk(ast.parse(module.read_text(encoding="utf-8"))):
             if isinstance(node, (ast.Module, ast.FunctionDef, ast.ClassDef)):
-                text = ast.get_docstring(node) or ""
-                yield from items_of(re.sub(r"(?s)\n\s*(?:>>>|\.\. ).*?(?=\n\s*\n|$)", "", text))
+                text = re.sub(r"(?s)\n\s*(?:>>>|\.\. ).*?(?=\n\s*\n|$)", "", ast.get_docstring(node) or "")
+                # The heading of a section, and the names and the type above what is said of a parameter.
+                text = re.sub(r"(?m)^[A-Z][A-Za-z ]+\n-{3,}$|^[*\w, ]+ : .+$|^[\w., ]+\n(?=    )", "\n", text)
+                yield from items_of(re.sub(r"(?m)^    ", "", text))
 
 
 def comments() -> Iterator[str]:

@@ -54,8 +54,8 @@ def random_spanning_tree(
     tree, without attributes. The seed may be all that networkx takes, and 32 bytes of it are the key of the run.
 
     Raises NotImplementedError if `multiplicative` is False, if the graph is directed, and if weights can't be
-    scaled to whole numbers, of which the cause has the edge; NoWeightError, a KeyError, if an edge has no weight;
-    and what `spanning_tree` raises, as CutOffError if the graph isn't connected.
+    scaled to integers: the message names the edge. Raises NoWeightError, a KeyError, if an edge has no weight, and
+    what `spanning_tree` raises, such as CutOffError if the graph isn't connected.
     """
     import networkx
 

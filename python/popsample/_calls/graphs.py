@@ -54,8 +54,9 @@ def spanning_tree(
     ----------
     graph : GraphLike
         A connected undirected graph: a list of edges (pairs, or triples with a weight or a dict of attributes), an
-        array with an edge in each row, a dict of lists or of dicts, the path of a graph file, what `from_edges` or
-        `from_adjacency` returns, a graph of networkx, igraph or graph-tool, or a symmetric sparse matrix of scipy.
+        array with an edge in each row, or a dict of lists or of dicts. It may also be a graph of networkx, igraph or
+        graph-tool, or a symmetric sparse matrix of scipy. The path of a graph file is read, and so is what `from_edges`
+        or `from_adjacency` returns.
     root : hashable, optional
         The root of the tree. Default: the first vertex.
     weight : str, optional

@@ -40,8 +40,8 @@ def samples(
 ) -> Samples[Any, Any]:
     """Draw many samples of a graph or of a formula, optionally in parallel through an executor.
 
-    Sample I under a key is the same through every door: it is that of the function for one sample with ``sample=I``,
-    and doesn't depend on the executor, the number of threads or processes, or the order in which they end.
+    Sample I under a key is the same through every door. It is that of the function for one sample with ``sample=I``. It
+    doesn't depend on the executor, the number of threads or processes, or the order in which they end.
 
     Parameters
     ----------

@@ -41,6 +41,11 @@ def shown(value: Any) -> str:
     return text if len(text) <= LONGEST else f"{text[:LONGEST]}..."
 
 
+def counted(variables: int) -> str:
+    """Return so many variables in words."""
+    return "1 variable" if variables == 1 else f"{variables} variables"
+
+
 class InputTypeError(ArgumentError, TypeError):
     """A graph, a formula or a part of it is of a kind that isn't read."""
 
@@ -103,7 +108,7 @@ class UnsatisfiableError(ArgumentError):
 
     def __init__(self, clauses: Sequence[int]) -> None:
         super().__init__(
-            f"The {len(clauses)} clauses that are joined to clause {clauses[0]} have {len(clauses) - 1} variables, "
-            "each of which makes at most one of them true, so nothing satisfies all: leave one of the clauses out.",
+            f"The {len(clauses)} clauses that are joined to clause {clauses[0]} have {counted(len(clauses) - 1)}, each of "
+            "which makes at most one of them true, so nothing satisfies all: leave one of the clauses out.",
         )
         self.clauses = tuple(clauses)

@@ -40,9 +40,9 @@ class Arrow(NamedTuple):
     tail, head : hashable
         The vertex that it leaves, and the vertex to which it points.
     edge : hashable
-        The name of the edge: its place in an edge list, from 0; of a networkx graph the pair of its ends, or the triple
-        with its key; of an igraph or graph-tool graph its index; of a matrix the pair of its row and column; of a file
-        its number, from 1.
+        The name of the edge. In an edge list this is its place, from 0, and in a file its number, from 1. A networkx
+        graph has the pair of its ends, or the triple with its key, an igraph or graph-tool graph has its index, and a
+        matrix the pair of its row and column.
     """
 
     tail: Hashable
