@@ -24,5 +24,9 @@ pub mod KeyedMixed
 -- Tries of which the first that gives a sample is kept, and functions of samples
 pub mod Retried
 pub mod Statistics
+-- Tries over the same numbers, with other heights
+mod Cut
+mod Grown
+mod MayEnd
 -- Worked values
 mod Vectors

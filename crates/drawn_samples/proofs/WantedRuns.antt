@@ -121,7 +121,7 @@ module _ (f : Frame) (wanted : List LogRecord → Bool) where
       )
 
   -- so such rows are a kind
-  where_kind : IsFrame f → IsExtremal f.family → IsKind f (SamplesWhere f wanted) WhereAt
+  pub where_kind : IsFrame f → IsExtremal f.family → IsKind f (SamplesWhere f wanted) WhereAt
   where_kind frame extremal = record {
     places = λ w rows. (λ s. (end_at rows s.log, (s, refl)), λ s. s.1.0);
     shape = λ w c rows s. s.0.shape;

@@ -6,3 +6,4 @@ pub mod WholeRuns
 pub mod Mixed
 pub mod Retried
 pub mod Statistics
+pub mod Grown

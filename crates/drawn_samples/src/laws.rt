@@ -7,6 +7,7 @@ ghost use Rattle.drawn_samples.specs.WhereLaws.{WantedRuns, WantedRounds};
 ghost use Rattle.drawn_samples.specs.WhereLaws.{TallerRuns, TallerRounds};
 ghost use Rattle.drawn_samples.specs.WhereLaws.{KeyedWantedRuns, KeyedWantedRounds};
 ghost use Rattle.drawn_samples.specs.Mixed.{MixedRuns, MixedRounds, KeyedMixed};
+ghost use Rattle.drawn_samples.specs.Grown.{GrownRuns, MayEnd};
 ghost use Rattle.drawn_samples.specs.Retried.{RetriedRuns, RetriedRounds};
 ghost use Rattle.drawn_samples.specs.Statistics.{RunStatistics, RoundStatistics};
 ghost use Rattle.drawn_samples.specs.WholeRuns.{RunNumbers, DrawnByLogs, IndependentOfLogs};
@@ -121,6 +122,19 @@ pub fn retried_runs()
 /// The theorem of `retried_runs` holds for rounds, for any listed events.
 pub fn retried_rounds()
     ensures { RetriedRounds }
+{}
+
+/// Trying again over the same numbers is unbiased too: with greater heights, or with other logs that are
+/// wanted, as more pops. What is kept draws from all samples, and a sample of a try is that of each try
+/// with greater heights.
+pub fn grown_runs()
+    ensures { GrownRuns }
+{}
+
+/// Rows of any heights are the first entries of taller ones of which a run ends with a sample, if there is
+/// one. So an exhausted run may end with a sample at a greater height, whatever its entries are.
+pub fn may_end()
+    ensures { MayEnd }
 {}
 
 /// Each value of a function of samples is drawn by the shares of the samples that have it.

@@ -7,8 +7,8 @@
 mod laws;
 
 pub use laws::{
-    drawn_by_logs, drawn_rounds, drawn_rounds_by, drawn_samples, drawn_samples_at,
-    independent_of_logs, keyed_mixed, keyed_wanted_rounds, keyed_wanted_runs, mixed_rounds,
-    mixed_runs, retried_rounds, retried_runs, round_statistics, run_numbers, run_statistics,
-    taller_rounds, taller_runs, wanted_rounds, wanted_runs,
+    drawn_by_logs, drawn_rounds, drawn_rounds_by, drawn_samples, drawn_samples_at, grown_runs,
+    independent_of_logs, keyed_mixed, keyed_wanted_rounds, keyed_wanted_runs, may_end,
+    mixed_rounds, mixed_runs, retried_rounds, retried_runs, round_statistics, run_numbers,
+    run_statistics, taller_rounds, taller_runs, wanted_rounds, wanted_runs,
 };
