@@ -1,3 +1,4 @@
 -- Lemmas of the crate.
+mod FittingCalls
 mod Pushed
 mod Utf8Words

@@ -6,5 +6,8 @@
 mod answering;
 mod drawing;
 mod export;
+mod laws;
 mod orientations_export;
 mod trees_export;
+
+pub use laws::fits_then;
