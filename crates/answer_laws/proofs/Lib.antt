@@ -34,8 +34,10 @@ mod ShownLogs
 mod FirstSample
 pub mod BatchFront
 mod RoundsLikeFormula
+-- SameReading: texts that are read alike. SameLines: texts that say the same are.
 mod ResampleLikeFormula
 mod SameReading
+mod SameLines
 -- Statuses. Finished: with 0 no event occurs; and there is one of a run where nothing stands against words and text.
 -- ShownSamples: with 0 and 1 an end is shown, of all that is sampled, by rounds too (ShownSubjects), and of a batch
 -- (ShownBatches), whatever stands behind it (ShownBehind).
@@ -44,10 +46,12 @@ mod ShownSubjects
 mod ShownBatches
 mod ShownBehind
 mod ShownSamples
--- The exact law of answers. AskedRows: which rows words give. SubjectKinds: what holds of each kind of what is sampled; so
--- the events and weights fit rows of any heights. ExactAnswers: another sample is answered in the place of the printed one.
+-- The exact law of answers. AskedRows: which rows words give. OtherRows: and with which options. SubjectKinds: what holds
+-- of each kind of what is sampled; so the events and weights fit rows of any heights. ExactAnswers: another sample is
+-- answered in the place of the printed one.
 -- EverySample: what satisfies a formula, leaves no sink or leads to the root is a sample; of a formula nothing else is.
 mod AskedRows
+mod OtherRows
 pub mod SubjectKinds
 mod ExactAnswers
 pub mod EverySample
@@ -56,11 +60,13 @@ pub mod EverySample
 mod RoundAnswers
 mod RoundOutputs
 -- KeyAnswers: the law of keys, said of answers. StoppedAnswers: and of runs that are given up.
+-- RetriedAnswers: and of the first sample of several calls.
 -- StatisticAnswers: and of functions of a sample.
 -- TallerAnswers, TallerBatches, TallerRounds: samples stay what they are over taller stacks.
 -- MixedAnswers: batches of which some samples are exhausted. ExhaustedAnswers: when there is no sample.
 pub mod KeyAnswers
 mod StoppedAnswers
+mod RetriedAnswers
 mod StatisticAnswers
 mod TallerAnswers
 mod TallerBatches
@@ -68,10 +74,11 @@ mod TallerRounds
 mod MixedAnswers
 mod ExhaustedAnswers
 -- Printed samples. PrintedApart: different ones print different lines. SpanningTrees: each spanning tree is printed.
--- LoopedEdges: loops of a graph that is oriented. PrintedCounts: equally many words print each sample. ListedOutputs: these
--- are finitely many.
+-- LoopedEdges: loops of a graph that is oriented. PrintedCounts: equally many words print each sample. FoundTrees: what
+-- is asked of a log has a witness. ListedOutputs: so these words are finitely many.
 pub mod PrintedApart
 mod SpanningTrees
 mod LoopedEdges
 mod PrintedCounts
+mod FoundTrees
 mod ListedOutputs

@@ -2,9 +2,11 @@
 -- what is told of it.
 use Rattle.std.proofs.Common.{inl, inr, ◌≡◌, ◌⊎◌, ℕ, ◌<◌, List, [], ◌++◌, length, if◌then◌else◌, Option, None, Some, All, Contains, refl, sym, ap, subst, ◌∙◌, arith}
 use Rattle.std.proofs.lemmas.Bool.{cases_lt}
-use Rattle.pop_model.specs.Logs.{LogRecord, replay}
+use Rattle.pop_model.specs.Logs.{IsLegal, LogRecord}
 use Rattle.pop_model.specs.Runs.{IsFirstEnd, start_of}
-use Rattle.pop_model.proofs.OneRun.{one_first_end}
+use Rattle.pop_model.proofs.OneRun.{first_run_legal, one_first_end}
+use Rattle.pop_log.proofs.LayeredLaws.{layered_is_legal}
+use Rattle.pop_log.proofs.UnitEvents.{family_cubes}
 use Rattle.pop_stacks.specs.Faults.{AreLight}
 use Rattle.pop_samples.specs.Frames.{AreRows, Frame, IsFrame, IsSampleOf, Rows, over}
 use Rattle.pop_samples.specs.Exchange.{SamplesAt, entries_under}
@@ -30,8 +32,6 @@ use Rattle.told_runs.specs.Names.{names_for}
 use Rattle.told_runs.specs.Outcomes.Outcome.{Ended}
 use Rattle.told_runs.specs.Reports.{reports_text}
 use Rattle.told_runs.specs.Tellings.{Telling, records_of}
-use Rattle.told_runs.specs.Witnesses.{IsWitness}
-use Rattle.told_runs.specs.Witnesses.Witness.{Unasked}
 use Rattle.told_runs.proofs.LayeredOrders.{layered_order}
 use Rattle.top_call.specs.Answers.{wanted_by}
 use Rattle.answer_laws.specs.ExactAnswers.{frame_over, over_rows}
@@ -39,6 +39,7 @@ use Rattle.answer_laws.specs.ExactOutputs.{AreTelling, AskOver, ListedOutputs, L
 use Rattle.answer_laws.proofs.ExactAnswers.{sampled_by, sound_rows}
 use Rattle.answer_laws.proofs.PrintedCounts as P
 use Rattle.answer_laws.proofs.PrintedCounts.{IsLike, like_lines, lines_tell}
+use Rattle.answer_laws.proofs.FoundTrees.{found_witness}
 use Rattle.answer_laws.proofs.ToldSubjects.{ended_subject, quiet_ordered}
 
 -- a run ended within so many pops or didn't
@@ -53,7 +54,7 @@ module _ (job : Job) (text : List ℕ) (s : Subject) (has : Contains quiet job.c
     (is : IsSubjectOf job.command (wanted_by job) text s) (tells : AreTelling s.facts) (heights : List ℕ)
     (count : length heights ≡ length s.weights) (some : All (λ h. 0 < h) heights) (words : Rows → List (List ℕ))
     (ws : List Watcher) (ask : AskOver job s.weights heights words) (light : AreLight s.weights)
-    (unasked : job.witness ≡ None) (w : List ℕ) (is_w : IsSampleOf (frame_over s heights) w) where
+    (w : List ℕ) (is_w : IsSampleOf (frame_over s heights) w) where
   -- the frame
   abbrev f : Frame
   f = frame_over s heights
@@ -68,10 +69,15 @@ module _ (job : Job) (text : List ℕ) (s : Subject) (has : Contains quiet job.c
   told_of rows c pops end =
       let log : List LogRecord = end.run.0 in
       let order = layered_order log in
-      let records : List LogRecord = records_of order.0 in (
+      let records : List LogRecord = records_of order.0 in
+      let legal : IsLegal (over f rows) (start_of (over f rows)) records =
+      (layered_is_legal (over f rows) (family_cubes f.family frame.family) (start_of (over f rows)) log records
+      (first_run_legal (over f rows) (start_of (over f rows)) log end.run.1)
+      (record { placed = order.0; sorted = order.1; records = refl })).0 in
+      let witness = found_witness (names_for s.facts) job.witness (over f rows) records legal in (
         record {
           log = if job.log then Some (order.0) else None;
-          witness = Unasked;
+          witness = witness.0;
           reports = reports_text job.reports (log_told records ws);
         },
         record {
@@ -79,13 +85,7 @@ module _ (job : Job) (text : List ℕ) (s : Subject) (has : Contains quiet job.c
           run = end.run.1;
           placed = order.0;
           sorted = order.1;
-          told = record {
-            log_is = refl;
-            witness_is = subst
-                (λ asked. IsWitness (names_for s.facts) asked (replay (start_of (over f rows)) records) records Unasked)
-                (sym unasked) tt;
-            reports_are = refl;
-          };
+          told = record { log_is = refl; witness_is = witness.1; reports_are = refl };
         },
       )
 
@@ -149,8 +149,8 @@ module _ (job : Job) (text : List ℕ) (s : Subject) (has : Contains quiet job.c
 
 -- the law of runs
 pub listed_outputs : ListedOutputs
-listed_outputs job text s heights words ws has is tells light unasked count some ask w is_w =
-    listed job text s has is tells heights count some words ws ask light unasked w is_w
+listed_outputs job text s heights words ws has is tells light count some ask w is_w =
+    listed job text s has is tells heights count some words ws ask light w is_w
 
 -- the law of rounds
 pub listed_round_outputs : ListedRoundOutputs

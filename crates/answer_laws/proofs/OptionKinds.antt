@@ -190,7 +190,7 @@ resampling_tells words job asks is =
 -- ---- stacks
 
 -- the field says what they are
-abbrev of_stacks : Field → Bool
+abbrev pub of_stacks : Field → Bool
 of_stacks Stacks = true
 of_stacks Key = true
 of_stacks field = false

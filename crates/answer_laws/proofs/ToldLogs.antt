@@ -131,7 +131,7 @@ one_first_telling asked ws vs names i cubes extremal t u alike h h' =
 -- ---- before any pop
 
 -- some variable below a number has the name, or none has
-named_or_not : (names : Names) (name n : ℕ) → ((v : ℕ) × (v < n) × (name_of names v ≡ name))
+pub named_or_not : (names : Names) (name n : ℕ) → ((v : ℕ) × (v < n) × (name_of names v ≡ name))
     ⊎ ((v : ℕ) → v < n → name_of names v ≡ name → ⊥)
 named_or_not names name zero = inr (λ v below named. absurd (omega (arith, below)))
 named_or_not names name (suc n) = elim (named_or_not names name n) [

@@ -1,6 +1,6 @@
 -- The exact law on printed bytes: of all words that differ in their rows alone, as many make the
 -- program print one sample as another (Propp and Wilson 1998; Guo, Jerrum and Liu 2019).
-use Rattle.std.specs.Prelude.{◌≡◌, ℕ, ◌<◌, List, ◌++◌, length, codes, All, Contains, None, Ok, ⊤}
+use Rattle.std.specs.Prelude.{◌≡◌, ℕ, ◌<◌, List, ◌++◌, length, codes, All, Contains, Ok, ⊤}
 use Rattle.pop_model.specs.Popping.{Cube}
 use Rattle.pop_model.specs.Text.{line}
 use Rattle.dimacs_read.specs.CnfText.{AnswersCnf, cnf_of}
@@ -81,13 +81,12 @@ ExactRoundOutputs = (job : Job) (text : List ℕ) (events : List (ℕ × Cube)) 
     (FormulaFacts (cnf_of text).variables) x) others
     → length all ≡ length others
 
--- The rows of which such words print a sample are a finite list, where no witness is asked for: so what
--- the law counts is there.
+-- The rows of which such words print a sample are a finite list: so what the law counts is there.
 abbrev pub ListedOutputs : Type 0
 ListedOutputs = (job : Job) (text : List ℕ) (s : Subject) (heights : List ℕ)
     (words : Rows → List (List ℕ)) (watchers : List Watcher)
     → Contains quiet job.command → IsSubjectOf job.command (wanted_by job) text s
-    → AreTelling s.facts → AreLight s.weights → job.witness ≡ None
+    → AreTelling s.facts → AreLight s.weights
     → length heights ≡ length s.weights → All (λ h. 0 < h) heights
     → AskOver job s.weights heights words → (w : List ℕ) → IsSampleOf (frame_over s heights) w
     → (all : List Rows) × AreAll (PrintsOver s.weights heights words watchers text s.facts w) all

@@ -1,6 +1,6 @@
--- The law of keys, said of answers: with which samples the answers to words with a key end. Where each
--- number that an entry may be made of is as likely as another, each answer is drawn by the weights
--- among all samples (Propp and Wilson 1998; Guo, Jerrum and Liu 2019).
+-- The law of keys, said of answers: with which samples the answers to words with a key end. If all
+-- tables of the numbers that entries are made of are equally likely, each answer is drawn by the
+-- weights among all samples (Propp and Wilson 1998; Guo, Jerrum and Liu 2019).
 use Rattle.std.specs.Prelude.{◌≡◌, ◌↔◌, ℕ, ◌≤◌, List, [], ◌∷◌, length, replicate, Contains, unwrap_or}
 use Rattle.rand_chacha.specs.ChaCha.{key_of}
 use Rattle.pop_model.specs.Popping.{Cube, values_at}

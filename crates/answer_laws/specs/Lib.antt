@@ -23,3 +23,6 @@ pub mod ExhaustedAnswers
 pub mod StatisticAnswers
 pub mod ResampleLikeFormula
 pub mod SameReading
+pub mod RetriedAnswers
+pub mod OtherRows
+pub mod SameLines

@@ -5,6 +5,7 @@
 //! proved.
 ghost use Rattle.answer_laws.specs.KeyAnswers.{KeyedAnswers, KeyedRoundAnswers};
 ghost use Rattle.answer_laws.specs.StatisticAnswers.{StatisticAnswers};
+ghost use Rattle.answer_laws.specs.RetriedAnswers.{RetriedAnswers};
 ghost use Rattle.answer_laws.specs.StoppedAnswers.{StoppedAnswers};
 ghost use Rattle.answer_laws.specs.MixedAnswers.{MixedAnswers};
 
@@ -29,6 +30,13 @@ pub fn keyed_round_answers()
 /// numbers of these tables are in the ratio of the shares.
 pub fn stopped_answers()
     ensures { StoppedAnswers }
+{}
+
+/// Trying again is unbiased. Of calls under other keys, with any heights and any limits of pops, keep the
+/// first answer that is a sample. It is this one exactly if it is kept of the keys' own tables, and of all
+/// tables what is kept draws from all samples as one run does.
+pub fn retried_answers()
+    ensures { RetriedAnswers }
 {}
 
 /// A batch under a key ends, sample by sample, as the key's own tables do; and whichever of its samples

@@ -16,6 +16,8 @@ ghost use Rattle.answer_laws.specs.ResampleLikeFormula.{ResampleLikeFormula};
 ghost use Rattle.answer_laws.specs.SameReading.{SameReading};
 ghost use Rattle.answer_laws.specs.Complete.{Complete};
 ghost use Rattle.answer_laws.specs.ExactAnswers.{AskedRows, ExchangedAnswers, ReachedAnswers};
+ghost use Rattle.answer_laws.specs.OtherRows.{AskedOthers};
+ghost use Rattle.answer_laws.specs.SameLines.{SameLines};
 ghost use Rattle.answer_laws.specs.EverySample.{EveryAssignment, EveryOrientation, EveryTree};
 
 /// Arguments without `--pops` and an input have at most one answer, for watchers that report
@@ -206,6 +208,12 @@ pub fn asked_rows()
     ensures { AskedRows }
 {}
 
+/// Words that ask for rows, with any options, may ask for any other rows within these limits instead, and
+/// for no others: all else that the job says stays.
+pub fn asked_others()
+    ensures { AskedOthers }
+{}
+
 /// Samples, in the words of formulas and graphs: each assignment that satisfies a formula, each
 /// orientation of a graph that leaves no vertex a sink, and each spanning tree with its arrows to
 /// the root. So each of these is an answer (`reached_answers`).
@@ -227,4 +235,10 @@ pub fn resample_like_formula()
 /// certificates, which contain the input.
 pub fn same_reading()
     ensures { SameReading }
+{}
+
+/// Texts that say the same are read as the same formula or graph. Comments and empty lines, blanks between
+/// words and carriage returns say nothing.
+pub fn same_lines()
+    ensures { SameLines }
 {}

@@ -9,15 +9,16 @@ mod print_laws;
 mod round_laws;
 
 pub use key_laws::{
-    keyed_answers, keyed_round_answers, mixed_answers, statistic_answers, stopped_answers,
+    keyed_answers, keyed_round_answers, mixed_answers, retried_answers, statistic_answers,
+    stopped_answers,
 };
 pub use laws::{
-    asked_rows, batch_front, complete, every_sample, exchanged_answers, exhausted_answers,
-    exhausted_shown, first_sample, first_sample_of_words, grown_alike, one_answer,
-    one_ended_answer, one_logged_answer, one_outcome, one_shown_log, one_stopped_run,
+    asked_others, asked_rows, batch_front, complete, every_sample, exchanged_answers,
+    exhausted_answers, exhausted_shown, first_sample, first_sample_of_words, grown_alike,
+    one_answer, one_ended_answer, one_logged_answer, one_outcome, one_shown_log, one_stopped_run,
     paused_exactly, reached_answers, resample_like_formula, resumed_alike, resumed_unpaused,
-    rounds_like_formula, same_reading, sample_finished, sample_shown, stages_agree, taller_answers,
-    workers_agree,
+    rounds_like_formula, same_lines, same_reading, sample_finished, sample_shown, stages_agree,
+    taller_answers, workers_agree,
 };
 pub use print_laws::{
     every_spanning_tree, exact_outputs, exact_round_outputs, listed_outputs, listed_round_outputs,

@@ -32,7 +32,7 @@ pub fn exact_round_outputs()
     ensures { ExactRoundOutputs }
 {}
 
-/// The rows of which such words print a sample are finitely many, where no witness is asked for.
+/// The rows of which such words print a sample are finitely many.
 pub fn listed_outputs()
     ensures { ListedOutputs }
 {}
