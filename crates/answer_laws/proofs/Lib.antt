@@ -12,7 +12,7 @@ mod OneRefusal
 mod ToldLogs
 mod OneEnd
 pub mod OneOutcome
-mod MadeBounds
+pub mod MadeBounds
 mod OneReplay
 mod OneWords
 -- ToldSubjects: what an outcome tells of a run, it tells of what is sampled.

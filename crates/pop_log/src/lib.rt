@@ -31,6 +31,7 @@ pub use decimals::number;
 pub use layered_log::{LayeredLog, layered, print_layered};
 pub use layering::layers;
 pub use log_refusal::LogRefusal;
+pub use log_version::LogVersion;
 pub use merging::merge;
 pub use names::Names;
 pub use printing::{number_of_event, print_log};

@@ -1,6 +1,6 @@
 /// The version of a log as text.
 #[derive(Clone, Copy)]
-pub(crate) enum LogVersion {
+pub enum LogVersion {
     /// Version 1: the records in the order of a log.
     Ordered,
     /// Version 2: the records in the layered order, each with its layer.
