@@ -1,4 +1,4 @@
--- An advance keeps the rule: the word's cursor rises by 1, and one advance less is due.
+-- An advance preserves the rule: the word's cursor rises by 1, and one advance less is due.
 use Rattle.std.proofs.Common.{◌≡◌, ℕ, ◌+◌, ◌%◌, ◌^◌, ◌<◌, List, get_or, set, sym, refl, ap, subst, inl, inr, arith, Some}
 use Rattle.claim_words.specs.Plays.{AdvanceTold}
 use mathlib.Core.Option.{some}

@@ -1,4 +1,4 @@
--- What callers use of a claim, and of the room of a log.
+-- What callers use about a claim, and about the room of a log.
 use Rattle.std.proofs.lemmas.Bool.Decides.{nat_tests}
 use Rattle.std.proofs.Common.{cond, le-ltb, ◌≡◌, ℕ, ◌^◌, ◌<◌, ◌≤◌, [], ◌∷◌, ◌++◌, refl, ap, ◌∙◌, arith}
 use Rattle.claim_words.specs.declared.view.View.{View}

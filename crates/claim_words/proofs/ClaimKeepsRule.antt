@@ -1,4 +1,4 @@
--- A claim keeps the rule, and what it tells holds.
+-- A claim preserves the rule, and what it shows holds.
 use Rattle.std.proofs.Common.{◌≡◌, ℕ, ◌+◌, ◌-◌, ◌^◌, ◌<◌, ◌≤◌, Bool, true, false, cond, List, [], ◌∷◌, ◌++◌, get_or, set, sym, refl, ap, ◌∙◌, subst, inl, ⊎_elim, arith, get_or-set_same, lt-ltb, Some, length}
 use Rattle.claim_words.specs.Plays.{ClaimTold}
 use Rattle.claim_words.proofs.SoleKnowsSettled.{none_due}

@@ -1,4 +1,4 @@
--- The variables of a map are the list that a pass keeps; a variable stands once in a cube.
+-- The variables of a map are the list that a pass keeps. A variable is in a cube only once.
 use Rattle.std.proofs.Common.{◌≡◌, ◌≢◌, ℕ, zero, suc, ◌+◌, ◌<◌, ◌≤◌, cond, List, [], ◌∷◌, ◌++◌, length, get_or, take, drop, refl, sym, ap, ◌∙◌, arith, eq-eqb, ne_eqb}
 use Rattle.claim_words.proofs.SharersAreOwed.{find_in, in_contains}
 use Rattle.std.proofs.lemmas.Bool.Decides.{nat_tests}

@@ -1,4 +1,4 @@
--- A pass that holds all variables: what it holds is the list of their cursors, numbered.
+-- A pass that holds all variables: it holds the list of their cursors, numbered.
 use Rattle.std.proofs.Common.{◌≡◌, ℕ, zero, suc, ◌+◌, ◌<◌, ◌≤◌, List, [], ◌∷◌, length, get_or, refl, sym, ap, ◌∙◌, arith, eq-eqb, ne_eqb}
 use Rattle.claim_words.proofs.Memberships.{each_from}
 use Rattle.std.proofs.lemmas.Bool.Decides.{nat_tests}

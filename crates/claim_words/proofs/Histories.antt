@@ -1,4 +1,4 @@
--- What becomes of tickets, entries and marks once the view of a pass changes.
+-- Tickets, entries and marks after the view of a pass changes.
 use Rattle.std.proofs.Common.{◌≡◌, ◌≢◌, ◌⊎◌, ℕ, ◌+◌, ◌<◌, List, get_or, set, sym, ap, ◌∙◌, subst, inl, inr, ⊎_elim, arith}
 use mathlib.Core.Logic.{dite}
 use native.Mathlib.Decide.{ℕ_discrete}

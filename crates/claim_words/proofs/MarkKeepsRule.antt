@@ -1,4 +1,4 @@
--- Taking, setting and clearing a mark keep the rule, and what they tell holds.
+-- To take, set or clear a mark preserves the rule, and what these steps show holds.
 use Rattle.std.proofs.Common.{◌≡◌, ◌≢◌, ◌⊎◌, ℕ, zero, suc, ◌+◌, ◌-◌, ◌<◌, ◌≤◌, Bool, true, false, List, [], ◌∷◌, ◌++◌, length, get_or, set, sym, refl, ap, ◌∙◌, subst, inl, inr, ⊎_elim, arith, cond, eqb, get_or-set_same, get_or-set_other, Option, Some}
 use Rattle.claim_words.specs.Plays.{TakeTold, MarkTold}
 use Rattle.std.proofs.lemmas.Bool.Decides.{nat_tests}

@@ -1,4 +1,4 @@
--- A variable that a pass holds, and the pass once it lets go of it.
+-- A variable that a pass holds, and the pass after it releases the variable.
 use Rattle.std.proofs.Common.{arith, ℕ, ap, sym, ◌∙◌, ◌≡◌, ◌<◌, List, Option}
 use Rattle.pop_model.specs.Popping.{variables}
 use Rattle.claim_words.specs.declared.board.Board.{Board}

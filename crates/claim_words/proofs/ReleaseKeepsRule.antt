@@ -1,4 +1,4 @@
--- A release keeps the rule.
+-- A release preserves the rule.
 use Rattle.std.proofs.Common.{◌≡◌, ℕ, ◌+◌, ◌-◌, ◌%◌, ◌^◌, ◌<◌, List, length, get_or, set, sym, refl, subst, inl, inr, arith, Some}
 use Rattle.std.specs.Int.Bits.{bit_and}
 use Rattle.atomic_table.specs.Table.{Me, keeps, Allows}

@@ -1,4 +1,4 @@
--- A settle keeps the rule: what may be settled leads on, through settled variables.
+-- A settle preserves the rule: from a variable that may be settled the arrows lead on through settled variables.
 use Rattle.std.proofs.Common.{◌≡◌, ℕ, ◌+◌, ◌^◌, ◌<◌, ◌≤◌, List, length, get_or, set, sym, refl, ap, ◌∙◌, subst, inl, inr, arith, get_or-set_same, Some, None, false}
 use Rattle.claim_words.specs.Plays.{SettleTold}
 use mathlib.Core.Option.{some}

@@ -1,5 +1,5 @@
--- On a sole pass the records are a legal log, and no cycle that is poppable at its end has a variable that the pass
--- knows to be settled.
+-- For a pass that is the only one, the records are a legal log. No cycle that is poppable at its end has a variable
+-- that the pass knows to be settled.
 use Rattle.std.proofs.Common.{◌≡◌, ℕ, ◌+◌, ◌<◌, ◌≤◌, true, false, get_or, refl, sym, ap, ◌∙◌, subst, arith, Some}
 use mathlib.Core.Logic.{dite}
 use mathlib.Core.Option.{some}

@@ -1,4 +1,4 @@
--- A split and a join keep the rule: they change no word, and all sums over the views stay.
+-- A split and a join preserve the rule: they change no word, and all sums over the views stay.
 use Rattle.std.proofs.Common.{◌≡◌, ℕ, ◌+◌, ◌<◌, ◌≤◌, ◌≢◌, List, [], ◌∷◌, ◌++◌, set, sym, refl, ap, ◌∙◌, subst, inl, inr, ⊎_elim, arith, Some}
 use mathlib.Core.Option.{some}
 use lib.ListN.{get_elem?}

@@ -1,4 +1,4 @@
--- A load tells that a board started from a cursor for each variable.
+-- A load shows that a board started from a cursor for each variable.
 use Rattle.std.proofs.Common.{◌≡◌, ℕ, Some, sym, refl, ◌∙◌, subst, length}
 use Rattle.std.proofs.lemmas.Option.{same_Some}
 use Rattle.atomic_table.specs.Table.{Me, keeps, Allows}

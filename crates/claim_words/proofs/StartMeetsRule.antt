@@ -1,4 +1,4 @@
--- The words of a board at its start meet the rule, with the view of its first pass.
+-- The words of a board at its start satisfy the rule, with the view of its first pass.
 use Rattle.std.proofs.Common.{◌≡◌, ℕ, suc, ◌+◌, ◌^◌, ◌<◌, List, [], ◌∷◌, ◌++◌, length, get_or, sym, refl, ap, ◌∙◌, subst, inl, ⊎_elim, arith, replicate}
 use mathlib.Core.Option.{some, some-ne-none}
 use lib.ListN.{get_elem?}

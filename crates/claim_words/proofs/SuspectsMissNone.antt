@@ -1,5 +1,5 @@
--- The suspects that the words have are those that a sole pass knows, and no poppable event is missed: the variables
--- that are not settled, and the units that are marked, are among them.
+-- The suspects that the words have are those that a pass that is the only one knows. No poppable event is missed: the
+-- variables that are not settled, and the units that are marked, are among them.
 use Rattle.std.proofs.Common.{ap₂, not, Bool, ◌≡◌, ℕ, zero, suc, ◌+◌, ◌<◌, true, false, List, [], ◌∷◌, ◌++◌, length, get_or, Contains, cond, refl, sym, ap, ◌∙◌, subst, arith, lt-ltb, le-ltb, eqb, eq-eqb, ne_eqb, ⊎_elim, ◌^◌, ◌-◌}
 use mathlib.Core.Logic.{dite}
 use native.Mathlib.Decide.{ℕ_discrete}

@@ -1,8 +1,7 @@
--- A ticket keeps the rule, and what it tells holds.
+-- A ticket preserves the rule, and what it shows holds.
 --
--- The entries that the new record uses are the held cursors, which are the abstract cursors of the
--- event's variables; these rise by 1, since their advances are due from now on. So each entry is used
--- once, in the order of the tickets.
+-- The entries that the new record uses are the held cursors, which are the abstract cursors of the event's variables.
+-- These rise by 1, since their advances are due from now on. So each entry is used once, in the order of the tickets.
 use Rattle.std.proofs.Common.{◌≡◌, ℕ, suc, ◌+◌, ◌%◌, ◌^◌, ◌<◌, ◌≤◌, ◌≢◌, ◌⊎◌, List, [], ◌∷◌, length, get_or, set, sym, refl, ap, ◌∙◌, subst, inl, inr, ⊎_elim, arith, get_or-set_same, get_or-set_other, Option, Some, map}
 use Rattle.claim_words.specs.Plays.{TicketTold}
 use Rattle.std.proofs.lemmas.Bool.Decides.{nat_tests}

@@ -1,10 +1,9 @@
 -- The tickets of a pass that has the whole history are a legal log, in their order.
 --
--- By induction over the tickets: the records of the tickets below n lead from the start to cursors
--- which are, for each variable, the start and as many more as these records have entries of it
--- (`replayed`). An entry of ticket n stands just above those (`placed`), since of two entries of one
--- variable the lesser has the lower ticket, and the entries have no gap. So the record of ticket n is
--- legal there (`legal_there`).
+-- The proof is by induction over the tickets. The records of the tickets below n lead from the start to cursors. For
+-- each variable these are the start and the number of entries of the variable in these records (`replayed`). An entry
+-- of ticket n is exactly above those (`placed`): of two entries of one variable the lower has the lower ticket, and
+-- the entries have no gap. So the record of ticket n is legal there (`legal_there`).
 use Rattle.std.proofs.Common.{◌≡◌, ℕ, zero, suc, ◌+◌, ◌<◌, ◌≤◌, ◌≢◌, List, [], ◌∷◌, ◌++◌, sym, refl, ap, ◌∙◌, subst, inl, inr, ⊎_elim, arith, eq-eqb, ap₂, All, length}
 use Rattle.std.proofs.lemmas.Bool.Decides.{nat_tests}
 use Rattle.std.proofs.lemmas.List.Elements.{All-cons}

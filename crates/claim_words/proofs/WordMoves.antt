@@ -1,10 +1,10 @@
--- One word changes, with the view of one pass. What holds of the other words and views stays.
+-- One word changes, with the view of one pass. Properties of the other words and views stay.
 --
--- Each such step keeps the rule by `framed`. It asks what becomes of each variable (`Moved`), which is
--- nothing but for the one whose word it is (`one_moves`, `none_moves`), that the view of the pass agrees
--- with the words, and the histories' and the marks' parts of the rule. Those stay where no abstract cursor
--- rises, no ticket is drawn (`unticketed`) and no mark changes (`moved`): at a claim, a release, an advance
--- and a settle.
+-- Each such step preserves the rule by `framed`. This needs three facts. The first is the change of each variable
+-- (`Moved`), which is none except for the variable of the word (`one_moves`, `none_moves`). The second is that the
+-- view of the pass agrees with the words. The third is the part of the rule about histories and marks. That part stays
+-- if no abstract cursor rises, no ticket is drawn (`unticketed`) and no mark changes (`moved`): at a claim, a release,
+-- an advance and a settle.
 use Rattle.std.proofs.Common.{◌≡◌, ℕ, ◌+◌, ◌<◌, ◌≤◌, ◌≢◌, ◌⊎◌, List, get_or, set, sym, refl, ap, ◌∙◌, subst, inl, inr, ⊎_elim, arith, length-set, get_or-set_other, Some, None, length, false}
 use Rattle.claim_words.proofs.Memberships.{each-in}
 use mathlib.Core.Option.{some}

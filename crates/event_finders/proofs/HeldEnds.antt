@@ -1,5 +1,5 @@
--- A pass gives back, or settles, what it claimed last. What it holds of a list of variables are then the first ones, up
--- to a place n; before that it held one more.
+-- A pass gives back, or settles, what it claimed last. From a list of variables it then holds the first ones, up to a
+-- place n. Before that it held one more.
 use Rattle.std.proofs.Common.{◌≡◌, ℕ, ◌+◌, ◌<◌, ◌≤◌, List, [], ◌∷◌, ◌++◌, length, take, take_all, get_or, slice_get, Some, sym, ap, ◌∙◌, arith}
 use Rattle.std.proofs.lemmas.List.{take_more, get_or-take, length-take}
 use Rattle.std.proofs.lemmas.Option.{slice_get_within, get_or_from_slice_get}

@@ -1,4 +1,4 @@
--- Idle comes exactly where the mark that was found is 0: the mark's word has one entry at most.
+-- `Idle` is the result if and only if the mark that was found is 0: the mark's word has at most one entry.
 use Rattle.std.proofs.Common.{◌≡◌, ◌↔◌, ℕ, ◌≤◌, [], drop, length, refl, sym, ap, ◌∙◌, subst, inl, arith}
 use Rattle.std.proofs.lemmas.List.{drop_all, drop_at}
 use Rattle.claim_words.specs.declared.view.View.{View}

@@ -1,5 +1,5 @@
--- The least variable at its last entry, among the first variables of a cube. As the variables rise, the first that is
--- found stays the least.
+-- The lowest variable at its last entry, among the first variables of a cube. As the variables increase, the first
+-- that is found stays the lowest.
 use Rattle.std.proofs.Common.{◌≡◌, ◌⊎◌, ℕ, ◌+◌, ◌<◌, ◌^◌, true, [], ◌∷◌, ◌++◌, take, Some, None, Option, MatchOption, sym, ap, ◌∙◌, subst, inl, inr, ⊎_elim, arith}
 use Rattle.std.specs.Option.{option_or}
 use Rattle.pop_model.specs.Stacks.{height_of}

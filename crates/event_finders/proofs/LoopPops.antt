@@ -1,4 +1,4 @@
--- The pop of the loop that a path closes: it may be made, and moves on the cursors of the path from the loop on.
+-- The pop of the loop that a path closes: it is legal, and moves the cursors of the path from the loop on.
 use Rattle.std.proofs.Common.{inl, inr, ◌≡◌, ℕ, zero, suc, ◌+◌, ◌<◌, ◌≤◌, Bool, true, false, List, [], ◌∷◌, ◌++◌, length, map, take, slice_get, Option, Some, cond, eq-eqb, ne_eqb, refl, sym, ap, subst, ◌∙◌, arith, Contains}
 use mathlib.Core.Logic.{dite}
 use native.Mathlib.Decide.{ℕ_discrete}

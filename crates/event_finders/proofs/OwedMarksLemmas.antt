@@ -1,6 +1,6 @@
--- Units that are marked are owed no more. A pop owes the marks of the units whose events share a variable with the
--- popped cube; the index has just these units in the rows of the cube's variables. So once the rows of the first
--- variables are marked, what is still owed shares one of the variables that are left.
+-- Units that are marked are no longer owed. A pop owes the marks of the units with events that share a variable with
+-- the popped cube. The index has exactly these units in the rows of the cube's variables. So after the rows of the
+-- first variables are marked, the units that are still owed share one of the other variables.
 use Rattle.std.proofs.Common.{◌≡◌, ◌≢◌, ◌⊎◌, ℕ, ◌<◌, true, List, [], ◌∷◌, ◌++◌, length, slice_index_or, refl, sym, ap, ◌∙◌, subst, inl, inr, ⊎_elim, arith, append_assoc, append-nil}
 use mathlib.Core.Logic.{dite}
 use native.Mathlib.Decide.{ℕ_discrete}

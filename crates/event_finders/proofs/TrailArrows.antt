@@ -1,4 +1,4 @@
--- Arrows that lead along a path, as it grows and shrinks at its end; and where its last one leads.
+-- Arrows that lead along a path, as it grows and shrinks at its end, and where its last one leads.
 use Rattle.std.proofs.Common.{inl, inr, ◌≡◌, ℕ, suc, ◌+◌, ◌-◌, ◌<◌, ◌≤◌, List, [], ◌∷◌, ◌++◌, length, get_or, Some, None, take, sym, ap, subst, ◌∙◌, arith}
 use Rattle.std.proofs.lemmas.Bool.{cases_lt}
 use Rattle.std.proofs.lemmas.List.{get_or_default, get_or-take, get_or_push, get_or_append_left, length-take, length_push}

@@ -1,4 +1,4 @@
--- Paths that grow and shrink at their end, on which no variable stands twice.
+-- Paths that grow and shrink at their end, and have no variable twice.
 use Rattle.std.proofs.Common.{inl, inr, ◌≡◌, ℕ, zero, suc, ◌+◌, ◌-◌, ◌<◌, ◌≤◌, List, [], ◌∷◌, ◌++◌, length, map, take, get_or, cond, ◌==◌, refl, sym, ap, subst, ◌∙◌, arith}
 use Rattle.std.proofs.lemmas.Bool.{cases_eq, cases_lt}
 use Rattle.std.proofs.lemmas.List.{length-map, take-map, length_push, get_or_push, get_or_append_left}

@@ -1,5 +1,5 @@
--- Walks whose path is released or settled from its end: which part of it is left, and that what stands last then may be
--- settled, since its arrow leads to what was settled before it.
+-- Walks with a path that is released or settled from its end: which part of it is left. The last variable may then be
+-- settled, since its arrow leads to a variable that was settled before.
 use Rattle.std.proofs.Common.{inl, inr, ◌≡◌, ℕ, suc, ◌+◌, ◌-◌, ◌<◌, ◌≤◌, [], ◌∷◌, ◌++◌, length, take, drop, take_all, get_or, refl, Some, sym, ap, subst, ◌∙◌, arith}
 use Rattle.std.proofs.lemmas.Bool.{cases_lt}
 use Rattle.std.proofs.lemmas.List.{take_at, take-take, drop_all, drop_more, get_or-take, get_or_push, length_push, length-take}

@@ -1,6 +1,6 @@
--- The claims of an event's variables, one more: what seen gained, what is held, and what is known of the variables
--- that were claimed before. These are others than the next, since a cube's variables rise; so its claim leaves their
--- cursors as they were found.
+-- One more claim of an event's variables: what `seen` gained, what is held, and what is known about the variables that
+-- were claimed before. These differ from the next, since a cube's variables increase. So its claim does not change
+-- their cursors.
 use Rattle.std.proofs.Common.{◌≡◌, ◌≢◌, ℕ, ◌+◌, ◌<◌, ◌≤◌, ◌^◌, List, [], ◌∷◌, ◌++◌, take, drop, length, map, slice_get, Some, refl, sym, ap, ◌∙◌, subst, inl, arith, lt-ltb, append_assoc}
 use mathlib.Core.Logic.{dite}
 use native.Mathlib.Decide.{ℕ_discrete}

@@ -1,4 +1,4 @@
--- What a try at a unit answers, from what its claims showed.
+-- The result of a try at a unit, from what its claims showed.
 use Rattle.std.proofs.Common.{◌≡◌, ◌≢◌, ◌⊎◌, ℕ, ◌+◌, ◌<◌, ◌≤◌, false, List, [], ◌∷◌, map, slice_get, Some, refl, sym, ap, ◌∙◌, subst, inl, inr, arith}
 use Rattle.pop_model.specs.Stacks.{value_at, height_of}
 use Rattle.pop_model.specs.Popping.{Cube, IsPoppable, cursor}

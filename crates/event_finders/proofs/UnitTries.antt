@@ -1,4 +1,4 @@
--- What a try at the event of a unit comes to, by what its claims showed.
+-- All results of a try at the event of a unit, by what its claims showed.
 use Rattle.std.proofs.Common.{◌≡◌, ◌≢◌, ℕ, ◌<◌, true, false, List, [], ◌∷◌, ◌++◌, drop, length, slice_get, Option, Some, refl, sym, ap, ◌∙◌, subst, arith, append-nil}
 use mathlib.Core.Logic.{dite}
 use native.Mathlib.Decide.{ℕ_discrete}

@@ -1,4 +1,4 @@
--- What a claim of a variable does to the parts of a view that a walk looks at.
+-- How a claim of a variable changes the parts of a view that a walk reads.
 use Rattle.std.proofs.Common.{inr, Bool, ◌≡◌, ◌≢◌, ℕ, ◌<◌, true, false, [], ◌∷◌, ◌++◌, length, cond, sym, ap, subst, ◌∙◌, arith}
 use Rattle.pop_model.specs.Popping.{variables}
 use Rattle.claim_words.specs.Words.{cursor_in, is_settled}

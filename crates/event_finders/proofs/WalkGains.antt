@@ -1,4 +1,4 @@
--- What a walk gains, round by round, and what its answer says.
+-- What a walk gains, round by round, and the meaning of its result.
 use Rattle.std.proofs.Common.{inl, inr, ◌≡◌, ◌⊎◌, ℕ, ◌+◌, ◌<◌, ◌≤◌, List, [], ◌∷◌, ◌++◌, length, refl, sym, ap, subst, ◌∙◌, arith, append_assoc, append-nil}
 use Rattle.std.proofs.lemmas.List.{length_push}
 use Rattle.pop_model.specs.Families.{IsEvent}

@@ -1,5 +1,5 @@
--- Where a walk stands after the pop of a loop that its path closed: on the path up to the variable where it closed,
--- whose cursor moved on.
+-- The state of a walk after the pop of a loop that its path closed: on the path up to the variable at which it closed,
+-- with a cursor that moved on.
 use Rattle.std.proofs.Common.{◌≡◌, ℕ, suc, ◌+◌, ◌<◌, List, [], ◌∷◌, ◌++◌, length, take, get_or, sym, ap, subst, ◌∙◌, arith}
 use Rattle.std.proofs.lemmas.List.{get_or-take, length-take, length_push, take_more}
 use Rattle.pop_model.specs.Popping.{variables}

@@ -1,4 +1,4 @@
--- What a try at a unit sees: one mark, and the words of some first variables of its event. All are different words.
+-- What a try at a unit sees: one mark, and the words of the first variables of its event. All are different words.
 use Rattle.std.proofs.Common.{◌≡◌, ◌==◌, ℕ, zero, suc, ◌-◌, ◌≤◌, Bool, cond, List, Some, [], ◌∷◌, ◌++◌, take, drop, length, refl, sym, ap, ◌∙◌, subst, inl, inr, arith, append_assoc}
 use mathlib.Core.Logic.{dite}
 use native.Mathlib.Decide.{ℕ_discrete}

@@ -1,4 +1,4 @@
--- Carrying: an error that is passed on, and refusals of a part that are refusals of the whole.
+-- Carrying: an error that is passed on, and errors of a part that are errors of the whole.
 pub mod Carrying
 -- RefusedTexts: how a text is refused that its grammar refuses.
 pub mod RefusedTexts

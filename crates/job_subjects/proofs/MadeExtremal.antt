@@ -1,5 +1,5 @@
--- What is sampled is extremal, but where it is resampled, or by rounds; and a text that is read is within the limit on its
--- length.
+-- The instance to sample is extremal, except for `resample` and `rounds`. An input that is read is within the limit of
+-- its length.
 use Rattle.std.proofs.Common.{◌≡◌, ◌≢◌, ◌≤◌, ℕ, false, List, length, Option, Result, IfOk, refl, sym, subst}
 use Rattle.std.proofs.lemmas.Result.{IfOk-weaker}
 use Rattle.pop_model.specs.Stacks.{Origin}

@@ -1,4 +1,4 @@
--- The instances that the program makes are those of the definitions, and can be told.
+-- The instances that the program makes are those of the definitions, and can be printed.
 use Rattle.std.proofs.Common.{◌≡◌, ℕ, zero, suc, ◌-◌, ◌*◌, ◌<◌, ◌≤◌, Bool, List, [], Option, Result, IfOk, length, get_or, refl, sym, ap, subst, ◌∙◌, arith, zero-add}
 use Rattle.std.proofs.lemmas.List.{length-map}
 use Rattle.std.proofs.lemmas.Result.{IfOk-weaker}

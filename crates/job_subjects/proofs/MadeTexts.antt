@@ -1,4 +1,5 @@
--- What is made of a formula or a graph is what is made of the text that spells it, and what refuses one refuses the text.
+-- What is made from a formula or a graph is what is made from its input, and the error of one is the error of the
+-- input.
 use Rattle.std.proofs.Common.{inl, inr, ◌≡◌, ◌⊎◌, ℕ, List, Result, IfOk, IfErr, sym, subst}
 use Rattle.std.proofs.lemmas.Result.{IfOk-weaker}
 use Rattle.pop_words.specs.declared.command.Command.{Command}

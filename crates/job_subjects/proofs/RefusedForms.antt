@@ -1,4 +1,4 @@
--- Why a formula, a graph or a grid is refused, by the part that refuses it.
+-- The error of a formula, a graph or a grid, by the part that has it.
 use Rattle.std.proofs.Common.{inl, inr, ◌≡◌, ℕ, ◌≤◌, Bool, true, false, List, length, Option, refl, subst}
 use Rattle.pop_model.specs.Stacks.{Origin}
 use Rattle.pop_model.specs.Popping.{Cube}

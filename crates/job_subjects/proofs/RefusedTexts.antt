@@ -1,4 +1,4 @@
--- How a text is refused that its grammar refuses, and one that is lent.
+-- The error of an input that its grammar rejects, and of one that is lent.
 use Rattle.std.proofs.Common.{inl, inr, ◌≡◌, Result, Ok, Err, IfErr, MatchResult, refl, sym, ap, subst, arith}
 use Rattle.std.specs.Result.{IsErrAnd, IsErrOf}
 use Rattle.pop_model.specs.Faults.{Rose}

@@ -1,4 +1,4 @@
--- What a text, a formula, a graph or its stacks are refused by is told: it is no refusal of words, and no stop.
+-- The error of an input, a formula, a graph or its stacks is printed: it is not an error of arguments, and not a stop.
 use Rattle.std.specs.Prelude.{⊤}
 use Rattle.std.proofs.Common.{inl, inr, ◌≡◌, ℕ, Bool, true, false, List, Option, sym, subst}
 use Rattle.pop_model.specs.Stacks.{Origin}

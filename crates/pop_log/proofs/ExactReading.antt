@@ -1,7 +1,7 @@
--- The text of a legal log isn't refused. It has the lines of its records, which may be written, so no line is
--- malformed. Were one of its records not legal, the records before it would be those of the log, since what is
--- printed of legal records determines them, and so would it be the log's next, which is legal. In version 2 the
--- records with their layers are those that were written, so that none is the first that isn't layered.
+-- The text of a legal log is not rejected. It has the lines of its records, which may be written, so no line is
+-- malformed. Suppose that one of its records is not legal. What is printed of legal records determines them, so the
+-- records before it are those of the log, and it is the log's next, which is legal. In version 2 the records with
+-- their layers are those that were written, so none is the first that is not layered.
 use Rattle.std.proofs.Common.{inl, inr, ◌≡◌, ℕ, ◌^◌, ◌≤◌, List, [], ◌∷◌, ◌++◌, length, map, flat_map, refl, sym, ap, ap₂, subst, ◌∙◌, arith, append_assoc}
 use Rattle.std.specs.List.{AllByRecursion}
 use Rattle.std.proofs.lemmas.List.{length-map, append-nil}

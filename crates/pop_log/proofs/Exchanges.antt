@@ -1,6 +1,6 @@
--- Exchanging two neighbours that share no variable: the log stays legal, its replay stays, and so does the layer of
--- each record. The layer of a record depends on what stands before it and not on its order; and of two neighbours
--- that share no variable neither has a say in the layer of the other.
+-- Two neighbours that share no variable are exchanged: the log stays legal, and its replay and the layer of each
+-- record stay the same. The layer of a record depends on the records before it and not on their order. Of two
+-- neighbours that share no variable neither affects the layer of the other.
 use Rattle.std.proofs.Common.{inl, inr, ◌≡◌, ℕ, List, [], ◌∷◌, ◌++◌, map, zip, refl, sym, ap, subst, ◌∙◌, Contains}
 use Rattle.std.proofs.lemmas.List.Elements.{Contains-append_left, Contains-push, Contains-push_cases}
 use Rattle.pop_model.specs.Popping.{Cube, pop}

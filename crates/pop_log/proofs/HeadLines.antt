@@ -1,4 +1,4 @@
--- A first line says one version and one count: its number ends where its line does.
+-- A first line has one version and one count: its number ends where its line does.
 use Rattle.std.proofs.Common.{inl, ◌≡◌, ℕ, suc, ◌^◌, ◌<◌, List, [], ◌∷◌, ◌++◌, refl, sym, ap, ◌∙◌, arith, codes, decimal}
 use Rattle.std.proofs.lemmas.List.{append_cancel_left}
 use Rattle.pop_model.specs.Text.{line}

@@ -1,5 +1,5 @@
--- A list that stands in a strict order is determined by its members: the heads of two such lists with the same members
--- are the same, since each is a member of the other list and neither is less than the other, and so are the tails.
+-- A list in a strict order is determined by its members. Take two such lists with the same members. Their heads are
+-- equal, since each is a member of the other list and neither is less than the other. So their tails are equal too.
 use Rattle.std.proofs.Common.{inl, inr, ◌≡◌, List, [], ◌∷◌, refl, sym, ap₂, subst, ◌∙◌, arith, Contains, AllPairs}
 use Rattle.pop_model.proofs.Rising.{member_cases, head_member, tail_member, AreMembers}
 use Rattle.pop_model.proofs.Members.{pairs_tail}

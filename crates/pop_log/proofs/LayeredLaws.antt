@@ -1,5 +1,5 @@
--- The layered log of a legal log: it is legal with the same replay, it is layered as it stands, and all legal logs of
--- an extremal instance from one vector to ends have one layered log.
+-- The layered log of a legal log is legal with the same replay, and is in layered order. All legal logs of an extremal
+-- instance from the same cursors to ends have one layered log.
 use Rattle.std.proofs.Common.{inl, inr, ◌≡◌, ℕ, List, [], ◌∷◌, ◌++◌, map, zip, sym, subst, arith, Contains, AllPairs}
 use Rattle.std.proofs.lemmas.List.{append_assoc}
 use Rattle.std.proofs.lemmas.List.Elements.{Contains-push}

@@ -1,7 +1,7 @@
--- The layered log. Records that depend stand in the order of their layers both in the log and sorted by layer and unit,
--- so the layered log is a reordering of the log: it is legal, has the same replay, and each record has its layer in it.
--- In a legal log two records of one layer have different units, so sorting leaves no choice; and reorderings of one log
--- have the same records with the same layers, so they have one layered log.
+-- The layered log. Records that depend on one another are in the order of their layers both in the log and after the
+-- sort by layer and unit. So the layered log is a reordering of the log: it is legal, has the same replay, and each
+-- record has its layer in it. In a legal log two records of one layer have different units, so there is only one
+-- sorted order. Reorderings of one log have the same records with the same layers, so they have one layered log.
 use Rattle.std.proofs.Common.{inl, inr, ◌≡◌, ◌⊎◌, ℕ, ◌<◌, ◌≤◌, Bool, true, false, eqb, ◌&&◌, List, [], ◌∷◌, ◌++◌, map, zip, length, get_or, refl, sym, ap, subst, ◌∙◌, arith, Contains, AllPairs, true≢false, eqb-true, eq-eqb, is_lt}
 use Rattle.std.specs.List.{IsDistinct}
 use Rattle.std.specs.Cmp.{IsTotalOrder, IsStrictWeakOrder}

@@ -1,4 +1,4 @@
--- The records of a legal log name variables of the instance, and can be printed as they stand in memory.
+-- The records of a legal log name variables of the instance, and can be printed in their order.
 use Rattle.std.proofs.Common.{◌≡◌, ℕ, ◌<◌, List, [], ◌∷◌, ◌++◌, map, flat_map, length, get_or, sym, ap, ap₂, subst, refl, ◌∙◌, arith, All}
 use Rattle.std.proofs.lemmas.List.{length-map, get_or-map}
 use Rattle.std.proofs.lemmas.List.Elements.{Contains-get_or}

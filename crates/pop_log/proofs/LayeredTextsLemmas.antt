@@ -1,4 +1,4 @@
--- Records of a legal log with their layers are determined by what is written of them: layers are written as they are,
+-- The written form of the records of a legal log with their layers determines them: layers are written as they are,
 -- and what is printed of legal records determines these.
 use Rattle.std.proofs.Common.{◌≡◌, ℕ, List, [], ◌∷◌, map, refl, sym, ap, ap₂, ◌∙◌}
 use Rattle.pop_model.specs.Families.{Family}

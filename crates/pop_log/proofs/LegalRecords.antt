@@ -1,6 +1,6 @@
--- A legal record may be printed: its event is one of the family, and its entries are below heights of 31 bits. So may
--- the records of a log that is layered as it stands, whose layers are from 1 to their number. What is printed of legal
--- records determines them, so that behind a front of a legal log no other record is printed as the log's next.
+-- A legal record may be printed: its event is one of the family, and its entries are below heights of 31 bits. The
+-- same holds for the records of a log in layered order, with layers from 1 to their number. What is printed of legal
+-- records determines them. So after a prefix of a legal log no other record is printed like the log's next.
 use Rattle.std.proofs.Common.{inl, inr, ◌≡◌, ℕ, ◌+◌, ◌^◌, ◌<◌, ◌≤◌, List, [], ◌∷◌, ◌++◌, length, map, Some, get_or, sym, ap, subst, ◌∙◌, arith, All, Contains, refl}
 use Rattle.std.specs.List.{AllByRecursion, zip}
 use Rattle.std.proofs.lemmas.List.{length-map, get_or-map}

@@ -1,4 +1,4 @@
--- Fronts of lists
+-- Prefixes of lists.
 pub mod Fronts
 -- Logs: merged from tickets, replayed. UnitEvents: events of one unit share a variable.
 pub mod SortedTickets

@@ -1,5 +1,5 @@
--- A log text is read in one way: a number ends where a byte isn't a digit, so the numbers of equal texts are equal one
--- by one.
+-- A log text is read in only one way: a number ends where a byte is not a digit, so the numbers of equal texts are
+-- equal one by one.
 use Rattle.std.proofs.Common.{inl, inr, ◌≡◌, ◌⊎◌, ℕ, suc, ◌+◌, ◌%◌, ◌^◌, ◌<◌, List, [], ◌∷◌, ◌++◌, length, map, flat_map, refl, sym, ap, ap₂, subst, ◌∙◌, arith, append_assoc, codes}
 use Rattle.std.specs.Fmt.{decimal}
 use Rattle.std.proofs.lemmas.Fmt.{decimal_by_steps, decimal_injective}

@@ -1,5 +1,5 @@
--- A text of version 2 is that of one list of records with layers: its lines are theirs, and lines are those of one
--- list.
+-- A text of version 2 is that of at most one list of records with layers: its lines are theirs, and lines determine
+-- such a list.
 use Rattle.std.proofs.Common.{◌≡◌, List, [], map, refl, sym, subst, arith}
 use Rattle.std.proofs.lemmas.List.{length-map}
 use Rattle.pop_model.specs.Instances.{Instance, IsInstance}

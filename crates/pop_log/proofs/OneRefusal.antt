@@ -1,6 +1,6 @@
--- A text is refused in one way, but for want of memory. Of two lines one is before the other, which may stand up to
--- there. Of two records that aren't legal one is before the other, so that it is one of a legal log; and so with the
--- first that isn't layered as it is written.
+-- A text has at most one error, apart from a lack of memory. Of two lines one is before the other, and the lines up to
+-- there may be there. Of two records that are not legal one is before the other, so that it is one of a legal log. The
+-- same holds for the first that is not layered as it is written.
 use Rattle.std.proofs.Common.{inl, inr, ◌≡◌, ◌≢◌, ℕ, zero, suc, ◌^◌, ◌<◌, ◌≤◌, List, [], ◌∷◌, ◌++◌, length, map, take, refl, sym, ap, ap₂, subst, ◌∙◌, arith}
 use Rattle.std.specs.List.{AllByRecursion}
 use Rattle.std.proofs.lemmas.Bool.{cases_lt}

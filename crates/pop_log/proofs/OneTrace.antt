@@ -1,6 +1,6 @@
--- On an extremal instance any two legal logs from one vector to ends are reorderings of one another: an event that is
--- poppable at the start is popped in each such log, and no event before that pop shares a variable with it, so its
--- record can be brought to the front.
+-- On an extremal instance any two legal logs from the same cursors to ends are reorderings of one another. An event
+-- that is poppable at the start is popped in each such log. No event before that pop shares a variable with it, so its
+-- record can be moved to the front.
 use Rattle.std.proofs.Common.{inl, inr, ◌≡◌, ◌≢◌, ℕ, List, [], ◌∷◌, sym, ap, subst, ◌∙◌}
 use Rattle.pop_model.specs.Popping.{IsPoppable, pop}
 use Rattle.pop_model.specs.Families.{Event, IsEvent}

@@ -1,4 +1,4 @@
--- Records with their layers are sorted where they stand in memory, and so are their images.
+-- Records with their layers are sorted in memory, and so are their images.
 use Rattle.std.proofs.Common.{inl, inr, ◌≡◌, ℕ, zero, suc, ◌+◌, Bool, false, cond, ◌≤◌, List, [], ◌∷◌, ◌++◌, map, zip, filter, length, get_or, take, take_all, Some, slice_get, refl, sym, ap, ap₂, subst, ◌∙◌, arith, IsPermutation, is_lt}
 use Rattle.std.specs.List.Sorted.{IsSortedBy, IsStableBy, ties}
 use Rattle.std.proofs.lemmas.Bool.{cases_Bool}

@@ -1,4 +1,4 @@
--- What is printed of a legal log in layers is read as its layered log, which is legal and layered as it stands.
+-- The printed text of a legal log in layers is read as its layered log, which is legal and in layered order.
 use Rattle.std.proofs.Common.{inr, ◌≡◌, ℕ, ◌≤◌, ◌^◌, List, length, map, ap, ◌∙◌}
 use Rattle.pop_model.specs.Instances.{Instance, IsInstance}
 use Rattle.pop_model.specs.Logs.{LogRecord, IsLegal}

@@ -1,4 +1,4 @@
--- What is answered once all lines of a log text were read: the lines joined are the text, so a text whose lines all are
+-- The result after all lines of a log text were read: the lines joined are the text, so a text with lines that are all
 -- read is that of its records.
 use Rattle.std.proofs.Common.{inl, inr, ◌≡◌, ℕ, ◌^◌, ◌≤◌, true, false, None, Some, List, [], ◌∷◌, ◌++◌, length, map, zip, flat_map, sym, ap, ap₂, subst, refl, ◌∙◌, arith}
 use Rattle.std.proofs.lemmas.List.{length-map}

@@ -1,5 +1,5 @@
--- A log text is read record by record: either all records so far are printed of a legal log, or the one behind it is
--- the first that isn't legal. What may be printed has numbers of 32 bits, so words are those of one record.
+-- A log text is read record by record: either all records so far are printed from a legal log, or the one after it is
+-- the first that is not legal. Numbers that may be printed have 32 bits, so tokens are those of one record.
 use Rattle.std.proofs.Common.{◌≡◌, ℕ, ◌+◌, ◌^◌, ◌<◌, ◌≤◌, Bool, true, false, List, [], ◌∷◌, ◌++◌, length, map, Option, None, Some, MatchOption, get_or, refl, sym, ap, subst, ◌∙◌, arith, append_assoc, length-append, All, inl, inr, codes, decimal, if◌then◌else◌}
 use Rattle.std.specs.List.{AllByRecursion}
 use Rattle.std.proofs.lemmas.Bool.{cases_lt, lt-ltb, le-ltb}

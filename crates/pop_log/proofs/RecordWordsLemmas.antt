@@ -1,5 +1,5 @@
--- The line of a record is its layer, where the version says one, and its words. A layer ends where a space stands, so a
--- line says one layer and has the same words behind it however it is cut.
+-- The line of a record is its layer, if the version states one, and its tokens. A layer ends at a space, so a line
+-- states one layer and has the same tokens after it, however it is cut.
 use Rattle.std.proofs.Common.{inl, ◌≡◌, ℕ, ◌^◌, List, [], ◌∷◌, ◌++◌, sym, ap, ◌∙◌, arith, append_assoc, codes, decimal}
 use Rattle.std.proofs.lemmas.List.{append_cancel_left}
 use Rattle.pop_log.specs.declared.log_version.LogVersion.{LogVersion}

@@ -1,7 +1,8 @@
--- Lists of which one comes from the other by exchanges of neighbours that don't depend on one another: one trace
--- (Mazurkiewicz 1977; Cartier and Foata 1969). What such an exchange keeps, a reordering keeps. Two lists with the same
--- members are reorderings of one another where in both the members that depend stand in one order: the first of the
--- one list stands in the other behind members alone that it doesn't depend on, and can be brought to its front.
+-- Two lists of which one results from the other by exchanges of neighbours that do not depend on one another: one
+-- trace (Mazurkiewicz 1977; Cartier and Foata 1969). A property that such an exchange preserves is preserved by a
+-- reordering. Two lists with the same members are reorderings of one another, if in both the members that depend are
+-- in one order. The first of one list is in the other only after members that it does not depend on, and can be moved
+-- to its front.
 use Rattle.std.proofs.Common.{inl, inr, ◌≡◌, zero, suc, List, [], ◌∷◌, ◌++◌, map, get_or, refl, sym, ap, subst, arith, Contains, AllPairs}
 use Rattle.std.proofs.lemmas.List.{map-append}
 use Rattle.std.proofs.lemmas.List.Elements.{Contains-append_left, Contains-append_right, Contains-append_cases, Contains-get_or}

@@ -1,6 +1,5 @@
--- A log with layers that are said is gone through record by record: up to here the layers are those of the log, and
--- each record follows the one before it. The layer of a record is one number, so where another is said it isn't its
--- layer.
+-- A log with stated layers is checked record by record. Up to here the layers are those of the log, and each record
+-- follows the one before it. The layer of a record is one number, so if another is stated it is not its layer.
 use Rattle.std.proofs.Common.{◌≡◌, ◌≢◌, ◌↔◌, ℕ, zero, suc, ◌+◌, ◌-◌, ◌<◌, ◌≤◌, List, [], ◌∷◌, ◌++◌, zip, length, take, drop, Some, slice_get, get_or, refl, sym, ap, subst, ◌∙◌, arith, append_assoc, take_all}
 use Rattle.std.proofs.lemmas.List.{take-append-drop, drop_more, length-take-le, append-nil, same_from_push}
 use Rattle.std.proofs.lemmas.Option.{same_Some, slice_get_within, get_or_from_slice_get, slice_get-get_or}

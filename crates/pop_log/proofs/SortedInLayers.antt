@@ -1,5 +1,5 @@
--- Records that are layered as they stand are their own layered log: each has its layer behind those before it, and layer
--- and unit rise, so sorting moves none.
+-- Records in layered order are their own layered log: each has its layer after those before it, and layer and unit
+-- increase, so the sort moves none.
 use Rattle.std.proofs.Common.{inl, inr, ◌≡◌, ℕ, zero, suc, ◌+◌, ◌<◌, false, List, [], ◌∷◌, ◌++◌, map, zip, get_or, refl, sym, ap, subst, ◌∙◌, arith, is_lt}
 use Rattle.std.specs.Ordering.{nat_cmp, ordering_then}
 use Rattle.std.specs.List.Sorted.{IsPermutation, IsSorted, IsStable}

@@ -1,4 +1,4 @@
--- Worked values, so that a wrong layer, word, number or place doesn't check.
+-- Worked values, so that a wrong layer, token, number or place is found.
 use Rattle.std.proofs.Common.{inl, ◌≡◌, ℕ, suc, ◌+◌, ◌<◌, List, [], ◌∷◌, ◌++◌, length, map, get_or, lit<, refl, ap, ◌∙◌, arith, codes}
 use Rattle.std.specs.Fmt.{decimal, digits}
 use Rattle.std.specs.List.{zip}

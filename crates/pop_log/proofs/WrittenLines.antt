@@ -1,5 +1,5 @@
--- The lines of a log text. No byte of a record's words ends a line, so the lines of the text of written records are
--- theirs; a line is that of one record and layer, and lines are those of one version.
+-- The lines of a log text. No byte of a record's tokens ends a line, so the lines of the text of written records are
+-- theirs. A line is that of one record and layer, and lines are those of one version.
 use Rattle.std.proofs.Common.{◌≡◌, ◌≢◌, ℕ, ◌^◌, ◌<◌, ◌≤◌, false, List, [], ◌∷◌, ◌++◌, length, map, flat_map, refl, sym, ap, ap₂, ◌∙◌, arith, length-append, eqb, if◌then◌else◌, codes, decimal}
 use Rattle.std.specs.List.{AllByRecursion}
 use Rattle.std.proofs.lemmas.Bool.{ne_eqb}

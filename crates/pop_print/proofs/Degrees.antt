@@ -1,5 +1,5 @@
--- How many edges stand at the vertices of a graph. An edge that isn't a loop stands at its two ends, a loop at none. So
--- over any vertices these numbers sum to twice the number of edges at most.
+-- The number of edges at the vertices of a graph. An edge that is not a loop is at its two ends, a loop at none. So
+-- over any vertices these numbers sum to at most twice the number of edges.
 use Rattle.std.proofs.Common.{◌≡◌, ◌≢◌, inl, inr, ℕ, ◌+◌, ◌*◌, ◌<◌, ◌≤◌, suc, zero, Bool, true, false, cond, ◌&&◌, ◌||◌, nat_eq, List, [], ◌∷◌, length, map, filter, sum, refl, ap, arith, zero-add, ne_eqb}
 use Rattle.std.specs.Prelude.{sum_by}
 use Rattle.std.specs.List.{enumerate_from, range_with_len}

@@ -1,5 +1,5 @@
--- The sum that a summary tells, vertex by vertex. A vertex is at most 2 ^ 22, and its slot is below the number of edges
--- at it. The numbers of edges at all vertices sum to at most 2 ^ 24, so the sum is at most 2 ^ 46.
+-- The sum in a summary, vertex by vertex. A vertex is at most 2 ^ 22, and its slot is below the number of edges at it.
+-- The numbers of edges at all vertices sum to at most 2 ^ 24, so the sum is at most 2 ^ 46.
 use Rattle.std.proofs.Common.{◌≡◌, ℕ, ◌+◌, ◌*◌, ◌^◌, ◌<◌, ◌≤◌, cond, List, length, take, get_or, slice_index, sym, ap, ap₂, subst, ◌∙◌, arith}
 use Rattle.std.specs.Prelude.{sum_by}
 use Rattle.std.specs.List.{enumerate_from}

@@ -1,5 +1,5 @@
--- Stretches of a list: what was made of the numbers of its places, one by one, and is printed one behind another, is what
--- its members there are printed as.
+-- Parts of a list: texts that were made from the numbers of its places, one by one, and are printed one after another,
+-- are the printed form of its members there.
 use Rattle.std.proofs.Common.{◌≡◌, ℕ, zero, suc, ◌+◌, ◌≤◌, ◌<◌, List, [], ◌∷◌, ◌++◌, map, length, take, get_or, slice_get, Some, Vec, Result, Ok, Err, IfOk, MatchResult, Contains, flat_map, sym, ap, subst, ◌∙◌, append_assoc, arith}
 use Rattle.std.specs.List.{AllZip, range_with_len}
 use Rattle.std.proofs.lemmas.List.{append-nil}

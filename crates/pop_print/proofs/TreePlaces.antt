@@ -1,5 +1,5 @@
--- The places of a tree's vertices, as they are written variable by variable. Vertices of different variables differ,
--- since they rise with these.
+-- The places of a tree's vertices, as they are written variable by variable. Vertices of different variables are
+-- different, since they increase with these.
 use Rattle.std.proofs.Common.{inl, inr, ◌≡◌, ℕ, ◌+◌, ◌-◌, ◌<◌, ◌≤◌, Bool, true, false, cond, ltb, lt-ltb, le-ltb, List, length, set, get_or, sym, ap, ◌∙◌, arith}
 use Rattle.std.proofs.lemmas.Bool.{cases_eq, cases_lt}
 use Rattle.std.proofs.lemmas.List.{length-set, get_or-set_same, get_or-set_other}

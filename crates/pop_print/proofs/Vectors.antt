@@ -1,4 +1,4 @@
--- Worked texts, so that a wrong word, sign, number or order doesn't check.
+-- Worked texts, so that a wrong token, sign, number or order is found.
 use Rattle.std.proofs.Common.{◌≡◌, ℕ, zero, suc, List, [], ◌∷◌, Option, None, Some, refl, codes}
 use Rattle.std.specs.Fmt.{digits}
 use Rattle.pop_model.specs.Stacks.Origin.{Given}

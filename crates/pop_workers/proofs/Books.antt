@@ -1,4 +1,4 @@
--- What workers leave of a book that they share is a stretch of a run from where it opened, with every unit a suspect.
+-- A shared book after its workers is a part of a run from its start, with every unit a suspect.
 use Rattle.std.proofs.Common.{◌≡◌, ℕ, Bool, cond, List, length, Some, None, refl}
 use Rattle.std.specs.List.{range_with_len}
 use Rattle.pop_model.specs.Families.{units_of}

@@ -1,4 +1,4 @@
--- What a closed board leaves is a legal log from its start, and suspects that are units and miss no poppable event.
+-- A closed board gives a legal log from its start, and suspects that are units and miss no poppable event.
 use Rattle.std.proofs.Common.{◌≡◌, ℕ, zero, suc, ◌<◌, ◌==◌, Bool, true, false, cond, List, [], ◌∷◌, ◌++◌, length, All, Option, Some, None, IfSome, refl, sym, ap, subst, arith}
 use Rattle.std.specs.Prelude.{if◌then◌else◌}
 use Rattle.std.proofs.lemmas.List.Elements.{All-push}

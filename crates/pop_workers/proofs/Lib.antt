@@ -1,4 +1,4 @@
--- What a book and a closed board leave
+-- The results of a book and of a closed board.
 mod Books
 mod OneMerged
 mod ClosedBoards

@@ -1,4 +1,4 @@
--- What the answers of finders say of a unit, where the pass is sole.
+-- What the results of finders say about a unit, if the pass is the only one.
 use Rattle.std.proofs.Common.{◌≡◌, ℕ, ◌+◌, ◌<◌, ◌≤◌, true, false, inl, inr, List, [], ◌∷◌, ◌++◌, length, Some, arith, sym, ap, subst, ◌∙◌, length-append, append-nil}
 use Rattle.std.proofs.lemmas.List.{length_push}
 use Rattle.pop_model.specs.Popping.{Cube, names}

@@ -1,4 +1,4 @@
--- Tickets are merged into one log alone.
+-- Tickets are merged into at most one log.
 use Rattle.std.proofs.Common.{◌≡◌, ℕ, ◌+◌, ◌<◌, List, length, get_or, All, IsPermutation, sym, ap, subst, ◌∙◌, arith}
 use Rattle.std.specs.List.{enumerate_from}
 use Rattle.std.proofs.lemmas.List.{same_lists, get_or_default}

@@ -1,5 +1,5 @@
--- A round of a sole pass over all units. Where it pops nothing, the records stay as they were, so what was ruled out at
--- one unit is ruled out still when the round has come to its end.
+-- A round over all units by a pass that is the only one. If it pops nothing, the records stay as they were. So what
+-- was ruled out at one unit is still ruled out at the end of the round.
 use Rattle.std.proofs.Common.{◌≡◌, ℕ, ◌-◌, ◌^◌, ◌<◌, true, false, length, arith, sym}
 use Rattle.pop_model.specs.Families.{units_of}
 use Rattle.pop_model.specs.Instances.{IsInstance}

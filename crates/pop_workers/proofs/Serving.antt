@@ -1,4 +1,4 @@
--- Who serves an instance, for the same sample at each height.
+-- Makers that serve an instance, for the same sample at each height.
 use Rattle.std.proofs.Common.{ℕ, refl}
 use Rattle.pop_model.specs.Stacks.{Origin, origin_raised}
 use Rattle.pop_model.specs.Stacks.Origin.{Given, Keyed}

@@ -1,5 +1,5 @@
--- One stage behind others. What is poppable when the stacks are raised occurred at the end before, so it is in the
--- stuck list there; and the log of all stages is legal at each greater height, since no entry depends on the height.
+-- One stage after others. An event that is poppable when the stacks are raised occurred at the end before, so it is in
+-- the stuck list there. The log of all stages is legal at each greater height, since no entry depends on the height.
 use Rattle.std.proofs.Common.{◌≡◌, ℕ, ◌-◌, ◌<◌, ◌≤◌, Bool, List, [], ◌∷◌, length, map, inl, inr, refl, sym, ap, subst, ◌∙◌, arith}
 use Rattle.pop_model.specs.Stacks.{variables_of, height_of, stacks_raised, IsKeyed}
 use Rattle.pop_model.specs.Families.{Event}

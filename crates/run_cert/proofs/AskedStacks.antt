@@ -1,5 +1,5 @@
--- Stacks that words ask for may be written in the head of a certificate: those that were read of a word may, and each
--- option leaves them so.
+-- Stacks that arguments specify may be written in the head of a certificate: the stacks that were read from an
+-- argument may, and each option preserves this.
 use Rattle.std.proofs.Common.{◌≡◌, ℕ, zero, suc, ◌<◌, List, [], ◌∷◌, replicate, Option, Some, None, unwrap_or, refl, sym, subst, arith}
 use Rattle.std.specs.List.{AllByRecursion}
 use Rattle.pop_words.specs.declared.job.Job.{Job}

@@ -1,5 +1,5 @@
--- The first bad line of bytes: where they begin with the first lines of a head, and no head has the line behind these
--- there, it is this line.
+-- The first invalid line of bytes. If they begin with the first lines of a head, and no head continues with the next
+-- line there, it is this line.
 use Rattle.std.proofs.Common.{◌≡◌, ℕ, suc, ◌+◌, ◌<◌, ◌^◌, Bool, List, [], ◌∷◌, ◌++◌, length, take, Contains, refl, sym, ap, subst, ◌∙◌, arith, append_assoc, add-one}
 use Rattle.std.specs.List.{concat}
 use Rattle.std.proofs.Math.Seq.{take-append_seam, take-append-add}

@@ -1,4 +1,4 @@
--- What lines of a head say: each line is that of one number, of one command or of one origin of stacks.
+-- The meaning of the lines of a head: each line is that of one number, of one command or of one source of stacks.
 use Rattle.std.proofs.Common.{◌≡◌, ◌≢◌, ℕ, zero, suc, ◌<◌, ◌^◌, Bool, true, false, List, [], ◌∷◌, ◌++◌, drop, Option, Some, None, Result, Ok, Err, slice_index, MatchOption, Bor, Contains, refl, sym, ap, subst, ◌∙◌, arith, append_assoc, codes, decimal}
 use Rattle.std.specs.List.{AllByRecursion, find}
 use Rattle.std.specs.Result.{result_ok}

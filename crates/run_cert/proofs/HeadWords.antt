@@ -1,5 +1,5 @@
--- In no word of a head stands a line end, so the lines of a certificate's text begin with those of its head. In a
--- number stands no other sign either.
+-- No token of a head has a line end, so the lines of a certificate's text begin with those of its head. A number has
+-- no other sign either.
 use Rattle.std.proofs.Common.{inl, ◌≡◌, ◌≢◌, ◌⊎◌, ℕ, zero, suc, ◌/◌, ◌%◌, ◌^◌, ◌<◌, Bool, true, false, not, eqb, cond, List, [], ◌∷◌, ◌++◌, map, slice_index, Contains, refl, sym, ap, subst, ◌∙◌, arith, append_assoc, codes, decimal}
 use Rattle.std.specs.List.{AllByRecursion, concat, join_with_byte, list_any}
 use Rattle.std.proofs.lemmas.Bool.{or_parts, eqb-false, ne_eqb, not-true}

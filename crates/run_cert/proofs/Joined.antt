@@ -1,4 +1,4 @@
--- Words that are joined by a sign which stands in none of them can be told apart.
+-- Tokens that are joined by a sign that is in none of them can be separated again.
 use Rattle.std.proofs.Common.{inl, inr, ◌≡◌, ◌≢◌, ◌⊎◌, ℕ, zero, suc, ◌<◌, false, eqb, List, [], ◌∷◌, ◌++◌, refl, ap, ◌∙◌, arith, All}
 use Rattle.std.specs.List.{AllByRecursion, join_with_byte, slice_split}
 use Rattle.std.proofs.lemmas.Bool.{eq-eqb, ne_eqb}

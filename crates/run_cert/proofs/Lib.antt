@@ -1,4 +1,4 @@
--- Words that are joined. Joined: they can be told apart. JoinedMore: they are written one behind another.
+-- Tokens that are joined. Joined: they can be separated. JoinedMore: they are written one after another.
 pub mod Joined
 mod JoinedMore
 -- What a head says. HeadWords: in no word of a head stands a line end. SpelledRows: rows that are written are read again

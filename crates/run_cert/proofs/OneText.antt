@@ -1,5 +1,5 @@
--- A text is that of at most one certificate. Its lines begin with those of the head, and each of these says one thing.
--- The head says how many bytes of input there are, and the rest is the log text.
+-- A text is that of at most one certificate. Its lines begin with those of the head, and each of these has one
+-- meaning. The head has the number of bytes of the input, and the rest is the log text.
 use Rattle.std.proofs.Common.{◌≡◌, ℕ, Bool, true, false, List, ◌∷◌, ◌++◌, length, drop, take, Contains, refl, sym, ap, ap₂, subst, ◌∙◌, arith, append_assoc, codes}
 use Rattle.std.specs.List.{concat}
 use Rattle.std.proofs.Math.Seq.{take-append_seam}

@@ -1,5 +1,5 @@
--- What is printed of a job that words ask for is the text of its certificate: its stacks, their height and its root may
--- be said.
+-- The printed form of a job that arguments specify is the text of its certificate: its stacks, their height and its
+-- root may be written.
 use Rattle.std.proofs.Common.{refl}
 use Rattle.pop_words.proofs.JobsInRange.{asked_height, asked_root}
 use Rattle.run_cert.specs.Heads.{has_root}

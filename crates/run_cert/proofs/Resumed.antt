@@ -1,5 +1,6 @@
--- A run that was paused and goes on is one run: its log is that of both parts. On an extremal instance a legal log at
--- whose replay an event is poppable is shorter than a run to an end: each of its pops may come first in the run.
+-- A run that paused and is continued is one run: its log is that of both parts. Take a legal log on an extremal
+-- instance, with a poppable event at its replay. It is shorter than a run to an end: each of its pops may come first
+-- in the run.
 use Rattle.std.proofs.Common.{◌≡◌, ℕ, ◌+◌, ◌<◌, List, [], ◌∷◌, ◌++◌, length, sym, subst, ◌∙◌, arith, length-append}
 use Rattle.pop_model.specs.Popping.{IsPoppable, pop}
 use Rattle.pop_model.specs.Families.{Event, IsEvent}

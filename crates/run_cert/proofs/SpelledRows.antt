@@ -1,5 +1,5 @@
 -- Rows that are printed are read again as they were: they are split at the signs between them, and each number is read
--- of its digits.
+-- from its digits.
 use Rattle.std.proofs.Common.{inl, inr, ◌≡◌, ◌≢◌, ℕ, suc, ◌<◌, ◌^◌, true, eqb, nat_le, nat_lt, if◌then◌else◌, List, [], ◌∷◌, length, map, drop, Option, Some, None, refl, ap, ap₂, subst, ◌∙◌, arith, decimal}
 use Rattle.std.specs.List.{AllByRecursion, join_with_byte, list_all}
 use Rattle.std.specs.Cmp.Derive.{both_true}

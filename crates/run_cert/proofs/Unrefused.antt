@@ -1,5 +1,5 @@
--- The text of a certificate isn't refused: its first lines are those of the head, and the bytes of the input follow
--- them. And bytes are refused in one way: there is one first bad line, and one head.
+-- The text of a certificate is not rejected: its first lines are those of the head, and the bytes of the input follow
+-- them. Bytes have at most one error: there is at most one first invalid line, and at most one head.
 use Rattle.std.proofs.Common.{inl, inr, ◌≡◌, ◌≢◌, ℕ, List, ◌++◌, length, refl, sym, ap, ap₂, ◌∙◌, arith}
 use Rattle.std.specs.List.{concat}
 use Rattle.std.proofs.lemmas.List.{length-append}

@@ -1,4 +1,4 @@
--- Worked values, so that a wrong line or sign doesn't check.
+-- Worked values, so that a wrong line or sign is found.
 use Rattle.std.proofs.Common.{◌≡◌, [], ◌∷◌, ◌++◌, replicate, refl, codes}
 use Rattle.std.specs.Fmt.{digits}
 use Rattle.std.specs.List.{concat}

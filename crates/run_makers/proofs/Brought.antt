@@ -1,4 +1,4 @@
--- A run that those who make runs go on with.
+-- A run that makers of runs continue.
 use Rattle.std.proofs.Common.{ℕ, Bool, List, Result, Ok, Err, IfOk}
 use Rattle.pop_model.specs.Instances.{Instance}
 use Rattle.confluence_core.specs.declared.reached.Reached.{Reached}

@@ -1,2 +1,2 @@
--- Lemmas of those who make runs.
+-- Lemmas about makers of runs.
 pub mod Brought

@@ -1,7 +1,7 @@
--- A list of which each member is changed, one after another.
+-- A list in which each member is changed, one after another.
 --
--- The front of the list is changed, and behind it the members are as they were. A turn changes the next member. What
--- is seen of a member may be less than the member itself, as the kind and the state of a watcher are.
+-- A prefix of the list is changed, and after it the members are as they were. A turn changes the next member. What is
+-- seen of a member may be less than the member itself, such as the kind and the state of a watcher.
 use Rattle.std.proofs.Common.{◌≡◌, ℕ, ◌+◌, ◌<◌, ◌≤◌, List, ◌++◌, length, take, drop, map, get_or, set, refl, sym, ap, ap₂, ◌∙◌, arith}
 use Rattle.std.proofs.lemmas.List.{get_or-map, length-map, map-set, take_all, drop_all, append-nil}
 use Rattle.std.proofs.lemmas.List.Edits.{map_over_more}

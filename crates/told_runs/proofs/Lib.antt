@@ -1,5 +1,5 @@
--- What is told: witnesses, runs and what is asked for of their logs. LayeredOrders: each log has a layered order.
--- ToldOfFirst: what is told of any run is told of the one-thread run.
+-- What is printed: witnesses, runs and the requested parts of their logs. LayeredOrders: each log has a layered order.
+-- ToldOfFirst: what is printed for any run is printed for the one-thread run.
 mod WitnessResults
 pub mod LayeredOrders
 pub mod ToldOfFirst

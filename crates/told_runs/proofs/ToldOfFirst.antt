@@ -1,5 +1,5 @@
--- What is told of any run of an extremal instance to an end is told of the one-thread run, since all such runs have one
--- layered log.
+-- What is printed for any run of an extremal instance to an end is printed for the one-thread run, since all such runs
+-- have one layered log.
 use Rattle.std.proofs.Common.{◌≡◌, List, subst}
 use Rattle.pop_model.specs.Instances.{Instance}
 use Rattle.pop_model.specs.Extremal.{IsExtremal}

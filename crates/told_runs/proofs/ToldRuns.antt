@@ -1,4 +1,4 @@
--- A run as it is told: its end, and behind it what is asked for of its log, by the layered log.
+-- A run as it is printed: its end, and after it the requested parts of its log, by the layered log.
 use Rattle.std.proofs.Common.{◌≡◌, ℕ, ◌++◌, Bool, true, false, ◌&&◌, ◌||◌, if◌then◌else◌, List, [], Option, None, Some, is_some, Result, Ok, Err, IfOk, length, zip, refl, sym, ap, ap₂, subst, ◌∙◌, append_assoc, true≢false, arith}
 use Rattle.std.proofs.lemmas.Bool.{or_parts}
 use Rattle.std.proofs.lemmas.List.{append-nil, length-map}

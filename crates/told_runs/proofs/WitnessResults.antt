@@ -1,4 +1,4 @@
--- A witness as it is told: that the asked pop is missing, or its tree.
+-- A witness as it is printed: its tree, or that the requested pop is missing.
 use Rattle.std.proofs.Common.{◌≡◌, ◌<◌, ◌≤◌, ℕ, true, false, List, length, Some, slice_get, Result, Ok, Err, IfOk, refl}
 use Rattle.pop_model.specs.Families.{Family}
 use Rattle.pop_model.specs.Logs.{LogRecord}

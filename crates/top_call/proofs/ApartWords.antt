@@ -1,5 +1,6 @@
--- Options of two kinds that exclude each other: of these only one is ever chosen. So what the one kind sets is as it is by
--- default; or the command is one that allows that kind, and what the other kind sets is as it is by default.
+-- Options of two kinds that exclude each other: only options of one of these kinds are ever chosen. So either what the
+-- first kind sets has its default. Or the command is one that allows the first kind, and what the second kind sets has
+-- its default.
 use Rattle.std.proofs.Common.{inl, inr, ◌≡◌, ◌⊎◌, ℕ, Bool, true, false, not, ◌||◌, List, [], ◌∷◌, ◌++◌, Option, None, Some, refl, sym, ap, subst, ◌∙◌, arith, Contains}
 use Rattle.std.specs.Prelude.{unwrap_or, option_map}
 use Rattle.std.specs.List.{list_all, list_any}

@@ -1,4 +1,4 @@
--- The ends of a batch that comes of a job: each is that of its sample, and the status says whether one is stuck.
+-- The ends of a batch that a job has: each is that of its sample, and the status says whether one is stuck.
 use Rattle.std.proofs.Common.{inl, inr, ◌≡◌, ◌⊎◌, ℕ, ◌<◌, Bool, true, false, List, [], ◌∷◌, length, Some, slice_get, refl, sym, ap, subst, ◌∙◌, arith, true≢false}
 use Rattle.std.specs.Prelude.{nat_lt, if◌then◌else◌}
 use Rattle.std.proofs.lemmas.Bool.{lt-ltb, ltb-true}

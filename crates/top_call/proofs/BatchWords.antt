@@ -1,5 +1,5 @@
--- Words that ask for a number of samples. Their command is one that has batches, their entries come from a key, and
--- nothing of a log is told: what tells of one run and what asks for many exclude each other, so one of them is never set.
+-- Arguments that ask for a number of samples. Their command is one with batches, their entries come from a key, and no
+-- part of a log is printed. The options that print parts of one run exclude the option for many samples.
 use Rattle.std.proofs.Common.{inl, inr, ◌≡◌, ◌≢◌, ℕ, Bool, true, false, List, Option, None, Some, refl, sym, ap, subst, ◌∙◌}
 use Rattle.std.specs.Prelude.{unwrap_or}
 use Rattle.std.proofs.lemmas.Bool.{false≢true, both_ways}

@@ -1,4 +1,4 @@
--- What comes of a job by its command: by the command's line, or of a certificate that is replayed or resumed.
+-- The outcome of a job by its command: by the command's line, or for a certificate that is replayed or resumed.
 use Rattle.std.proofs.Common.{inl, inr, ◌≡◌, ◌≢◌, ◌⊎◌, ℕ, List, Result, refl, ap}
 use Rattle.pop_words.specs.declared.command.Command.{Command}
 use Rattle.pop_words.specs.declared.command.Command.TheVariants.{Replay, Resume}

@@ -1,4 +1,4 @@
--- An answer to a part of the question, or a refusal of it, is one of the whole.
+-- A result for a part of the question, or its error, is one for the whole.
 use Rattle.std.proofs.Common.{inl, inr, ◌≡◌, ℕ, List, Result, Ok, Err, IfOk, subst, sym}
 use Rattle.std.specs.Result.{IsErrAnd}
 use Rattle.std.proofs.lemmas.Result.{IfOk-weaker}

@@ -1,4 +1,4 @@
--- The record for which a certificate's log is refused, and the line behind it, have numbers of 64 bits.
+-- The record for which a certificate's log is rejected, and the line after it, have numbers of 64 bits.
 use Rattle.std.proofs.Common.{◌<◌, ℕ, List, ◌∷◌, length, map, ap, ◌∙◌, arith, length-append}
 use Rattle.std.proofs.lemmas.List.{length-map}
 use Rattle.pop_model.specs.Instances.{Instance, IsInstance}

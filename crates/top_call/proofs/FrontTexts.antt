@@ -1,5 +1,5 @@
--- A text that is longer than the limit is refused as its front up to the first byte too many is. So what comes of the
--- bytes that were read of a source comes of all that it has.
+-- An input that is longer than the limit has the same error as its prefix up to the first byte too many. So the
+-- outcome for the bytes that were read from a source is that for all of its bytes.
 use Rattle.std.proofs.Common.{inl, inr, ◌≡◌, ◌≢◌, ◌⊎◌, ◌≤◌, ◌<◌, ℕ, ◌+◌, true, false, List, ◌++◌, length, take, nat_lt, Option, None, Some, Result, Ok, Err, IfOk, refl, sym, ap, ap₂, subst, ◌∙◌, arith, Contains}
 use Rattle.std.specs.Io.KnownBytes.{IsAtEnd}
 use Rattle.std.proofs.lemmas.Bool.{lt-ltb, false≢true}

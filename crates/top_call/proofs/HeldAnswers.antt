@@ -1,4 +1,4 @@
--- An answer that the sink holds, and the status that comes of its own.
+-- An answer that the sink holds, and the status of the call: that of the answer, or of a fault of the sink.
 use Rattle.std.proofs.Common.{inl, inr, ◌≡◌, ◌≢◌, ◌⊎◌, ◌≤◌, ℕ, List, Option, sym, subst, arith}
 use Rattle.std.specs.Io.KnownBytes.{Appends}
 use Rattle.pop_watch.specs.Telling.{Watcher}

@@ -1,7 +1,7 @@
--- From what comes of a part to what comes of the whole: of a job and of words (Carrying, Lifting, WordResults), of a job
--- by its command and by cases (ByCommand, ReadCases), of what is made of its text (MadeComes), of a formula
--- that is judged (Verdicts), of a run that may stop (PausedComes), of a source that is read whole (WholeReads), and of a
--- sink that holds the answer (HeldAnswers)
+-- From the outcome of a part to the outcome of the whole: of a job and of arguments (Carrying, Lifting, WordResults),
+-- of a job by its command and by cases (ByCommand, ReadCases), of what is made from its input (MadeComes), of a
+-- formula that is checked (Verdicts), of a run that may stop (PausedComes), of a source that is read completely
+-- (WholeReads), and of a sink that holds the answer (HeldAnswers).
 pub mod Carrying
 pub mod ByCommand
 pub mod ReadCases

@@ -1,4 +1,4 @@
--- From what comes of a job to what comes of the words that ask for it.
+-- From the outcome of a job to the outcome of the arguments that specify it.
 use Rattle.std.proofs.Common.{inl, inr, ◌≡◌, ◌≢◌, ◌⊎◌, ℕ, false, List, Option, Some, sym, ap, ◌∙◌}
 use Rattle.std.proofs.lemmas.Bool.{false≢true}
 use Rattle.pop_words.specs.declared.command.Command.{Command}

@@ -1,4 +1,4 @@
--- What is made of a text, and how its run ends, is what comes of the job that wants it made.
+-- What is made from an input, and the end of its run, is the outcome of the job that wants it made.
 use Rattle.std.proofs.Common.{inl, ◌≡◌, ◌≢◌, ℕ, true, false, List, Result, Ok, Err, IfOk, refl, sym, ap, subst, ◌∙◌}
 use Rattle.pop_model.specs.Stacks.{variables_of}
 use Rattle.pop_model.specs.Instances.{Instance}

@@ -1,5 +1,5 @@
--- Words that ask for a run that may stop. Their command has such runs, and neither a number of samples nor stacks that
--- grow are asked for: the option that stops a run stands with few others.
+-- Arguments that ask for a run that may stop. Their command has such runs, and they ask neither for a number of
+-- samples nor for stacks that grow: few options go with the one that stops a run.
 use Rattle.std.proofs.Common.{◌≡◌, ℕ, Bool, true, false, List, Option, None, Some, refl, sym, ap, subst, ◌∙◌, arith, Contains}
 use Rattle.std.specs.Option.{is_some}
 use Rattle.std.proofs.lemmas.Bool.{false≢true}

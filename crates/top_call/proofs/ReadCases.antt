@@ -1,5 +1,5 @@
--- What comes of a job and a text, by three cases: a refusal of the text, a verdict on it, or the run of what is made of it;
--- and the run by how it is told.
+-- The outcome of a job and an input, by three cases: an error of the input, a verdict on it, or the run of what is
+-- made from it; and the run by how it is printed.
 use Rattle.std.proofs.Common.{inl, inr, ◌≡◌, ◌⊎◌, ℕ, List, Option, refl}
 use Rattle.std.specs.Prelude.{⊤}
 use Rattle.pop_model.specs.Families.{Event}

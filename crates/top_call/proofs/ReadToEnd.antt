@@ -1,5 +1,5 @@
--- A source that was read whole, or up to the first byte past a limit, beside the text that it had: the bytes that were read
--- are this text, or they are past the limit, and the text goes on behind them.
+-- A source that was read completely, or up to the first byte past a limit, compared with its input. The bytes that
+-- were read are this input, or they are past the limit and the input continues after them.
 use Rattle.std.proofs.Common.{inl, inr, ◌≡◌, ◌<◌, ◌≤◌, ℕ, List, ◌++◌, length, Option, None, Some, sym, ap, subst, ◌∙◌}
 use Rattle.std.proofs.lemmas.Bool.{cases_lt}
 use Rattle.std.proofs.lemmas.List.{append-nil}

@@ -1,4 +1,4 @@
--- What comes of a certificate that is accepted, or refused, comes of the bytes that are it.
+-- The outcome of a certificate that is accepted, or rejected, is the outcome of its bytes.
 use Rattle.std.proofs.Common.{inl, inr, ◌≡◌, ◌<◌, ℕ, List, length, Option, Some, Result, Ok, Err, IfOk, IfErr, IfSome, refl, sym, ap, subst, ◌∙◌, ◌++◌, arith, length-append}
 use Rattle.std.specs.Result.{IsErrAnd, IsErrOf}
 use Rattle.pop_model.specs.Instances.{Instance}

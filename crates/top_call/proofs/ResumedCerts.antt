@@ -1,5 +1,5 @@
--- The run of a certificate that goes on to an end comes of the bytes that are it: as the line of its command tells its
--- end, and where that tells its log, with the log of both parts.
+-- The run of a certificate that continues to an end is the outcome of its bytes. Its end is printed as the command
+-- line of the certificate prints it. If that prints the log, it is the log of both parts.
 use Rattle.std.proofs.Common.{inl, inr, ◌≡◌, ◌≢◌, ℕ, Bool, true, false, if◌then◌else◌, List, [], ◌++◌, Option, None, Some, Result, IfOk, refl, sym, ap, subst, ◌∙◌}
 use Rattle.std.proofs.lemmas.Bool.{cases_Bool, false≢true}
 use Rattle.std.proofs.lemmas.Option.{none-some, same_Some}

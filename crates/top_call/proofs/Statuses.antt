@@ -1,4 +1,5 @@
--- Which statuses a text is answered by: each up to 6 but that of bad words. And no refusal is one of words.
+-- The statuses of the answers to an input: each up to 6 except that of invalid arguments. No error of an input is one
+-- of arguments.
 use Rattle.std.proofs.Common.{inl, inr, ◌≡◌, ◌⊎◌, ◌≤◌, ◌<◌, ℕ, List, [], ◌∷◌, Result, Ok, Err, refl, sym, subst, arith}
 use Rattle.pop_model.specs.Families.{Event}
 use Rattle.confluence_core.specs.declared.end.End.{End}

@@ -1,4 +1,4 @@
--- A refusal that is told: its status and its line are those of the outcome.
+-- An error that is printed: its status and its line are those of the outcome.
 use Rattle.std.proofs.Common.{inl, inr, refl, ◌≡◌, ◌⊎◌, ◌≤◌, ℕ, List, Result, Ok, Err, IfOk, MatchResult, ap, sym, subst, ◌∙◌, arith}
 use Rattle.std.specs.Prelude.{⊤}
 use Rattle.pop_words.specs.CommandLines.{IsBadPlace}

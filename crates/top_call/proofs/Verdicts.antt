@@ -1,4 +1,4 @@
--- What comes of a formula comes of the text that spells it, and so of the job that checks it.
+-- The outcome of a formula is that of its input, and so that of the job that checks it.
 use Rattle.std.proofs.Common.{inl, inr, ◌≡◌, ℕ, List, Result, Ok, Err, sym, subst}
 use Rattle.std.specs.Result.{IsErrAnd}
 use Rattle.dimacs_read.specs.Cnf.{Cnf}

@@ -1,4 +1,4 @@
--- A source that is read whole, piece by piece.
+-- A source that is read completely, piece by piece.
 use Rattle.std.proofs.Common.{◌≡◌, ◌≤◌, ◌<◌, ◌+◌, ◌-◌, ℕ, List, length, Option, Result, Err, sym, ap, subst, arith, length-append}
 use Rattle.std.specs.Io.KnownBytes.{Consumes, Keeps}
 use Rattle.std.proofs.KnownBytes.{Consumes-trans, Consumes-kept}

@@ -1,4 +1,4 @@
--- What words are refused for that are no command line.
+-- The error of arguments that are no command line.
 use Rattle.std.proofs.Common.{inl, inr, ◌≡◌, ℕ, List, Err, sym, subst}
 use Rattle.pop_words.specs.declared.fault.WordFault.{WordFault}
 use Rattle.pop_words.specs.declared.fault.WordFault.TheVariants.{Usage as BadWord, OutOfMemory as WordMemory}

@@ -1,5 +1,5 @@
--- Exchanging two neighbours of a log that share no variable changes no record's tree: the vertices are the same in
--- another order, on which no parent and no preorder depends.
+-- If two neighbours of a log that share no variable are exchanged, no record's tree changes. The vertices are the same
+-- in another order, on which no parent and no preorder depends.
 use Rattle.std.proofs.Common.{◌≡◌, ◌≢◌, ℕ, zero, suc, ◌+◌, ◌<◌, cond, eqb, List, [], ◌∷◌, ◌++◌, length, take, drop, Some, slice_get, refl, sym, ap, subst, ◌∙◌, arith, eq-eqb, ne_eqb}
 use Rattle.std.proofs.lemmas.List.{append_assoc, length-append, length-take-le, take_at, take-append-drop, drop_more}
 use Rattle.std.proofs.lemmas.Option.{get_or_from_slice_get, slice_get_within}

@@ -1,7 +1,7 @@
--- The vertices of a log with two neighbours exchanged that share no variable. Walking back, of two events that share
--- no variable neither is among the vertices that the other may join, so they join at the same depths in either order;
--- the vertices come in another order. The root's own neighbour, if it is exchanged with the root, shares no variable
--- with the one vertex there is, and so is left out.
+-- The vertices of a log in which two neighbours that share no variable are exchanged. Of two such events neither is
+-- among the vertices that the other may join. So from the last record back they join at the same depths in either
+-- order, and only the order of the vertices changes. The root's neighbour, if it is exchanged with the root, shares no
+-- variable with the only vertex there, and so is left out.
 use Rattle.std.proofs.Common.{inl, inr, ℕ, ◌+◌, ◌<◌, List, [], ◌∷◌, ◌++◌, length, refl, sym, subst, arith, Contains}
 use Rattle.std.proofs.lemmas.List.{length-append}
 use Rattle.pop_model.specs.Families.{Event}

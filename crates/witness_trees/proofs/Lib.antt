@@ -1,4 +1,4 @@
--- The order of labels, and the table of the last nodes
+-- The order of labels, and the table of the last nodes.
 pub mod BelowLemmas
 pub mod Choosing
 pub mod Latests

@@ -1,5 +1,5 @@
 -- A record of a log has one witness tree. Its vertices are determined one after another, from the last record to the
--- first; the children of a vertex rise strictly, so that their members determine them; and so preorder has no choice.
+-- first. The children of a vertex increase strictly, so their members determine them. So there is only one preorder.
 use Rattle.std.proofs.Common.{inl, inr, ◌≡◌, ℕ, ◌+◌, List, [], ◌∷◌, ◌++◌, take, refl, sym, ap, ap₂, subst, ◌∙◌, arith}
 use Rattle.pop_model.specs.Families.{Event}
 use Rattle.pop_model.specs.Logs.{LogRecord}

@@ -1,4 +1,4 @@
--- In a legal log an entry of a variable is used by one record at most: the cursor is at the entry there, and moves on.
+-- In a legal log an entry of a variable is used by at most one record: the cursor is at the entry there, and moves on.
 use Rattle.std.proofs.Common.{◌≡◌, ℕ, zero, suc, ◌+◌, ◌<◌, ◌≤◌, true, cond, List, [], ◌∷◌, length, slice_get, Some, refl, ap, subst, ◌∙◌, arith}
 use Rattle.std.specs.Option.{option_map}
 use Rattle.std.proofs.lemmas.Option.{slice_get-map, slice_get_within, get_or_from_slice_get}

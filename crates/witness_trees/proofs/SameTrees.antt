@@ -1,5 +1,5 @@
--- On an extremal instance two runs to ends are reorderings of one another, and exchanges keep the tree of the record
--- that used an entry, which is one record: so the entry has the same tree in both.
+-- On an extremal instance two runs to ends are reorderings of one another. Exchanges preserve the tree of the record
+-- that used an entry, which is one record. So the entry has the same tree in both.
 use Rattle.std.proofs.Common.{◌≡◌, ℕ, ◌<◌, List, ◌∷◌, ◌++◌, length, Some, slice_get, sym, subst, ◌∙◌, arith, Contains}
 use Rattle.std.proofs.lemmas.List.{length-replicate}
 use Rattle.std.proofs.lemmas.List.Elements.{All-contains}

@@ -1,2 +1,2 @@
--- Hints in deques
+-- Hints in deques.
 mod HintMoves

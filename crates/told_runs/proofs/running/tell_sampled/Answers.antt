@@ -1,6 +1,6 @@
 use Rattle.told_runs.proofs.running.tell_sampled.Goals as goal
 
--- the watchers are told nothing
+-- the watchers receive nothing
 pub returns-then-are_told_in_full-clause-ended : goal.returns-then-are_told_in_full-clause-ended
 returns-then-are_told_in_full-clause-ended g c = c.tell_sample-told.ensures.ended _
 
