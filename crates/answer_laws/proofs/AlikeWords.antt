@@ -1,7 +1,8 @@
--- Words of which the same comes. What comes of a job hangs on what it wants made and what it asks to be told, and where
--- its run may stop on the job: so what comes of words comes of others that ask for a job which is alike. Words that differ
--- in `--workers` and `--board` alone ask for jobs that differ in their crew alone, on which none of this hangs. And stages
--- tell nothing: what comes is stated of stacks that have their last height, and those of a run that may stop don't grow.
+-- Arguments with the same outcomes. The outcome of a job depends on what it wants made, on what it asks to be printed,
+-- and, if its run may stop, on the job. So the outcomes of arguments are those of other arguments with a similar job.
+-- Arguments that differ only in `--workers` and `--board` have jobs that differ only in their crew, on which none of
+-- this depends. Stages make no difference: the outcome is stated for stacks that have their last height, and those of
+-- a run that may stop don't grow.
 use Rattle.std.proofs.Common.{inl, inr, ◌≡◌, ℕ, Bool, true, false, List, Option, None, Some, unwrap_or, refl, sym, ap, ap₂, subst, ◌∙◌}
 use Rattle.std.proofs.lemmas.Option.{none-some}
 use Rattle.pop_words.specs.declared.command.Command.{Command}

@@ -1,5 +1,5 @@
--- Rows that are within the limits of words are written as they are read again, behind `--stacks`. And rows that words ask
--- for are within them.
+-- Rows that are within the limits of arguments are written after `--stacks` in the form in which they are read.
+-- Conversely, rows that arguments specify are within the limits.
 use Rattle.std.proofs.Common.{◌≡◌, ◌<◌, ◌≤◌, ◌-◌, ◌^◌, ℕ, if◌then◌else◌, List, [], ◌∷◌, drop, None, Some, Ok, refl, sym, ap, subst, ◌∙◌, arith, codes, decimal}
 use Rattle.std.specs.Prelude.{nat_le, ◌&&◌}
 use Rattle.std.specs.Cmp.Derive.{both_true}

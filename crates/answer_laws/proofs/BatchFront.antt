@@ -1,5 +1,5 @@
--- Batches of which the one asks for more samples: the ends of the fewer are the first ends of the more, since each batch
--- has one list of ends, so the texts of the samples are the same.
+-- Two batches, one of which asks for more samples. The ends of the smaller are the first ends of the larger, since
+-- each batch has one list of ends. So the texts of the samples are the same.
 use Rattle.std.proofs.Common.{◌≡◌, ◌⊎◌, ℕ, zero, suc, ◌+◌, ◌≤◌, List, [], ◌∷◌, ◌++◌, flat_map, length, take, drop, Some, slice_get, refl, sym, ap, ap₂, subst, ◌∙◌, arith}
 use Rattle.std.specs.List.{enumerate_from}
 use Rattle.std.proofs.lemmas.List.{length-take-le, take-append-drop}

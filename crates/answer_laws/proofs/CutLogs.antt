@@ -1,5 +1,5 @@
 -- A text is cut into lines in one way. No line of the end of a formula's run begins with the letter with which a log
--- begins, so an output has one place where its log begins; and the log's first line says how many lines it has.
+-- begins, so an output has one place at which its log begins. The log's first line has the number of its lines.
 use Rattle.std.proofs.Common.{◌≡◌, ◌≢◌, ℕ, zero, suc, ◌+◌, ◌/◌, ◌%◌, ◌^◌, ◌<◌, ◌==◌, Bool, true, false, not, List, [], ◌∷◌, ◌++◌, length, map, flat_map, codes, decimal, eqb, if◌then◌else◌, refl, sym, ap, ap₂, ◌∙◌, arith, append_assoc, append-nil}
 use Rattle.std.specs.Prelude.{nat_lt, ⊤}
 use Rattle.std.specs.Fmt.{digits, digits_onto, digit_glyph}

@@ -1,8 +1,8 @@
--- What satisfies a formula, leaves no vertex of a graph a sink, or leads to its root is a sample: an event with all its
--- values there would be a clause that is false, a vertex without a way out, or a cycle.
--- A sample of a formula's events satisfies it. A literal that isn't at the value which falsifies it is true, since values
--- are 0 or 1. So in a clause without a true literal each is false, and the values of its variables are its cube. The
--- first clause with that cube gives it its number; so it is an event, and the sample would have all its values.
+-- Values that satisfy a formula, leave no vertex of a graph a sink, or lead to its root are a sample. An event with
+-- all its values there would be a false clause, a vertex that no edge leaves, or a cycle. Conversely, a sample of a
+-- formula's events satisfies it. A literal that is not at the value that falsifies it is true, since values are 0 or
+-- 1. So in a clause without a true literal each is false, and the values of its variables are its cube. The first
+-- clause with that cube gives it its number. So it is an event, and the sample would have all its values.
 use Rattle.std.proofs.Common.{inl, inr, ◌≡◌, ℕ, zero, suc, ◌<◌, ℤ, pos, negsuc, List, [], ◌∷◌, length, map, get_or, All, Option, None, Some, slice_index, refl, sym, ap, subst, ◌∙◌, arith, Contains, ◌⊎◌, Bool, true, false, not, ◌==◌, slice_get, eq-eqb, ne_eqb}
 use Rattle.std.specs.Option.{option_and_then}
 use Rattle.std.proofs.lemmas.Bool.{false≢true, cases_eq}

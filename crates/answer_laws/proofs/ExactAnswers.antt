@@ -1,5 +1,6 @@
--- The exact law, said of answers. The rows of words that are answered are sound, and make up what is sampled; so the laws
--- of samples tell the run of the rows with another sample, or of rows that have the sample from the start.
+-- The theorem of exactness, stated for answers. The rows of arguments that have an answer are valid, and belong to the
+-- frame of the subject. So the theorems about samples give the run of the rows with another sample, or of rows that
+-- have the sample from the start.
 use Rattle.std.proofs.Common.{◌≡◌, ℕ, suc, ◌+◌, ◌<◌, List, [], ◌∷◌, length, map, get_or, replicate, refl, sym, ap, ap₂, subst, ◌∙◌, arith, zero-add, Option, None, Some}
 use Rattle.std.specs.List.{enumerate_from}
 use Rattle.std.proofs.lemmas.List.{length-map, length-replicate, get_or-map}

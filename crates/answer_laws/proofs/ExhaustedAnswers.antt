@@ -1,5 +1,5 @@
--- An end at which an event occurs is the one end of all runs, so no log leads to a sample; and an end at which none occurs is
--- led to by its own log.
+-- An end at which an event occurs is the only end of all runs, so no log leads to a sample. An end at which none
+-- occurs is reached by its own log.
 use Rattle.std.proofs.Common.{inl, inr, ◌≡◌, ◌↔◌, ℕ, List, [], ◌∷◌, slice_get, Some, refl, sym, subst, arith}
 use Rattle.pop_model.specs.Extremal.{IsExtremal}
 use Rattle.pop_model.specs.Families.{Event}

@@ -1,6 +1,5 @@
--- At the end of a run with status 0 no event occurs: an event that did would stand in the stuck list. And where nothing
--- stands against words and a text, each outcome is an end or a verdict, since every other would be something that stands
--- against them.
+-- At the end of a run with status 0 no event occurs: an event that occurs would be in the stuck list. If a command can
+-- be done on an input, each outcome is an end or a verdict, since every other outcome would contradict this.
 use Rattle.std.proofs.Common.{inl, inr, ◌≡◌, ℕ, List, [], ◌∷◌, refl, sym, ap, subst, ◌∙◌, arith, ◌⊎◌, false, true, length, Ok, None}
 use Rattle.std.proofs.lemmas.Option.{none-some}
 use Rattle.pop_model.specs.Families.{Event}

@@ -1,5 +1,5 @@
--- The first sample of a batch: its stacks are those of the job without a number of samples, and so is its end. Nothing
--- of a log is told of either.
+-- The first sample of a batch: its stacks are those of the job without a number of samples, and so is its end. Neither
+-- prints a log.
 use Rattle.std.proofs.Common.{◌≡◌, ◌⊎◌, ℕ, ◌<◌, ◌≤◌, true, List, [], ◌∷◌, ◌++◌, flat_map, if◌then◌else◌, None, Some, IfSome, refl, sym, ap, ap₂, subst, ◌∙◌, arith, append_assoc, append-nil, Bool, false}
 use Rattle.std.specs.List.{enumerate_from}
 use Rattle.std.proofs.lemmas.Bool.{false≢true}

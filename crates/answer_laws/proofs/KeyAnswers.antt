@@ -1,5 +1,6 @@
--- The law of keys, said of answers. What is sampled makes a frame for stacks of one height; under a key its run, its rounds
--- or its batch ends with samples just where the key's tables are among those for them, which are counted.
+-- The theorem of keys, stated for answers. The subject makes a frame for stacks of one height. Under a key its run,
+-- its rounds or its batch ends with samples if and only if the key's tables are among those for them, which are
+-- counted.
 use Rattle.std.proofs.Common.{◌≡◌, ◌↔◌, ◌≤◌, ℕ, ◌<◌, ◌^◌, List, [], ◌∷◌, length, get_or, sum, replicate, All, Contains, Option, None, Some, unwrap_or, refl, sym, ap, subst, ◌∙◌, arith}
 use Rattle.std.specs.Prelude.{IfSome}
 use Rattle.std.proofs.lemmas.List.{length-replicate, get_or-replicate}

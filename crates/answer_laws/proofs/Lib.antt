@@ -1,9 +1,12 @@
--- One answer. OneSubject: one thing is sampled of a text, since clauses and a graph have one list of events. RefusedStacks,
--- RefusedSubjects: one refusal of what a text spells, and none where it can be sampled. OneRefusal: so one refusal of a
--- text. RefusedOr: what is refused, with a status of no run, or comes otherwise.
--- ToldLogs: one thing is told of a layered log, and something where no pop was. OneEnd: so what is made has one end, by
--- rounds too, or two where the order is free, or a pause beside these. OneOutcome: so one outcome of a job.
--- OneReplay: of certificates (MadeBounds: what one runs is an instance). OneWords: of words, and one for each log.
+-- At most one answer. OneSubject: an input has at most one subject, since clauses and a graph have one list of events.
+-- RefusedStacks, RefusedSubjects: at most one error for a formula or a graph, and none if it can be sampled.
+-- OneRefusal: so an input has at most one error. RefusedOr: an outcome is an error, with a status of no run, or
+-- another outcome.
+--
+-- ToldLogs: a layered log has one printed form, and a run without pops has one too. OneEnd: so what is made has one
+-- end, by rounds too, or two if the order is free, or a pause beside these. OneOutcome: so a job has at most one
+-- outcome. OneReplay: the same for certificates (MadeBounds: what a certificate runs is an instance). OneWords: the
+-- same for arguments, and at most one outcome for each log.
 pub mod OneSubject
 mod RefusedStacks
 mod RefusedSubjects

@@ -1,5 +1,5 @@
--- Of all rows of given heights those are kept of which the words print a sample: it is found of each how its run ends, and
--- what is told of it.
+-- Of all rows of given heights those are kept for which the arguments print a sample: it is decidable for each how its
+-- run ends, and what is printed.
 use Rattle.std.proofs.Common.{inl, inr, ◌≡◌, ◌⊎◌, ℕ, ◌<◌, List, [], ◌++◌, length, if◌then◌else◌, Option, None, Some, All, Contains, refl, sym, ap, subst, ◌∙◌, arith}
 use Rattle.std.proofs.lemmas.Bool.{cases_lt}
 use Rattle.pop_model.specs.Logs.{IsLegal, LogRecord}

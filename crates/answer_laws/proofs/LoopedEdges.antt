@@ -1,5 +1,6 @@
--- Loops of a graph that is oriented. A loop prints the same line at both its values, so orientations that differ at loops
--- alone print the same lines; and no event names a loop. So the values of loops may be carried from one sample to another.
+-- Loops of a graph that is oriented. A loop prints the same line at both its values, so orientations that differ only
+-- at loops print the same lines. No event names a loop. So the values of loops may be copied from one sample to
+-- another.
 use Rattle.std.proofs.Common.{inl, inr, ◌≡◌, ℕ, zero, suc, ◌+◌, ◌*◌, ◌<◌, Bool, true, false, cond, ◌==◌, List, [], ◌∷◌, ◌++◌, length, flat_map, get_or, All, Contains, slice_index, refl, sym, ap, ap₂, subst, ◌∙◌, arith, eqb-true}
 use Rattle.std.specs.List.{enumerate_from}
 use Rattle.std.proofs.lemmas.Bool.{cases_Bool}

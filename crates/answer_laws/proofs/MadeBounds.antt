@@ -1,5 +1,6 @@
--- What is made of a text over stacks that words or a head may give is an instance, whose events have numbers of 32 bits:
--- both follow from the limits on texts, on sides and on stacks. So does what a certificate runs.
+-- What is made from an input over stacks that arguments or a head may give is an instance, and its events have numbers
+-- of 32 bits. Both follow from the limits on inputs, on sides and on stacks. The same holds for what a certificate
+-- runs.
 use Rattle.std.proofs.Common.{◌≡◌, ◌<◌, ◌≤◌, ◌+◌, ◌-◌, ◌^◌, ℕ, suc, true, List, [], ◌∷◌, length, map, get_or, Ok, refl, sym, subst, arith, Contains, Option, None, Some, IfSome, inl, inr}
 use Rattle.std.specs.Prelude.{nat_le, sum_by, unwrap_or}
 use Rattle.std.specs.List.Sorted.{IsStrictlyIncreasing}

@@ -1,8 +1,8 @@
--- The events of what is made of a text have cubes, and are extremal where all orders of pops lead to one end, but where
--- rounds are made. The one-thread run of an extremal instance has one end, and so has each sample of a batch. Its runs to
--- an end by any orders have one layered log, so that they are told alike. And rounds of an instance have one result. A run
--- of an extremal instance that stopped with an event that is poppable still has no end within as many pops. Where the
--- order of pops is free, a pause stands beside runs of its instance.
+-- The events of what is made from an input have cubes. They are extremal if all orders of pops lead to one end, except
+-- for rounds. The one-thread run of an extremal instance has one end, and so has each sample of a batch. Its runs to
+-- an end by any orders have one layered log, so that they print the same. Rounds of an instance have one result. A run
+-- of an extremal instance that stopped while an event is poppable has no end within as many pops. If the order of pops
+-- is free, another outcome beside a pause is a run of the same instance.
 use Rattle.std.proofs.Common.{◌≢◌, ℕ, List, sym, subst, ◌≡◌, ◌∙◌, ◌<◌, ◌≤◌, length, None, Some, refl, arith}
 use Rattle.std.proofs.lemmas.Option.{none-some, same_Some}
 use Rattle.std.proofs.lemmas.List.{length-map}

@@ -1,5 +1,6 @@
--- A job and a text have one outcome by the line of its command, or two runs where clashing events are resampled or a
--- run may stop. The text is refused in one way, or has one verdict, or one thing is made of it, whose runs end alike.
+-- A job and an input have at most one outcome by the line of the command, or two runs if clashing events are resampled
+-- or a run may stop. The input has at most one error, or one verdict, or one thing is made from it, and its runs have
+-- the same end.
 use Rattle.std.proofs.Common.{inl, inr, ◌≡◌, ◌≢◌, ◌⊎◌, ℕ, List, length, None, sym, ap, subst, ◌∙◌}
 use Rattle.std.proofs.lemmas.Option.{none-some}
 use Rattle.pop_model.specs.Instances.{Instance}

@@ -1,5 +1,5 @@
--- A text is refused in one way: by its grammar, or for the one formula or graph that it spells. And it isn't where
--- something is made of it, nor where its events are found to be extremal.
+-- An input has at most one error: by its grammar, or for its only formula or graph. It has none if something is made
+-- from it, or if its events are found to be extremal.
 use Rattle.std.proofs.Common.{inl, inr, ◌≡◌, ◌⊎◌, ℕ, ◌+◌, List, Ok, Err, Some, None, sym, ap, ◌∙◌, subst, Result, true, false, Bool, Option, ap₂}
 use Rattle.std.specs.Prelude.{option_map}
 use Rattle.std.proofs.lemmas.Option.{none-some, same_Some}

@@ -1,6 +1,6 @@
--- Bytes that are replayed or resumed have one outcome, but for the order of pops of a resampling. They are too many, or
--- no certificate in one way, or one certificate; what its command runs is refused in one way, or made as one thing; and
--- its log text is refused in one way, or is that of one log.
+-- Bytes that are replayed or resumed have at most one outcome, except for the order of pops of `resample`. They are
+-- too many, or they are no certificate with one error, or they are one certificate. What its command runs has one
+-- error, or is made as one thing. Its log text has one error, or is that of one log.
 use Rattle.std.proofs.Common.{inl, inr, ◌≡◌, ◌≤◌, ℕ, List, length, refl, sym, ap, ap₂, subst, ◌∙◌, arith, ◌<◌}
 use Rattle.pop_model.specs.Instances.{Instance}
 use Rattle.pop_model.specs.Logs.{LogRecord}

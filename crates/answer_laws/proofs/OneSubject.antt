@@ -1,5 +1,5 @@
--- A text has one formula or one graph, and this one list of events or one family of cycles: so one thing is sampled of
--- a text by each command, and one is made of it.
+-- An input has at most one formula or graph, and this has one list of events or one family of cycles. So each command
+-- has at most one subject for an input, and at most one thing is made from it.
 use Rattle.std.proofs.Common.{◌≡◌, ℕ, ℤ, List, Bool, true, false, sym, ap, subst, ◌∙◌}
 use Rattle.pop_model.specs.Popping.{Cube}
 use Rattle.pop_model.proofs.Rising.{same_rising}

@@ -1,7 +1,7 @@
--- Words and a text have one outcome, but for the order of pops of a resampling and the pops up to a pause. The words
--- ask for one job or have one bad place, and of the job one thing comes: by the line of its command, or of a
--- certificate. Two runs of one instance with one layered log are told alike, so of words, watchers and a text one outcome
--- shows a log.
+-- Arguments and an input have at most one outcome, except for the order of pops of `resample` and the pops before a
+-- pause. The arguments specify one job or have one invalid place, and the job has one outcome: by the line of its
+-- command, or for a certificate. Two runs of one instance with one layered log print the same. So for arguments,
+-- watchers and an input at most one outcome shows a given log.
 use Rattle.std.proofs.Common.{inl, ◌≡◌, ◌≢◌, ℕ, List, None, refl, sym, subst, ap, ◌∙◌, inr, length}
 use Rattle.std.proofs.lemmas.Option.{same_Some}
 use Rattle.pop_model.specs.Families.{Event}

@@ -1,7 +1,7 @@
--- What options set. Where some fields of a job are as they are by default, and the options that set these are known by
--- their names, the job is that of the other options. So words that differ in such options alone ask for one job, but for
--- these fields. A resampling tells its log unasked: no option of its command sets whether a log is told. And words that
--- give rows ask for a command that reads no certificate: no other allows stacks.
+-- What options set. If some fields of a job have their defaults, and names identify the options that set these, the
+-- job is that of the other options. So arguments that differ only in such options have the same job, except for these
+-- fields. `resample` prints its log by default: no option of it sets whether a log is printed. Arguments that give
+-- rows have a command that reads no certificate: no other allows stacks.
 use Rattle.std.proofs.Common.{inl, inr, ◌≡◌, ℕ, Bool, true, false, not, cond, List, [], ◌∷◌, filter, Option, None, Some, refl, sym, ap, ap₂, ◌∙◌, ◌-◌, ◌^◌}
 use Rattle.std.specs.Prelude.{unwrap_or, option_map}
 use Rattle.std.specs.List.{list_all}

@@ -1,5 +1,5 @@
--- A run that may stop pauses exactly where each run to an end has more pops. Its pause leaves a certificate: that of its
--- job, its text and its log, which is one of what the head of the certificate wants made of the text.
+-- A run that may stop pauses if and only if each run to an end has more pops. Its pause gives a certificate: that of
+-- its job, its input and its log. The log is one of what the head of the certificate wants made from the input.
 use Rattle.std.proofs.Common.{◌≡◌, ◌<◌, ℕ, List, length, Some, sym, subst, ◌∙◌, ◌≢◌, [], None, refl, ap, ap₂, arith}
 use Rattle.std.proofs.lemmas.Option.{same_Some}
 use Rattle.std.specs.Prelude.{unwrap_or}

@@ -1,6 +1,6 @@
--- Different samples print different lines. Lines are read from the front: a literal with `-` before it isn't one without;
--- the numbers of an arrow are determined, since each ends where a space or the line's end stands. The number of an edge
--- tells its place at a vertex, as each edge stands there once.
+-- Different samples print different lines. Lines are read from the front. A literal with `-` before it differs from
+-- one without. The numbers of an arrow are determined, since each ends at a space or at the line's end. The number of
+-- an edge determines its place at a vertex, as each edge is there once.
 use Rattle.std.proofs.Common.{inl, inr, ◌≡◌, ℕ, zero, suc, ◌+◌, ◌<◌, ◌≤◌, ◌^◌, false, not, ◌&&◌, List, [], ◌∷◌, ◌++◌, length, map, flat_map, get_or, All, codes, decimal, slice_index, refl, sym, ap, ap₂, subst, ◌∙◌, arith, append_assoc, eq-eqb, AllPairs}
 use Rattle.std.specs.List.{enumerate_from}
 use Rattle.std.proofs.lemmas.Bool.{cases_lt, cases_eq, false≢true}

@@ -1,6 +1,7 @@
--- The exact law on printed bytes. What is printed tells the sample, but at loops of a graph that is oriented; so words that
--- print it are answered by one like it. The exchange of another, with the values of loops carried along, makes rows of
--- which the words print that one, and goes back. Rounds are counted by the law of rounds.
+-- The theorem of exactness for printed bytes. The output determines the sample, except at loops of a graph that is
+-- oriented. So arguments that print it have an answer with such a sample. The exchange with another sample, with the
+-- values of loops copied, makes rows for which the program prints that one, and can be reversed. Rounds are counted by
+-- the theorem of rounds.
 use Rattle.std.proofs.Common.{◌≡◌, ℕ, ◌<◌, ◌^◌, List, [], ◌∷◌, ◌++◌, ◌*◌, length, map, get_or, codes, refl, sym, ap, subst, ◌∙◌, arith, append_assoc, All, Contains, None, Ok}
 use Rattle.std.proofs.lemmas.List.{append_cancel_left, get_or_default}
 use Rattle.std.proofs.lemmas.List.Elements.{Contains-get_or}

@@ -1,6 +1,6 @@
--- Outcomes that are refusals, or come otherwise: where what is refused is refused in one way, and isn't where anything
--- else comes, they are alike where what comes otherwise is. And no refusal has a status of a run: each is at least 2, and
--- none is 10.
+-- Outcomes that are errors, or others. Suppose that the input has at most one error, and none if there is any other
+-- outcome. Then two outcomes are alike if the others are. No error has a status of a run: each is at least 2, and none
+-- is 10.
 use Rattle.std.proofs.Common.{inl, inr, ◌≡◌, ◌⊎◌, ℕ, ◌≤◌, arith, List, refl, sym, ap, ◌∙◌}
 use Rattle.pop_watch.specs.Telling.{Watcher}
 use Rattle.job_subjects.specs.declared.stop.Stop.TheVariants.{ReadFault, OutOfMemory}

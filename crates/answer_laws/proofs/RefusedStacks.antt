@@ -1,6 +1,6 @@
--- Stacks are refused in one way, and not where they are sound and the samples that are asked for are few. They have one
--- first fault or are sound: the causes contradict one another in the order in which they are judged, and each stands at
--- its least place.
+-- Stacks have at most one error, and none if they are valid and the number of samples is within its limit. They have
+-- one first fault or are valid. The causes contradict one another in the order in which they are checked, and each is
+-- at its lowest place.
 use Rattle.std.proofs.Common.{◌≡◌, ℕ, List, length, sym, ap, ap₂, ◌∙◌, arith, inl, inr, Option, None, ◌⊎◌}
 use Rattle.std.proofs.lemmas.Option.{none-some, same_Some}
 use Rattle.pop_model.specs.Stacks.{Origin}

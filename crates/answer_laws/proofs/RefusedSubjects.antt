@@ -1,6 +1,6 @@
--- A formula or a graph is refused in one way, by each command, and not where it can be sampled: its stacks are sound, the
--- samples that are asked for are few, and its events don't clash where they may not, as extremal ones don't; or an edge
--- touches each vertex, or each vertex is joined to the root.
+-- A formula or a graph has at most one error for each command, and none if it can be sampled. Then its stacks are
+-- valid, and the number of samples is within its limit. Its events don't clash if they may not, as extremal ones
+-- don't. Or an edge touches each vertex, or each vertex is connected to the root.
 use Rattle.std.proofs.Common.{◌≡◌, ◌≢◌, ℕ, List, Option, Some, slice_get, ap, sym, ◌∙◌, arith, Contains, inl, inr, Bool, true, false, length, refl, ap₂, subst, ◌⊎◌, ◌<◌, ◌≤◌}
 use Rattle.std.proofs.lemmas.Option.{slice_get-get_or}
 use Rattle.pop_model.specs.Popping.{Cube}

@@ -1,5 +1,5 @@
--- The layered log of the one-thread run is that of a legal run to the same end, which is layered as it stands: so it is a
--- history of the formula's resampling, of which the same is told.
+-- The layered log of the one-thread run is a legal log to the same end, in layered order. So it is a history of
+-- `resample` for the formula, which prints the same.
 use Rattle.std.proofs.Common.{inl, inr, ◌≡◌, ℕ, ◌≤◌, true, false, cond, List, length, Contains, refl, sym, ap, ap₂, subst, ◌∙◌, arith}
 use Rattle.std.proofs.lemmas.Bool.{cases_Bool, false≢true}
 use Rattle.std.proofs.lemmas.Option.{none-some}

@@ -1,6 +1,6 @@
--- A certificate that is replayed isn't refused, so that what comes of it where it is resumed comes of the line of its
--- command. One that a run left is gone on with as that line, which is that of the words without `--pops`. Its log is read
--- as it was printed, so that it isn't refused; and what is resumed comes of this line and of the input.
+-- A certificate that `replay` accepts is not rejected. So an outcome of `resume` for it is one of the line of its
+-- command. A certificate from a run is continued as that line, which is that of the arguments without `--pops`. Its
+-- log is read as it was printed, so it is not rejected. The outcome of `resume` is one of this line and of the input.
 use Rattle.std.proofs.Common.{inl, inr, ◌≡◌, ℕ, List, sym, ap, subst, Contains, ◌∙◌, ◌≤◌, ◌^◌, Bool, true, false, [], ◌∷◌, length, None, refl, arith}
 use Rattle.std.proofs.lemmas.Option.{none-some}
 use Rattle.pop_model.specs.Stacks.{Origin}

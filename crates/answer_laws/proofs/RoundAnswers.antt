@@ -1,6 +1,6 @@
--- The exact law of rounds, said of answers. Rows that words give are sound where rounds are told of them, and make up a
--- frame of the formula's events; so the law of the exchange tells the rounds of the rows with another assignment, and
--- those of rows that have the assignment from the start.
+-- The theorem of exactness for rounds, stated for answers. Rows that arguments give are valid if rounds are printed
+-- for them, and belong to a frame of the formula's events. So the theorem of the exchange gives the rounds of the rows
+-- with another assignment, and those of rows that have the assignment from the start.
 use Rattle.std.proofs.Common.{◌≡◌, ℕ, ◌<◌, true, List, [], ◌∷◌, length, map, get_or, sum, replicate, refl, sym, ap, subst, ◌∙◌, arith, All, Option, None, Ok}
 use Rattle.std.proofs.lemmas.List.{length-map, length-replicate, get_or-replicate}
 use Rattle.pop_model.specs.Stacks.{Origin}

@@ -1,5 +1,6 @@
--- The output of rounds with status 0. An outcome of rounds with that status is the end of rounds where no event occurs; so
--- no variable is short, the values satisfy the formula, and its text is theirs. The other way round, such an end has it.
+-- The output of rounds with status 0. An outcome of rounds with that status is an end of rounds at which no event
+-- occurs. So no variable is short of entries, the values satisfy the formula, and its text is theirs. Conversely, such
+-- an end has this output.
 use Rattle.std.proofs.Common.{◌≡◌, ℕ, ◌<◌, List, [], ◌∷◌, length, get_or, refl, sym, ap, subst, ◌∙◌, arith, Contains, Option, None, Some, slice_index}
 use Rattle.std.proofs.lemmas.List.{append-nil, length-replicate}
 use Rattle.std.proofs.lemmas.List.Elements.{Contains-get_or}

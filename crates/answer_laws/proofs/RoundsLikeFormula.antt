@@ -1,6 +1,6 @@
--- Rounds of an extremal formula end as its run on one thread does. What is made of the text for one is made for the other,
--- over stacks of one origin: so both are of one instance. There rounds are exhausted exactly where the run is, and where
--- both finish, their cursors are equal; and an event occurs at the end of rounds exactly where they are exhausted.
+-- Rounds of an extremal formula end as its run on one thread does. What is made from the input for one is made for the
+-- other, over stacks of one source, so both have one instance. There rounds are exhausted if and only if the run is,
+-- and if both finish, their cursors are equal. An event occurs at the end of rounds if and only if they are exhausted.
 use Rattle.std.proofs.Common.{inl, inr, ◌≡◌, ◌≢◌, ◌⊎◌, ◌≤◌, ℕ, false, List, [], ◌∷◌, Option, None, Some, refl, sym, ap, subst, ◌∙◌, arith, append-nil, Contains, true}
 use Rattle.std.proofs.lemmas.Option.{none-some}
 use Rattle.pop_model.specs.Stacks.{StackTable}

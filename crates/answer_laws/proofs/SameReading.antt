@@ -1,4 +1,5 @@
--- What is sampled of a text is the formula or the graph that it is read as, so texts that are read alike have one subject.
+-- The subject of an input is the formula or the graph as which it is parsed, so inputs that are parsed alike have one
+-- subject.
 use Rattle.std.proofs.Common.{inl, inr, ◌≡◌, ◌⊎◌, ℕ, List, None, sym, subst, ◌∙◌}
 use Rattle.std.proofs.lemmas.Option.{none-some}
 use Rattle.pop_words.specs.declared.command.Command.{Command}

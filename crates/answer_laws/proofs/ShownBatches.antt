@@ -1,4 +1,4 @@
--- What the text of a batch shows: the text of each sample, behind its number, what the text of its end shows.
+-- What the text of a batch shows: the text of each sample, after its number, shows what the text of its end shows.
 use Rattle.std.proofs.Common.{inl, inr, ◌≡◌, ◌⊎◌, ℕ, zero, suc, ◌+◌, true, List, [], ◌∷◌, ◌++◌, length, flat_map, slice_get, Some, refl, sym, ap, ap₂, subst, ◌∙◌, arith}
 use Rattle.std.specs.List.{enumerate_from}
 use Rattle.std.proofs.lemmas.Bool.{false≢true}

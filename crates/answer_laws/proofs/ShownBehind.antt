@@ -1,4 +1,4 @@
--- What an output shows, it shows whatever stands behind it; and its status says whether events still occur.
+-- What an output shows does not depend on what follows it. Its status says whether events still occur.
 use Rattle.std.proofs.Common.{◌≡◌, ℕ, List, [], ◌∷◌, ◌++◌, codes, ap, ◌∙◌, append_assoc, arith, zero, suc}
 use Rattle.pop_model.specs.Stacks.{Origin}
 use Rattle.pop_model.specs.Families.{Event}

@@ -1,6 +1,7 @@
--- An output determines the log that it shows. Where a text comes to no one end, its outcome is a run that is resampled or
--- one that stopped, and the text of either has the text of its log; this is legal and layered as it stands, and so is
--- determined by its text. A certificate says what it runs, so that runs of any words have one log where theirs is one.
+-- An output determines the log that it shows. If an input does not lead to a single end, its outcome is a run that is
+-- resampled or one that stopped. The text of either has the text of its log. This log is legal and in layered order,
+-- and so is determined by its text. A certificate says what it runs, so runs with the same certificate have one log,
+-- whatever their arguments.
 use Rattle.std.proofs.Common.{inl, inr, ◌≡◌, ℕ, ◌^◌, ◌<◌, Bool, true, None, Some, List, [], ◌∷◌, ◌++◌, length, map, refl, sym, ap, ap₂, subst, ◌∙◌, arith, append_assoc}
 use Rattle.std.specs.Prelude.{if◌then◌else◌}
 use Rattle.std.proofs.lemmas.List.{length-map}

@@ -1,6 +1,6 @@
--- What is shown of what is sampled: the text of an end of a subject, over sound stacks of any origin, shows its sample,
--- or the events that still occur. So does any text that begins with what was found at an end of a formula's events, and
--- with the cursors; and so does that of rounds.
+-- What is shown of a subject: the text of its end, over valid stacks of any source, shows its sample, or the events
+-- that still occur. The same holds for any text that begins with the result at an end of a formula's events and with
+-- the cursors, and for the text of rounds.
 use Rattle.std.proofs.Common.{◌≡◌, ℕ, Bool, List, [], ◌∷◌, ◌++◌, length, Ok, sym, subst, ◌∙◌, false, true, ap, arith, append-nil, Option, append_assoc}
 use Rattle.std.proofs.lemmas.List.{length-replicate}
 use Rattle.pop_model.specs.Stacks.{Origin, variables_of}

@@ -1,6 +1,6 @@
--- The arrows of a spanning tree are those of some slots. Their tails rise through all vertices but the root, so each is that
--- of a variable. No arrow is along a loop, since it would lead to its own tail for ever; so its edge stands at its tail,
--- and has a place there. By these places the arrows lead to the root, as they do in the tree.
+-- The arrows of a spanning tree are those of some slots. Their tails increase through all vertices except the root, so
+-- each is that of a variable. No arrow is along a loop, since it would lead to its own tail forever. So its edge is
+-- among those at its tail, and has a place there. By these places the arrows lead to the root, as they do in the tree.
 use Rattle.std.proofs.Common.{inl, inr, ◌≡◌, ◌≢◌, ℕ, zero, suc, ◌+◌, ◌-◌, ◌<◌, Bool, true, cond, ◌==◌, not, ◌&&◌, ◌||◌, List, [], ◌∷◌, length, map, get_or, slice_index, slice_get, Option, Some, None, refl, sym, ap, subst, ◌∙◌, arith, Contains, eq-eqb, ne_eqb, ext_get_or}
 use Rattle.std.specs.List.{enumerate_from, range_with_len}
 use Rattle.std.specs.List.Sorted.{IsStrictlyIncreasing}

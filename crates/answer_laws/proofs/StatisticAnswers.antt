@@ -1,4 +1,4 @@
--- Functions of a sample: a run ends with a value where it ends with a sample that has it.
+-- Functions of a sample: a run ends with a value if and only if it ends with a sample that has it.
 use Rattle.std.proofs.Common.{◌≡◌, ◌↔◌, ℕ, List, [], ◌∷◌, length, refl, ap, ◌∙◌}
 use Rattle.rand_chacha.specs.ChaCha.{key_of}
 use Rattle.pop_model.specs.Popping.{values_at}

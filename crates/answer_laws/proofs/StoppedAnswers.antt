@@ -1,5 +1,5 @@
--- A run that came to its end did so within as many pops as the job allows; one that stopped before it has more, so that the
--- key's table isn't one of those that end within them.
+-- A run that came to its end did so within the job's limit of pops. A run that stopped before it has more, so the
+-- key's table is not one of those that end within the limit.
 use Rattle.std.proofs.Common.{◌≡◌, ◌↔◌, ℕ, ◌<◌, true, not, nat_lt, List, [], ◌∷◌, length, replicate, Contains, Option, None, Some, refl, sym, ap, subst, ◌∙◌}
 use Rattle.std.proofs.lemmas.Bool.{lt-ltb, le-ltb}
 use Rattle.std.proofs.lemmas.List.{length-replicate}

@@ -1,6 +1,6 @@
--- The kinds of what is sampled: assignments to the formula that a text spells, orientations of its graph, arrows to a
--- root of that, and arrows of a grid. What holds of each of these holds of whatever a command samples. Its events are cubes
--- that differ, or cycles, and it makes a frame for rows of any heights: its family fits stacks of its weights.
+-- The kinds of subjects: assignments to the formula of an input, orientations of its graph, arrows to a root of it,
+-- and arrows of a grid. A property of each of these is one of whatever a command samples. Its events are different
+-- cubes, or cycles. It makes a frame for rows of any heights: its family fits stacks of its weights.
 use Rattle.std.proofs.Common.{◌≡◌, ◌≢◌, ℕ, ◌<◌, ℤ, List, [], ◌∷◌, length, map, get_or, sym, ap, subst, ◌∙◌, arith, Contains, Bool, true, false, Ok, All, refl}
 use Rattle.std.specs.List.Sorted.{IsStrictlyIncreasing}
 use Rattle.std.proofs.lemmas.List.{length-map, length-replicate, get_or-map, get_or-replicate}

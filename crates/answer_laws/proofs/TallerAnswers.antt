@@ -1,5 +1,5 @@
--- An end at which no event occurs is one over taller stacks as well: the one-thread run has the same log there, so what is
--- told of it is the same, and the values are.
+-- An end at which no event occurs is also one over taller stacks. The one-thread run has the same log there, so its
+-- printed form and its values are the same.
 use Rattle.std.proofs.Common.{◌≡◌, ℕ, ◌<◌, ◌≤◌, List, [], ◌++◌, codes, Contains, None, refl, sym, ap, subst, ◌∙◌}
 use Rattle.rand_chacha.specs.ChaCha.{key_of}
 use Rattle.pop_model.specs.Stacks.{Origin}

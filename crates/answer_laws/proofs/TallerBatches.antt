@@ -1,4 +1,4 @@
--- A batch of samples is one over taller stacks as well: each of its ends is that of the taller run, with the same values.
+-- A batch of samples is also one over taller stacks: each of its ends is that of the taller run, with the same values.
 use Rattle.std.proofs.Common.{◌≡◌, ℕ, suc, ◌+◌, ◌<◌, ◌≤◌, List, [], ◌∷◌, ◌++◌, flat_map, length, Contains, Some, slice_get, refl, sym, ap, ap₂, subst, ◌∙◌, arith}
 use Rattle.std.specs.List.{enumerate_from}
 use Rattle.rand_chacha.specs.ChaCha.{key_of}

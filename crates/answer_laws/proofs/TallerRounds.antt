@@ -1,4 +1,4 @@
--- Rounds that end with an assignment end with it over taller stacks as well, after as many rounds.
+-- Rounds that end with an assignment also end with it over taller stacks, after equally many rounds.
 use Rattle.std.proofs.Common.{◌≡◌, ℕ, List, [], None, sym, ap, subst, ◌∙◌}
 use Rattle.rand_chacha.specs.ChaCha.{key_of}
 use Rattle.pop_model.specs.Stacks.{stacks_raised}

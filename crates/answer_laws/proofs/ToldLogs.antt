@@ -1,6 +1,6 @@
--- One thing is told of a layered log to watchers that report alike, since a legal log has one witness: that of the one
--- pop that used the entry, or that there is none. An extremal instance has one layered log, since all its runs to an end
--- do. And where no pop was, none used any entry.
+-- A layered log has one printed form for watchers that report the same. A legal log has one witness: that of the only
+-- pop that used the entry, or that there is none. An extremal instance has one layered log, since all its runs to an
+-- end have the same. If there was no pop, none used any entry.
 use Rattle.std.proofs.Common.{inl, inr, ◌≡◌, ℕ, ◌<◌, ◌≤◌, List, Option, None, Some, length, refl, sym, ap, subst, ◌∙◌, arith, ◌⊎◌, zero, suc, if◌then◌else◌, [], replicate}
 use Rattle.std.proofs.lemmas.Bool.{cases_eq}
 use Rattle.std.proofs.lemmas.List.{length-replicate, get_or-replicate}

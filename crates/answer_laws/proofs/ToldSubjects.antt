@@ -1,6 +1,6 @@
--- What an outcome of a job and a text tells of a run, it tells of what is made of the text: a history, an end of rounds,
--- or a pause. So it is with an end of the one-thread run of what is sampled, where the command's pops have one order, and
--- with a batch of these; and each such end is told.
+-- What an outcome of a job and an input prints of a run, it prints of what is made from the input: a history, an end
+-- of rounds, or a pause. The same holds for an end of the one-thread run of the subject, if the command's pops have
+-- one order, and for a batch of such ends. Each such end is printed.
 use Rattle.std.proofs.Common.{◌≡◌, ◌≢◌, ℕ, Bool, true, false, List, refl, sym, ap, ◌∙◌, Contains, None, subst, inl, inr, [], length, Option, Some}
 use Rattle.std.proofs.lemmas.Bool.{false≢true}
 use Rattle.std.proofs.lemmas.Option.{none-some}

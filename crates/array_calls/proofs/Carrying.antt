@@ -1,4 +1,4 @@
--- A refusal that is passed on is the result's; a refusal of a part is one of the whole.
+-- An error that is passed on is that of the result. An error of a part is one of the whole.
 use Rattle.std.proofs.Common.{inl, inr, ◌≡◌, Result, Err, IfErr, ap, subst, sym, ◌∙◌}
 use Rattle.std.specs.Result.{IsErrAnd}
 use Rattle.std.proofs.lemmas.Result.{err_from_is_err_and}

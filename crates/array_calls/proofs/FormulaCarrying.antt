@@ -1,4 +1,4 @@
--- Refusals of formulas that are passed on: a refusal of a part is one of the whole.
+-- Errors of formulas that are passed on: an error of a part is one of the whole.
 use Rattle.std.proofs.Common.{inl, inr, ◌≡◌, Result, Err, IfErr, ap, subst, sym, ◌∙◌}
 use Rattle.std.specs.Result.{IsErrAnd}
 use Rattle.std.proofs.lemmas.Result.{err_from_is_err_and}

@@ -1,5 +1,5 @@
--- A row of cursors that a call left where it stopped gives the cursors back. So another call that goes on from it goes on
--- with the same run, and a run that is stopped and goes on comes to the end of the run that isn't stopped.
+-- A row of cursors that a call left when it stopped gives the cursors back. So another call that continues from it
+-- continues the same run. A run that is stopped and continued reaches the end of the run that is not stopped.
 use Rattle.std.proofs.Common.{inl, inr, ◌≡◌, ◌≢◌, ℕ, zero, suc, ◌+◌, ◌-◌, ◌*◌, ◌<◌, ◌≤◌, cond, lt-ltb, le-ltb, List, [], ◌∷◌, length, replicate, set, get_or, refl, sym, ap, subst, ◌∙◌, arith, zero-add, ne_eqb}
 use Rattle.std.specs.Prelude.{Option, None, Some, map}
 use Rattle.std.specs.List.{range_with_len}

@@ -1,4 +1,5 @@
--- The instance of a graph's trees fits, its samples have a slot of each vertex, and rows that are put are those of a tree.
+-- The instance of a graph's trees fits, its samples have a slot of each vertex, and rows that are put are those of a
+-- tree.
 use Rattle.std.proofs.Common.{◌≡◌, ◌≢◌, inl, inr, ℕ, ◌+◌, ◌-◌, ◌<◌, ◌≤◌, cond, lt-ltb, le-ltb, List, [], ◌∷◌, Option, None, Some, length, get_or, sym, ap, subst, ◌∙◌, arith, zero-add}
 use Rattle.std.specs.List.{enumerate_from}
 use Rattle.std.proofs.lemmas.Bool.{cases_lt}

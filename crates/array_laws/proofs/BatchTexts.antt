@@ -1,4 +1,4 @@
--- The output of a batch is made of the texts of its samples, each of which is that of the one end of its run.
+-- The output of a batch consists of the texts of its samples. Each is that of the only end of its run.
 use Rattle.std.proofs.Common.{◌≡◌, ℕ, zero, suc, ◌+◌, List, [], ◌∷◌, ◌++◌, codes, length, flat_map, slice_get, Some, refl, sym, ap, ap₂, ◌∙◌, arith}
 use Rattle.std.specs.List.{enumerate_from}
 use Rattle.std.proofs.lemmas.Option.{same_Some}

@@ -1,4 +1,4 @@
--- The texts of a batch's samples
+-- The texts of a batch's samples.
 pub mod BatchTexts
 -- Lists with numbers
 pub mod Numbered

@@ -1,5 +1,5 @@
 -- The text of a tree's sample by the numbers of its row: the head and the edge of each arrow are those of the vertex's
--- slot, and the cursors are those of the vertices but the root.
+-- slot, and the cursors are those of the vertices except the root.
 use Rattle.std.proofs.Common.{◌≡◌, ◌≢◌, ℕ, ◌+◌, ◌-◌, ◌*◌, ◌<◌, cond, List, [], length, flat_map, get_or, refl, sym, ap, ap₂, subst, ◌∙◌, arith, ne_eqb, inl, inr}
 use Rattle.std.specs.List.{range_with_len}
 use Rattle.std.proofs.lemmas.Bool.{cases_lt, lt-ltb, le-ltb}

@@ -1,4 +1,4 @@
--- What is read of a list of three that were pushed.
+-- The elements of a list onto which three were pushed.
 use Rattle.std.proofs.Common.{◌≡◌, List, [], ◌∷◌, ◌++◌, map, ap, ◌∙◌}
 
 -- each reads as the one of which that is known

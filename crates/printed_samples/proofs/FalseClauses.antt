@@ -1,5 +1,5 @@
--- A clause's event occurs exactly where each of its literals is false. Clauses that are alike have one event, under the
--- number of the first, since a literal is determined by the pair that falsifies it.
+-- A clause's event occurs if and only if each of its literals is false. Clauses with the same literals have one event,
+-- under the number of the first, since a literal is determined by the pair that falsifies it.
 use Rattle.std.proofs.Common.{◌≡◌, ℕ, suc, ◌<◌, ℤ, pos, negsuc, List, [], ◌∷◌, length, map, get_or, slice_index, slice_get, None, Some, sym, ap, subst, ◌∙◌, arith, All, Contains, refl}
 use Rattle.std.proofs.lemmas.List.Elements.{All-contains, Contains-get_or}
 use Rattle.std.proofs.lemmas.Option.{slice_get_within, get_or_from_slice_get}

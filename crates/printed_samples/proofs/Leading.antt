@@ -1,6 +1,6 @@
--- Where no cycle occurs, the arrows are a spanning tree. From each vertex they lead to the root in at most as many
--- steps as there are variables, since a longer walk would meet a vertex again, and the loop between would occur. Two
--- arrows on one edge would lead to each other, and never to the root.
+-- If no cycle occurs, the arrows are a spanning tree. From each vertex they lead to the root in at most as many steps
+-- as there are variables: a longer walk would meet a vertex again, and the loop in between would occur. Two arrows on
+-- one edge would lead to each other, and never to the root.
 use Rattle.std.proofs.Common.{inl, inr, ◌≡◌, ◌≢◌, ◌⊎◌, ℕ, zero, suc, ◌+◌, ◌-◌, ◌<◌, List, [], ◌∷◌, length, slice_index, Option, Some, None, refl, sym, ap, subst, ◌∙◌, arith, Contains}
 use Rattle.std.specs.Option.{option_and_then}
 use Rattle.std.proofs.lemmas.Bool.{cases_eq}

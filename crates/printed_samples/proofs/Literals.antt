@@ -1,5 +1,5 @@
--- The words of an assignment: each is the literal of a variable by its current value, and a literal that isn't false is
--- its variable's word.
+-- The tokens of an assignment: each is the literal of a variable by its current value, and a literal that is not false
+-- is its variable's token.
 use Rattle.std.proofs.Common.{inl, inr, ◌≡◌, ℕ, suc, ◌+◌, ◌-◌, ◌<◌, ◌≤◌, cond, pos, negsuc, ℤ, List, ◌∷◌, length, decimal, get_or, Some, slice_get, ap, ◌∙◌, arith, eq-eqb, ne_eqb, Contains}
 use Rattle.std.specs.Fmt.{signed_decimal}
 use Rattle.std.proofs.lemmas.Bool.{cases_eq}

@@ -1,5 +1,5 @@
--- Where no sink occurs, each vertex has an arrow from it. One with a loop has the loop's. Of another the pairs of the
--- edges at it are an event; where each of these edges pointed to the vertex, the event would occur.
+-- If no sink occurs, each vertex has an arrow from it. A vertex with a loop has the loop's. For another, the pairs of
+-- its edges are an event. If each of these edges pointed to the vertex, the event would occur.
 use Rattle.std.proofs.Common.{inl, inr, ◌≡◌, ◌⊎◌, ℕ, ◌+◌, ◌-◌, ◌<◌, Bool, true, false, not, ◌&&◌, ◌==◌, cond, List, [], ◌∷◌, ◌++◌, length, map, get_or, slice_index, Some, slice_get, refl, sym, ap, ap₂, subst, ◌∙◌, arith, eq-eqb, ne_eqb, eqb-true, zero-add}
 use Rattle.std.specs.Prelude.{flat_map}
 use Rattle.std.specs.List.{enumerate_from, list_any, range_with_len}

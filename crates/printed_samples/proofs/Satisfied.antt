@@ -1,5 +1,5 @@
--- Where no event of a formula occurs, each clause has a literal among the printed ones. The variables of a false
--- clause, each with its value, would be the clause's event, and the least clause that has an event gives it its number.
+-- If no event of a formula occurs, each clause has a literal among the printed ones. The variables of a false clause,
+-- each with its value, would be the clause's event, and the first clause that has this event gives it its number.
 use Rattle.std.proofs.Common.{inl, inr, ◌≡◌, ◌⊎◌, ℕ, zero, suc, ◌+◌, ◌<◌, Bool, true, false, not, ◌==◌, ℤ, pos, List, [], ◌∷◌, length, map, filter, get_or, None, Some, slice_get, refl, sym, ap, subst, ◌∙◌, arith, All, Contains, eq-eqb, ne_eqb, eqb-true}
 use Rattle.std.specs.List.{list_any, range_with_len}
 use Rattle.std.specs.List.Sorted.{IsStrictlyIncreasing}

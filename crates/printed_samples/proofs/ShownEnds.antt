@@ -1,4 +1,4 @@
--- The texts of ends show samples where no event occurs, and else the events that do.
+-- The texts of ends show a sample if no event occurs, and otherwise the events that occur.
 use Rattle.std.proofs.Common.{◌≡◌, ℕ, List, [], ◌∷◌, ◌++◌, length, map, codes, decimal, sym, ap, subst, ◌∙◌, arith, append_assoc, append-nil, sum, None}
 use Rattle.std.specs.Prelude.{replicate}
 use Rattle.std.proofs.lemmas.List.{length-replicate, get_or-replicate}

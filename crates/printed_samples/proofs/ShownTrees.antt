@@ -1,4 +1,4 @@
--- The texts of ends show spanning trees where no cycle occurs, and else the cycles that do.
+-- The texts of ends show a spanning tree if no cycle occurs, and otherwise the cycles that occur.
 use Rattle.std.proofs.Common.{◌≡◌, ℕ, List, [], ◌∷◌, ◌++◌, length, codes, refl, sym, ap, subst, ◌∙◌, arith, append_assoc, append-nil}
 use Rattle.std.proofs.lemmas.List.{length-map}
 use Rattle.pop_model.specs.Popping.{values_at}

@@ -1,4 +1,4 @@
--- In stacks without a fault each value of a variable stands for an edge at its vertex: there are as many weights as
+-- In stacks without a fault each value of a variable represents an edge at its vertex: there are as many weights as
 -- such edges, and none of them is 0.
 use Rattle.std.proofs.Common.{◌≡◌, ℕ, ◌-◌, ◌<◌, List, [], ◌∷◌, length, sum, All, ap, ◌∙◌, arith}
 use Rattle.std.proofs.lemmas.List.{length-map}

@@ -1,6 +1,6 @@
--- In stacks without a fault each value of a variable is below the number of its weights: a given row has just such
--- values, and 0 stands behind its end; that of a keyed entry is the least such that the weights up to it exceed a
--- number, so if it were behind them all, the last of them would be less and do so too.
+-- In stacks without a fault each value of a variable is below the number of its weights. A given row has only such
+-- values, and 0 after its end. The value of a keyed entry is the lowest for which the weights up to it exceed a
+-- number. If it were after all of them, the last of them would be lower and exceed it too.
 use Rattle.std.proofs.Common.{inl, inr, ◌≡◌, ℕ, suc, ◌-◌, ◌<◌, ◌≤◌, List, [], ◌∷◌, length, take, sum, slice_index, sym, subst, ◌∙◌, arith}
 use Rattle.std.proofs.lemmas.Bool.{cases_lt}
 use Rattle.std.proofs.lemmas.List.{get_or_past, take_all}

@@ -1,6 +1,6 @@
--- The vertices of a cycle that occurs are those of a cycle of the arrows, and each such comes of one: from one of its
--- vertices the arrows lead on and back to it, so its variable is on a cycle that occurs, which has just the variables
--- to which the arrows lead from there.
+-- The vertices of a cycle that occurs are those of a cycle of the arrows, and each such cycle is one that occurs. From
+-- one of its vertices the arrows lead on and back to it. So its variable is on a cycle that occurs, which has exactly
+-- the variables to which the arrows lead from there.
 use Rattle.std.proofs.Common.{◌≡◌, ℕ, zero, suc, ◌+◌, ◌-◌, ◌<◌, ◌≤◌, true, List, [], ◌∷◌, length, map, get_or, slice_index, Option, Some, refl, sym, ap, subst, ◌∙◌, arith, Contains}
 use Rattle.std.specs.List.Sorted.{IsStrictlyIncreasing}
 use Rattle.std.proofs.lemmas.List.{length-map, get_or-map}

@@ -1,5 +1,5 @@
--- The numbers of the events that occur, as they are printed: an event stands among those that occur exactly where it is
--- one of the family and occurs, and units rise, so do the first numbers.
+-- The numbers of the events that occur, as they are printed. An event is among those that occur if and only if it is
+-- one of the family and occurs. Units increase, and so do the first numbers.
 use Rattle.std.proofs.Common.{◌≡◌, ℕ, ◌+◌, ◌<◌, List, [], length, map, get_or, slice_index, slice_get, Some, ap, subst, ◌∙◌, arith, Contains}
 use Rattle.std.specs.List.Sorted.{IsStrictlyIncreasing}
 use Rattle.std.proofs.lemmas.List.{length-map, get_or-map}

@@ -1,5 +1,5 @@
--- A vertex that isn't isolated is left by no arrow exactly where its event occurs: then each edge points to it, and
--- none of them is a loop.
+-- No arrow leaves a vertex that is not isolated if and only if its event occurs: then each edge points to it, and none
+-- of them is a loop.
 use Rattle.std.proofs.Common.{inl, inr, ◌≡◌, ℕ, ◌+◌, Bool, true, ◌&&◌, ◌||◌, ◌==◌, cond, List, [], ◌∷◌, length, slice_index, refl, sym, ap, ◌∙◌, arith, Contains, eq-eqb, ne_eqb}
 use Rattle.std.proofs.lemmas.Bool.{cases_Bool, cases_eq, and_from, false≢true}
 use Rattle.std.proofs.lemmas.List.Elements.{All-contains}

@@ -1,5 +1,5 @@
--- The arrows of a tree by the current slots of its variables: one from each vertex but the root, along an edge there,
--- to where the variable's current arrow leads.
+-- The arrows of a tree by the current slots of its variables: one from each vertex except the root, along an edge
+-- there, to the head of the variable's current arrow.
 use Rattle.std.proofs.Common.{inl, inr, ◌≡◌, ◌≢◌, ℕ, ◌+◌, ◌-◌, ◌<◌, List, [], length, map, get_or, slice_index, Option, None, sym, ap, subst, ◌∙◌, arith, zero-add, All, Contains}
 use Rattle.std.specs.List.{enumerate_from}
 use Rattle.std.specs.List.Sorted.{IsStrictlyIncreasing}

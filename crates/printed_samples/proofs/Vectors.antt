@@ -1,4 +1,5 @@
--- Worked values: what the words 1 and -2 satisfy, how an edge is turned, and how arrows and events are written.
+-- Worked values: which clauses the literals 1 and -2 satisfy, how an edge is directed, and how arrows and events are
+-- written.
 use Rattle.std.proofs.Common.{◌≡◌, ℕ, pos, negsuc, List, [], ◌∷◌, codes, refl, arith}
 use Rattle.std.specs.Fmt.{digits}
 use Rattle.graph_read.specs.declared.edge.Edge.{Edge}

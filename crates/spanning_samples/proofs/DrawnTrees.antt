@@ -1,5 +1,5 @@
--- Arrows to the root and spanning trees, as sets of edges, are one to one, and weigh the same. So what is known of the
--- draws of arrows is known of those of trees.
+-- Arrows to the root and spanning trees, as sets of edges, are in one-to-one correspondence, and have equal weights.
+-- So what is known about the draws of arrows is known about those of trees.
 use Rattle.std.proofs.Common.{inl, inr, ◌≡◌, ℕ, zero, suc, ◌+◌, ◌-◌, ◌*◌, ◌^◌, ◌<◌, ◌≤◌, List, [], ◌∷◌, length, map, get_or, sum, All, refl, sym, ap, ap₂, subst, ◌∙◌, arith, Contains}
 use Rattle.std.specs.List.{sum_by}
 use Rattle.std.specs.List.Sorted.{IsStrictlyIncreasing}

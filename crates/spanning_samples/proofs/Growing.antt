@@ -1,6 +1,6 @@
--- A spanning tree, as a set of edges, is grown from the root: along a path from the root each vertex that isn't reached
--- gets an arrow back, along the edge by which the path came. When all vertices are reached, the arrows lead to the root
--- from each, one from each vertex, along edges of the set.
+-- Arrows are grown from the root along a spanning tree, given as a set of edges. Along a path from the root each
+-- vertex that is not reached gets an arrow back, along the edge by which the path came. When all vertices are reached,
+-- the arrows lead to the root from each, one from each vertex, along edges of the set.
 use Rattle.std.proofs.Common.{inl, inr, ◌≡◌, ◌≢◌, ◌⊎◌, ℕ, zero, suc, ◌+◌, ◌-◌, ◌<◌, ◌≤◌, Bool, true, cond, ◌==◌, not, ◌&&◌, ◌||◌, List, [], ◌∷◌, length, get_or, Option, Some, None, slice_index, slice_get, refl, sym, ap, subst, ◌∙◌, arith, Contains, eq-eqb, eqb-true, ne_eqb}
 use Rattle.std.proofs.lemmas.Bool.{cases_Bool, cases_eq, or_cases, false≢true}
 use Rattle.std.proofs.lemmas.List.{get_or_default, get_or-map}

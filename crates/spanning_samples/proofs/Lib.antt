@@ -1,4 +1,4 @@
--- What samples of graphs are
+-- The samples of graphs.
 pub mod Orientations
 pub mod TreesAlone
 -- The edges of arrows that lead to the root

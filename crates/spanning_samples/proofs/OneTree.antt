@@ -1,5 +1,5 @@
--- Spanning trees as sets of edges, and arrows to a root: each set has just one choice of them, and each choice a set, with
--- the same weight.
+-- Spanning trees as sets of edges, and arrows to a root: each set has exactly one choice of arrows, and each choice
+-- has one set, with the same weight.
 use Rattle.std.proofs.Common.{inl, inr, ◌≡◌, ◌≢◌, ◌⊎◌, ℕ, zero, suc, ◌+◌, ◌-◌, ◌*◌, ◌<◌, Bool, true, cond, ◌==◌, ◌||◌, List, [], ◌∷◌, ◌++◌, length, map, get_or, Some, None, slice_index, refl, sym, ap, ap₂, subst, ◌∙◌, arith, Contains, eq-eqb, eqb-true}
 use Rattle.std.specs.List.{enumerate_from, filter, list_any, range_with_len}
 use Rattle.std.specs.List.Sorted.{IsStrictlyIncreasing}

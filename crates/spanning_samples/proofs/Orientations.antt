@@ -1,5 +1,5 @@
--- A sample of a graph's sinks leaves no vertex a sink: one with a loop has it for a way out. Of another the pairs of the
--- edges at it are an event, and one of them isn't the sample's value.
+-- A sample of a graph's sinks leaves no vertex a sink: a loop leaves its vertex. For a vertex without a loop, the
+-- pairs of its edges are an event, and the sample differs from one of them.
 use Rattle.std.proofs.Common.{inl, inr, ◌≡◌, ◌≢◌, ◌⊎◌, ℕ, true, List, [], ◌∷◌, length, get_or, Some, All, slice_index, slice_get, sym, ap, ◌∙◌, arith, Contains}
 use Rattle.std.proofs.lemmas.Bool.{and_parts, cases_Bool, cases_eq}
 use Rattle.std.proofs.lemmas.List.Elements.{All-cons}

@@ -1,6 +1,6 @@
--- The edges of arrows that lead to the root: no two arrows go along one edge, since they would lead to each other for
--- ever. So arrows along the same edges are the same: where two choices differed at a vertex, they would differ where the
--- one leads from there, and so on, and never come to the root.
+-- The edges of arrows that lead to the root. No two arrows go along one edge, since they would lead to each other
+-- forever. So arrows along the same edges are the same. If two choices differed at a vertex, they would also differ at
+-- the vertex to which the first leads, and so on, and would never reach the root.
 use Rattle.std.proofs.Common.{inl, inr, ◌≡◌, ◌≢◌, ◌⊎◌, ℕ, zero, suc, ◌+◌, ◌-◌, ◌<◌, List, [], length, get_or, AllPairs, Option, Some, None, slice_index, refl, sym, ap, subst, ◌∙◌, arith, Contains, ext_get_or, not, ◌&&◌}
 use Rattle.std.specs.Option.{option_and_then}
 use Rattle.std.specs.List.{enumerate_from}

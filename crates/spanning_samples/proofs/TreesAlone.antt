@@ -1,4 +1,4 @@
--- A sample of the cycles of a graph leads to the root: where no cycle occurs, no walk along the arrows is long.
+-- A sample of the cycles of a graph leads to the root: if no cycle occurs, no walk along the arrows is long.
 use Rattle.std.proofs.Common.{◌≡◌, ℕ, zero, suc, ◌-◌, List, [], length, get_or, Option, Some, None, slice_index, refl, sym, ap, ◌∙◌, arith}
 use Rattle.std.specs.Option.{option_and_then}
 use Rattle.std.proofs.lemmas.List.FromFn.{length-map-range_with_len}

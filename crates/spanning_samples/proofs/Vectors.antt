@@ -1,4 +1,4 @@
--- Values that a slip in a definition would change, worked by hand.
+-- Values that a mistake in a definition would change, worked by hand.
 use Rattle.std.proofs.Common.{◌≡◌, ℕ, List, [], ◌∷◌, refl}
 use Rattle.graph_read.specs.Graphs.{GraphOf}
 use Rattle.spanning_samples.specs.SpanningSets.{chosen_edges, edges_weight}
