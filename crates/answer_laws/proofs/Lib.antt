@@ -44,7 +44,7 @@ mod SameLines
 -- Statuses. Finished: with 0 no event occurs; and there is one of a run where nothing stands against words and text.
 -- ShownSamples: with 0 and 1 an end is shown, of all that is sampled, by rounds too (ShownSubjects), and of a batch
 -- (ShownBatches), whatever stands behind it (ShownBehind).
-mod Finished
+pub mod Finished
 mod ShownSubjects
 mod ShownBatches
 mod ShownBehind

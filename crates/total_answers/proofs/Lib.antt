@@ -32,3 +32,5 @@ mod HeadsFound
 mod CertsRead
 -- So every line has an answer (Answered).
 mod Answered
+-- And valid input has one with the status of a run (ValidAnswers).
+mod ValidAnswers

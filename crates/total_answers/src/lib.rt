@@ -1,7 +1,7 @@
-//! The law that every line has an answer. There is no code that runs: the law is the contract of a
-//! function of empty body.
+//! The law that every line has an answer, and which valid input has. There is no code that runs: the
+//! laws are the contracts of functions of empty body.
 #![tactic(auto)]
 
 mod laws;
 
-pub use laws::every_line_is_answered;
+pub use laws::{every_line_is_answered, valid_input_is_answered};
