@@ -97,7 +97,7 @@ def refused(graph: Any, multiplicative: bool) -> str:
     if not multiplicative:
         return "popsample samples by the product of weights, and not by their sum: multiplicative=False is refused"
     if graph.is_directed():
-        return "the graph is directed: hand in graph.to_undirected()"
+        return "the graph must be undirected: pass graph.to_undirected()"
     return ""
 
 

@@ -181,7 +181,7 @@ class Graphs(Refusing):
     def test_an_empty_graph(self):
         for call in (spanning_tree, samples):
             error = self.refused(popsample.EmptyGraphError, call, [], **({"kind": "tree"} if call is samples else {}))
-            self.assertIn("The graph has no vertex, so it has no spanning tree", str(error))
+            self.assertIn("The graph must have a vertex", str(error))
         self.refused(ValueError, spanning_trees, {}, 3)
 
     def test_a_root_that_is_no_vertex(self):

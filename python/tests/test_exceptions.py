@@ -12,7 +12,7 @@ from popsample._errors import base_error
 
 from .checks import ZEROS, Refusing, extremal_solution, kinds_below
 
-# For the annotation of each parameter of an exception, something that may be handed in.
+# For the annotation of each parameter of an exception, something that may be passed.
 GIVEN = {
     "int": 7,
     "int | None": 7,

@@ -1,4 +1,4 @@
-"""What was once misread in silence: it is read as it is meant, or refused in words that say what to hand in."""
+"""What was once misread in silence: it is read as it is meant, or refused in words that say what to pass."""
 
 import importlib.util
 import random
@@ -46,13 +46,15 @@ class Dicts(Refusing):
 
     def test_what_is_no_adjacency(self):
         error = self.refused(TypeError, spanning_tree, {"ab": 3})
-        self.assertIn("what stands at vertex 'ab', 3, is no list of neighbours", str(error))
+        self.assertIn("The neighbours of vertex 'ab' must be a list or a dict, not 3.", str(error))
         self.refused(TypeError, spanning_tree, {"ab": "cd"})
-        self.assertIn("has a neighbour twice", str(self.refused(ValueError, spanning_tree, {"a": ["b", "b"]})))
+        error = self.refused(ValueError, spanning_tree, {"a": ["b", "b"]})
+        self.assertIn("must be different, not ['b', 'b']", str(error))
         error = self.refused(ValueError, spanning_tree, {"a": {"b": 1}, "b": {"a": 2}})
-        self.assertIn("the edge ('a', 'b') has 1 at its first end and 2 at its second", str(error))
+        told = "The edge ('a', 'b') must have the same at both ends, not 1 at its first and 2 at its second"
+        self.assertIn(told, str(error))
         error = self.refused(TypeError, spanning_tree, {"a": {"b": {0: {}, 1: {}}}})
-        self.assertIn("hand in the multigraph itself", str(error))
+        self.assertIn("pass the multigraph itself", str(error))
 
     @unittest.skipUnless(HAS_NETWORKX, "networkx isn't installed")
     def test_those_of_networkx(self):
@@ -93,7 +95,7 @@ class Views(Refusing):
         graph = networkx.grid_2d_graph(2, 2)
         for view in (graph.nodes, graph.to_directed().edges, networkx.MultiDiGraph([(1, 2)]).edges):
             error = self.refused(TypeError, spanning_tree, view)
-            self.assertIn("is no view of the edges of an undirected graph: pass the graph itself", str(error))
+            self.assertIn("A view must be of the edges of an undirected graph", str(error))
 
 
 class Strings(Refusing):

@@ -67,7 +67,7 @@ class Backwards:
         self.most = 0
 
     def submit(self, call, /, *arguments):
-        """A call that is made when a result is asked for, behind all that were handed in later."""
+        """A call that is made when a result is asked for, after all that were submitted later."""
         future = Future()
         self.waiting.append((future, call, arguments))
         self.most = max(self.most, len(self.waiting))

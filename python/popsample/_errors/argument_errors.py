@@ -54,7 +54,7 @@ class EmptyGraphError(ArgumentError):
     """The graph has no vertex, so it has no spanning tree."""
 
     def __init__(self) -> None:
-        super().__init__("The graph has no vertex, so it has no spanning tree: hand in one that has a vertex.")
+        super().__init__("The graph must have a vertex: without one it has no spanning tree.")
 
 
 class WeightError(ArgumentError):
@@ -108,7 +108,7 @@ class UnsatisfiableError(ArgumentError):
 
     def __init__(self, clauses: Sequence[int]) -> None:
         super().__init__(
-            f"The {len(clauses)} clauses that are joined to clause {clauses[0]} have {counted(len(clauses) - 1)}, each of "
-            "which makes at most one of them true, so nothing satisfies all: leave one of the clauses out.",
+            f"The {len(clauses)} clauses that are joined to clause {clauses[0]} have {counted(len(clauses) - 1)}, each "
+            "of which makes at most one of them true, so nothing satisfies all: leave one of the clauses out.",
         )
         self.clauses = tuple(clauses)

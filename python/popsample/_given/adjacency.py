@@ -11,8 +11,8 @@ from .graph_parts import GraphParts, parts_of
 from .weights import attribute_weights
 
 WANTED = (
-    "a dict is read as an adjacency, with a list of neighbours or a dict of neighbours and weights or attributes for "
-    "each vertex"
+    "A dict is read as an adjacency, with a list of neighbours or a dict of neighbours and weights or attributes for "
+    "each vertex."
 )
 
 
@@ -22,11 +22,12 @@ def neighbours(vertex: Hashable, given: Any) -> Iterator[tuple[Hashable, Any]]:
         yield from given.items()
         return
     if isinstance(given, (str, bytes)) or not isinstance(given, Iterable):
-        raise InputTypeError(f"what stands at vertex {vertex!r}, {given!r}, is no list of neighbours: {WANTED}")
+        raise InputTypeError(f"The neighbours of vertex {vertex!r} must be a list or a dict, not {given!r}. {WANTED}")
     names = list(given)
     if len(dict.fromkeys(names)) != len(names):
         raise ArgumentError(
-            f"vertex {vertex!r} has a neighbour twice, {given!r}: hand in a list of edges, where edges may be parallel"
+            f"The neighbours of vertex {vertex!r} must be different, not {given!r}. For parallel edges pass a list of "
+            "edges."
         )
     yield from ((name, {}) for name in names)
 
@@ -53,15 +54,15 @@ def add_edge(edges: dict[tuple[Hashable, Hashable], Edge], pair: tuple[Hashable,
     """Add the edge of a pair, unless its other end had it already, with the same weight or attributes."""
     if isinstance(weight, Mapping) and weight and all(isinstance(value, Mapping) for value in weight.values()):
         raise InputTypeError(
-            f"the edge {pair!r} has attributes by key, {weight!r}, as in a multigraph: hand in the multigraph itself"
+            f"The edge {pair!r} has attributes by key, {weight!r}, as in a multigraph: pass the multigraph itself."
         )
     before = edges.get(pair[::-1]) if pair[0] != pair[1] else None
     if before is None:
         edges[pair] = (*pair, weight, pair)
     elif before[2] != weight:
         raise ArgumentError(
-            f"the edge {pair[::-1]!r} has {before[2]!r} at its first end and {weight!r} at its second: an undirected "
-            "graph has the same at both"
+            f"The edge {pair[::-1]!r} must have the same at both ends, not {before[2]!r} at its first and {weight!r} "
+            "at its second: the graph is undirected."
         )
 
 

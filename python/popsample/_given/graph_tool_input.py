@@ -1,4 +1,4 @@
-"""Graphs of graph-tool, which is imported by nobody but who hands one in."""
+"""Graphs of graph-tool, which only a caller who passes one has imported."""
 
 from __future__ import annotations
 

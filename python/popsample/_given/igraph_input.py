@@ -1,4 +1,4 @@
-"""Graphs of igraph, which is imported by nobody but who hands one in."""
+"""Graphs of igraph, which only a caller who passes one has imported."""
 
 from __future__ import annotations
 

@@ -1,4 +1,4 @@
-"""Graphs of networkx, which is imported by nobody but who hands one in."""
+"""Graphs of networkx, which only a caller who passes one has imported."""
 
 from __future__ import annotations
 
@@ -92,8 +92,7 @@ def viewed_edges(view: Any) -> list[tuple[Any, ...]]:
     kinds = sys.modules.get("networkx.classes.reportviews")
     if kinds is None or not isinstance(view, (kinds.EdgeView, kinds.MultiEdgeView)):
         raise InputTypeError(
-            f"what is handed in, {type(view).__name__}, is no view of the edges of an undirected graph: pass the graph "
-            "itself"
+            f"A view must be of the edges of an undirected graph, not {type(view).__name__}: pass the graph itself."
         )
     return [(*edge[:2], view[edge]) for edge in view]
 

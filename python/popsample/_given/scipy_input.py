@@ -1,4 +1,4 @@
-"""Sparse matrices of scipy, which is imported by nobody but who hands one in."""
+"""Sparse matrices of scipy, which only a caller who passes one has imported."""
 
 from __future__ import annotations
 
