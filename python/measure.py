@@ -144,10 +144,9 @@ def many_rows(grid: Edges, threads: ThreadPoolExecutor) -> Iterator[Row]:
         yield Row("the same, 4 threads", lambda: trees(executor=threads).arrays(), 3, 0.28)
     yield Row("20,000 trees of a 10 by 10 grid: objects", lambda: all_of(trees()), 3, 0.8)
     yield Row("the same, 4 threads, objects", lambda: all_of(trees(executor=threads)), 3)
-    small = popsample.from_edges(SMALL)
     calls = 2000
-    call = partial(popsample.spanning_tree, small, key=KEY)
-    yield Row("one call, a graph of 3 edges", lambda: [call() for _ in range(calls)], 3, 60e-6, calls)
+    call = partial(popsample.spanning_tree, SMALL, key=KEY)
+    yield Row("one call, a list of 3 edges", lambda: [call() for _ in range(calls)], 3, 60e-6, calls)
 
 
 def of_graph_tool(grid: Edges, edges: Edges, huge: Edges) -> Iterator[Row]:

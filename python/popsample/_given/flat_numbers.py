@@ -2,8 +2,11 @@
 
 from __future__ import annotations
 
+import importlib.util
+import sys
 from array import array
 from collections.abc import Hashable, Iterable, Sequence
+from functools import cache
 from itertools import chain
 from typing import Any, Union
 
@@ -14,8 +17,16 @@ Flat = Union["array[int]", Any]
 NONE = 2**32 - 1
 
 
+@cache
+def is_installed(name: str) -> bool:
+    """Return whether a module is found. To look for one that isn't there takes longer than to read a small graph."""
+    return importlib.util.find_spec(name) is not None
+
+
 def numpy_module() -> Any:
     """Return numpy, or None if it isn't installed."""
+    if "numpy" not in sys.modules and not is_installed("numpy"):
+        return None
     try:
         import numpy
     except ImportError:
