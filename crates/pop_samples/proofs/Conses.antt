@@ -92,7 +92,7 @@ onto_differ {X} x (ys ∷ yss) others a b apart =
     (onto_differ x yss others (tail_differ ys yss a) b apart)
 
 -- it has each list of one of the fronts and one of the rests
-conses_in : {X : Type 0} → (xs : List X) (yss : List (List X)) (x : X) (ys : List X) → Contains xs x → Contains yss ys
+pub conses_in : {X : Type 0} → (xs : List X) (yss : List (List X)) (x : X) (ys : List X) → Contains xs x → Contains yss ys
     → Contains (conses xs yss) (x ∷ ys)
 conses_in [] yss x ys has at = absurd (none_in x has)
 conses_in {X} (w ∷ xs) yss x ys has at = elim (member_cases w xs x has) [

@@ -99,7 +99,8 @@ module _ (i : Instance) (is : IsInstance i) (extremal : IsExtremal i.family)
                   subst (λ k. IsSampleEnd i k other) (sym last) (subst (IsSampleEnd i n) same is_end)
               | inr before ↦
                   let inside : j < length ends = omega (arith, within, size, count, before) in
-                  let old : get_or ends j other ≡ other = sym (get_or_append_left ends (end ∷ []) other j inside) ∙ here in
+                  let old : get_or ends j other ≡ other =
+                  sym (get_or_append_left ends (end ∷ []) other j inside) ∙ here in
                   are.each j other (slice_get-get_or ends j other inside ∙ ap (λ (e : End). Some e) old)
             ];
       }

@@ -1,5 +1,5 @@
--- Bytes are a certificate, or they are refused; and a certificate has a legal log, or it is refused: for its input, or for
--- its log text. What comes of one that is replayed is where its log leads.
+-- Bytes are a certificate, or they are refused; and a certificate has a legal log, or it is refused: for its input, or
+-- for its log text. What comes of one that is replayed is where its log leads.
 use Rattle.std.proofs.Common.{inl, inr, ◌≡◌, ◌⊎◌, ℕ, ◌^◌, ◌≤◌, true, List, [], ◌∷◌, ◌++◌, length, take, drop, refl, sym, ap, subst, ◌∙◌, arith, append_assoc, Contains}
 use Rattle.std.specs.List.{concat}
 use Rattle.std.proofs.lemmas.Bool.{cases_lt, false≢true}
@@ -43,7 +43,8 @@ use Rattle.total_answers.proofs.Making.{CanBeMade, Samples, made_or_refused}
 
 -- lines begin with those of a head, or not
 decide_have : (lines : List (List ℕ)) → IsDecided (HaveHead lines)
-decide_have lines = decide_as _ _ (λ (h, is, (rest, same)). (h, is, rest, same)) (λ (h, is, rest, same). (h, is, (rest, same)))
+decide_have lines = decide_as _ _ (λ (h, is, (rest, same)). (h, is, rest, same))
+    (λ (h, is, rest, same). (h, is, (rest, same)))
     (decide_head (λ h. (rest : List (List ℕ)) × (lines ≡ head_lines h ++ rest))
     (λ h. decide_front same_list (head_lines h) lines))
 

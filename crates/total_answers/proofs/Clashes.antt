@@ -1,5 +1,5 @@
--- Listed events are extremal, or two of them clash, of which there is a least pair of numbers: whether two cubes exclude
--- each other is found.
+-- Listed events are extremal, or two of them clash, of which there is a least pair of numbers: whether two cubes
+-- exclude each other is found.
 use Rattle.std.proofs.Common.{inl, inr, ◌≡◌, ◌⊎◌, ℕ, List, [], get_or, Some, slice_get, refl, sym, ap, ap₂, subst, ◌∙◌, Contains}
 use Rattle.std.proofs.lemmas.Bool.{cases_eq, cases_order}
 use Rattle.std.proofs.lemmas.List.Elements.{All-contains}

@@ -60,7 +60,10 @@ cube_of (l ∷ clause) =
           ]) low.0 in
           let first : ℕ × ℕ = falsifier l in
           let there : Contains all.0 first =
-          (all.1.exact first).1 (head_member first (map falsifier clause), low.1 first (head_member first (map falsifier clause))) in
+          (all.1.exact first).1 (
+            head_member first (map falsifier clause),
+            low.1 first (head_member first (map falsifier clause)),
+          ) in
           inl (
             all.0,
             record {

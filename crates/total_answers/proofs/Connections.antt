@@ -70,7 +70,8 @@ module _ (g : GraphOf) (is : IsGraph g) (root : ℕ) (root_is : IsVertex g.verti
 
   -- an edge leads from a vertex that is met to this one
   abbrev LeadsIn : List ℕ → ℕ → Type 0
-  LeadsIn met w = (a : ℕ) × Contains met a × ((e : Edge) × Contains g.edges e × ((touches e a ≡ true) × (other_end e a ≡ w)))
+  LeadsIn met w = (a : ℕ) × Contains met a
+      × ((e : Edge) × Contains g.edges e × ((touches e a ≡ true) × (other_end e a ≡ w)))
 
   -- it is found whether one does
   leads_in : (met : List ℕ) (w : ℕ) → IsDecided (LeadsIn met w)

@@ -62,7 +62,8 @@ module _ (s : StackTable) (heads : Heads) (c : List ℕ) where
       let rest : ℕ = k - b in
       let whole : b + rest ≡ k = omega (arith, below) in
       let home : follow step rest (at b) ≡ Some v =
-      sym (follow_more step b rest v (at b) (along b (omega (arith, below)))) ∙ ap (λ j. follow step j v) whole ∙ back in
+      sym (follow_more step b rest v (at b) (along b (omega (arith, below))))
+      ∙ ap (λ j. follow step j v) whole ∙ back in
       let early : follow step (a + rest) v ≡ Some v =
       follow_more step a rest v (at a) (along a (omega (arith, less, below))) ∙ ap (follow step rest) same ∙ home in
       least.none_before (a + rest) (omega (arith, less, below)) (omega (arith, below), early) in

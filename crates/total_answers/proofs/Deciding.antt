@@ -76,29 +76,14 @@ pub some_member : {X : Type 0} → (P : X → Type 0) (xs : List X) → ((x : X)
     → ((x : X) × Contains xs x × P x) ⊎ ((x : X) → Contains xs x → P x → ⊥)
 some_member P xs each = known_member P xs (λ x has. each x)
 
--- something of a kind whose all are members is such, or nothing is
-pub found_in : {X : Type 0} → (P : X → Type 0) (xs : List X) → ((x : X) → IsDecided (P x))
-    → ((x : X) → P x → Contains xs x) → Finds P
-found_in P xs each all = elim (some_member P xs each) [
-  | inl found ↦ inl (found.0, found.2)
-  | inr none ↦ inr (λ x holds. none x (all x holds) holds)
-]
-
--- so it is with a kind of numbers below another
+-- some number of a kind is such, or none is, where the kind is below another
 pub found_below : (P : ℕ → Type 0) (n : ℕ) → ((k : ℕ) → IsDecided (P k)) → ((k : ℕ) → P k → k < n) → Finds P
 found_below P n each low = elim (some_below P n (λ k less. each k)) [
   | inl found ↦ inl (found.0, found.2)
   | inr none ↦ inr (λ k holds. none k (low k holds) holds)
 ]
 
--- the least of these, or none is
-pub least_found : (P : ℕ → Type 0) (n : ℕ) → ((k : ℕ) → IsDecided (P k)) → ((k : ℕ) → P k → k < n) → Finds (IsLeast P)
-least_found P n each low = elim (least_below P n each) [
-  | inl found ↦ inl found
-  | inr none ↦ inr (λ k least. none k (low k least.holds) least.holds)
-]
-
--- and where none is least, there is none
+-- the least of these, or there is none
 pub none_least : (P : ℕ → Type 0) (n : ℕ) → ((k : ℕ) → IsDecided (P k)) → ((k : ℕ) → P k → k < n)
     → ((k : ℕ) × IsLeast P k) ⊎ ((k : ℕ) → P k → ⊥)
 none_least P n each low = elim (least_below P n each) [

@@ -1,10 +1,12 @@
 -- What is one of finitely many is found by trying all: numbers below another, rows of them, lists that are short, and
 -- members for which something holds.
-use Rattle.std.proofs.Common.{inl, inr, ◌≡◌, ℕ, zero, suc, ◌≤◌, List, [], ◌∷◌, ◌++◌, length, take, take_all, refl, sym, ap, ap₂, subst, ◌∙◌, arith, Contains}
+use Rattle.std.proofs.Common.{inl, inr, ◌≡◌, ℕ, zero, suc, ◌≤◌, List, [], ◌∷◌, ◌++◌, length, take, take_all, refl, sym, ap₂, subst, ◌∙◌, arith, Contains}
 use Rattle.std.specs.List.{AllByRecursion}
 use Rattle.std.proofs.lemmas.Bool.{cases_lt}
+use Rattle.std.proofs.lemmas.List.{append-nil}
 use Rattle.pop_model.specs.Places.{IsLeast}
 use Rattle.pop_model.proofs.Rising.{member_cases, head_member, tail_member, none_in}
+use Rattle.pop_samples.proofs.Conses.{conses, conses_in}
 use Rattle.pop_samples.proofs.AllRows.{IsRow, all_row, all_row_list}
 use Rattle.prs_rounds.proofs.ClosedSets.{IsDecided}
 use Rattle.round_samples.proofs.Moving.{least_below}
@@ -53,43 +55,10 @@ rows_listed d h =
     let all = all_row d h in
     (all_row_list d h, record { all = λ row is. (all.exact row).1 is; only = λ row has. (all.exact row).0 has })
 
--- the lists of these with another in front
-abbrev fronted : {X : Type 0} → X → List (List X) → List (List X) → List (List X)
-fronted x [] others = others
-fronted x (ys ∷ yss) others = (x ∷ ys) ∷ fronted x yss others
-
-fronted_has : {X : Type 0} → (x : X) (yss others : List (List X)) (ys : List X) → Contains yss ys
-    → Contains (fronted x yss others) (x ∷ ys)
-fronted_has x [] others ys has = absurd (none_in ys has)
-fronted_has {X} x (zs ∷ yss) others ys has = elim (member_cases zs yss ys has) [
-  | inl same ↦ subst (λ (l : List X). Contains (fronted x (zs ∷ yss) others) (x ∷ l)) same
-      (head_member (x ∷ zs) (fronted x yss others))
-  | inr behind ↦ tail_member (x ∷ zs) (fronted x yss others) (x ∷ ys) (fronted_has x yss others ys behind)
-]
-
-fronted_others : {X : Type 0} → (x : X) (yss others : List (List X)) (z : List X) → Contains others z
-    → Contains (fronted x yss others) z
-fronted_others x [] others z has = has
-fronted_others x (ys ∷ yss) others z has =
-    tail_member (x ∷ ys) (fronted x yss others) z (fronted_others x yss others z has)
-
--- each of the first in front of each of the others
-abbrev all_fronted : {X : Type 0} → List X → List (List X) → List (List X)
-all_fronted [] yss = []
-all_fronted (x ∷ xs) yss = fronted x yss (all_fronted xs yss)
-
-all_fronted_has : {X : Type 0} → (xs : List X) (yss : List (List X)) (x : X) (ys : List X) → Contains xs x
-    → Contains yss ys → Contains (all_fronted xs yss) (x ∷ ys)
-all_fronted_has [] yss x ys has has' = absurd (none_in x has)
-all_fronted_has {X} (w ∷ xs) yss x ys has has' = elim (member_cases w xs x has) [
-  | inl same ↦ subst (λ (z : X). Contains (all_fronted (w ∷ xs) yss) (z ∷ ys)) same
-      (fronted_has w yss (all_fronted xs yss) ys has')
-  | inr behind ↦ fronted_others w yss (all_fronted xs yss) (x ∷ ys) (all_fronted_has xs yss x ys behind has')
-]
-
 -- short lists of members of a list are in a list
 pub short_lists : {X : Type 0} → (xs : List X) (n : ℕ)
-    → (lists : List (List X)) × ((l : List X) → length l ≤ n → ((x : X) → Contains l x → Contains xs x) → Contains lists l)
+    → (lists : List (List X))
+    × ((l : List X) → length l ≤ n → ((x : X) → Contains l x → Contains xs x) → Contains lists l)
 short_lists {X} xs zero = ([] ∷ [], only)
   where
     only : (l : List X) → length l ≤ 0 → ((x : X) → Contains l x → Contains xs x) → Contains ([] ∷ []) l
@@ -97,16 +66,16 @@ short_lists {X} xs zero = ([] ∷ [], only)
     only (x ∷ l) few among = absurd (omega (arith, few))
 short_lists {X} xs (suc n) =
     let rest = short_lists xs n in
-    ([] ∷ all_fronted xs rest.0, has rest.0 rest.1)
+    ([] ∷ conses xs rest.0, has rest.0 rest.1)
   where
     has : (lists : List (List X))
         → ((l : List X) → length l ≤ n → ((x : X) → Contains l x → Contains xs x) → Contains lists l)
         → (l : List X) → length l ≤ suc n → ((x : X) → Contains l x → Contains xs x)
-        → Contains ([] ∷ all_fronted xs lists) l
-    has lists rest [] few among = head_member [] (all_fronted xs lists)
+        → Contains ([] ∷ conses xs lists) l
+    has lists rest [] few among = head_member [] (conses xs lists)
     has lists rest (x ∷ l) few among =
-        tail_member [] (all_fronted xs lists) (x ∷ l)
-        (all_fronted_has xs lists x l (among x (head_member x l))
+        tail_member [] (conses xs lists) (x ∷ l)
+        (conses_in xs lists x l (among x (head_member x l))
         (rest l (omega (arith, few)) (λ y has'. among y (tail_member x l y has'))))
 
 -- ---- fronts
@@ -127,11 +96,7 @@ decide_front {X} same (x ∷ xs) (y ∷ ys) = elim (same y x) [
 -- two lists can go on alike, or not
 pub decide_fit : {X : Type 0} → ((x y : X) → IsDecided (x ≡ y)) → (xs ys : List X)
     → IsDecided ((more : List X) × (rest : List X) × (xs ++ more ≡ ys ++ rest))
-decide_fit same [] ys = inl (ys, [], append_none ys)
-  where
-    append_none : {Y : Type 0} → (l : List Y) → l ≡ l ++ []
-    append_none [] = refl
-    append_none (y ∷ l) = ap (λ k. y ∷ k) (append_none l)
+decide_fit same [] ys = inl (ys, [], sym (append-nil ys))
 decide_fit same (x ∷ xs) [] = inl ([], (x ∷ xs) ++ [], refl)
 decide_fit {X} same (x ∷ xs) (y ∷ ys) = elim (same x y) [
   | inr other ↦ inr (λ (more, rest, is). other (cc))
@@ -172,7 +137,7 @@ first_fails {X} Stand each none xs =
     before zero least = absurd (least.holds none)
     before (suc k) least = elim (cases_lt (length xs) k) [
       | inl long ↦ absurd (least.none_before (length xs) (omega (arith, long)) (λ stand.
-          least.holds (subst Stand (take_all (length xs) xs (omega arith) ∙ sym (take_all (suc k) xs (omega (arith, long))))
-          stand)))
+          least.holds (subst Stand
+          (take_all (length xs) xs (omega arith) ∙ sym (take_all (suc k) xs (omega (arith, long)))) stand)))
       | inr low ↦ (k, refl, low, stands k (λ not. least.none_before k (omega arith) not))
     ]

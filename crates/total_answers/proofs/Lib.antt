@@ -8,10 +8,11 @@ mod SoundStacks
 mod ClauseEvents
 mod SinkEvents
 mod Connections
--- Listed events are extremal, or two clash (Clashes). So what a command samples is made, or the text is refused (Making).
+-- Listed events are extremal, or two clash (Clashes). So what a command samples is made, or its text refused (Making).
 mod Clashes
 mod Making
--- At any cursors the cycles that occur are found (CyclesAt), and so the events that do, and an end of a run (StuckFound).
+-- At any cursors the cycles that occur are found (CyclesAt), and so are all events that do, and an end of a run
+-- (StuckFound).
 mod CyclesAt
 mod StuckFound
 -- Each record of a log has a witness tree (TreesFound).

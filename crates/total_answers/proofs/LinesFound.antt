@@ -89,10 +89,6 @@ subject_sums k w text s =
 listed_subject : (w : Wanted) (text : List ℕ) (s : Subject) → IsSubjectOf Rounds w text s → IsListed s.family
 listed_subject w text s is = subst (λ (t : Subject). IsListed t.family) (sym is.are.is) tt
 
--- something comes of a job by its line
-abbrev pub Comes : Job → List Watcher → List ℕ → Outcome → Type 0
-Comes job ws text o = ComesOf job ws text o
-
 module _ (job : Job) (ws : List Watcher) (text : List ℕ) (s : Subject)
     (can : CanBeMade job.command (wanted_by job) text s) (short : AreShort (origin_for job))
     (stop : (pops : ℕ) → job.pops ≡ Some pops → MayStop job) where
@@ -138,7 +134,8 @@ module _ (job : Job) (ws : List Watcher) (text : List ℕ) (s : Subject)
               refl,
               record {
                 legal = of.0;
-                layered = placed_in_layers i (family_cubes i.family made_is.family) (start_of i) front stops.0 placed.0 placed.1;
+                layered = placed_in_layers i (family_cubes i.family made_is.family) (start_of i) front stops.0
+                    placed.0 placed.1;
                 count = omega (arith, size, same);
                 poppable = subst (HasPoppable i) (sym of.1) stops.1;
               },
@@ -201,7 +198,8 @@ module _ (job : Job) (ws : List Watcher) (text : List ℕ) (s : Subject)
         by_pops : (most : Option ℕ) → job.pops ≡ most → (o : Outcome) (log : List LogRecord)
             → IsLegal i (start_of i) log → (EndsWithin most (length log) → ComesOf job ws text o)
             → ((front : List LogRecord) → GoesOnFrom front o) → EndsOnce
-        by_pops None is o log legal comes goes = record { outcome = o; comes = comes tt; goes_on = λ none front. goes front }
+        by_pops None is o log legal comes goes =
+            record { outcome = o; comes = comes tt; goes_on = λ none front. goes front }
         by_pops (Some pops) is o log legal comes goes = elim (cases_lt pops (length log)) [
           | inr most ↦ record { outcome = o; comes = comes most; goes_on = λ none front. goes front }
           | inl less ↦

@@ -33,8 +33,8 @@ decide_layer Ordered Q each = elim (each 0) [
   | inr not ↦ inr (λ (y, is, q). not (subst Q is q))
 ]
 decide_layer Layered Q each = elim (found_below (λ y. LayerFits Layered y × Q y) (2 ^ 64)
-    (λ y. decide_both (LayerFits Layered y) (Q y) (decide_both (0 < y) (y < 2 ^ 64) (decide_lt 0 y) (decide_lt y (2 ^ 64)))
-    (each y)) (λ y h. h.0.1)) [
+    (λ y. decide_both (LayerFits Layered y) (Q y)
+    (decide_both (0 < y) (y < 2 ^ 64) (decide_lt 0 y) (decide_lt y (2 ^ 64))) (each y)) (λ y h. h.0.1)) [
       | inl (y, both) ↦ inl (y, both.0, both.1)
       | inr none ↦ inr (λ (y, fits, q). none y (fits, q))
     ]

@@ -147,7 +147,8 @@ none_last (x ∷ front) q same = cc
 -- a record follows in layers, or not
 decide_follows : (before : List Placed) (p : Placed) → IsDecided (FollowsInLayers before p)
 decide_follows before p = elim (cases_eq (greatest_layer before p.0 + 1) p.1) [
-  | inr other ↦ inr (λ h. other (one_layer before p.0 (greatest_layer before p.0 + 1) p.1 (is_layer before p.0) h.layer))
+  | inr other ↦ inr (λ h.
+      other (one_layer before p.0 (greatest_layer before p.0 + 1) p.1 (is_layer before p.0) h.layer))
   | inl same ↦
       let layer : IsLayer before p.0 p.1 = subst (IsLayer before p.0) same (is_layer before p.0) in
       elim (last_of before) [

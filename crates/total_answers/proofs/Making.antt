@@ -44,7 +44,8 @@ formula_or may_clash origin asked f =
   where
     by : (may_clash : Bool) → CanRun origin asked (assignments f []) → (events : List (ℕ × Cube))
         → AreEventsOf f.clauses events
-        → IsOrRefused (λ s. AreAssignments may_clash f s × CanRun origin asked s) (RefusesFormula may_clash origin asked f)
+        → IsOrRefused (λ s. AreAssignments may_clash f s × CanRun origin asked s)
+        (RefusesFormula may_clash origin asked f)
     by true can events of = inl (
       assignments f events,
       (

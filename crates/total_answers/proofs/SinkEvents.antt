@@ -51,7 +51,8 @@ decide_isolated g w = elim (decide_vertex g.vertices w) [
 -- the least vertex that is, or none is
 pub isolated_or_none : (g : GraphOf) → ((w : ℕ) × IsLeast (IsIsolated g) w) ⊎ ((w : ℕ) → IsIsolated g w → ⊥)
 isolated_or_none g =
-    none_least (IsIsolated g) (g.vertices + 1) (decide_isolated g) (λ w is. let last = is.vertex.last in omega (arith, last))
+    none_least (IsIsolated g) (g.vertices + 1) (decide_isolated g)
+    (λ w is. let last = is.vertex.last in omega (arith, last))
 
 -- whether it can be a sink
 sink_at : (g : GraphOf) (w : ℕ) → Finds (HasSink g w)

@@ -70,7 +70,8 @@ rows_or_fault rows weights = elim (cases_eq (length rows) (length weights)) [
           | inl some ↦ some
           | inr none ↦ absurd (full v (below, omega (arith, none)))
         ] in
-        elim (least_pair (IsTooLarge rows weights) (length rows) (λ v. length (row_of rows v)) (decide_large rows weights)
+        elim (least_pair (IsTooLarge rows weights) (length rows) (λ v. length (row_of rows v))
+        (decide_large rows weights)
         (λ v k h. (h.row, h.place))) [
           | inl (v, k, least) ↦ inr (ValueTooLarge v k, (count, entries, least))
           | inr small ↦ inl (record {

@@ -1,5 +1,5 @@
--- At any cursors the events that occur are listed by their units, of which each has one at most; and it is found whether
--- one is poppable. So a run goes on to an end.
+-- At any cursors the events that occur are listed by their units, of which each has one at most; and it is found
+-- whether one is poppable. So a run goes on to an end.
 use Rattle.std.proofs.Common.{inl, inr, ◌≡◌, ℕ, ◌<◌, List, length, refl, sym, ap, ap₂, subst, ◌∙◌, arith}
 use Rattle.std.proofs.lemmas.Bool.{cases_Bool, cases_lt, false≢true}
 use Rattle.pop_model.specs.Stacks.{StackTable, variables_of}
@@ -70,7 +70,8 @@ unit_below (Cycles heads) e (is, at) =
     let less = cycle_below heads e.cube (first_of e.cube) is (first_named e.cube is.cube) in omega (arith, less, at)
 
 -- so the events that occur are listed
-stuck_over : (s : StackTable) (family : Family) (c : List ℕ) → (stuck : List Event) × IsStuckList (over s family) c stuck
+stuck_over : (s : StackTable) (family : Family) (c : List ℕ)
+    → (stuck : List Event) × IsStuckList (over s family) c stuck
 stuck_over s family c =
     let key : Event → ℕ = λ e. e.unit in
     let all = listed key (OccursAt s family c) (one_at_unit s family c) (at_unit s family c) (units_of family) in (

@@ -55,7 +55,8 @@ module _ (names_are : Names) (i : Instance) (is : IsInstance i) (log : List LogR
   named_witness : (asked : ℕ × ℕ) (v : ℕ) → v < length (replay (start_of i) log) → name_of names_are v ≡ asked.0
       → (w : Witness) × IsWitness names_are (Some asked) (replay (start_of i) log) log w
   named_witness asked v below named = elim (cases_lt asked.1 (cursor (replay (start_of i) log) v)) [
-    | inr past ↦ (Missing asked.0 asked.1 (cursor (replay (start_of i) log) v), (refl, refl, inl (v, below, named, refl), past))
+    | inr past ↦
+        (Missing asked.0 asked.1 (cursor (replay (start_of i) log) v), (refl, refl, inl (v, below, named, refl), past))
     | inl less ↦
         let low : v < variables_of i.stacks =
         omega (arith, below, length-replay (start_of i) log, length-start i) in

@@ -1,5 +1,5 @@
--- Each record of a log has a witness tree: the earlier records join it one by one, the children of a vertex are sorted by
--- their labels, and the depths of vertices are bounded.
+-- Each record of a log has a witness tree: the earlier records join it one by one, the children of a vertex are sorted
+-- by their labels, and the depths of vertices are bounded.
 use Rattle.std.proofs.Common.{inl, inr, ◌≡◌, ◌⊎◌, ◌↔◌, ℕ, zero, suc, ◌+◌, ◌<◌, ◌≤◌, List, [], ◌∷◌, ◌++◌, length, take, get_or, Some, slice_get, refl, sym, ap, subst, ◌∙◌, arith, Contains, AllPairs}
 use Rattle.std.proofs.lemmas.Bool.{cases_eq, cases_lt}
 use Rattle.std.proofs.lemmas.List.Elements.{Contains-get_or}
@@ -373,7 +373,8 @@ tree_found log t r full at =
     let front : List LogRecord = take t log in
     let whole : take (t + 1) log ≡ front ++ r ∷ [] = take_push log t r at in
     let g : Grown (front ++ r ∷ []) r =
-    grown front r (λ q has. full q (front_member log (t + 1) q (subst (λ (l : List LogRecord). Contains l q) (sym whole) has))) in
+    grown front r (λ q has.
+    full q (front_member log (t + 1) q (subst (λ (l : List LogRecord). Contains l q) (sym whole) has))) in
     let apart = levels_are_apart (front ++ r ∷ []) g.vs g.are in
     let low = keys_below (λ (v : Vertex). v.depth) g.vs in
     let root : Vertex = at_depth 0 r.event in

@@ -55,7 +55,8 @@ module _ (words : List (List ℕ)) (job : Job) (asks : Asks words job) (ws : Lis
         | inl (line, comes) ↦ line_missing job ws text facts i placed stuck t comes none missing
         | inr (inl (replays, comes)) ↦ absurd (let told = comes.comes.is.told in cc)
         | inr (inr (resumes, comes)) ↦
-            line_missing (job_of comes.cert.head) ws comes.cert.input facts i placed stuck t comes.comes.comes refl missing
+            line_missing (job_of comes.cert.head) ws comes.cert.input facts i placed stuck t comes.comes.comes refl
+            missing
       ]
 
   -- an outcome has its witness, or tells with status 6 that it is missing

@@ -1,5 +1,5 @@
-//! The law that every line has an answer, and which valid input has. There is no code that runs: the
-//! laws are the contracts of functions of empty body.
+//! The laws that every line has an answer, and which valid input has. There is no code that runs:
+//! the laws are the contracts of functions of empty body.
 #![tactic(auto)]
 
 mod laws;
